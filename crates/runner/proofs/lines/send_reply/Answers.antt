@@ -1,0 +1,14 @@
+use Rattle.runner.proofs.Answering.{edges_of_newest}
+use Rattle.runner.proofs.lines.send_reply.Goals as goal
+
+pub returns-in-Open : goal.returns-in-Open
+returns-in-Open g c = rw (c.in-Open.is, ← c.from.ensures) c.send_word_line.ensures
+
+pub returns-in-Version : goal.returns-in-Version
+returns-in-Version g c = rw c.in-Version.is c.send_word_line-in-Version.ensures
+
+pub returns-in-Refused : goal.returns-in-Refused
+returns-in-Refused g c = rw (c.in-Refused.is, ← c.from-in-Refused.ensures) c.send_word_line-in-Refused.ensures
+
+pub returns-in-Some : goal.returns-in-Some
+returns-in-Some g c = rw (c.in-Edges.is, edges_of_newest c.args.interpreter.now.versions c.in-Some.graph.now (λ none. let impossible = c.in-Some.ensures.none.1 none in cc) c.in-Some.ensures.graph) c.send_edges.ensures

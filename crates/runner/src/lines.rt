@@ -1,0 +1,144 @@
+ghost use Rattle.std.specs.Prelude.{◌≡◌, [], ◌++◌, OnOk};
+ghost use Rattle.script_text.specs.Pieces.{HasNone};
+ghost use Rattle.runner.specs.Replies.{answer, text_of, replies_from, at_start};
+ghost use Rattle.runner.specs.Output.{output, Emits};
+ghost use Rattle.runner.specs.Script.{AnswersBytes};
+
+use crate::error::ScriptError;
+use crate::interpreter::Interpreter;
+use crate::output::{send_edges, send_word_line};
+use crate::reply::LineReply;
+use devices::Drain;
+use script_text::split_line;
+use std::alloc::Global;
+use std::marker::Model;
+
+/// The lines of a script that comes in pieces: what the lines so far left, and the beginning of
+/// the line that has not ended.
+#[derive(Drop)]
+pub(crate) struct Lines {
+    interpreter: Interpreter,
+    partial: Vec<u8>,
+}
+
+impl Model for Lines {
+    ghost use Rattle.runner.specs.Replies.{Reading};
+
+    ghost Value = { Reading };
+
+    ghost view = { λ l. record { state = l.interpreter; partial = l.partial.items } };
+}
+
+impl Lines {
+    pub(crate) fn new(alloc: Global) -> Lines
+        ensures { result ≡ record { state = at_start; partial = [] } }
+    {
+        Lines {
+            interpreter: Interpreter::new(alloc),
+            partial: Vec::new(alloc),
+        }
+    }
+
+    /// Answers the lines that end within the bytes, which come next.
+    pub(crate) fn take<W: Drain>(
+        &mut self,
+        alloc: Global,
+        bytes: &[u8],
+        writer: &mut W,
+        kept: &mut Vec<u8>,
+    ) -> Result<(), ScriptError>
+        requires { HasNone 10 self.old.partial }
+        ensures { AnswersBytes self.old self.new bytes.now
+            (output (W.taken writer.old) kept.old.items (W.failures writer.old))
+            (output (W.taken writer.new) kept.new.items (W.failures writer.new)) result }
+    {
+        let mut rest = bytes;
+        'lines: while let Some((line, after)) = split_line(rest) {
+            self.end_line(alloc, line, writer, kept)?;
+            rest = after;
+        }
+        self.partial.extend_from_slice(rest)?;
+        Ok(())
+    }
+
+    /// Answers the line that ends with these bytes.
+    fn end_line<W: Drain>(
+        &mut self,
+        alloc: Global,
+        bytes: &[u8],
+        writer: &mut W,
+        kept: &mut Vec<u8>,
+    ) -> Result<(), ScriptError>
+        ensures emits { Emits (output (W.taken writer.old) kept.old.items (W.failures writer.old))
+            (output (W.taken writer.new) kept.new.items (W.failures writer.new))
+            (answer self.old.state (self.old.partial ++ bytes.now)).text result }
+        ensures ok { OnOk result (self.new ≡ record {
+          state = (answer self.old.state (self.old.partial ++ bytes.now)).state;
+          partial = [];
+        }) }
+    {
+        if self.partial.is_empty() {
+            return answer_line(alloc, &mut self.interpreter, bytes, writer, kept);
+        }
+        self.partial.extend_from_slice(bytes)?;
+        answer_line(alloc, &mut self.interpreter, &self.partial, writer, kept)?;
+        self.partial.clear();
+        Ok(())
+    }
+
+    /// Answers the last line, which no line feed ended.
+    pub(crate) fn finish<W: Drain>(
+        &mut self,
+        alloc: Global,
+        writer: &mut W,
+        kept: &mut Vec<u8>,
+    ) -> Result<(), ScriptError>
+        requires { HasNone 10 self.old.partial }
+        ensures { Emits (output (W.taken writer.old) kept.old.items (W.failures writer.old))
+            (output (W.taken writer.new) kept.new.items (W.failures writer.new))
+            (replies_from self.old.state self.old.partial) result }
+    {
+        answer_line(alloc, &mut self.interpreter, &self.partial, writer, kept)
+    }
+}
+
+/// Does a line and sends its reply.
+fn answer_line<W: Drain>(
+    alloc: Global,
+    interpreter: &mut Interpreter,
+    line: &[u8],
+    writer: &mut W,
+    kept: &mut Vec<u8>,
+) -> Result<(), ScriptError>
+    ensures emits { Emits (output (W.taken writer.old) kept.old.items (W.failures writer.old))
+        (output (W.taken writer.new) kept.new.items (W.failures writer.new))
+        (answer interpreter.old line.now).text result }
+    ensures state { OnOk result (interpreter.new ≡ (answer interpreter.old line.now).state) }
+{
+    match interpreter.answer(alloc, line) {
+        Ok(reply) => send_reply(interpreter, reply, writer, kept),
+        Err(_) => Err(ScriptError::NoMemory),
+    }
+}
+
+fn send_reply<W: Drain>(
+    interpreter: &Interpreter,
+    reply: LineReply,
+    writer: &mut W,
+    kept: &mut Vec<u8>,
+) -> Result<(), ScriptError>
+    ensures { Emits (output (W.taken writer.old) kept.old.items (W.failures writer.old))
+        (output (W.taken writer.new) kept.new.items (W.failures writer.new))
+        (text_of interpreter.now reply) result }
+{
+    match reply {
+        LineReply::Nothing => Ok(()),
+        LineReply::Open(vertices) => send_word_line(writer, kept, b"open", u64::from(vertices)),
+        LineReply::Version(number) => send_word_line(writer, kept, b"version", number),
+        LineReply::Refused(number) => send_word_line(writer, kept, b"refused", u64::from(number)),
+        LineReply::Edges => match interpreter.newest() {
+            Some(graph) => send_edges(writer, kept, graph),
+            None => Ok(()),
+        },
+    }
+}

@@ -1,0 +1,114 @@
+// Replies on their way to a writer: kept in a block, and written when the block is full.
+ghost use Rattle.std.specs.Prelude.{◌≡◌, [], ◌∷◌, ◌++◌, OnOk};
+ghost use Rattle.tree_batch.specs.Edge.{Edge};
+ghost use Rattle.runner.specs.Text.{word_line, edge_line, edges_text};
+ghost use Rattle.runner.specs.Output.{output, Emits};
+
+use crate::error::ScriptError;
+use devices::{Drain, write_all};
+use script_text::push_number;
+use std::alloc::AllocError;
+use tree_batch::Graph;
+
+/// How many bytes are read at once, and kept before they are written.
+pub(crate) const BLOCK: usize = 65_536;
+
+/// From here on a block may lack room for a line.
+const NEARLY_FULL: usize = BLOCK - 64;
+
+/// Writes what is kept, all of it.
+pub(crate) fn flush<W: Drain>(writer: &mut W, kept: &mut Vec<u8>) -> Result<(), ScriptError>
+    ensures emits { Emits (output (W.taken writer.old) kept.old.items (W.failures writer.old))
+        (output (W.taken writer.new) kept.new.items (W.failures writer.new)) [] result }
+    ensures empty { OnOk result (kept.new.items ≡ []) }
+{
+    match write_all(writer, kept) {
+        Ok(()) => {
+            kept.clear();
+            Ok(())
+        }
+        Err(_) => Err(ScriptError::WriteFailed),
+    }
+}
+
+/// Writes what is kept where there may be no room for another line.
+fn make_room<W: Drain>(writer: &mut W, kept: &mut Vec<u8>) -> Result<(), ScriptError>
+    ensures { Emits (output (W.taken writer.old) kept.old.items (W.failures writer.old))
+        (output (W.taken writer.new) kept.new.items (W.failures writer.new)) [] result }
+{
+    if kept.len() < NEARLY_FULL {
+        return Ok(());
+    }
+    flush(writer, kept)
+}
+
+/// Sends a line of a word and a number.
+pub(crate) fn send_word_line<W: Drain>(
+    writer: &mut W,
+    kept: &mut Vec<u8>,
+    word: &[u8],
+    number: u64,
+) -> Result<(), ScriptError>
+    ensures { Emits (output (W.taken writer.old) kept.old.items (W.failures writer.old))
+        (output (W.taken writer.new) kept.new.items (W.failures writer.new))
+        (word_line word.now number) result }
+{
+    make_room(writer, kept)?;
+    match push_word_line(kept, word, number) {
+        Ok(()) => Ok(()),
+        Err(_) => Err(ScriptError::NoMemory),
+    }
+}
+
+/// Sends how many edges a graph has, and a line for each.
+pub(crate) fn send_edges<W: Drain>(
+    writer: &mut W,
+    kept: &mut Vec<u8>,
+    graph: &Graph,
+) -> Result<(), ScriptError>
+    ensures { Emits (output (W.taken writer.old) kept.old.items (W.failures writer.old))
+        (output (W.taken writer.new) kept.new.items (W.failures writer.new))
+        (edges_text graph.now.edges) result }
+{
+    send_word_line(writer, kept, b"edges", graph.edge_count() as u64)?;
+    'edges: for edge in graph.edges() {
+        send_edge(writer, kept, edge)?;
+    }
+    Ok(())
+}
+
+fn send_edge<W: Drain>(
+    writer: &mut W,
+    kept: &mut Vec<u8>,
+    edge: (u32, u32),
+) -> Result<(), ScriptError>
+    ensures { Emits (output (W.taken writer.old) kept.old.items (W.failures writer.old))
+        (output (W.taken writer.new) kept.new.items (W.failures writer.new))
+        (edge_line edge) result }
+{
+    make_room(writer, kept)?;
+    match push_edge_line(kept, edge) {
+        Ok(()) => Ok(()),
+        Err(_) => Err(ScriptError::NoMemory),
+    }
+}
+
+fn push_word_line(kept: &mut Vec<u8>, word: &[u8], number: u64) -> Result<(), AllocError>
+    ensures { OnOk result (kept.new.items ≡ kept.old.items ++ word_line word.now number) }
+{
+    kept.extend_from_slice(word)?;
+    kept.push(b' ')?;
+    push_number(kept, number)?;
+    kept.push(b'\n')?;
+    Ok(())
+}
+
+fn push_edge_line(kept: &mut Vec<u8>, edge: (u32, u32)) -> Result<(), AllocError>
+    ensures { OnOk result (kept.new.items ≡ kept.old.items ++ edge_line edge) }
+{
+    push_number(kept, u64::from(edge.0))?;
+    kept.push(b' ')?;
+    push_number(kept, u64::from(edge.1))?;
+    kept.push(b'\n')?;
+    Ok(())
+}

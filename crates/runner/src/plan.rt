@@ -1,0 +1,3 @@
+/// A program that a script may run. There is none yet.
+#[derive(Clone, Copy, Debug, PartialEq, Eq)]
+pub struct Plan;

@@ -1,0 +1,49 @@
+-- The command that a line asks for.
+use Rattle.std.specs.Prelude.{ℕ, ◌^◌, Bool, List, [], ◌∷◌, Option, Some, None, codes, if◌then◌else◌}
+use Rattle.std.specs.Option.{option_and_then, option_map}
+use Rattle.std.specs.Str.{bytes_eq}
+use Rattle.script_text.specs.declared.commands.Command.{Command}
+use Rattle.script_text.specs.declared.commands.Command.TheVariants.{Vertices, Add, Remove, Commit, Edges}
+use Rattle.script_text.specs.Numbers.{number_of}
+use Rattle.script_text.specs.Pieces.{words_of}
+
+-- whether the word is spelled so, byte for byte
+infix 12 ◌is◌
+abbrev pub ◌is◌ : List ℕ → List ℕ → Bool
+word is spelling = bytes_eq word spelling
+
+-- what two numbers below 2 ^ 32 make, where these two words are such numbers
+abbrev pub with_numbers : (ℕ → ℕ → Command) → List ℕ → List ℕ → Option Command
+with_numbers make first second =
+    option_and_then (λ m. option_map (make m) (number_of (2 ^ 32) second)) (number_of (2 ^ 32) first)
+
+-- "vertices N", where the chunk size is 64, and "vertices N B"
+abbrev pub vertices_of : List (List ℕ) → Option Command
+vertices_of (vertices ∷ []) = option_map (λ n. Vertices n 64) (number_of (2 ^ 32) vertices)
+vertices_of (vertices ∷ chunk_size ∷ []) = with_numbers Vertices vertices chunk_size
+vertices_of _ = None
+
+-- "add U V" and "del U V"
+abbrev pub edge_of : (ℕ → ℕ → Command) → List (List ℕ) → Option Command
+edge_of make (source ∷ destination ∷ []) = with_numbers make source destination
+edge_of make _ = None
+
+-- "commit" and "edges", which no word follows
+abbrev pub alone : Command → List (List ℕ) → Option Command
+alone command [] = Some command
+alone command _ = None
+
+-- what each name asks for, given the words after it
+abbrev pub command_of_words : List (List ℕ) → Option Command
+command_of_words [] = None
+command_of_words (name ∷ words) =
+    if name is codes "vertices" then vertices_of words else
+    if name is codes "add" then edge_of Add words else
+    if name is codes "del" then edge_of Remove words else
+    if name is codes "commit" then alone Commit words else
+    if name is codes "edges" then alone Edges words else
+    None
+
+-- the command of a line without its line feed
+abbrev pub command_of : List ℕ → Option Command
+command_of line = command_of_words (words_of line)

@@ -1,0 +1,4 @@
+pub mod Commands
+pub mod Numbers
+pub mod Pieces
+pub mod Reading

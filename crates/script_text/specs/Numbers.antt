@@ -1,0 +1,19 @@
+-- The number that a word of decimal digits stands for.
+use Rattle.std.specs.Prelude.{◌≡◌, ℕ, ◌+◌, ◌-◌, ◌*◌, ◌^◌, ◌&&◌, nat_lt, List, [], ◌∷◌, ◌++◌, Option, Some, None, length, replicate, decimal, if◌then◌else◌}
+use Rattle.std.specs.Str.{all_ascii_digits}
+
+-- what digits stand for, the most significant first; the digit 0 is byte 48
+abbrev pub value_of : List ℕ → ℕ
+value_of [] = 0
+value_of (digit ∷ digits) = (digit - 48) * 10 ^ length digits + value_of digits
+
+-- the number that one or more digits stand for, where it is below the limit
+abbrev pub number_of : ℕ → List ℕ → Option ℕ
+number_of limit word =
+    if nat_lt 0 (length word) && all_ascii_digits word && nat_lt (value_of word) limit
+    then Some (value_of word)
+    else None
+
+-- the digits of n are read as n, whatever zeros stand before them
+abbrev pub IsReadBack : ℕ → ℕ → Type 0
+IsReadBack limit n = (zeros : ℕ) → number_of limit (replicate zeros 48 ++ decimal n) ≡ Some n

@@ -1,0 +1,19 @@
+//! The commands of a script.
+
+/// The chunk size of a `vertices` line that gives none.
+pub const DEFAULT_CHUNK_SIZE: u32 = 64;
+
+/// What a line asks for.
+#[derive(Clone, Copy, Debug, PartialEq, Eq)]
+pub enum Command {
+    /// `vertices N` or `vertices N B`: a number of vertices, and a chunk size.
+    Vertices { vertices: u32, chunk_size: u32 },
+    /// `add U V`: an edge to add.
+    Add { source: u32, destination: u32 },
+    /// `del U V`: an edge to remove.
+    Remove { source: u32, destination: u32 },
+    /// `commit`
+    Commit,
+    /// `edges`
+    Edges,
+}

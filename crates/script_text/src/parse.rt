@@ -1,0 +1,62 @@
+//! The command of a line.
+ghost use Rattle.std.specs.Prelude.{◌≡◌};
+ghost use Rattle.script_text.specs.Commands.{command_of, vertices_of};
+ghost use Rattle.script_text.specs.Reading.{two_numbers};
+
+use crate::commands::{Command, DEFAULT_CHUNK_SIZE};
+use crate::words::Words;
+
+/// The command of a line without its line feed, or `None` where the line is no command. Each number
+/// is below 2^32. The line is a command as it stands, byte for byte: a space more, a tab, a carriage
+/// return, a sign or another case makes it none, and so the empty line is none.
+pub fn command(line: &[u8]) -> Option<Command>
+    ensures { result ≡ command_of line.now }
+{
+    let mut words = Words::new(line);
+    match words.take_word()? {
+        b"vertices" => vertices(words),
+        b"add" => {
+            let (source, destination) = edge(words)?;
+            Some(Command::Add {
+                source,
+                destination,
+            })
+        }
+        b"del" => {
+            let (source, destination) = edge(words)?;
+            Some(Command::Remove {
+                source,
+                destination,
+            })
+        }
+        b"commit" => words.is_empty().then_some(Command::Commit),
+        b"edges" => words.is_empty().then_some(Command::Edges),
+        _ => None,
+    }
+}
+
+/// The numbers of vertices and of the chunk size, which may be left out.
+fn vertices(mut words: Words<'_>) -> Option<Command>
+    ensures { result ≡ vertices_of words.entry }
+{
+    let vertices = words.take_short_number()?;
+    let chunk_size = if words.is_empty() {
+        DEFAULT_CHUNK_SIZE
+    } else {
+        words.take_short_number()?
+    };
+    words.is_empty().then_some(Command::Vertices {
+        vertices,
+        chunk_size,
+    })
+}
+
+/// The two ends of an edge.
+#[inline]
+fn edge(mut words: Words<'_>) -> Option<(u32, u32)>
+    ensures { result ≡ two_numbers words.entry }
+{
+    let source = words.take_short_number()?;
+    let destination = words.take_short_number()?;
+    words.is_empty().then_some((source, destination))
+}

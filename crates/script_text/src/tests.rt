@@ -1,0 +1,119 @@
+use super::*;
+use std::test::Fail;
+
+#[test]
+fn reads_commands(rt: HostRuntime) -> Result<(), Fail> {
+    let add = |source, destination| {
+        Some(Command::Add {
+            source,
+            destination,
+        })
+    };
+    let vertices = |vertices, chunk_size| {
+        Some(Command::Vertices {
+            vertices,
+            chunk_size,
+        })
+    };
+    let last = u32::MAX;
+    let table: [(&[u8], Option<Command>); 45] = [
+        (b"vertices 0", vertices(0, 64)),
+        (b"vertices 7 3", vertices(7, 3)),
+        (b"vertices 4294967295 4294967295", vertices(last, last)),
+        (b"add 1 2", add(1, 2)),
+        (b"add 00 0002", add(0, 2)),
+        (
+            b"add 00000000000000000000000000000001 4294967295",
+            add(1, last),
+        ),
+        (b"add 0004294967295 9", add(last, 9)),
+        (
+            b"del 3 4",
+            Some(Command::Remove {
+                source: 3,
+                destination: 4,
+            }),
+        ),
+        (b"commit", Some(Command::Commit)),
+        (b"edges", Some(Command::Edges)),
+        (b"", None),
+        (b" ", None),
+        (b"\n", None),
+        (b"commit\n", None),
+        (b"commit\r", None),
+        (b"commit ", None),
+        (b" commit", None),
+        (b"commit 1", None),
+        (b"Commit", None),
+        (b"commi", None),
+        (b"commits", None),
+        (b"edges\t", None),
+        (b"edges 0", None),
+        (b"edges\0", None),
+        (b"vertices", None),
+        (b"vertices ", None),
+        (b"vertices x", None),
+        (b"vertices 1 2 3", None),
+        (b"vertices 4294967296", None),
+        (b"vertices 1 0004294967296", None),
+        (b"add", None),
+        (b"add 1", None),
+        (b"add 1 ", None),
+        (b"add 1 2 ", None),
+        (b"add 1 2 3", None),
+        (b"add  1 2", None),
+        (b"add 1  2", None),
+        (b"add\t1 2", None),
+        (b"add +1 2", None),
+        (b"add 1 -2", None),
+        (b"add 1 2a", None),
+        (b"add 1 \xb2", None),
+        (b"add 1 4294967296", None),
+        (b"add 18446744073709551617 2", None),
+        (b"add 100000000000000000000000000000000000001 2", None),
+    ];
+    for (line, want) in table {
+        assert_eq!(rt; command(line), want, "{line:?}");
+    }
+    Ok(())
+}
+
+#[test]
+fn splits_lines(rt: HostRuntime) -> Result<(), Fail> {
+    let table: [(&[u8], &[u8], &[u8]); 7] = [
+        (b"\n", b"", b""),
+        (b"edges\n", b"edges", b""),
+        (b"add 1 2\ncommit", b"add 1 2", b"commit"),
+        (b"a\r\n\nb\n", b"a\r", b"\nb\n"),
+        (b"\nb\n", b"", b"b\n"),
+        (b"\n\n", b"", b"\n"),
+        (b"\0\xff\n\x0b", b"\0\xff", b"\x0b"),
+    ];
+    for (text, line, rest) in table {
+        let parts = split_line(text).ok_or("no line")?;
+        assert_eq!(rt; parts.0, line, "the line of {text:?}");
+        assert_eq!(rt; parts.1, rest, "the rest of {text:?}");
+    }
+    let unended: [&[u8]; 3] = [b"", b"edges", b"a\rb"];
+    for text in unended {
+        assert!(rt; split_line(text).is_none(), "{text:?} has no line feed");
+    }
+    Ok(())
+}
+
+#[test]
+fn writes_numbers(rt: HostRuntime) -> Result<(), Fail> {
+    let table: [(u64, &[u8]); 5] = [
+        (0, b"= 0"),
+        (9, b"= 9"),
+        (10, b"= 10"),
+        (4294967296, b"= 4294967296"),
+        (u64::MAX, b"= 18446744073709551615"),
+    ];
+    for (n, want) in table {
+        let mut out = b"= ".to_vec(rt.alloc())?;
+        push_number(&mut out, n)?;
+        assert_eq!(rt; out.as_slice(), want, "{n}");
+    }
+    Ok(())
+}

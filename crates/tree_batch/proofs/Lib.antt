@@ -1,0 +1,4 @@
+pub mod Rising
+pub mod Merging
+pub mod AllEdges
+pub mod Deciding

@@ -1,0 +1,151 @@
+-- Edges that rise, what is among them, and that their members determine them.
+use Rattle.std.proofs.Common.{◌≡◌, ℕ, zero, suc, length, slice_index_or, Result, Ok, Err, is_ok, ◌+◌, ◌*◌, ◌^◌, ◌<◌, ◌≤◌, ◌==◌, Bool, true, false, ◌&&◌, ◌||◌, ◌⊎◌, inl, inr, List, [], ◌∷◌, ◌++◌, refl, sym, ap, ◌∙◌, subst, arith}
+use Rattle.std.proofs.lemmas.Bool.{false≢true, true≢false, both_ways, cases_Bool, cases_lt, and_parts, and_from, or_from, eqb-true, eq-eqb, false_from_ne_true, or_right}
+use Rattle.std.proofs.lemmas.Bool.Decides.{nat_tests}
+use Rattle.std.proofs.lemmas.Cmp.{ranked}
+use Rattle.std.specs.List.Sorted.{IsSearchInRange, IsBinarySearchResult, IsNonDecreasingBy}
+use Rattle.std.specs.Ordering.{nat_cmp, ordering_index}
+use Rattle.tree_batch.specs.Edge.{Edge, place, edge_eq, has_edge, Rises, IsAscending}
+
+pub edge_eq-refl : (e : Edge) → edge_eq e e ≡ true
+edge_eq-refl e = and_from _ _ (eq-eqb e.0 e.0 refl) (eq-eqb e.1 e.1 refl)
+
+-- the test tells edges apart
+pub edge_eq-true : (a b : Edge) → edge_eq a b ≡ true → a ≡ b
+edge_eq-true a b h =
+    let parts = and_parts (a.0 == b.0) (a.1 == b.1) h in
+    let first : a.0 ≡ b.0 = eqb-true a.0 b.0 parts.0 in
+    let second : a.1 ≡ b.1 = eqb-true a.1 b.1 parts.1 in
+    λ i. (first i, second i)
+
+-- edges at different places differ
+pub edge_eq-apart : (a b : Edge) → (place a ≡ place b → ⊥) → edge_eq a b ≡ false
+edge_eq-apart a b apart = false_from_ne_true (edge_eq a b) (λ same. apart (ap place (edge_eq-true a b same)))
+
+-- a place tells edges apart, whose destinations are below 2 ^ 32
+pub same_place : (a b : Edge) → a.1 < 2 ^ 32 → b.1 < 2 ^ 32 → place a ≡ place b → a ≡ b
+same_place a b small_a small_b same =
+    let first : a.0 ≡ b.0 = omega arith in
+    let second : a.1 ≡ b.1 = omega arith in
+    λ i. (first i, second i)
+
+pub has_edge-append : (xs ys : List Edge) (e : Edge) → has_edge (xs ++ ys) e ≡ (has_edge xs e || has_edge ys e)
+has_edge-append [] ys e = refl
+has_edge-append (x ∷ xs) ys e = elim (cases_Bool (edge_eq x e)) [
+  | inl here ↦ rw (here) refl
+  | inr not_here ↦ rw (not_here) (has_edge-append xs ys e)
+]
+
+pub rises_within : (low high : ℕ) (es : List Edge) → Rises low high es → low ≤ high
+rises_within low high [] h = h
+rises_within low high (e ∷ es) h = omega (arith, h.0, rises_within (place e + 1) high es h.2)
+
+pub rises_from : (low lower high : ℕ) (es : List Edge) → lower ≤ low → Rises low high es → Rises lower high es
+rises_from low lower high [] le h = omega arith
+rises_from low lower high (e ∷ es) le h = (omega (arith, h.0), h.1, h.2)
+
+pub rises_wider : (low high higher : ℕ) (es : List Edge) → high ≤ higher → Rises low high es → Rises low higher es
+rises_wider low high higher [] le h = omega arith
+rises_wider low high higher (e ∷ es) le h = (h.0, h.1, rises_wider (place e + 1) high higher es le h.2)
+
+pub rises_joined : (low mid high : ℕ) (xs ys : List Edge) → Rises low mid xs → Rises mid high ys → Rises low high (xs ++ ys)
+rises_joined low mid high [] ys h k = rises_from mid low high ys h k
+rises_joined low mid high (x ∷ xs) ys h k = (h.0, h.1, rises_joined (place x + 1) mid high xs ys h.2 k)
+
+-- an edge at the end
+pub rises_pushed : (low high : ℕ) (xs : List Edge) (e : Edge) → e.1 < 2 ^ 32 → high ≤ place e → Rises low high xs → Rises low (place e + 1) (xs ++ e ∷ [])
+rises_pushed low high xs e small le h = rises_joined low high (place e + 1) xs (e ∷ []) h (le, small, omega arith)
+
+-- edges below low are not there, and those from high on are not
+pub has_edge-below : (low high : ℕ) (es : List Edge) (e : Edge) → Rises low high es → place e < low → has_edge es e ≡ false
+has_edge-below low high [] e h lt = refl
+has_edge-below low high (x ∷ xs) e h lt =
+    or_from _ _ (edge_eq-apart x e (λ same. omega (arith, h.0))) (has_edge-below (place x + 1) high xs e h.2 (omega (arith, h.0)))
+
+pub has_edge-above : (low high : ℕ) (es : List Edge) (e : Edge) → Rises low high es → high ≤ place e → has_edge es e ≡ false
+has_edge-above low high [] e h le = refl
+has_edge-above low high (x ∷ xs) e h le =
+    or_from _ _ (edge_eq-apart x e (λ same. omega (arith, rises_within (place x + 1) high xs h.2))) (has_edge-above (place x + 1) high xs e h.2 le)
+
+-- the first edge is there
+has_edge-head : (x : Edge) (xs : List Edge) → has_edge (x ∷ xs) x ≡ true
+has_edge-head x xs = rw (edge_eq-refl x) refl
+
+-- the first of the one stands no earlier than the first of the other
+no_earlier : (x y : Edge) (xs ys : List Edge) (low high : ℕ) → Rises low high (y ∷ ys) → ((e : Edge) → has_edge (x ∷ xs) e ≡ has_edge (y ∷ ys) e) → place y ≤ place x
+no_earlier x y xs ys low high rises same = elim (cases_lt (place x) (place y)) [
+  | inl lt ↦ absurd (true≢false (sym (has_edge-head x xs) ∙ same x ∙ has_edge-below (place y) high (y ∷ ys) x (omega arith, rises.1, rises.2) lt))
+  | inr le ↦ le
+]
+
+-- without their first edge too, the two have the same edges
+same_rest : (x : Edge) (xs ys : List Edge) (low high : ℕ) → Rises (place x + 1) low xs → Rises (place x + 1) high ys → ((e : Edge) → has_edge (x ∷ xs) e ≡ has_edge (x ∷ ys) e) → (e : Edge) → has_edge xs e ≡ has_edge ys e
+same_rest x xs ys low high h k same e = elim (cases_Bool (edge_eq x e)) [
+  | inl here ↦
+    let is : x ≡ e = edge_eq-true x e here in
+    let at_place : place e < place x + 1 = omega (arith, ap place is) in
+    has_edge-below (place x + 1) low xs e h at_place ∙ sym (has_edge-below (place x + 1) high ys e k at_place)
+  | inr not_here ↦ rw (not_here) at (same e)
+]
+
+-- edges that rise are determined by which they are
+pub same_edges : (low lower high higher : ℕ) (xs ys : List Edge) → Rises low high xs → Rises lower higher ys → ((e : Edge) → has_edge xs e ≡ has_edge ys e) → xs ≡ ys
+same_edges low lower high higher [] [] h k same = refl
+same_edges low lower high higher [] (y ∷ ys) h k same = absurd (false≢true (same y ∙ has_edge-head y ys))
+same_edges low lower high higher (x ∷ xs) [] h k same = absurd (true≢false (sym (has_edge-head x xs) ∙ same x))
+same_edges low lower high higher (x ∷ xs) (y ∷ ys) h k same =
+    let one = no_earlier x y xs ys lower higher k same in
+    let other = no_earlier y x ys xs low high h (λ e. sym (same e)) in
+    let is : x ≡ y = same_place x y h.1 k.1 (omega (arith, one, other)) in
+    let Same : Edge → Type 0 = λ z. (e : Edge) → has_edge (x ∷ xs) e ≡ has_edge (z ∷ ys) e in
+    let same_x : Same x = subst Same (sym is) same in
+    let rises_y : Rises (place x + 1) higher ys = subst (λ (z : Edge). Rises (place z + 1) higher ys) (sym is) k.2 in
+    λ i. is i ∷ same_edges (place x + 1) (place x + 1) high higher xs ys h.2 rises_y (same_rest x xs ys high higher h.2 rises_y same_x) i
+
+place_at_least : (low high : ℕ) (xs : List Edge) (j : ℕ) (d : Edge) → Rises low high xs → j < length xs → low ≤ place (slice_index_or xs j d)
+place_at_least low high [] j d h in_range = absurd (omega arith)
+place_at_least low high (x ∷ xs) zero d h in_range = h.0
+place_at_least low high (x ∷ xs) (suc j) d h in_range = omega (arith, h.0, place_at_least (place x + 1) high xs j d h.2 (omega arith))
+
+-- places rise along the list
+pub place_rises : (low high : ℕ) (xs : List Edge) (i j : ℕ) (d : Edge) → Rises low high xs → i < j → j < length xs → place (slice_index_or xs i d) < place (slice_index_or xs j d)
+place_rises low high [] i j d h lt in_range = absurd (omega arith)
+place_rises low high (x ∷ xs) i zero d h lt in_range = absurd (omega arith)
+place_rises low high (x ∷ xs) zero (suc j) d h lt in_range = omega (arith, place_at_least (place x + 1) high xs j d h.2 (omega arith))
+place_rises low high (x ∷ xs) (suc i) (suc j) d h lt in_range = place_rises (place x + 1) high xs i j d h.2 (omega arith) (omega arith)
+
+-- an edge at a place of the list is there
+pub has_edge-at : (xs : List Edge) (i : ℕ) (d e : Edge) → i < length xs → slice_index_or xs i d ≡ e → has_edge xs e ≡ true
+has_edge-at [] i d e in_range is = absurd (omega arith)
+has_edge-at (x ∷ xs) zero d e in_range is = rw (← is) (has_edge-head x xs)
+has_edge-at (x ∷ xs) (suc i) d e in_range is = or_right (edge_eq x e) _ (has_edge-at xs i d e (omega arith) is)
+
+-- an edge at no place of the list is not
+pub has_edge-nowhere : (xs : List Edge) (d e : Edge) → ((k : ℕ) → k < length xs → place (slice_index_or xs k d) ≡ place e → ⊥) → has_edge xs e ≡ false
+has_edge-nowhere [] d e nowhere = refl
+has_edge-nowhere (x ∷ xs) d e nowhere = or_from _ _ (edge_eq-apart x e (nowhere 0 (omega arith))) (has_edge-nowhere xs d e (λ k lt. nowhere (suc k) (omega arith)))
+
+small_at : (low high : ℕ) (xs : List Edge) (i : ℕ) (d : Edge) → Rises low high xs → i < length xs → (slice_index_or xs i d).1 < 2 ^ 32
+small_at low high [] i d h in_range = absurd (omega arith)
+small_at low high (x ∷ xs) zero d h in_range = h.1
+small_at low high (x ∷ xs) (suc i) d h in_range = small_at (place x + 1) high xs i d h.2 (omega arith)
+
+module _ (xs : List Edge) (ascending : IsAscending xs) (e : Edge) (small : e.1 < 2 ^ 32) where
+  -- the comparisons with e's place rise along the list, as a binary search asks
+  comparisons_rise : IsNonDecreasingBy (λ x. ordering_index (nat_cmp (place x) (place e))) xs
+  comparisons_rise i j d le in_range =
+      let rise : i < j → place (slice_index_or xs i d) < place (slice_index_or xs j d) = λ lt. place_rises 0 (2 ^ 64) xs i j d ascending lt in_range in
+      let same : i ≡ j → place (slice_index_or xs i d) ≡ place (slice_index_or xs j d) = λ is. ap (λ k. place (slice_index_or xs k d)) is in
+      grind (arith, nat_tests)
+
+  -- a binary search by place finds an edge exactly where it is there
+  pub searched : (r : Result ℕ ℕ) → IsSearchInRange r (length xs) → IsBinarySearchResult (λ x. nat_cmp (place x) (place e)) xs r → is_ok r ≡ has_edge xs e
+  searched (Ok at) in_range equal =
+      let d : Edge = (0, 0) in
+      sym (has_edge-at xs at d e in_range (same_place (slice_index_or xs at d) e (small_at 0 (2 ^ 64) xs at d ascending in_range) small (ranked _ _ _ (sym (equal d)))))
+  searched (Err at) in_range parted =
+      let d : Edge = (0, 0) in
+      sym (has_edge-nowhere xs d e (λ k lt same. elim (cases_lt k at) [
+        | inl before ↦ let less : place (slice_index_or xs k d) < place e = ranked _ _ _ (sym ((parted comparisons_rise).0 k d (omega arith) before)) in omega arith
+        | inr after ↦ let more : place e < place (slice_index_or xs k d) = ranked _ _ _ (sym ((parted comparisons_rise).1 k d after lt)) in omega arith
+      ]))

@@ -1,0 +1,41 @@
+-- Directed graphs as their vertices and edges, and the graph after a batch.
+use Rattle.std.specs.Prelude.{◌≡◌, ℕ, nat_le, nat_eq, Bool, true, ◌&&◌, List, [], ◌∷◌}
+use Rattle.std.specs.List.{filter, list_any}
+use Rattle.tree_batch.specs.declared.batch.Entry.{Entry}
+use Rattle.tree_batch.specs.Edge.{Edge, has_edge, all_edges, IsWithin, IsAscending}
+use Rattle.tree_batch.specs.Entry.{is_edge_after}
+
+-- a directed graph: how many vertices it has, and its edges in ascending order
+pub record Digraph : Type 0 where
+  pub vertices : ℕ
+  pub edges : List Edge
+
+abbrev pub digraph : ℕ → List Edge → Digraph
+digraph n es = record { vertices = n; edges = es }
+
+-- whether a graph may have n vertices
+abbrev pub is_vertex_count : ℕ → Bool
+is_vertex_count n = nat_le 1 n && nat_le n 16777216
+
+-- whether b is a power of two from 1 to 256
+abbrev pub is_chunk_size : ℕ → Bool
+is_chunk_size b = list_any (nat_eq b) (1 ∷ 2 ∷ 4 ∷ 8 ∷ 16 ∷ 32 ∷ 64 ∷ 128 ∷ 256 ∷ [])
+
+-- what is true of each graph
+pub record IsDigraph (g : Digraph) : Type 0 where
+  pub count : is_vertex_count g.vertices ≡ true
+  pub ascending : IsAscending g.edges
+  pub within : (e : Edge) → has_edge g.edges e ≡ true → IsWithin g.vertices e
+
+-- n vertices and no edges
+abbrev pub empty_graph : ℕ → Digraph
+empty_graph n = record { vertices = n; edges = [] }
+
+-- the graph after a batch: of all the edges that its vertices may have, those that are there after it
+abbrev pub graph_after : Digraph → List Entry → Digraph
+graph_after g batch = record { vertices = g.vertices; edges = filter (is_edge_after g.edges batch) (all_edges g.vertices) }
+
+-- the graph after batches, one after another
+abbrev pub graph_through : Digraph → List (List Entry) → Digraph
+graph_through g [] = g
+graph_through g (batch ∷ batches) = graph_through (graph_after g batch) batches

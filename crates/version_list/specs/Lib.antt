@@ -1,0 +1,4 @@
+pub mod Machine
+pub mod Timeline
+pub mod Kept
+pub mod Refusal

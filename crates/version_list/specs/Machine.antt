@@ -1,0 +1,79 @@
+-- The version machine: what each step replies in a state, and the state after it.
+use Rattle.std.specs.Prelude.{ℕ, ◌+◌, ◌==◌, nat_lt, min, Bool, not, ◌||◌, if◌then◌else◌, List, [], ◌∷◌, ◌++◌, length, take}
+use Rattle.std.specs.List.{filter, list_any}
+use Rattle.tree_batch.specs.declared.batch.Entry.{Entry}
+use Rattle.tree_batch.specs.Entry.{names_outside}
+use Rattle.tree_batch.specs.Digraph.{Digraph, empty_graph, graph_through}
+use Rattle.version_list.specs.declared.step.Which.{Which}
+use Rattle.version_list.specs.declared.step.Which.TheVariants.{Newest, At}
+use Rattle.version_list.specs.declared.step.Step.{Step}
+use Rattle.version_list.specs.declared.step.Step.TheVariants.{Commit, Acquire, Release}
+use Rattle.version_list.specs.declared.step.Reply.{Reply}
+use Rattle.version_list.specs.declared.step.Reply.TheVariants.{Version, Ticket, Released, Refused}
+
+-- a ticket that is open: its number, and the number of the version that it holds
+pub record OpenTicket : Type 0 where
+  pub number : ℕ
+  pub version : ℕ
+
+-- the graph of version 0, the batches since, the open tickets, how many tickets were given, how many history entries are used, and for how many there is room
+pub record State : Type 0 where
+  pub opening : Digraph
+  pub batches : List (List Entry)
+  pub open_tickets : List OpenTicket
+  pub given : ℕ
+  pub used : ℕ
+  pub room : ℕ
+
+-- a graph of n vertices without edges as version 0, with room for at most 16,777,216 entries
+abbrev pub opened : ℕ → ℕ → State
+opened n room = record { opening = empty_graph n; batches = []; open_tickets = []; given = 0; used = 0; room = min room 16777216 }
+
+-- the number of the newest version
+abbrev pub newest_number : State → ℕ
+newest_number s = length s.batches
+
+-- the graph of version k: the opening's, taken through the first k batches
+abbrev pub version_graph : State → ℕ → Digraph
+version_graph s k = graph_through s.opening (take k s.batches)
+
+-- the number of the version that is asked for
+abbrev pub number_asked : State → Which → ℕ
+number_asked s Newest = newest_number s
+number_asked s (At k) = k
+
+-- whether the version is kept: it is the newest, or an open ticket holds it
+abbrev pub is_kept : State → ℕ → Bool
+is_kept s k = (k == newest_number s) || list_any (λ t. t.version == k) s.open_tickets
+
+-- whether the ticket is open
+abbrev pub is_open : State → ℕ → Bool
+is_open s number = list_any (λ t. t.number == number) s.open_tickets
+
+-- whether so many more entries, beside one for the release of each open ticket, are more than there is room for
+abbrev pub lacks_room : State → ℕ → Bool
+lacks_room s more = nat_lt s.room (s.used + length s.open_tickets + more)
+
+-- what a step is answered
+abbrev pub reply_to : State → Step → Reply
+reply_to s (Commit batch) =
+    if names_outside s.opening.vertices batch then Refused 111
+    else (if lacks_room s 1 then Refused 123
+    else Version (newest_number s + 1))
+reply_to s (Acquire which) =
+    if not (is_kept s (number_asked s which)) then Refused 121
+    else (if lacks_room s 2 then Refused 123
+    else Ticket (s.given + 1) (number_asked s which))
+reply_to s (Release number) = if is_open s number then Released else Refused 122
+
+-- the state after a step that was answered so; a refusal changes nothing
+abbrev pub changed : State → Step → Reply → State
+changed s (Commit batch) (Version number) = record s { batches = s.batches ++ batch ∷ []; used = s.used + 1 }
+changed s (Acquire which) (Ticket number version) =
+    record s { open_tickets = s.open_tickets ++ record { number = number; version = version } ∷ []; given = number; used = s.used + 1 }
+changed s (Release number) Released = record s { open_tickets = filter (λ t. not (t.number == number)) s.open_tickets; used = s.used + 1 }
+changed s step reply = s
+
+-- the state after a step
+abbrev pub state_after : State → Step → State
+state_after s step = changed s step (reply_to s step)

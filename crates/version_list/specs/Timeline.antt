@@ -1,0 +1,67 @@
+-- Histories of accepted steps, and what versions are to a contract.
+use Rattle.std.specs.Prelude.{◌≡◌, ℕ, true, false, Result, Ok, Err, List, [], ◌∷◌, ◌++◌}
+use Rattle.tree_batch.specs.Digraph.{is_vertex_count, is_chunk_size}
+use Rattle.version_list.specs.declared.step.Step.{Step}
+use Rattle.version_list.specs.declared.step.Reply.{Reply}
+use Rattle.version_list.specs.declared.step.Reply.TheVariants.{Version, Ticket, Released, Refused}
+use Rattle.version_list.specs.declared.step.Done.{Done}
+use Rattle.version_list.specs.declared.error.VersionError.{VersionError}
+use Rattle.version_list.specs.declared.error.VersionError.TheVariants.{NoMemory, VertexRange, BadChunkSize, HistoryFull}
+use Rattle.version_list.specs.Machine.{State, opened, reply_to, state_after}
+use Rattle.version_list.specs.Refusal.{number_of}
+
+-- the reply is no refusal
+abbrev pub IsAccepted : Reply → Type 0
+IsAccepted (Version number) = Unit {0}
+IsAccepted (Ticket number version) = Unit {0}
+IsAccepted Released = Unit {0}
+IsAccepted (Refused number) = ⊥
+
+-- from the state on, each entry is a step that was accepted, with the reply that the machine gives at that point
+abbrev pub IsLegal : State → List Done → Type 0
+IsLegal s [] = Unit {0}
+IsLegal s (done ∷ history) = (reply_to s done.step ≡ done.reply) × IsAccepted done.reply × IsLegal (state_after s done.step) history
+
+-- the state at the end of a history
+abbrev pub replay : State → List Done → State
+replay s [] = s
+replay s (done ∷ history) = replay (state_after s done.step) history
+
+-- the state in which the versions began, the history since, and the state now
+pub record Timeline : Type 0 where
+  pub base : State
+  pub history : List Done
+  pub state : State
+
+-- a timeline at its beginning
+abbrev pub beginning : State → Timeline
+beginning s = record { base = s; history = []; state = s }
+
+-- the machine answers the step so and accepts it, and the new timeline is the old one with the step at its end
+pub record Accepts (old : Timeline) (step : Step) (reply : Reply) (new : Timeline) : Type 0 where
+  pub is_answer : reply_to old.state step ≡ reply
+  pub accepted : IsAccepted reply
+  pub base : new.base ≡ old.base
+  pub history : new.history ≡ old.history ++ record { step = step; reply = reply } ∷ []
+  pub state : new.state ≡ state_after old.state step
+
+-- the machine refuses the step with the error's number, and nothing is changed
+pub record Refuses (old : Timeline) (step : Step) (error : VersionError) (new : Timeline) : Type 0 where
+  pub is_answer : reply_to old.state step ≡ Refused (number_of error)
+  pub unchanged : new ≡ old
+
+-- a call answers a step as the machine does, where reply is the reply of what it gives; only a step that the machine accepts may lack memory, and then nothing is changed
+abbrev pub Answers : {A : Type 0} → Timeline → Step → (A → Reply) → Result A VersionError → Timeline → Type 0
+Answers old step reply (Ok x) new = Accepts old step (reply x) new
+Answers old step reply (Err NoMemory) new = IsAccepted (reply_to old.state step) × (new ≡ old)
+Answers old step reply (Err VertexRange) new = Refuses old step VertexRange new
+Answers old step reply (Err BadChunkSize) new = Refuses old step BadChunkSize new
+Answers old step reply (Err HistoryFull) new = Refuses old step HistoryFull new
+
+-- the timeline of newly opened versions, or the first refusal
+abbrev pub Opens : ℕ → ℕ → ℕ → Result Timeline VersionError → Type 0
+Opens n b room (Ok v) = (is_vertex_count n ≡ true) × (is_chunk_size b ≡ true) × (v ≡ beginning (opened n room))
+Opens n b room (Err VertexRange) = is_vertex_count n ≡ false
+Opens n b room (Err BadChunkSize) = (is_vertex_count n ≡ true) × (is_chunk_size b ≡ false)
+Opens n b room (Err HistoryFull) = ⊥
+Opens n b room (Err NoMemory) = (is_vertex_count n ≡ true) × (is_chunk_size b ≡ true)

@@ -1,0 +1,62 @@
+ghost use Rattle.std.specs.Prelude.{◌≡◌};
+ghost use Rattle.version_list.specs.declared.error.VersionError.TheVariants.{NoMemory};
+ghost use Rattle.version_list.specs.Refusal.{number_of, from_graph};
+
+use std::alloc::{AllocError, AllocFailed};
+use thiserror::Error;
+use tree_batch::GraphError;
+
+/// Why a step was refused, or versions were not opened.
+#[derive(Clone, Copy, Debug, PartialEq, Eq, Error)]
+pub enum VersionError {
+    #[error("a graph has 1 to 16777216 vertices, and an entry names two of them")]
+    VertexRange,
+    #[error("a chunk size is a power of two from 1 to 256")]
+    BadChunkSize,
+    #[error("the history has no room for the step")]
+    HistoryFull,
+    #[error("out of memory")]
+    NoMemory,
+}
+
+impl VersionError {
+    /// The number by which scripts and users know the refusal: 111, 103, 123 or 900.
+    pub fn number(self) -> u16
+        ensures { result ≡ number_of self }
+    {
+        match self {
+            VersionError::VertexRange => 111,
+            VersionError::BadChunkSize => 103,
+            VersionError::HistoryFull => 123,
+            VersionError::NoMemory => 900,
+        }
+    }
+}
+
+impl From<GraphError> for VersionError {
+    ghost from_gives = { λ g e. e ≡ from_graph g };
+
+    fn from(error: GraphError) -> VersionError {
+        match error {
+            GraphError::VertexRange => VersionError::VertexRange,
+            GraphError::BadChunkSize => VersionError::BadChunkSize,
+            GraphError::NoMemory => VersionError::NoMemory,
+        }
+    }
+}
+
+impl From<AllocError> for VersionError {
+    ghost from_gives = { λ _ e. e ≡ NoMemory };
+
+    fn from(_error: AllocError) -> VersionError {
+        VersionError::NoMemory
+    }
+}
+
+impl<T: Drop> From<AllocFailed<T>> for VersionError {
+    ghost from_gives = { λ _ e. e ≡ NoMemory };
+
+    fn from(_error: AllocFailed<T>) -> VersionError {
+        VersionError::NoMemory
+    }
+}
