@@ -129,7 +129,8 @@ impl Interpreter {
     /// The newest version's graph, once one is open.
     pub(crate) fn newest(&self) -> Option<&Graph>
         ensures none { IsNone result ↔ (self.now.versions ≡ None) }
-        ensures graph { IfSome result (λ g. MatchVersions self.now.versions (λ v. g.now ≡ version_graph v (newest_number v))) }
+        ensures graph { IfSome result (λ g. MatchVersions self.now.versions (λ v.
+            g.now ≡ version_graph v (newest_number v))) }
     {
         match &self.versions {
             None => None,

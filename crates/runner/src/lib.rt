@@ -17,3 +17,6 @@ mod scripts;
 pub use error::ScriptError;
 pub use plan::Plan;
 pub use scripts::script;
+
+#[cfg(test)]
+mod tests;

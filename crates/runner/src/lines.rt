@@ -39,7 +39,7 @@ impl Lines {
         }
     }
 
-    /// Answers the lines that end within the bytes, which come next.
+    /// Answers the lines that end within the bytes, which come next. The script ends at an error.
     pub(crate) fn take<W: Drain>(
         &mut self,
         alloc: Global,

@@ -1,6 +1,6 @@
 -- The edges that a graph may have, and those of them that pass a test.
-use Rattle.std.proofs.Common.{◌≡◌, ℕ, zero, suc, ◌+◌, ◌*◌, ◌^◌, ◌<◌, ◌≤◌, ◌==◌, leb, Bool, true, false, ◌&&◌, ◌||◌, Option, Some, None, unwrap_or, inl, inr, List, [], ◌∷◌, ◌++◌, refl, sym, ap, ◌∙◌, subst, arith}
-use Rattle.std.proofs.lemmas.Bool.{both_ways, cases_Bool, cases_lt, and_parts, or_left, or_right, leb-true, ne_eqb}
+use Rattle.std.proofs.Common.{◌≡◌, ℕ, zero, suc, ◌+◌, ◌*◌, ◌^◌, ◌<◌, ◌≤◌, leb, Bool, true, false, ◌&&◌, Option, Some, None, unwrap_or, inl, inr, List, [], ◌∷◌, refl, sym, ap, ◌∙◌, subst, arith}
+use Rattle.std.proofs.lemmas.Bool.{cases_Bool, cases_lt, and_parts, or_left, or_right, leb-true}
 use Rattle.std.specs.List.{filter, flat_map}
 use Rattle.tree_batch.specs.declared.batch.Entry.{Entry}
 use Rattle.tree_batch.specs.Edge.{Edge, place, edge_eq, has_edge, Rises, IsAscending, IsWithin, numbers_from, edges_from, all_edges}
@@ -12,9 +12,12 @@ use Rattle.tree_batch.proofs.Deciding.{decided_within}
 -- a row of edges rises
 rises_row : (u a k : ℕ) → a + k ≤ 2 ^ 32 → Rises (place (u, a)) (place (u, a) + k) (edges_from u (numbers_from a k))
 rises_row u a zero fits = omega arith
-rises_row u a (suc k) fits =
-    (omega arith, omega arith, rises_from (place (u, a + 1)) (place (u, a) + 1) (place (u, a) + suc k) _ (omega arith)
-      (rises_wider (place (u, a + 1)) (place (u, a + 1) + k) (place (u, a) + suc k) _ (omega arith) (rises_row u (a + 1) k (omega arith))))
+rises_row u a (suc k) fits = (
+  omega arith,
+  omega arith,
+  rises_from (place (u, a + 1)) (place (u, a) + 1) (place (u, a) + suc k) _ (omega arith)
+      (rises_wider (place (u, a + 1)) (place (u, a + 1) + k) (place (u, a) + suc k) _ (omega arith) (rises_row u (a + 1) k (omega arith))),
+)
 
 abbrev rows : ℕ → ℕ → ℕ → List Edge
 rows n u k = flat_map (λ v. edges_from v (numbers_from 0 n)) (numbers_from u k)
@@ -62,17 +65,17 @@ pub has_edge-filter : (p : Edge → Bool) (xs : List Edge) (e : Edge) → has_ed
 has_edge-filter p [] e = refl
 has_edge-filter p (x ∷ xs) e = elim (cases_Bool (edge_eq x e)) [
   | inl here ↦
-    let is : p x ≡ p e = ap p (edge_eq-true x e here) in
-    elim (cases_Bool (p x)) [
-      | inl kept ↦ rw (kept, here) (sym kept ∙ is)
-      | inr left_out ↦
-        let fails : p e ≡ false = sym is ∙ left_out in
-        rw (left_out, here) (has_edge-filter p xs e ∙ ap (λ b. has_edge xs e && b) fails ∙ grind (arith) ∙ sym fails)
-    ]
+      let is : p x ≡ p e = ap p (edge_eq-true x e here) in
+      elim (cases_Bool (p x)) [
+        | inl kept ↦ rw (kept, here) (sym kept ∙ is)
+        | inr left_out ↦
+            let fails : p e ≡ false = sym is ∙ left_out in
+            rw (left_out, here) (has_edge-filter p xs e ∙ ap (λ b. has_edge xs e && b) fails ∙ grind (arith) ∙ sym fails)
+      ]
   | inr not_here ↦ elim (cases_Bool (p x)) [
-      | inl kept ↦ rw (kept, not_here) (has_edge-filter p xs e)
-      | inr left_out ↦ rw (left_out, not_here) (has_edge-filter p xs e)
-    ]
+    | inl kept ↦ rw (kept, not_here) (has_edge-filter p xs e)
+    | inr left_out ↦ rw (left_out, not_here) (has_edge-filter p xs e)
+  ]
 ]
 
 pub few_vertices : (n : ℕ) → is_vertex_count n ≡ true → n ≤ 16777216

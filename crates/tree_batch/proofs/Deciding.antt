@@ -1,14 +1,14 @@
 -- What decides on an edge when entries are joined, filtered or sorted.
-use Rattle.std.proofs.Common.{◌≡◌, ℕ, ◌≤◌, Bool, true, false, not, ◌&&◌, ◌||◌, Option, Some, None, unwrap_or, inl, inr, List, [], ◌∷◌, ◌++◌, refl, sym, ap, ◌∙◌, arith, leb}
-use Rattle.std.proofs.lemmas.Bool.{false≢true, both_ways, cases_Bool, le-ltb, leb-false, or_parts}
+use Rattle.std.proofs.Common.{◌≡◌, ℕ, Bool, true, false, Option, Some, None, unwrap_or, inl, inr, List, [], ◌∷◌, ◌++◌, refl, sym, ap, ◌∙◌, arith, leb}
+use Rattle.std.proofs.lemmas.Bool.{both_ways, cases_Bool, le-ltb, leb-false, or_parts}
 use Rattle.std.specs.Option.{option_or}
 use Rattle.std.specs.List.{filter, list_any}
 use Rattle.std.specs.List.Sorted.{ties}
 use Rattle.std.specs.Ordering.{is_lt, nat_cmp}
 use Rattle.tree_batch.specs.declared.batch.Entry.{Entry}
 use Rattle.tree_batch.specs.declared.batch.Entry.TheVariants.{Add}
-use Rattle.tree_batch.specs.Edge.{Edge, place, edge_eq, has_edge, IsWithin}
-use Rattle.tree_batch.specs.Entry.{edge_of, entry_place, entry_decision, decision, is_edge_after, names_outside, entry_names_outside}
+use Rattle.tree_batch.specs.Edge.{Edge, place, edge_eq, IsWithin}
+use Rattle.tree_batch.specs.Entry.{edge_of, entry_place, entry_decision, decision, names_outside, entry_names_outside}
 use Rattle.tree_batch.proofs.Rising.{edge_eq-true}
 
 option_or-none : {A : Type 0} (o : Option A) → option_or o None ≡ o
@@ -39,8 +39,8 @@ decision-filter keep e keeps [] = refl
 decision-filter keep e keeps (x ∷ xs) = elim (cases_Bool (keep x)) [
   | inl kept ↦ rw (kept) (ap (λ o. option_or o (entry_decision x e)) (decision-filter keep e keeps xs))
   | inr left_out ↦
-    let other : edge_eq (edge_of x) e ≡ false = elim (cases_Bool (edge_eq (edge_of x) e)) [ inl names ↦ absurd (both_ways (keep x) left_out (keeps x names)) | inr other ↦ other ] in
-    rw (left_out) (decision-filter keep e keeps xs ∙ sym (option_or-none (decision xs e)) ∙ ap (λ o. option_or (decision xs e) o) (sym (entry_decision-other x e other)))
+      let other : edge_eq (edge_of x) e ≡ false = elim (cases_Bool (edge_eq (edge_of x) e)) [ inl names ↦ absurd (both_ways (keep x) left_out (keeps x names)) | inr other ↦ other ] in
+      rw (left_out) (decision-filter keep e keeps xs ∙ sym (option_or-none (decision xs e)) ∙ ap (λ o. option_or (decision xs e) o) (sym (entry_decision-other x e other)))
 ]
 
 -- entries at one place tie
@@ -70,8 +70,8 @@ decided_within n (x ∷ xs) e b inside is =
     let parts = or_parts (entry_names_outside n x) (list_any (entry_names_outside n) xs) inside in
     elim (cases_Bool (edge_eq (edge_of x) e)) [
       | inl names ↦
-        let same = edge_eq-true (edge_of x) e names in
-        let within = entry_within n x parts.0 in
-        (omega (arith, within.0, ap (λ (z : Edge). z.0) same), omega (arith, within.1, ap (λ (z : Edge). z.1) same))
+          let same = edge_eq-true (edge_of x) e names in
+          let within = entry_within n x parts.0 in
+          (omega (arith, within.0, ap (λ (z : Edge). z.0) same), omega (arith, within.1, ap (λ (z : Edge). z.1) same))
       | inr other ↦ decided_within n xs e b parts.1 (sym (option_or-none (decision xs e)) ∙ ap (λ o. option_or (decision xs e) o) (sym (entry_decision-other x e other)) ∙ is)
     ]

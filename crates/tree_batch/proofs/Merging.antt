@@ -1,5 +1,5 @@
 -- The steps of the merge, on lists.
-use Rattle.std.proofs.Common.{◌≡◌, ℕ, zero, suc, ◌+◌, ◌-◌, ◌^◌, ◌<◌, ◌≤◌, leb, Bool, true, false, ◌||◌, Option, unwrap_or, ◌⊎◌, inl, inr, List, [], ◌∷◌, ◌++◌, length, take, drop, slice_index_or, refl, sym, ap, ◌∙◌, subst, arith, if◌then◌else◌, append_assoc, length-append, sub-one}
+use Rattle.std.proofs.Common.{◌≡◌, ℕ, suc, ◌+◌, ◌-◌, ◌^◌, ◌<◌, ◌≤◌, leb, Bool, true, false, ◌||◌, Option, unwrap_or, ◌⊎◌, inl, inr, List, [], ◌∷◌, ◌++◌, length, take, drop, slice_index_or, refl, sym, ap, ◌∙◌, subst, arith, if◌then◌else◌, append_assoc, length-append, sub-one}
 use Rattle.std.proofs.Math.Seq.{take-append_seam}
 use Rattle.std.proofs.lemmas.Bool.{false≢true, both_ways, cases_Bool, cases_eq, leb-true, leb-false}
 use Rattle.std.proofs.lemmas.Grind.{common_steps, take_at_read}
@@ -10,8 +10,8 @@ use Rattle.tree_batch.specs.declared.batch.Entry.{Entry}
 use Rattle.tree_batch.specs.Edge.{Edge, place, edge_eq, has_edge, Rises, IsAscending}
 use Rattle.tree_batch.specs.Entry.{edge_of, is_add, entry_place, entry_decision, decision, is_edge_after, AreEdgesAfter}
 use Rattle.tree_batch.specs.Merge.{Settles, SplitsAfter, ends_in}
-use Rattle.tree_batch.proofs.Rising.{edge_eq-refl, edge_eq-true, same_place, has_edge-append, has_edge-below, has_edge-above, rises_within, rises_joined, rises_pushed, rises_wider, rises_from}
-use Rattle.tree_batch.proofs.Deciding.{decision-pushed, entry_decision-other, unwrap_or-option_or}
+use Rattle.tree_batch.proofs.Rising.{edge_eq-refl, edge_eq-true, same_place, has_edge-append, has_edge-below, has_edge-above, rises_within, rises_joined, rises_pushed, rises_wider}
+use Rattle.tree_batch.proofs.Deciding.{decision-pushed, unwrap_or-option_or}
 
 -- the first n of the edges end at last, and the others stand after it
 abbrev pub SplitsAt : ℕ → ℕ → List Edge → ℕ → Type 0
@@ -22,9 +22,9 @@ pub split_while : (last low : ℕ) (es : List Edge) → low ≤ last + 1 → Ris
 split_while last low [] le h small = (omega arith, omega arith)
 split_while last low (e ∷ es) le h small = elim (cases_Bool (leb (place e) last)) [
   | inl before ↦
-    let rest = split_while last (place e + 1) es (omega (arith, leb-true (place e) last before)) h.2 small in
-    let more : suc (prefix_len (λ (e' : Edge). leb (place e') last) es) ≡ 1 + prefix_len (λ (e' : Edge). leb (place e') last) es = omega arith in
-    rw (before) (subst (SplitsAt last low (e ∷ es)) more ((h.0, h.1, rest.0), rest.1))
+      let rest = split_while last (place e + 1) es (omega (arith, leb-true (place e) last before)) h.2 small in
+      let more : suc (prefix_len (λ (e' : Edge). leb (place e') last) es) ≡ 1 + prefix_len (λ (e' : Edge). leb (place e') last) es = omega arith in
+      rw (before) (subst (SplitsAt last low (e ∷ es)) more ((h.0, h.1, rest.0), rest.1))
   | inr after ↦ rw (after) (omega arith, (omega (arith, leb-false (place e) last after), h.1, h.2))
 ]
 
@@ -40,10 +40,14 @@ ends_in-last (x ∷ y ∷ ys) e o is = ends_in-last (y ∷ ys) e o (is ∙ tail_
 -- edges that end at or before e, and do not end in it, end before it
 pub ends_before : (xs : List Edge) (e : Edge) (low : ℕ) → e.1 < 2 ^ 32 → ends_in xs e ≡ false → low ≤ place e → Rises low (place e + 1) xs → Rises low (place e) xs
 ends_before [] e low small other le h = le
-ends_before (x ∷ []) e low small other le h = (h.0, h.1, elim (cases_eq (place x) (place e)) [
-  | inl same ↦ absurd (both_ways (edge_eq x e) other (subst (λ (z : Edge). edge_eq x z ≡ true) (same_place x e h.1 small same) (edge_eq-refl x)))
-  | inr apart ↦ omega (arith, h.2, apart)
-])
+ends_before (x ∷ []) e low small other le h = (
+  h.0,
+  h.1,
+  elim (cases_eq (place x) (place e)) [
+    | inl same ↦ absurd (both_ways (edge_eq x e) other (subst (λ (z : Edge). edge_eq x z ≡ true) (same_place x e h.1 small same) (edge_eq-refl x)))
+    | inr apart ↦ omega (arith, h.2, apart)
+  ],
+)
 ends_before (x ∷ y ∷ ys) e low small other le h = (h.0, h.1, ends_before (y ∷ ys) e (place x + 1) small other (omega (arith, rises_within (place y + 1) (place e + 1) ys h.2.2, h.2.0)) h.2)
 
 -- edges that end in e are a front and e
@@ -98,7 +102,7 @@ module _ (entry : Entry) (old new rest : List Edge) (settles : Settles (edge_of 
   pub settled_members : (q : Edge) → has_edge (new ++ rest) q ≡ unwrap_or (entry_decision entry q) (has_edge (old ++ rest) q)
   settled_members q = elim (cases_Bool (edge_eq e q)) [
     | inl here ↦ let is : e ≡ q = edge_eq-true e q here in
-      rw (here) (subst (λ (z : Edge). has_edge (new ++ rest) z ≡ is_add entry) is settled_here)
+        rw (here) (subst (λ (z : Edge). has_edge (new ++ rest) z ≡ is_add entry) is settled_here)
     | inr other ↦ rw (other) (settled_other q other new new_is ∙ sym (settled_other q other old settles.was))
   ]
 
@@ -141,15 +145,15 @@ module _ (edges : List Edge) (entries : List Entry) (sorted : IsNonDecreasingBy 
         front = settled_rises x (merged ++ before) new after settles back;
         back = back;
         to_come = λ k c le lt.
-          let up = sorted i k d (omega arith) lt in
-          subst (λ y. entry_place x + 1 ≤ entry_place y + 1) (in_range_same entries k d c lt) (omega (arith, up));
+            let up = sorted i k d (omega arith) lt in
+            subst (λ y. entry_place x + 1 ≤ entry_place y + 1) (in_range_same entries k d c lt) (omega (arith, up));
         members = λ q.
-          settled_members x (merged ++ before) new after settles back q
-          ∙ ap (λ es. unwrap_or (entry_decision x q) (has_edge es q)) joined
-          ∙ ap (λ b. unwrap_or (entry_decision x q) b) (m.members q)
-          ∙ sym (unwrap_or-option_or (entry_decision x q) (decision (take i entries) q) (has_edge edges q))
-          ∙ ap (λ o. unwrap_or o (has_edge edges q)) (sym (decision-pushed (take i entries) x q))
-          ∙ ap (λ xs. is_edge_after edges xs q) (sym (take_at_read entries i d in_range).1);
+            settled_members x (merged ++ before) new after settles back q
+            ∙ ap (λ es. unwrap_or (entry_decision x q) (has_edge es q)) joined
+            ∙ ap (λ b. unwrap_or (entry_decision x q) b) (m.members q)
+            ∙ sym (unwrap_or-option_or (entry_decision x q) (decision (take i entries) q) (has_edge edges q))
+            ∙ ap (λ o. unwrap_or o (has_edge edges q)) (sym (decision-pushed (take i entries) x q))
+            ∙ ap (λ xs. is_edge_after edges xs q) (sym (take_at_read entries i d in_range).1);
       }
 
 pub merging_ends : (edges : List Edge) (entries : List Entry) (merged rest : List Edge) (done : ℕ) → take done entries ≡ entries → IsMerging edges entries done merged rest → AreEdgesAfter edges entries (merged ++ rest)

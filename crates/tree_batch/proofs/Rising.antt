@@ -1,6 +1,6 @@
 -- Edges that rise, what is among them, and that their members determine them.
-use Rattle.std.proofs.Common.{◌≡◌, ℕ, zero, suc, length, slice_index_or, Result, Ok, Err, is_ok, ◌+◌, ◌*◌, ◌^◌, ◌<◌, ◌≤◌, ◌==◌, Bool, true, false, ◌&&◌, ◌||◌, ◌⊎◌, inl, inr, List, [], ◌∷◌, ◌++◌, refl, sym, ap, ◌∙◌, subst, arith}
-use Rattle.std.proofs.lemmas.Bool.{false≢true, true≢false, both_ways, cases_Bool, cases_lt, and_parts, and_from, or_from, eqb-true, eq-eqb, false_from_ne_true, or_right}
+use Rattle.std.proofs.Common.{◌≡◌, ℕ, zero, suc, length, slice_index_or, Result, Ok, Err, is_ok, ◌+◌, ◌^◌, ◌<◌, ◌≤◌, ◌==◌, true, false, ◌||◌, inl, inr, List, [], ◌∷◌, ◌++◌, refl, sym, ap, ◌∙◌, subst, arith}
+use Rattle.std.proofs.lemmas.Bool.{false≢true, true≢false, cases_Bool, cases_lt, and_parts, and_from, or_from, eqb-true, eq-eqb, false_from_ne_true, or_right}
 use Rattle.std.proofs.lemmas.Bool.Decides.{nat_tests}
 use Rattle.std.proofs.lemmas.Cmp.{ranked}
 use Rattle.std.specs.List.Sorted.{IsSearchInRange, IsBinarySearchResult, IsNonDecreasingBy}
@@ -82,9 +82,9 @@ no_earlier x y xs ys low high rises same = elim (cases_lt (place x) (place y)) [
 same_rest : (x : Edge) (xs ys : List Edge) (low high : ℕ) → Rises (place x + 1) low xs → Rises (place x + 1) high ys → ((e : Edge) → has_edge (x ∷ xs) e ≡ has_edge (x ∷ ys) e) → (e : Edge) → has_edge xs e ≡ has_edge ys e
 same_rest x xs ys low high h k same e = elim (cases_Bool (edge_eq x e)) [
   | inl here ↦
-    let is : x ≡ e = edge_eq-true x e here in
-    let at_place : place e < place x + 1 = omega (arith, ap place is) in
-    has_edge-below (place x + 1) low xs e h at_place ∙ sym (has_edge-below (place x + 1) high ys e k at_place)
+      let is : x ≡ e = edge_eq-true x e here in
+      let at_place : place e < place x + 1 = omega (arith, ap place is) in
+      has_edge-below (place x + 1) low xs e h at_place ∙ sym (has_edge-below (place x + 1) high ys e k at_place)
   | inr not_here ↦ rw (not_here) at (same e)
 ]
 

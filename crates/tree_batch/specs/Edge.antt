@@ -1,5 +1,5 @@
 -- Edges, and lists of edges in order.
-use Rattle.std.specs.Prelude.{ℕ, ◌+◌, ◌*◌, ◌^◌, ◌<◌, ◌≤◌, ◌==◌, Bool, true, false, ◌&&◌, ◌||◌, zero, suc, List, [], ◌∷◌, map}
+use Rattle.std.specs.Prelude.{ℕ, ◌+◌, ◌*◌, ◌^◌, ◌<◌, ◌≤◌, ◌==◌, Bool, false, ◌&&◌, ◌||◌, zero, suc, List, [], ◌∷◌, map}
 use Rattle.std.specs.List.{flat_map}
 
 -- an edge: its source and its destination

@@ -147,13 +147,13 @@ impl<'a> Iterator for EdgeIter<'a> {
 pub fn last_entry_decides()
     ensures { (g : Digraph) (batch : List Entry) (e : Edge) → IsWithin g.vertices e
         → has_edge (graph_after g batch).edges e ≡ unwrap_or (decision batch e) (has_edge g.edges e) }
-{
-}
+{}
 
 /// The edges after a batch ascend, each once, and there is no other ascending list of the same
 /// edges.
 pub fn edges_ascend()
-    ensures ascending { (g : Digraph) (batch : List Entry) → IsDigraph g → IsAscending (graph_after g batch).edges }
-    ensures only { (xs ys : List Edge) → IsAscending xs → IsAscending ys → ((e : Edge) → has_edge xs e ≡ has_edge ys e) → xs ≡ ys }
-{
-}
+    ensures ascending { (g : Digraph) (batch : List Entry) → IsDigraph g
+        → IsAscending (graph_after g batch).edges }
+    ensures only { (xs ys : List Edge) → IsAscending xs → IsAscending ys
+        → ((e : Edge) → has_edge xs e ≡ has_edge ys e) → xs ≡ ys }
+{}

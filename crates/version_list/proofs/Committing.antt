@@ -1,17 +1,16 @@
 -- What a commit does to a timeline.
-use Rattle.std.proofs.Common.{◌≡◌, ℕ, ◌+◌, ◌≤◌, ◌<◌, false, List, [], ◌∷◌, ◌++◌, length, take, refl, sym, ap, ◌∙◌, subst, arith, length-append, ltb}
+use Rattle.std.proofs.Common.{◌≡◌, ◌+◌, ◌<◌, false, List, [], ◌∷◌, ◌++◌, length, refl, sym, ap, ◌∙◌, subst, arith, length-append}
 use Rattle.std.proofs.lemmas.Bool.{ltb-false}
 use Rattle.std.proofs.Math.Seq.{take-length}
 use Rattle.tree_batch.specs.declared.batch.Entry.{Entry}
 use Rattle.tree_batch.specs.Entry.{names_outside}
 use Rattle.tree_batch.specs.Digraph.{Digraph, graph_after, graph_through, empty_graph}
-use Rattle.version_list.specs.declared.step.Step.{Step}
 use Rattle.version_list.specs.declared.step.Step.TheVariants.{Commit}
 use Rattle.version_list.specs.declared.step.Reply.TheVariants.{Version}
 use Rattle.version_list.specs.declared.step.Done.{Done}
 use Rattle.version_list.specs.declared.versions.Versions.TheInside.{Inside}
 use Rattle.version_list.specs.Machine.{State, opened, reply_to, changed, state_after, newest_number, lacks_room, version_graph}
-use Rattle.version_list.specs.Timeline.{IsLegal, IsAccepted, replay, Timeline, Accepts}
+use Rattle.version_list.specs.Timeline.{IsLegal, IsAccepted, replay, Accepts}
 use Rattle.version_list.specs.Kept.{base, timeline, IsKept}
 
 -- a history with one more entry

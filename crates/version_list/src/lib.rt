@@ -14,3 +14,6 @@ mod versions;
 pub use error::VersionError;
 pub use step::{Done, Reply, Step, Ticket, Which};
 pub use versions::{MAX_HISTORY, Versions};
+
+#[cfg(test)]
+mod tests;

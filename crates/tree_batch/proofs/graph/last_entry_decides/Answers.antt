@@ -1,4 +1,4 @@
-use Rattle.std.proofs.Common.{◌≡◌, ◌∙◌, ◌&&◌, refl}
+use Rattle.std.proofs.Common.{◌∙◌, refl}
 use Rattle.tree_batch.specs.Edge.{all_edges}
 use Rattle.tree_batch.specs.Entry.{is_edge_after}
 use Rattle.tree_batch.proofs.AllEdges.{has_edge-filter, in_all}

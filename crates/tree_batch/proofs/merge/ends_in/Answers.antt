@@ -1,5 +1,4 @@
-use Rattle.std.proofs.Common.{◌∙◌, sym, ap, Some}
-use Rattle.std.specs.Option.{option_copied}
+use Rattle.std.proofs.Common.{◌∙◌, sym, Some}
 use Rattle.tree_batch.proofs.Merging.{ends_in-last}
 use Rattle.tree_batch.proofs.merge.ends_in.Goals as goal
 

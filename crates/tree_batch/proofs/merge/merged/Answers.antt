@@ -1,10 +1,9 @@
-use Rattle.std.proofs.Common.{◌+◌, ◌^◌, ◌<◌, ◌++◌, subst, arith}
-use Rattle.std.proofs.Common.{length, slice_index_or}
+use Rattle.std.proofs.Common.{subst, arith}
+use Rattle.std.proofs.Common.{slice_index_or}
 use Rattle.std.proofs.lemmas.List.{take_all}
-use Rattle.tree_batch.specs.declared.batch.Entry.{Entry}
 use Rattle.tree_batch.specs.declared.batch.Entry.TheVariants.{Add}
-use Rattle.tree_batch.specs.Edge.{Edge, Rises}
-use Rattle.tree_batch.specs.Entry.{edge_of, entry_place, is_add, AreEdgesAfter}
+use Rattle.tree_batch.specs.Edge.{Edge}
+use Rattle.tree_batch.specs.Entry.{edge_of, is_add}
 use Rattle.tree_batch.specs.Merge.{SplitsAfter, Settles}
 use Rattle.tree_batch.proofs.Merging.{merged_until, merging_goes_on, merging_ends}
 use Rattle.tree_batch.proofs.merge.merged.Goals as goal

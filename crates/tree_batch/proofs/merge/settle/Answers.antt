@@ -1,6 +1,5 @@
-use Rattle.std.proofs.Common.{◌≡◌, ◌+◌, ◌-◌, ◌^◌, ◌<◌, ◌∙◌, ◌++◌, [], ◌∷◌, List, take, length, vec_len, ap, sym, subst, arith, refl}
-use Rattle.std.proofs.lemmas.Grind.{common_steps}
-use Rattle.tree_batch.specs.Edge.{Edge, place}
+use Rattle.std.proofs.Common.{◌^◌, ◌<◌, ◌∙◌, ◌++◌, [], ◌∷◌, vec_len, ap, sym, arith, refl}
+use Rattle.tree_batch.specs.Edge.{Edge}
 use Rattle.tree_batch.specs.Entry.{edge_of, is_add}
 use Rattle.tree_batch.specs.Merge.{ends_in}
 use Rattle.tree_batch.proofs.Merging.{settles_ending, settles_apart, without_last}

@@ -1,7 +1,6 @@
-use Rattle.std.proofs.Common.{◌≡◌, ◌∙◌, List, false, ap, sym, subst}
-use Rattle.tree_batch.specs.declared.batch.Entry.{Entry}
-use Rattle.tree_batch.specs.Edge.{Edge, has_edge}
-use Rattle.tree_batch.specs.Entry.{decision, names_outside, AreEdgesAfter}
+use Rattle.std.proofs.Common.{◌≡◌, List, false, ap, sym, subst}
+use Rattle.tree_batch.specs.Edge.{Edge}
+use Rattle.tree_batch.specs.Entry.{names_outside, AreEdgesAfter}
 use Rattle.tree_batch.specs.Digraph.{Digraph, digraph, graph_after}
 use Rattle.tree_batch.proofs.AllEdges.{edges_after_are, digraph_after, after_same_decisions}
 use Rattle.tree_batch.proofs.graph.Graph.apply.Goals as goal

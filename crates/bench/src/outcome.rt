@@ -1,0 +1,45 @@
+//! What a script replies.
+
+use devices::Device;
+use std::alloc::Global;
+use std::io;
+use std::io::Error;
+
+/// Runs the script over memory, and gives its replies.
+///
+/// The `Err` is want of memory, told as the runner tells it.
+pub fn replies_to(alloc: Global, script: &str) -> io::Result<Vec<u8>> {
+    let mut replies = Vec::new(alloc);
+    let mut reader = Device::new(script.as_bytes());
+    match runner::script(alloc, &[], &mut reader, &mut Device::new(&mut replies)) {
+        Ok(_) => Ok(replies),
+        Err(error) => Err(Error::other(error.to_string(alloc)?.as_str())),
+    }
+}
+
+/// The FNV-1a hash of 64 bits.
+pub fn hash_of(bytes: &[u8]) -> u64 {
+    let mut hash: u64 = 0xcbf2_9ce4_8422_2325;
+    for byte in bytes {
+        hash = (hash ^ u64::from(*byte)).wrapping_mul(0x0100_0000_01b3);
+    }
+    hash
+}
+
+#[cfg(test)]
+mod tests {
+    use super::*;
+
+    // From the authors' test vectors.
+    #[test]
+    fn hashes_known_texts(rt: HostRuntime) {
+        let cases = [
+            ("", 0xcbf2_9ce4_8422_2325),
+            ("a", 0xaf63_dc4c_8601_ec8c),
+            ("foobar", 0x8594_4171_f739_67e8),
+        ];
+        for (text, wanted) in cases {
+            assert_eq!(rt; hash_of(text.as_bytes()), wanted, "at {text}");
+        }
+    }
+}

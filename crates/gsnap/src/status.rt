@@ -1,0 +1,16 @@
+//! The program's exit statuses.
+
+/// All was done.
+pub const DONE: u8 = 0;
+
+/// The command line is a bad one, or asks for help.
+pub const BAD_COMMAND_LINE: u8 = 2;
+
+/// All was done, and some run ended by a fault.
+pub const FAULTED: u8 = 3;
+
+/// Memory ran out.
+pub const NO_MEMORY: u8 = 4;
+
+/// Reading or writing failed.
+pub const DEVICE_FAILED: u8 = 5;
