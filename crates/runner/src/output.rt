@@ -5,8 +5,8 @@ ghost use Rattle.runner.specs.Text.{word_line, edge_line, edges_text};
 ghost use Rattle.runner.specs.Output.{output, Emits};
 
 use crate::error::ScriptError;
+use decimal::push_number;
 use devices::{Drain, write_all};
-use script_text::push_number;
 use std::alloc::AllocError;
 use tree_batch::Graph;
 

@@ -1,3 +1,2 @@
 pub mod PieceLaws
-pub mod NumberLaws
 pub mod WordLaws

@@ -7,10 +7,11 @@ use Rattle.std.specs.Option.{is_some, option_map}
 use Rattle.std.specs.Str.{all_ascii_digits}
 use Rattle.std.proofs.lemmas.Bool.{false≢true}
 use Rattle.std.proofs.lemmas.List.{length-take, take-append-drop, drop_more}
-use Rattle.script_text.specs.Numbers.{value_of}
+use Rattle.decimal.specs.Numbers.{value_of}
 use Rattle.script_text.specs.Pieces.{HasNone, pieces, words_of}
-use Rattle.script_text.specs.Reading.{AreLeadingDigits, words_left, first_number}
-use Rattle.script_text.proofs.NumberLaws.{number_of-digits, number_of-large, number_of-other, value_of-longer}
+use Rattle.decimal.specs.Digits.{AreLeadingDigits}
+use Rattle.script_text.specs.Reading.{words_left, first_number}
+use Rattle.decimal.proofs.NumberLaws.{number_of-digits, number_of-large, number_of-other, value_of-longer}
 use Rattle.script_text.proofs.PieceLaws.{pieces-AreParts, pieces_alone, pieces_before, pieces_other, cut_at}
 
 -- no word is left only where nothing of the line is left

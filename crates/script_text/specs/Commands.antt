@@ -4,7 +4,7 @@ use Rattle.std.specs.Option.{option_and_then, option_map}
 use Rattle.std.specs.Str.{bytes_eq}
 use Rattle.script_text.specs.declared.commands.Command.{Command}
 use Rattle.script_text.specs.declared.commands.Command.TheVariants.{Vertices, Add, Remove, Commit, Edges}
-use Rattle.script_text.specs.Numbers.{number_of}
+use Rattle.decimal.specs.Numbers.{number_of}
 use Rattle.script_text.specs.Pieces.{words_of}
 
 -- whether the word is spelled so, byte for byte

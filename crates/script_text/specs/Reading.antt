@@ -4,23 +4,12 @@ use Rattle.std.specs.Borrow.{Bor}
 use Rattle.std.specs.Char.{is_ascii_digit}
 use Rattle.std.specs.Option.{option_and_then, option_map}
 use Rattle.std.specs.Str.{all_ascii_digits}
-use Rattle.script_text.specs.Numbers.{number_of, value_of}
+use Rattle.decimal.specs.Numbers.{number_of, value_of}
 use Rattle.script_text.specs.Pieces.{HasNone, words_of}
 
 -- what stands before the first separator c and what stands after it, or nothing where there is none
 abbrev pub IsCutAt : ℕ → List ℕ → Option (Bor (List ℕ) × Bor (List ℕ)) → Type 0
 IsCutAt c bytes cut = MatchOption cut (HasNone c bytes) (λ parts. (bytes ≡ parts.0.now ++ c ∷ parts.1.now) × HasNone c parts.0.now)
-
--- the first len bytes are digits
-abbrev pub BeginsWithDigits : List ℕ → ℕ → Type 0
-BeginsWithDigits bytes len = (len ≤ length bytes) × (all_ascii_digits (take len bytes) ≡ true)
-
--- the number and the count of the digits at the front, or nothing where they stand for 2 ^ 64 or more
-abbrev pub AreLeadingDigits : List ℕ → Option (ℕ × ℕ) → Type 0
-AreLeadingDigits bytes found = MatchOption found
-    ((len : ℕ) × BeginsWithDigits bytes len × (2 ^ 64 ≤ value_of (take len bytes)))
-    (λ read. BeginsWithDigits bytes read.1 × (value_of (take read.1 bytes) ≡ read.0)
-    × (read.1 < length bytes → is_ascii_digit (slice_index bytes read.1) ≡ false))
 
 -- the words of what is left of a line, or none where nothing is left
 abbrev pub words_left : Option (Bor (List ℕ)) → List (List ℕ)

@@ -3,8 +3,8 @@ ghost use Rattle.std.specs.Prelude.{◌≡◌, ◌^◌, ℕ, List, [], ◌∷◌
 ghost use Rattle.script_text.specs.Pieces.{words_of};
 ghost use Rattle.script_text.specs.Reading.{words_left, IsFirstNumber};
 
-use crate::numbers::leading_digits;
 use crate::pieces::split_piece;
+use decimal::leading_digits;
 use std::marker::Model;
 
 /// The words of a line that are not read yet. A contract sees them as the list of those words.

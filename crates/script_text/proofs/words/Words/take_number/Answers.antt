@@ -2,7 +2,7 @@ use Rattle.std.proofs.Common.{◌≡◌, ◌≢◌, ◌+◌, ◌<◌, ◌≤◌,
 use Rattle.std.specs.Str.{all_ascii_digits}
 use Rattle.std.proofs.lemmas.Grind.{common_steps}
 use Rattle.std.proofs.lemmas.List.{take_all, take_rest}
-use Rattle.script_text.specs.Numbers.{value_of}
+use Rattle.decimal.specs.Numbers.{value_of}
 use Rattle.script_text.proofs.WordLaws.{first_number-overflow, first_number-other, first_number-space, first_number-alone}
 use Rattle.script_text.proofs.words.Words.take_number.Goals as goal
 

@@ -1,0 +1,153 @@
+//! How long the lexer takes for a long source, beside a plain loop over its bytes.
+
+use crate::timing::{TURNS, Times, print_head, print_row};
+use std::alloc::{AllocError, Global};
+use std::io;
+use std::io::Error;
+use std::rt::Clock;
+use std::time::Instant;
+
+// The source that is timed has at least so many bytes.
+const BYTES: usize = 10_000_000;
+
+// Three programs: breadth-first search, component labels, and counts that are fused.
+const PROGRAMS: &str = "\
+element Vertex end
+element Edge end
+
+const edges : edgeset{Edge}(Vertex, Vertex) = load(argv[1]);
+
+// The vertex from which each was first reached, or -1.
+const parent : vector{Vertex}(int) = -1;
+
+func unseen(v : Vertex) -> output : bool
+  output = parent[v] == -1;
+end
+
+func visit(src : Vertex, dst : Vertex)
+  parent[dst] max= src;
+end
+
+// Breadth-first search from vertex 0.
+func main()
+  var frontier : vertexset{Vertex} = new vertexset{Vertex}(0);
+  frontier.addVertex(0);
+  parent[0] = 0;
+  while frontier.getVertexSetSize() != 0
+    #s1# frontier = edges.from(frontier).to(unseen).applyModified(visit, parent);
+  end
+end
+
+schedule:
+  program->configApplyDirection(\"s1\", \"DensePull-SparsePush\")
+    ->configApplyParallelization(\"s1\", \"dynamic-vertex-parallel\");
+
+element Vertex end
+element Edge end
+
+const edges : edgeset{Edge}(Vertex, Vertex) = load(argv[1]);
+const vertices : vertexset{Vertex} = edges.getVertices();
+
+// The least vertex that reaches each.
+const IDs : vector{Vertex}(int) = 0;
+
+func first(v : Vertex)
+  IDs[v] = v;
+end
+
+func update(src : Vertex, dst : Vertex)
+  IDs[dst] min= IDs[src];
+end
+
+func main()
+  vertices.apply(first);
+  var frontier : vertexset{Vertex} = edges.getVertices();
+  while frontier.getVertexSetSize() != 0
+    #s1# frontier = edges.from(frontier).applyModified(update, IDs);
+  end
+end
+
+element Vertex end
+element Edge end
+
+const edges : edgeset{Edge}(Vertex, Vertex) = load(argv[1]);
+const a : vector{Vertex}(int) = 0;
+const b : vector{Vertex}(int) = 0;
+
+func small(v : Vertex) -> o : bool
+  o = a[v] < 1;
+end
+
+func f(src : Vertex, dst : Vertex)
+  a[dst] += 1;
+end
+
+func g(src : Vertex, dst : Vertex)
+  b[dst] += 1;
+end
+
+func main()
+  #s1# edges.to(small).apply(f);
+  #s2# edges.to(small).apply(g);
+  var sum : int = 9223372036854775807;
+  sum += 1;
+  print sum;
+  print -7 / 2;
+  print -7 % 2;
+end
+
+schedule:
+  program->fuseApplyFunctions(\"s1\", \"s2\");
+
+";
+
+// The programs, again and again, until there are so many bytes.
+fn source(alloc: Global, bytes: usize) -> Result<String, AllocError> {
+    let mut text = String::new(alloc);
+    for _ in 0..bytes.div_ceil(PROGRAMS.len()) {
+        text.push_str(PROGRAMS)?;
+    }
+    Ok(text)
+}
+
+/// Prints how many tokens a small source has.
+pub fn print_outcomes<R: Print + AllocGlobal>(rt: &R) -> io::Result<()> {
+    let text = source(rt.alloc(), 100_000)?;
+    let tokens = tokens_of(rt.alloc(), text.as_bytes())?;
+    println!(rt; "source of {} bytes: {tokens} tokens", text.len())
+}
+
+/// Prints the times of the lexer and of a plain loop over the same bytes.
+pub fn print_times<R: Print + AllocGlobal + Clock>(rt: &R) -> io::Result<()> {
+    print_head(rt)?;
+    let text = source(rt.alloc(), BYTES)?;
+    let mut lexer = Times::new(rt.alloc());
+    let mut plain = Times::new(rt.alloc());
+    let mut found = 0;
+    for _ in 0..TURNS {
+        let start = Instant::now(rt)?;
+        found = tokens_of(rt.alloc(), text.as_bytes())?;
+        lexer.push(rt, start)?;
+        let start = Instant::now(rt)?;
+        found ^= white_bytes(text.as_bytes());
+        plain.push(rt, start)?;
+    }
+    print_row(rt, "lexer, bytes", text.len(), &mut lexer)?;
+    print_row(rt, "plain loop, bytes", text.len(), &mut plain)?;
+    println!(rt; "check {found}")
+}
+
+// How many bytes are white, counted one by one.
+fn white_bytes(text: &[u8]) -> usize {
+    text.iter()
+        .filter(|byte| byte.is_ascii_whitespace())
+        .count()
+}
+
+// How many tokens a text has.
+fn tokens_of(alloc: Global, text: &[u8]) -> io::Result<usize> {
+    match lexer::tokens(alloc, text) {
+        Ok(tokens) => Ok(tokens.len()),
+        Err(error) => Err(Error::other(error.to_string(alloc)?.as_str())),
+    }
+}

@@ -1,0 +1,15 @@
+//! Decimal digits: numbers read and written as text.
+//!
+//! In the contracts a word of digits stands for a number, most significant digit first, with leading
+//! zeros allowed in any count and no sign (`specs/Numbers.antt`). `leading_digits` reads the digits at
+//! the front of bytes and takes no memory, `push_number` writes a number, and `read_back` is the law
+//! that what is written is read as the same number.
+//!
+//! The crates that read the text of scripts and of programs stand on this one.
+#![tactic(auto)]
+
+mod numbers;
+#[cfg(test)]
+mod tests;
+
+pub use numbers::{leading_digits, push_number, read_back};

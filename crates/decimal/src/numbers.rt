@@ -1,0 +1,42 @@
+//! Numbers in decimal digits.
+ghost use Rattle.std.specs.Prelude.{◌≡◌, ℕ, ◌<◌, ◌^◌, ◌++◌, OnOk, OnErr, decimal};
+ghost use Rattle.decimal.specs.Digits.{AreLeadingDigits};
+ghost use Rattle.decimal.specs.Numbers.{IsReadBack};
+
+use itoa::Buffer;
+use std::alloc::AllocError;
+
+/// Appends the decimal digits of a number, with no leading zero. The one error is that memory is
+/// lacking, and then the bytes stay as they are.
+pub fn push_number(out: &mut Vec<u8>, n: u64) -> Result<(), AllocError>
+    ensures ok { OnOk result (out.new.items ≡ out.old.items ++ decimal n) }
+    ensures err { OnErr result (out.new.items ≡ out.old.items) }
+{
+    let mut buffer = Buffer::new();
+    out.extend_from_slice(buffer.format(n).as_bytes())
+}
+
+/// The number that the digits at the front stand for, 0 for none, and how many they are; or `None`
+/// where they stand for 2^64 or more.
+#[inline]
+#[tactic(auto, using(crate::proofs::NumberLaws::digits_more, crate::proofs::NumberLaws::value_more))]
+pub fn leading_digits(bytes: &[u8]) -> Option<(u64, usize)>
+    ensures { AreLeadingDigits bytes.now result }
+{
+    let mut number = 0u64;
+    for (i, byte) in bytes.iter().enumerate() {
+        if !byte.is_ascii_digit() {
+            return Some((number, i));
+        }
+        number = number
+            .checked_mul(10)?
+            .checked_add(u64::from(*byte - b'0'))?;
+    }
+    Some((number, bytes.len()))
+}
+
+/// The law that what `push_number` writes is read as the number that it wrote, below each limit that
+/// the number is below. The call does nothing.
+pub fn read_back()
+    ensures { (limit n : ℕ) → n < limit → n < 2 ^ 64 → IsReadBack limit n }
+{}

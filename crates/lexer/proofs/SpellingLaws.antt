@@ -1,0 +1,156 @@
+-- Laws of how keywords and symbols are spelled.
+use Rattle.std.proofs.Common.{◌≡◌, ◌≢◌, ℕ, ◌+◌, ◌<◌, ◌≤◌, ◌&&◌, Bool, true, false, List, [], ◌∷◌, ◌++◌, ◌⊎◌, inl, inr, Option, Some, None, length, get_or, codes, refl, sym, ◌∙◌, ap, subst, arith, rules, if◌then◌else◌}
+use Rattle.std.specs.Str.{bytes_eq}
+use Rattle.std.proofs.lemmas.Bool.{and_parts, false≢true}
+use Rattle.lexer.specs.declared.keyword.Keyword.{Keyword}
+use Rattle.lexer.specs.declared.keyword.Keyword.TheVariants as keyword
+use Rattle.lexer.specs.declared.symbol.Symbol.{Symbol}
+use Rattle.lexer.specs.declared.symbol.Symbol.TheVariants as symbol
+use Rattle.lexer.specs.Bytes.{Every, is_letter, is_word_byte}
+use Rattle.lexer.specs.Runs.{Class, Letter, Mark, class_of}
+use Rattle.lexer.specs.Spelling.{keyword_spelling, symbol_spelling}
+use Rattle.lexer.specs.Tokens.{IsWord}
+
+-- what a keyword is found by
+unfoldable keyword_at : List ℕ → Option Keyword
+keyword_at text =
+    if bytes_eq text (codes "element") then Some keyword.Element else
+    if bytes_eq text (codes "Vertex") then Some keyword.Vertex else
+    if bytes_eq text (codes "Edge") then Some keyword.Edge else
+    if bytes_eq text (codes "end") then Some keyword.End else
+    if bytes_eq text (codes "edgeset") then Some keyword.EdgeSet else
+    if bytes_eq text (codes "vertexset") then Some keyword.VertexSet else
+    if bytes_eq text (codes "vector") then Some keyword.Vector else
+    if bytes_eq text (codes "int") then Some keyword.Int else
+    if bytes_eq text (codes "bool") then Some keyword.Bool else
+    if bytes_eq text (codes "const") then Some keyword.Const else
+    if bytes_eq text (codes "var") then Some keyword.Var else
+    if bytes_eq text (codes "func") then Some keyword.Func else
+    if bytes_eq text (codes "while") then Some keyword.While else
+    if bytes_eq text (codes "for") then Some keyword.For else
+    if bytes_eq text (codes "in") then Some keyword.In else
+    if bytes_eq text (codes "if") then Some keyword.If else
+    if bytes_eq text (codes "else") then Some keyword.Else else
+    if bytes_eq text (codes "print") then Some keyword.Print else
+    if bytes_eq text (codes "true") then Some keyword.True else
+    if bytes_eq text (codes "false") then Some keyword.False else
+    if bytes_eq text (codes "and") then Some keyword.And else
+    if bytes_eq text (codes "or") then Some keyword.Or else
+    if bytes_eq text (codes "not") then Some keyword.Not else
+    if bytes_eq text (codes "new") then Some keyword.New else
+    if bytes_eq text (codes "load") then Some keyword.Load else
+    if bytes_eq text (codes "argv") then Some keyword.Argv else
+    if bytes_eq text (codes "schedule") then Some keyword.Schedule else
+    if bytes_eq text (codes "program") then Some keyword.Program else
+    if bytes_eq text (codes "from") then Some keyword.From else
+    if bytes_eq text (codes "to") then Some keyword.To else
+    if bytes_eq text (codes "apply") then Some keyword.Apply else
+    if bytes_eq text (codes "applyModified") then Some keyword.ApplyModified else
+    if bytes_eq text (codes "filter") then Some keyword.Filter else
+    if bytes_eq text (codes "getVertices") then Some keyword.GetVertices else
+    if bytes_eq text (codes "getOutDegrees") then Some keyword.GetOutDegrees else
+    if bytes_eq text (codes "addVertex") then Some keyword.AddVertex else
+    if bytes_eq text (codes "getVertexSetSize") then Some keyword.GetVertexSetSize else
+    if bytes_eq text (codes "configApplyDirection") then Some keyword.ConfigApplyDirection else
+    if bytes_eq text (codes "configApplyParallelization") then Some keyword.ConfigApplyParallelization else
+    if bytes_eq text (codes "configApplyDenseVertexSet") then Some keyword.ConfigApplyDenseVertexSet else
+    if bytes_eq text (codes "fuseApplyFunctions") then Some keyword.FuseApplyFunctions else
+    if bytes_eq text (codes "fuseFields") then Some keyword.FuseFields else
+    None
+
+keyword_at-spelling : (word : Keyword) → keyword_at (keyword_spelling word) ≡ Some word
+unfolding keyword_at
+keyword_at-spelling keyword.Element = refl
+keyword_at-spelling _ = refl
+
+-- no two keywords are spelled alike
+pub keyword_spelling-injective : (v w : Keyword) → keyword_spelling v ≡ keyword_spelling w → v ≡ w
+keyword_spelling-injective v w same =
+    let e : Some v ≡ Some w = sym (keyword_at-spelling v) ∙ ap keyword_at same ∙ keyword_at-spelling w in
+    cc
+
+-- what a symbol is found by
+unfoldable symbol_at : List ℕ → Option Symbol
+symbol_at text =
+    if bytes_eq text (codes "(") then Some symbol.OpenParenthesis else
+    if bytes_eq text (codes ")") then Some symbol.CloseParenthesis else
+    if bytes_eq text (codes "[") then Some symbol.OpenBracket else
+    if bytes_eq text (codes "]") then Some symbol.CloseBracket else
+    if bytes_eq text (codes "{") then Some symbol.OpenBrace else
+    if bytes_eq text (codes "}") then Some symbol.CloseBrace else
+    if bytes_eq text (codes ",") then Some symbol.Comma else
+    if bytes_eq text (codes ";") then Some symbol.Semicolon else
+    if bytes_eq text (codes ":") then Some symbol.Colon else
+    if bytes_eq text (codes ".") then Some symbol.Dot else
+    if bytes_eq text (codes "=") then Some symbol.Assign else
+    if bytes_eq text (codes "==") then Some symbol.Equal else
+    if bytes_eq text (codes "!=") then Some symbol.NotEqual else
+    if bytes_eq text (codes "<") then Some symbol.Less else
+    if bytes_eq text (codes "<=") then Some symbol.LessOrEqual else
+    if bytes_eq text (codes ">") then Some symbol.Greater else
+    if bytes_eq text (codes ">=") then Some symbol.GreaterOrEqual else
+    if bytes_eq text (codes "+") then Some symbol.Plus else
+    if bytes_eq text (codes "-") then Some symbol.Minus else
+    if bytes_eq text (codes "*") then Some symbol.Star else
+    if bytes_eq text (codes "/") then Some symbol.Slash else
+    if bytes_eq text (codes "%") then Some symbol.Percent else
+    if bytes_eq text (codes "->") then Some symbol.Arrow else
+    if bytes_eq text (codes "+=") then Some symbol.PlusAssign else
+    if bytes_eq text (codes "min=") then Some symbol.MinAssign else
+    if bytes_eq text (codes "max=") then Some symbol.MaxAssign else
+    None
+
+symbol_at-spelling : (s : Symbol) → symbol_at (symbol_spelling s) ≡ Some s
+unfolding symbol_at
+symbol_at-spelling symbol.OpenParenthesis = refl
+symbol_at-spelling _ = refl
+
+-- no two symbols are spelled alike
+pub symbol_spelling-injective : (s t : Symbol) → symbol_spelling s ≡ symbol_spelling t → s ≡ t
+symbol_spelling-injective s t same =
+    let e : Some s ≡ Some t = sym (symbol_at-spelling s) ∙ ap symbol_at same ∙ symbol_at-spelling t in
+    cc
+
+-- a test on each byte
+unfoldable every : (ℕ → Bool) → List ℕ → Bool
+every test [] = true
+every test (b ∷ bytes) = test b && every test bytes
+
+every-Every : (test : ℕ → Bool) (bytes : List ℕ) → every test bytes ≡ true → Every test bytes
+unfolding every
+every-Every test [] passes = tt
+every-Every test (b ∷ bytes) passes =
+    let parts = and_parts (test b) (every test bytes) passes in
+    (parts.0, every-Every test bytes parts.1)
+
+-- a word, as a test
+unfoldable is_word : List ℕ → Bool
+is_word [] = false
+is_word (b ∷ bytes) = is_letter b && every is_word_byte bytes
+
+is_word-IsWord : (text : List ℕ) → is_word text ≡ true → IsWord text
+unfolding is_word
+is_word-IsWord [] word = false≢true word
+is_word-IsWord (b ∷ bytes) word =
+    let parts = and_parts (is_letter b) (every is_word_byte bytes) word in
+    (parts.0, every-Every is_word_byte bytes parts.1)
+
+is_word-spelling : (word : Keyword) → is_word (keyword_spelling word) ≡ true
+unfolding is_word every
+is_word-spelling keyword.Element = refl
+is_word-spelling _ = refl
+
+-- a keyword is a word
+pub keyword_spelling-IsWord : (word : Keyword) → IsWord (keyword_spelling word)
+keyword_spelling-IsWord word = is_word-IsWord (keyword_spelling word) (is_word-spelling word)
+
+-- what a symbol is that begins with a byte of this class
+abbrev pub SymbolShape : Class → List ℕ → Type 0
+SymbolShape Letter text = (text ≡ codes "min=") ⊎ (text ≡ codes "max=")
+SymbolShape Mark text = (0 < length text) × (length text ≤ 2)
+SymbolShape _ text = ⊥
+
+pub symbol_spelling-SymbolShape : (s : Symbol) → SymbolShape (class_of (get_or (symbol_spelling s) 0 0)) (symbol_spelling s)
+symbol_spelling-SymbolShape symbol.MinAssign = inl refl
+symbol_spelling-SymbolShape symbol.MaxAssign = inr refl
+symbol_spelling-SymbolShape _ = (omega arith, omega arith)

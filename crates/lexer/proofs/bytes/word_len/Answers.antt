@@ -1,0 +1,12 @@
+use Rattle.std.proofs.Common.{rules}
+use Rattle.lexer.specs.Bytes.{is_word_byte}
+use Rattle.lexer.proofs.RunLaws.{run_to, run_all}
+use Rattle.lexer.proofs.bytes.word_len.Goals as goal
+
+pub returns-in-Some : goal.returns-in-Some
+returns-in-Some c =
+    run_to is_word_byte c.args.bytes.now c.in-Some.len (search rules) (search rules) (search rules)
+
+pub returns-in-None : goal.returns-in-None
+returns-in-None c =
+    run_all is_word_byte c.args.bytes.now (search rules)

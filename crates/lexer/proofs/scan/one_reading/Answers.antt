@@ -1,0 +1,5 @@
+use Rattle.lexer.proofs.ReadingLaws.{reads_unique}
+use Rattle.lexer.proofs.scan.one_reading.Goals as goal
+
+pub returns : goal.returns
+returns c = reads_unique

@@ -1,0 +1,5 @@
+use Rattle.lexer.proofs.OrderLaws.{HasTokens-AreInOrder}
+use Rattle.lexer.proofs.scan.tokens_in_order.Goals as goal
+
+pub returns : goal.returns
+returns c = HasTokens-AreInOrder

@@ -1,0 +1,6 @@
+use Rattle.tail_codec.specs.Spelling.{least}
+use Rattle.tail_codec.proofs.Lists.{same_list}
+use Rattle.tail_codec.proofs.laws.bytes_spell_one_list.Goals as goal
+
+pub returns : goal.returns
+returns c = λ base xs ys bytes one other. same_list (least base) xs ys bytes one other

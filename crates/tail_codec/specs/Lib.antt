@@ -1,0 +1,5 @@
+pub mod Spelling
+pub mod Decoding
+pub mod Bytes
+pub mod Outcome
+pub mod Refusal
