@@ -12,6 +12,7 @@ mod random;
 mod scripts;
 mod tails;
 mod timing;
+mod trees;
 mod workload;
 
 use std::io::Error;
@@ -31,9 +32,10 @@ fn main(rt: HostRuntime) -> io::Result<ExitCode> {
         ["--time", "scripts"] => scripts::print_times(&rt)?,
         ["--time", "lexer"] => lexing::print_times(&rt)?,
         ["--time", "tails"] => tails::print_times(&rt)?,
+        ["--time", "trees"] => trees::print_times(&rt)?,
         ["--script", adds] => print_script(&rt, adds)?,
         _ => {
-            eprintln!(rt; "usage: bench [--time scripts|lexer|tails | --script ADDS]")?;
+            eprintln!(rt; "usage: bench [--time scripts|lexer|tails|trees | --script ADDS]")?;
             return Ok(ExitCode::from(2));
         }
     }
@@ -44,7 +46,8 @@ fn main(rt: HostRuntime) -> io::Result<ExitCode> {
 fn print_outcomes<R: Print + AllocGlobal>(rt: &R) -> io::Result<()> {
     scripts::print_outcomes(rt)?;
     lexing::print_outcomes(rt)?;
-    tails::print_outcomes(rt)
+    tails::print_outcomes(rt)?;
+    trees::print_outcomes(rt)
 }
 
 // Prints the script of so many `add` lines.

@@ -1,8 +1,8 @@
 -- Laws of what stands at the front of bytes: the first piece of a given length, and faults.
-use Rattle.std.proofs.Common.{◌≡◌, ◌≢◌, ℕ, pos, ◌+◌, ◌-◌, ◌^◌, ◌<◌, ◌≤◌, ◌≤ℤ◌, ◌⊎◌, inl, inr, ◌&&◌, Bool, true, false, List, [], ◌∷◌, ◌++◌, length, take, drop, get_or, zero, suc, refl, sym, ◌∙◌, ap, subst, arith, rules, append_assoc, length-append, append-nil}
+use Rattle.std.proofs.Common.{◌≡◌, ◌≢◌, ℕ, pos, ◌+◌, ◌<◌, ◌≤◌, inl, inr, true, false, List, [], ◌∷◌, ◌++◌, length, take, drop, get_or, zero, suc, refl, sym, ◌∙◌, ap, subst, arith, append_assoc, length-append}
 use Rattle.std.specs.Char.{is_ascii_digit}
 use Rattle.std.specs.Str.{all_ascii_digits}
-use Rattle.std.proofs.lemmas.Bool.{and_parts, cases_lt, false≢true}
+use Rattle.std.proofs.lemmas.Bool.{cases_lt, false≢true}
 use Rattle.std.proofs.Math.Seq.{drop-append_seam}
 use Rattle.std.proofs.lemmas.List.{take-append-drop, length-take}
 use Rattle.decimal.specs.Numbers.{value_of}
@@ -10,12 +10,11 @@ use Rattle.decimal.proofs.NumberLaws.{value_of-longer, all_ascii_digits-append}
 use Rattle.lexer.specs.declared.symbol.Symbol.{Symbol}
 use Rattle.lexer.specs.declared.token.TokenKind.TheVariants as kind
 use Rattle.lexer.specs.Bytes.{Every, is_white, is_letter, is_word_byte, is_quotable, is_in_line}
-use Rattle.lexer.specs.Runs.{EndsRun, IsRun, IsReduction, Class, Blank, Letter, Digit, Hash, Quote, Mark, class_of, IsFirst}
+use Rattle.lexer.specs.Runs.{EndsRun, IsRun, Quote, Mark, class_of, IsFirst}
 use Rattle.lexer.specs.Spelling.{symbol_spelling}
-use Rattle.lexer.specs.Tokens.{IsWord, IsName, PieceKind, White, Comment, Lexeme, IsPiece, Piece, IsLongest, IsSmall, BeginsNoPiece, BeginsBadByte, BeginsUnfinishedText, BeginsLargeNumber}
+use Rattle.lexer.specs.Tokens.{IsWord, IsName, PieceKind, White, Comment, Lexeme, IsPiece, IsLongest, IsSmall, BeginsBadByte, BeginsUnfinishedText, BeginsLargeNumber}
 use Rattle.lexer.proofs.RunLaws.{ends_at, ends_whole}
 use Rattle.lexer.proofs.ShapeLaws.{PieceShape, piece_shape, piece_nonempty}
-use Rattle.lexer.proofs.SpellingLaws.{SymbolShape, symbol_spelling-SymbolShape}
 use Rattle.lexer.proofs.LongestLaws.{run_unique, every_word_byte, white_longest, number_longest, comment_longest, word_longest, reduction_longest, label_longest, text_longest, IsNoReduction, IsNoPair}
 
 take_front : (front rest : List ℕ) → take (length front) (front ++ rest) ≡ front

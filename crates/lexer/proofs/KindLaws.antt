@@ -1,15 +1,14 @@
 -- A text is a piece of one kind.
-use Rattle.std.proofs.Common.{◌≡◌, ◌≢◌, ℕ, pos, ◌+◌, ◌<◌, ◌≤◌, ◌⊎◌, inl, inr, Bool, true, false, List, [], ◌∷◌, ◌++◌, length, get_or, refl, sym, ◌∙◌, ap, subst, arith, rules}
+use Rattle.std.proofs.Common.{◌≡◌, ℕ, inl, inr, List, [], ◌∷◌, get_or, refl, sym, ◌∙◌, ap, subst, arith}
 use Rattle.std.proofs.lemmas.Bool.{and_parts, false≢true}
 use Rattle.std.specs.Char.{is_ascii_digit}
 use Rattle.std.specs.Str.{all_ascii_digits}
-use Rattle.lexer.specs.declared.keyword.Keyword.{Keyword}
 use Rattle.lexer.specs.declared.symbol.Symbol.{Symbol}
 use Rattle.lexer.specs.declared.symbol.Symbol.TheVariants as symbol
 use Rattle.lexer.specs.declared.token.TokenKind.TheVariants as kind
 use Rattle.lexer.specs.Runs.{Class, Blank, Letter, Digit, Hash, Quote, Mark, class_of}
-use Rattle.lexer.specs.Spelling.{keyword_spelling, symbol_spelling}
-use Rattle.lexer.specs.Tokens.{IsWord, IsName, PieceKind, White, Comment, Lexeme, IsPiece}
+use Rattle.lexer.specs.Spelling.{symbol_spelling}
+use Rattle.lexer.specs.Tokens.{IsWord, PieceKind, White, Comment, Lexeme, IsPiece}
 use Rattle.lexer.proofs.ShapeLaws.{class_of-white, class_of-letter, class_of-digit}
 use Rattle.lexer.proofs.SpellingLaws.{keyword_spelling-IsWord, keyword_spelling-injective, symbol_spelling-injective, SymbolShape, symbol_spelling-SymbolShape}
 

@@ -1,5 +1,5 @@
 -- Laws of the longest piece at a place.
-use Rattle.std.proofs.Common.{◌≡◌, ◌≢◌, ℕ, pos, ◌+◌, ◌<◌, ◌≤◌, ◌⊎◌, inl, inr, Bool, true, false, List, [], ◌∷◌, ◌++◌, length, take, drop, get_or, codes, zero, suc, refl, sym, ◌∙◌, ap, subst, arith, rules, append_assoc, length-append}
+use Rattle.std.proofs.Common.{◌≡◌, ◌≢◌, ℕ, pos, ◌<◌, ◌≤◌, inl, inr, Bool, true, false, List, [], ◌∷◌, ◌++◌, length, get_or, codes, refl, sym, ◌∙◌, ap, subst, arith, append_assoc, length-append}
 use Rattle.std.specs.Char.{is_ascii_digit}
 use Rattle.std.specs.Str.{all_ascii_digits}
 use Rattle.std.proofs.lemmas.Bool.{and_parts, false≢true}
@@ -10,7 +10,7 @@ use Rattle.lexer.specs.declared.token.TokenKind.TheVariants as kind
 use Rattle.lexer.specs.Bytes.{Every, is_white, is_letter, is_word_byte, is_quotable, is_in_line}
 use Rattle.lexer.specs.Runs.{EndsRun, Class, Blank, Letter, Digit, Hash, Quote, Mark, class_of}
 use Rattle.lexer.specs.Spelling.{symbol_spelling}
-use Rattle.lexer.specs.Tokens.{IsWord, IsName, PieceKind, White, Comment, Lexeme, IsPiece, Piece, IsLongest}
+use Rattle.lexer.specs.Tokens.{IsWord, IsName, PieceKind, White, Comment, Lexeme, IsPiece, IsLongest}
 use Rattle.lexer.proofs.ShapeLaws.{PieceShape, piece_shape, class_of-white, class_of-letter, class_of-digit}
 use Rattle.lexer.proofs.SpellingLaws.{SymbolShape, symbol_spelling-SymbolShape}
 

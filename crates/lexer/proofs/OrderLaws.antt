@@ -1,10 +1,9 @@
 -- The tokens of a text stand in it in their order.
-use Rattle.std.proofs.Common.{◌≡◌, ℕ, ◌+◌, ◌-◌, ◌<◌, ◌≤◌, List, [], ◌∷◌, ◌++◌, length, take, drop, refl, sym, ◌∙◌, ap, subst, arith, rules, append_assoc, length-append, append-nil}
+use Rattle.std.proofs.Common.{◌≡◌, ℕ, ◌+◌, ◌-◌, List, [], ◌∷◌, ◌++◌, length, take, drop, refl, sym, ◌∙◌, ap, subst, arith, append_assoc, length-append, append-nil}
 use Rattle.std.specs.List.{AllByRecursion}
 use Rattle.std.proofs.Math.Seq.{drop-append_seam, take-append_seam}
-use Rattle.lexer.specs.declared.token.Span.{Span}
 use Rattle.lexer.specs.declared.token.Token.{Token}
-use Rattle.lexer.specs.Tokens.{PieceKind, White, Comment, Lexeme, IsGap, IsPiece, IsToken, Piece, bytes_of, AreLongest, IsReadUpTo, tokens_from, HasTokens, IsWithin, slice_of, AreGaps, AreInOrder}
+use Rattle.lexer.specs.Tokens.{PieceKind, White, Comment, Lexeme, IsGap, IsPiece, IsToken, Piece, bytes_of, AreLongest, tokens_from, HasTokens, slice_of, AreGaps, AreInOrder}
 
 -- one more gap
 bytes_of-append : (ps qs : List Piece) → bytes_of (ps ++ qs) ≡ bytes_of ps ++ bytes_of qs

@@ -1,15 +1,15 @@
 -- Laws of what a piece is that begins with a given byte.
-use Rattle.std.proofs.Common.{◌≡◌, ◌≢◌, ℕ, pos, ◌+◌, ◌<◌, ◌≤◌, ◌⊎◌, inl, inr, Bool, true, false, List, [], ◌∷◌, ◌++◌, length, get_or, codes, refl, sym, ◌∙◌, ap, subst, arith, rules}
-use Rattle.std.specs.Char.{is_ascii_digit, is_ascii_alphabetic}
+use Rattle.std.proofs.Common.{◌≡◌, ◌≢◌, ℕ, ◌⊎◌, inl, inr, true, false, List, [], ◌∷◌, get_or, refl, sym, subst, arith}
+use Rattle.std.specs.Char.{is_ascii_digit}
 use Rattle.std.specs.Str.{all_ascii_digits}
-use Rattle.std.proofs.lemmas.Bool.{and_parts, false≢true}
+use Rattle.std.proofs.lemmas.Bool.{and_parts}
 use Rattle.std.proofs.lemmas.Bool.Decides.{nat_tests}
 use Rattle.lexer.specs.declared.symbol.Symbol.{Symbol}
 use Rattle.lexer.specs.declared.token.TokenKind.TheVariants as kind
-use Rattle.lexer.specs.Bytes.{Every, is_white, is_letter, is_quotable, is_in_line}
+use Rattle.lexer.specs.Bytes.{Every, is_white, is_letter}
 use Rattle.lexer.specs.Runs.{Class, Blank, Letter, Digit, Hash, Quote, Mark, class_of}
 use Rattle.lexer.specs.Spelling.{symbol_spelling}
-use Rattle.lexer.specs.Tokens.{IsWord, IsName, PieceKind, White, Comment, Lexeme, IsPiece}
+use Rattle.lexer.specs.Tokens.{IsWord, PieceKind, White, Comment, Lexeme, IsPiece}
 use Rattle.lexer.proofs.SpellingLaws.{keyword_spelling-IsWord, SymbolShape, symbol_spelling-SymbolShape}
 
 pub class_of-white : (b : ℕ) → is_white b ≡ true → class_of b ≡ Blank

@@ -1,9 +1,9 @@
 -- What the public calls answer.
-use Rattle.std.specs.Prelude.{◌≡◌, ℕ, List, Result, Ok, Err}
+use Rattle.std.specs.Prelude.{ℕ, List, Result, Ok, Err}
 use Rattle.std.specs.Global.{Vec}
 use Rattle.lexer.specs.declared.token.Token.{Token}
 use Rattle.lexer.specs.declared.error.LexError.{LexError}
-use Rattle.lexer.specs.declared.error.LexError.TheVariants.{BadByte, NumberTooLarge, UnfinishedText, NoMemory}
+use Rattle.lexer.specs.declared.error.LexError.TheVariants.{NoMemory}
 use Rattle.lexer.specs.Tokens.{Reads}
 
 -- the answer is how the text reads, or want of memory

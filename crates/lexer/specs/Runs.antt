@@ -1,12 +1,11 @@
 -- What the steps of the reader say of the bytes at the front. No public contract cites these.
 use Rattle.std.specs.Prelude.{◌≡◌, ◌≢◌, ℕ, Bool, false, ◌<◌, ◌≤◌, ◌==◌, List, [], ◌∷◌, ◌++◌, Option, MatchOption, length, take, drop, if◌then◌else◌}
 use Rattle.std.specs.Char.{is_ascii_digit}
-use Rattle.lexer.specs.declared.keyword.Keyword.{Keyword}
 use Rattle.lexer.specs.declared.symbol.Symbol.{Symbol}
 use Rattle.lexer.specs.declared.front.Front.{Front}
 use Rattle.lexer.specs.declared.front.Front.TheVariants as front
 use Rattle.lexer.specs.Bytes.{Every, is_white, is_letter}
-use Rattle.lexer.specs.Spelling.{keyword_spelling, symbol_spelling}
+use Rattle.lexer.specs.Spelling.{symbol_spelling}
 use Rattle.lexer.specs.Tokens.{PieceKind, Lexeme, IsGap, IsLongest, IsSmall, BeginsBadByte, BeginsUnfinishedText, BeginsLargeNumber}
 
 -- what a first byte says of the piece that it begins

@@ -1,19 +1,22 @@
 -- What a script replies: its lines, one after another, from a state in which no graph is open.
 use Rattle.std.specs.Prelude.{ℕ, not, Option, Some, None, if◌then◌else◌, List, [], ◌∷◌, ◌++◌, codes}
+use Rattle.std.specs.Option.{option_and_then}
 use Rattle.tree_batch.specs.declared.batch.Entry.{Entry}
 use Rattle.tree_batch.specs.declared.batch.Entry.TheVariants as entry
-use Rattle.tree_batch.specs.Digraph.{is_vertex_count, is_chunk_size}
+use Rattle.tree_batch.specs.Digraph.{Digraph, is_vertex_count, is_chunk_size}
+use Rattle.version_list.specs.declared.step.Which.{Which}
+use Rattle.version_list.specs.declared.step.Which.TheVariants as which
 use Rattle.version_list.specs.declared.step.Step.TheVariants as step
 use Rattle.version_list.specs.declared.step.Reply.{Reply}
 use Rattle.version_list.specs.declared.step.Reply.TheVariants as reply
-use Rattle.version_list.specs.Machine.{State, opened, reply_to, state_after, newest_number, version_graph}
+use Rattle.version_list.specs.Machine.{State, opened, reply_to, state_after, newest_number, version_graph, ticket_graph}
 use Rattle.script_text.specs.declared.commands.Command.{Command}
 use Rattle.script_text.specs.declared.commands.Command.TheVariants as command
 use Rattle.script_text.specs.Commands.{command_of}
 use Rattle.script_text.specs.Pieces.{lines_of}
 use Rattle.runner.specs.declared.reply.LineReply.{LineReply}
 use Rattle.runner.specs.declared.reply.LineReply.TheVariants as line_reply
-use Rattle.runner.specs.Text.{word_line, edges_text}
+use Rattle.runner.specs.Text.{word_line, ticket_line, edges_text}
 
 -- the versions, once a graph is open, and the entries that the next commit takes
 pub record ScriptState : Type 0 where
@@ -53,6 +56,42 @@ committing v s = record {
   text = commit_line (reply_to v (step.Commit s.pending));
 }
 
+-- the version that a hold asks for
+abbrev pub which_of : Option ℕ → Which
+which_of None = which.Newest
+which_of (Some k) = which.At k
+
+-- the line of the reply to a hold
+abbrev pub hold_line : Reply → List ℕ
+hold_line (reply.Ticket ticket version) = ticket_line ticket version
+hold_line (reply.Refused number) = word_line (codes "refused") number
+hold_line _ = []
+
+-- a version is held by a new ticket
+abbrev pub holding : State → ScriptState → Which → Answer
+holding v s asked = record {
+  state = record { versions = Some (state_after v (step.Acquire asked)); pending = s.pending };
+  text = hold_line (reply_to v (step.Acquire asked));
+}
+
+-- the line of the reply to a release of the ticket
+abbrev pub release_line : ℕ → Reply → List ℕ
+release_line ticket reply.Released = word_line (codes "released") ticket
+release_line ticket (reply.Refused number) = word_line (codes "refused") number
+release_line ticket _ = []
+
+-- a ticket is closed
+abbrev pub releasing : State → ScriptState → ℕ → Answer
+releasing v s ticket = record {
+  state = record { versions = Some (state_after v (step.Release ticket)); pending = s.pending };
+  text = release_line ticket (reply_to v (step.Release ticket));
+}
+
+-- the edges of the version that a ticket holds, where it is open
+abbrev pub listing_held : ScriptState → Option Digraph → Answer
+listing_held s None = refused s 122
+listing_held s (Some g) = record { state = s; text = edges_text g.edges }
+
 -- the edges of the newest version
 abbrev pub listing : State → ScriptState → Answer
 listing v s = record { state = s; text = edges_text (version_graph v (newest_number v)).edges }
@@ -68,7 +107,10 @@ on_versions v s (command.Vertices n b) = refused s 801
 on_versions v s (command.Add source destination) = joined s (entry.Add source destination)
 on_versions v s (command.Remove source destination) = joined s (entry.Remove source destination)
 on_versions v s command.Commit = committing v s
+on_versions v s (command.Hold version) = holding v s (which_of version)
+on_versions v s (command.Release ticket) = releasing v s ticket
 on_versions v s command.Edges = listing v s
+on_versions v s (command.EdgesOf ticket) = listing_held s (ticket_graph v ticket)
 
 -- a command, by whether a graph is open
 abbrev pub by_versions : ScriptState → Option State → Command → Answer
@@ -107,13 +149,25 @@ abbrev pub newest_edges : Option State → List ℕ
 newest_edges None = []
 newest_edges (Some v) = edges_text (version_graph v (newest_number v)).edges
 
+-- the graph of the version that a ticket holds, where it is open
+abbrev pub held_graph : Option State → ℕ → Option Digraph
+held_graph versions ticket = option_and_then (λ v. ticket_graph v ticket) versions
+
+-- the edges of a graph, where there is one
+abbrev pub edges_of_graph : Option Digraph → List ℕ
+edges_of_graph None = []
+edges_of_graph (Some g) = edges_text g.edges
+
 -- what the reply to a line writes in the state after the line
 abbrev pub text_of : ScriptState → LineReply → List ℕ
 text_of s line_reply.Nothing = []
 text_of s (line_reply.Open vertices) = word_line (codes "open") vertices
 text_of s (line_reply.Version number) = word_line (codes "version") number
+text_of s (line_reply.Ticket ticket version) = ticket_line ticket version
+text_of s (line_reply.Released ticket) = word_line (codes "released") ticket
 text_of s (line_reply.Refused number) = word_line (codes "refused") number
 text_of s line_reply.Edges = newest_edges s.versions
+text_of s (line_reply.EdgesOf ticket) = edges_of_graph (held_graph s.versions ticket)
 
 -- a script that has come to the end of a line, or into one
 pub record Reading : Type 0 where

@@ -1,8 +1,10 @@
 ghost use Rattle.std.specs.Prelude.{◌≡◌, ◌↔◌, IfSome, IsNone, None};
-ghost use Rattle.script_text.specs.declared.commands.Command.TheVariants.{Commit};
-ghost use Rattle.version_list.specs.Machine.{version_graph, newest_number};
-ghost use Rattle.runner.specs.Replies.{answer, joined, opening, unopened, by_versions, at_start};
-ghost use Rattle.runner.specs.Interpreting.{Gives, Commits, MatchVersions, refusal_of};
+ghost use Rattle.std.specs.Option.{option_copied};
+ghost use Rattle.script_text.specs.declared.commands.Command.TheVariants.{Commit, Hold, Release};
+ghost use Rattle.version_list.specs.declared.step.Step.TheVariants as step;
+ghost use Rattle.version_list.specs.Machine.{version_graph, newest_number, ticket_graph};
+ghost use Rattle.runner.specs.Replies.{answer, joined, opening, unopened, by_versions, at_start, commit_line, hold_line, release_line, listing_held, held_graph};
+ghost use Rattle.runner.specs.Interpreting.{Gives, IsAnswered, Steps, MatchVersions, refusal_of};
 
 use crate::error::ScriptError;
 use crate::reply::LineReply;
@@ -11,7 +13,7 @@ use std::alloc::Global;
 use std::marker::Model;
 use std::mem;
 use tree_batch::{Batch, Entry, Graph};
-use version_list::{VersionError, Versions};
+use version_list::{Ticket, VersionError, Versions, Which};
 
 /// The refusal of a line that is no command, or none that may stand there.
 const BAD_LINE: u16 = 801;
@@ -72,7 +74,10 @@ impl Interpreter {
                 destination,
             } => self.join(Entry::Remove(source, destination)),
             Command::Commit => self.commit(alloc),
+            Command::Hold { version } => self.hold(version),
+            Command::Release { ticket } => self.release(ticket),
             Command::Edges => Ok(LineReply::Edges),
+            Command::EdgesOf { ticket } => Ok(self.edges_of(ticket)),
         }
     }
 
@@ -126,6 +131,45 @@ impl Interpreter {
         }
     }
 
+    fn hold(&mut self, version: Option<u64>) -> Result<LineReply, ScriptError>
+        ensures { Gives self.new (by_versions self.old self.old.versions (Hold version)) result }
+    {
+        let which = version.map_or(Which::Newest, Which::At);
+        match &mut self.versions {
+            None => Ok(LineReply::Refused(BAD_LINE)),
+            Some(versions) => hold_version(versions, which),
+        }
+    }
+
+    fn release(&mut self, ticket: u64) -> Result<LineReply, ScriptError>
+        ensures { Gives self.new (by_versions self.old self.old.versions (Release ticket)) result }
+    {
+        match &mut self.versions {
+            None => Ok(LineReply::Refused(BAD_LINE)),
+            Some(versions) => release_ticket(versions, ticket),
+        }
+    }
+
+    fn edges_of(&self, ticket: u64) -> LineReply
+        ensures { MatchVersions self.now.versions (λ v.
+            IsAnswered self.now (listing_held self.now (ticket_graph v ticket)) result) }
+    {
+        match self.held(ticket) {
+            Some(_) => LineReply::EdgesOf(ticket),
+            None => LineReply::Refused(VersionError::NotHeld.number()),
+        }
+    }
+
+    /// The graph of the version that a ticket holds, where it is open.
+    pub(crate) fn held(&self, ticket: u64) -> Option<&Graph>
+        ensures { option_copied result ≡ held_graph self.now.versions ticket }
+    {
+        match &self.versions {
+            None => None,
+            Some(versions) => versions.graph(Ticket { number: ticket }),
+        }
+    }
+
     /// The newest version's graph, once one is open.
     pub(crate) fn newest(&self) -> Option<&Graph>
         ensures none { IsNone result ↔ (self.now.versions ≡ None) }
@@ -145,10 +189,34 @@ fn commit_batch(
     versions: &mut Versions,
     batch: Batch,
 ) -> Result<LineReply, ScriptError>
-    ensures { Commits versions.old.state batch versions.new.state result }
+    ensures { Steps versions.old.state (step.Commit batch) commit_line versions.new.state result }
 {
     match versions.commit(alloc, batch) {
         Ok(number) => Ok(LineReply::Version(number)),
+        Err(error) => refusal(error),
+    }
+}
+
+/// Holds a version, and answers its line.
+fn hold_version(versions: &mut Versions, which: Which) -> Result<LineReply, ScriptError>
+    ensures { Steps versions.old.state (step.Acquire which) hold_line versions.new.state result }
+{
+    let version = match which {
+        Which::Newest => versions.newest().0,
+        Which::At(number) => number,
+    };
+    match versions.acquire(which) {
+        Ok((ticket, _)) => Ok(LineReply::Ticket(ticket.number, version)),
+        Err(error) => refusal(error),
+    }
+}
+
+/// Closes a ticket, and answers its line.
+fn release_ticket(versions: &mut Versions, number: u64) -> Result<LineReply, ScriptError>
+    ensures { Steps versions.old.state (step.Release number) (release_line number) versions.new.state result }
+{
+    match versions.release(Ticket { number }) {
+        Ok(()) => Ok(LineReply::Released(number)),
         Err(error) => refusal(error),
     }
 }

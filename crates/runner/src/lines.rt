@@ -6,7 +6,7 @@ ghost use Rattle.runner.specs.Script.{AnswersBytes};
 
 use crate::error::ScriptError;
 use crate::interpreter::Interpreter;
-use crate::output::{send_edges, send_word_line};
+use crate::output::{send_edges, send_ticket_line, send_word_line};
 use crate::reply::LineReply;
 use devices::Drain;
 use script_text::split_line;
@@ -135,8 +135,14 @@ fn send_reply<W: Drain>(
         LineReply::Nothing => Ok(()),
         LineReply::Open(vertices) => send_word_line(writer, kept, b"open", u64::from(vertices)),
         LineReply::Version(number) => send_word_line(writer, kept, b"version", number),
+        LineReply::Ticket(ticket, version) => send_ticket_line(writer, kept, ticket, version),
+        LineReply::Released(ticket) => send_word_line(writer, kept, b"released", ticket),
         LineReply::Refused(number) => send_word_line(writer, kept, b"refused", u64::from(number)),
         LineReply::Edges => match interpreter.newest() {
+            Some(graph) => send_edges(writer, kept, graph),
+            None => Ok(()),
+        },
+        LineReply::EdgesOf(ticket) => match interpreter.held(ticket) {
             Some(graph) => send_edges(writer, kept, graph),
             None => Ok(()),
         },

@@ -1,7 +1,7 @@
 // Replies on their way to a writer: kept in a block, and written when the block is full.
 ghost use Rattle.std.specs.Prelude.{◌≡◌, [], ◌∷◌, ◌++◌, OnOk};
 ghost use Rattle.tree_batch.specs.Edge.{Edge};
-ghost use Rattle.runner.specs.Text.{word_line, edge_line, edges_text};
+ghost use Rattle.runner.specs.Text.{word_line, ticket_line, edge_line, edges_text};
 ghost use Rattle.runner.specs.Output.{output, Emits};
 
 use crate::error::ScriptError;
@@ -60,6 +60,24 @@ pub(crate) fn send_word_line<W: Drain>(
     }
 }
 
+/// Sends a ticket's number and that of its version, on one line.
+pub(crate) fn send_ticket_line<W: Drain>(
+    writer: &mut W,
+    kept: &mut Vec<u8>,
+    ticket: u64,
+    version: u64,
+) -> Result<(), ScriptError>
+    ensures { Emits (output (W.taken writer.old) kept.old.items (W.failures writer.old))
+        (output (W.taken writer.new) kept.new.items (W.failures writer.new))
+        (ticket_line ticket version) result }
+{
+    make_room(writer, kept)?;
+    match push_ticket_line(kept, ticket, version) {
+        Ok(()) => Ok(()),
+        Err(_) => Err(ScriptError::NoMemory),
+    }
+}
+
 /// Sends how many edges a graph has, and a line for each.
 pub(crate) fn send_edges<W: Drain>(
     writer: &mut W,
@@ -101,6 +119,15 @@ fn push_word_line(kept: &mut Vec<u8>, word: &[u8], number: u64) -> Result<(), Al
     push_number(kept, number)?;
     kept.push(b'\n')?;
     Ok(())
+}
+
+fn push_ticket_line(kept: &mut Vec<u8>, ticket: u64, version: u64) -> Result<(), AllocError>
+    ensures { OnOk result (kept.new.items ≡ kept.old.items ++ ticket_line ticket version) }
+{
+    kept.extend_from_slice(b"ticket ")?;
+    push_number(kept, ticket)?;
+    kept.push(b' ')?;
+    push_word_line(kept, b"version", version)
 }
 
 fn push_edge_line(kept: &mut Vec<u8>, edge: (u32, u32)) -> Result<(), AllocError>

@@ -1,10 +1,14 @@
 /// What a line is answered: nothing, that a graph of so many vertices is open, the number of a new
-/// version, the number of a refusal, or the edges of the newest version.
+/// version, a new ticket's number and that of its version, the number of a closed ticket, the number
+/// of a refusal, or the edges of the newest version or of the one that a ticket holds.
 #[derive(Clone, Copy, Debug, PartialEq, Eq)]
 pub(crate) enum LineReply {
     Nothing,
     Open(u32),
     Version(u64),
+    Ticket(u64, u64),
+    Released(u64),
     Refused(u16),
     Edges,
+    EdgesOf(u64),
 }

@@ -85,7 +85,7 @@ const FIRST_REPLIES: &[u8] = b"open 4\nversion 1\nedges 2\n0 1\n3 0\n";
 
 #[test]
 fn replies_to_scripts(rt: HostRuntime) -> Result<(), Fail> {
-    let cases: [(&[u8], &[u8]); 13] = [
+    let cases: [(&[u8], &[u8]); 16] = [
         (FIRST, FIRST_REPLIES),
         (b"", b""),
         (b"\n\n", b""),
@@ -123,8 +123,20 @@ fn replies_to_scripts(rt: HostRuntime) -> Result<(), Fail> {
             b"refused 111\nrefused 801\nopen 2\nrefused 801\n",
         ),
         (
-            b"vertices 2\nadd 0\0 1\nhold\nrun 1 0 1\nCommit\n\xff",
+            b"vertices 2\nadd 0\0 1\nhold\0\nrun 1 0 1\nCommit\n\xff",
             b"open 2\nrefused 801\nrefused 801\nrefused 801\nrefused 801\nrefused 801\n",
+        ),
+        (
+            b"vertices 3\nadd 0 1\ncommit\nhold\nadd 1 2\ncommit\ndel 0 1\ncommit\nedges 1\nhold at 2\nrelease 1\nhold at 1\nrelease 1\nedges\n",
+            b"open 3\nversion 1\nticket 1 version 1\nversion 2\nversion 3\nedges 1\n0 1\nrefused 121\nreleased 1\nrefused 121\nrefused 122\nedges 1\n1 2\n",
+        ),
+        (
+            b"hold\nrelease 1\nedges 1\nvertices 2\nhold at 0\nhold at 1\nedges 2\nrelease 18446744073709551615\n",
+            b"refused 801\nrefused 801\nrefused 801\nopen 2\nticket 1 version 0\nrefused 121\nrefused 122\nrefused 122\n",
+        ),
+        (
+            b"vertices 9\nadd 8 8\nhold\nhold\nrelease 0001\ncommit\nhold at 0\nrelease 3\nrelease 2\nhold at 0\nhold\n",
+            b"open 9\nticket 1 version 0\nticket 2 version 0\nreleased 1\nversion 1\nticket 3 version 0\nreleased 3\nreleased 2\nrefused 121\nticket 4 version 1\n",
         ),
     ];
     for (bytes, replies) in cases {

@@ -3,7 +3,7 @@ use Rattle.std.specs.Prelude.{ℕ, ◌^◌, Bool, List, [], ◌∷◌, Option, S
 use Rattle.std.specs.Option.{option_and_then, option_map}
 use Rattle.std.specs.Str.{bytes_eq}
 use Rattle.script_text.specs.declared.commands.Command.{Command}
-use Rattle.script_text.specs.declared.commands.Command.TheVariants.{Vertices, Add, Remove, Commit, Edges}
+use Rattle.script_text.specs.declared.commands.Command.TheVariants.{Vertices, Add, Remove, Commit, Hold, Release, Edges, EdgesOf}
 use Rattle.decimal.specs.Numbers.{number_of}
 use Rattle.script_text.specs.Pieces.{words_of}
 
@@ -28,7 +28,22 @@ abbrev pub edge_of : (ℕ → ℕ → Command) → List (List ℕ) → Option Co
 edge_of make (source ∷ destination ∷ []) = with_numbers make source destination
 edge_of make _ = None
 
--- "commit" and "edges", which no word follows
+-- the number below 2 ^ 64 that one word is
+abbrev pub one_number : List (List ℕ) → Option ℕ
+one_number (word ∷ []) = number_of (2 ^ 64) word
+one_number _ = None
+
+-- "hold", which asks for the newest version, and "hold at K"
+abbrev pub hold_of : List (List ℕ) → Option Command
+hold_of [] = Some (Hold None)
+hold_of (at ∷ words) = if at is codes "at" then option_map (λ k. Hold (Some k)) (one_number words) else None
+
+-- "edges" and "edges T"
+abbrev pub edges_of : List (List ℕ) → Option Command
+edges_of [] = Some Edges
+edges_of (word ∷ words) = option_map EdgesOf (one_number (word ∷ words))
+
+-- "commit", which no word follows
 abbrev pub alone : Command → List (List ℕ) → Option Command
 alone command [] = Some command
 alone command _ = None
@@ -41,7 +56,9 @@ command_of_words (name ∷ words) =
     if name is codes "add" then edge_of Add words else
     if name is codes "del" then edge_of Remove words else
     if name is codes "commit" then alone Commit words else
-    if name is codes "edges" then alone Edges words else
+    if name is codes "hold" then hold_of words else
+    if name is codes "release" then option_map Release (one_number words) else
+    if name is codes "edges" then edges_of words else
     None
 
 -- the command of a line without its line feed

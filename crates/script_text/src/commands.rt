@@ -14,6 +14,12 @@ pub enum Command {
     Remove { source: u32, destination: u32 },
     /// `commit`
     Commit,
-    /// `edges`
+    /// `hold` or `hold at K`: the newest version, or the one of this number, to hold by a ticket.
+    Hold { version: Option<u64> },
+    /// `release T`: a ticket to close.
+    Release { ticket: u64 },
+    /// `edges`: the edges of the newest version.
     Edges,
+    /// `edges T`: the edges of the version that a ticket holds.
+    EdgesOf { ticket: u64 },
 }

@@ -1,13 +1,13 @@
 //! The command of a line.
 ghost use Rattle.std.specs.Prelude.{◌≡◌};
-ghost use Rattle.script_text.specs.Commands.{command_of, vertices_of};
+ghost use Rattle.script_text.specs.Commands.{command_of, vertices_of, hold_of, edges_of, one_number};
 ghost use Rattle.script_text.specs.Reading.{two_numbers};
 
 use crate::commands::{Command, DEFAULT_CHUNK_SIZE};
 use crate::words::Words;
 
-/// The command of a line without its line feed, or `None` where the line is no command. Each number
-/// is below 2^32. The line is a command as it stands, byte for byte: a space more, a tab, a carriage
+/// The command of a line without its line feed, or `None` where the line is no command. The
+/// numbers of `vertices`, `add` and `del` are below 2^32, the others below 2^64. The line is a command as it stands, byte for byte: a space more, a tab, a carriage
 /// return, a sign or another case makes it none, and so the empty line is none.
 pub fn command(line: &[u8]) -> Option<Command>
     ensures { result ≡ command_of line.now }
@@ -30,7 +30,12 @@ pub fn command(line: &[u8]) -> Option<Command>
             })
         }
         b"commit" => words.is_empty().then_some(Command::Commit),
-        b"edges" => words.is_empty().then_some(Command::Edges),
+        b"hold" => hold(words),
+        b"release" => {
+            let ticket = last_number(words)?;
+            Some(Command::Release { ticket })
+        }
+        b"edges" => edges(words),
         _ => None,
     }
 }
@@ -49,6 +54,40 @@ fn vertices(mut words: Words<'_>) -> Option<Command>
         vertices,
         chunk_size,
     })
+}
+
+/// The version to hold: the newest, or the one behind the word `at`.
+fn hold(mut words: Words<'_>) -> Option<Command>
+    ensures { result ≡ hold_of words.entry }
+{
+    match words.take_word() {
+        None => Some(Command::Hold { version: None }),
+        Some(b"at") => {
+            let version = Some(last_number(words)?);
+            Some(Command::Hold { version })
+        }
+        Some(_) => None,
+    }
+}
+
+/// The edges of the newest version, or of a ticket's.
+fn edges(words: Words<'_>) -> Option<Command>
+    ensures { result ≡ edges_of words.entry }
+{
+    if words.is_empty() {
+        return Some(Command::Edges);
+    }
+    let ticket = last_number(words)?;
+    Some(Command::EdgesOf { ticket })
+}
+
+/// The number below 2^64 that is the only word left.
+#[inline]
+fn last_number(mut words: Words<'_>) -> Option<u64>
+    ensures { result ≡ one_number words.entry }
+{
+    let number = words.take_number()?;
+    words.is_empty().then_some(number)
 }
 
 /// The two ends of an edge.

@@ -16,7 +16,7 @@ fn reads_commands(rt: HostRuntime) -> Result<(), Fail> {
         })
     };
     let last = u32::MAX;
-    let table: [(&[u8], Option<Command>); 45] = [
+    let table: [(&[u8], Option<Command>); 58] = [
         (b"vertices 0", vertices(0, 64)),
         (b"vertices 7 3", vertices(7, 3)),
         (b"vertices 4294967295 4294967295", vertices(last, last)),
@@ -36,6 +36,13 @@ fn reads_commands(rt: HostRuntime) -> Result<(), Fail> {
         ),
         (b"commit", Some(Command::Commit)),
         (b"edges", Some(Command::Edges)),
+        (b"edges 007", Some(Command::EdgesOf { ticket: 7 })),
+        (b"hold", Some(Command::Hold { version: None })),
+        (b"hold at 0", Some(Command::Hold { version: Some(0) })),
+        (
+            b"release 18446744073709551615",
+            Some(Command::Release { ticket: u64::MAX }),
+        ),
         (b"", None),
         (b" ", None),
         (b"\n", None),
@@ -48,7 +55,16 @@ fn reads_commands(rt: HostRuntime) -> Result<(), Fail> {
         (b"commi", None),
         (b"commits", None),
         (b"edges\t", None),
-        (b"edges 0", None),
+        (b"edges 0 1", None),
+        (b"edges ", None),
+        (b"hold ", None),
+        (b"hold 0", None),
+        (b"hold at", None),
+        (b"hold at 0 1", None),
+        (b"hold of 0", None),
+        (b"release", None),
+        (b"release 1 2", None),
+        (b"release 18446744073709551616", None),
         (b"edges\0", None),
         (b"vertices", None),
         (b"vertices ", None),

@@ -59,6 +59,17 @@ impl Model for Batch {
     ghost view = { λ b. b.entries.items };
 }
 
+impl Clone for Batch {
+    ghost is_clone = { λ batch copy. copy ≡ batch };
+
+    /// A batch with the same entries.
+    fn clone(&self) -> Result<Batch, AllocError> {
+        Ok(Batch {
+            entries: Vec::from_slice(*self.entries.allocator(), &self.entries)?,
+        })
+    }
+}
+
 impl Batch {
     /// A batch with no entry. It takes no memory.
     pub fn new(alloc: Global) -> Batch

@@ -9,8 +9,9 @@ ghost use Rattle.tree_batch.specs.Outcome.{Opens, Applies};
 use crate::batch::Batch;
 use crate::error::GraphError;
 use crate::merge::{merged, place};
-use std::alloc::Global;
+use std::alloc::{AllocError, Global};
 use std::marker::Model;
+use std::sync::ArcSlice;
 
 /// The greatest number of vertices of a graph.
 pub const MAX_VERTICES: u32 = 16_777_216;
@@ -19,21 +20,22 @@ pub const MAX_VERTICES: u32 = 16_777_216;
 const CHUNK_SIZES: [u32; 9] = [1, 2, 4, 8, 16, 32, 64, 128, 256];
 
 /// A directed graph whose vertices are the numbers below `vertices`. Self-loops are allowed, and
-/// an edge is there once or not at all. No call changes a graph.
+/// an edge is there once or not at all. No call changes a graph, and its clones share its edges.
 #[derive(Debug, Drop)]
 pub struct Graph {
     vertices: u32,
-    edges: Vec<(u32, u32)>,
+    edges: ArcSlice<(u32, u32)>,
 }
 
 impl Model for Graph {
-    ghost use Rattle.tree_batch.specs.Digraph.{Digraph, IsDigraph};
+    ghost use Rattle.std.specs.Arc.{arc_slice_items};
+    ghost use Rattle.tree_batch.specs.Digraph.{Digraph, digraph, IsDigraph};
 
     ghost Value = { Digraph };
 
-    ghost view = { λ g. record { vertices = g.vertices; edges = g.edges.items } };
+    ghost view = { λ g. digraph g.vertices (arc_slice_items g.edges) };
 
-    ghost invariant = { λ g. IsDigraph (record { vertices = g.vertices; edges = g.edges.items }) };
+    ghost invariant = { λ g. IsDigraph (digraph g.vertices (arc_slice_items g.edges)) };
 }
 
 impl Graph {
@@ -53,7 +55,7 @@ impl Graph {
         }
         Ok(Graph {
             vertices,
-            edges: Vec::new(alloc),
+            edges: ArcSlice::from_vec(Vec::new(alloc))?,
         })
     }
 
@@ -73,7 +75,7 @@ impl Graph {
         let edges = merged(alloc, &self.edges, &entries)?;
         Ok(Graph {
             vertices: self.vertices,
-            edges,
+            edges: ArcSlice::from_vec(edges)?,
         })
     }
 
@@ -110,6 +112,20 @@ impl Graph {
         ensures graph { IsDigraph self.now }
     {
         EdgeIter { edges: &self.edges }
+    }
+}
+
+impl Clone for Graph {
+    ghost is_clone = { λ graph copy. copy ≡ graph };
+
+    /// The same graph once more. It shares the edges, so it takes constant time.
+    ///
+    /// Errors: `AllocError` where the graph cannot be shared once more.
+    fn clone(&self) -> Result<Graph, AllocError> {
+        Ok(Graph {
+            vertices: self.vertices,
+            edges: self.edges.clone()?,
+        })
     }
 }
 

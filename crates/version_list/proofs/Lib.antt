@@ -1,1 +1,4 @@
-pub mod Committing
+pub mod Holding
+pub mod Keeping
+pub mod Stepping
+pub mod Running

@@ -1,4 +1,5 @@
 pub mod Machine
 pub mod Timeline
-pub mod Kept
+pub mod Held
+pub mod Fields
 pub mod Refusal

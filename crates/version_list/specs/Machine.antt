@@ -1,5 +1,6 @@
 -- The version machine: what each step replies in a state, and the state after it.
-use Rattle.std.specs.Prelude.{ℕ, ◌+◌, ◌==◌, nat_lt, min, Bool, not, ◌||◌, if◌then◌else◌, List, [], ◌∷◌, ◌++◌, length, take}
+use Rattle.std.specs.Prelude.{ℕ, ◌+◌, ◌==◌, nat_lt, min, Bool, not, ◌||◌, if◌then◌else◌, Option, Some, None, List, [], ◌∷◌, ◌++◌, length, take}
+use Rattle.std.specs.Option.{option_map}
 use Rattle.std.specs.List.{filter, list_any}
 use Rattle.tree_batch.specs.declared.batch.Entry.{Entry}
 use Rattle.tree_batch.specs.Entry.{names_outside}
@@ -46,9 +47,22 @@ number_asked s (At k) = k
 abbrev pub is_kept : State → ℕ → Bool
 is_kept s k = (k == newest_number s) || list_any (λ t. t.version == k) s.open_tickets
 
+-- the graph of version k, where it is kept
+abbrev pub kept_graph : State → ℕ → Option Digraph
+kept_graph s k = if is_kept s k then Some (version_graph s k) else None
+
 -- whether the ticket is open
 abbrev pub is_open : State → ℕ → Bool
 is_open s number = list_any (λ t. t.number == number) s.open_tickets
+
+-- the number of the version that the ticket of this number holds, where it is open
+abbrev pub ticket_version : List OpenTicket → ℕ → Option ℕ
+ticket_version [] number = None
+ticket_version (t ∷ ts) number = if t.number == number then Some t.version else ticket_version ts number
+
+-- the graph of the version that a ticket holds, where it is open
+abbrev pub ticket_graph : State → ℕ → Option Digraph
+ticket_graph s number = option_map (version_graph s) (ticket_version s.open_tickets number)
 
 -- whether so many more entries, beside one for the release of each open ticket, are more than there is room for
 abbrev pub lacks_room : State → ℕ → Bool

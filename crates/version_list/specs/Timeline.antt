@@ -1,12 +1,12 @@
 -- Histories of accepted steps, and what versions are to a contract.
-use Rattle.std.specs.Prelude.{◌≡◌, ℕ, true, false, Result, Ok, Err, List, [], ◌∷◌, ◌++◌}
+use Rattle.std.specs.Prelude.{◌≡◌, ℕ, ◌<◌, true, false, Result, Ok, Err, List, [], ◌∷◌, ◌++◌, length, take}
 use Rattle.tree_batch.specs.Digraph.{is_vertex_count, is_chunk_size}
 use Rattle.version_list.specs.declared.step.Step.{Step}
 use Rattle.version_list.specs.declared.step.Reply.{Reply}
 use Rattle.version_list.specs.declared.step.Reply.TheVariants.{Version, Ticket, Released, Refused}
 use Rattle.version_list.specs.declared.step.Done.{Done}
 use Rattle.version_list.specs.declared.error.VersionError.{VersionError}
-use Rattle.version_list.specs.declared.error.VersionError.TheVariants.{NoMemory, VertexRange, BadChunkSize, HistoryFull}
+use Rattle.version_list.specs.declared.error.VersionError.TheVariants.{NoMemory, VertexRange, BadChunkSize, NotKept, NotHeld, HistoryFull}
 use Rattle.version_list.specs.Machine.{State, opened, reply_to, state_after}
 use Rattle.version_list.specs.Refusal.{number_of}
 
@@ -56,12 +56,55 @@ Answers old step reply (Ok x) new = Accepts old step (reply x) new
 Answers old step reply (Err NoMemory) new = IsAccepted (reply_to old.state step) × (new ≡ old)
 Answers old step reply (Err VertexRange) new = Refuses old step VertexRange new
 Answers old step reply (Err BadChunkSize) new = Refuses old step BadChunkSize new
+Answers old step reply (Err NotKept) new = Refuses old step NotKept new
+Answers old step reply (Err NotHeld) new = Refuses old step NotHeld new
 Answers old step reply (Err HistoryFull) new = Refuses old step HistoryFull new
+
+-- the timeline after a step that was answered so
+abbrev pub with_reply : Timeline → Step → Reply → Timeline
+with_reply t step (Refused number) = t
+with_reply t step reply = record { base = t.base; history = t.history ++ record { step = step; reply = reply } ∷ []; state = state_after t.state step }
+
+-- what the steps are answered, one after another
+abbrev pub replies_to : State → List Step → List Reply
+replies_to s [] = []
+replies_to s (step ∷ steps) = reply_to s step ∷ replies_to (state_after s step) steps
+
+-- the timeline after a step: one that is accepted stands at the end of the history, with its reply
+abbrev pub advanced : Timeline → Step → Timeline
+advanced t step = with_reply t step (reply_to t.state step)
+
+-- the timeline after steps, one after another
+abbrev pub advanced_through : Timeline → List Step → Timeline
+advanced_through t [] = t
+advanced_through t (step ∷ steps) = advanced_through (advanced t step) steps
+
+-- the step is answered as the machine does, and taken; or nothing is changed for want of memory
+abbrev pub Takes : Timeline → Step → Result Reply VersionError → Timeline → Type 0
+Takes old step (Ok reply) new = (reply ≡ reply_to old.state step) × (new ≡ advanced old step)
+Takes old step (Err NoMemory) new = new ≡ old
+Takes old step (Err VertexRange) new = ⊥
+Takes old step (Err BadChunkSize) new = ⊥
+Takes old step (Err NotKept) new = ⊥
+Takes old step (Err NotHeld) new = ⊥
+Takes old step (Err HistoryFull) new = ⊥
+
+-- each step is answered and taken in order, where replies is the list that the call gives; for want of memory it may stop before a step, after those in front of it
+abbrev pub Runs : {A : Type 0} → Timeline → List Step → (A → List Reply) → Result A VersionError → Timeline → Type 0
+Runs old steps replies (Ok x) new = (replies x ≡ replies_to old.state steps) × (new ≡ advanced_through old steps)
+Runs old steps replies (Err NoMemory) new = (k : ℕ) × (k < length steps) × (new ≡ advanced_through old (take k steps))
+Runs old steps replies (Err VertexRange) new = ⊥
+Runs old steps replies (Err BadChunkSize) new = ⊥
+Runs old steps replies (Err NotKept) new = ⊥
+Runs old steps replies (Err NotHeld) new = ⊥
+Runs old steps replies (Err HistoryFull) new = ⊥
 
 -- the timeline of newly opened versions, or the first refusal
 abbrev pub Opens : ℕ → ℕ → ℕ → Result Timeline VersionError → Type 0
 Opens n b room (Ok v) = (is_vertex_count n ≡ true) × (is_chunk_size b ≡ true) × (v ≡ beginning (opened n room))
 Opens n b room (Err VertexRange) = is_vertex_count n ≡ false
 Opens n b room (Err BadChunkSize) = (is_vertex_count n ≡ true) × (is_chunk_size b ≡ false)
+Opens n b room (Err NotKept) = ⊥
+Opens n b room (Err NotHeld) = ⊥
 Opens n b room (Err HistoryFull) = ⊥
 Opens n b room (Err NoMemory) = (is_vertex_count n ≡ true) × (is_chunk_size b ≡ true)

@@ -13,6 +13,10 @@ pub enum VersionError {
     VertexRange,
     #[error("a chunk size is a power of two from 1 to 256")]
     BadChunkSize,
+    #[error("the version is neither the newest nor held")]
+    NotKept,
+    #[error("the ticket is not open")]
+    NotHeld,
     #[error("the history has no room for the step")]
     HistoryFull,
     #[error("out of memory")]
@@ -20,13 +24,16 @@ pub enum VersionError {
 }
 
 impl VersionError {
-    /// The number by which scripts and users know the refusal: 111, 103, 123 or 900.
+    /// The number by which scripts and users know the refusal: 111, 103, 121, 122, 123 or
+    /// 900.
     pub fn number(self) -> u16
         ensures { result ≡ number_of self }
     {
         match self {
             VersionError::VertexRange => 111,
             VersionError::BadChunkSize => 103,
+            VersionError::NotKept => 121,
+            VersionError::NotHeld => 122,
             VersionError::HistoryFull => 123,
             VersionError::NoMemory => 900,
         }

@@ -1,5 +1,5 @@
-//! Commits one after another, by examples made by hand.
-use super::{Done, Reply, Step, VersionError, Versions};
+//! Steps one after another, by examples made by hand.
+use super::{Done, Reply, Step, Ticket, VersionError, Versions, Which};
 use std::alloc::{AllocError, Global};
 use std::process::Abort;
 use std::test::Fail;
@@ -155,6 +155,185 @@ fn a_full_history_refuses_each_commit_and_nothing_changes(rt: HostRuntime) -> Re
     Ok(())
 }
 
+// A step, the commits with an empty batch.
+#[derive(Clone, Copy, Debug)]
+enum Asked {
+    Commit,
+    Acquire(Which),
+    Release(u64),
+}
+
+impl Asked {
+    fn step(self, alloc: Global) -> Step {
+        match self {
+            Asked::Commit => Step::Commit(Batch::new(alloc)),
+            Asked::Acquire(which) => Step::Acquire(which),
+            Asked::Release(number) => Step::Release(number),
+        }
+    }
+}
+
+// What the call for a step answers, an accepted one by its entry in the history.
+fn answer(alloc: Global, versions: &mut Versions, asked: Asked) -> Reply {
+    let result = match asked {
+        Asked::Commit => versions.commit(alloc, Batch::new(alloc)).map(|_| ()),
+        Asked::Acquire(which) => versions.acquire(which).map(|_| ()),
+        Asked::Release(number) => versions.release(Ticket { number }),
+    };
+    match result {
+        Ok(()) => versions
+            .history()
+            .last()
+            .map_or(Reply::Released, |done| done.reply),
+        Err(error) => Reply::Refused(error.number()),
+    }
+}
+
+fn replies_one_by_one(
+    alloc: Global,
+    room: u64,
+    asked: &[Asked],
+) -> Result<Vec<Reply>, VersionError> {
+    let mut versions = Versions::with_room(alloc, 2, 64, room)?;
+    let mut replies = Vec::new(alloc);
+    for step in asked {
+        replies.push(answer(alloc, &mut versions, *step))?;
+    }
+    Ok(replies)
+}
+
+fn replies_in_one_run(
+    alloc: Global,
+    room: u64,
+    asked: &[Asked],
+) -> Result<Vec<Reply>, VersionError> {
+    let mut versions = Versions::with_room(alloc, 2, 64, room)?;
+    let mut steps = Vec::new(alloc);
+    for step in asked {
+        steps.push(step.step(alloc))?;
+    }
+    versions.run(alloc, &steps)
+}
+
+const NEWEST: Asked = Asked::Acquire(Which::Newest);
+
+const NOT_KEPT: Reply = Reply::Refused(121);
+
+const NOT_HELD: Reply = Reply::Refused(122);
+
+const FULL: Reply = Reply::Refused(123);
+
+#[test]
+fn tickets_hold_versions_and_room(rt: HostRuntime) -> Result<(), Fail> {
+    let cases: [(u64, &[Asked], &[Reply]); 3] = [
+        (
+            3,
+            &[
+                NEWEST,
+                Asked::Commit,
+                Asked::Commit,
+                NEWEST,
+                Asked::Release(1),
+                Asked::Commit,
+            ],
+            &[
+                Reply::Ticket(1, 0),
+                Reply::Version(1),
+                FULL,
+                FULL,
+                Reply::Released,
+                FULL,
+            ],
+        ),
+        (
+            7,
+            &[
+                NEWEST,
+                NEWEST,
+                NEWEST,
+                NEWEST,
+                Asked::Acquire(Which::At(1)),
+                Asked::Commit,
+                Asked::Commit,
+                Asked::Release(1),
+                Asked::Release(2),
+                Asked::Release(3),
+                Asked::Release(1),
+                Asked::Commit,
+            ],
+            &[
+                Reply::Ticket(1, 0),
+                Reply::Ticket(2, 0),
+                Reply::Ticket(3, 0),
+                FULL,
+                NOT_KEPT,
+                Reply::Version(1),
+                FULL,
+                Reply::Released,
+                Reply::Released,
+                Reply::Released,
+                NOT_HELD,
+                FULL,
+            ],
+        ),
+        (
+            u64::MAX,
+            &[
+                Asked::Commit,
+                Asked::Acquire(Which::At(0)),
+                NEWEST,
+                Asked::Commit,
+                Asked::Acquire(Which::At(1)),
+                Asked::Release(1),
+                Asked::Acquire(Which::At(1)),
+                Asked::Release(3),
+                Asked::Release(2),
+                Asked::Acquire(Which::At(1)),
+            ],
+            &[
+                Reply::Version(1),
+                NOT_KEPT,
+                Reply::Ticket(1, 1),
+                Reply::Version(2),
+                Reply::Ticket(2, 1),
+                Reply::Released,
+                Reply::Ticket(3, 1),
+                Reply::Released,
+                Reply::Released,
+                NOT_KEPT,
+            ],
+        ),
+    ];
+    for (room, asked, wants) in cases {
+        let replies = replies_one_by_one(rt.alloc(), room, asked)?;
+        assert_eq!(rt; replies.as_slice(), wants, "one by one at {room}");
+        let replies = replies_in_one_run(rt.alloc(), room, asked)?;
+        assert_eq!(rt; replies.as_slice(), wants, "in one run at {room}");
+    }
+    Ok(())
+}
+
+#[test]
+fn a_held_graph_stays_as_it_was(rt: HostRuntime) -> Result<(), Fail> {
+    let mut versions = Versions::new(rt.alloc(), 101, 64)?;
+    versions.commit(rt.alloc(), batch_of(rt.alloc(), &[Entry::Add(100, 7)])?)?;
+    let (ticket, graph) = versions.acquire(Which::Newest)?;
+    for number in 0..100u32 {
+        let entries = [Entry::Add(number, number), Entry::Remove(100, 7)];
+        versions.commit(rt.alloc(), batch_of(rt.alloc(), &entries)?)?;
+    }
+    let held = versions.graph(ticket).map(|held| held.edge_count());
+    assert_eq!(rt; held, Some(1));
+    assert_eq!(rt;
+        edges_of(rt.alloc(), &graph)?.as_slice(),
+        [(100, 7)].as_slice()
+    );
+    assert_eq!(rt; versions.newest().1.edge_count(), 100);
+    versions.release(ticket)?;
+    assert!(rt; versions.graph(ticket).is_none());
+    Ok(())
+}
+
 #[test]
 fn refusals_have_numbers_and_texts(rt: HostRuntime) -> Result<(), Fail> {
     let cases = [
@@ -168,6 +347,12 @@ fn refusals_have_numbers_and_texts(rt: HostRuntime) -> Result<(), Fail> {
             103,
             "a chunk size is a power of two from 1 to 256",
         ),
+        (
+            VersionError::NotKept,
+            121,
+            "the version is neither the newest nor held",
+        ),
+        (VersionError::NotHeld, 122, "the ticket is not open"),
         (
             VersionError::HistoryFull,
             123,

@@ -1,27 +1,32 @@
-ghost use Rattle.std.specs.Prelude.{◌≡◌, if◌then◌else◌};
+ghost use Rattle.std.specs.Prelude.{◌≡◌, ◌+◌, ◌^◌, ◌≤◌, ◌<◌, if◌then◌else◌, IfOk, IfErr, OnOk, vec_len, vec_capacity};
+ghost use Rattle.std.specs.Option.{option_copied};
+ghost use Rattle.indexmap.specs.IndexMap.{IsUnchanged, index_map_len, spare};
 ghost use Rattle.tree_batch.specs.Entry.{names_outside};
-ghost use Rattle.version_list.specs.declared.error.VersionError.TheVariants.{VertexRange, HistoryFull};
-ghost use Rattle.version_list.specs.declared.step.Step.TheVariants.{Commit};
-ghost use Rattle.version_list.specs.declared.step.Reply.TheVariants.{Version};
-ghost use Rattle.version_list.specs.Machine.{lacks_room, newest_number, version_graph};
-ghost use Rattle.version_list.specs.Timeline.{IsLegal, replay, Opens, Answers};
+ghost use Rattle.version_list.specs.declared.error.VersionError.TheVariants.{VertexRange, NotHeld, HistoryFull};
+ghost use Rattle.version_list.specs.declared.step.Step.TheVariants.{Commit, Acquire, Release};
+ghost use Rattle.version_list.specs.declared.step.Reply.TheVariants as reply;
+ghost use Rattle.version_list.specs.Machine.{lacks_room, newest_number, number_asked, version_graph, kept_graph, ticket_graph};
+ghost use Rattle.version_list.specs.Timeline.{IsLegal, replay, Opens, Answers, Takes, Runs};
 
 use crate::error::VersionError;
-use crate::step::{Done, Reply, Step};
-use std::alloc::Global;
+use crate::held::HeldVersions;
+use crate::step::{Done, Reply, Step, Ticket, Which};
+use std::alloc::{AllocError, Global};
 use std::marker::Model;
 use tree_batch::{Batch, Graph};
 
 /// The greatest number of entries that a history may have.
 pub const MAX_HISTORY: u64 = 16_777_216;
 
-/// The versions of a graph, the newest last, and the history of the accepted steps.
+/// The versions of a graph that are kept, and the history of the accepted steps.
 #[derive(Debug, Drop)]
 pub struct Versions {
     newest: Graph,
     number: u64,
     room: u64,
     history: Vec<Done>,
+    given: u64,
+    held: HeldVersions,
 }
 
 impl Model for Versions {
@@ -29,11 +34,11 @@ impl Model for Versions {
 
     ghost Value = { Timeline };
 
-    ghost use Rattle.version_list.specs.Kept.{timeline, IsKept};
+    ghost use Rattle.version_list.specs.Fields.{timeline, IsFaithful};
 
     ghost view = { timeline };
 
-    ghost invariant = { IsKept };
+    ghost invariant = { IsFaithful };
 }
 
 impl Versions {
@@ -63,6 +68,8 @@ impl Versions {
             number: 0,
             room: room.min(MAX_HISTORY),
             history: Vec::new(alloc),
+            given: 0,
+            held: HeldVersions::new(alloc),
         })
     }
 
@@ -72,20 +79,99 @@ impl Versions {
     /// `HistoryFull` where the history has no room, else `NoMemory`. After an error the versions
     /// and the history are as before, and the batch is gone.
     pub fn commit(&mut self, alloc: Global, batch: Batch) -> Result<u64, VersionError>
-        ensures { Answers self.old (Commit batch) Version result self.new }
+        ensures { Answers self.old (Commit batch) reply.Version result self.new }
     {
-        if self.is_full() {
+        if self.lacks_room(1) {
             return Err(refusal_when_full(&batch, self.newest.vertices()));
         }
         let next = self.newest.apply(alloc, &batch)?;
+        self.history.reserve(self.held.ticket_count() + 1)?;
         let number = self.number + 1;
-        self.history.push(Done {
+        self.history.push_reserved(Done {
             step: Step::Commit(batch),
             reply: Reply::Version(number),
-        })?;
+        });
         self.newest = next;
         self.number = number;
         Ok(number)
+    }
+
+    /// Holds a version by a new ticket, and answers the ticket and the version's graph, which
+    /// shares its memory with the version. Tickets are numbered from 1. Takes the time of a
+    /// map's look-up.
+    ///
+    /// Errors: `NotKept` where the version asked for is neither the newest nor held, else
+    /// `HistoryFull` where the history has no room for this step and for the ticket's release,
+    /// else `NoMemory`. After an error the versions and the history are as before.
+    pub fn acquire(&mut self, which: Which) -> Result<(Ticket, Graph), VersionError>
+        ensures answer { let version = number_asked self.old.state which in
+            Answers self.old (Acquire which) (λ r. reply.Ticket r.0.number version) result self.new }
+        ensures graph { let version = number_asked self.old.state which in
+            IfOk result (λ r. r.1 ≡ version_graph self.old.state version) }
+    {
+        let version = self.number_asked(which);
+        let Some(kept) = self.kept_graph(version) else {
+            return Err(VersionError::NotKept);
+        };
+        if self.lacks_room(2) {
+            return Err(VersionError::HistoryFull);
+        }
+        let graph = kept.clone()?;
+        let shared = kept.clone()?;
+        reserve_ticket(&mut self.history, &mut self.held)?;
+        let number = self.given + 1;
+        self.held.open(number, version, shared);
+        self.history.push_reserved(Done {
+            step: Step::Acquire(which),
+            reply: Reply::Ticket(number, version),
+        });
+        self.given = number;
+        Ok((Ticket { number }, graph))
+    }
+
+    /// Closes a ticket. Its version is dropped where no other ticket holds it and it is not the
+    /// newest. Takes no memory, and the time of a map's look-up.
+    ///
+    /// Errors: `NotHeld` where the ticket is not open, and then the versions and the history are
+    /// as before. There is no other: room and memory were kept for it when the ticket was given.
+    pub fn release(&mut self, ticket: Ticket) -> Result<(), VersionError>
+        ensures answer { Answers self.old (Release ticket.number) (λ _. reply.Released) result self.new }
+        ensures only_not_held { IfErr result (λ e. e ≡ NotHeld) }
+    {
+        if !self.held.is_open(ticket.number) {
+            return Err(VersionError::NotHeld);
+        }
+        self.held.close(ticket.number);
+        self.history.push_reserved(Done {
+            step: Step::Release(ticket.number),
+            reply: Reply::Released,
+        });
+        Ok(())
+    }
+
+    /// Takes steps one after another, and answers what each is answered. A step that is refused
+    /// changes nothing, and the next one follows.
+    ///
+    /// Errors: `NoMemory`, after which the versions and the history are those after the steps
+    /// before some step.
+    pub fn run(&mut self, alloc: Global, steps: &[Step]) -> Result<Vec<Reply>, VersionError>
+        ensures { Runs self.old steps.now (λ v. v.items) result self.new }
+    {
+        let mut replies = Vec::with_capacity(alloc, steps.len())?;
+        for step in steps {
+            let reply = self.answer(alloc, step)?;
+            replies.push_reserved(reply);
+        }
+        Ok(replies)
+    }
+
+    /// The graph of the version that a ticket holds, or `None` where the ticket is not open.
+    /// Takes no memory.
+    pub fn graph(&self, ticket: Ticket) -> Option<&Graph>
+        ensures { option_copied result ≡ ticket_graph self.now.state ticket.number }
+    {
+        let version = self.held.version(ticket.number)?;
+        self.held.graph(version)
     }
 
     /// The newest version's number and graph. Takes no memory.
@@ -106,12 +192,74 @@ impl Versions {
         &self.history
     }
 
-    /// Whether the history has no room for a commit.
-    fn is_full(&self) -> bool
-        ensures { result ≡ lacks_room self.now.state 1 }
+    /// Takes a step, and answers what it is answered, a refusal too.
+    ///
+    /// Errors: `NoMemory`, and then nothing is changed.
+    fn answer(&mut self, alloc: Global, step: &Step) -> Result<Reply, VersionError>
+        ensures { Takes self.old step.now result self.new }
     {
-        self.history.len() as u64 >= self.room
+        let answer = match step {
+            Step::Commit(batch) => self.commit(alloc, batch.clone()?).map(Reply::Version),
+            Step::Acquire(which) => {
+                let version = self.number_asked(*which);
+                self.acquire(*which)
+                    .map(|(ticket, _)| Reply::Ticket(ticket.number, version))
+            }
+            Step::Release(number) => {
+                let ticket = Ticket { number: *number };
+                self.release(ticket).map(|()| Reply::Released)
+            }
+        };
+        match answer {
+            Err(VersionError::NoMemory) => Err(VersionError::NoMemory),
+            Err(refusal) => Ok(Reply::Refused(refusal.number())),
+            Ok(reply) => Ok(reply),
+        }
     }
+
+    /// The number of the version that is asked for.
+    fn number_asked(&self, which: Which) -> u64
+        ensures { result ≡ number_asked self.now.state which }
+    {
+        match which {
+            Which::Newest => self.number,
+            Which::At(number) => number,
+        }
+    }
+
+    /// The graph of a version, where it is the newest or held.
+    fn kept_graph(&self, version: u64) -> Option<&Graph>
+        ensures { option_copied result ≡ kept_graph self.now.state version }
+    {
+        if version == self.number {
+            Some(&self.newest)
+        } else {
+            self.held.graph(version)
+        }
+    }
+
+    /// Whether the history has no room for so many more entries, beside the release of each
+    /// open ticket.
+    fn lacks_room(&self, more: u64) -> bool
+        requires { more ≤ 2 }
+        ensures { result ≡ lacks_room self.now.state more }
+    {
+        self.history.len() as u64 + self.held.ticket_count() as u64 + more > self.room
+    }
+}
+
+/// Takes the memory that a new ticket and its release will need.
+fn reserve_ticket(history: &mut Vec<Done>, held: &mut HeldVersions) -> Result<(), AllocError>
+    requires { index_map_len held.old.tickets + 2 < 2 ^ 64 }
+    ensures entries { history.new.items ≡ history.old.items }
+    ensures capacity { vec_capacity history.old ≤ vec_capacity history.new }
+    ensures tickets { IsUnchanged held.old.tickets held.new.tickets }
+    ensures versions { IsUnchanged held.old.versions held.new.versions }
+    ensures room { OnOk result ((0 < spare held.new.tickets) × (0 < spare held.new.versions)) }
+    ensures entry_room { OnOk result (vec_len history.new + index_map_len held.new.tickets + 2 ≤ vec_capacity history.new) }
+{
+    history.reserve(held.ticket_count() + 2)?;
+    held.reserve()
 }
 
 /// Why a commit is refused where the history is full.

@@ -1,4 +1,3 @@
-use Rattle.std.proofs.Common.{◌≡◌, ℕ, List, ◌∷◌}
 use Rattle.lexer.proofs.FrontLaws.{mark_fault}
 use Rattle.lexer.proofs.front.mark.Goals as goal
 

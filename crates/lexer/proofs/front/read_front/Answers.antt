@@ -1,4 +1,4 @@
-use Rattle.std.proofs.Common.{rules, arith, sym}
+use Rattle.std.proofs.Common.{rules, sym}
 use Rattle.lexer.specs.Tokens.{White, Comment}
 use Rattle.lexer.proofs.FrontLaws.{white_first, comment_first, comment_begins}
 use Rattle.lexer.proofs.front.read_front.Goals as goal

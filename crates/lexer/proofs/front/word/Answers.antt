@@ -1,4 +1,3 @@
-use Rattle.std.proofs.Common.{◌≡◌, rules}
 use Rattle.lexer.specs.declared.token.TokenKind.TheVariants as kind
 use Rattle.lexer.specs.Tokens.{Lexeme, IsWord}
 use Rattle.lexer.proofs.FrontLaws.{word_at, word_first}

@@ -1,4 +1,4 @@
-use Rattle.std.proofs.Common.{◌≡◌, ◌+◌, subst, sym}
+use Rattle.std.proofs.Common.{◌+◌, subst, sym}
 use Rattle.std.proofs.lemmas.List.{take_rest}
 use Rattle.lexer.specs.Runs.{IsFirst}
 use Rattle.lexer.specs.Tokens.{Lexeme}

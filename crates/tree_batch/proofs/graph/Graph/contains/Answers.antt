@@ -2,6 +2,7 @@ use Rattle.std.proofs.Common.{◌∙◌, ap, subst, rules, length, ℕ, arith}
 use Rattle.std.specs.List.Sorted.{IsSearchInRange, IsBinarySearchResult}
 use Rattle.std.specs.Ordering.{nat_cmp}
 use Rattle.std.proofs.lemmas.List.Sorted.{answers_always}
+use Rattle.std.specs.Arc.{arc_slice_items}
 use Rattle.tree_batch.specs.Edge.{Edge, place, has_edge}
 use Rattle.tree_batch.specs.Digraph.{Digraph}
 use Rattle.tree_batch.proofs.Rising.{searched}
@@ -10,7 +11,7 @@ use Rattle.tree_batch.proofs.graph.Graph.contains.Goals as goal
 -- the closure gives an edge's place, and the slice is the graph's edges
 pub returns : goal.returns
 returns c =
-    let edges = c.self.inside.edges.items in
+    let edges = arc_slice_items c.self.inside.edges in
     let sought : Edge = (c.args.source, c.args.destination) in
     let by_place = c.binary_search_by_key.ensures.position place (answers_always _ _ _ (λ f a r g called. search rules)) in
     let at_sought = subst (λ (k : ℕ). IsBinarySearchResult (λ (x : Edge). nat_cmp (place x) k) c.deref.result.now c.binary_search_by_key.result) c.place-sought.ensures by_place in

@@ -1,0 +1,11 @@
+pub mod Order
+pub mod Shallow
+pub mod Forks
+pub mod Rotations
+pub mod Splits
+pub mod Depths
+pub mod Edits
+pub mod Halves
+pub mod Ascending
+pub mod Stacks
+pub mod Lookups

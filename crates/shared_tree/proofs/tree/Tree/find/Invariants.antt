@@ -1,0 +1,6 @@
+use Rattle.std.proofs.Common.{◌≡◌}
+use Rattle.shared_tree.specs.Entries.{lookup}
+use Rattle.shared_tree.proofs.tree.Tree.find.Given as goal
+
+abbrev pub invariant-loop-left : goal.invariant-loop-left
+invariant-loop-left g l = lookup l.key l.tree.entries ≡ lookup l.key l.self.entries

@@ -1,0 +1,9 @@
+pub mod Entries
+pub mod Changes
+pub mod Balanced
+pub mod Shape
+pub mod Joins
+pub mod Opened
+pub mod Pending
+pub mod Refusal
+pub mod Outcome

@@ -1,0 +1,251 @@
+//! Joining trees, with rotations where the sides differ in depth.
+
+ghost use Rattle.std.specs.Prelude.{◌≡◌, ◌+◌, ◌≤◌, ◌∷◌, ◌++◌};
+ghost use Rattle.shared_tree.specs.Entries.{IsMap};
+ghost use Rattle.shared_tree.specs.Joins.{IsJoin, IsConcatenation};
+ghost use Rattle.shared_tree.specs.Opened.{IsPopped};
+ghost use Rattle.shared_tree.specs.Outcome.{Gives};
+
+use crate::error::TreeError;
+use crate::open::{Opened, Slot, fork, fork_new, open, rooted, without_left, without_right};
+use crate::share::Share;
+use crate::tree::{Node, Tree};
+use std::alloc::Global;
+use std::sync::Arc;
+
+/// The tree of the entries of `left`, then `key` with `value`, then the entries of `right`. The
+/// caller sees to it that `key` is above all keys of `left` and below all of `right`. It takes time
+/// in proportion to the difference of their depths.
+///
+/// The only error is `NoMemory`.
+pub fn join<V: Share>(
+    alloc: Global,
+    left: Tree<V>,
+    key: u32,
+    value: V,
+    right: Tree<V>,
+) -> Result<Tree<V>, TreeError>
+    requires { IsMap (left.entries ++ (key, value) ∷ right.entries) }
+    ensures { Gives result (λ t. IsJoin left key value right t) }
+{
+    let slot = Slot::new(alloc, value)?;
+    Ok(joined(alloc, left, key, slot, right)?)
+}
+
+/// The tree of the entries of `left` and then those of `right`. The caller sees to it that all keys
+/// of `left` are below all of `right`. It takes time in proportion to their depths.
+///
+/// The only error is `NoMemory`.
+pub fn join2<V: Share>(alloc: Global, left: Tree<V>, right: Tree<V>) -> Result<Tree<V>, TreeError>
+    requires { IsMap (left.entries ++ right.entries) }
+    ensures { Gives result (λ t. IsConcatenation left right t) }
+{
+    match pop_last(alloc, left)? {
+        None => Ok(right),
+        Some(Last { front, key, slot }) => Ok(joined(alloc, front, key, slot, right)?),
+    }
+}
+
+/// The last entry of a tree apart from the others.
+#[derive(Drop)]
+struct Last<V> {
+    front: Tree<V>,
+    key: u32,
+    slot: Slot<V>,
+}
+
+/// The last entry apart from the others, or `None` where there is none.
+fn pop_last<V: Share>(alloc: Global, tree: Tree<V>) -> Result<Option<Last<V>>, TreeError>
+    ensures { Gives result (IsPopped tree) }
+{
+    let Some(root) = open(alloc, tree)? else {
+        return Ok(None);
+    };
+    let Opened {
+        left,
+        key,
+        slot,
+        right,
+    } = root;
+    match pop_last(alloc, right)? {
+        None => Ok(Some(Last {
+            front: left,
+            key,
+            slot,
+        })),
+        Some(last) => {
+            let front = balance(alloc, left, key, slot, last.front)?;
+            Ok(Some(Last {
+                front,
+                key: last.key,
+                slot: last.slot,
+            }))
+        }
+    }
+}
+
+/// As `join`, with the value in its slot.
+pub(crate) fn joined<V: Share>(
+    alloc: Global,
+    left: Tree<V>,
+    key: u32,
+    slot: Slot<V>,
+    right: Tree<V>,
+) -> Result<Tree<V>, TreeError>
+    requires { IsMap (left.entries ++ (key, slot.node.value.value) ∷ right.entries) }
+    ensures { Gives result (λ t. IsJoin left key slot.node.value.value right t) }
+{
+    if left.depth() > right.depth() + 1 {
+        let Some(top) = open(alloc, left)? else {
+            unreachable!()
+        };
+        let inner = joined(alloc, top.right, key, slot, right)?;
+        Ok(balance(alloc, top.left, top.key, top.slot, inner)?)
+    } else if right.depth() > left.depth() + 1 {
+        let Some(top) = open(alloc, right)? else {
+            unreachable!()
+        };
+        let inner = joined(alloc, left, key, slot, top.left)?;
+        Ok(balance(alloc, inner, top.key, top.slot, top.right)?)
+    } else {
+        Ok(fork(alloc, left, key, slot, right)?)
+    }
+}
+
+/// As `fork`, for sides that differ by at most two in depth.
+pub(crate) fn balance<V: Share>(
+    alloc: Global,
+    left: Tree<V>,
+    key: u32,
+    slot: Slot<V>,
+    right: Tree<V>,
+) -> Result<Tree<V>, TreeError>
+    requires map { IsMap (left.entries ++ (key, slot.node.value.value) ∷ right.entries) }
+    requires left_near { left.depth ≤ right.depth + 2 }
+    requires right_near { right.depth ≤ left.depth + 2 }
+    ensures { Gives result (λ t. IsJoin left key slot.node.value.value right t) }
+{
+    if left.depth() == right.depth() + 2 {
+        Ok(rotate_right(alloc, left, key, slot, right)?)
+    } else if right.depth() == left.depth() + 2 {
+        Ok(rotate_left(alloc, left, key, slot, right)?)
+    } else {
+        Ok(fork(alloc, left, key, slot, right)?)
+    }
+}
+
+/// As `balance`, of a left side, a node without one, and the node's right side.
+#[inline]
+pub(crate) fn with_left<V: Share>(
+    alloc: Global,
+    left: Tree<V>,
+    key: u32,
+    node: Arc<Node<V>>,
+) -> Result<Tree<V>, TreeError>
+    requires map { IsMap (left.entries ++ (key, node.value.value) ∷ node.value.right.entries) }
+    requires left_near { left.depth ≤ node.value.right.depth + 2 }
+    requires right_near { node.value.right.depth ≤ left.depth + 2 }
+    ensures { Gives result (λ t. IsJoin left key node.value.value node.value.right t) }
+{
+    let (left_depth, right_depth) = (left.depth(), node.right.depth());
+    if left_depth > right_depth + 1 || right_depth > left_depth + 1 {
+        let (right, node) = without_right(alloc, node)?;
+        return Ok(balance(alloc, left, key, Slot { node }, right)?);
+    }
+    let mut node = node;
+    match Arc::get_mut(&mut node) {
+        Some(inside) => {
+            inside.left = left;
+            Ok(rooted(key, node))
+        }
+        None => {
+            let value = node.value.share()?;
+            Ok(fork_new(alloc, left, key, value, node.right.share()?)?)
+        }
+    }
+}
+
+/// As `balance`, of a node without a right side, its left side, and a right side.
+#[inline]
+pub(crate) fn with_right<V: Share>(
+    alloc: Global,
+    right: Tree<V>,
+    key: u32,
+    node: Arc<Node<V>>,
+) -> Result<Tree<V>, TreeError>
+    requires map { IsMap (node.value.left.entries ++ (key, node.value.value) ∷ right.entries) }
+    requires left_near { node.value.left.depth ≤ right.depth + 2 }
+    requires right_near { right.depth ≤ node.value.left.depth + 2 }
+    ensures { Gives result (λ t. IsJoin node.value.left key node.value.value right t) }
+{
+    let (left_depth, right_depth) = (node.left.depth(), right.depth());
+    if left_depth > right_depth + 1 || right_depth > left_depth + 1 {
+        let (left, node) = without_left(alloc, node)?;
+        return Ok(balance(alloc, left, key, Slot { node }, right)?);
+    }
+    let mut node = node;
+    match Arc::get_mut(&mut node) {
+        Some(inside) => {
+            inside.right = right;
+            Ok(rooted(key, node))
+        }
+        None => {
+            let value = node.value.share()?;
+            Ok(fork_new(alloc, node.left.share()?, key, value, right)?)
+        }
+    }
+}
+
+/// As `fork`, for a left side that is two deeper.
+fn rotate_right<V: Share>(
+    alloc: Global,
+    left: Tree<V>,
+    key: u32,
+    slot: Slot<V>,
+    right: Tree<V>,
+) -> Result<Tree<V>, TreeError>
+    requires map { IsMap (left.entries ++ (key, slot.node.value.value) ∷ right.entries) }
+    requires deeper { left.depth ≡ right.depth + 2 }
+    ensures { Gives result (λ t. IsJoin left key slot.node.value.value right t) }
+{
+    let Some(top) = open(alloc, left)? else {
+        unreachable!()
+    };
+    if top.left.depth() >= top.right.depth() {
+        let lower = fork(alloc, top.right, key, slot, right)?;
+        return Ok(fork(alloc, top.left, top.key, top.slot, lower)?);
+    }
+    let Some(middle) = open(alloc, top.right)? else {
+        unreachable!()
+    };
+    let before = fork(alloc, top.left, top.key, top.slot, middle.left)?;
+    let after = fork(alloc, middle.right, key, slot, right)?;
+    Ok(fork(alloc, before, middle.key, middle.slot, after)?)
+}
+
+/// As `fork`, for a right side that is two deeper.
+fn rotate_left<V: Share>(
+    alloc: Global,
+    left: Tree<V>,
+    key: u32,
+    slot: Slot<V>,
+    right: Tree<V>,
+) -> Result<Tree<V>, TreeError>
+    requires map { IsMap (left.entries ++ (key, slot.node.value.value) ∷ right.entries) }
+    requires deeper { right.depth ≡ left.depth + 2 }
+    ensures { Gives result (λ t. IsJoin left key slot.node.value.value right t) }
+{
+    let Some(top) = open(alloc, right)? else {
+        unreachable!()
+    };
+    if top.right.depth() >= top.left.depth() {
+        let lower = fork(alloc, left, key, slot, top.left)?;
+        return Ok(fork(alloc, lower, top.key, top.slot, top.right)?);
+    }
+    let Some(middle) = open(alloc, top.left)? else {
+        unreachable!()
+    };
+    let before = fork(alloc, left, key, slot, middle.left)?;
+    let after = fork(alloc, middle.right, top.key, top.slot, top.right)?;
+    Ok(fork(alloc, before, middle.key, middle.slot, after)?)
+}

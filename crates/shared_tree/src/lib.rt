@@ -1,0 +1,39 @@
+//! Maps from `u32`, as balanced trees whose nodes owners and threads share.
+//!
+//! A contract sees a [`Tree`] as the list of its entries, which are pairs of a key and a value in
+//! ascending order of keys, and as its depth in nodes. Each call is that of a finite map, said on
+//! that list: `find` is the look-up, `split` gives what is below a key, the value there and what is
+//! above, `join` and `join2` put trees together, `insert` and `remove` change one key and no other.
+//! The sides of each node differ by at most one in depth, so that `2^depth <= (len + 1)^2`.
+//!
+//! No call changes a tree that another owner sees. A call takes a tree by reference, or owns it; a
+//! node on its way that has another owner is copied, with its sides shared, and one that has none
+//! is used again in its own block. A node is one block of memory: its count, its value and the
+//! links to its sides. A link has the depth below it and the key of its node, so that a search and
+//! a change read no node beside their way. Where there is no memory, or a count of owners is full,
+//! a call answers `NoMemory`; what it owned is dropped, and nothing else is changed.
+//!
+//! Values are of a type that is [`Share`]. The balance is that of Adelson-Velsky and Landis (1962),
+//! and `join` as the call on which others rest is from Blelloch, Ferizovic and Sun, "Just Join for
+//! Parallel Ordered Sets" (SPAA 2016). Sets in chunks and graphs stand on this crate.
+#![tactic(auto)]
+
+mod change;
+mod error;
+mod iter;
+mod joins;
+mod laws;
+mod open;
+mod share;
+mod sorted;
+mod tree;
+
+pub use error::TreeError;
+pub use iter::Iter;
+pub use joins::{join, join2};
+pub use laws::{changes_one_key, maps_are_their_values};
+pub use share::Share;
+pub use tree::Tree;
+
+#[cfg(test)]
+mod tests;

@@ -1,0 +1,238 @@
+//! Nodes taken apart and put together, in their own blocks where they have one owner.
+
+ghost use Rattle.std.specs.Prelude.{◌≡◌, ◌∷◌, ◌++◌};
+ghost use Rattle.shared_tree.specs.Entries.{IsMap};
+ghost use Rattle.shared_tree.specs.Balanced.{IsFork, DifferByAtMostOne};
+ghost use Rattle.shared_tree.specs.Opened.{IsOpened};
+ghost use Rattle.shared_tree.specs.Outcome.{Gives};
+
+use crate::error::TreeError;
+use crate::share::Share;
+use crate::tree::{Link, Node, Tree};
+use std::alloc::{AllocError, Global};
+use std::mem;
+use std::sync::Arc;
+
+/// A value in the block of a node that has no sides yet.
+#[derive(Drop)]
+pub(crate) struct Slot<V> {
+    pub(crate) node: Arc<Node<V>>,
+}
+
+/// A root apart from its sides.
+#[derive(Drop)]
+pub(crate) struct Opened<V> {
+    pub(crate) left: Tree<V>,
+    pub(crate) key: u32,
+    pub(crate) slot: Slot<V>,
+    pub(crate) right: Tree<V>,
+}
+
+impl<V: Share> Slot<V> {
+    /// The value in a new block.
+    pub(crate) fn new(alloc: Global, value: V) -> Result<Slot<V>, TreeError>
+        ensures { Gives result (λ slot. slot.node.value.value ≡ value) }
+    {
+        let node = Node {
+            value,
+            left: Tree::new(),
+            right: Tree::new(),
+        };
+        Ok(Slot {
+            node: Arc::new(alloc, node)?,
+        })
+    }
+
+    /// The slot with another value in it.
+    pub(crate) fn with(self, alloc: Global, value: V) -> Result<Slot<V>, TreeError>
+        ensures { Gives result (λ slot. slot.node.value.value ≡ value) }
+    {
+        let mut node = self.node;
+        match Arc::get_mut(&mut node) {
+            Some(inside) => {
+                inside.value = value;
+                Ok(Slot { node })
+            }
+            None => Slot::new(alloc, value),
+        }
+    }
+
+    /// The value out of its block.
+    pub(crate) fn into_value(self) -> Result<V, TreeError>
+        ensures { Gives result (λ value. value ≡ self.node.value.value) }
+    {
+        match Arc::try_unwrap(self.node) {
+            Ok(node) => Ok(node.value),
+            Err(node) => Ok(node.value.share()?),
+        }
+    }
+}
+
+/// The root apart from its sides, or `None` where the tree is empty.
+#[inline]
+pub(crate) fn open<V: Share>(alloc: Global, tree: Tree<V>) -> Result<Option<Opened<V>>, TreeError>
+    ensures { Gives result (IsOpened tree) }
+{
+    match tree.into_link() {
+        Link::Empty => Ok(None),
+        Link::Fork { key, node, .. } => Ok(Some(take_apart(alloc, key, node)?)),
+    }
+}
+
+/// The root at this node apart from its sides.
+#[inline]
+pub(crate) fn take_apart<V: Share>(
+    alloc: Global,
+    key: u32,
+    node: Arc<Node<V>>,
+) -> Result<Opened<V>, TreeError>
+    ensures { Gives result (λ o. (o.left ≡ node.value.left) × (o.key ≡ key)
+        × (o.slot.node.value.value ≡ node.value.value) × (o.right ≡ node.value.right)) }
+{
+    let mut node = node;
+    match Arc::get_mut(&mut node) {
+        Some(inside) => {
+            let left = mem::replace(&mut inside.left, Tree::new());
+            let right = mem::replace(&mut inside.right, Tree::new());
+            Ok(Opened {
+                left,
+                key,
+                slot: Slot { node },
+                right,
+            })
+        }
+        None => Ok(Opened {
+            left: node.left.share()?,
+            key,
+            slot: Slot::new(alloc, node.value.share()?)?,
+            right: node.right.share()?,
+        }),
+    }
+}
+
+/// The left side of a node, and the node without it.
+#[inline]
+pub(crate) fn without_left<V: Share>(
+    alloc: Global,
+    node: Arc<Node<V>>,
+) -> Result<(Tree<V>, Arc<Node<V>>), TreeError>
+    ensures { Gives result (λ p. (p.0 ≡ node.value.left)
+        × (p.1.value.value ≡ node.value.value) × (p.1.value.right ≡ node.value.right)) }
+{
+    let mut node = node;
+    match Arc::get_mut(&mut node) {
+        Some(inside) => {
+            let left = mem::replace(&mut inside.left, Tree::new());
+            Ok((left, node))
+        }
+        None => {
+            let rest = Node {
+                value: node.value.share()?,
+                left: Tree::new(),
+                right: node.right.share()?,
+            };
+            Ok((node.left.share()?, Arc::new(alloc, rest)?))
+        }
+    }
+}
+
+/// The right side of a node, and the node without it.
+#[inline]
+pub(crate) fn without_right<V: Share>(
+    alloc: Global,
+    node: Arc<Node<V>>,
+) -> Result<(Tree<V>, Arc<Node<V>>), TreeError>
+    ensures { Gives result (λ p. (p.0 ≡ node.value.right)
+        × (p.1.value.value ≡ node.value.value) × (p.1.value.left ≡ node.value.left)) }
+{
+    let mut node = node;
+    match Arc::get_mut(&mut node) {
+        Some(inside) => {
+            let right = mem::replace(&mut inside.right, Tree::new());
+            Ok((right, node))
+        }
+        None => {
+            let rest = Node {
+                value: node.value.share()?,
+                left: node.left.share()?,
+                right: Tree::new(),
+            };
+            Ok((node.right.share()?, Arc::new(alloc, rest)?))
+        }
+    }
+}
+
+/// The tree with this entry at the root, between the sides.
+#[inline]
+pub(crate) fn fork<V: Share>(
+    alloc: Global,
+    left: Tree<V>,
+    key: u32,
+    slot: Slot<V>,
+    right: Tree<V>,
+) -> Result<Tree<V>, TreeError>
+    requires map { IsMap (left.entries ++ (key, slot.node.value.value) ∷ right.entries) }
+    requires balanced { DifferByAtMostOne left.depth right.depth }
+    ensures { Gives result (λ t. IsFork t left key slot.node.value.value right) }
+{
+    let node = with_sides(alloc, slot, left, right)?;
+    Ok(rooted(key, node))
+}
+
+/// As `fork`, in a new block.
+#[inline]
+pub(crate) fn fork_new<V: Drop>(
+    alloc: Global,
+    left: Tree<V>,
+    key: u32,
+    value: V,
+    right: Tree<V>,
+) -> Result<Tree<V>, TreeError>
+    requires map { IsMap (left.entries ++ (key, value) ∷ right.entries) }
+    requires balanced { DifferByAtMostOne left.depth right.depth }
+    ensures { Gives result (λ t. IsFork t left key value right) }
+{
+    let node = Arc::new(alloc, Node { value, left, right })?;
+    Ok(rooted(key, node))
+}
+
+/// The tree whose root is this node.
+#[inline]
+pub(crate) fn rooted<V>(key: u32, node: Arc<Node<V>>) -> Tree<V>
+    requires map { IsMap (node.value.left.entries
+        ++ (key, node.value.value) ∷ node.value.right.entries) }
+    requires balanced { DifferByAtMostOne node.value.left.depth node.value.right.depth }
+    ensures { IsFork result node.value.left key node.value.value node.value.right }
+{
+    let depth = node.left.depth().max(node.right.depth()) + 1;
+    Tree::of(Link::Fork {
+        depth: depth as u8,
+        key,
+        node,
+    })
+}
+
+/// The node of a value and its sides.
+#[inline]
+fn with_sides<V: Share>(
+    alloc: Global,
+    slot: Slot<V>,
+    left: Tree<V>,
+    right: Tree<V>,
+) -> Result<Arc<Node<V>>, TreeError>
+    ensures { Gives result (λ node. node.value
+        ≡ record { value = slot.node.value.value; left = left; right = right }) }
+{
+    let mut node = slot.node;
+    match Arc::get_mut(&mut node) {
+        Some(inside) => {
+            inside.left = left;
+            inside.right = right;
+            Ok(node)
+        }
+        None => {
+            let value = node.value.share()?;
+            Ok(Arc::new(alloc, Node { value, left, right })?)
+        }
+    }
+}

@@ -1,0 +1,66 @@
+//! Trees built from entries in order.
+
+ghost use Rattle.std.specs.Prelude.{◌≡◌, ◌+◌, ◌≤◌, ◌↔◌, ◌++◌, vec_len, IsTrue, OnOk};
+ghost use Rattle.shared_tree.specs.Entries.{IsMap};
+ghost use Rattle.shared_tree.specs.Outcome.{Gives, Builds, IsLeastDepth};
+
+use crate::error::TreeError;
+use crate::open::fork_new;
+use crate::tree::Tree;
+use std::alloc::Global;
+
+impl<V: Drop> Tree<V> {
+    /// The tree of these entries, as flat as can be. It takes time in proportion to their number.
+    ///
+    /// Errors: `NotAscending` where a key is not above the one before it, else `NoMemory`.
+    pub fn from_sorted(alloc: Global, entries: Vec<(u32, V)>) -> Result<Tree<V>, TreeError>
+        ensures { Builds entries.items result }
+    {
+        if !ascends(&entries) {
+            return Err(TreeError::NotAscending);
+        }
+        let mut entries = entries;
+        let count = entries.len();
+        Ok(build(alloc, &mut entries, count)?)
+    }
+}
+
+/// Whether each key is below the next.
+fn ascends<V>(entries: &[(u32, V)]) -> bool
+    ensures { IsTrue result ↔ IsMap entries.now }
+{
+    let mut low = 0u64;
+    for (key, _) in entries {
+        let place = u64::from(*key);
+        if place < low {
+            return false;
+        }
+        low = place + 1;
+    }
+    true
+}
+
+/// The tree of the last entries, so many of them, which are taken out. Its nodes are made in the
+/// opposite order of that in which an iterator comes to them.
+fn build<V: Drop>(
+    alloc: Global,
+    entries: &mut Vec<(u32, V)>,
+    count: usize,
+) -> Result<Tree<V>, TreeError>
+    requires enough { count ≤ vec_len entries.old }
+    requires map { IsMap entries.old.items }
+    ensures taken { Gives result (λ t. entries.old.items ≡ entries.new.items ++ t.entries) }
+    ensures left { OnOk result (vec_len entries.new + count ≡ vec_len entries.old) }
+    ensures deep { Gives result (λ t. IsLeastDepth count t.depth) }
+{
+    if count == 0 {
+        return Ok(Tree::new());
+    }
+    let half = count / 2;
+    let right = build(alloc, entries, half)?;
+    let Some((key, value)) = entries.pop() else {
+        unreachable!()
+    };
+    let left = build(alloc, entries, count - half - 1)?;
+    Ok(fork_new(alloc, left, key, value, right)?)
+}

@@ -1,0 +1,35 @@
+-- What the fields of versions stand for, and what is true of them.
+use Rattle.std.specs.Prelude.{◌≡◌, ◌+◌, ◌≤◌, length, vec_capacity}
+use Rattle.tree_batch.specs.Digraph.{empty_graph, graph_through}
+use Rattle.version_list.specs.declared.versions.Versions.TheInside.{Inside}
+use Rattle.version_list.specs.Machine.{State, opened, newest_number, version_graph}
+use Rattle.version_list.specs.Timeline.{Timeline, IsLegal, replay}
+use Rattle.version_list.specs.Held.{Holds, AreTickets}
+
+-- the state in which the versions began
+abbrev pub base : Inside → State
+base a = opened a.newest.vertices a.room
+
+-- the timeline that the fields stand for
+abbrev pub timeline : Inside → Timeline
+timeline a = record { base = base a; history = a.history.items; state = replay (base a) a.history.items }
+
+-- the fields are those of the state, and memory is kept for the release of each open ticket
+pub record Shows (a : Inside) (s : State) : Type 0 where
+  pub opening : s.opening ≡ empty_graph a.newest.vertices
+  pub number : a.number ≡ newest_number s
+  pub newest : a.newest ≡ graph_through s.opening s.batches
+  pub given : a.given ≡ s.given
+  pub held : Holds a.held s.open_tickets (version_graph s)
+  pub tickets : AreTickets s
+  pub used : s.used ≡ length a.history.items
+  pub room : s.room ≡ a.room
+  pub within_room : a.room ≤ 16777216
+  pub few : a.number + a.given ≤ length a.history.items
+  pub fits : length a.history.items + length s.open_tickets ≤ a.room
+  pub reserved : length a.history.items + length s.open_tickets ≤ vec_capacity a.history
+
+-- the history is legal, and the fields are those of its state
+pub record IsFaithful (a : Inside) : Type 0 where
+  pub legal : IsLegal (base a) a.history.items
+  pub state : Shows a (timeline a).state
