@@ -129,7 +129,7 @@ pub fn print_times<R: Print + AllocGlobal + Clock>(rt: &R) -> io::Result<()> {
         found = tokens_of(rt.alloc(), text.as_bytes())?;
         lexer.push(rt, start)?;
         let start = Instant::now(rt)?;
-        found ^= white_bytes(text.as_bytes());
+        found ^= class_runs(text.as_bytes());
         plain.push(rt, start)?;
     }
     print_row(rt, "lexer, bytes", text.len(), &mut lexer)?;
@@ -137,11 +137,36 @@ pub fn print_times<R: Print + AllocGlobal + Clock>(rt: &R) -> io::Result<()> {
     println!(rt; "check {found}")
 }
 
-// How many bytes are white, counted one by one.
-fn white_bytes(text: &[u8]) -> usize {
-    text.iter()
-        .filter(|byte| byte.is_ascii_whitespace())
-        .count()
+// What a byte may be part of.
+#[derive(Clone, Copy, PartialEq, Eq)]
+enum Class {
+    White,
+    Word,
+    Digit,
+    Other,
+}
+
+fn class_of(byte: u8) -> Class {
+    match byte {
+        b' ' | b'\t' | b'\r' | b'\n' => Class::White,
+        b'a'..=b'z' | b'A'..=b'Z' | b'_' => Class::Word,
+        b'0'..=b'9' => Class::Digit,
+        _ => Class::Other,
+    }
+}
+
+// How many runs of bytes of one class the text has, from a plain loop over its bytes.
+fn class_runs(text: &[u8]) -> usize {
+    let mut runs = 0usize;
+    let mut before = Class::Other;
+    for byte in text {
+        let class = class_of(*byte);
+        if class != before {
+            runs = runs.saturating_add(1);
+        }
+        before = class;
+    }
+    runs
 }
 
 // How many tokens a text has.
