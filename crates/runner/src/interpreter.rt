@@ -213,7 +213,8 @@ fn hold_version(versions: &mut Versions, which: Which) -> Result<LineReply, Scri
 
 /// Closes a ticket, and answers its line.
 fn release_ticket(versions: &mut Versions, number: u64) -> Result<LineReply, ScriptError>
-    ensures { Steps versions.old.state (step.Release number) (release_line number) versions.new.state result }
+    ensures { Steps versions.old.state (step.Release number) (release_line number)
+        versions.new.state result }
 {
     match versions.release(Ticket { number }) {
         Ok(()) => Ok(LineReply::Released(number)),

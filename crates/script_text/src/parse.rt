@@ -6,9 +6,10 @@ ghost use Rattle.script_text.specs.Reading.{two_numbers};
 use crate::commands::{Command, DEFAULT_CHUNK_SIZE};
 use crate::words::Words;
 
-/// The command of a line without its line feed, or `None` where the line is no command. The
-/// numbers of `vertices`, `add` and `del` are below 2^32, the others below 2^64. The line is a command as it stands, byte for byte: a space more, a tab, a carriage
-/// return, a sign or another case makes it none, and so the empty line is none.
+/// The command of a line without its line feed, or `None` where the line is no command. The numbers
+/// of `vertices`, `add` and `del` are below 2^32, the others below 2^64. The line is a command as it
+/// stands, byte for byte: a space more, a tab, a carriage return, a sign or another case makes it
+/// none, and so the empty line is none.
 pub fn command(line: &[u8]) -> Option<Command>
     ensures { result ≡ command_of line.now }
 {

@@ -56,7 +56,8 @@ impl HeldVersions {
 
     /// The graph of a version that a ticket holds.
     pub(crate) fn graph(&self, version: u64) -> Option<&Graph>
-        ensures { option_copied result ≡ option_map (λ held. held.graph) (get nat_eq self.now.versions version) }
+        ensures { option_copied result
+            ≡ option_map (λ held. held.graph) (get nat_eq self.now.versions version) }
     {
         match self.versions.get(&version) {
             Some(held) => Some(&held.graph),
@@ -77,13 +78,15 @@ impl HeldVersions {
     /// Opens a ticket on a version, whose graph this is.
     pub(crate) fn open(&mut self, ticket: u64, version: u64, graph: Graph)
         requires room { (0 < spare self.old.tickets) × (0 < spare self.old.versions) }
-        requires few { (held : HeldVersion) → get nat_eq self.old.versions version ≡ Some held → held.holders + 1 < 2 ^ 64 }
+        requires few { (held : HeldVersion) → get nat_eq self.old.versions version ≡ Some held
+            → held.holders + 1 < 2 ^ 64 }
         ensures tickets { (q : ℕ) → get nat_eq self.new.tickets q
             ≡ (if ticket == q then Some version else get nat_eq self.old.tickets q) }
         ensures count { get nat_eq self.old.tickets ticket ≡ None
             → index_map_len self.new.tickets ≡ index_map_len self.old.tickets + 1 }
         ensures versions { (q : ℕ) → get nat_eq self.new.versions q
-            ≡ (if version == q then Some (one_more graph (get nat_eq self.old.versions version)) else get nat_eq self.old.versions q) }
+            ≡ (if version == q then Some (one_more graph (get nat_eq self.old.versions version))
+            else get nat_eq self.old.versions q) }
     {
         self.tickets.insert(ticket, version).unwrap();
         match self.versions.get_mut(&version) {
@@ -95,14 +98,17 @@ impl HeldVersions {
         }
     }
 
-    /// Closes an open ticket. Its version goes where no other ticket holds it.
+    /// Closes an open ticket, and answers its version, which goes where no other ticket holds it.
     pub(crate) fn close(&mut self, ticket: u64) -> Option<u64>
         ensures version { result ≡ get nat_eq self.old.tickets ticket }
         ensures tickets { (q : ℕ) → get nat_eq self.new.tickets q
             ≡ (if ticket == q then None else get nat_eq self.old.tickets q) }
-        ensures count { IsSome result → index_map_len self.new.tickets + 1 ≡ index_map_len self.old.tickets }
-        ensures versions { (version : ℕ) → result ≡ Some version → (q : ℕ) → get nat_eq self.new.versions q
-            ≡ (if version == q then one_fewer (get nat_eq self.old.versions version) else get nat_eq self.old.versions q) }
+        ensures count { IsSome result
+            → index_map_len self.new.tickets + 1 ≡ index_map_len self.old.tickets }
+        ensures versions { (version : ℕ) → result ≡ Some version → (q : ℕ)
+            → get nat_eq self.new.versions q
+            ≡ (if version == q then one_fewer (get nat_eq self.old.versions version)
+            else get nat_eq self.old.versions q) }
     {
         let version = self.tickets.swap_remove(&ticket)?;
         match self.versions.get_mut(&version) {

@@ -105,7 +105,8 @@ impl Versions {
     /// else `NoMemory`. After an error the versions and the history are as before.
     pub fn acquire(&mut self, which: Which) -> Result<(Ticket, Graph), VersionError>
         ensures answer { let version = number_asked self.old.state which in
-            Answers self.old (Acquire which) (λ r. reply.Ticket r.0.number version) result self.new }
+            Answers self.old (Acquire which) (λ r. reply.Ticket r.0.number version)
+            result self.new }
         ensures graph { let version = number_asked self.old.state which in
             IfOk result (λ r. r.1 ≡ version_graph self.old.state version) }
     {
@@ -135,7 +136,8 @@ impl Versions {
     /// Errors: `NotHeld` where the ticket is not open, and then the versions and the history are
     /// as before. There is no other: room and memory were kept for it when the ticket was given.
     pub fn release(&mut self, ticket: Ticket) -> Result<(), VersionError>
-        ensures answer { Answers self.old (Release ticket.number) (λ _. reply.Released) result self.new }
+        ensures answer { Answers self.old (Release ticket.number) (λ _. reply.Released)
+            result self.new }
         ensures only_not_held { IfErr result (λ e. e ≡ NotHeld) }
     {
         if !self.held.is_open(ticket.number) {
@@ -256,7 +258,8 @@ fn reserve_ticket(history: &mut Vec<Done>, held: &mut HeldVersions) -> Result<()
     ensures tickets { IsUnchanged held.old.tickets held.new.tickets }
     ensures versions { IsUnchanged held.old.versions held.new.versions }
     ensures room { OnOk result ((0 < spare held.new.tickets) × (0 < spare held.new.versions)) }
-    ensures entry_room { OnOk result (vec_len history.new + index_map_len held.new.tickets + 2 ≤ vec_capacity history.new) }
+    ensures entry_room { OnOk result
+        (vec_len history.new + index_map_len held.new.tickets + 2 ≤ vec_capacity history.new) }
 {
     history.reserve(held.ticket_count() + 2)?;
     held.reserve()
