@@ -3,7 +3,7 @@ use Rattle.std.proofs.Common.{◌≡◌, ◌≢◌, ℕ, pos, ◌+◌, ◌<◌, 
 use Rattle.std.specs.Char.{is_ascii_digit}
 use Rattle.std.specs.Str.{all_ascii_digits}
 use Rattle.std.proofs.lemmas.Bool.{cases_lt, false≢true}
-use Rattle.std.proofs.Math.Seq.{drop-append_seam}
+use Rattle.std.proofs.Math.Seq.{take-append_seam, drop-append_seam}
 use Rattle.std.proofs.lemmas.List.{take-append-drop, length-take}
 use Rattle.decimal.specs.Numbers.{value_of}
 use Rattle.decimal.proofs.NumberLaws.{value_of-longer, all_ascii_digits-append}
@@ -17,14 +17,10 @@ use Rattle.lexer.proofs.RunLaws.{ends_at, ends_whole}
 use Rattle.lexer.proofs.ShapeLaws.{PieceShape, piece_shape, piece_nonempty}
 use Rattle.lexer.proofs.LongestLaws.{run_unique, every_word_byte, white_longest, number_longest, comment_longest, word_longest, reduction_longest, label_longest, text_longest, IsNoReduction, IsNoPair}
 
-take_front : (front rest : List ℕ) → take (length front) (front ++ rest) ≡ front
-take_front [] rest = refl
-take_front (b ∷ front) rest = ap (λ t. b ∷ t) (take_front front rest)
-
 -- the longest piece of these bytes is the first of so many
 pub first_of : (kind : PieceKind) (bytes text rest : List ℕ) (len : ℕ) → bytes ≡ text ++ rest → len ≡ length text → 0 < len → IsLongest (record { kind = kind; text = text }) rest → IsSmall kind → IsFirst kind bytes len
 first_of kind bytes text rest len whole is some longest small =
-    let front : take len bytes ≡ text = ap (λ n. take n bytes) is ∙ ap (take (length text)) whole ∙ take_front text rest in
+    let front : take len bytes ≡ text = ap (λ n. take n bytes) is ∙ ap (take (length text)) whole ∙ take-append_seam text rest in
     let back : drop len bytes ≡ rest = ap (λ n. drop n bytes) is ∙ ap (drop (length text)) whole ∙ drop-append_seam text rest in
     record {
       some = some;

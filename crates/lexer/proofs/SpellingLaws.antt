@@ -8,55 +8,13 @@ use Rattle.lexer.specs.declared.symbol.Symbol.{Symbol}
 use Rattle.lexer.specs.declared.symbol.Symbol.TheVariants as symbol
 use Rattle.lexer.specs.Bytes.{Every, is_letter, is_word_byte}
 use Rattle.lexer.specs.Runs.{Class, Letter, Mark, class_of}
-use Rattle.lexer.specs.Spelling.{keyword_spelling, symbol_spelling}
+use Rattle.lexer.specs.declared.keyword.TheConstants.{KEYWORDS}
+use Rattle.lexer.specs.Spelling.{keyword_spelling, place_of, symbol_spelling}
 use Rattle.lexer.specs.Tokens.{IsWord}
 
 -- what a keyword is found by
 unfoldable keyword_at : List ℕ → Option Keyword
-keyword_at text =
-    if bytes_eq text (codes "element") then Some keyword.Element else
-    if bytes_eq text (codes "Vertex") then Some keyword.Vertex else
-    if bytes_eq text (codes "Edge") then Some keyword.Edge else
-    if bytes_eq text (codes "end") then Some keyword.End else
-    if bytes_eq text (codes "edgeset") then Some keyword.EdgeSet else
-    if bytes_eq text (codes "vertexset") then Some keyword.VertexSet else
-    if bytes_eq text (codes "vector") then Some keyword.Vector else
-    if bytes_eq text (codes "int") then Some keyword.Int else
-    if bytes_eq text (codes "bool") then Some keyword.Bool else
-    if bytes_eq text (codes "const") then Some keyword.Const else
-    if bytes_eq text (codes "var") then Some keyword.Var else
-    if bytes_eq text (codes "func") then Some keyword.Func else
-    if bytes_eq text (codes "while") then Some keyword.While else
-    if bytes_eq text (codes "for") then Some keyword.For else
-    if bytes_eq text (codes "in") then Some keyword.In else
-    if bytes_eq text (codes "if") then Some keyword.If else
-    if bytes_eq text (codes "else") then Some keyword.Else else
-    if bytes_eq text (codes "print") then Some keyword.Print else
-    if bytes_eq text (codes "true") then Some keyword.True else
-    if bytes_eq text (codes "false") then Some keyword.False else
-    if bytes_eq text (codes "and") then Some keyword.And else
-    if bytes_eq text (codes "or") then Some keyword.Or else
-    if bytes_eq text (codes "not") then Some keyword.Not else
-    if bytes_eq text (codes "new") then Some keyword.New else
-    if bytes_eq text (codes "load") then Some keyword.Load else
-    if bytes_eq text (codes "argv") then Some keyword.Argv else
-    if bytes_eq text (codes "schedule") then Some keyword.Schedule else
-    if bytes_eq text (codes "program") then Some keyword.Program else
-    if bytes_eq text (codes "from") then Some keyword.From else
-    if bytes_eq text (codes "to") then Some keyword.To else
-    if bytes_eq text (codes "apply") then Some keyword.Apply else
-    if bytes_eq text (codes "applyModified") then Some keyword.ApplyModified else
-    if bytes_eq text (codes "filter") then Some keyword.Filter else
-    if bytes_eq text (codes "getVertices") then Some keyword.GetVertices else
-    if bytes_eq text (codes "getOutDegrees") then Some keyword.GetOutDegrees else
-    if bytes_eq text (codes "addVertex") then Some keyword.AddVertex else
-    if bytes_eq text (codes "getVertexSetSize") then Some keyword.GetVertexSetSize else
-    if bytes_eq text (codes "configApplyDirection") then Some keyword.ConfigApplyDirection else
-    if bytes_eq text (codes "configApplyParallelization") then Some keyword.ConfigApplyParallelization else
-    if bytes_eq text (codes "configApplyDenseVertexSet") then Some keyword.ConfigApplyDenseVertexSet else
-    if bytes_eq text (codes "fuseApplyFunctions") then Some keyword.FuseApplyFunctions else
-    if bytes_eq text (codes "fuseFields") then Some keyword.FuseFields else
-    None
+keyword_at text = get_or KEYWORDS (place_of text) None
 
 keyword_at-spelling : (word : Keyword) → keyword_at (keyword_spelling word) ≡ Some word
 unfolding keyword_at
