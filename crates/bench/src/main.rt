@@ -6,6 +6,7 @@
 //! and no more. Nothing stands on this crate.
 #![tactic(auto)]
 
+mod ctrees;
 mod lexing;
 mod outcome;
 mod random;
@@ -33,9 +34,12 @@ fn main(rt: HostRuntime) -> io::Result<ExitCode> {
         ["--time", "lexer"] => lexing::print_times(&rt)?,
         ["--time", "tails"] => tails::print_times(&rt)?,
         ["--time", "trees"] => trees::print_times(&rt)?,
+        ["--time", "ctrees"] => ctrees::print_times(&rt)?,
         ["--script", adds] => print_script(&rt, adds)?,
         _ => {
-            eprintln!(rt; "usage: bench [--time scripts|lexer|tails|trees | --script ADDS]")?;
+            eprintln!(rt;
+                "usage: bench [--time scripts|lexer|tails|trees|ctrees | --script ADDS]"
+            )?;
             return Ok(ExitCode::from(2));
         }
     }
@@ -47,7 +51,8 @@ fn print_outcomes<R: Print + AllocGlobal>(rt: &R) -> io::Result<()> {
     scripts::print_outcomes(rt)?;
     lexing::print_outcomes(rt)?;
     tails::print_outcomes(rt)?;
-    trees::print_outcomes(rt)
+    trees::print_outcomes(rt)?;
+    ctrees::print_outcomes(rt)
 }
 
 // Prints the script of so many `add` lines.

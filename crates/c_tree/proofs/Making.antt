@@ -1,0 +1,73 @@
+-- A set that is made of an ascending list, chunk by chunk.
+use Rattle.std.proofs.Common.{◌≡◌, ℕ, ◌+◌, ◌^◌, ◌<◌, ◌≤◌, Option, None, Some, List, [], ◌∷◌, ◌++◌, length, drop, get_or, refl, sym, ◌∙◌, ap, append_assoc, length-append, arith}
+use Rattle.std.proofs.lemmas.List.{drop_more}
+use Rattle.shared_tree.specs.Entries.{Rises, IsMap}
+use Rattle.tail_codec.specs.Spelling.{BasedList, based_list, AscendsFrom, Ascends, least}
+use Rattle.c_tree.specs.Chunks.{before_head, prefix_of, chunks_of, elements_of, together, IsMadeOf}
+use Rattle.c_tree.specs.Cutting.{from_head}
+use Rattle.c_tree.proofs.Cuts.{cut_at_head, none_before_head, before_from_head, chunks_from_head, head_first, chunks_at_head, whole_again, are_chunks}
+use Rattle.c_tree.proofs.Members.{ascends_from, ascends_front, ascends_back}
+
+-- the next element may be added
+pub may_add : (base base' : Option ℕ) (es old xs : List ℕ) (i : ℕ) → base ≡ base' → es ++ drop i xs ≡ old ++ xs → i < length xs → Ascends base' (old ++ xs) → Ascends base (es ++ get_or xs i 0 ∷ [])
+may_add base base' es old xs i same whole lt s =
+    let cells : drop i xs ≡ get_or xs i 0 ∷ drop (i + 1) xs = drop_more xs i 0 lt in
+    let parts : (es ++ get_or xs i 0 ∷ []) ++ drop (i + 1) xs ≡ old ++ xs =
+    append_assoc es (get_or xs i 0 ∷ []) (drop (i + 1) xs) ∙ ap (λ v. es ++ v) (sym cells) ∙ whole in
+    rw same (ascends_front (least base') (es ++ get_or xs i 0 ∷ []) (drop (i + 1) xs) (rw parts s))
+
+-- what stands from a head on ascends
+pub ascends_from_head : (b low : ℕ) (xs : List ℕ) → AscendsFrom low xs → AscendsFrom low (from_head b xs)
+ascends_from_head b low xs s = ascends_back low (before_head b xs) (from_head b xs) (rw (cut_at_head b xs) s)
+
+pub from_head_shorter : (b : ℕ) (xs : List ℕ) → length (from_head b xs) ≤ length xs
+from_head_shorter b xs = omega (arith, ap length (cut_at_head b xs), length-append (before_head b xs) (from_head b xs))
+
+-- what stands after one chunk of a list
+module _ (b : ℕ) (list : List ℕ) (h : ℕ) (after next : List ℕ) (cells : list ≡ h ∷ after) (is : next ≡ from_head b after) where
+  pub next_ascends : Ascends None list → Ascends None next
+  next_ascends s =
+      let first : AscendsFrom 0 (h ∷ after) = rw cells at s in
+      rw is (ascends_from_head b 0 after (ascends_from 0 (h + 1) after (omega arith) first.2))
+
+  pub next_cut : before_head b next ≡ []
+  next_cut = rw is (before_from_head b after)
+
+  pub next_shorter : length next < length list
+  next_shorter = rw (is, cells) (omega (arith, from_head_shorter b after))
+
+  pub one_chunk : (vs new : List (ℕ × BasedList)) (t : BasedList) (xs : List ℕ) → before_head b list ≡ [] → t ≡ based_list (Some h) (before_head b after) → new ≡ vs ++ (h, t) ∷ [] → vs ++ chunks_of b list ≡ chunks_of b xs → new ++ chunks_of b next ≡ chunks_of b xs
+  one_chunk vs new t xs cut tail more whole =
+      let head = head_first b h after (ap (before_head b) (sym cells) ∙ cut) in
+      let rest : chunks_of b next ≡ chunks_of b after = ap (chunks_of b) is ∙ chunks_from_head b after in
+      let first : (h, t) ∷ chunks_of b next ≡ chunks_of b list =
+      ap (λ u. (h, u) ∷ chunks_of b next) tail
+      ∙ ap (λ cs. (h, based_list (Some h) (before_head b after)) ∷ cs) rest
+      ∙ sym (chunks_at_head b h after head)
+      ∙ ap (chunks_of b) (sym cells) in
+      ap (λ v. v ++ chunks_of b next) more ∙ append_assoc vs ((h, t) ∷ []) (chunks_of b next) ∙ ap (λ v. vs ++ v) first ∙ whole
+
+-- the heads of chunks ascend
+pub heads_rise : (low : ℕ) (cs : List (ℕ × BasedList)) → low ≤ 2 ^ 32 → AscendsFrom low (elements_of cs) → Rises low (2 ^ 32) cs
+heads_rise low [] le s = le
+heads_rise low (c ∷ cs) le s =
+    let rest = ascends_back (c.0 + 1) c.1.elements (elements_of cs) s.2 in
+    (s.0, heads_rise (c.0 + 1) cs (omega (arith, s.1)) rest)
+
+pub chunks_map : (b : ℕ) (xs : List ℕ) → Ascends None xs → IsMap (chunks_of b xs)
+chunks_map b xs s =
+    let whole : AscendsFrom 0 (before_head b xs ++ elements_of (chunks_of b xs)) = rw (whole_again b xs) at s in
+    heads_rise 0 (chunks_of b xs) (omega arith) (ascends_back 0 (before_head b xs) (elements_of (chunks_of b xs)) whole)
+
+-- the prefix and the chunks of a list make its set
+pub made : (b : ℕ) (xs : List ℕ) (p : BasedList) (cs : List (ℕ × BasedList)) → Ascends None xs → p ≡ prefix_of b xs → cs ≡ chunks_of b xs → IsMadeOf b (length xs) p cs
+made b xs p cs s e f =
+    let whole = whole_again b xs in
+    rw (e, f) (record {
+      ascending = rw (← whole) s;
+      chunking = record { whole = refl; base = refl; front = none_before_head b xs; each = are_chunks b xs };
+      count = ap length whole;
+    })
+
+pub made_whole : (b : ℕ) (xs : List ℕ) (p : BasedList) (cs : List (ℕ × BasedList)) → p ≡ prefix_of b xs → cs ≡ chunks_of b xs → together p cs ≡ xs
+made_whole b xs p cs e f = rw (e, f) (sym (whole_again b xs))

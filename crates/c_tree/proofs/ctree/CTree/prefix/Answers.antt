@@ -1,0 +1,7 @@
+use Rattle.c_tree.proofs.Cuts.{one_prefix}
+use Rattle.c_tree.proofs.ctree.CTree.prefix.Goals as goal
+
+pub returns : goal.returns
+returns c =
+    let s = c.args.self.now in
+    one_prefix s.chunk_size s.elements _ _ c.parts.ensures.chunked

@@ -1,0 +1,12 @@
+use Rattle.std.specs.List.{Contains}
+use Rattle.tail_codec.specs.Spelling.{AscendsFrom}
+use Rattle.c_tree.proofs.lookup.holds.Given as goal
+
+abbrev pub invariant-loop-other : goal.invariant-loop-other
+invariant-loop-other l = record {
+  can : (goal.iterator-loop-other).can_next l.other-iterator;
+  finite : (goal.iterator-loop-other).is_finite l.other-iterator;
+  ascending : AscendsFrom 0 l.other-iterator;
+  whole : Contains l.other-iterator l.element → Contains l.tail.elements l.element;
+  rest : Contains l.tail.elements l.element → Contains l.other-iterator l.element;
+}

@@ -1,0 +1,167 @@
+ghost use Rattle.std.specs.Prelude.{◌≡◌, ◌↔◌, ◌+◌, ◌*◌, ◌^◌, ◌≤◌, [], length, IsTrue, IfOk};
+ghost use Rattle.c_tree.specs.Chunks.{ChunkedSet, chunked_set, IsChunkedSet, IsChunking, IsMadeOf, prefix_of, chunks_of, together};
+ghost use Rattle.c_tree.specs.Outcome.{Opens};
+
+use crate::chunk_size::ChunkSize;
+use crate::error::CTreeError;
+use crate::heads::Heads;
+use crate::iter::Iter;
+use crate::tail::ChunkTail;
+use shared_tree::{Share, Tree};
+use std::alloc::AllocError;
+use std::marker::Model;
+use tail_codec::Tail;
+
+/// A set of numbers below 2^32, cut at its heads. A contract sees its elements as an ascending list,
+/// and its chunk size. It is 64 bytes beside what its prefix and its tree of chunks take.
+#[derive(Drop)]
+pub struct CTree {
+    prefix: Tail,
+    chunks: Tree<ChunkTail>,
+    count: usize,
+    chunk_size: ChunkSize,
+}
+
+const _: () = prove!(size_of::<CTree>() == 64);
+
+impl Model for CTree {
+    ghost use Rattle.c_tree.specs.Heads.{IsChunkSize};
+    ghost use Rattle.c_tree.specs.Chunks.{ChunkedSet, chunked_set, IsMadeOf, together};
+
+    ghost Value = { ChunkedSet };
+
+    ghost view = { λ t. chunked_set (together t.prefix t.chunks.entries) t.chunk_size };
+
+    ghost invariant = { λ t. IsMadeOf t.chunk_size t.count t.prefix t.chunks.entries
+        × IsChunkSize t.chunk_size };
+}
+
+impl CTree {
+    /// The set of no elements in chunks of this size. It takes no memory.
+    ///
+    /// Error: `BadChunkSize` where the size is no power of two from 1 to 256.
+    pub fn new(chunk_size: u32) -> Result<CTree, CTreeError>
+        ensures { Opens chunk_size result }
+    {
+        let chunk_size = ChunkSize::new(chunk_size)?;
+        Ok(CTree::from_parts(Tail::new(None), Tree::new(), 0, chunk_size))
+    }
+
+    /// The set of a prefix and a tree of chunks that have `len` elements together. The caller sees to
+    /// it that they ascend, that each key of the tree is a head with its tail over it, and that
+    /// neither the prefix nor a tail has a head in it. It takes no memory.
+    pub fn from_parts(
+        prefix: Tail,
+        chunks: Tree<ChunkTail>,
+        len: usize,
+        chunk_size: ChunkSize,
+    ) -> CTree
+        requires { IsMadeOf chunk_size len prefix chunks.entries }
+        ensures { result ≡ chunked_set (together prefix chunks.entries) chunk_size }
+    {
+        CTree {
+            prefix,
+            chunks,
+            count: len,
+            chunk_size,
+        }
+    }
+
+    /// The prefix, and the tree of the tails by their heads.
+    #[inline]
+    pub fn parts(&self) -> (&Tail, &Tree<ChunkTail>)
+        ensures chunked { IsChunking self.now.chunk_size self.now.elements
+            result.0.now result.1.now.entries }
+        ensures valid { IsChunkedSet self.now }
+    {
+        (&self.prefix, &self.chunks)
+    }
+
+    /// How many elements there are, at most 2^32. Takes no time that depends on it, and no memory.
+    #[inline]
+    pub fn len(&self) -> usize
+        ensures len { result ≡ length self.now.elements }
+        ensures bounded { result ≤ 2 ^ 32 }
+        ensures valid { IsChunkedSet self.now }
+    {
+        self.count
+    }
+
+    /// Whether there is no element. It takes no memory.
+    #[inline]
+    pub fn is_empty(&self) -> bool
+        ensures { IsTrue result ↔ (self.now.elements ≡ []) }
+    {
+        self.len() == 0
+    }
+
+    /// The chunk size.
+    #[inline]
+    pub fn chunk_size(&self) -> ChunkSize
+        ensures { result ≡ self.now.chunk_size }
+    {
+        self.chunk_size
+    }
+
+    /// The elements before the first head. It takes no memory.
+    #[inline]
+    pub fn prefix(&self) -> &Tail
+        ensures { result.now ≡ prefix_of self.now.chunk_size self.now.elements }
+    {
+        self.parts().0
+    }
+
+    /// The heads with their tails, ascending. It takes no memory.
+    #[inline]
+    pub fn heads(&self) -> Heads<'_>
+        ensures heads { result ≡ chunks_of self.now.chunk_size self.now.elements }
+        ensures bounded { length (chunks_of self.now.chunk_size self.now.elements) ≤ 2 ^ 32 }
+    {
+        Heads::new(self.parts().1)
+    }
+
+    /// How many nodes the longest way down the tree of the heads has, at most 64; 0 where there is no
+    /// head. It takes no memory.
+    pub fn depth(&self) -> u32
+        ensures shallow { 2 ^ result
+            ≤ (length (chunks_of self.now.chunk_size self.now.elements) + 1)
+            * (length (chunks_of self.now.chunk_size self.now.elements) + 1) }
+        ensures bounded { result ≤ 64 }
+        ensures none { (result ≡ 0)
+            ↔ (chunks_of self.now.chunk_size self.now.elements ≡ []) }
+    {
+        let (_, chunks) = self.parts();
+        match chunks.parts() {
+            None => 0,
+            Some(_) => chunks.depth(),
+        }
+    }
+
+    /// The elements, ascending. It takes no memory.
+    #[inline]
+    pub fn iter(&self) -> Iter<'_>
+        ensures elements { result ≡ self.now.elements }
+        ensures bounded { length self.now.elements ≤ 2 ^ 32 }
+        ensures valid { IsChunkedSet self.now }
+    {
+        let (prefix, chunks) = self.parts();
+        Iter::new(prefix, chunks)
+    }
+}
+
+impl Share for CTree {
+    /// One more owner of the prefix's bytes and of the root of the tree of chunks. It takes no
+    /// memory; the error comes where a count of owners is full.
+    fn share(&self) -> Result<CTree, AllocError> {
+        let Ok(prefix) = self.prefix.share() else {
+            return Err(AllocError);
+        };
+        let chunks = self.chunks.share()?;
+        Ok(CTree {
+            prefix,
+            chunks,
+            count: self.len(),
+            chunk_size: self.chunk_size,
+        })
+    }
+}

@@ -1,0 +1,49 @@
+ghost use Rattle.std.specs.Prelude.{◌≡◌, ◌^◌, ◌≤◌, length};
+ghost use Rattle.std.specs.Iterator.{YieldsFirstBy, item_count};
+
+use crate::tail::ChunkTail;
+use shared_tree::Tree;
+use std::marker::Model;
+use tail_codec::Tail;
+
+/// The heads that are still to come, each with its tail, in ascending order.
+#[derive(Drop)]
+pub struct Heads<'a> {
+    chunks: shared_tree::Iter<'a, ChunkTail>,
+}
+
+impl<'a> Model for Heads<'a> {
+    ghost use Rattle.std.specs.Prelude.{ℕ, List};
+    ghost use Rattle.tail_codec.specs.Spelling.{BasedList};
+
+    ghost Value = { List (ℕ × BasedList) };
+
+    ghost view = { λ h. h.chunks };
+}
+
+impl<'a> Heads<'a> {
+    /// The keys of a tree with their tails.
+    #[inline]
+    pub(crate) fn new(chunks: &'a Tree<ChunkTail>) -> Heads<'a>
+        ensures heads { result ≡ chunks.now.entries }
+        ensures bounded { length chunks.now.entries ≤ 2 ^ 32 }
+    {
+        Heads {
+            chunks: chunks.iter(),
+        }
+    }
+}
+
+impl<'a> Iterator for Heads<'a> {
+    type Item = (u32, &'a Tail);
+
+    ghost next_gives = { YieldsFirstBy (λ x. (x.0, x.1.now)) (λ i. i) };
+
+    ghost remaining = { item_count (λ i. i) };
+
+    #[inline]
+    fn next(&mut self) -> Option<(u32, &'a Tail)> {
+        let (head, tail) = self.chunks.next()?;
+        Some((head, tail.tail()))
+    }
+}
