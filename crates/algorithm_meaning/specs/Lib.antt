@@ -1,0 +1,11 @@
+pub mod Arithmetic
+pub mod State
+pub mod Value
+pub mod Function
+pub mod Seen
+pub mod Stand
+pub mod Change
+pub mod Loop
+pub mod Meaning
+pub mod Shown
+pub mod Refusal

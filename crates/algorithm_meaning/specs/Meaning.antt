@@ -1,0 +1,58 @@
+-- What statements of main do, and the state before the first one.
+use Rattle.std.specs.Prelude.{ℕ, ℤ, List, [], map, replicate}
+use Rattle.typed_tree.specs.declared.program.Beginning.{Beginning}
+use Rattle.typed_tree.specs.declared.program.Beginning.TheVariants as beginning
+use Rattle.typed_tree.specs.BlockTree.{ActionTree, DeclareInteger, DeclareCondition, SetInteger, SetCondition, ReduceInteger, SetEntry, ReduceEntry, DeclareSet, AssignSet, AddVertex, PrintInteger, PrintCondition, ApplyVertex, If, IfElse, While, For, BlockTree, Empty, Then}
+use Rattle.typed_tree.specs.ProgramTree.{ProgramTree}
+use Rattle.algorithm_meaning.specs.declared.state.VertexSet.{VertexSet}
+use Rattle.algorithm_meaning.specs.State.{GraphValue, StateValue, main_scope}
+use Rattle.algorithm_meaning.specs.Stand.{Stand, Live, then_do, choice_in, with_value, choose}
+use Rattle.algorithm_meaning.specs.Change.{after_declare_integer, after_declare_condition, after_set_integer, after_set_condition, after_reduce_integer, after_set_entry, after_reduce_entry, after_print_integer, after_print_condition, after_apply_vertex, after_add_vertex, all_below, members_for, with_new_set, with_members}
+use Rattle.algorithm_meaning.specs.Loop.{inside, after_while, after_for, bounds_in}
+
+abbrev mutual
+  -- what the statement of this number does
+  pub after : ProgramTree → GraphValue → ℕ → ActionTree → StateValue → Stand
+  after p g number (DeclareInteger name e) s = after_declare_integer g.vertices number e s
+  after p g number (DeclareCondition name c) s = after_declare_condition g.vertices number c s
+  after p g number (SetInteger slot e) s = after_set_integer g.vertices number slot.place e s
+  after p g number (SetCondition slot c) s = after_set_condition g.vertices number slot.place c s
+  after p g number (ReduceInteger slot reduction e) s = after_reduce_integer g.vertices number slot.place reduction e s
+  after p g number (SetEntry vector index e) s = after_set_entry g.vertices number vector index e s
+  after p g number (ReduceEntry vector index reduction e) s = after_reduce_entry g.vertices number vector index reduction e s
+  after p g number (DeclareSet name set) s = Live (with_new_set s name (members_for g.vertices set s))
+  after p g number (AssignSet slot set) s = Live (with_members s slot.place (members_for g.vertices set s))
+  after p g number (AddVertex slot e) s = after_add_vertex g.vertices number slot.place e s
+  after p g number (PrintInteger e) s = after_print_integer g.vertices number e s
+  after p g number (PrintCondition c) s = after_print_condition g.vertices number c s
+  after p g number (ApplyVertex set function) s = Live (after_apply_vertex p.vertex_functions set.place function s)
+  after p g number (If c body) s =
+      with_value (choice_in g.vertices c s) number s (λ b. choose b (inside (after_all p g body) s) (Live s))
+  after p g number (IfElse c body other) s =
+      with_value (choice_in g.vertices c s) number s (λ b. choose b (inside (after_all p g body) s) (inside (after_all p g other) s))
+  after p g number (While c body) s = after_while g.vertices number c (after_all p g body) s
+  after p g number (For name first end body) s =
+      with_value (bounds_in g.vertices first end s) number s (λ r. after_for number (after_all p g body) r s)
+
+  -- what statements do, in order
+  pub after_all : ProgramTree → GraphValue → BlockTree → StateValue → Stand
+  after_all p g Empty s = Live s
+  after_all p g (Then number label action rest) s = then_do (after p g number action s) (after_all p g rest)
+
+-- what a vector begins with
+abbrev pub opening_entries : GraphValue → Beginning → List ℤ
+opening_entries g (beginning.Number n) = replicate g.vertices n
+
+-- a constant set has all vertices
+abbrev pub all_vertices : GraphValue → ℕ → VertexSet
+all_vertices g name = record { name = name; members = all_below g.vertices }
+
+-- before the first statement
+abbrev pub opening : ProgramTree → GraphValue → ℕ → StateValue
+opening p g turns = record {
+  vectors = map (λ v. opening_entries g v.beginning) p.vectors;
+  sets = map (all_vertices g) p.sets;
+  scope = main_scope;
+  text = [];
+  turns = turns;
+}

@@ -1,0 +1,22 @@
+-- What contracts see of a run's state.
+use Rattle.std.specs.Prelude.{Option, Some, None}
+use Rattle.algorithm_meaning.specs.declared.state.Graph.{Graph}
+use Rattle.algorithm_meaning.specs.declared.state.Scope.{Scope}
+use Rattle.algorithm_meaning.specs.declared.state.State.{State}
+use Rattle.algorithm_meaning.specs.declared.outcome.End.{End}
+use Rattle.algorithm_meaning.specs.State.{GraphValue, ScopeValue, StateValue}
+use Rattle.algorithm_meaning.specs.Stand.{Stand, Live, Over}
+
+abbrev pub graph_of : Graph → GraphValue
+graph_of g = record { vertices = g.vertices; edges = g.edges.now }
+
+abbrev pub scope_of : Scope → ScopeValue
+scope_of s = record { integers = s.integers.items; conditions = s.conditions.items; source = s.source; destination = s.destination }
+
+abbrev pub state_of : State → StateValue
+state_of s = record { vectors = s.vectors.items; sets = s.sets.items; scope = scope_of s.scope; text = s.text.items; turns = s.turns }
+
+-- where a run stands: it goes on, or it has ended
+abbrev pub stand : Option End → StateValue → Stand
+stand None s = Live s
+stand (Some end) s = Over s end

@@ -1,0 +1,31 @@
+-- What a run works on, and what it keeps.
+use Rattle.std.specs.Prelude.{ℕ, ℤ, Bool, List, []}
+use Rattle.algorithm_meaning.specs.declared.state.VertexSet.{VertexSet}
+
+-- the vertices are the numbers below this, and the edges are pairs of them
+pub record GraphValue : Type 0 where
+  pub vertices : ℕ
+  pub edges : List (ℕ × ℕ)
+
+-- the variables that are visible, by their places, and the vertices that a function works on
+pub record ScopeValue : Type 0 where
+  pub integers : List ℤ
+  pub conditions : List Bool
+  pub source : ℕ
+  pub destination : ℕ
+
+-- vectors and vertex sets by their places, a vector with an entry for each vertex; what was printed; how many turns are left
+pub record StateValue : Type 0 where
+  pub vectors : List (List ℤ)
+  pub sets : List VertexSet
+  pub scope : ScopeValue
+  pub text : List ℕ
+  pub turns : ℕ
+
+-- the scope of main before its first variable
+abbrev pub main_scope : ScopeValue
+main_scope = record { integers = []; conditions = []; source = 0; destination = 0 }
+
+-- the scope of a function that begins at its vertex
+abbrev pub vertex_scope : ℕ → ScopeValue
+vertex_scope v = record { integers = []; conditions = []; source = v; destination = v }

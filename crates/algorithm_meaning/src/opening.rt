@@ -1,0 +1,87 @@
+//! The state before the first statement.
+ghost use Rattle.std.specs.Prelude.{◌≡◌, map, IfOk};
+ghost use Rattle.std.specs.List.{range_with_len};
+ghost use Rattle.typed_tree.specs.ProgramTree.{program_tree};
+ghost use Rattle.algorithm_meaning.specs.Meaning.{all_vertices, opening, opening_entries};
+ghost use Rattle.algorithm_meaning.specs.Seen.{graph_of, state_of};
+
+use crate::state::{Graph, Scope, State, VertexSet};
+use std::alloc::{AllocError, Global};
+use typed_tree::{Beginning, Sequence, Typed, Vector};
+
+/// The state before the first statement.
+pub(crate) fn open(
+    alloc: Global,
+    program: &Typed,
+    graph: &Graph,
+    turns: u64,
+) -> Result<State, AllocError>
+    ensures { IfOk result (λ s. state_of s ≡ opening (program_tree program.now) (graph_of graph.now) turns) }
+{
+    Ok(State {
+        vectors: open_vectors(alloc, &program.vectors, graph)?,
+        sets: open_sets(alloc, &program.sets, graph)?,
+        scope: Scope {
+            integers: Vec::new(alloc),
+            conditions: Vec::new(alloc),
+            source: 0,
+            destination: 0,
+        },
+        text: Vec::new(alloc),
+        turns,
+    })
+}
+
+fn open_vectors(
+    alloc: Global,
+    vectors: &[Vector],
+    graph: &Graph,
+) -> Result<Vec<Sequence<i64>>, AllocError>
+    ensures { IfOk result (λ v. v.items ≡ map (λ v. opening_entries (graph_of graph.now) v.beginning) vectors.now) }
+{
+    let mut opened = Vec::new(alloc);
+    'vectors: for vector in vectors {
+        opened.push(open_vector(alloc, vector.beginning, graph)?)?;
+    }
+    Ok(opened)
+}
+
+fn open_vector(
+    alloc: Global,
+    beginning: Beginning,
+    graph: &Graph,
+) -> Result<Sequence<i64>, AllocError>
+    ensures { IfOk result (λ v. v ≡ opening_entries (graph_of graph.now) beginning) }
+{
+    match beginning {
+        Beginning::Number(n) => {
+            let entries = vec![in alloc; n; graph.vertices as usize]?;
+            Ok(Sequence::new(entries))
+        }
+    }
+}
+
+fn open_sets(alloc: Global, names: &[usize], graph: &Graph) -> Result<Vec<VertexSet>, AllocError>
+    ensures { IfOk result (λ v. v.items ≡ map (all_vertices (graph_of graph.now)) names.now) }
+{
+    let mut opened = Vec::new(alloc);
+    'sets: for name in names {
+        let members = Sequence::new(vertices_below(alloc, graph.vertices)?);
+        opened.push(VertexSet {
+            name: *name,
+            members,
+        })?;
+    }
+    Ok(opened)
+}
+
+/// All vertices, ascending.
+pub(crate) fn vertices_below(alloc: Global, vertices: u32) -> Result<Vec<u32>, AllocError>
+    ensures { IfOk result (λ v. v.items ≡ range_with_len 0 vertices) }
+{
+    let mut members = Vec::new(alloc);
+    'vertices: for vertex in 0..vertices {
+        members.push(vertex)?;
+    }
+    Ok(members)
+}

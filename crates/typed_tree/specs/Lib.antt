@@ -1,0 +1,5 @@
+pub mod IntegerTree
+pub mod ConditionTree
+pub mod StepTree
+pub mod BlockTree
+pub mod ProgramTree

@@ -1,0 +1,95 @@
+/// What a run keeps and a name stands for.
+#[derive(Clone, Copy, Debug, PartialEq, Eq)]
+pub struct Slot {
+    /// Its place among the visible ones of its kind: integers, conditions or vertex sets.
+    pub place: usize,
+    /// The place of its name in the program's names.
+    pub name: usize,
+}
+
+/// A vertex that a function works on.
+#[derive(Clone, Copy, Debug, PartialEq, Eq)]
+pub enum Endpoint {
+    /// The source of the edge, or the one vertex of a vertex function or filter.
+    Source,
+    /// The destination of the edge.
+    Destination,
+}
+
+/// An operator on two integers that gives an integer.
+#[derive(Clone, Copy, Debug, PartialEq, Eq)]
+pub enum Operator {
+    Add,
+    Subtract,
+    Multiply,
+    Divide,
+    Remainder,
+}
+
+/// A comparison of two integers.
+#[derive(Clone, Copy, Debug, PartialEq, Eq)]
+pub enum Comparison {
+    Equal,
+    NotEqual,
+    Less,
+    LessOrEqual,
+    Greater,
+    GreaterOrEqual,
+}
+
+/// An operator on two conditions.
+#[derive(Clone, Copy, Debug, PartialEq, Eq)]
+pub enum Connective {
+    And,
+    Or,
+    Equal,
+    NotEqual,
+}
+
+/// An expression of type `int`. A vertex reads as its number.
+#[derive(Debug, Drop)]
+pub enum Integer {
+    /// A literal.
+    Number(i64),
+    /// A named constant: the place of its name in the program's names, and its value.
+    Constant(usize, i64),
+    /// A variable of `main` or of the function.
+    Variable(Slot),
+    /// A vertex that the function works on.
+    Parameter(Endpoint),
+    /// In a function: the entry of the vector at this place, at a vertex that the function works on.
+    EntryAt(usize, Endpoint),
+    /// In `main`: the entry of the vector at this place, at an index that must be a vertex.
+    Entry(usize, Box<Integer>),
+    /// How many members a vertex set has.
+    SetSize(Slot),
+    /// The number with its sign changed.
+    Negative(Box<Integer>),
+    /// An operator on two integers, of which both are evaluated.
+    Arithmetic(Operator, Box<Integer>, Box<Integer>),
+}
+
+/// An expression of type `bool`.
+#[derive(Debug, Drop)]
+pub enum Condition {
+    /// `true` or `false`.
+    Literal(bool),
+    /// A named constant: the place of its name in the program's names, and its value.
+    Constant(usize, bool),
+    /// A variable of `main` or of the function, or a filter's result.
+    Variable(Slot),
+    /// The other truth value.
+    Not(Box<Condition>),
+    /// A comparison of two integers.
+    Compare(Comparison, Integer, Integer),
+    /// An operator on two conditions, of which both are evaluated.
+    Connect(Connective, Box<Condition>, Box<Condition>),
+}
+
+/// How a new number is joined to one that is there.
+#[derive(Clone, Copy, Debug, PartialEq, Eq)]
+pub enum Reduction {
+    Min,
+    Max,
+    Plus,
+}

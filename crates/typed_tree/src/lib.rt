@@ -1,0 +1,30 @@
+//! The trees of a checked program: all names are resolved, and each expression has a type.
+//!
+//! A [`Typed`] has a table of names, the vectors, the constant sets and the functions in the order in
+//! which they are declared, and the statements of `main`. What a tree speaks of it names by a place: a
+//! vector, a function and a name by its place in the program's list, a variable and a set by its place
+//! among those that are visible (`Slot`), the vertex that a function works on by `Endpoint`. Integers
+//! and conditions are types of their own, so that no number stands for a truth value. A named constant
+//! keeps its name beside its value, and a statement its number and its label.
+//!
+//! Each Rust type is plain data. Contracts speak of the pure trees of `specs/Trees.antt`, which have no
+//! pointers; `specs/Views.antt` says which one a Rust tree is. A [`Sequence`] is a `Vec` that contracts
+//! see as a list.
+//!
+//! The meaning of programs stands on this crate, and so will the checker that makes these trees, the
+//! schedule's rules and the compiler.
+#![tactic(auto)]
+
+mod expression;
+mod function;
+mod program;
+mod sequence;
+mod statement;
+
+pub use expression::{
+    Comparison, Condition, Connective, Endpoint, Integer, Operator, Reduction, Slot,
+};
+pub use function::{Step, VertexFunction};
+pub use program::{Beginning, Typed, Vector};
+pub use sequence::{Name, Sequence};
+pub use statement::{Action, SetValue, Statement};

@@ -1,0 +1,59 @@
+use crate::expression::{Condition, Integer, Reduction, Slot};
+
+/// A statement of `main`.
+#[derive(Debug, Drop)]
+#[cycle(statements)]
+pub struct Statement {
+    /// Its number, from 1 in the order of the text, a block before its body.
+    pub number: u64,
+    /// Its label's place among the labels of the program, where it has one.
+    pub label: Option<usize>,
+    pub action: Action,
+}
+
+/// What a set variable gets.
+#[derive(Clone, Copy, Debug, PartialEq, Eq)]
+pub enum SetValue {
+    /// No vertex.
+    Empty,
+    /// All vertices.
+    All,
+    /// The members of another set.
+    Copy(Slot),
+}
+
+/// What a statement of `main` does.
+#[derive(Debug, Drop)]
+#[cycle(statements)]
+pub enum Action {
+    /// Declares an int variable, whose name is at this place, with its first value.
+    DeclareInteger(usize, Integer),
+    /// Declares a bool variable, whose name is at this place, with its first value.
+    DeclareCondition(usize, Condition),
+    SetInteger(Slot, Integer),
+    SetCondition(Slot, Condition),
+    /// Reduces the variable with the value.
+    ReduceInteger(Slot, Reduction, Integer),
+    /// The vector at this place gets an entry at the index, which must be a vertex: first the index,
+    /// then the value.
+    SetEntry(usize, Integer, Integer),
+    /// Reduces the entry at the index with the value.
+    ReduceEntry(usize, Integer, Reduction, Integer),
+    /// Declares a set variable, whose name is at this place, with its first value.
+    DeclareSet(usize, SetValue),
+    AssignSet(Slot, SetValue),
+    /// Adds the vertex to the set; it must be one.
+    AddVertex(Slot, Integer),
+    /// Writes the number and a line feed.
+    PrintInteger(Integer),
+    /// Writes `true` or `false` and a line feed.
+    PrintCondition(Condition),
+    /// Runs the vertex function at this place for each vertex of the set.
+    ApplyVertex(Slot, usize),
+    If(Condition, Vec<Statement>),
+    IfElse(Condition, Vec<Statement>, Vec<Statement>),
+    While(Condition, Vec<Statement>),
+    /// Declares an int variable, whose name is at this place, in its body, and runs the body with each
+    /// value from the first bound up to the second, which is left out.
+    For(usize, Integer, Integer, Vec<Statement>),
+}
