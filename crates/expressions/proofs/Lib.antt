@@ -1,0 +1,10 @@
+pub mod Exact
+pub mod Faults
+pub mod Fronts
+pub mod Further
+pub mod Loops
+pub mod FirstWords
+pub mod Levels
+pub mod Primaries
+pub mod Readings
+pub mod Operands

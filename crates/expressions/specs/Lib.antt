@@ -1,0 +1,12 @@
+pub mod Codes
+pub mod Depth
+pub mod Ends
+pub mod Falls
+pub mod Grammar
+pub mod Outcome
+pub mod Reading
+pub mod Refusal
+pub mod Seen
+pub mod Spelling
+pub mod Trees
+pub mod Words

@@ -1,0 +1,103 @@
+//! The trees of expressions, one type for each level of the grammar.
+
+use crate::name::Name;
+use crate::operators::{Addition, Multiplication, Prefix, Relation};
+use std::marker::Model;
+
+/// One conjunction, or several with `or` between them.
+#[cycle(expression)]
+#[derive(Drop)]
+pub struct Expression {
+    pub first: Conjunction,
+    pub more: Vec<Conjunction>,
+}
+
+impl Model for Expression {
+    ghost use Rattle.std.specs.Prelude.{map};
+    ghost use Rattle.expressions.specs.Trees.{ExpressionTree};
+    ghost use Rattle.expressions.specs.Codes.{coded_expression};
+    ghost use Rattle.expressions.specs.Depth.{expression_depth};
+
+    ghost Value = { ExpressionTree };
+
+    ghost coded = { coded_expression };
+
+    ghost use Rattle.expressions.specs.Seen.{expression_from, conjunction_of};
+
+    ghost view = { λ e. expression_from (conjunction_of e.first) (map conjunction_of e.more.items) };
+
+    ghost size = { expression_depth };
+
+    ghost use Rattle.expressions.specs.Falls.{expression_falls};
+
+    ghost size_decreases = { λ a h. expression_falls a };
+}
+
+/// One comparison, or several with `and` between them.
+#[cycle(expression)]
+#[derive(Drop)]
+pub struct Conjunction {
+    pub first: Comparison,
+    pub more: Vec<Comparison>,
+}
+
+/// A sum, or two with a relation between them.
+#[cycle(expression)]
+#[derive(Drop)]
+pub struct Comparison {
+    pub left: Sum,
+    pub right: Option<(Relation, Sum)>,
+}
+
+/// One term, or several with `+` and `-` between them: each but the first stands behind its operator.
+#[cycle(expression)]
+#[derive(Drop)]
+pub struct Sum {
+    pub first: Term,
+    pub more: Vec<(Addition, Term)>,
+}
+
+/// One operand, or several with `*`, `/` and `%` between them: each but the first stands behind its
+/// operator.
+#[cycle(expression)]
+#[derive(Drop)]
+pub struct Term {
+    pub first: Unary,
+    pub more: Vec<(Multiplication, Unary)>,
+}
+
+/// A primary behind any number of `-` and `not`, in the order of the text.
+#[cycle(expression)]
+#[derive(Drop)]
+pub struct Unary {
+    /// The offset of its first token in the text, in bytes.
+    pub at: usize,
+    pub signs: Vec<Prefix>,
+    pub primary: Primary,
+}
+
+/// An operand without operators.
+#[cycle(expression)]
+#[derive(Drop)]
+pub enum Primary {
+    /// A number.
+    Number(i64),
+    /// `true` or `false`.
+    Truth(bool),
+    /// A name.
+    Variable(Name),
+    /// `name[index]`
+    Entry(Name, Box<Expression>),
+    /// `name.getVertexSetSize()`
+    Size(Name),
+    /// An expression in parentheses.
+    Parentheses(Box<Expression>),
+}
+
+impl Expression {
+    /// The offset of its first token in the text, in bytes. Tests compare it.
+    pub fn at(&self) -> usize {
+        let expression = self;
+        expression.first.first.left.first.first.at
+    }
+}

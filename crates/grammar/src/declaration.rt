@@ -1,0 +1,56 @@
+//! Declarations, and the source that they make.
+
+use crate::initial::Initial;
+use crate::schedule::Chain;
+use crate::statement::Statement;
+use expressions::Name;
+
+/// What a name is declared to be.
+#[derive(Clone, Copy, Debug, PartialEq, Eq)]
+pub enum DeclaredType {
+    /// `int`
+    Int,
+    /// `bool`
+    Bool,
+    /// `Vertex`
+    Vertex,
+    /// `vertexset{Vertex}`
+    VertexSet,
+    /// `vector{Vertex}(int)`
+    Vector,
+    /// `edgeset{Edge}(Vertex, Vertex)`
+    EdgeSet,
+}
+
+/// A name and its type: a parameter of a function or its result, or what is declared.
+#[derive(Drop)]
+pub struct Parameter {
+    pub name: Name,
+    pub declared: DeclaredType,
+}
+
+/// A declaration. `at` is the offset of its first token in the text.
+#[derive(Drop)]
+pub enum Declaration {
+    /// `const name : type = initial;`
+    Constant {
+        at: usize,
+        constant: Parameter,
+        initial: Initial,
+    },
+    /// `func name(parameters) -> result : type statements end`, with or without the result.
+    Function {
+        at: usize,
+        name: Name,
+        parameters: Vec<Parameter>,
+        result: Option<Parameter>,
+        body: Vec<Statement>,
+    },
+}
+
+/// A source: its declarations, and its schedule where it has that part.
+#[derive(Drop)]
+pub struct Source {
+    pub declarations: Vec<Declaration>,
+    pub schedule: Option<Vec<Chain>>,
+}

@@ -1,0 +1,37 @@
+//! What a name is declared or assigned to be.
+
+use expressions::{Expression, Name};
+
+/// The sets between which an apply looks at edges: a vertex set or a filter for each end, where one is given.
+#[derive(Drop)]
+pub struct Ends {
+    pub from: Option<Name>,
+    pub to: Option<Name>,
+}
+
+/// An initial or assigned value.
+#[derive(Drop)]
+pub enum Initial {
+    /// `new vertexset{Vertex}(size)`
+    NewSet(i64),
+    /// `load(argv[number])`
+    Load(i64),
+    /// `edges.getVertices()`
+    Vertices(Name),
+    /// `edges.getOutDegrees()`
+    OutDegrees(Name),
+    /// `set.filter(test)`
+    Filter {
+        set: Name,
+        test: Name,
+    },
+    /// `edges.from(..).to(..).applyModified(function, vector)`
+    ApplyModified {
+        edges: Name,
+        ends: Ends,
+        function: Name,
+        vector: Name,
+    },
+    /// An expression.
+    Value(Expression),
+}

@@ -1,0 +1,56 @@
+//! The schedule's part of a source.
+ghost use Rattle.std.specs.Prelude.{◌≡◌};
+
+/// The name of a schedule call.
+#[derive(Clone, Copy, Debug, PartialEq, Eq)]
+pub enum Setting {
+    /// `configApplyDirection`
+    Direction,
+    /// `configApplyParallelization`
+    Parallelization,
+    /// `configApplyDenseVertexSet`
+    DenseVertexSet,
+    /// `fuseApplyFunctions`
+    FuseFunctions,
+    /// `fuseFields`
+    FuseFields,
+}
+
+/// A text in quotes.
+#[derive(Drop)]
+pub struct Text {
+    bytes: Vec<u8>,
+}
+
+impl Text {
+    /// The text of these bytes, quotes and all.
+    pub fn new(bytes: Vec<u8>) -> Text
+        ensures { result.bytes ≡ bytes }
+    {
+        Text { bytes }
+    }
+
+    /// Its bytes, quotes and all.
+    pub fn bytes(&self) -> &[u8]
+        ensures { result.now ≡ self.now.bytes.items }
+    {
+        &self.bytes
+    }
+}
+
+/// A schedule call with its arguments, of which there is one at least. `at` is the offset of its first
+/// token in the text.
+#[derive(Drop)]
+pub struct Call {
+    pub at: usize,
+    pub setting: Setting,
+    pub first: Text,
+    pub more: Vec<Text>,
+}
+
+/// Calls on the program, one after the other: `program->first->more;`
+#[derive(Drop)]
+pub struct Chain {
+    pub first: Call,
+    pub more: Vec<Call>,
+}
