@@ -27,8 +27,6 @@ mod run;
 mod sets;
 mod show;
 mod state;
-#[cfg(test)]
-mod tests;
 
 pub use arithmetic::{arithmetic_of, compare, connect, negate, quotients_leave_remainders, reduce};
 pub use error::MeaningError;

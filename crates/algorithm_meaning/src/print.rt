@@ -2,17 +2,14 @@
 ghost use Rattle.std.specs.Prelude.{◌≡◌, ◌++◌, OnOk};
 ghost use Rattle.algorithm_meaning.specs.Change.{condition_line, integer_line};
 
-use decimal::push_number;
+use decimal::push_integer;
 use std::alloc::AllocError;
 
 /// Writes a number in decimal digits, `-` before it where it is negative, and a line feed.
 pub(crate) fn print_integer(text: &mut Vec<u8>, n: i64) -> Result<(), AllocError>
     ensures { OnOk result (text.new.items ≡ text.old.items ++ integer_line n) }
 {
-    if n < 0 {
-        text.push(b'-')?;
-    }
-    push_number(text, n.unsigned_abs())?;
+    push_integer(text, n)?;
     text.push(b'\n')?;
     Ok(())
 }

@@ -1,4 +1,4 @@
-ghost use Rattle.std.specs.Prelude.{◌≡◌, ◌↔◌, ◌+◌, ◌*◌, ◌^◌, ◌≤◌, [], length, IsTrue, IfOk};
+ghost use Rattle.std.specs.Prelude.{◌≡◌, ◌↔◌, ◌+◌, ◌*◌, ◌^◌, ◌<◌, ◌≤◌, [], length, IsTrue, IfOk};
 ghost use Rattle.c_tree.specs.Chunks.{ChunkedSet, chunked_set, IsChunkedSet, IsChunking, IsMadeOf, prefix_of, chunks_of, together};
 ghost use Rattle.c_tree.specs.Outcome.{Opens};
 
@@ -120,12 +120,13 @@ impl CTree {
         Heads::new(self.parts().1)
     }
 
-    /// How many nodes the longest way down the tree of the heads has, at most 64; 0 where there is no
-    /// head. It takes no memory.
+    /// How many nodes the longest way down the tree of the heads has, at most 64: at least so many that
+    /// there is room for the heads, and 0 where there is none. It takes no memory.
     pub fn depth(&self) -> u32
         ensures shallow { 2 ^ result
             ≤ (length (chunks_of self.now.chunk_size self.now.elements) + 1)
             * (length (chunks_of self.now.chunk_size self.now.elements) + 1) }
+        ensures room { length (chunks_of self.now.chunk_size self.now.elements) < 2 ^ result }
         ensures bounded { result ≤ 64 }
         ensures none { (result ≡ 0)
             ↔ (chunks_of self.now.chunk_size self.now.elements ≡ []) }

@@ -36,6 +36,3 @@ pub use heads::Heads;
 pub use iter::Iter;
 pub use laws::lists_have_one_chunking;
 pub use tail::ChunkTail;
-
-#[cfg(test)]
-mod tests;

@@ -2,14 +2,12 @@
 //!
 //! In the contracts a word of digits stands for a number, most significant digit first, with leading
 //! zeros allowed in any count and no sign (`specs/Numbers.antt`). `leading_digits` reads the digits at
-//! the front of bytes and takes no memory, `push_number` writes a number, and `read_back` is the law
-//! that what is written is read as the same number.
+//! the front of bytes and takes no memory, `push_number` writes a number and `push_integer` one with a
+//! sign, and `read_back` is the law that what `push_number` writes is read as the same number.
 //!
 //! The crates that read the text of scripts and of programs stand on this one.
 #![tactic(auto)]
 
 mod numbers;
-#[cfg(test)]
-mod tests;
 
-pub use numbers::{leading_digits, push_number, read_back};
+pub use numbers::{leading_digits, push_integer, push_number, read_back};

@@ -1,4 +1,5 @@
 //! Numbers in decimal digits.
+ghost use Rattle.std.specs.Fmt.{signed_decimal};
 ghost use Rattle.std.specs.Prelude.{◌≡◌, ℕ, ◌<◌, ◌^◌, ◌++◌, OnOk, OnErr, decimal};
 ghost use Rattle.decimal.specs.Digits.{AreLeadingDigits};
 ghost use Rattle.decimal.specs.Numbers.{IsReadBack};
@@ -14,6 +15,16 @@ pub fn push_number(out: &mut Vec<u8>, n: u64) -> Result<(), AllocError>
 {
     let mut buffer = Buffer::new();
     out.extend_from_slice(buffer.format(n).as_bytes())
+}
+
+/// Appends the decimal digits of an integer, with no leading zero, behind `-` where it is negative. The one
+/// error is that memory is lacking, and then the bytes stay as they are.
+pub fn push_integer(out: &mut Vec<u8>, n: i64) -> Result<(), AllocError>
+    ensures ok { OnOk result (out.new.items ≡ out.old.items ++ signed_decimal n) }
+    ensures err { OnErr result (out.new.items ≡ out.old.items) }
+{
+    let mut digits = Buffer::new();
+    out.extend_from_slice(digits.format(n).as_bytes())
 }
 
 /// The number that the digits at the front stand for, 0 for none, and how many they are; or `None`

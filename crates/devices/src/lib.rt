@@ -22,6 +22,3 @@ mod traits;
 
 pub use adapter::Device;
 pub use traits::{Drain, Feed, write_all};
-
-#[cfg(test)]
-mod tests;

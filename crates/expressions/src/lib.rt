@@ -33,6 +33,3 @@ pub use name::Name;
 pub use operators::{Addition, Multiplication, Prefix, Relation};
 pub use read::read_expression;
 pub use tree::{Comparison, Conjunction, Expression, Primary, Sum, Term, Unary};
-
-#[cfg(test)]
-mod tests;

@@ -29,6 +29,3 @@ pub use laws::{sources_are_read_exactly, words_have_one_source};
 pub use nesting::{NESTING_LIMIT, first_too_deep};
 pub use schedule::{Call, Chain, Setting, Text};
 pub use statement::{Action, Reduction, Statement};
-
-#[cfg(test)]
-mod tests;

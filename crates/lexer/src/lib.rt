@@ -25,6 +25,3 @@ pub use keyword::Keyword;
 pub use scan::{one_reading, tokens, tokens_in_order};
 pub use symbol::Symbol;
 pub use token::{Span, Token, TokenKind};
-
-#[cfg(test)]
-mod tests;

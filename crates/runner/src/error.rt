@@ -2,6 +2,7 @@ ghost use Rattle.std.specs.Prelude.{◌≡◌};
 ghost use Rattle.runner.specs.declared.error.ScriptError.TheVariants.{NoMemory};
 ghost use Rattle.runner.specs.Refusal.{number_of};
 
+use algorithm_meaning::MeaningError;
 use std::alloc::{AllocError, AllocFailed};
 use thiserror::Error;
 
@@ -41,6 +42,14 @@ impl<T: Drop> From<AllocFailed<T>> for ScriptError {
     ghost from_gives = { λ _ e. e ≡ NoMemory };
 
     fn from(_error: AllocFailed<T>) -> ScriptError {
+        ScriptError::NoMemory
+    }
+}
+
+impl From<MeaningError> for ScriptError {
+    ghost from_gives = { λ _ e. e ≡ NoMemory };
+
+    fn from(_error: MeaningError) -> ScriptError {
         ScriptError::NoMemory
     }
 }

@@ -1,28 +1,39 @@
-ghost use Rattle.std.specs.Prelude.{◌≡◌, ◌↔◌, IfSome, IsNone, None};
-ghost use Rattle.std.specs.Option.{option_copied};
-ghost use Rattle.script_text.specs.declared.commands.Command.TheVariants.{Commit, Hold, Release};
+ghost use Rattle.std.specs.Prelude.{◌≡◌, ◌↔◌, IfSome, IsNone, None, Some, map};
+ghost use Rattle.std.specs.Option.{option_copied, option_map};
+ghost use Rattle.typed_tree.specs.ProgramTree.{program_tree};
 ghost use Rattle.version_list.specs.declared.step.Step.TheVariants as step;
 ghost use Rattle.version_list.specs.Machine.{version_graph, newest_number, ticket_graph};
-ghost use Rattle.runner.specs.Replies.{answer, joined, opening, unopened, by_versions, at_start, commit_line, hold_line, release_line, listing_held, held_graph};
+ghost use Rattle.runner.specs.Replies.{answer, joined, opening, unopened, by_versions, at_start, committing, holding, which_of, releasing, commit_line, hold_line, release_line, listing_held, held_graph, program_of, graph_of, running_on};
 ghost use Rattle.runner.specs.Interpreting.{Gives, IsAnswered, Steps, MatchVersions, refusal_of};
 
 use crate::error::ScriptError;
 use crate::reply::LineReply;
+use algorithm_meaning::plain_run;
+use outcome_text::is_fault;
 use script_text::{Command, command};
 use std::alloc::Global;
 use std::marker::Model;
 use std::mem;
 use tree_batch::{Batch, Entry, Graph};
+use typed_tree::Typed;
 use version_list::{Ticket, VersionError, Versions, Which};
 
 /// The refusal of a line that is no command, or none that may stand there.
 const BAD_LINE: u16 = 801;
 
-/// What a script has so far: the versions, once a graph is open, and the pending entries.
+/// The refusal of a run of a program that is not there.
+const NO_PROGRAM: u16 = 412;
+
+/// The refusal of a number of workers that is not 1 to 64.
+const BAD_WORKERS: u16 = 411;
+
+/// What a script has so far: the versions once a graph is open, the pending entries, and whether some
+/// run has ended by a fault.
 #[derive(Drop)]
 pub(crate) struct Interpreter {
     versions: Option<Versions>,
     pending: Batch,
+    faulted: bool,
 }
 
 impl Model for Interpreter {
@@ -31,7 +42,11 @@ impl Model for Interpreter {
 
     ghost Value = { ScriptState };
 
-    ghost view = { λ i. record { versions = option_map (λ t. t.state) i.versions; pending = i.pending } };
+    ghost view = { λ i. record {
+      versions = option_map (λ t. t.state) i.versions;
+      pending = i.pending;
+      faulted = i.faulted;
+    } };
 }
 
 impl Interpreter {
@@ -41,24 +56,42 @@ impl Interpreter {
         Interpreter {
             versions: None,
             pending: Batch::new(alloc),
+            faulted: false,
         }
     }
 
+    /// Whether some run has ended by a fault.
+    pub(crate) fn has_faulted(&self) -> bool
+        ensures { result ≡ self.now.faulted }
+    {
+        self.faulted
+    }
+
     /// Does a line. After `NoMemory`, the only error, pending entries may be gone.
-    pub(crate) fn answer(&mut self, alloc: Global, line: &[u8]) -> Result<LineReply, ScriptError>
-        ensures { Gives self.new (answer self.old line.now) result }
+    pub(crate) fn answer(
+        &mut self,
+        alloc: Global,
+        programs: &[Typed],
+        line: &[u8],
+    ) -> Result<LineReply, ScriptError>
+        ensures { Gives self.new (answer (map program_tree programs.now) self.old line.now) result }
     {
         if line.is_empty() {
             return Ok(LineReply::Nothing);
         }
         match command(line) {
             None => Ok(LineReply::Refused(BAD_LINE)),
-            Some(command) => self.run(alloc, command),
+            Some(command) => self.run(alloc, programs, command),
         }
     }
 
-    fn run(&mut self, alloc: Global, command: Command) -> Result<LineReply, ScriptError>
-        ensures { Gives self.new (by_versions self.old self.old.versions command) result }
+    fn run(
+        &mut self,
+        alloc: Global,
+        programs: &[Typed],
+        command: Command,
+    ) -> Result<LineReply, ScriptError>
+        ensures { Gives self.new (by_versions (map program_tree programs.now) self.old self.old.versions command) result }
     {
         if self.versions.is_none() {
             return self.run_unopened(alloc, command);
@@ -78,6 +111,15 @@ impl Interpreter {
             Command::Release { ticket } => self.release(ticket),
             Command::Edges => Ok(LineReply::Edges),
             Command::EdgesOf { ticket } => Ok(self.edges_of(ticket)),
+            Command::Run {
+                program,
+                turns,
+                workers,
+                ticket,
+            } => match program_at(programs, program) {
+                None => Ok(LineReply::Refused(NO_PROGRAM)),
+                Some(program) => self.run_program(alloc, program, turns, workers, ticket),
+            },
         }
     }
 
@@ -120,7 +162,7 @@ impl Interpreter {
     }
 
     fn commit(&mut self, alloc: Global) -> Result<LineReply, ScriptError>
-        ensures { Gives self.new (by_versions self.old self.old.versions Commit) result }
+        ensures { MatchVersions self.old.versions (λ v. Gives self.new (committing v self.old) result) }
     {
         match &mut self.versions {
             None => Ok(LineReply::Refused(BAD_LINE)),
@@ -132,7 +174,7 @@ impl Interpreter {
     }
 
     fn hold(&mut self, version: Option<u64>) -> Result<LineReply, ScriptError>
-        ensures { Gives self.new (by_versions self.old self.old.versions (Hold version)) result }
+        ensures { MatchVersions self.old.versions (λ v. Gives self.new (holding v self.old (which_of version)) result) }
     {
         let which = version.map_or(Which::Newest, Which::At);
         match &mut self.versions {
@@ -142,7 +184,7 @@ impl Interpreter {
     }
 
     fn release(&mut self, ticket: u64) -> Result<LineReply, ScriptError>
-        ensures { Gives self.new (by_versions self.old self.old.versions (Release ticket)) result }
+        ensures { MatchVersions self.old.versions (λ v. Gives self.new (releasing v self.old ticket) result) }
     {
         match &mut self.versions {
             None => Ok(LineReply::Refused(BAD_LINE)),
@@ -157,6 +199,41 @@ impl Interpreter {
         match self.held(ticket) {
             Some(_) => LineReply::EdgesOf(ticket),
             None => LineReply::Refused(VersionError::NotHeld.number()),
+        }
+    }
+
+    /// Runs a program on the newest version, or on the one that a ticket holds. One thread does all
+    /// the work, however many workers are asked for.
+    fn run_program(
+        &mut self,
+        alloc: Global,
+        program: &Typed,
+        turns: u64,
+        workers: u64,
+        ticket: Option<u64>,
+    ) -> Result<LineReply, ScriptError>
+        ensures { MatchVersions self.old.versions (λ v.
+            Gives self.new (running_on self.old turns workers (Some (program_tree program.now)) (graph_of v ticket)) result) }
+    {
+        let Some(graph) = self.graph_for(ticket) else {
+            return Ok(LineReply::Refused(VersionError::NotHeld.number()));
+        };
+        if workers == 0 || workers > 64 {
+            return Ok(LineReply::Refused(BAD_WORKERS));
+        }
+        let edges: Vec<(u32, u32)> = graph.edges().collect(alloc)?;
+        let outcome = plain_run(alloc, program, graph.vertices(), &edges, turns)?;
+        self.faulted = self.faulted || is_fault(outcome.end);
+        Ok(LineReply::Ran(outcome))
+    }
+
+    /// The graph of the newest version, or of the one that a ticket holds, where it is open.
+    fn graph_for(&self, ticket: Option<u64>) -> Option<&Graph>
+        ensures { MatchVersions self.now.versions (λ v. option_copied result ≡ graph_of v ticket) }
+    {
+        match ticket {
+            None => self.newest(),
+            Some(ticket) => self.held(ticket),
         }
     }
 
@@ -181,6 +258,14 @@ impl Interpreter {
             Some(versions) => Some(versions.newest().1),
         }
     }
+}
+
+/// The program of this number, from 1.
+fn program_at(programs: &[Typed], number: u64) -> Option<&Typed>
+    ensures { option_map (λ p. program_tree p.now) result ≡ program_of (map program_tree programs.now) number }
+{
+    let place = usize::try_from(number.checked_sub(1)?).ok()?;
+    programs.get(place)
 }
 
 /// Commits a batch, and answers its line.

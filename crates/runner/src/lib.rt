@@ -2,21 +2,16 @@
 //!
 //! What a script replies is a definition over the lines of its bytes, apart from the code:
 //! [`script`] is proved to write exactly those replies to the bytes that the reader gave, in
-//! whatever pieces it gave them, and after an error a beginning of them. The program stands on
-//! this crate.
+//! whatever pieces it gave them, and after an error a beginning of them. A run of a program is answered
+//! by what the program means on its version. The program stands on this crate.
 #![tactic(auto)]
 
 mod error;
 mod interpreter;
 mod lines;
 mod output;
-mod plan;
 mod reply;
 mod scripts;
 
 pub use error::ScriptError;
-pub use plan::Plan;
 pub use scripts::script;
-
-#[cfg(test)]
-mod tests;

@@ -2,11 +2,14 @@
 ghost use Rattle.std.specs.Prelude.{◌≡◌, [], ◌∷◌, ◌++◌, OnOk};
 ghost use Rattle.tree_batch.specs.Edge.{Edge};
 ghost use Rattle.runner.specs.Text.{word_line, ticket_line, edge_line, edges_text};
+ghost use Rattle.outcome_text.specs.Text.{outcome_text as text_of_outcome};
 ghost use Rattle.runner.specs.Output.{output, Emits};
 
 use crate::error::ScriptError;
+use algorithm_meaning::Outcome;
 use decimal::push_number;
 use devices::{Drain, write_all};
+use outcome_text::push_outcome;
 use std::alloc::AllocError;
 use tree_batch::Graph;
 
@@ -106,6 +109,23 @@ fn send_edge<W: Drain>(
 {
     make_room(writer, kept)?;
     match push_edge_line(kept, edge) {
+        Ok(()) => Ok(()),
+        Err(_) => Err(ScriptError::NoMemory),
+    }
+}
+
+/// Sends what a run shows. Its text is made whole before it is written.
+pub(crate) fn send_outcome<W: Drain>(
+    writer: &mut W,
+    kept: &mut Vec<u8>,
+    outcome: &Outcome,
+) -> Result<(), ScriptError>
+    ensures { Emits (output (W.taken writer.old) kept.old.items (W.failures writer.old))
+        (output (W.taken writer.new) kept.new.items (W.failures writer.new))
+        (text_of_outcome outcome.now) result }
+{
+    make_room(writer, kept)?;
+    match push_outcome(kept, outcome) {
         Ok(()) => Ok(()),
         Err(_) => Err(ScriptError::NoMemory),
     }

@@ -1,7 +1,10 @@
+use algorithm_meaning::Outcome;
+
 /// What a line is answered: nothing, that a graph of so many vertices is open, the number of a new
 /// version, a new ticket's number and that of its version, the number of a closed ticket, the number
-/// of a refusal, or the edges of the newest version or of the one that a ticket holds.
-#[derive(Clone, Copy, Debug, PartialEq, Eq)]
+/// of a refusal, the edges of the newest version or of the one that a ticket holds, or what a run
+/// shows.
+#[derive(Debug, Drop)]
 pub(crate) enum LineReply {
     Nothing,
     Open(u32),
@@ -11,4 +14,5 @@ pub(crate) enum LineReply {
     Refused(u16),
     Edges,
     EdgesOf(u64),
+    Ran(Outcome),
 }

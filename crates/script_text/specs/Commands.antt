@@ -3,7 +3,7 @@ use Rattle.std.specs.Prelude.{ℕ, ◌^◌, Bool, List, [], ◌∷◌, Option, S
 use Rattle.std.specs.Option.{option_and_then, option_map}
 use Rattle.std.specs.Str.{bytes_eq}
 use Rattle.script_text.specs.declared.commands.Command.{Command}
-use Rattle.script_text.specs.declared.commands.Command.TheVariants.{Vertices, Add, Remove, Commit, Hold, Release, Edges, EdgesOf}
+use Rattle.script_text.specs.declared.commands.Command.TheVariants.{Vertices, Add, Remove, Commit, Hold, Release, Edges, EdgesOf, Run}
 use Rattle.decimal.specs.Numbers.{number_of}
 use Rattle.script_text.specs.Pieces.{words_of}
 
@@ -43,6 +43,19 @@ abbrev pub edges_of : List (List ℕ) → Option Command
 edges_of [] = Some Edges
 edges_of (word ∷ words) = option_map EdgesOf (one_number (word ∷ words))
 
+-- the ticket that one word is, which may be left out
+abbrev pub ticket_of : List (List ℕ) → Option (Option ℕ)
+ticket_of [] = Some None
+ticket_of (word ∷ words) = option_map Some (one_number (word ∷ words))
+
+-- "run P TURNS W", on the newest version, and "run P TURNS W T"
+abbrev pub run_of : List (List ℕ) → Option Command
+run_of (program ∷ turns ∷ workers ∷ words) =
+    option_and_then (λ p. option_and_then (λ t. option_and_then (λ w.
+    option_map (Run p t w) (ticket_of words))
+    (number_of (2 ^ 64) workers)) (number_of (2 ^ 64) turns)) (number_of (2 ^ 64) program)
+run_of _ = None
+
 -- "commit", which no word follows
 abbrev pub alone : Command → List (List ℕ) → Option Command
 alone command [] = Some command
@@ -59,6 +72,7 @@ command_of_words (name ∷ words) =
     if name is codes "hold" then hold_of words else
     if name is codes "release" then option_map Release (one_number words) else
     if name is codes "edges" then edges_of words else
+    if name is codes "run" then run_of words else
     None
 
 -- the command of a line without its line feed

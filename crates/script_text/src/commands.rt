@@ -22,4 +22,12 @@ pub enum Command {
     Edges,
     /// `edges T`: the edges of the version that a ticket holds.
     EdgesOf { ticket: u64 },
+    /// `run P TURNS W` or `run P TURNS W T`: a program's number, a bound of turns, a number of workers,
+    /// and the ticket that holds the version to run on, or none for the newest.
+    Run {
+        program: u64,
+        turns: u64,
+        workers: u64,
+        ticket: Option<u64>,
+    },
 }

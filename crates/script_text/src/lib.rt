@@ -17,8 +17,6 @@
 mod commands;
 mod parse;
 mod pieces;
-#[cfg(test)]
-mod tests;
 mod words;
 
 pub use commands::{Command, DEFAULT_CHUNK_SIZE};

@@ -1,6 +1,6 @@
 //! The command of a line.
 ghost use Rattle.std.specs.Prelude.{◌≡◌};
-ghost use Rattle.script_text.specs.Commands.{command_of, vertices_of, hold_of, edges_of, one_number};
+ghost use Rattle.script_text.specs.Commands.{command_of, vertices_of, hold_of, edges_of, run_of, ticket_of, one_number};
 ghost use Rattle.script_text.specs.Reading.{two_numbers};
 
 use crate::commands::{Command, DEFAULT_CHUNK_SIZE};
@@ -37,6 +37,7 @@ pub fn command(line: &[u8]) -> Option<Command>
             Some(Command::Release { ticket })
         }
         b"edges" => edges(words),
+        b"run" => run(words),
         _ => None,
     }
 }
@@ -80,6 +81,32 @@ fn edges(words: Words<'_>) -> Option<Command>
     }
     let ticket = last_number(words)?;
     Some(Command::EdgesOf { ticket })
+}
+
+/// A program to run, on the newest version or a ticket's.
+fn run(mut words: Words<'_>) -> Option<Command>
+    ensures { result ≡ run_of words.entry }
+{
+    let program = words.take_number()?;
+    let turns = words.take_number()?;
+    let workers = words.take_number()?;
+    let ticket = last_ticket(words)?;
+    Some(Command::Run {
+        program,
+        turns,
+        workers,
+        ticket,
+    })
+}
+
+/// The ticket that is the only word left, if one is left.
+fn last_ticket(words: Words<'_>) -> Option<Option<u64>>
+    ensures { result ≡ ticket_of words.entry }
+{
+    if words.is_empty() {
+        return Some(None);
+    }
+    Some(Some(last_number(words)?))
 }
 
 /// The number below 2^64 that is the only word left.

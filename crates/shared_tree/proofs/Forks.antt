@@ -3,7 +3,7 @@ use Rattle.std.proofs.Common.{◌≡◌, ℕ, ◌+◌, ◌*◌, ◌^◌, ◌<◌
 use Rattle.shared_tree.specs.Entries.{IsMap, lookup}
 use Rattle.shared_tree.specs.Balanced.{Balanced, IsFork, DifferByAtMostOne}
 use Rattle.shared_tree.proofs.Order.{rises_room, lookup_left, lookup_here, lookup_right}
-use Rattle.shared_tree.proofs.Shallow.{shallow_fork, at_most_64}
+use Rattle.shared_tree.proofs.Shallow.{shallow_fork, room_fork, at_most_64}
 
 module _ {V : Type 0} (t l : Balanced V) (k : ℕ) (v : V) (r : Balanced V) where
   -- the keys fit 32 bits
@@ -31,11 +31,12 @@ module _ {V : Type 0} (t l : Balanced V) (k : ℕ) (v : V) (r : Balanced V) wher
 
 module _ {V : Type 0} (l : Balanced V) (k : ℕ) (v : V) (r : Balanced V) where
   -- an entry between two sides of about one depth makes a tree
-  pub fork_made : (d : ℕ) → d ≡ max l.depth r.depth + 1 → IsMap (l.entries ++ (k, v) ∷ r.entries) → DifferByAtMostOne l.depth r.depth → 2 ^ l.depth ≤ (length l.entries + 1) * (length l.entries + 1) → 2 ^ r.depth ≤ (length r.entries + 1) * (length r.entries + 1) → IsFork (record { entries = l.entries ++ (k, v) ∷ r.entries; depth = d }) l k v r
-  fork_made d e m b p q = record {
+  pub fork_made : (d : ℕ) → d ≡ max l.depth r.depth + 1 → IsMap (l.entries ++ (k, v) ∷ r.entries) → DifferByAtMostOne l.depth r.depth → 2 ^ l.depth ≤ (length l.entries + 1) * (length l.entries + 1) → 2 ^ r.depth ≤ (length r.entries + 1) * (length r.entries + 1) → length l.entries < 2 ^ l.depth → length r.entries < 2 ^ r.depth → IsFork (record { entries = l.entries ++ (k, v) ∷ r.entries; depth = d }) l k v r
+  fork_made d e m b p q f g = record {
     entries = refl;
     depth = e;
     map = m;
     balanced = b;
     shallow = rw (e, length-append l.entries ((k, v) ∷ r.entries)) (omega (arith, shallow_fork l.depth r.depth (length l.entries) (length r.entries) b p q));
+    room = rw (e, length-append l.entries ((k, v) ∷ r.entries)) (omega (arith, room_fork l.depth r.depth (length l.entries) (length r.entries) f g));
   }

@@ -1,5 +1,5 @@
 -- The bound on the depth of balanced trees.
-use Rattle.std.proofs.Common.{ℕ, ◌+◌, ◌*◌, ◌^◌, ◌≤◌, max, inl, inr, arith}
+use Rattle.std.proofs.Common.{ℕ, ◌+◌, ◌*◌, ◌^◌, ◌<◌, ◌≤◌, max, inl, inr, arith}
 use Rattle.std.proofs.lemmas.Bool.{cases_lt}
 use Rattle.std.proofs.lemmas.Nat.{pow-add}
 use Rattle.std.proofs.Math.Nat.{pow-le-pow_right, mul-le-mul_left, mul-le-mul_right, max-eq_left, max-eq_right, mul_comm}
@@ -26,6 +26,18 @@ shallow_fork l r m n d p q =
     elim (cases_lt l r) [
       | inl lt ↦ rw (max-eq_right {n = l} {m = r} (omega arith)) (omega (arith, le_square_above l r (m + 1) (n + 1) (omega arith) (omega (arith, d.1)) p q))
       | inr le ↦ rw (max-eq_left {n = l} {m = r} le) (omega (arith, le_square_above r l (n + 1) (m + 1) le (omega (arith, d.0)) q p))
+    ]
+
+-- a tree of a depth has fewer entries than a full one has places
+pub room_fork : (l r m n : ℕ) → m < 2 ^ l → n < 2 ^ r → m + 1 + n < 2 ^ (max l r + 1)
+room_fork l r m n p q =
+    elim (cases_lt l r) [
+      | inl lt ↦
+          let up : 2 ^ l ≤ 2 ^ r = pow-le-pow_right {n = 2} (omega arith) {i = l} {j = r} (omega arith) in
+          rw (max-eq_right {n = l} {m = r} (omega arith)) (omega (arith, pow-add 2 r 1))
+      | inr le ↦
+          let up : 2 ^ r ≤ 2 ^ l = pow-le-pow_right {n = 2} (omega arith) {i = r} {j = l} le in
+          rw (max-eq_left {n = l} {m = r} le) (omega (arith, pow-add 2 l 1))
     ]
 
 pub at_most_64 : (d n : ℕ) → 2 ^ d ≤ (n + 1) * (n + 1) → n ≤ 2 ^ 32 → d ≤ 64

@@ -1,5 +1,5 @@
 -- What contracts see of a tree.
-use Rattle.std.specs.Prelude.{◌≡◌, ℕ, ◌+◌, ◌*◌, ◌^◌, ◌≤◌, max, List, [], ◌∷◌, ◌++◌, length}
+use Rattle.std.specs.Prelude.{◌≡◌, ℕ, ◌+◌, ◌*◌, ◌^◌, ◌<◌, ◌≤◌, max, List, [], ◌∷◌, ◌++◌, length}
 use Rattle.shared_tree.specs.Entries.{IsMap}
 
 -- the entries in order, and how many nodes the longest way down from the root has
@@ -22,3 +22,4 @@ pub record IsFork {V : Type 0} (t l : Balanced V) (k : ℕ) (v : V) (r : Balance
   pub map : IsMap t.entries
   pub balanced : DifferByAtMostOne l.depth r.depth
   pub shallow : 2 ^ t.depth ≤ (length t.entries + 1) * (length t.entries + 1)
+  pub room : length t.entries < 2 ^ t.depth

@@ -34,6 +34,3 @@ pub use joins::{join, join2};
 pub use laws::{changes_one_key, maps_are_their_values};
 pub use share::Share;
 pub use tree::Tree;
-
-#[cfg(test)]
-mod tests;

@@ -1,4 +1,4 @@
-ghost use Rattle.std.specs.Prelude.{◌≡◌, ◌+◌, ◌*◌, ◌^◌, ◌≤◌, ◌↔◌, [], length, IsTrue, MatchOption};
+ghost use Rattle.std.specs.Prelude.{◌≡◌, ◌+◌, ◌*◌, ◌^◌, ◌<◌, ◌≤◌, ◌↔◌, [], length, IsTrue, MatchOption};
 ghost use Rattle.std.specs.Option.{option_copied};
 ghost use Rattle.shared_tree.specs.Entries.{lookup};
 ghost use Rattle.shared_tree.specs.Balanced.{empty, IsFork};
@@ -105,13 +105,15 @@ impl<V> Tree<V> {
         }
     }
 
-    /// How many nodes the longest way down from the root has, at most 64. It is 0 where there is
-    /// no entry, and else one more than that of the deeper side. It takes no memory.
+    /// How many nodes the longest way down from the root has, at most 64: at least so many that
+    /// there is room for the entries. It is 0 where there is no entry, and else one more than that of
+    /// the deeper side. It takes no memory.
     #[inline]
     pub fn depth(&self) -> u32
         ensures depth { result ≡ self.now.depth }
         ensures shallow { 2 ^ result
             ≤ (length self.now.entries + 1) * (length self.now.entries + 1) }
+        ensures room { length self.now.entries < 2 ^ result }
         ensures bounded { result ≤ 64 }
     {
         match &self.link {

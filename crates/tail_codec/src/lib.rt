@@ -28,6 +28,3 @@ pub use error::TailError;
 pub use iter::TailIter;
 pub use laws::{bytes_spell_one_list, lists_have_one_spelling};
 pub use tail::Tail;
-
-#[cfg(test)]
-mod tests;

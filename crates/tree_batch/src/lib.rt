@@ -14,6 +14,3 @@ mod merge;
 pub use batch::{Batch, Entry};
 pub use error::GraphError;
 pub use graph::{EdgeIter, Graph, MAX_VERTICES, edges_ascend, last_entry_decides};
-
-#[cfg(test)]
-mod tests;

@@ -15,6 +15,3 @@ mod versions;
 pub use error::VersionError;
 pub use step::{Done, Reply, Step, Ticket, Which};
 pub use versions::{MAX_HISTORY, Versions};
-
-#[cfg(test)]
-mod tests;

@@ -26,3 +26,6 @@ pub returns-in-Some-held : goal.returns-in-Some-held
 returns-in-Some-held g c =
     let text : edges_text c.in-Some-held.graph.now.edges ≡ edges_of_graph (held_graph c.args.interpreter.now.versions c.in-EdgesOf.ticket) = ap edges_of_graph c.in-Some-held.ensures in
     rw (c.in-EdgesOf.is, ← text) c.send_edges-in-Some-held.ensures
+
+pub returns-in-Ran : goal.returns-in-Ran
+returns-in-Ran g c = rw c.in-Ran.is c.send_outcome.ensures

@@ -26,3 +26,15 @@ returns-in-Some-clause-none c =
     let cut = one_chunks s.chunk_size s.elements _ _ c.parts.ensures.chunked in
     let root = c.in-Some.ensures in
     (λ none. absurd (omega (arith, c.depth.ensures.depth, root.depth)), λ none. absurd (not_empty _ _ _ _ _ root (cut ∙ none)))
+
+pub returns-in-None-clause-room : goal.returns-in-None-clause-room
+returns-in-None-clause-room c =
+    let s = c.args.self.now in
+    let cut = one_chunks s.chunk_size s.elements _ _ c.parts.ensures.chunked in
+    rw (← cut, ap (λ (d : Balanced BasedList). d.entries) c.in-None.ensures) (omega arith)
+
+pub returns-in-Some-clause-room : goal.returns-in-Some-clause-room
+returns-in-Some-clause-room c =
+    let s = c.args.self.now in
+    let cut = one_chunks s.chunk_size s.elements _ _ c.parts.ensures.chunked in
+    rw (← cut) c.depth.ensures.room
