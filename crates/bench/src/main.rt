@@ -16,6 +16,8 @@ mod timing;
 mod trees;
 mod workload;
 
+use outcome::hash_of;
+use random::Random;
 use std::io::Error;
 use std::process::ExitCode;
 use std::{env, io};
@@ -48,11 +50,21 @@ fn main(rt: HostRuntime) -> io::Result<ExitCode> {
 
 // Prints what comes of small work.
 fn print_outcomes<R: Print + AllocGlobal>(rt: &R) -> io::Result<()> {
+    print_known(rt)?;
     scripts::print_outcomes(rt)?;
     lexing::print_outcomes(rt)?;
     tails::print_outcomes(rt)?;
     trees::print_outcomes(rt)?;
     ctrees::print_outcomes(rt)
+}
+
+// Prints what the generator and the hash give where their authors have published it.
+fn print_known<R: Print + AllocGlobal>(rt: &R) -> io::Result<()> {
+    let mut random = Random::new(1_234_567);
+    for _ in 0..3u32 {
+        println!(rt; "splitmix64 from 1234567: {}", random.next())?;
+    }
+    println!(rt; "FNV-1a of foobar: {:016x}", hash_of(b"foobar"))
 }
 
 // Prints the script of so many `add` lines.

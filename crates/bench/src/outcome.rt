@@ -25,21 +25,3 @@ pub fn hash_of(bytes: &[u8]) -> u64 {
     }
     hash
 }
-
-#[cfg(test)]
-mod tests {
-    use super::*;
-
-    // From the authors' test vectors.
-    #[test]
-    fn hashes_known_texts(rt: HostRuntime) {
-        let cases = [
-            ("", 0xcbf2_9ce4_8422_2325),
-            ("a", 0xaf63_dc4c_8601_ec8c),
-            ("foobar", 0x8594_4171_f739_67e8),
-        ];
-        for (text, wanted) in cases {
-            assert_eq!(rt; hash_of(text.as_bytes()), wanted, "at {text}");
-        }
-    }
-}

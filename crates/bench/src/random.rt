@@ -31,21 +31,3 @@ impl Random {
         self.next() % bound
     }
 }
-
-#[cfg(test)]
-mod tests {
-    use super::*;
-
-    // The first numbers of the generator's reference code at seed 1234567.
-    #[test]
-    fn gives_the_known_numbers(rt: HostRuntime) {
-        let mut random = Random::new(1_234_567);
-        for wanted in [
-            6_457_827_717_110_365_317,
-            3_203_168_211_198_807_973,
-            9_817_491_932_198_370_423,
-        ] {
-            assert_eq!(rt; random.next(), wanted);
-        }
-    }
-}
