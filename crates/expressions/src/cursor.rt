@@ -22,7 +22,8 @@ pub struct Cursor<'a> {
 impl<'a> Cursor<'a> {
     /// At the first of these tokens of a text.
     pub fn new(text: &'a [u8], tokens: &'a [Token]) -> Cursor<'a>
-        ensures { words result ≡ words_of text.now tokens.now }
+        ensures left { words result ≡ words_of text.now tokens.now }
+        ensures parts { (result.text.now ≡ text.now) × (result.tokens.now ≡ tokens.now) }
     {
         Cursor { text, tokens }
     }

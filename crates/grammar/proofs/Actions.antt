@@ -41,6 +41,7 @@ modified_initial name (Some f) to rest = refl
 -- an expression behind which these words stand is read as a value
 value_named : (name : Identifier) (ws rest : List Word) (e : ExpressionTree) → expression (Name name ∷ ws) ≡ Some (e, rest)
     → named_initial name ws (method_at ws) ≡ Some (Value e, rest)
+unfolding expression
 value_named name (Mark symbol.Dot ∷ Reserved keyword.GetVertices ∷ ws) rest e is = cc is
 value_named name (Mark symbol.Dot ∷ Reserved keyword.GetOutDegrees ∷ ws) rest e is = cc is
 value_named name (Mark symbol.Dot ∷ Reserved keyword.Filter ∷ ws) rest e is = cc is
@@ -50,6 +51,7 @@ value_named name (Mark symbol.Dot ∷ Reserved keyword.ApplyModified ∷ ws) res
 value_named name _ rest e is = ap (λ r. r >>= λ x. Some (Value x.0, x.1)) is
 
 value_initial : (ws rest : List Word) (e : ExpressionTree) → expression ws ≡ Some (e, rest) → initial_at ws ≡ Some (Value e, rest)
+unfolding expression
 value_initial (Reserved keyword.New ∷ ws) rest e is = cc is
 value_initial (Reserved keyword.Load ∷ ws) rest e is = cc is
 value_initial (Name name ∷ ws) rest e is = value_named name ws rest e is

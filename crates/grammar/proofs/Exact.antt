@@ -44,10 +44,12 @@ end_where (Reserved keyword.Or ∷ ws) is = cc is
 end_where _ is = record { bracket = refl; dot = refl; multiplies = refl; adds = refl; relates = refl; conjoins = refl; disjoins = refl }
 
 complete : (e : ExpressionTree) (rest : List Word) → Fits e → goes_on rest ≡ false → expression (expression_words e ++ rest) ≡ Some (e, rest)
+unfolding expression
 complete e rest fits is =
     expressions_complete limit (expression_words e ++ rest) e rest (record { whole = refl; within = fits; ends = ends_expression e rest (end_where rest is) })
 
 sound : IsSound expression (λ e rest. expression_words e ++ rest)
+unfolding expression
 sound ws e rest is = let begins : Begins limit ws e rest = subst (At (Begins limit) ws) is (expressions_sound limit ws) in begins.whole
 
 pub sources_sound : (words : List Word) (source : SourceTree) → source_at words ≡ Some source → words ≡ source_words source

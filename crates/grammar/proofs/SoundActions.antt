@@ -269,6 +269,7 @@ module _ (sound : IsSound expression (λ e rest. expression_words e ++ rest)) wh
   block_at-sound (suc d) ws b rest is = block_by-sound (block_at d) (block_at-sound d) ws b rest is
 
   declaration_sound : IsSound declaration_by declaration_before
+  unfolding block
   declaration_sound (Opening keyword.Const at ∷ ws) d rest is =
       let p = bind_some (typed_at ws) _ _ is in
       let i = bind_some (assigned_at p.0.1) _ _ p.2 in

@@ -34,6 +34,7 @@ no_declaration (Some chains) = refl
 
 module _ (complete : (e : ExpressionTree) (rest : List Word) → Fits e → goes_on rest ≡ false → expression (expression_words e ++ rest) ≡ Some (e, rest)) where
   declaration_complete : (d : DeclarationTree) → FitsDeclaration d → IsRead next_declaration declaration_before d
+  unfolding block
   declaration_complete (Constant at p initial) fits rest =
       ap (λ r. Some (r >>= λ n. assigned_at n.1 >>= λ i. Some (Constant at n.0 i.0, i.1))) (typed_complete p (assigned_before initial rest))
       ∙ ap (λ r. Some (r >>= λ i. Some (Constant at p i.0, i.1))) (assigned_complete complete initial rest fits)

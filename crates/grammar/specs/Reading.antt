@@ -57,7 +57,8 @@ abbrev pub text_at : Reader (List ℕ)
 text_at (Text text ∷ rest) = Some (text, rest)
 text_at _ = None
 
-abbrev pub expression : Reader ExpressionTree
+-- (unfolded only where asked for, since 64 readers stand in each other)
+unfoldable pub expression : Reader ExpressionTree
 expression = expression_at limit
 
 abbrev pub type_at : Reader DeclaredType
@@ -257,7 +258,8 @@ abbrev pub block_at : ℕ → Reader BlockTree
 block_at zero = block_by (action_by no_block)
 block_at (suc depth) = block_by (action_by (block_at depth))
 
-abbrev pub block : Reader BlockTree
+-- (unfolded only where asked for)
+unfoldable pub block : Reader BlockTree
 block = block_at limit
 
 -- the parameter behind a comma

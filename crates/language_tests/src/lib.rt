@@ -12,4 +12,6 @@ mod nesting;
 #[cfg(test)]
 mod numbers;
 #[cfg(test)]
+mod sources;
+#[cfg(test)]
 mod token_lists;

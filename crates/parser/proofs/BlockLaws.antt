@@ -1,0 +1,69 @@
+-- The trees of statements that hold blocks, and what reading statements comes to by their first word.
+use Rattle.std.proofs.Common.{◌≡◌, ◌∙◌, ℕ, zero, suc, true, false, List, [], ◌∷◌, map, Option, Some, None, ap, refl, rules}
+use Rattle.std.specs.Global.{Vec}
+use Rattle.lexer.specs.declared.keyword.Keyword.{Keyword}
+use Rattle.lexer.specs.declared.keyword.Keyword.TheVariants as keyword
+use Rattle.expressions.specs.Words.{Word, Identifier, keyword_word}
+use Rattle.expressions.specs.Reading.{Reader, ◌>>=◌}
+use Rattle.expressions.specs.Trees.{ExpressionTree}
+use Rattle.grammar.specs.declared.statement.Statement.{Statement}
+use Rattle.grammar.specs.declared.statement.Action.{Row_of-Statement, end_of-Statement, more_of-Statement, items-the_row-Statement}
+use Rattle.grammar.specs.declared.statement.Action.TheViews as views
+use Rattle.grammar.specs.declared.statement.Action.TheViews.{the_lemmas}
+use Rattle.expressions.proofs.Loops.{Goes, goes_end, goes_fails}
+use Rattle.grammar.specs.Trees.{ActionTree, While, For, If, IfElse, BlockTree, Then}
+use Rattle.grammar.specs.Views.{action_tree, rows_tree, block_tree, statement_of}
+use Rattle.grammar.specs.Reading.{action_by, block_by, block_at, block_from, next_statement, statement_by, begins_statement, where_begins}
+use Rattle.parser.specs.Blocks.{action_at, block_in, opening_of, opened_by}
+
+pub rows_tree-items : {m : _} (rows : Row_of-Statement m) → rows_tree rows ≡ block_tree (items-the_row-Statement m rows)
+rows_tree-items end_of-Statement = refl
+rows_tree-items (more_of-Statement label action rest) = ap (Then label (action_tree action)) (rows_tree-items rest)
+
+pub action_tree-While : (at : ℕ) (test : ExpressionTree) (body : Vec Statement) → action_tree (views.While at test body) ≡ While at test (block_tree body.items)
+action_tree-While at test body = search (rules, the_lemmas, rows_tree-items)
+
+pub action_tree-For : (at : ℕ) (name : Identifier) (first last : ExpressionTree) (body : Vec Statement)
+    → action_tree (views.For at name first last body) ≡ For at name first last (block_tree body.items)
+action_tree-For at name first last body = search (rules, the_lemmas, rows_tree-items)
+
+pub action_tree-If : (at : ℕ) (test : ExpressionTree) (body : Vec Statement) → action_tree (views.If at test body) ≡ If at test (block_tree body.items)
+action_tree-If at test body = search (rules, the_lemmas, rows_tree-items)
+
+pub action_tree-IfElse : (at : ℕ) (test : ExpressionTree) (body other : Vec Statement)
+    → action_tree (views.IfElse at test body other) ≡ IfElse at test (block_tree body.items) (block_tree other.items)
+action_tree-IfElse at test body other = search (rules, the_lemmas, rows_tree-items)
+
+-- the block of statements in order
+pub block_from-map : (items : List Statement) → block_from (map statement_of items) ≡ block_tree items
+block_from-map [] = refl
+block_from-map (s ∷ items) = ap (Then s.label (action_tree s.action)) (block_from-map items)
+
+pub block_at-is : (depth : ℕ) (ws : List Word) → block_at depth ws ≡ block_by (action_at depth) ws
+block_at-is zero ws = refl
+block_at-is (suc depth) ws = refl
+
+pub action_by_keyword : (block : Reader BlockTree) (word : Keyword) (at : ℕ) (rest : List Word)
+    → action_by block (keyword_word word at ∷ rest) ≡ (opening_of word >>= λ o. opened_by block o at rest)
+action_by_keyword block keyword.Var at rest = refl
+action_by_keyword block _ at rest = refl
+
+pub block_in-deeper : (depth inside : ℕ) (ws : List Word) → depth ≡ suc inside → block_in depth ws ≡ block_at inside ws
+block_in-deeper depth inside ws is = ap (λ d. block_in d ws) is
+
+module _ (depth : ℕ) {start : List Word} {front : List (Option Identifier × ActionTree)} {left : List Word} where
+  pub block_ends : Goes (next_statement (action_at depth)) start front left → begins_statement left ≡ false → block_at depth start ≡ Some (block_from front, left)
+  block_ends goes begins =
+      block_at-is depth start
+      ∙ ap (λ r. r >>= λ b. Some (block_from b.0, b.1)) (goes_end goes (ap (λ b. where_begins b (statement_by (action_at depth) left)) begins))
+
+  pub block_fails : Goes (next_statement (action_at depth)) start front left → begins_statement left ≡ true → statement_by (action_at depth) left ≡ None → block_at depth start ≡ None
+  block_fails goes begins none =
+      block_at-is depth start
+      ∙ ap (λ r. r >>= λ b. Some (block_from b.0, b.1))
+      (goes_fails goes (ap (λ b. where_begins b (statement_by (action_at depth) left)) begins ∙ ap (λ (r : Option ((Option Identifier × ActionTree) × List Word)). Some r) none))
+
+pub next_is : (depth : ℕ) (left rest : List Word) (s : Option Identifier × ActionTree) → begins_statement left ≡ true → statement_by (action_at depth) left ≡ Some (s, rest)
+    → next_statement (action_at depth) left ≡ Some (Some (s, rest))
+next_is depth left rest s begins is =
+    ap (λ b. where_begins b (statement_by (action_at depth) left)) begins ∙ ap (λ (r : Option ((Option Identifier × ActionTree) × List Word)). Some r) is

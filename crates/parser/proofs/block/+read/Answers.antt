@@ -1,0 +1,31 @@
+use Rattle.std.proofs.Common.{sym, ◌∙◌, ap, Some, ◌≡◌, false}
+use Rattle.std.proofs.lemmas.Result.{err_from_is_err_and}
+use Rattle.expressions.specs.Outcome.{words}
+use Rattle.expressions.proofs.Faults.{passed_on}
+use Rattle.grammar.specs.Views.{statement_of}
+use Rattle.grammar.specs.Reading.{begins_statement}
+use Rattle.parser.specs.Views.{statements_tree}
+use Rattle.parser.proofs.BlockLaws.{block_ends, block_fails, next_is, block_from-map}
+use Rattle.parser.proofs.Lists.{list_start, list_step}
+use Rattle.parser.proofs.block.+read.Goals as goal
+
+pub block-statements-init : goal.block-statements-init
+block-statements-init t c = list_start statement_of c.new-statements.result.items (words c.args.cursor) c.new-statements.ensures.items
+
+pub block-statements-preserved : goal.block-statements-preserved
+block-statements-preserved t c =
+    list_step statement_of c.statements.statements.items _ c.in_ok-statement.statement (words c.in_ok-statement.behind) c.in_ok-push.ensures.items c.statements.invariant
+    (next_is c.args.depth (words c.statements.left) (words c.in_ok-statement.behind) (statement_of c.in_ok-statement.statement)
+    (sym c.begins_statement.ensures ∙ c.statements-test.true) c.in_ok-statement.ensures.reads)
+    c.in_ok-statement.ensures.shorter
+
+pub block-returns-in_err-statement-clause-reads : goal.block-returns-in_err-statement-clause-reads
+block-returns-in_err-statement-clause-reads t c =
+    let p = err_from_is_err_and c.from_residual.result c.from_residual.ensures.1 in
+    rw (p.1, p.2) (passed_on statement_of statements_tree c.in_err-statement.field-0.0 _ _ c.in_err-statement.ensures.reads
+    (λ none. block_fails c.args.depth c.statements.invariant (sym c.begins_statement.ensures ∙ c.statements-test.true) none))
+
+pub block-returns-clause-reads : goal.block-returns-clause-reads
+block-returns-clause-reads t c =
+    let begins : begins_statement (words c.statements.left) ≡ false = sym c.begins_statement.ensures ∙ c.statements-test.false in
+    block_ends c.args.depth c.statements.invariant begins ∙ ap (λ b. Some (b, words c.statements.left)) (block_from-map c.statements.statements.items)

@@ -1,0 +1,40 @@
+use Rattle.std.proofs.Common.{◌+◌, ◌*◌, length, map}
+use Rattle.expressions.specs.Outcome.{words}
+use Rattle.expressions.proofs.Loops.{Goes}
+use Rattle.grammar.specs.Reading.{next_statement}
+use Rattle.grammar.specs.Views.{statement_of}
+use Rattle.parser.specs.Blocks.{action_at}
+use Rattle.parser.proofs.block.+read.Given as goal
+
+abbrev pub decreases-inner : goal.decreases-inner
+decreases-inner l = 7 * l.depth + 0
+
+abbrev pub decreases-otherwise : goal.decreases-otherwise
+decreases-otherwise l = 7 * l.depth + 1
+
+abbrev pub decreases-while_loop : goal.decreases-while_loop
+decreases-while_loop l = 7 * l.depth + 1
+
+abbrev pub decreases-for_loop : goal.decreases-for_loop
+decreases-for_loop l = 7 * l.depth + 1
+
+abbrev pub decreases-choice : goal.decreases-choice
+decreases-choice l = 7 * l.depth + 2
+
+abbrev pub decreases-opened : goal.decreases-opened
+decreases-opened l = 7 * l.depth + 3
+
+abbrev pub decreases-action : goal.decreases-action
+decreases-action l = 7 * l.depth + 4
+
+abbrev pub decreases-statement : goal.decreases-statement
+decreases-statement l = 7 * l.depth + 5
+
+abbrev pub decreases-block : goal.decreases-block
+decreases-block l = 7 * l.depth + 6
+
+abbrev pub invariant-block-statements : goal.invariant-block-statements
+invariant-block-statements l = Goes (next_statement (action_at l.depth)) (words l.cursor) (map statement_of l.statements.items) (words l.left)
+
+abbrev pub decreases-block-statements : goal.decreases-block-statements
+decreases-block-statements l = length (words l.left)

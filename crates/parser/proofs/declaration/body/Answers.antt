@@ -1,0 +1,7 @@
+use Rattle.grammar.specs.Reading.{block}
+use Rattle.parser.proofs.declaration.body.Goals as goal
+
+-- what may be open at once is how many blocks may stand in each other
+pub returns-clause-reads : goal.returns-clause-reads
+unfolding block
+returns-clause-reads c = c.block.ensures.reads

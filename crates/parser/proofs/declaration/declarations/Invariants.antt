@@ -1,0 +1,12 @@
+use Rattle.std.proofs.Common.{length, map}
+use Rattle.expressions.specs.Outcome.{words}
+use Rattle.expressions.proofs.Loops.{Goes}
+use Rattle.grammar.specs.Reading.{next_declaration}
+use Rattle.grammar.specs.Views.{declaration_tree}
+use Rattle.parser.proofs.declaration.declarations.Given as goal
+
+abbrev pub invariant-declarations : goal.invariant-declarations
+invariant-declarations l = Goes next_declaration (words l.cursor) (map declaration_tree l.declarations.items) (words l.left)
+
+abbrev pub decreases-declarations : goal.decreases-declarations
+decreases-declarations l = length (words l.left)

@@ -1,0 +1,31 @@
+use Rattle.std.proofs.Common.{ap}
+use Rattle.std.proofs.lemmas.Result.{err_from_is_err_and}
+use Rattle.lexer.specs.declared.symbol.Symbol.TheVariants as symbol
+use Rattle.expressions.specs.Words.{Mark}
+use Rattle.expressions.specs.Outcome.{words}
+use Rattle.expressions.specs.Reading.{behind_by}
+use Rattle.expressions.proofs.Faults.{passed_on}
+use Rattle.expressions.proofs.Loops.{behind_found, behind_fails, below}
+use Rattle.grammar.specs.Reading.{typed_at, after_word}
+use Rattle.grammar.specs.Views.{parameter_tree}
+use Rattle.parser.specs.Views.{each}
+use Rattle.parser.proofs.Lists.{follow_start, follow_step, follow_end, follow_fails}
+use Rattle.parser.proofs.declaration.more_parameters.Goals as goal
+
+pub parameters-init : goal.parameters-init
+parameters-init c = follow_start parameter_tree c.new-parameters.result.items _ c.args.first (words c.args.cursor) c.new-parameters.ensures.items c.in_ok-push.ensures.items
+
+pub parameters-preserved : goal.parameters-preserved
+parameters-preserved c =
+    follow_step parameter_tree c.parameters.parameters.items _ c.in_ok-parameter.parameter (words c.in_ok-parameter.behind) c.in_ok-push-2.ensures.items c.parameters.invariant
+    (behind_found typed_at (words c.in-Some.after) (words c.in_ok-parameter.behind) (parameter_tree c.in_ok-parameter.parameter) (after_word (Mark symbol.Comma) (words c.parameters.left)) c.in-Some.ensures.behind c.in_ok-parameter.ensures.reads)
+    (below _ _ _ c.in_ok-parameter.ensures.shorter c.in-Some.ensures.shorter)
+
+pub returns-in_err-parameter-clause-reads : goal.returns-in_err-parameter-clause-reads
+returns-in_err-parameter-clause-reads c =
+    let p = err_from_is_err_and c.from_residual-in_err-parameter.result c.from_residual-in_err-parameter.ensures.1 in
+    rw (p.1, p.2) (passed_on parameter_tree (each parameter_tree) c.in_err-parameter.field-0.0 _ _ c.in_err-parameter.ensures.reads
+    (λ none. follow_fails c.parameters.invariant (behind_fails typed_at (words c.in-Some.after) (after_word (Mark symbol.Comma) (words c.parameters.left)) c.in-Some.ensures.behind none)))
+
+pub returns-clause-reads : goal.returns-clause-reads
+returns-clause-reads c = follow_end c.parameters.invariant (ap (behind_by typed_at) c.in_default.ensures.behind)

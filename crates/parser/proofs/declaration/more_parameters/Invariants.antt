@@ -1,0 +1,12 @@
+use Rattle.std.proofs.Common.{length, map}
+use Rattle.expressions.specs.Outcome.{words}
+use Rattle.grammar.specs.Reading.{next_parameter}
+use Rattle.grammar.specs.Views.{parameter_tree}
+use Rattle.parser.proofs.Lists.{Follow}
+use Rattle.parser.proofs.declaration.more_parameters.Given as goal
+
+abbrev pub invariant-parameters : goal.invariant-parameters
+invariant-parameters l = Follow next_parameter (parameter_tree l.fn.first) (words l.cursor) (map parameter_tree l.parameters.items) (words l.left)
+
+abbrev pub decreases-parameters : goal.decreases-parameters
+decreases-parameters l = length (words l.left)

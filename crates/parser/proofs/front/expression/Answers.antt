@@ -1,0 +1,7 @@
+use Rattle.grammar.specs.Reading.{expression}
+use Rattle.parser.proofs.front.expression.Goals as goal
+
+-- what may be open at once is what an expression may hold in itself
+pub returns-clause-reads : goal.returns-clause-reads
+unfolding expression
+returns-clause-reads c = c.read_expression.ensures.reads

@@ -1,0 +1,31 @@
+use Rattle.std.proofs.Common.{ap}
+use Rattle.std.proofs.lemmas.Result.{err_from_is_err_and}
+use Rattle.lexer.specs.declared.symbol.Symbol.TheVariants as symbol
+use Rattle.expressions.specs.Words.{Mark}
+use Rattle.expressions.specs.Outcome.{words}
+use Rattle.expressions.specs.Reading.{behind_by}
+use Rattle.expressions.proofs.Faults.{passed_on}
+use Rattle.expressions.proofs.Loops.{goes_end, goes_fails, behind_found, behind_fails}
+use Rattle.grammar.specs.Reading.{text_at, after_word}
+use Rattle.grammar.specs.Views.{text_of}
+use Rattle.parser.specs.Views.{each}
+use Rattle.parser.proofs.Lists.{list_start, list_step, below_strictly}
+use Rattle.parser.proofs.schedule.more_texts.Goals as goal
+
+pub texts-init : goal.texts-init
+texts-init c = list_start text_of c.new-texts.result.items (words c.args.cursor) c.new-texts.ensures.items
+
+pub texts-preserved : goal.texts-preserved
+texts-preserved c =
+    list_step text_of c.texts.texts.items _ c.in_ok-text.text (words c.in_ok-text.behind) c.in_ok-push.ensures.items c.texts.invariant
+    (behind_found text_at (words c.in-Some.after) (words c.in_ok-text.behind) (text_of c.in_ok-text.text) (after_word (Mark symbol.Comma) (words c.texts.left)) c.in-Some.ensures.behind c.in_ok-text.ensures.reads)
+    (below_strictly _ _ _ c.in_ok-text.ensures.shorter c.in-Some.ensures.shorter)
+
+pub returns-in_err-text-clause-reads : goal.returns-in_err-text-clause-reads
+returns-in_err-text-clause-reads c =
+    let p = err_from_is_err_and c.from_residual.result c.from_residual.ensures.1 in
+    rw (p.1, p.2) (passed_on text_of (each text_of) c.in_err-text.field-0.0 _ _ c.in_err-text.ensures.reads
+    (λ none. goes_fails c.texts.invariant (behind_fails text_at (words c.in-Some.after) (after_word (Mark symbol.Comma) (words c.texts.left)) c.in-Some.ensures.behind none)))
+
+pub returns-clause-reads : goal.returns-clause-reads
+returns-clause-reads c = goes_end c.texts.invariant (ap (behind_by text_at) c.in_default.ensures.behind)

@@ -1,0 +1,47 @@
+-- What statements are read by their first word, and blocks by how deep they may stand in each other.
+use Rattle.std.specs.Prelude.{ℕ, zero, suc, [], ◌∷◌, Option, Some, None}
+use Rattle.lexer.specs.declared.keyword.Keyword.{Keyword}
+use Rattle.lexer.specs.declared.keyword.Keyword.TheVariants as keyword
+use Rattle.lexer.specs.declared.symbol.Symbol.TheVariants as symbol
+use Rattle.expressions.specs.Words.{Reserved, Mark}
+use Rattle.expressions.specs.Reading.{Reader, ◌>>=◌}
+use Rattle.grammar.specs.Trees.{ActionTree, Declare, While, For, Print, BlockTree}
+use Rattle.grammar.specs.Reading.{expression, typed_at, assigned_at, ended_at, name_at, after_word, closed, else_by, no_block, block_at, action_by}
+use Rattle.parser.specs.declared.block.Opening.{Opening}
+use Rattle.parser.specs.declared.block.Opening.TheVariants as opening
+
+-- a block in a statement, where so many more may stand in each other
+abbrev pub block_in : ℕ → Reader BlockTree
+block_in zero = no_block
+block_in (suc depth) = block_at depth
+
+abbrev pub action_at : ℕ → Reader ActionTree
+action_at depth = action_by (block_in depth)
+
+-- what begins with a keyword
+abbrev pub opening_of : Keyword → Option Opening
+opening_of keyword.Var = Some opening.Var
+opening_of keyword.While = Some opening.While
+opening_of keyword.For = Some opening.For
+opening_of keyword.If = Some opening.If
+opening_of keyword.Print = Some opening.Print
+opening_of _ = None
+
+-- what stands behind `var`
+abbrev pub declared_at : ℕ → Reader ActionTree
+declared_at at ws = typed_at ws >>= λ n. assigned_at n.1 >>= λ i. Some (Declare at n.0 i.0, i.1)
+
+-- what stands behind `print`
+abbrev pub printed_at : ℕ → Reader ActionTree
+printed_at at ws = ended_at ws >>= λ e. Some (Print at e.0, e.1)
+
+-- what stands behind that keyword
+abbrev pub opened_by : Reader BlockTree → Opening → ℕ → Reader ActionTree
+opened_by block opening.Var at ws = declared_at at ws
+opened_by block opening.While at ws = expression ws >>= λ e. block e.1 >>= λ b. closed (Reserved keyword.End ∷ []) (While at e.0 b.0, b.1)
+opened_by block opening.For at ws =
+    name_at ws >>= λ n. after_word (Reserved keyword.In) n.1 >>= λ a. expression a >>= λ e.
+    after_word (Mark symbol.Colon) e.1 >>= λ c. expression c >>= λ f. block f.1 >>= λ b.
+    closed (Reserved keyword.End ∷ []) (For at n.0 e.0 f.0 b.0, b.1)
+opened_by block opening.If at ws = expression ws >>= λ e. block e.1 >>= λ b. else_by block at e.0 b (after_word (Reserved keyword.Else) b.1)
+opened_by block opening.Print at ws = printed_at at ws

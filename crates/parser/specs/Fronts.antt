@@ -1,0 +1,85 @@
+-- What the first words of a piece of a source decide.
+use Rattle.std.specs.Prelude.{Bool, true, false, List, [], ◌∷◌, ◌++◌, Option, Some, None}
+use Rattle.lexer.specs.declared.keyword.Keyword.{Keyword}
+use Rattle.lexer.specs.declared.keyword.Keyword.TheVariants as keyword
+use Rattle.lexer.specs.declared.symbol.Symbol.TheVariants as symbol
+use Rattle.expressions.specs.Words.{Word, Identifier, Name, Reserved, Mark}
+use Rattle.expressions.specs.Reading.{Reader, ◌>>=◌}
+use Rattle.grammar.specs.declared.declaration.DeclaredType.{DeclaredType}
+use Rattle.grammar.specs.declared.declaration.DeclaredType.TheVariants as type
+use Rattle.grammar.specs.declared.schedule.Setting.{Setting}
+use Rattle.grammar.specs.declared.schedule.Setting.TheVariants as setting
+use Rattle.grammar.specs.Trees.{InitialTree, NewSet, Load, Vertices, OutDegrees, Filter}
+use Rattle.grammar.specs.Reading.{in_braces, in_parentheses, after_words, closed, number_at, argument_at, method_at, modified_at}
+
+-- the type that begins with a keyword
+abbrev pub begun_type : Keyword → Option DeclaredType
+begun_type keyword.Int = Some type.Int
+begun_type keyword.Bool = Some type.Bool
+begun_type keyword.Vertex = Some type.Vertex
+begun_type keyword.VertexSet = Some type.VertexSet
+begun_type keyword.Vector = Some type.Vector
+begun_type keyword.EdgeSet = Some type.EdgeSet
+begun_type _ = None
+
+-- the words of a type behind its first
+abbrev pub words_behind : DeclaredType → List Word
+words_behind type.Int = []
+words_behind type.Bool = []
+words_behind type.Vertex = []
+words_behind type.VertexSet = in_braces (Reserved keyword.Vertex)
+words_behind type.Vector = in_braces (Reserved keyword.Vertex) ++ in_parentheses (Reserved keyword.Int ∷ [])
+words_behind type.EdgeSet =
+    in_braces (Reserved keyword.Edge)
+    ++ in_parentheses (Reserved keyword.Vertex ∷ Mark symbol.Comma ∷ Reserved keyword.Vertex ∷ [])
+
+-- whether the method is one of an initial value that is no expression, or begins one of its ends
+abbrev pub is_called : Option Keyword → Bool
+is_called (Some keyword.GetVertices) = true
+is_called (Some keyword.GetOutDegrees) = true
+is_called (Some keyword.Filter) = true
+is_called (Some keyword.From) = true
+is_called (Some keyword.To) = true
+is_called (Some keyword.ApplyModified) = true
+is_called _ = false
+
+-- whether such a method is the first word
+abbrev pub called_word : List Word → Bool
+called_word (Reserved word ∷ rest) = is_called (Some word)
+called_word _ = false
+
+-- whether a name is the first word, and then a dot and such a method
+abbrev pub begins_call : List Word → Bool
+begins_call (Name name ∷ rest) = is_called (method_at rest)
+begins_call _ = false
+
+-- an initial value that is no expression, behind its name
+abbrev pub call_by : Identifier → List Word → Option Keyword → Option (InitialTree × List Word)
+call_by name ws (Some keyword.GetVertices) =
+    closed (Mark symbol.Dot ∷ Reserved keyword.GetVertices ∷ in_parentheses []) (Vertices name, ws)
+call_by name ws (Some keyword.GetOutDegrees) =
+    closed (Mark symbol.Dot ∷ Reserved keyword.GetOutDegrees ∷ in_parentheses []) (OutDegrees name, ws)
+call_by name ws (Some keyword.Filter) =
+    after_words (Mark symbol.Dot ∷ Reserved keyword.Filter ∷ []) ws >>= λ a. argument_at a >>= λ n. Some (Filter name n.0, n.1)
+call_by name ws _ = modified_at name ws
+
+-- what stands behind `new`
+abbrev pub new_set_at : Reader InitialTree
+new_set_at ws =
+    after_words (Reserved keyword.VertexSet ∷ (in_braces (Reserved keyword.Vertex) ++ Mark symbol.OpenParenthesis ∷ [])) ws >>= λ a.
+    number_at a >>= λ n. closed (Mark symbol.CloseParenthesis ∷ []) (NewSet n.0, n.1)
+
+-- what stands behind `load`
+abbrev pub load_at : Reader InitialTree
+load_at ws =
+    after_words (Mark symbol.OpenParenthesis ∷ Reserved keyword.Argv ∷ Mark symbol.OpenBracket ∷ []) ws >>= λ a.
+    number_at a >>= λ n. closed (Mark symbol.CloseBracket ∷ Mark symbol.CloseParenthesis ∷ []) (Load n.0, n.1)
+
+-- the schedule call whose name is a keyword
+abbrev pub begun_setting : Keyword → Option Setting
+begun_setting keyword.ConfigApplyDirection = Some setting.Direction
+begun_setting keyword.ConfigApplyParallelization = Some setting.Parallelization
+begun_setting keyword.ConfigApplyDenseVertexSet = Some setting.DenseVertexSet
+begun_setting keyword.FuseApplyFunctions = Some setting.FuseFunctions
+begun_setting keyword.FuseFields = Some setting.FuseFields
+begun_setting _ = None

@@ -1,0 +1,6 @@
+pub mod Blocks
+pub mod Declarations
+pub mod Fronts
+pub mod Outcome
+pub mod Refusal
+pub mod Views

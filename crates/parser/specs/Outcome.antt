@@ -1,0 +1,57 @@
+-- What parsing a text answers.
+use Rattle.std.specs.Prelude.{◌≡◌, ◌≢◌, ℕ, List, Option, Some, None, Result, Ok, Err}
+use Rattle.lexer.specs.declared.token.Token.{Token}
+use Rattle.lexer.specs.declared.error.LexError.TheVariants as lexer
+use Rattle.lexer.specs.Tokens.{HasTokens, Reads}
+use Rattle.expressions.specs.declared.error.SyntaxError.{SyntaxError}
+use Rattle.expressions.specs.declared.error.SyntaxError.TheVariants as syntax
+use Rattle.expressions.specs.Words.{words_of}
+use Rattle.grammar.specs.declared.declaration.Source.{Source}
+use Rattle.grammar.specs.Trees.{SourceTree}
+use Rattle.grammar.specs.Views.{source_tree}
+use Rattle.grammar.specs.Spelling.{source_words}
+use Rattle.grammar.specs.Nesting.{limit, StaysWithin, PassesAt}
+use Rattle.parser.specs.declared.error.ParseError.{ParseError}
+use Rattle.parser.specs.declared.error.ParseError.TheVariants.{BadByte, NumberTooLarge, UnfinishedText, Unexpected, TooDeep, NoMemory}
+
+-- the text has tokens, which nest within the limit and are those of this tree and of no other
+pub record IsSource (text : List ℕ) (source : SourceTree) : Type 0 where
+  pub tokens : List Token
+  pub reads : HasTokens text tokens
+  pub within : StaysWithin limit 0 (words_of text tokens)
+  pub spelled : words_of text tokens ≡ source_words source
+  pub only : (other : SourceTree) → words_of text tokens ≡ source_words other → other ≡ source
+
+-- the text has tokens, which nest within the limit and are those of no tree
+pub record IsNoSource (text : List ℕ) : Type 0 where
+  pub tokens : List Token
+  pub reads : HasTokens text tokens
+  pub within : StaysWithin limit 0 (words_of text tokens)
+  pub none : (source : SourceTree) → words_of text tokens ≢ source_words source
+
+-- the text has tokens, and at this offset stands the first at which they nest deeper than the limit
+pub record IsTooDeep (text : List ℕ) (at : ℕ) : Type 0 where
+  pub tokens : List Token
+  pub reads : HasTokens text tokens
+  pub passes : PassesAt text 0 tokens at
+
+-- The answer is right for the text. Nothing is said where memory runs out.
+abbrev pub Answers : List ℕ → Result SourceTree ParseError → Type 0
+Answers text (Ok source) = IsSource text source
+Answers text (Err (BadByte at)) = Reads text (Err (lexer.BadByte at))
+Answers text (Err (NumberTooLarge at)) = Reads text (Err (lexer.NumberTooLarge at))
+Answers text (Err (UnfinishedText at)) = Reads text (Err (lexer.UnfinishedText at))
+Answers text (Err (Unexpected at)) = IsNoSource text
+Answers text (Err (TooDeep at)) = IsTooDeep text at
+Answers text (Err NoMemory) = Unit {0}
+
+-- the tree of the source, or the error
+abbrev pub tree_or_error : Result Source ParseError → Result SourceTree ParseError
+tree_or_error (Ok source) = Ok (source_tree source)
+tree_or_error (Err error) = Err error
+
+-- the source is what the reading function gives
+abbrev pub GivesSource : Result Source SyntaxError → Option SourceTree → Type 0
+GivesSource (Ok source) read = read ≡ Some (source_tree source)
+GivesSource (Err (syntax.Unexpected at)) read = read ≡ None
+GivesSource (Err syntax.NoMemory) read = Unit {0}

@@ -1,0 +1,35 @@
+-- The numbers and offsets of refusals, and what becomes of those of the lexer and of the reader of expressions.
+use Rattle.std.specs.Prelude.{ℕ, Option, Some, None}
+use Rattle.lexer.specs.declared.error.LexError.{LexError}
+use Rattle.lexer.specs.declared.error.LexError.TheVariants as lexer
+use Rattle.expressions.specs.declared.error.SyntaxError.{SyntaxError}
+use Rattle.expressions.specs.declared.error.SyntaxError.TheVariants as syntax
+use Rattle.parser.specs.declared.error.ParseError.{ParseError}
+use Rattle.parser.specs.declared.error.ParseError.TheVariants.{BadByte, NumberTooLarge, UnfinishedText, Unexpected, TooDeep, NoMemory}
+
+abbrev pub number_of : ParseError → ℕ
+number_of (BadByte at) = 201
+number_of (NumberTooLarge at) = 202
+number_of (UnfinishedText at) = 203
+number_of (Unexpected at) = 211
+number_of (TooDeep at) = 212
+number_of NoMemory = 900
+
+-- where the fault stands
+abbrev pub offset_of : ParseError → Option ℕ
+offset_of (BadByte at) = Some at
+offset_of (NumberTooLarge at) = Some at
+offset_of (UnfinishedText at) = Some at
+offset_of (Unexpected at) = Some at
+offset_of (TooDeep at) = Some at
+offset_of NoMemory = None
+
+abbrev pub of_lexer : LexError → ParseError
+of_lexer (lexer.BadByte at) = BadByte at
+of_lexer (lexer.NumberTooLarge at) = NumberTooLarge at
+of_lexer (lexer.UnfinishedText at) = UnfinishedText at
+of_lexer lexer.NoMemory = NoMemory
+
+abbrev pub of_syntax : SyntaxError → ParseError
+of_syntax (syntax.Unexpected at) = Unexpected at
+of_syntax syntax.NoMemory = NoMemory

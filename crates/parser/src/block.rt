@@ -1,0 +1,315 @@
+//! Blocks, and the statements that hold blocks.
+ghost use Rattle.std.specs.Prelude.{◌≡◌, ◌<◌, ◌≤◌, length, IfOk};
+ghost use Rattle.expressions.specs.Words.{Reserved};
+ghost use Rattle.expressions.specs.Outcome.{words, Gives};
+ghost use Rattle.grammar.specs.Trees.{While, For, If, IfElse};
+ghost use Rattle.grammar.specs.Reading.{block_at, statement_by, begins_statement as begins_statement_at, else_by, after_word};
+ghost use Rattle.grammar.specs.Views.{action_tree, statement_of, block_tree};
+ghost use Rattle.parser.specs.Blocks.{action_at, block_in, declared_at, printed_at, opening_of, opened_by};
+ghost use Rattle.parser.specs.Views.{statements_tree};
+
+use crate::front::{after_reserved, expect_mark, expect_reserved, expression, label, name};
+use crate::initial::assigned;
+use crate::statement::{ended, named};
+use crate::types::typed;
+use expressions::{Cursor, Expression, Name, SyntaxError};
+use grammar::{Action, Statement};
+use lexer::{Keyword, Symbol, TokenKind};
+use std::alloc::Global;
+
+/// What a statement begins with that begins with a keyword.
+#[derive(Clone, Copy, Debug, PartialEq, Eq)]
+pub(crate) enum Opening {
+    Var,
+    While,
+    For,
+    If,
+    Print,
+}
+
+/// The statements at the front, as many as follow one another, and the place behind them. `depth` is how
+/// many blocks may stand in each other in these. No call goes deeper than `depth` blocks.
+#[cycle(read)]
+pub(crate) fn block(
+    alloc: Global,
+    cursor: Cursor<'_>,
+    depth: u32,
+) -> Result<(Vec<Statement>, Cursor<'_>), SyntaxError>
+    ensures reads { Gives statements_tree result (block_at depth (words cursor.entry)) }
+    ensures shorter { IfOk result (λ x. length (words x.1) ≤ length (words cursor.entry)) }
+{
+    let mut statements = Vec::new(alloc);
+    let mut left = cursor;
+    'statements: while begins_statement(left) {
+        let (statement, behind) = statement(alloc, left, depth)?;
+        statements.push(statement)?;
+        left = behind;
+    }
+    Ok((statements, left))
+}
+
+/// Whether a statement begins at the front.
+fn begins_statement(cursor: Cursor<'_>) -> bool
+    ensures { result ≡ begins_statement_at (words cursor.entry) }
+{
+    let Some((token, _)) = cursor.next() else {
+        return false;
+    };
+    match token.kind {
+        TokenKind::Label | TokenKind::Name => true,
+        TokenKind::Keyword(keyword) => begun_by(keyword).is_some(),
+        _ => false,
+    }
+}
+
+/// What begins with a keyword.
+fn begun_by(keyword: Keyword) -> Option<Opening>
+    ensures { result ≡ opening_of keyword }
+{
+    match keyword {
+        Keyword::Var => Some(Opening::Var),
+        Keyword::While => Some(Opening::While),
+        Keyword::For => Some(Opening::For),
+        Keyword::If => Some(Opening::If),
+        Keyword::Print => Some(Opening::Print),
+        _ => None,
+    }
+}
+
+/// A statement with its label, where it has one.
+#[cycle(read)]
+fn statement(
+    alloc: Global,
+    cursor: Cursor<'_>,
+    depth: u32,
+) -> Result<(Statement, Cursor<'_>), SyntaxError>
+    ensures reads { Gives statement_of result (statement_by (action_at depth) (words cursor.entry)) }
+    ensures shorter { IfOk result (λ x. length (words x.1) < length (words cursor.entry)) }
+{
+    let (label, rest) = label(alloc, cursor)?;
+    let (action, behind) = action(alloc, rest, depth)?;
+    Ok((Statement { label, action }, behind))
+}
+
+/// What a statement does.
+#[cycle(read)]
+fn action(
+    alloc: Global,
+    cursor: Cursor<'_>,
+    depth: u32,
+) -> Result<(Action, Cursor<'_>), SyntaxError>
+    ensures reads { Gives action_tree result (action_at depth (words cursor.entry)) }
+    ensures shorter { IfOk result (λ x. length (words x.1) < length (words cursor.entry)) }
+{
+    let Some((token, after)) = cursor.next() else {
+        return Err(cursor.unexpected());
+    };
+    let at = token.span.start;
+    match token.kind {
+        TokenKind::Name => {
+            let name = Name::of(alloc, cursor.bytes(token.span), at)?;
+            named(alloc, name, after)
+        }
+        TokenKind::Keyword(keyword) => match begun_by(keyword) {
+            Some(opening) => opened(alloc, opening, at, after, depth),
+            None => Err(cursor.unexpected()),
+        },
+        _ => Err(cursor.unexpected()),
+    }
+}
+
+/// What stands behind the keyword at this offset with which a statement begins.
+#[cycle(read)]
+fn opened(
+    alloc: Global,
+    opening: Opening,
+    at: usize,
+    cursor: Cursor<'_>,
+    depth: u32,
+) -> Result<(Action, Cursor<'_>), SyntaxError>
+    ensures reads { Gives action_tree result (opened_by (block_in depth) opening at (words cursor.entry)) }
+    ensures shorter { IfOk result (λ x. length (words x.1) ≤ length (words cursor.entry)) }
+{
+    match opening {
+        Opening::Var => declared(alloc, at, cursor),
+        Opening::While => while_loop(alloc, at, cursor, depth),
+        Opening::For => for_loop(alloc, at, cursor, depth),
+        Opening::If => choice(alloc, at, cursor, depth),
+        Opening::Print => printed(alloc, at, cursor),
+    }
+}
+
+/// What stands behind `var`.
+fn declared(
+    alloc: Global,
+    at: usize,
+    cursor: Cursor<'_>,
+) -> Result<(Action, Cursor<'_>), SyntaxError>
+    ensures reads { Gives action_tree result (declared_at at (words cursor.entry)) }
+    ensures shorter { IfOk result (λ x. length (words x.1) ≤ length (words cursor.entry)) }
+{
+    let (variable, assign) = typed(alloc, cursor)?;
+    let (initial, behind) = assigned(alloc, assign)?;
+    let action = Action::Declare {
+        at,
+        variable,
+        initial,
+    };
+    Ok((action, behind))
+}
+
+/// What stands behind `print`.
+fn printed(
+    alloc: Global,
+    at: usize,
+    cursor: Cursor<'_>,
+) -> Result<(Action, Cursor<'_>), SyntaxError>
+    ensures reads { Gives action_tree result (printed_at at (words cursor.entry)) }
+    ensures shorter { IfOk result (λ x. length (words x.1) ≤ length (words cursor.entry)) }
+{
+    let (value, behind) = ended(alloc, cursor)?;
+    Ok((Action::Print { at, value }, behind))
+}
+
+/// What stands behind `while`.
+#[cycle(read)]
+fn while_loop(
+    alloc: Global,
+    at: usize,
+    cursor: Cursor<'_>,
+    depth: u32,
+) -> Result<(Action, Cursor<'_>), SyntaxError>
+    ensures reads { Gives action_tree result (opened_by (block_in depth) Opening.While at (words cursor.entry)) }
+    ensures shorter { IfOk result (λ x. length (words x.1) ≤ length (words cursor.entry)) }
+{
+    let (test, rest) = expression(alloc, cursor)?;
+    let (body, end) = inner(alloc, rest, depth)?;
+    let behind = expect_reserved(end, Keyword::End)?;
+    Ok((while_action(at, test, body), behind))
+}
+
+fn while_action(at: usize, test: Expression, body: Vec<Statement>) -> Action
+    ensures { action_tree result ≡ While at test (block_tree body.items) }
+{
+    Action::While { at, test, body }
+}
+
+/// What stands behind `for`.
+#[cycle(read)]
+fn for_loop(
+    alloc: Global,
+    at: usize,
+    cursor: Cursor<'_>,
+    depth: u32,
+) -> Result<(Action, Cursor<'_>), SyntaxError>
+    ensures reads { Gives action_tree result (opened_by (block_in depth) Opening.For at (words cursor.entry)) }
+    ensures shorter { IfOk result (λ x. length (words x.1) ≤ length (words cursor.entry)) }
+{
+    let (name, within) = name(alloc, cursor)?;
+    let bound = expect_reserved(within, Keyword::In)?;
+    let (first, colon) = expression(alloc, bound)?;
+    let bound = expect_mark(colon, Symbol::Colon)?;
+    let (limit, rest) = expression(alloc, bound)?;
+    let (body, end) = inner(alloc, rest, depth)?;
+    let behind = expect_reserved(end, Keyword::End)?;
+    Ok((for_action(at, name, first, limit, body), behind))
+}
+
+fn for_action(
+    at: usize,
+    name: Name,
+    first: Expression,
+    limit: Expression,
+    body: Vec<Statement>,
+) -> Action
+    ensures { action_tree result ≡ For at name first limit (block_tree body.items) }
+{
+    Action::For {
+        at,
+        name,
+        first,
+        limit,
+        body,
+    }
+}
+
+/// What stands behind `if`.
+#[cycle(read)]
+fn choice(
+    alloc: Global,
+    at: usize,
+    cursor: Cursor<'_>,
+    depth: u32,
+) -> Result<(Action, Cursor<'_>), SyntaxError>
+    ensures reads { Gives action_tree result (opened_by (block_in depth) Opening.If at (words cursor.entry)) }
+    ensures shorter { IfOk result (λ x. length (words x.1) ≤ length (words cursor.entry)) }
+{
+    let (test, rest) = expression(alloc, cursor)?;
+    let (body, left) = inner(alloc, rest, depth)?;
+    otherwise(alloc, at, test, body, left, depth)
+}
+
+/// What stands behind the body of an `if`.
+#[cycle(read)]
+fn otherwise(
+    alloc: Global,
+    at: usize,
+    test: Expression,
+    body: Vec<Statement>,
+    cursor: Cursor<'_>,
+    depth: u32,
+) -> Result<(Action, Cursor<'_>), SyntaxError>
+    ensures reads { Gives action_tree result
+        (else_by (block_in depth) at test (block_tree body.items, words cursor.entry) (after_word (Reserved Keyword.Else) (words cursor.entry))) }
+    ensures shorter { IfOk result (λ x. length (words x.1) ≤ length (words cursor.entry)) }
+{
+    match after_reserved(cursor, Keyword::Else) {
+        None => {
+            let behind = expect_reserved(cursor, Keyword::End)?;
+            Ok((if_action(at, test, body), behind))
+        }
+        Some(after) => {
+            let (otherwise, end) = inner(alloc, after, depth)?;
+            let behind = expect_reserved(end, Keyword::End)?;
+            Ok((if_else_action(at, test, body, otherwise), behind))
+        }
+    }
+}
+
+fn if_action(at: usize, test: Expression, body: Vec<Statement>) -> Action
+    ensures { action_tree result ≡ If at test (block_tree body.items) }
+{
+    Action::If { at, test, body }
+}
+
+fn if_else_action(
+    at: usize,
+    test: Expression,
+    body: Vec<Statement>,
+    otherwise: Vec<Statement>,
+) -> Action
+    ensures { action_tree result ≡ IfElse at test (block_tree body.items) (block_tree otherwise.items) }
+{
+    Action::IfElse {
+        at,
+        test,
+        body,
+        otherwise,
+    }
+}
+
+/// A block in a statement, where one more may stand in the others.
+#[cycle(read)]
+fn inner(
+    alloc: Global,
+    cursor: Cursor<'_>,
+    depth: u32,
+) -> Result<(Vec<Statement>, Cursor<'_>), SyntaxError>
+    ensures reads { Gives statements_tree result (block_in depth (words cursor.entry)) }
+    ensures shorter { IfOk result (λ x. length (words x.1) ≤ length (words cursor.entry)) }
+{
+    match depth.checked_sub(1) {
+        None => Err(cursor.unexpected()),
+        Some(inside) => block(alloc, cursor, inside),
+    }
+}

@@ -1,0 +1,205 @@
+//! Initial and assigned values.
+ghost use Rattle.std.specs.Prelude.{◌≡◌, ◌≤◌, ℕ, List, ◌∷◌, length, IfOk};
+ghost use Rattle.expressions.specs.Words.{Word, Reserved, keyword_word};
+ghost use Rattle.expressions.specs.Outcome.{words, Gives};
+ghost use Rattle.grammar.specs.Reading.{end_at, ends_at, method_at, modified_at, initial_at, value_at, assigned_at};
+ghost use Rattle.grammar.specs.Views.{initial_tree, ends_tree};
+ghost use Rattle.parser.specs.Fronts.{begins_call as begins_call_at, is_called, called_word, call_by, new_set_at, load_at};
+
+use crate::front::{
+    after_mark, after_method, after_reserved, argument, expect_mark, expect_method,
+    expect_reserved, expression, in_braces, name, no_arguments, number,
+};
+use expressions::{Cursor, Name, SyntaxError};
+use grammar::{Ends, Initial};
+use lexer::{Keyword, Symbol, TokenKind};
+use std::alloc::Global;
+
+/// `=`, the initial value and `;`, and the place behind them.
+pub(crate) fn assigned(
+    alloc: Global,
+    cursor: Cursor<'_>,
+) -> Result<(Initial, Cursor<'_>), SyntaxError>
+    ensures reads { Gives initial_tree result (assigned_at (words cursor.entry)) }
+    ensures shorter { IfOk result (λ x. length (words x.1) ≤ length (words cursor.entry)) }
+{
+    let value = expect_mark(cursor, Symbol::Assign)?;
+    let (initial, semicolon) = initial(alloc, value)?;
+    let behind = expect_mark(semicolon, Symbol::Semicolon)?;
+    Ok((initial, behind))
+}
+
+/// The ends of an apply, where they are given, and the place behind them.
+pub(crate) fn ends(alloc: Global, cursor: Cursor<'_>) -> Result<(Ends, Cursor<'_>), SyntaxError>
+    ensures reads { Gives ends_tree result (ends_at (words cursor.entry)) }
+    ensures shorter { IfOk result (λ x. length (words x.1) ≤ length (words cursor.entry)) }
+{
+    let (from, left) = end(alloc, cursor, Keyword::From)?;
+    let (to, behind) = end(alloc, left, Keyword::To)?;
+    Ok((Ends { from, to }, behind))
+}
+
+/// The end of an apply that begins with a dot and this keyword, where it is given.
+fn end(
+    alloc: Global,
+    cursor: Cursor<'_>,
+    keyword: Keyword,
+) -> Result<(Option<Name>, Cursor<'_>), SyntaxError>
+    requires { (at : ℕ) → keyword_word keyword at ≡ Reserved keyword }
+    ensures reads { Gives (λ e. e) result (end_at (Reserved keyword) (words cursor.entry)) }
+    ensures shorter { IfOk result (λ x. length (words x.1) ≤ length (words cursor.entry)) }
+{
+    match after_method(cursor, keyword) {
+        None => Ok((None, cursor)),
+        Some(open) => {
+            let inside = expect_mark(open, Symbol::OpenParenthesis)?;
+            let (name, close) = name(alloc, inside)?;
+            let behind = expect_mark(close, Symbol::CloseParenthesis)?;
+            Ok((Some(name), behind))
+        }
+    }
+}
+
+/// The initial value at the front, and the place behind it.
+fn initial(alloc: Global, cursor: Cursor<'_>) -> Result<(Initial, Cursor<'_>), SyntaxError>
+    ensures reads { Gives initial_tree result (initial_at (words cursor.entry)) }
+    ensures shorter { IfOk result (λ x. length (words x.1) ≤ length (words cursor.entry)) }
+{
+    if let Some(after) = after_reserved(cursor, Keyword::New) {
+        return new_set(after);
+    }
+    if let Some(after) = after_reserved(cursor, Keyword::Load) {
+        return load(after);
+    }
+    if begins_call(cursor) {
+        let (name, rest) = name(alloc, cursor)?;
+        return call(alloc, name, rest);
+    }
+    value(alloc, cursor)
+}
+
+/// An expression as an initial value.
+fn value(alloc: Global, cursor: Cursor<'_>) -> Result<(Initial, Cursor<'_>), SyntaxError>
+    ensures reads { Gives initial_tree result (value_at (words cursor.entry)) }
+    ensures shorter { IfOk result (λ x. length (words x.1) ≤ length (words cursor.entry)) }
+{
+    let (value, behind) = expression(alloc, cursor)?;
+    Ok((Initial::Value(value), behind))
+}
+
+/// What stands behind `new`.
+fn new_set(cursor: Cursor<'_>) -> Result<(Initial, Cursor<'_>), SyntaxError>
+    ensures reads { Gives initial_tree result (new_set_at (words cursor.entry)) }
+    ensures shorter { IfOk result (λ x. length (words x.1) ≤ length (words cursor.entry)) }
+{
+    let brace = expect_reserved(cursor, Keyword::VertexSet)?;
+    let open = in_braces(brace, Keyword::Vertex)?;
+    let inside = expect_mark(open, Symbol::OpenParenthesis)?;
+    let (size, close) = number(inside)?;
+    let behind = expect_mark(close, Symbol::CloseParenthesis)?;
+    Ok((Initial::NewSet(size), behind))
+}
+
+/// What stands behind `load`.
+fn load(cursor: Cursor<'_>) -> Result<(Initial, Cursor<'_>), SyntaxError>
+    ensures reads { Gives initial_tree result (load_at (words cursor.entry)) }
+    ensures shorter { IfOk result (λ x. length (words x.1) ≤ length (words cursor.entry)) }
+{
+    let open = expect_mark(cursor, Symbol::OpenParenthesis)?;
+    let bracket = expect_reserved(open, Keyword::Argv)?;
+    let inside = expect_mark(bracket, Symbol::OpenBracket)?;
+    let (argument, close) = number(inside)?;
+    let last = expect_mark(close, Symbol::CloseBracket)?;
+    let behind = expect_mark(last, Symbol::CloseParenthesis)?;
+    Ok((Initial::Load(argument), behind))
+}
+
+/// Whether a name stands at the front, and behind it a dot and the method of an initial value that is no
+/// expression.
+fn begins_call(cursor: Cursor<'_>) -> bool
+    ensures { result ≡ begins_call_at (words cursor.entry) }
+{
+    let Some((token, after)) = cursor.next() else {
+        return false;
+    };
+    match token.kind {
+        TokenKind::Name => has_method(after),
+        _ => false,
+    }
+}
+
+/// Whether a dot and the method of an initial value that is no expression stand at the front.
+fn has_method(cursor: Cursor<'_>) -> bool
+    ensures { result ≡ is_called (method_at (words cursor.entry)) }
+{
+    let Some(after) = after_mark(cursor, Symbol::Dot) else {
+        return false;
+    };
+    let Some((token, _)) = after.next() else {
+        return false;
+    };
+    match token.kind {
+        TokenKind::Keyword(keyword) => is_method(keyword),
+        _ => false,
+    }
+}
+
+/// Whether a keyword is a method of an initial value that is no expression, or begins one of its ends.
+fn is_method(keyword: Keyword) -> bool
+    ensures { (at : ℕ) (rest : List Word) → result ≡ called_word (keyword_word keyword at ∷ rest) }
+{
+    matches!(
+        keyword,
+        Keyword::GetVertices
+            | Keyword::GetOutDegrees
+            | Keyword::Filter
+            | Keyword::From
+            | Keyword::To
+            | Keyword::ApplyModified
+    )
+}
+
+/// What stands behind the name with which an initial value begins that is no expression.
+fn call(alloc: Global, name: Name, cursor: Cursor<'_>) -> Result<(Initial, Cursor<'_>), SyntaxError>
+    ensures reads { Gives initial_tree result (call_by name (words cursor.entry) (method_at (words cursor.entry))) }
+    ensures shorter { IfOk result (λ x. length (words x.1) ≤ length (words cursor.entry)) }
+{
+    if let Some(after) = after_method(cursor, Keyword::GetVertices) {
+        let behind = no_arguments(after)?;
+        return Ok((Initial::Vertices(name), behind));
+    }
+    if let Some(after) = after_method(cursor, Keyword::GetOutDegrees) {
+        let behind = no_arguments(after)?;
+        return Ok((Initial::OutDegrees(name), behind));
+    }
+    if let Some(after) = after_method(cursor, Keyword::Filter) {
+        let (test, behind) = argument(alloc, after)?;
+        return Ok((Initial::Filter { set: name, test }, behind));
+    }
+    modified(alloc, name, cursor)
+}
+
+/// The ends and `.applyModified(function, vector)` behind a name.
+fn modified(
+    alloc: Global,
+    edges: Name,
+    cursor: Cursor<'_>,
+) -> Result<(Initial, Cursor<'_>), SyntaxError>
+    ensures reads { Gives initial_tree result (modified_at edges (words cursor.entry)) }
+    ensures shorter { IfOk result (λ x. length (words x.1) ≤ length (words cursor.entry)) }
+{
+    let (ends, dot) = ends(alloc, cursor)?;
+    let open = expect_method(dot, Keyword::ApplyModified)?;
+    let inside = expect_mark(open, Symbol::OpenParenthesis)?;
+    let (function, comma) = name(alloc, inside)?;
+    let second = expect_mark(comma, Symbol::Comma)?;
+    let (vector, close) = name(alloc, second)?;
+    let behind = expect_mark(close, Symbol::CloseParenthesis)?;
+    let initial = Initial::ApplyModified {
+        edges,
+        ends,
+        function,
+        vector,
+    };
+    Ok((initial, behind))
+}

@@ -1,0 +1,26 @@
+//! The parser of the algorithm language: it takes exactly the texts that are in the grammar
+//! (`docs/LANGUAGE.md` has it).
+//!
+//! In the contracts a source is its tree (`specs/Trees.antt` of the grammar), and a text is the words of
+//! its tokens. [`parse`] answers with a source only where the text has its words, nests within the limit,
+//! and has the words of no other tree; each refusal names its cause and comes only where that holds
+//! (`specs/Outcome.antt`). There is one reader for each rule, in the file of what it reads, and each
+//! contract says that it does what the grammar's reading function of that rule does. The offset of a text
+//! that is not in the grammar is shown by tests.
+//!
+//! No reader looks further ahead than three tokens, a list is a loop, and no call goes deeper than the
+//! nesting limit. The checker of types and the schedule stand on this crate.
+#![tactic(auto)]
+
+mod block;
+mod declaration;
+mod error;
+mod front;
+mod initial;
+mod schedule;
+mod source;
+mod statement;
+mod types;
+
+pub use error::ParseError;
+pub use source::parse;

@@ -1,0 +1,138 @@
+//! The schedule's part of a source.
+ghost use Rattle.std.specs.Prelude.{◌≡◌, ◌<◌, ◌≤◌, length, option_map, IfOk};
+ghost use Rattle.expressions.specs.Words.{Reserved, Mark};
+ghost use Rattle.expressions.specs.Outcome.{words, Gives};
+ghost use Rattle.grammar.specs.Reading.{after_word, each_at, next_text, next_call, next_chain, call_at, chain_at, setting_at, schedule_by};
+ghost use Rattle.grammar.specs.Views.{text_of, call_tree, chain_tree};
+ghost use Rattle.parser.specs.Fronts.{begun_setting};
+ghost use Rattle.parser.specs.Views.{each};
+
+use crate::front::{after_mark, after_reserved, expect_mark, text};
+use expressions::{Cursor, SyntaxError};
+use grammar::{Call, Chain, Setting, Text};
+use lexer::{Keyword, Symbol, TokenKind};
+use std::alloc::Global;
+
+/// The schedule's part, where the source has it, and the place behind it.
+pub(crate) fn schedule(
+    alloc: Global,
+    cursor: Cursor<'_>,
+) -> Result<(Option<Vec<Chain>>, Cursor<'_>), SyntaxError>
+    ensures { Gives (option_map (each chain_tree)) result
+        (schedule_by (words cursor.entry) (after_word (Reserved Keyword.Schedule) (words cursor.entry))) }
+{
+    match after_reserved(cursor, Keyword::Schedule) {
+        None => Ok((None, cursor)),
+        Some(colon) => {
+            let rest = expect_mark(colon, Symbol::Colon)?;
+            let (chains, behind) = chains(alloc, rest)?;
+            Ok((Some(chains), behind))
+        }
+    }
+}
+
+/// The chains of calls at the front, as many as follow one another.
+fn chains(alloc: Global, cursor: Cursor<'_>) -> Result<(Vec<Chain>, Cursor<'_>), SyntaxError>
+    ensures { Gives (each chain_tree) result (each_at next_chain (words cursor.entry)) }
+{
+    let mut chains = Vec::new(alloc);
+    let mut left = cursor;
+    'chains: while let Some(after) = after_reserved(left, Keyword::Program) {
+        let (chain, behind) = chain(alloc, after)?;
+        chains.push(chain)?;
+        left = behind;
+    }
+    Ok((chains, left))
+}
+
+/// What stands behind `program`.
+fn chain(alloc: Global, cursor: Cursor<'_>) -> Result<(Chain, Cursor<'_>), SyntaxError>
+    ensures reads { Gives chain_tree result (chain_at (words cursor.entry)) }
+    ensures shorter { IfOk result (λ x. length (words x.1) ≤ length (words cursor.entry)) }
+{
+    let rest = expect_mark(cursor, Symbol::Arrow)?;
+    let (first, left) = call(alloc, rest)?;
+    let (more, semicolon) = more_calls(alloc, left)?;
+    let behind = expect_mark(semicolon, Symbol::Semicolon)?;
+    Ok((Chain { first, more }, behind))
+}
+
+/// The calls behind the first, each behind an arrow.
+fn more_calls(alloc: Global, cursor: Cursor<'_>) -> Result<(Vec<Call>, Cursor<'_>), SyntaxError>
+    ensures reads { Gives (each call_tree) result (each_at next_call (words cursor.entry)) }
+    ensures shorter { IfOk result (λ x. length (words x.1) ≤ length (words cursor.entry)) }
+{
+    let mut calls = Vec::new(alloc);
+    let mut left = cursor;
+    'calls: while let Some(after) = after_mark(left, Symbol::Arrow) {
+        let (call, behind) = call(alloc, after)?;
+        calls.push(call)?;
+        left = behind;
+    }
+    Ok((calls, left))
+}
+
+/// A call with its arguments.
+fn call(alloc: Global, cursor: Cursor<'_>) -> Result<(Call, Cursor<'_>), SyntaxError>
+    ensures reads { Gives call_tree result (call_at (words cursor.entry)) }
+    ensures shorter { IfOk result (λ x. length (words x.1) ≤ length (words cursor.entry)) }
+{
+    let ((at, setting), open) = setting(cursor)?;
+    let inside = expect_mark(open, Symbol::OpenParenthesis)?;
+    let (first, left) = text(alloc, inside)?;
+    let (more, close) = more_texts(alloc, left)?;
+    let behind = expect_mark(close, Symbol::CloseParenthesis)?;
+    let call = Call {
+        at,
+        setting,
+        first,
+        more,
+    };
+    Ok((call, behind))
+}
+
+/// The texts behind the first, each behind a comma.
+fn more_texts(alloc: Global, cursor: Cursor<'_>) -> Result<(Vec<Text>, Cursor<'_>), SyntaxError>
+    ensures reads { Gives (each text_of) result (each_at next_text (words cursor.entry)) }
+    ensures shorter { IfOk result (λ x. length (words x.1) ≤ length (words cursor.entry)) }
+{
+    let mut texts = Vec::new(alloc);
+    let mut left = cursor;
+    'texts: while let Some(after) = after_mark(left, Symbol::Comma) {
+        let (text, behind) = text(alloc, after)?;
+        texts.push(text)?;
+        left = behind;
+    }
+    Ok((texts, left))
+}
+
+/// The name of the call at the front with its offset, and the place behind it.
+fn setting(cursor: Cursor<'_>) -> Result<((usize, Setting), Cursor<'_>), SyntaxError>
+    ensures reads { Gives (λ s. s) result (setting_at (words cursor.entry)) }
+    ensures shorter { IfOk result (λ x. length (words x.1) ≤ length (words cursor.entry)) }
+{
+    let Some((token, after)) = cursor.next() else {
+        return Err(cursor.unexpected());
+    };
+    let TokenKind::Keyword(keyword) = token.kind else {
+        return Err(cursor.unexpected());
+    };
+    match setting_begun_by(keyword) {
+        None => Err(cursor.unexpected()),
+        Some(setting) => Ok(((token.span.start, setting), after)),
+    }
+}
+
+/// The call whose name is a keyword.
+fn setting_begun_by(keyword: Keyword) -> Option<Setting>
+    ensures { result ≡ begun_setting keyword }
+{
+    match keyword {
+        Keyword::ConfigApplyDirection => Some(Setting::Direction),
+        Keyword::ConfigApplyParallelization => Some(Setting::Parallelization),
+        Keyword::ConfigApplyDenseVertexSet => Some(Setting::DenseVertexSet),
+        Keyword::FuseApplyFunctions => Some(Setting::FuseFunctions),
+        Keyword::FuseFields => Some(Setting::FuseFields),
+        _ => None,
+    }
+}

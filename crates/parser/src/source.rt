@@ -1,0 +1,67 @@
+//! A whole source.
+ghost use Rattle.std.specs.Prelude.{◌≡◌, length, IfOk};
+ghost use Rattle.expressions.specs.Outcome.{words, Passes};
+ghost use Rattle.grammar.specs.Reading.{after_words, elements as elements_words, source_at};
+ghost use Rattle.parser.specs.Outcome.{Answers, GivesSource, tree_or_error};
+
+use crate::declaration::declarations;
+use crate::error::ParseError;
+use crate::front::expect_reserved;
+use crate::schedule::schedule;
+use expressions::{Cursor, SyntaxError};
+use grammar::{Source, first_too_deep};
+use lexer::{Keyword, tokens};
+use std::alloc::Global;
+
+/// The source that a text is. The text may have any bytes.
+///
+/// The errors, of which the first that fits is given: `BadByte`, `NumberTooLarge` and `UnfinishedText`
+/// where the text has no tokens, at its first fault; `TooDeep` at the first token with which more than
+/// [`NESTING_LIMIT`](grammar::NESTING_LIMIT) are open, whether or not the tokens are a source;
+/// `Unexpected` where they are none, at the first token after which no text is in the grammar, or at the
+/// length of the text where the tokens are all a beginning. `NoMemory` may come at any time.
+///
+/// The time is in proportion to the length of the text. No call goes deeper than the nesting limit, and
+/// names and texts in quotes are copied once.
+pub fn parse(alloc: Global, text: &[u8]) -> Result<Source, ParseError>
+    ensures answers { Answers text.now (tree_or_error result) }
+    ensures length { IfOk result (λ source. source.length ≡ length text.now) }
+{
+    let tokens = tokens(alloc, text)?;
+    let cursor = Cursor::new(text, &tokens);
+    if let Some(at) = first_too_deep(cursor) {
+        return Err(ParseError::TooDeep { at });
+    }
+    let source = whole(alloc, cursor, text.len())?;
+    Ok(source)
+}
+
+/// The source that all tokens are, of a text of this length.
+fn whole(alloc: Global, cursor: Cursor<'_>, len: usize) -> Result<Source, SyntaxError>
+    ensures reads { GivesSource result (source_at (words cursor.entry)) }
+    ensures length { IfOk result (λ source. source.length ≡ len) }
+{
+    let rest = elements(cursor)?;
+    let (declarations, left) = declarations(alloc, rest)?;
+    let (schedule, end) = schedule(alloc, left)?;
+    match end.next() {
+        Some(_) => Err(end.unexpected()),
+        None => Ok(Source {
+            declarations,
+            schedule,
+            length: len,
+        }),
+    }
+}
+
+/// The place behind `element Vertex end element Edge end`.
+fn elements(cursor: Cursor<'_>) -> Result<Cursor<'_>, SyntaxError>
+    ensures { Passes result (after_words elements_words (words cursor.entry)) }
+{
+    let vertex = expect_reserved(cursor, Keyword::Element)?;
+    let end = expect_reserved(vertex, Keyword::Vertex)?;
+    let element = expect_reserved(end, Keyword::End)?;
+    let edge = expect_reserved(element, Keyword::Element)?;
+    let end = expect_reserved(edge, Keyword::Edge)?;
+    expect_reserved(end, Keyword::End)
+}

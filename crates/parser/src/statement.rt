@@ -1,0 +1,177 @@
+//! Statements.
+ghost use Rattle.std.specs.Prelude.{◌≤◌, [], ◌∷◌, length, IfOk};
+ghost use Rattle.expressions.specs.Words.{Reserved, Mark};
+ghost use Rattle.expressions.specs.Outcome.{words, Gives};
+ghost use Rattle.grammar.specs.Reading.{reduction_at, ended_at, entry_at, entry_by, after_word, after_words, method_by, added_at, applied_at, reduced_at, named_action};
+ghost use Rattle.grammar.specs.Views.{action_tree};
+
+use crate::front::{after_mark, after_method, argument, expect_mark, expect_method, expression};
+use crate::initial::{assigned, ends};
+use expressions::{Cursor, Expression, Name, SyntaxError};
+use grammar::{Action, Reduction};
+use lexer::{Keyword, Symbol, TokenKind};
+use std::alloc::Global;
+
+/// An expression and `;`, and the place behind them.
+pub(crate) fn ended(
+    alloc: Global,
+    cursor: Cursor<'_>,
+) -> Result<(Expression, Cursor<'_>), SyntaxError>
+    ensures reads { Gives (λ e. e) result (ended_at (words cursor.entry)) }
+    ensures shorter { IfOk result (λ x. length (words x.1) ≤ length (words cursor.entry)) }
+{
+    let (value, semicolon) = expression(alloc, cursor)?;
+    let behind = expect_mark(semicolon, Symbol::Semicolon)?;
+    Ok((value, behind))
+}
+
+/// The reduction at the front, and the place behind it.
+fn reduction(cursor: Cursor<'_>) -> Result<(Reduction, Cursor<'_>), SyntaxError>
+    ensures reads { Gives (λ r. r) result (reduction_at (words cursor.entry)) }
+    ensures shorter { IfOk result (λ x. length (words x.1) ≤ length (words cursor.entry)) }
+{
+    let Some((token, after)) = cursor.next() else {
+        return Err(cursor.unexpected());
+    };
+    match token.kind {
+        TokenKind::Symbol(Symbol::MinAssign) => Ok((Reduction::Min, after)),
+        TokenKind::Symbol(Symbol::MaxAssign) => Ok((Reduction::Max, after)),
+        TokenKind::Symbol(Symbol::PlusAssign) => Ok((Reduction::Plus, after)),
+        _ => Err(cursor.unexpected()),
+    }
+}
+
+/// What a statement does that begins with a name, from behind the name.
+pub(crate) fn named(
+    alloc: Global,
+    name: Name,
+    cursor: Cursor<'_>,
+) -> Result<(Action, Cursor<'_>), SyntaxError>
+    ensures reads { Gives action_tree result (named_action name (words cursor.entry)) }
+    ensures shorter { IfOk result (λ x. length (words x.1) ≤ length (words cursor.entry)) }
+{
+    if let Some(_) = after_mark(cursor, Symbol::Assign) {
+        let (value, behind) = assigned(alloc, cursor)?;
+        return Ok((Action::Assign { name, value }, behind));
+    }
+    if let Some(index) = after_mark(cursor, Symbol::OpenBracket) {
+        return entry(alloc, name, index);
+    }
+    if let Some(_) = after_mark(cursor, Symbol::Dot) {
+        return method(alloc, name, cursor);
+    }
+    reduced(alloc, name, cursor)
+}
+
+/// A reduction of a name and its value, from behind the name.
+fn reduced(
+    alloc: Global,
+    name: Name,
+    cursor: Cursor<'_>,
+) -> Result<(Action, Cursor<'_>), SyntaxError>
+    ensures reads { Gives action_tree result (reduced_at name (words cursor.entry)) }
+    ensures shorter { IfOk result (λ x. length (words x.1) ≤ length (words cursor.entry)) }
+{
+    let (reduction, rest) = reduction(cursor)?;
+    let (value, behind) = ended(alloc, rest)?;
+    let action = Action::Reduce {
+        name,
+        reduction,
+        value,
+    };
+    Ok((action, behind))
+}
+
+/// An assignment to an entry of a vector or its reduction, from behind the bracket.
+fn entry(
+    alloc: Global,
+    vector: Name,
+    cursor: Cursor<'_>,
+) -> Result<(Action, Cursor<'_>), SyntaxError>
+    ensures reads { Gives action_tree result (entry_at vector (words cursor.entry)) }
+    ensures shorter { IfOk result (λ x. length (words x.1) ≤ length (words cursor.entry)) }
+{
+    let (index, close) = expression(alloc, cursor)?;
+    let rest = expect_mark(close, Symbol::CloseBracket)?;
+    entry_value(alloc, vector, index, rest)
+}
+
+/// What stands behind the index of an entry.
+fn entry_value(
+    alloc: Global,
+    vector: Name,
+    index: Expression,
+    cursor: Cursor<'_>,
+) -> Result<(Action, Cursor<'_>), SyntaxError>
+    ensures reads { Gives action_tree result
+        (entry_by vector index (words cursor.entry) (after_word (Mark Symbol.Assign) (words cursor.entry))) }
+    ensures shorter { IfOk result (λ x. length (words x.1) ≤ length (words cursor.entry)) }
+{
+    if let Some(after) = after_mark(cursor, Symbol::Assign) {
+        let (value, behind) = ended(alloc, after)?;
+        let action = Action::SetEntry {
+            vector,
+            index,
+            value,
+        };
+        return Ok((action, behind));
+    }
+    let (reduction, rest) = reduction(cursor)?;
+    let (value, behind) = ended(alloc, rest)?;
+    let action = Action::ReduceEntry {
+        vector,
+        index,
+        reduction,
+        value,
+    };
+    Ok((action, behind))
+}
+
+/// A method that is called on a name, from behind the name.
+fn method(
+    alloc: Global,
+    name: Name,
+    cursor: Cursor<'_>,
+) -> Result<(Action, Cursor<'_>), SyntaxError>
+    ensures reads { Gives action_tree result
+        (method_by name (words cursor.entry) (after_words (Mark Symbol.Dot ∷ Reserved Keyword.AddVertex ∷ []) (words cursor.entry))) }
+    ensures shorter { IfOk result (λ x. length (words x.1) ≤ length (words cursor.entry)) }
+{
+    match after_method(cursor, Keyword::AddVertex) {
+        Some(after) => added(alloc, name, after),
+        None => applied(alloc, name, cursor),
+    }
+}
+
+/// The vertex that is added to a set, and what stands around it, from behind `addVertex`.
+fn added(alloc: Global, set: Name, cursor: Cursor<'_>) -> Result<(Action, Cursor<'_>), SyntaxError>
+    ensures reads { Gives action_tree result (added_at set (words cursor.entry)) }
+    ensures shorter { IfOk result (λ x. length (words x.1) ≤ length (words cursor.entry)) }
+{
+    let inside = expect_mark(cursor, Symbol::OpenParenthesis)?;
+    let (vertex, close) = expression(alloc, inside)?;
+    let semicolon = expect_mark(close, Symbol::CloseParenthesis)?;
+    let behind = expect_mark(semicolon, Symbol::Semicolon)?;
+    Ok((Action::AddVertex { set, vertex }, behind))
+}
+
+/// The ends and the function of an apply, from behind what it is called on.
+fn applied(
+    alloc: Global,
+    target: Name,
+    cursor: Cursor<'_>,
+) -> Result<(Action, Cursor<'_>), SyntaxError>
+    ensures reads { Gives action_tree result (applied_at target (words cursor.entry)) }
+    ensures shorter { IfOk result (λ x. length (words x.1) ≤ length (words cursor.entry)) }
+{
+    let (ends, dot) = ends(alloc, cursor)?;
+    let open = expect_method(dot, Keyword::Apply)?;
+    let (function, semicolon) = argument(alloc, open)?;
+    let behind = expect_mark(semicolon, Symbol::Semicolon)?;
+    let action = Action::Apply {
+        target,
+        ends,
+        function,
+    };
+    Ok((action, behind))
+}

@@ -1,0 +1,84 @@
+//! Types, and names with their types.
+ghost use Rattle.std.specs.Prelude.{◌≡◌, ◌<◌, ◌≤◌, ℕ, length, IfOk};
+ghost use Rattle.expressions.specs.Outcome.{words, Gives, Passes};
+ghost use Rattle.grammar.specs.Reading.{after_words, type_at, typed_at};
+ghost use Rattle.grammar.specs.Views.{parameter_tree};
+ghost use Rattle.parser.specs.Fronts.{begun_type, words_behind};
+
+use crate::front::{expect_mark, expect_reserved, in_braces, name};
+use expressions::{Cursor, SyntaxError};
+use grammar::{DeclaredType, Parameter};
+use lexer::{Keyword, Symbol, TokenKind};
+use std::alloc::Global;
+
+/// The name and its type at the front, and the place behind them.
+pub(crate) fn typed(
+    alloc: Global,
+    cursor: Cursor<'_>,
+) -> Result<(Parameter, Cursor<'_>), SyntaxError>
+    ensures reads { Gives parameter_tree result (typed_at (words cursor.entry)) }
+    ensures shorter { IfOk result (λ x. length (words x.1) ≤ length (words cursor.entry)) }
+{
+    let (name, colon) = name(alloc, cursor)?;
+    let rest = expect_mark(colon, Symbol::Colon)?;
+    let (declared, behind) = declared_type(rest)?;
+    Ok((Parameter { name, declared }, behind))
+}
+
+/// The type at the front, and the place behind it.
+fn declared_type(cursor: Cursor<'_>) -> Result<(DeclaredType, Cursor<'_>), SyntaxError>
+    ensures reads { Gives (λ t. t) result (type_at (words cursor.entry)) }
+    ensures shorter { IfOk result (λ x. length (words x.1) ≤ length (words cursor.entry)) }
+{
+    let Some((token, after)) = cursor.next() else {
+        return Err(cursor.unexpected());
+    };
+    let TokenKind::Keyword(keyword) = token.kind else {
+        return Err(cursor.unexpected());
+    };
+    let Some(declared) = type_begun_by(keyword) else {
+        return Err(cursor.unexpected());
+    };
+    let behind = rest_of_type(declared, after)?;
+    Ok((declared, behind))
+}
+
+/// The type that begins with a keyword.
+fn type_begun_by(keyword: Keyword) -> Option<DeclaredType>
+    ensures { result ≡ begun_type keyword }
+{
+    match keyword {
+        Keyword::Int => Some(DeclaredType::Int),
+        Keyword::Bool => Some(DeclaredType::Bool),
+        Keyword::Vertex => Some(DeclaredType::Vertex),
+        Keyword::VertexSet => Some(DeclaredType::VertexSet),
+        Keyword::Vector => Some(DeclaredType::Vector),
+        Keyword::EdgeSet => Some(DeclaredType::EdgeSet),
+        _ => None,
+    }
+}
+
+/// The place behind what stands in a type behind its first keyword.
+fn rest_of_type(declared: DeclaredType, cursor: Cursor<'_>) -> Result<Cursor<'_>, SyntaxError>
+    ensures passes { Passes result (after_words (words_behind declared) (words cursor.entry)) }
+    ensures shorter { IfOk result (λ after. length (words after) ≤ length (words cursor.entry)) }
+{
+    match declared {
+        DeclaredType::Int | DeclaredType::Bool | DeclaredType::Vertex => Ok(cursor),
+        DeclaredType::VertexSet => in_braces(cursor, Keyword::Vertex),
+        DeclaredType::Vector => {
+            let open = in_braces(cursor, Keyword::Vertex)?;
+            let inside = expect_mark(open, Symbol::OpenParenthesis)?;
+            let close = expect_reserved(inside, Keyword::Int)?;
+            expect_mark(close, Symbol::CloseParenthesis)
+        }
+        DeclaredType::EdgeSet => {
+            let open = in_braces(cursor, Keyword::Edge)?;
+            let inside = expect_mark(open, Symbol::OpenParenthesis)?;
+            let comma = expect_reserved(inside, Keyword::Vertex)?;
+            let second = expect_mark(comma, Symbol::Comma)?;
+            let close = expect_reserved(second, Keyword::Vertex)?;
+            expect_mark(close, Symbol::CloseParenthesis)
+        }
+    }
+}
