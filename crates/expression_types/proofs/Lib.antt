@@ -1,0 +1,4 @@
+pub mod Options
+pub mod Signs
+pub mod Levels
+pub mod Faults

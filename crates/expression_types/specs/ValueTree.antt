@@ -1,0 +1,96 @@
+-- Typed expressions, without pointers.
+use Rattle.std.specs.Prelude.{ℕ, Bool, true, false, ◌||◌, Option, Some, None}
+use Rattle.typed_tree.specs.declared.expression.Endpoint.{Endpoint}
+use Rattle.typed_tree.specs.declared.expression.Slot.{Slot}
+use Rattle.typed_tree.specs.IntegerTree as integer
+use Rattle.typed_tree.specs.IntegerTree.{IntegerTree, integer_tree}
+use Rattle.typed_tree.specs.ConditionTree as condition
+use Rattle.typed_tree.specs.ConditionTree.{ConditionTree, condition_tree}
+use Rattle.expression_types.specs.declared.scope.Entity.{Entity}
+use Rattle.expression_types.specs.declared.scope.Entity.TheVariants as entity
+use Rattle.expression_types.specs.declared.value.Value.{Value}
+use Rattle.expression_types.specs.declared.value.Value.TheVariants as rust
+
+-- an expression of type int, bool, Vertex or vertexset{Vertex}
+pub data ValueTree : Type 0 where
+  Integer : IntegerTree → ValueTree
+  Condition : ConditionTree → ValueTree
+  Vertex : Endpoint → ValueTree
+  Set : Slot → ValueTree
+
+-- the tree that a Rust tree is
+abbrev pub value_tree : Value → ValueTree
+value_tree (rust.Integer e) = Integer (integer_tree e)
+value_tree (rust.Condition c) = Condition (condition_tree c)
+value_tree (rust.Vertex at) = Vertex at
+value_tree (rust.Set slot) = Set slot
+
+-- the value that a name has alone, where it has one
+abbrev pub named_value : Entity → Option ValueTree
+named_value entity.Edges = None
+named_value (entity.Vector place) = None
+named_value (entity.ConstantSet slot) = Some (Set slot)
+named_value (entity.IntegerConstant name n) = Some (Integer (integer.Constant name n))
+named_value (entity.ConditionConstant name b) = Some (Condition (condition.Constant name b))
+named_value (entity.IntegerVariable slot) = Some (Integer (integer.Variable slot))
+named_value (entity.ConditionVariable slot) = Some (Condition (condition.Variable slot))
+named_value (entity.SetVariable slot) = Some (Set slot)
+named_value (entity.LoopVariable slot) = Some (Integer (integer.Variable slot))
+named_value (entity.Parameter at) = Some (Vertex at)
+named_value (entity.VertexFunction place) = None
+named_value entity.Main = None
+
+-- the vector that a name is
+abbrev pub named_vector : Entity → Option ℕ
+named_vector entity.Edges = None
+named_vector (entity.Vector place) = Some place
+named_vector (entity.ConstantSet slot) = None
+named_vector (entity.IntegerConstant name n) = None
+named_vector (entity.ConditionConstant name b) = None
+named_vector (entity.IntegerVariable slot) = None
+named_vector (entity.ConditionVariable slot) = None
+named_vector (entity.SetVariable slot) = None
+named_vector (entity.LoopVariable slot) = None
+named_vector (entity.Parameter at) = None
+named_vector (entity.VertexFunction place) = None
+named_vector entity.Main = None
+
+-- the vertex set that a name is
+abbrev pub named_set : Entity → Option Slot
+named_set entity.Edges = None
+named_set (entity.Vector place) = None
+named_set (entity.ConstantSet slot) = Some slot
+named_set (entity.IntegerConstant name n) = None
+named_set (entity.ConditionConstant name b) = None
+named_set (entity.IntegerVariable slot) = None
+named_set (entity.ConditionVariable slot) = None
+named_set (entity.SetVariable slot) = Some slot
+named_set (entity.LoopVariable slot) = None
+named_set (entity.Parameter at) = None
+named_set (entity.VertexFunction place) = None
+named_set entity.Main = None
+
+-- the integer that a value reads as: a vertex reads as its number
+abbrev pub as_integer : ValueTree → Option IntegerTree
+as_integer (Integer e) = Some e
+as_integer (Condition c) = None
+as_integer (Vertex at) = Some (integer.Parameter at)
+as_integer (Set slot) = None
+
+abbrev pub as_condition : ValueTree → Option ConditionTree
+as_condition (Integer e) = None
+as_condition (Condition c) = Some c
+as_condition (Vertex at) = None
+as_condition (Set slot) = None
+
+-- an entry of a vector is read in it
+abbrev pub reads_entry : IntegerTree → Bool
+reads_entry (integer.Number n) = false
+reads_entry (integer.Constant name n) = false
+reads_entry (integer.Variable slot) = false
+reads_entry (integer.Parameter at) = false
+reads_entry (integer.EntryAt vector at) = true
+reads_entry (integer.Entry vector index) = true
+reads_entry (integer.SetSize slot) = false
+reads_entry (integer.Negative e) = reads_entry e
+reads_entry (integer.Arithmetic operator left right) = reads_entry left || reads_entry right

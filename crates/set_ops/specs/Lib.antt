@@ -1,0 +1,4 @@
+pub mod Operations
+pub mod Halving
+pub mod Outcome
+pub mod Refusal

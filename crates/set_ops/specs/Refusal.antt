@@ -1,0 +1,9 @@
+-- The numbers by which refusals are known.
+use Rattle.std.specs.Prelude.{ℕ}
+use Rattle.set_ops.specs.declared.error.SetError.{SetError}
+use Rattle.set_ops.specs.declared.error.SetError.TheVariants.{ChunkSizesDiffer, NoMemory}
+
+-- the number of a refusal
+abbrev pub number_of : SetError → ℕ
+number_of ChunkSizesDiffer = 104
+number_of NoMemory = 900

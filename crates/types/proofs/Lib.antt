@@ -1,0 +1,6 @@
+pub mod Literals
+pub mod Forms
+pub mod Fronts
+pub mod Kept
+pub mod Sources
+pub mod StepFronts

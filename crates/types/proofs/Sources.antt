@@ -1,0 +1,29 @@
+-- The trees of statements of a source that hold blocks.
+use Rattle.std.proofs.Common.{◌≡◌, ℕ, ap, refl, rules}
+use Rattle.std.specs.Global.{Vec}
+use Rattle.expressions.specs.Words.{Identifier}
+use Rattle.expressions.specs.Trees.{ExpressionTree}
+use Rattle.grammar.specs.declared.statement.Statement.{Statement}
+use Rattle.grammar.specs.declared.statement.Action.{Row_of-Statement, end_of-Statement, more_of-Statement, items-the_row-Statement}
+use Rattle.grammar.specs.declared.statement.Action.TheViews as views
+use Rattle.grammar.specs.declared.statement.Action.TheViews.{the_lemmas}
+use Rattle.grammar.specs.Trees.{While, For, If, IfElse, Then}
+use Rattle.grammar.specs.Views.{action_tree, rows_tree, block_tree}
+
+pub rows_tree-items : {m : _} (row : Row_of-Statement m) → rows_tree row ≡ block_tree (items-the_row-Statement m row)
+rows_tree-items end_of-Statement = refl
+rows_tree-items (more_of-Statement label action rest) = ap (Then label (action_tree action)) (rows_tree-items rest)
+
+pub action_tree-While : (at : ℕ) (test : ExpressionTree) (body : Vec Statement) → action_tree (views.While at test body) ≡ While at test (block_tree body.items)
+action_tree-While at test body = search (rules, the_lemmas, rows_tree-items)
+
+pub action_tree-For : (at : ℕ) (name : Identifier) (first limit : ExpressionTree) (body : Vec Statement)
+    → action_tree (views.For at name first limit body) ≡ For at name first limit (block_tree body.items)
+action_tree-For at name first limit body = search (rules, the_lemmas, rows_tree-items)
+
+pub action_tree-If : (at : ℕ) (test : ExpressionTree) (body : Vec Statement) → action_tree (views.If at test body) ≡ If at test (block_tree body.items)
+action_tree-If at test body = search (rules, the_lemmas, rows_tree-items)
+
+pub action_tree-IfElse : (at : ℕ) (test : ExpressionTree) (body otherwise : Vec Statement)
+    → action_tree (views.IfElse at test body otherwise) ≡ IfElse at test (block_tree body.items) (block_tree otherwise.items)
+action_tree-IfElse at test body otherwise = search (rules, the_lemmas, rows_tree-items)
