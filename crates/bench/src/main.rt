@@ -9,6 +9,7 @@
 mod ctrees;
 mod lexing;
 mod outcome;
+mod parsing;
 mod random;
 mod scripts;
 mod tails;
@@ -34,13 +35,14 @@ fn main(rt: HostRuntime) -> io::Result<ExitCode> {
         [] => print_outcomes(&rt)?,
         ["--time", "scripts"] => scripts::print_times(&rt)?,
         ["--time", "lexer"] => lexing::print_times(&rt)?,
+        ["--time", "parser"] => parsing::print_times(&rt)?,
         ["--time", "tails"] => tails::print_times(&rt)?,
         ["--time", "trees"] => trees::print_times(&rt)?,
         ["--time", "ctrees"] => ctrees::print_times(&rt)?,
         ["--script", adds] => print_script(&rt, adds)?,
         _ => {
             eprintln!(rt;
-                "usage: bench [--time scripts|lexer|tails|trees|ctrees | --script ADDS]"
+                "usage: bench [--time scripts|lexer|parser|tails|trees|ctrees | --script ADDS]"
             )?;
             return Ok(ExitCode::from(2));
         }
@@ -53,6 +55,7 @@ fn print_outcomes<R: Print + AllocGlobal>(rt: &R) -> io::Result<()> {
     print_known(rt)?;
     scripts::print_outcomes(rt)?;
     lexing::print_outcomes(rt)?;
+    parsing::print_outcomes(rt)?;
     tails::print_outcomes(rt)?;
     trees::print_outcomes(rt)?;
     ctrees::print_outcomes(rt)

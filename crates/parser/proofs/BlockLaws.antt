@@ -1,20 +1,18 @@
 -- The trees of statements that hold blocks, and what reading statements comes to by their first word.
 use Rattle.std.proofs.Common.{◌≡◌, ◌∙◌, ℕ, zero, suc, true, false, List, [], ◌∷◌, map, Option, Some, None, ap, refl, rules}
 use Rattle.std.specs.Global.{Vec}
-use Rattle.lexer.specs.declared.keyword.Keyword.{Keyword}
-use Rattle.lexer.specs.declared.keyword.Keyword.TheVariants as keyword
-use Rattle.expressions.specs.Words.{Word, Identifier, keyword_word}
-use Rattle.expressions.specs.Reading.{Reader, ◌>>=◌}
+use Rattle.expressions.specs.Words.{Word, Identifier}
+use Rattle.expressions.specs.Reading.{◌>>=◌}
 use Rattle.expressions.specs.Trees.{ExpressionTree}
 use Rattle.grammar.specs.declared.statement.Statement.{Statement}
 use Rattle.grammar.specs.declared.statement.Action.{Row_of-Statement, end_of-Statement, more_of-Statement, items-the_row-Statement}
 use Rattle.grammar.specs.declared.statement.Action.TheViews as views
 use Rattle.grammar.specs.declared.statement.Action.TheViews.{the_lemmas}
 use Rattle.expressions.proofs.Loops.{Goes, goes_end, goes_fails}
-use Rattle.grammar.specs.Trees.{ActionTree, While, For, If, IfElse, BlockTree, Then}
+use Rattle.grammar.specs.Trees.{ActionTree, While, For, If, IfElse, Then}
 use Rattle.grammar.specs.Views.{action_tree, rows_tree, block_tree, statement_of}
-use Rattle.grammar.specs.Reading.{action_by, block_by, block_at, block_from, next_statement, statement_by, begins_statement, where_begins}
-use Rattle.parser.specs.Blocks.{action_at, block_in, opening_of, opened_by}
+use Rattle.grammar.specs.Reading.{block_by, block_at, block_from, next_statement, statement_by, begins_statement, where_begins}
+use Rattle.parser.specs.Blocks.{action_at}
 
 pub rows_tree-items : {m : _} (rows : Row_of-Statement m) → rows_tree rows ≡ block_tree (items-the_row-Statement m rows)
 rows_tree-items end_of-Statement = refl
@@ -42,14 +40,6 @@ block_from-map (s ∷ items) = ap (Then s.label (action_tree s.action)) (block_f
 pub block_at-is : (depth : ℕ) (ws : List Word) → block_at depth ws ≡ block_by (action_at depth) ws
 block_at-is zero ws = refl
 block_at-is (suc depth) ws = refl
-
-pub action_by_keyword : (block : Reader BlockTree) (word : Keyword) (at : ℕ) (rest : List Word)
-    → action_by block (keyword_word word at ∷ rest) ≡ (opening_of word >>= λ o. opened_by block o at rest)
-action_by_keyword block keyword.Var at rest = refl
-action_by_keyword block _ at rest = refl
-
-pub block_in-deeper : (depth inside : ℕ) (ws : List Word) → depth ≡ suc inside → block_in depth ws ≡ block_at inside ws
-block_in-deeper depth inside ws is = ap (λ d. block_in d ws) is
 
 module _ (depth : ℕ) {start : List Word} {front : List (Option Identifier × ActionTree)} {left : List Word} where
   pub block_ends : Goes (next_statement (action_at depth)) start front left → begins_statement left ≡ false → block_at depth start ≡ Some (block_from front, left)

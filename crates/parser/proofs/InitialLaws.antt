@@ -1,18 +1,12 @@
 -- What reading an initial value comes to, by its first words.
-use Rattle.std.proofs.Common.{◌≡◌, refl, ap, ◌∙◌, true, false, List, [], ◌∷◌, Option, Some, None}
+use Rattle.std.proofs.Common.{◌≡◌, refl, ap, ◌∙◌, true, List, [], ◌∷◌, Option, Some}
 use Rattle.lexer.specs.declared.keyword.Keyword.{Keyword}
 use Rattle.lexer.specs.declared.keyword.Keyword.TheVariants as keyword
 use Rattle.lexer.specs.declared.symbol.Symbol.TheVariants as symbol
 use Rattle.expressions.specs.Words.{Word, Identifier, Name, Reserved, Mark}
-use Rattle.grammar.specs.Reading.{after_word, after_words, name_at, method_at, initial_at, named_initial, value_at, modified_at}
+use Rattle.grammar.specs.Reading.{after_word, after_words, name_at, method_at, initial_at, named_initial}
 use Rattle.grammar.proofs.WordLaws.{after_word-sound, after_words-sound}
-use Rattle.parser.specs.Fronts.{is_called, called_word, begins_call, call_by, new_set_at, load_at}
-
-pub new_is : (ws rest : List Word) → after_word (Reserved keyword.New) ws ≡ Some rest → initial_at ws ≡ new_set_at rest
-new_is ws rest is = ap initial_at (after_word-sound (Reserved keyword.New) ws rest is)
-
-pub load_is : (ws rest : List Word) → after_word (Reserved keyword.Load) ws ≡ Some rest → initial_at ws ≡ load_at rest
-load_is ws rest is = ap initial_at (after_word-sound (Reserved keyword.Load) ws rest is)
+use Rattle.parser.specs.Fronts.{is_called, called_word, begins_call, call_by}
 
 named_call : (name : Identifier) (ws : List Word) (method : Option Keyword) → is_called method ≡ true → named_initial name ws method ≡ call_by name ws method
 named_call name ws (Some keyword.GetVertices) is = refl
@@ -23,15 +17,6 @@ named_call name ws (Some keyword.To) is = refl
 named_call name ws (Some keyword.ApplyModified) is = refl
 named_call name ws _ is = cc is
 
-named_value : (name : Identifier) (ws : List Word) (method : Option Keyword) → is_called method ≡ false → named_initial name ws method ≡ value_at (Name name ∷ ws)
-named_value name ws (Some keyword.GetVertices) is = cc is
-named_value name ws (Some keyword.GetOutDegrees) is = cc is
-named_value name ws (Some keyword.Filter) is = cc is
-named_value name ws (Some keyword.From) is = cc is
-named_value name ws (Some keyword.To) is = cc is
-named_value name ws (Some keyword.ApplyModified) is = cc is
-named_value name ws _ is = refl
-
 pub call_is : (ws : List Word) (name : Identifier) (rest : List Word) → begins_call ws ≡ true → name_at ws ≡ Some (name, rest)
     → initial_at ws ≡ call_by name rest (method_at rest)
 call_is (Name n ∷ ws) name rest begins is = named_call n ws (method_at ws) begins ∙ ap (λ x. call_by x.0 x.1 (method_at x.1)) (same_pair n name ws rest is)
@@ -40,17 +25,6 @@ call_is (Name n ∷ ws) name rest begins is = named_call n ws (method_at ws) beg
     same_pair m n ws rest is = cc is
 call_is _ name rest begins is = cc begins
 
-pub no_call : (ws : List Word) → begins_call ws ≡ true → name_at ws ≡ None → initial_at ws ≡ None
-no_call (Name n ∷ ws) begins is = cc is
-no_call _ begins is = cc begins
-
-pub value_is : (ws : List Word) → after_word (Reserved keyword.New) ws ≡ None → after_word (Reserved keyword.Load) ws ≡ None → begins_call ws ≡ false
-    → initial_at ws ≡ value_at ws
-value_is (Reserved keyword.New ∷ ws) new load call = cc new
-value_is (Reserved keyword.Load ∷ ws) new load call = cc load
-value_is (Name name ∷ ws) new load call = named_value name ws (method_at ws) call
-value_is _ new load call = refl
-
 pub method_behind : (ws rest : List Word) → after_word (Mark symbol.Dot) ws ≡ Some rest → is_called (method_at ws) ≡ called_word rest
 method_behind ws rest is = ap (λ w. is_called (method_at w)) (after_word-sound (Mark symbol.Dot) ws rest is) ∙ go rest
   where
@@ -58,18 +32,6 @@ method_behind ws rest is = ap (λ w. is_called (method_at w)) (after_word-sound 
     go (Reserved word ∷ rest) = refl
     go _ = refl
 
-pub no_method : (ws : List Word) → after_word (Mark symbol.Dot) ws ≡ None → is_called (method_at ws) ≡ false
-no_method (Mark symbol.Dot ∷ rest) is = cc is
-no_method _ is = refl
-
 pub call_by_method : (name : Identifier) (ws : List Word) (method : Keyword) (rest : List Word) → after_words (Mark symbol.Dot ∷ Reserved method ∷ []) ws ≡ Some rest
     → call_by name ws (method_at ws) ≡ call_by name ws (Some method)
 call_by_method name ws method rest is = ap (λ w. call_by name ws (method_at w)) (after_words-sound (Mark symbol.Dot ∷ Reserved method ∷ []) ws rest is)
-
-pub modified_is : (name : Identifier) (ws : List Word) → after_words (Mark symbol.Dot ∷ Reserved keyword.GetVertices ∷ []) ws ≡ None
-    → after_words (Mark symbol.Dot ∷ Reserved keyword.GetOutDegrees ∷ []) ws ≡ None → after_words (Mark symbol.Dot ∷ Reserved keyword.Filter ∷ []) ws ≡ None
-    → call_by name ws (method_at ws) ≡ modified_at name ws
-modified_is name (Mark symbol.Dot ∷ Reserved keyword.GetVertices ∷ rest) a b c = cc a
-modified_is name (Mark symbol.Dot ∷ Reserved keyword.GetOutDegrees ∷ rest) a b c = cc b
-modified_is name (Mark symbol.Dot ∷ Reserved keyword.Filter ∷ rest) a b c = cc c
-modified_is name _ a b c = refl

@@ -1,7 +1,7 @@
+pub mod AnswerLaws
 pub mod BlockLaws
 pub mod DeclarationLaws
 pub mod FrontLaws
 pub mod InitialLaws
 pub mod Lists
 pub mod ParseLaws
-pub mod TypeLaws

@@ -35,15 +35,25 @@ pub record IsTooDeep (text : List ℕ) (at : ℕ) : Type 0 where
   pub reads : HasTokens text tokens
   pub passes : PassesAt text 0 tokens at
 
--- The answer is right for the text. Nothing is said where memory runs out.
+-- what a text is
+abbrev pub Parses : List ℕ → Result SourceTree ParseError → Type 0
+Parses text (Ok source) = IsSource text source
+Parses text (Err (BadByte at)) = Reads text (Err (lexer.BadByte at))
+Parses text (Err (NumberTooLarge at)) = Reads text (Err (lexer.NumberTooLarge at))
+Parses text (Err (UnfinishedText at)) = Reads text (Err (lexer.UnfinishedText at))
+Parses text (Err (Unexpected at)) = IsNoSource text
+Parses text (Err (TooDeep at)) = IsTooDeep text at
+Parses text (Err NoMemory) = ⊥
+
+-- the answer is what the text is, or want of memory
 abbrev pub Answers : List ℕ → Result SourceTree ParseError → Type 0
-Answers text (Ok source) = IsSource text source
-Answers text (Err (BadByte at)) = Reads text (Err (lexer.BadByte at))
-Answers text (Err (NumberTooLarge at)) = Reads text (Err (lexer.NumberTooLarge at))
-Answers text (Err (UnfinishedText at)) = Reads text (Err (lexer.UnfinishedText at))
-Answers text (Err (Unexpected at)) = IsNoSource text
-Answers text (Err (TooDeep at)) = IsTooDeep text at
 Answers text (Err NoMemory) = Unit {0}
+Answers text answer = Parses text answer
+
+-- an answer without the place at which a text leaves the grammar, which no definition tells
+abbrev pub without_place : Result SourceTree ParseError → Result SourceTree ParseError
+without_place (Err (Unexpected at)) = Err (Unexpected 0)
+without_place answer = answer
 
 -- the tree of the source, or the error
 abbrev pub tree_or_error : Result Source ParseError → Result SourceTree ParseError

@@ -1,8 +1,10 @@
 //! A whole source.
-ghost use Rattle.std.specs.Prelude.{◌≡◌, length, IfOk};
+ghost use Rattle.std.specs.Prelude.{◌≡◌, ℕ, List, Result, length, IfOk};
 ghost use Rattle.expressions.specs.Outcome.{words, Passes};
 ghost use Rattle.grammar.specs.Reading.{after_words, elements as elements_words, source_at};
-ghost use Rattle.parser.specs.Outcome.{Answers, GivesSource, tree_or_error};
+ghost use Rattle.grammar.specs.Trees.{SourceTree};
+ghost use Rattle.parser.specs.declared.error.ParseError.{ParseError};
+ghost use Rattle.parser.specs.Outcome.{Answers, Parses, GivesSource, tree_or_error, without_place};
 
 use crate::declaration::declarations;
 use crate::error::ParseError;
@@ -35,6 +37,13 @@ pub fn parse(alloc: Global, text: &[u8]) -> Result<Source, ParseError>
     let source = whole(alloc, cursor, text.len())?;
     Ok(source)
 }
+
+/// The law that a text has one answer: it is one source, or it has one fault and no other, but for the
+/// offset at which a text leaves the grammar. The call does nothing.
+pub fn one_answer()
+    ensures { (text : List ℕ) (answer other : Result SourceTree ParseError) → Parses text answer → Parses text other
+        → without_place answer ≡ without_place other }
+{}
 
 /// The source that all tokens are, of a text of this length.
 fn whole(alloc: Global, cursor: Cursor<'_>, len: usize) -> Result<Source, SyntaxError>

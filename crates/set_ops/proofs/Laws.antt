@@ -23,15 +23,15 @@ whole_cut k low (x ∷ xs) s h =
     elim (cases_order x k) [
       | inl e ↦ rw (le-ltb x k (omega arith), le-ltb k x (omega arith), below_none k (x + 1) xs (omega arith) s.2, above_all k (x + 1) xs (omega arith) s.2) (rw e refl)
       | inr other ↦ elim other [
-          | inl lt ↦
-              let later : has k xs ≡ true = rw (ne_eqb x k (omega arith)) at h in
-              rw (lt-ltb x k lt, le-ltb k x (omega arith)) (ap (λ v. x ∷ v) (whole_cut k (x + 1) xs s.2 later))
-          | inr gt ↦
-              let later : has k xs ≡ true = rw (ne_eqb x k (omega arith)) at h in
-              let none : has k xs ≡ false = has_none k (x + 1) xs (omega arith) s.2 in
-              let clash : true ≡ false = sym later ∙ none in
-              cc
-        ]
+        | inl lt ↦
+            let later : has k xs ≡ true = rw (ne_eqb x k (omega arith)) at h in
+            rw (lt-ltb x k lt, le-ltb k x (omega arith)) (ap (λ v. x ∷ v) (whole_cut k (x + 1) xs s.2 later))
+        | inr gt ↦
+            let later : has k xs ≡ true = rw (ne_eqb x k (omega arith)) at h in
+            let none : has k xs ≡ false = has_none k (x + 1) xs (omega arith) s.2 in
+            let clash : true ≡ false = sym later ∙ none in
+            cc
+      ]
     ]
 
 -- how many elements stand on either side
@@ -46,11 +46,11 @@ missed_cut k low (x ∷ xs) s h =
           let clash : true ≡ false = rw (eq-eqb x k e) at h in
           cc
       | inr other ↦ elim other [
-          | inl lt ↦
-              let later : has k xs ≡ false = rw (ne_eqb x k (omega arith)) at h in
-              rw (lt-ltb x k lt, le-ltb k x (omega arith)) (ap (λ v. x ∷ v) (missed_cut k (x + 1) xs s.2 later))
-          | inr gt ↦ rw (le-ltb x k (omega arith), lt-ltb k x gt, below_none k (x + 1) xs (omega arith) s.2, above_all k (x + 1) xs (omega arith) s.2) refl
-        ]
+        | inl lt ↦
+            let later : has k xs ≡ false = rw (ne_eqb x k (omega arith)) at h in
+            rw (lt-ltb x k lt, le-ltb k x (omega arith)) (ap (λ v. x ∷ v) (missed_cut k (x + 1) xs s.2 later))
+        | inr gt ↦ rw (le-ltb x k (omega arith), lt-ltb k x gt, below_none k (x + 1) xs (omega arith) s.2, above_all k (x + 1) xs (omega arith) s.2) refl
+      ]
     ]
 
 pub cut_length : (k low : ℕ) (xs : List ℕ) → AscendsFrom low xs → length (below k xs) + one (has k xs) + length (above k xs) ≡ length xs

@@ -32,7 +32,19 @@ pub(crate) fn combine(
     let (first, second) = (&halves.first, &halves.second);
     let found = (first.found, second.found);
     let key = halves.key;
-    let below = combine(alloc, operation, base, &first.below.part(), &second.below.part())?;
-    let above = combine(alloc, operation, Some(key), &first.above.part(), &second.above.part())?;
+    let below = combine(
+        alloc,
+        operation,
+        base,
+        &first.below.part(),
+        &second.below.part(),
+    )?;
+    let above = combine(
+        alloc,
+        operation,
+        Some(key),
+        &first.above.part(),
+        &second.above.part(),
+    )?;
     rejoin(alloc, operation, below, key, found, above)
 }

@@ -25,7 +25,7 @@ pub(crate) fn cut_both(
     requires { first.now.chunk_size ≡ second.now.chunk_size }
     ensures { IfOk result (λ o. MatchOption o
         (HasNoHead first.now.chunk_size first.now.elements
-            × HasNoHead second.now.chunk_size second.now.elements)
+        × HasNoHead second.now.chunk_size second.now.elements)
         (AreHalves first.now second.now)) }
 {
     if let Some((key, first)) = first.cut_at_root()? {

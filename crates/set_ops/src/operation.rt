@@ -64,8 +64,7 @@ pub(crate) fn with_no_head(
     requires second_plain { HasNoHead second.now.chunk_size second.now.elements }
     ensures { IfOk result (λ c. IsCombined operation first.now second.now c.pieces c.common) }
 {
-    let (tail, common) =
-        combine_tails(alloc, operation, base, first.loose(), second.loose())?;
+    let (tail, common) = combine_tails(alloc, operation, base, first.loose(), second.loose())?;
     let pieces = Pieces::loose(tail, first.chunk_size());
     Ok(Combined { pieces, common })
 }

@@ -32,20 +32,45 @@ fn unites_and_subtracts(rt: HostRuntime) -> Result<(), Fail> {
         ),
     ];
     for (chunk_size, first, second, both, rest) in table {
-        let first = CTree::from_sorted(rt.alloc(), chunk_size, first)?;
-        let second = CTree::from_sorted(rt.alloc(), chunk_size, second)?;
-        let united = union(rt.alloc(), &first, &second)?;
         assert!(rt;
-            is_made(rt.alloc(), chunk_size, &united, both)?,
+            unites(rt.alloc(), chunk_size, first, second, both)?,
             "{both:?} by {chunk_size}"
         );
-        let subtracted = difference(rt.alloc(), &first, &second)?;
         assert!(rt;
-            is_made(rt.alloc(), chunk_size, &subtracted, rest)?,
+            subtracts(rt.alloc(), chunk_size, first, second, rest)?,
             "{rest:?} by {chunk_size}"
         );
     }
     Ok(())
+}
+
+fn unites(
+    alloc: Global,
+    chunk_size: u32,
+    first: &[u32],
+    second: &[u32],
+    both: &[u32],
+) -> Result<bool, Fail> {
+    let first = CTree::from_sorted(alloc, chunk_size, first)?;
+    let second = CTree::from_sorted(alloc, chunk_size, second)?;
+    is_made(alloc, chunk_size, &union(alloc, &first, &second)?, both)
+}
+
+fn subtracts(
+    alloc: Global,
+    chunk_size: u32,
+    first: &[u32],
+    second: &[u32],
+    rest: &[u32],
+) -> Result<bool, Fail> {
+    let first = CTree::from_sorted(alloc, chunk_size, first)?;
+    let second = CTree::from_sorted(alloc, chunk_size, second)?;
+    is_made(
+        alloc,
+        chunk_size,
+        &difference(alloc, &first, &second)?,
+        rest,
+    )
 }
 
 // Whether a set has these elements, cut as a set that is made of their list.

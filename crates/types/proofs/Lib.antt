@@ -1,3 +1,5 @@
+pub mod Numbers
+pub mod ProgramNumbers
 pub mod Literals
 pub mod Forms
 pub mod Fronts

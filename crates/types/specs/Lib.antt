@@ -5,4 +5,5 @@ pub mod Statement
 pub mod Block
 pub mod Step
 pub mod Declaration
+pub mod Numbers
 pub mod Program

@@ -85,5 +85,5 @@ returns t c =
     (λ m. IsRejoined c.args.operation c.in_ok-below.below.pieces c.in_ok-below.below.common h.key (h.first.found, h.second.found) c.in_ok-above.above.pieces c.in_ok-above.above.common m.pieces m.common)
     (λ m. IsCombined c.args.operation a b m.pieces m.common)
     (λ m. is_combined c.args.operation c.args.base h.key a h.first.below h.first.found h.first.above b h.second.below h.second.found h.second.above is.first is.second is.there c.requires.first_over c.requires.second_over
-      c.in_ok-below.below.pieces c.in_ok-below.below.common c.in_ok-above.above.pieces c.in_ok-above.above.common (rw (c.part.ensures, c.part-2.ensures) at lo) (rw (c.part-3.ensures, c.part-4.ensures) at hi) m.pieces m.common)
+    c.in_ok-below.below.pieces c.in_ok-below.below.common c.in_ok-above.above.pieces c.in_ok-above.above.common (rw (c.part.ensures, c.part-2.ensures) at lo) (rw (c.part-3.ensures, c.part-4.ensures) at hi) m.pieces m.common)
     c.rejoin.result c.rejoin.ensures
