@@ -17,8 +17,9 @@ use std::alloc::Global;
 /// `depth` is how many parentheses and brackets may stand in each other.
 ///
 /// The error is `Unexpected` where the tokens begin with no such expression, at the first token after
-/// which none could (at the length of the text where they end too early; at the opening XX, and `NoMemory` where memory runs out. The time is in proportion to
-/// the tokens read; each name is copied once.
+/// which none could, at the length of the text where they end too early, or behind the opening
+/// parenthesis or bracket that is deeper than `depth`; and `NoMemory` where memory runs out. The time is
+/// in proportion to the tokens read; each name is copied once.
 pub fn read_expression(
     alloc: Global,
     cursor: Cursor<'_>,
