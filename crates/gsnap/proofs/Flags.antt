@@ -7,7 +7,7 @@ use Rattle.std.specs.Str.{chars}
 use Rattle.clap.specs.Lexer.{short_of}
 use Rattle.clap.specs.Words.{Rule, Text}
 use Rattle.clap.specs.Simple.{filled, help_rule}
-use Rattle.clap.specs.Walk.{Held, Outcome, plain, idle, value, arg_by_long, arg_by_short, bundle_met, bundle_step, long_or_other, short_or_plain}
+use Rattle.clap.specs.Walk.{Held, Outcome, Waiting, plain, plain_word, value, arg_by_long, arg_by_short, bundle_met, bundle_step, long_or_other, short_or_plain}
 use Rattle.clap.specs.Faults.{react_fault, settle_fault, long_fault, short_fault, flags_fault, bundle_step_fault, flag_word_fault, bundle_fault}
 use Rattle.clap.specs.Kinds.{Kinds, or_else}
 use Rattle.clap.specs.declared.error.kind.ErrorKind.{ErrorKind}
@@ -81,14 +81,18 @@ no_flags c only zero flags h e = refl
 no_flags c only (suc k) flags h e =
     no_flag c only (slice_get (chars flags) 0) flags h (flags_fault c false k) (bundle_met c k) e
 
-is_value_by_short : (c : List Rule) → HasOnlyHelp c → (p : Option (Text × List Text)) (word : Text) (flags : Option Text)
+-- where a word that is no flag is a value
+abbrev pub TakesValues : List Rule → Waiting → Type 0
+TakesValues c waiting = (word : Text) (h : Held) → plain_word c waiting word h ≡ (h, value)
+
+is_value_by_short : (c : List Rule) → HasOnlyHelp c → (waiting : Waiting) → TakesValues c waiting → (p : Option (Text × List Text)) (word : Text) (flags : Option Text)
     → option_map_or (λ f. bundle_fault c false f (held p)) flags [] ≡ []
-    → short_or_plain c idle word flags (held p) ≡ (held p, value)
-is_value_by_short c only p word None e = refl
-is_value_by_short c only p word (Some flags) e = rw (no_flags c only (length flags) flags (held p) e) refl
+    → short_or_plain c waiting word flags (held p) ≡ (held p, value)
+is_value_by_short c only waiting takes p word None e = takes word (held p)
+is_value_by_short c only waiting takes p word (Some flags) e = rw (no_flags c only (length flags) flags (held p) e) (takes word (held p))
 
 -- a word without a fault is a value, where it is no `--`
-pub is_value : (c : List Rule) → HasOnlyHelp c → (p : Option (Text × List Text)) (word : Text) (flag : Option (Text × Option Text))
-    → flag_word_fault c false flag word (held p) ≡ [] → long_or_other c idle word flag (held p) ≡ (held p, value)
-is_value c only p word (Some q) e = absurd (long_is_fault c (arg_by_long c q.0) q.1 (held p) (only.long q.0) e)
-is_value c only p word None e = is_value_by_short c only p word (short_of word) e
+pub is_value : (c : List Rule) → HasOnlyHelp c → (waiting : Waiting) → TakesValues c waiting → (p : Option (Text × List Text)) (word : Text) (flag : Option (Text × Option Text))
+    → flag_word_fault c false flag word (held p) ≡ [] → long_or_other c waiting word flag (held p) ≡ (held p, value)
+is_value c only waiting takes p word (Some q) e = absurd (long_is_fault c (arg_by_long c q.0) q.1 (held p) (only.long q.0) e)
+is_value c only waiting takes p word None e = is_value_by_short c only waiting takes p word (short_of word) e

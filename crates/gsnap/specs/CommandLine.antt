@@ -1,19 +1,24 @@
 -- The command line: what clap is told of it, and the words that each request stands for.
-use Rattle.std.specs.Prelude.{◌≡◌, List, [], ◌∷◌, Some, None, true, codes, if◌then◌else◌}
+use Rattle.std.specs.Prelude.{◌≡◌, List, [], ◌∷◌, Some, None, true, codes, map, if◌then◌else◌}
+use Rattle.std.specs.List.{AllByRecursion}
 use Rattle.std.specs.Str.{bytes_eq}
-use Rattle.clap.specs.Lexer.{strip_byte}
+use Rattle.clap.specs.Lexer.{strip_byte, usize_max}
 use Rattle.clap.specs.Words.{App, Rule, Text, new_app, new_rule, with_rule, with_subcommand}
-use Rattle.clap.specs.declared.builder.action.ArgAction.TheVariants.{Set}
+use Rattle.clap.specs.declared.builder.action.ArgAction.TheVariants.{Append}
 use Rattle.gsnap.specs.declared.request.Request.{Request}
 use Rattle.gsnap.specs.declared.request.Request.TheVariants.{Input, Script}
 
--- the file's name after `script`
-abbrev pub script_file : Rule
-script_file = record (new_rule (codes "SCRIPT")) { required = true; action = Some Set }
+-- the files' names after `script`: that of the script, and then those of programs
+abbrev pub script_files : Rule
+script_files = record (new_rule (codes "FILE")) {
+  required = true;
+  action = Some Append;
+  range = Some (record { start_inclusive = 1; end_inclusive = usize_max });
+}
 
 -- the command `script`
 abbrev pub script_command : App
-script_command = with_rule (new_app (codes "script")) script_file
+script_command = with_rule (new_app (codes "script")) script_files
 
 -- the program, which clap gets the words of without its name
 abbrev pub program : App
@@ -33,10 +38,14 @@ operands (w ∷ ws) = if bytes_eq w (codes "--") then ws else w ∷ operands ws
 -- the operands that a request stands for
 abbrev pub words_of : Request → List Text
 words_of Input = []
-words_of (Script file) = codes "script" ∷ file.now ∷ []
+words_of (Script script programs) = codes "script" ∷ script.now ∷ map (λ p. p.now) programs.items
 
--- no words, or `script` and a file, behind `--` where a hyphen (45) begins its name
+-- no hyphen (45) begins the word
+abbrev pub HasNoHyphen : Text → Type 0
+HasNoHyphen word = strip_byte 45 word ≡ None
+
+-- no words, or `script` and files, behind `--` where a hyphen may begin a name
 pub data IsCommand : List Text → Type 0 where
   no_words : IsCommand []
-  script_words : (file : Text) → strip_byte 45 file ≡ None → IsCommand (codes "script" ∷ file ∷ [])
-  script_after_dashes : (file : Text) → IsCommand (codes "script" ∷ codes "--" ∷ file ∷ [])
+  script_words : (file : Text) (others : List Text) → AllByRecursion HasNoHyphen (file ∷ others) → IsCommand (codes "script" ∷ file ∷ others)
+  script_after_dashes : (file : Text) (others : List Text) → IsCommand (codes "script" ∷ codes "--" ∷ file ∷ others)

@@ -12,10 +12,10 @@ use std::alloc::{AllocError, Global};
 
 const SCRIPT: &str = "script";
 
-const SCRIPT_FILE: &str = "SCRIPT";
+const FILES: &str = "FILE";
 
-/// Reads the words after the program's name. No words are `Input`; `script SCRIPT` is `Script`. A
-/// `--` may stand before a file whose name begins with a hyphen.
+/// Reads the words after the program's name. No words are `Input`; `script SCRIPT [PROGRAM..]` is
+/// `Script`. A `--` may stand before a file whose name begins with a hyphen.
 ///
 /// Errors: `Fault`, with the text to show, at other words and where help is asked for, and
 /// `NoMemory`.
@@ -24,12 +24,19 @@ pub fn request<'a>(alloc: Global, words: &'a [&'a str]) -> Result<Request<'a>, R
     ensures accepts { IsCommand (map (λ w. w.now) words.entry.now)
         → IsOkUnless result RequestError.NoMemory }
 {
+    // (so many files at most, and each `usize` is a number of files that may be given)
+    let _count = words.len();
     let matches = command(alloc)?.try_get_matches_from(words)?;
-    if let Some(found) = matches.subcommand_matches(SCRIPT) {
-        let script = found.get_str(SCRIPT_FILE).unwrap();
-        return Ok(Request::Script { script });
+    let Some(found) = matches.subcommand_matches(SCRIPT) else {
+        return Ok(Request::Input);
+    };
+    match found.get_raw(FILES).unwrap_or(&[]).split_first() {
+        Some((script, programs)) => Ok(Request::Script {
+            script,
+            programs: Vec::from_slice(alloc, programs)?,
+        }),
+        None => Ok(Request::Input),
     }
-    Ok(Request::Input)
 }
 
 // All commands.
@@ -47,13 +54,14 @@ fn script_command<'a>(alloc: Global) -> Result<Command<'a>, AllocError>
     ensures app { IfOk result (λ c. app_of c ≡ script_command) }
     ensures local { IfOk result (λ c. (fields_of c).has_globals ≡ false) }
 {
-    let file = Arg::new(alloc, SCRIPT_FILE)
+    let files = Arg::new(alloc, FILES)
         .required(true)
-        .action(ArgAction::Set)
-        .help("The file with the script");
+        .num_args(1..)
+        .action(ArgAction::Append)
+        .help("The file with the script, and then the files with its programs");
     Command::new(alloc, SCRIPT)
-        .about("Runs the script in a file")
-        .arg(file)
+        .about("Runs the script in a file, with the programs in other files")
+        .arg(files)
 }
 
 #[cfg(test)]
@@ -63,16 +71,24 @@ mod tests {
     #[test]
     fn reads_requests(rt: HostRuntime) {
         assert!(rt; matches!(request(rt.alloc(), &[]), Ok(Request::Input)));
-        let cases: [(&[&str], &str); 5] = [
-            (&["script", "a b.txt"], "a b.txt"),
-            (&["script", "script"], "script"),
-            (&["script", "help"], "help"),
-            (&["script", "-"], "-"),
-            (&["script", "--", "-x"], "-x"),
+        let cases: [(&[&str], &str, &[&str]); 8] = [
+            (&["script", "a b.txt"], "a b.txt", &[]),
+            (&["script", "script"], "script", &[]),
+            (&["script", "help"], "help", &[]),
+            (&["script", "-"], "-", &[]),
+            (&["script", "--", "-x"], "-x", &[]),
+            (&["script", "a", "b", "b"], "a", &["b", "b"]),
+            (&["script", "a", "--", "-b", "--"], "a", &["-b", "--"]),
+            (&["script", "a", "b", "--"], "a", &["b"]),
         ];
-        for (words, file) in cases {
+        for (words, file, others) in cases {
             match request(rt.alloc(), words) {
-                Ok(Request::Script { script }) => assert!(rt; script == file, "at {words:?}"),
+                Ok(Request::Script { script, programs }) => {
+                    assert!(rt;
+                        script == file && programs.as_slice() == others,
+                        "at {words:?}"
+                    );
+                }
                 Ok(Request::Input) => assert!(rt; false, "at {words:?}"),
                 Err(error) => assert!(rt; false, "at {words:?}: {error}"),
             }
@@ -81,7 +97,7 @@ mod tests {
 
     #[test]
     fn refuses_other_words(rt: HostRuntime) {
-        let cases: [(&[&str], &str); 9] = [
+        let cases: [(&[&str], &str); 8] = [
             (
                 &["script"],
                 "error: the following required arguments were not provided:",
@@ -89,10 +105,6 @@ mod tests {
             (
                 &["script", "--"],
                 "error: the following required arguments were not provided:",
-            ),
-            (
-                &["script", "a", "b"],
-                "error: unexpected argument 'b' found",
             ),
             (&["script", "-x"], "error: unexpected argument '-x' found"),
             (&["nothing"], "error: unrecognized subcommand 'nothing'"),
@@ -102,7 +114,7 @@ mod tests {
             ),
             (&["--help"], "Runs scripts over graphs."),
             (&["help"], "Runs scripts over graphs."),
-            (&["script", "--help"], "Runs the script in a file"),
+            (&["script", "--help"], "Runs the script in a file, with"),
         ];
         for (words, text) in cases {
             match request(rt.alloc(), words) {

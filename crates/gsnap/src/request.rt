@@ -12,12 +12,15 @@ use std::alloc::AllocError;
 use thiserror::Error;
 
 /// What a command line asks for.
-#[derive(Clone, Copy, Debug, PartialEq, Eq)]
+#[derive(Debug, Drop)]
 pub enum Request<'a> {
     /// To run the standard input as a script.
     Input,
-    /// To run the file of this name as a script.
-    Script { script: &'a str },
+    /// To run the file of this name as a script, with the programs in the other files, in order.
+    Script {
+        script: &'a str,
+        programs: Vec<&'a str>,
+    },
 }
 
 /// Why a command line is not done. The text is what standard error is told.

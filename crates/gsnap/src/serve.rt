@@ -7,12 +7,14 @@ ghost use Rattle.gsnap.specs.declared.serve.ServeError.TheVariants.{NoMemory};
 
 use crate::request::Request;
 use crate::status;
+use compiler::{CompileError, compile};
 use devices::{Device, Drain, Feed};
 use runner::ScriptError;
 use std::alloc::{AllocError, Global};
 use std::fmt;
 use std::fmt::Write;
 use thiserror::Error;
+use typed_tree::Typed;
 
 /// Why a request was not done to its end.
 #[derive(Clone, Copy, Debug, PartialEq, Eq, Error)]
@@ -68,6 +70,25 @@ impl From<ScriptError> for ServeError {
     }
 }
 
+/// Why a request ended before its end: a failure, or the refusal of the text in a file.
+#[derive(Clone, Copy, Debug)]
+enum Failure<'a> {
+    Failed(ServeError),
+    Refused { file: &'a str, error: CompileError },
+}
+
+impl From<ServeError> for Failure<'_> {
+    fn from(error: ServeError) -> Self {
+        Failure::Failed(error)
+    }
+}
+
+impl From<AllocError> for Failure<'_> {
+    fn from(_error: AllocError) -> Self {
+        Failure::Failed(ServeError::NoMemory)
+    }
+}
+
 /// Files by name.
 pub trait Files {
     /// Reads the file of this name whole.
@@ -77,10 +98,12 @@ pub trait Files {
 }
 
 /// Does a request, and answers the exit status: `DONE`, or `FAULTED` where some run ended by a fault.
+/// Each program is compiled before the next file is read, and the script's file is read last.
 ///
-/// It is `NO_MEMORY` where memory runs out, and `DEVICE_FAILED` where the script cannot be read or
-/// the replies cannot be written. `err` is then told `refused` and the number, and what was written
-/// to `out` is a beginning of the replies.
+/// It is `REFUSED` where a program's text is refused, and `err` is then told the file, `refused`, the
+/// number and where the fault stands. It is `NO_MEMORY` where memory runs out, and `DEVICE_FAILED` where
+/// a file cannot be read or the replies cannot be written; `err` is then told `refused` and the number,
+/// and what was written to `out` is a beginning of the replies.
 pub fn serve<F: Files, R: Feed, W: Drain, E: Drain>(
     alloc: Global,
     request: &Request<'_>,
@@ -90,38 +113,75 @@ pub fn serve<F: Files, R: Feed, W: Drain, E: Drain>(
     err: &mut E,
 ) -> u8 {
     let done = match request {
-        Request::Input => run_script(alloc, input, out),
-        Request::Script { script } => run_file(alloc, script, files, out),
+        Request::Input => run_input(alloc, input, out),
+        Request::Script { script, programs } => run_file(alloc, script, programs, files, out),
     };
     match done {
         Ok(false) => status::DONE,
         Ok(true) => status::FAULTED,
-        Err(error) => {
-            // Where this fails too, the exit status alone tells.
+        // Where telling fails too, the exit status alone tells.
+        Err(Failure::Failed(error)) => {
             let _ = writeln!(Text(err), "refused {}", error.number());
             error.status()
+        }
+        Err(Failure::Refused { file, error }) => {
+            let at = error.at().unwrap_or(0);
+            let _ = writeln!(Text(err), "{file}: refused {} at {at}", error.number());
+            status::REFUSED
         }
     }
 }
 
-// Runs the script that the file holds.
-fn run_file<F: Files, W: Drain>(
+// Runs the standard input as a script without programs.
+fn run_input<'a, R: Feed, W: Drain>(
     alloc: Global,
-    name: &str,
+    input: &mut R,
+    out: &mut W,
+) -> Result<bool, Failure<'a>> {
+    Ok(run_script(alloc, &[], input, out)?)
+}
+
+// Compiles the programs in the files of these names, and then runs the script that a file holds.
+fn run_file<'a, F: Files, W: Drain>(
+    alloc: Global,
+    script: &str,
+    programs: &[&'a str],
     files: &F,
     out: &mut W,
-) -> Result<bool, ServeError> {
-    let script = files.read(alloc, name)?;
-    run_script(alloc, &mut Device::new(script.as_slice()), out)
+) -> Result<bool, Failure<'a>> {
+    let mut compiled = Vec::new(alloc);
+    for file in programs {
+        compiled
+            .push(compiled_file(alloc, file, files)?)
+            .or(Err(AllocError))?;
+    }
+    let text = files.read(alloc, script)?;
+    let script = &mut Device::new(text.as_slice());
+    Ok(run_script(alloc, &compiled, script, out)?)
+}
+
+// The program in the file of this name.
+fn compiled_file<'a, F: Files>(
+    alloc: Global,
+    file: &'a str,
+    files: &F,
+) -> Result<Typed, Failure<'a>> {
+    let text = files.read(alloc, file)?;
+    match compile(alloc, &text) {
+        Ok(program) => Ok(program),
+        Err(CompileError::NoMemory) => Err(Failure::Failed(ServeError::NoMemory)),
+        Err(error) => Err(Failure::Refused { file, error }),
+    }
 }
 
 // Runs the script that is read, and answers whether some run ended by a fault.
 fn run_script<R: Feed, W: Drain>(
     alloc: Global,
+    programs: &[Typed],
     script: &mut R,
     out: &mut W,
 ) -> Result<bool, ServeError> {
-    Ok(runner::script(alloc, &[], script, out)?)
+    Ok(runner::script(alloc, programs, script, out)?)
 }
 
 // Takes text for a writer of bytes.
@@ -143,16 +203,28 @@ mod tests {
     use std::io::{Error, ErrorKind, Read};
     use std::test::Fail;
 
-    // One file.
+    // A script and a program, by these names.
     #[derive(Drop)]
-    struct OneFile(&'static str, &'static str);
+    struct TwoFiles {
+        script: &'static str,
+        program: &'static str,
+    }
 
-    impl Files for OneFile {
+    impl Files for TwoFiles {
         fn read(&self, alloc: Global, name: &str) -> Result<Vec<u8>, ServeError> {
-            if name != self.0 {
-                return Err(ServeError::ReadFailed);
-            }
-            Ok(Vec::from_slice(alloc, self.1.as_bytes())?)
+            let text = match name {
+                "script.txt" => self.script,
+                "program.txt" => self.program,
+                _ => return Err(ServeError::ReadFailed),
+            };
+            Ok(Vec::from_slice(alloc, text.as_bytes())?)
+        }
+    }
+
+    fn script_alone(script: &'static str) -> TwoFiles {
+        TwoFiles {
+            script,
+            program: "",
         }
     }
 
@@ -192,20 +264,18 @@ mod tests {
     #[test]
     fn answers(rt: HostRuntime) -> Result<(), Fail> {
         let alloc = rt.alloc();
-        let script = Request::Script {
-            script: "script.txt",
-        };
-        let missing = Request::Script {
-            script: "missing.txt",
+        let script = |script| Request::Script {
+            script,
+            programs: Vec::new(alloc),
         };
         let cases = [
             (Request::Input, SCRIPT, REPLIES, "", 0),
             (Request::Input, "", "", "", 0),
-            (script, "", REPLIES, "", 0),
-            (missing, SCRIPT, "", "refused 901\n", 5),
+            (script("script.txt"), "", REPLIES, "", 0),
+            (script("missing.txt"), SCRIPT, "", "refused 901\n", 5),
         ];
         for (request, input, replies, told, status) in cases {
-            let files = OneFile("script.txt", SCRIPT);
+            let files = script_alone(SCRIPT);
             let mut input = Device::new(input.as_bytes());
             let mut out = Vec::new(alloc);
             let mut err = Vec::new(alloc);
@@ -224,10 +294,90 @@ mod tests {
         Ok(())
     }
 
+    // Programs, scripts, what is replied and told, and the status.
+    const RUNS: [(&str, &str, &str, &str, u8); 8] = [
+        (
+            "element Vertex end element Edge end func main() end",
+            "vertices 1\nrun 1 0 1\n",
+            "open 1\nend finished turns 0\n",
+            "",
+            0,
+        ),
+        (
+            "element Vertex end element Edge end const edges : edgeset{Edge}(Vertex, Vertex) = load(argv[1]); const vertices : vertexset{Vertex} = edges.getVertices(); const x : vector{Vertex}(int) = 3; func f(v : Vertex) x[v] = x[v] * v - 1; end func main() vertices.apply(f); print x[2]; end",
+            "vertices 3\nrun 1 0 1\n",
+            "open 3\n5\nend finished turns 0\nvector x: -1 2 5\nset vertices: 0 1 2\n",
+            "",
+            0,
+        ),
+        (
+            "element Vertex end element Edge end const edges : edgeset{Edge}(Vertex, Vertex) = load(argv[1]); const vertices : vertexset{Vertex} = edges.getVertices(); const x : vector{Vertex}(int) = 3; func f(v : Vertex) x[v] = x[v] * v - 1; end func main() vertices.apply(f); print x[9]; end",
+            "vertices 3\nrun 1 0 1\n",
+            "open 3\nend fault 401 statement 2 turns 0\nvector x: -1 2 5\nset vertices: 0 1 2\n",
+            "",
+            3,
+        ),
+        (
+            "element Vertex end element Edge end func main() var a : int = 9223372036854775807; a += 1; print a; print 5 / 0; print 5 % 0; print -7 / 2; print -7 % 2; print a / -1 == a; end",
+            "vertices 2\nrun 1 0 1\n",
+            "open 2\n-9223372036854775808\n0\n0\n-3\n-1\ntrue\nend finished turns 0\n",
+            "",
+            0,
+        ),
+        (
+            "element Vertex end element Edge end func main() for i in 0:5 print i; end end",
+            "vertices 2\nrun 1 2 1\n",
+            "open 2\n0\n1\nend turns-over turns 2\n",
+            "",
+            0,
+        ),
+        (
+            "element Vertex end",
+            SCRIPT,
+            "",
+            "program.txt: refused 211 at 18\n",
+            1,
+        ),
+        ("@", SCRIPT, "", "program.txt: refused 201 at 0\n", 1),
+        (
+            "element Vertex end element Edge end func main() print x; end",
+            SCRIPT,
+            "",
+            "program.txt: refused 211 at 60\n",
+            1,
+        ),
+    ];
+
+    #[test]
+    fn runs_programs(rt: HostRuntime) -> Result<(), Fail> {
+        let alloc = rt.alloc();
+        for (program, script, replies, told, status) in RUNS {
+            let files = TwoFiles { script, program };
+            let request = Request::Script {
+                script: "script.txt",
+                programs: vec![in alloc; "program.txt"; 1]?,
+            };
+            let mut out = Vec::new(alloc);
+            let mut err = Vec::new(alloc);
+            let ended = serve(
+                alloc,
+                &request,
+                &files,
+                &mut Device::new(b"".as_slice()),
+                &mut Device::new(&mut out),
+                &mut Device::new(&mut err),
+            );
+            assert_eq!(rt; out.as_slice(), replies.as_bytes(), "of {program}");
+            assert_eq!(rt; err.as_slice(), told.as_bytes(), "of {program}");
+            assert_eq!(rt; ended, status, "of {program}");
+        }
+        Ok(())
+    }
+
     #[test]
     fn tells_of_failures(rt: HostRuntime) -> Result<(), Fail> {
         let alloc = rt.alloc();
-        let files = OneFile("script.txt", SCRIPT);
+        let files = script_alone(SCRIPT);
         for moved in [0, 3] {
             let mut err = Vec::new(alloc);
             let ended = serve(
@@ -248,6 +398,7 @@ mod tests {
             let mut err = Vec::new(alloc);
             let request = Request::Script {
                 script: "script.txt",
+                programs: Vec::new(alloc),
             };
             let ended = serve(
                 alloc,

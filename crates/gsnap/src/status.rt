@@ -3,6 +3,9 @@
 /// All was done.
 pub const DONE: u8 = 0;
 
+/// The text of a program is refused.
+pub const REFUSED: u8 = 1;
+
 /// The command line is a bad one, or asks for help.
 pub const BAD_COMMAND_LINE: u8 = 2;
 
