@@ -11,7 +11,7 @@ use Rattle.decimal.specs.Numbers.{value_of, number_of, IsReadBack}
 use Rattle.decimal.specs.Digits.{BeginsWithDigits, AreLeadingDigits}
 
 -- the words of this crate are std's words for digits and their value
-digits_model : IsNumeralModel (λ ds. all_ascii_digits ds ≡ true) value_of
+pub digits_model : IsNumeralModel (λ ds. all_ascii_digits ds ≡ true) value_of
 digits_model = numerals_by_weight _ tells_all_ascii_digits value_of (search rules)
 
 -- two words of digits make one

@@ -15,3 +15,5 @@ mod numbers;
 mod sources;
 #[cfg(test)]
 mod token_lists;
+#[cfg(test)]
+mod written;

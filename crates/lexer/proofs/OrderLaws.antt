@@ -22,7 +22,7 @@ gaps_more gap piece (pieces, gaps, are) is_gap is = (
 )
 
 -- the bytes between two offsets
-slice_between : (a b c : List ℕ) (from to : ℕ) → from ≡ length a → to ≡ length a + length b → slice_of (a ++ (b ++ c)) (record { start = from; end = to }) ≡ b
+pub slice_between : (a b c : List ℕ) (from to : ℕ) → from ≡ length a → to ≡ length a + length b → slice_of (a ++ (b ++ c)) (record { start = from; end = to }) ≡ b
 slice_between a b c from to at_from at_to =
     let long : to - from ≡ length b = omega (arith, at_from, at_to) in
     ap (λ n. take n (drop from (a ++ (b ++ c)))) long

@@ -15,13 +15,13 @@ use Rattle.lexer.proofs.SpellingLaws.{keyword_spelling-IsWord, SymbolShape, symb
 pub class_of-white : (b : ℕ) → is_white b ≡ true → class_of b ≡ Blank
 class_of-white b white = rw white refl
 
-letter-not_white : (b : ℕ) → is_letter b ≡ true → is_white b ≡ false
+pub letter-not_white : (b : ℕ) → is_letter b ≡ true → is_white b ≡ false
 letter-not_white b letter = grind (arith, nat_tests)
 
 pub class_of-letter : (b : ℕ) → is_letter b ≡ true → class_of b ≡ Letter
 class_of-letter b letter = rw (letter-not_white b letter, letter) refl
 
-digit-not_white : (b : ℕ) → is_ascii_digit b ≡ true → is_white b ≡ false
+pub digit-not_white : (b : ℕ) → is_ascii_digit b ≡ true → is_white b ≡ false
 digit-not_white b digit = grind (arith, nat_tests)
 
 digit-not_letter : (b : ℕ) → is_ascii_digit b ≡ true → is_letter b ≡ false

@@ -1,0 +1,9 @@
+pub mod BareSources
+pub mod Levels
+pub mod Longest
+pub mod Moves
+pub mod MovesSources
+pub mod Puts
+pub mod ReadBack
+pub mod Reading
+pub mod Spelled

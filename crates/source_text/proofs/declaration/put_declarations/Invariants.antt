@@ -1,0 +1,8 @@
+use Rattle.std.proofs.Common.{map}
+use Rattle.grammar.specs.Spelling.{each_before, declaration_before}
+use Rattle.grammar.specs.Views.{declaration_tree}
+use Rattle.source_text.specs.Written.{PutsUpTo}
+use Rattle.source_text.proofs.declaration.put_declarations.Given as goal
+
+abbrev pub invariant-declarations : goal.invariant-declarations
+invariant-declarations l = PutsUpTo (each_before declaration_before (map declaration_tree l.declarations)) (λ x. declaration_before (declaration_tree x)) l.declarations l.declaration-index l.fn.out.items l.out.items

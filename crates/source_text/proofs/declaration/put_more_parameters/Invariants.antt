@@ -1,0 +1,8 @@
+use Rattle.std.proofs.Common.{map}
+use Rattle.grammar.specs.Spelling.{each_before, next_parameter_before}
+use Rattle.grammar.specs.Views.{parameter_tree}
+use Rattle.source_text.specs.Written.{PutsUpTo}
+use Rattle.source_text.proofs.declaration.put_more_parameters.Given as goal
+
+abbrev pub invariant-parameters : goal.invariant-parameters
+invariant-parameters l = PutsUpTo (each_before next_parameter_before (map parameter_tree l.parameters)) (λ x. next_parameter_before (parameter_tree x)) l.parameters l.parameter-index l.fn.out.items l.out.items

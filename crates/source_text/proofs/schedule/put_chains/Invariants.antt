@@ -1,0 +1,8 @@
+use Rattle.std.proofs.Common.{map}
+use Rattle.grammar.specs.Spelling.{each_before, chain_before}
+use Rattle.grammar.specs.Views.{chain_tree}
+use Rattle.source_text.specs.Written.{PutsUpTo}
+use Rattle.source_text.proofs.schedule.put_chains.Given as goal
+
+abbrev pub invariant-chains : goal.invariant-chains
+invariant-chains l = PutsUpTo (each_before chain_before (map chain_tree l.chains)) (λ x. chain_before (chain_tree x)) l.chains l.chain-index l.fn.out.items l.out.items

@@ -1,0 +1,8 @@
+use Rattle.std.proofs.Common.{map}
+use Rattle.grammar.specs.Spelling.{each_before, next_text_before}
+use Rattle.grammar.specs.Views.{text_of}
+use Rattle.source_text.specs.Written.{PutsUpTo}
+use Rattle.source_text.proofs.schedule.put_more_texts.Given as goal
+
+abbrev pub invariant-texts : goal.invariant-texts
+invariant-texts l = PutsUpTo (each_before next_text_before (map text_of l.texts)) (λ x. next_text_before (text_of x)) l.texts l.text-index l.fn.out.items l.out.items

@@ -1,0 +1,8 @@
+use Rattle.grammar.specs.Spelling.{block_before}
+use Rattle.grammar.specs.Views.{block_tree}
+use Rattle.source_text.specs.Written.{PutsUpTo}
+use Rattle.source_text.proofs.Puts.{statement_before}
+use Rattle.source_text.proofs.statement.+statements.Given as goal
+
+abbrev pub invariant-put_block-block : goal.invariant-put_block-block
+invariant-put_block-block l = PutsUpTo (block_before (block_tree l.block)) statement_before l.block l.statement-index l.fn.out.items l.out.items

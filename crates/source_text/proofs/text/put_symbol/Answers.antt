@@ -1,0 +1,8 @@
+use Rattle.std.proofs.lemmas.Result.{on_ok_weaker}
+use Rattle.expressions.specs.Words.{Mark}
+use Rattle.source_text.proofs.Puts.{put_word}
+use Rattle.source_text.proofs.text.put_symbol.Goals as goal
+
+pub returns : goal.returns
+returns c =
+    on_ok_weaker c.put.result (put_word (Mark c.args.symbol) c.spelling.result.now c.gap_behind_symbol.result c.args.out.now.items c.put.new.out.items c.spelling.ensures c.gap_behind_symbol.ensures) c.put.ensures

@@ -1,0 +1,4 @@
+pub mod Bare
+pub mod ReadBack
+pub mod Text
+pub mod Written

@@ -1,0 +1,25 @@
+-- What is read of the text of a source.
+use Rattle.std.specs.Prelude.{◌≡◌, ℕ, List, Result, Ok}
+use Rattle.grammar.specs.Nesting.{limit, StaysWithin}
+use Rattle.grammar.specs.Spelling.{source_words}
+use Rattle.grammar.specs.Trees.{SourceTree}
+use Rattle.parser.specs.declared.error.ParseError.{ParseError}
+use Rattle.parser.specs.Outcome.{Parses}
+use Rattle.source_text.specs.Bare.{bare_source}
+use Rattle.source_text.specs.Text.{AreSpelled}
+
+-- The source is one that a text can have: each of its words is one that some token is, and they nest within the limit.
+pub record IsWritable (source : SourceTree) : Type 0 where
+  pub spelled : AreSpelled (source_words source)
+  pub within : StaysWithin limit 0 (source_words source)
+
+-- two sources are the same, but for the offsets that stand in them
+abbrev pub AreSame : SourceTree → SourceTree → Type 0
+AreSame source other = bare_source source ≡ bare_source other
+
+-- the text is a source, it has no other answer, and that source is this one but for the offsets
+pub record IsReadBack (text : List ℕ) (source : SourceTree) : Type 0 where
+  pub read : SourceTree
+  pub is : Parses text (Ok read)
+  pub only : (answer : Result SourceTree ParseError) → Parses text answer → answer ≡ Ok read
+  pub same : AreSame read source

@@ -1,0 +1,39 @@
+-- What the steps of the writer say of the bytes so far. No public contract cites these.
+use Rattle.std.specs.Prelude.{◌≡◌, ℕ, List, ◌∷◌, ◌++◌, drop, map}
+use Rattle.std.specs.Global.{Vec}
+use Rattle.lexer.specs.declared.keyword.Keyword.TheVariants as keyword
+use Rattle.expressions.specs.declared.operators.Prefix.{Prefix}
+use Rattle.expressions.specs.Words.{Word, Reserved}
+use Rattle.expressions.specs.Spelling.{prefix_word}
+use Rattle.grammar.specs.declared.schedule.Chain.{Chain}
+use Rattle.grammar.specs.Spelling.{each_before}
+use Rattle.grammar.specs.Trees.{ChainTree}
+use Rattle.grammar.specs.Views.{chain_tree}
+use Rattle.source_text.specs.Text.{text_of}
+
+-- the bytes and then the text of the words are the whole
+unfoldable pub Completes : List ℕ → List Word → List ℕ → Type 0
+Completes bytes words whole = bytes ++ text_of words ≡ whole
+
+-- The step from the old bytes to the new ones has written what stands before the rest, whatever the rest is.
+abbrev pub Puts : (List Word → List Word) → List ℕ → List ℕ → Type 0
+Puts before old new = (rest : List Word) (whole : List ℕ) → Completes old (before rest) whole → Completes new rest whole
+
+-- signs in their order, and then the rest
+abbrev pub signs_before : List Prefix → List Word → List Word
+signs_before signs rest = each_before (λ sign others. prefix_word sign ∷ others) signs rest
+
+-- From the old bytes to these it has written what stands before the rest, but for the items from this one on.
+unfoldable pub PutsUpTo : {A : Type 0} → (List Word → List Word) → (A → List Word → List Word) → List A → ℕ → List ℕ → List ℕ → Type 0
+PutsUpTo before step items i old new =
+    (rest : List Word) (whole : List ℕ) → Completes old (before rest) whole → Completes new (each_before step (drop i items) rest) whole
+
+-- the schedule's chains
+abbrev pub chains_tree : Vec Chain → List ChainTree
+chains_tree chains = map chain_tree chains.items
+
+-- "element" "Vertex" "end" "element" "Edge" "end"
+abbrev pub elements_before : List Word → List Word
+elements_before rest =
+    Reserved keyword.Element ∷ Reserved keyword.Vertex ∷ Reserved keyword.End
+    ∷ Reserved keyword.Element ∷ Reserved keyword.Edge ∷ Reserved keyword.End ∷ rest

@@ -1,0 +1,203 @@
+//! Types, and what a name is declared or assigned to be.
+ghost use Rattle.std.specs.Prelude.{◌++◌, ◌∷◌, OnOk};
+ghost use Rattle.lexer.specs.declared.keyword.Keyword.TheVariants as keyword_word;
+ghost use Rattle.lexer.specs.declared.symbol.Symbol.TheVariants as symbol;
+ghost use Rattle.expressions.specs.Words.{Mark, Name as word_name, Reserved};
+ghost use Rattle.grammar.specs.Trees.{Load};
+ghost use Rattle.grammar.specs.Spelling.{argument_words, assigned_before, end_words, ends_before, ended_before, initial_before, type_words, typed_before};
+ghost use Rattle.grammar.specs.Views.{ends_tree, initial_tree, parameter_tree};
+ghost use Rattle.source_text.specs.Written.{Puts};
+
+use crate::expression::put_expression;
+use crate::text::{put_keyword, put_name, put_number, put_symbol};
+use expressions::{Expression, Name};
+use grammar::{DeclaredType, Ends, Initial, Parameter};
+use lexer::{Keyword, Symbol};
+use std::alloc::AllocError;
+
+/// Puts a name and its type down.
+pub(crate) fn put_parameter(out: &mut Vec<u8>, parameter: &Parameter) -> Result<(), AllocError>
+    ensures { OnOk result (Puts (typed_before (parameter_tree parameter.now)) out.old.items out.new.items) }
+{
+    put_name(out, &parameter.name)?;
+    put_symbol(out, Symbol::Colon)?;
+    put_type(out, parameter.declared)
+}
+
+/// Puts a type down.
+fn put_type(out: &mut Vec<u8>, declared: DeclaredType) -> Result<(), AllocError>
+    ensures { OnOk result (Puts (λ rest. type_words declared ++ rest) out.old.items out.new.items) }
+{
+    match declared {
+        DeclaredType::Int => put_keyword(out, Keyword::Int),
+        DeclaredType::Bool => put_keyword(out, Keyword::Bool),
+        DeclaredType::Vertex => put_keyword(out, Keyword::Vertex),
+        DeclaredType::VertexSet => {
+            put_keyword(out, Keyword::VertexSet)?;
+            put_in_braces(out, Keyword::Vertex)
+        }
+        DeclaredType::Vector => {
+            put_keyword(out, Keyword::Vector)?;
+            put_in_braces(out, Keyword::Vertex)?;
+            put_symbol(out, Symbol::OpenParenthesis)?;
+            put_keyword(out, Keyword::Int)?;
+            put_symbol(out, Symbol::CloseParenthesis)
+        }
+        DeclaredType::EdgeSet => {
+            put_keyword(out, Keyword::EdgeSet)?;
+            put_in_braces(out, Keyword::Edge)?;
+            put_vertex_pair(out)
+        }
+    }
+}
+
+/// Puts `(Vertex, Vertex)` down.
+fn put_vertex_pair(out: &mut Vec<u8>) -> Result<(), AllocError>
+    ensures { OnOk result (Puts (λ rest. Mark symbol.OpenParenthesis ∷ Reserved keyword_word.Vertex ∷ Mark symbol.Comma ∷ Reserved keyword_word.Vertex ∷ Mark symbol.CloseParenthesis ∷ rest) out.old.items out.new.items) }
+{
+    put_symbol(out, Symbol::OpenParenthesis)?;
+    put_keyword(out, Keyword::Vertex)?;
+    put_symbol(out, Symbol::Comma)?;
+    put_keyword(out, Keyword::Vertex)?;
+    put_symbol(out, Symbol::CloseParenthesis)
+}
+
+/// Puts a keyword in braces down.
+fn put_in_braces(out: &mut Vec<u8>, keyword: Keyword) -> Result<(), AllocError>
+    ensures { OnOk result (Puts (λ rest. Mark symbol.OpenBrace ∷ Reserved keyword ∷ Mark symbol.CloseBrace ∷ rest) out.old.items out.new.items) }
+{
+    put_symbol(out, Symbol::OpenBrace)?;
+    put_keyword(out, keyword)?;
+    put_symbol(out, Symbol::CloseBrace)
+}
+
+/// Puts a dot and the name of a method down.
+pub(crate) fn put_method(out: &mut Vec<u8>, keyword: Keyword) -> Result<(), AllocError>
+    ensures { OnOk result (Puts (λ rest. Mark symbol.Dot ∷ Reserved keyword ∷ rest) out.old.items out.new.items) }
+{
+    put_symbol(out, Symbol::Dot)?;
+    put_keyword(out, keyword)
+}
+
+/// Puts `()` down.
+fn put_no_arguments(out: &mut Vec<u8>) -> Result<(), AllocError>
+    ensures { OnOk result (Puts (λ rest. Mark symbol.OpenParenthesis ∷ Mark symbol.CloseParenthesis ∷ rest) out.old.items out.new.items) }
+{
+    put_symbol(out, Symbol::OpenParenthesis)?;
+    put_symbol(out, Symbol::CloseParenthesis)
+}
+
+/// Puts a name in parentheses down.
+pub(crate) fn put_argument(out: &mut Vec<u8>, name: &Name) -> Result<(), AllocError>
+    ensures { OnOk result (Puts (λ rest. argument_words name.now ++ rest) out.old.items out.new.items) }
+{
+    put_symbol(out, Symbol::OpenParenthesis)?;
+    put_name(out, name)?;
+    put_symbol(out, Symbol::CloseParenthesis)
+}
+
+/// Puts the ends of an apply down, where they are given.
+pub(crate) fn put_ends(out: &mut Vec<u8>, ends: &Ends) -> Result<(), AllocError>
+    ensures { OnOk result (Puts (ends_before (ends_tree ends.now)) out.old.items out.new.items) }
+{
+    put_end(out, Keyword::From, &ends.from)?;
+    put_end(out, Keyword::To, &ends.to)
+}
+
+/// Puts an end of an apply down, where it is given.
+fn put_end(out: &mut Vec<u8>, keyword: Keyword, name: &Option<Name>) -> Result<(), AllocError>
+    ensures { OnOk result (Puts (λ rest. end_words (Reserved keyword) name.now ++ rest) out.old.items out.new.items) }
+{
+    match name {
+        None => Ok(()),
+        Some(name) => {
+            put_method(out, keyword)?;
+            put_argument(out, name)
+        }
+    }
+}
+
+/// Puts `=`, an initial value and `;` down.
+pub(crate) fn put_assigned(out: &mut Vec<u8>, initial: &Initial) -> Result<(), AllocError>
+    ensures { OnOk result (Puts (assigned_before (initial_tree initial.now)) out.old.items out.new.items) }
+{
+    put_symbol(out, Symbol::Assign)?;
+    put_initial(out, initial)?;
+    put_symbol(out, Symbol::Semicolon)
+}
+
+/// Puts an expression and `;` down.
+pub(crate) fn put_ended(out: &mut Vec<u8>, expression: &Expression) -> Result<(), AllocError>
+    ensures { OnOk result (Puts (ended_before expression.now) out.old.items out.new.items) }
+{
+    put_expression(out, expression)?;
+    put_symbol(out, Symbol::Semicolon)
+}
+
+/// Puts an initial value down.
+fn put_initial(out: &mut Vec<u8>, initial: &Initial) -> Result<(), AllocError>
+    ensures { OnOk result (Puts (initial_before (initial_tree initial.now)) out.old.items out.new.items) }
+{
+    match initial {
+        Initial::NewSet(size) => {
+            put_keyword(out, Keyword::New)?;
+            put_keyword(out, Keyword::VertexSet)?;
+            put_in_braces(out, Keyword::Vertex)?;
+            put_symbol(out, Symbol::OpenParenthesis)?;
+            put_number(out, size)?;
+            put_symbol(out, Symbol::CloseParenthesis)
+        }
+        Initial::Load(number) => put_load(out, number),
+        Initial::Vertices(edges) => {
+            put_name(out, edges)?;
+            put_method(out, Keyword::GetVertices)?;
+            put_no_arguments(out)
+        }
+        Initial::OutDegrees(edges) => {
+            put_name(out, edges)?;
+            put_method(out, Keyword::GetOutDegrees)?;
+            put_no_arguments(out)
+        }
+        Initial::Filter { set, test } => {
+            put_name(out, set)?;
+            put_method(out, Keyword::Filter)?;
+            put_argument(out, test)
+        }
+        Initial::ApplyModified {
+            edges,
+            ends,
+            function,
+            vector,
+        } => {
+            put_name(out, edges)?;
+            put_ends(out, ends)?;
+            put_method(out, Keyword::ApplyModified)?;
+            put_name_pair(out, function, vector)
+        }
+        Initial::Value(value) => put_expression(out, value),
+    }
+}
+
+/// Puts `load(argv[number])` down.
+fn put_load(out: &mut Vec<u8>, number: &i64) -> Result<(), AllocError>
+    ensures { OnOk result (Puts (initial_before (Load number.now)) out.old.items out.new.items) }
+{
+    put_keyword(out, Keyword::Load)?;
+    put_symbol(out, Symbol::OpenParenthesis)?;
+    put_keyword(out, Keyword::Argv)?;
+    put_symbol(out, Symbol::OpenBracket)?;
+    put_number(out, number)?;
+    put_symbol(out, Symbol::CloseBracket)?;
+    put_symbol(out, Symbol::CloseParenthesis)
+}
+
+/// Puts two names in parentheses down.
+fn put_name_pair(out: &mut Vec<u8>, first: &Name, second: &Name) -> Result<(), AllocError>
+    ensures { OnOk result (Puts (λ rest. Mark symbol.OpenParenthesis ∷ word_name first.now ∷ Mark symbol.Comma ∷ word_name second.now ∷ Mark symbol.CloseParenthesis ∷ rest) out.old.items out.new.items) }
+{
+    put_symbol(out, Symbol::OpenParenthesis)?;
+    put_name(out, first)?;
+    put_symbol(out, Symbol::Comma)?;
+    put_name(out, second)?;
+    put_symbol(out, Symbol::CloseParenthesis)
+}

@@ -1,0 +1,126 @@
+//! Words as text.
+ghost use Rattle.std.specs.Prelude.{◌≡◌, ◌++◌, ℕ, List, [], ◌∷◌, OnOk};
+ghost use Rattle.lexer.specs.Spelling.{symbol_spelling};
+ghost use Rattle.expressions.specs.Words.{Word, Label as label_word, Mark, Name as name_word, Number, Opening, Reserved, Text as text_word};
+ghost use Rattle.source_text.specs.Text.{text_of, keyword_gap, symbol_gap, AreSpelled, HasWords};
+ghost use Rattle.source_text.specs.Written.{Puts};
+
+use decimal::push_integer;
+use expressions::Name;
+use grammar::Text;
+use lexer::{Keyword, Symbol};
+use std::alloc::AllocError;
+
+/// The law that the text of words has tokens, and that they are these words but for their offsets, where each
+/// word is one that some token is. The call does nothing.
+pub fn words_are_read_back()
+    ensures { (words : List Word) → AreSpelled words → HasWords (text_of words) words }
+{}
+
+/// Puts a name down.
+pub(crate) fn put_name(out: &mut Vec<u8>, name: &Name) -> Result<(), AllocError>
+    ensures { OnOk result (Puts (λ rest. name_word name.now ∷ rest) out.old.items out.new.items) }
+{
+    put(out, name.bytes(), b' ')
+}
+
+/// Puts a label down, which has its marks.
+pub(crate) fn put_label(out: &mut Vec<u8>, label: &Name) -> Result<(), AllocError>
+    ensures { OnOk result (Puts (λ rest. label_word label.now ∷ rest) out.old.items out.new.items) }
+{
+    put(out, label.bytes(), b' ')
+}
+
+/// Puts a text down, which has its quotes.
+pub(crate) fn put_text(out: &mut Vec<u8>, text: &Text) -> Result<(), AllocError>
+    ensures { OnOk result (Puts (λ rest. text_word text.now.bytes.items ∷ rest) out.old.items out.new.items) }
+{
+    put(out, text.bytes(), b' ')
+}
+
+/// Puts a number down.
+pub(crate) fn put_number(out: &mut Vec<u8>, number: &i64) -> Result<(), AllocError>
+    ensures { OnOk result (Puts (λ rest. Number number.now ∷ rest) out.old.items out.new.items) }
+{
+    push_integer(out, *number)?;
+    out.push(b' ')?;
+    Ok(())
+}
+
+/// Puts a keyword down.
+pub(crate) fn put_keyword(out: &mut Vec<u8>, keyword: Keyword) -> Result<(), AllocError>
+    ensures opening { OnOk result ((at : ℕ) → Puts (λ rest. Opening keyword at ∷ rest) out.old.items out.new.items) }
+    ensures reserved { OnOk result (Puts (λ rest. Reserved keyword ∷ rest) out.old.items out.new.items) }
+{
+    put(out, keyword.spelling(), gap_behind_keyword(keyword))
+}
+
+/// Puts a symbol down.
+pub(crate) fn put_symbol(out: &mut Vec<u8>, symbol: Symbol) -> Result<(), AllocError>
+    ensures { OnOk result (Puts (λ rest. Mark symbol ∷ rest) out.old.items out.new.items) }
+{
+    put(out, spelling(symbol), gap_behind_symbol(symbol))
+}
+
+/// Puts the bytes of a word down, and a byte behind them.
+fn put(out: &mut Vec<u8>, bytes: &[u8], gap: u8) -> Result<(), AllocError>
+    ensures { OnOk result (out.new.items ≡ out.old.items ++ (bytes.now ++ gap ∷ [])) }
+{
+    out.extend_from_slice(bytes)?;
+    out.push(gap)?;
+    Ok(())
+}
+
+/// What stands behind a keyword: the end of a line behind `end`.
+fn gap_behind_keyword(keyword: Keyword) -> u8
+    ensures { result ≡ keyword_gap keyword }
+{
+    match keyword {
+        Keyword::End => b'\n',
+        _ => b' ',
+    }
+}
+
+/// What stands behind a symbol: the end of a line behind `;`.
+fn gap_behind_symbol(symbol: Symbol) -> u8
+    ensures { result ≡ symbol_gap symbol }
+{
+    match symbol {
+        Symbol::Semicolon => b'\n',
+        _ => b' ',
+    }
+}
+
+/// How a symbol is spelled.
+fn spelling(symbol: Symbol) -> &'static [u8]
+    ensures { result.now ≡ symbol_spelling symbol }
+{
+    match symbol {
+        Symbol::OpenParenthesis => b"(",
+        Symbol::CloseParenthesis => b")",
+        Symbol::OpenBracket => b"[",
+        Symbol::CloseBracket => b"]",
+        Symbol::OpenBrace => b"{",
+        Symbol::CloseBrace => b"}",
+        Symbol::Comma => b",",
+        Symbol::Semicolon => b";",
+        Symbol::Colon => b":",
+        Symbol::Dot => b".",
+        Symbol::Assign => b"=",
+        Symbol::Equal => b"==",
+        Symbol::NotEqual => b"!=",
+        Symbol::Less => b"<",
+        Symbol::LessOrEqual => b"<=",
+        Symbol::Greater => b">",
+        Symbol::GreaterOrEqual => b">=",
+        Symbol::Plus => b"+",
+        Symbol::Minus => b"-",
+        Symbol::Star => b"*",
+        Symbol::Slash => b"/",
+        Symbol::Percent => b"%",
+        Symbol::Arrow => b"->",
+        Symbol::PlusAssign => b"+=",
+        Symbol::MinAssign => b"min=",
+        Symbol::MaxAssign => b"max=",
+    }
+}
