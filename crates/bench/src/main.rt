@@ -12,6 +12,7 @@ mod outcome;
 mod parsing;
 mod random;
 mod scripts;
+mod sets;
 mod tails;
 mod timing;
 mod trees;
@@ -39,10 +40,11 @@ fn main(rt: HostRuntime) -> io::Result<ExitCode> {
         ["--time", "tails"] => tails::print_times(&rt)?,
         ["--time", "trees"] => trees::print_times(&rt)?,
         ["--time", "ctrees"] => ctrees::print_times(&rt)?,
+        ["--time", "sets"] => sets::print_times(&rt)?,
         ["--script", adds] => print_script(&rt, adds)?,
         _ => {
             eprintln!(rt;
-                "usage: bench [--time scripts|lexer|parser|tails|trees|ctrees | --script ADDS]"
+                "usage: bench [--time scripts|lexer|parser|tails|trees|ctrees|sets | --script ADDS]"
             )?;
             return Ok(ExitCode::from(2));
         }

@@ -11,6 +11,8 @@ use Rattle.chunk_parts.specs.Sets.{has, below, above}
 use Rattle.chunk_parts.specs.Parts.{IsCut}
 use Rattle.chunk_parts.proofs.Cutting.{below_ascends, above_from}
 use Rattle.set_ops.specs.declared.operation.Operation.{Operation}
+use Rattle.set_ops.specs.declared.halves.Halves.{Halves}
+use Rattle.set_ops.specs.Halving.{AreHalves, AreOver, AreAnswers}
 use Rattle.set_ops.specs.Operations.{combined, most, rejoined, IsCombined, IsRejoined}
 use Rattle.set_ops.proofs.Laws.{one, cut_length, combined_cut, combined_count, combined_ascends, most_room}
 
@@ -76,6 +78,48 @@ module _ (op : Operation) (base : Option ℕ) (k : ℕ) (a al : ChunkedSet) (p :
           let y : d + length (combined op (above k a.elements) (above k b.elements)) ≡ most op (above k a.elements) (above k b.elements) = rw (one_cut.back, other_cut.back) at above_is.count in
           rw (is.count, one_cut.found, other_cut.found) (combined_count op k (least base) (least base) a.elements b.elements up up' there' c d x y);
     }
+
+-- What two answers are when they are put together.
+pub record CanRejoin (op : Operation) (a b : ChunkedSet) (h : Halves) (lo hi : Combined) : Type 0 where
+  pub sizes : hi.pieces.chunk_size ≡ lo.pieces.chunk_size
+  pub head : is_head lo.pieces.chunk_size h.key ≡ true
+  pub ascending : Ascends None (rejoined op lo.pieces.elements h.key (h.first.found, h.second.found) hi.pieces.elements)
+  pub below_room : lo.common ≤ 2 ^ 40
+  pub above_room : hi.common ≤ 2 ^ 40
+  pub whole : (m : Combined) → IsRejoined op lo.pieces lo.common h.key (h.first.found, h.second.found) hi.pieces hi.common m.pieces m.common → IsCombined op a b m.pieces m.common
+
+module _ (op : Operation) (base : Option ℕ) (a b : ChunkedSet) (h : Halves) (is : AreHalves a b h) (sizes : a.chunk_size ≡ b.chunk_size) (up : Ascends base a.elements) (up' : Ascends base b.elements) where
+  pub over_below : AreOver base h.first.below h.second.below
+  over_below = record {
+    sizes = is.first.left_size ∙ sizes ∙ sym is.second.left_size;
+    first = below_over base h.key a h.first.below h.first.found h.first.above is.first up;
+    second = below_over base h.key b h.second.below h.second.found h.second.above is.second up';
+  }
+
+  pub over_above : AreOver (Some h.key) h.first.above h.second.above
+  over_above = record {
+    sizes = is.first.right_size ∙ sizes ∙ sym is.second.right_size;
+    first = above_over base h.key a h.first.below h.first.found h.first.above is.first up;
+    second = above_over base h.key b h.second.below h.second.found h.second.above is.second up';
+  }
+
+  pub less_below : length h.first.below.elements + length h.second.below.elements < length a.elements + length b.elements
+  less_below = below_smaller op base h.key a h.first.below h.first.found h.first.above b h.second.below h.second.found h.second.above is.first is.second is.there up up'
+
+  pub less_above : length h.first.above.elements + length h.second.above.elements < length a.elements + length b.elements
+  less_above = above_smaller op base h.key a h.first.below h.first.found h.first.above b h.second.below h.second.found h.second.above is.first is.second is.there up up'
+
+  pub can_rejoin : (lo hi : Combined) → AreAnswers op h lo hi → CanRejoin op a b h lo hi
+  can_rejoin lo hi are =
+      let size = size_below op base h.key a h.first.below h.first.found h.first.above b h.second.below h.second.found h.second.above is.first is.second is.there up up' lo.pieces lo.common hi.pieces hi.common are.below are.above in
+      record {
+        sizes = size_above op base h.key a h.first.below h.first.found h.first.above b h.second.below h.second.found h.second.above is.first is.second is.there up up' lo.pieces lo.common hi.pieces hi.common are.below are.above;
+        head = rw size is.head;
+        ascending = rejoin_ascends op base h.key a h.first.below h.first.found h.first.above b h.second.below h.second.found h.second.above is.first is.second is.there up up' lo.pieces lo.common hi.pieces hi.common are.below are.above;
+        below_room = below_room op base h.key a h.first.below h.first.found h.first.above b h.second.below h.second.found h.second.above is.first is.second is.there up up' lo.pieces lo.common hi.pieces hi.common are.below are.above;
+        above_room = above_room op base h.key a h.first.below h.first.found h.first.above b h.second.below h.second.found h.second.above is.first is.second is.there up up' lo.pieces lo.common hi.pieces hi.common are.below are.above;
+        whole = λ m. is_combined op base h.key a h.first.below h.first.found h.first.above b h.second.below h.second.found h.second.above is.first is.second is.there up up' lo.pieces lo.common hi.pieces hi.common are.below are.above m.pieces m.common;
+      }
 
 -- where each answer that is put together from two is right, so is the result
 pub ok_is : (P Q : Combined → Type 0) → ((m : Combined) → P m → Q m) → (r : Result Combined AllocError) → IfOk r P → IfOk r Q

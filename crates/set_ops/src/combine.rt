@@ -4,8 +4,8 @@ ghost use Rattle.std.specs.Prelude.{◌≡◌, IfOk};
 ghost use Rattle.tail_codec.specs.Spelling.{Ascends};
 ghost use Rattle.set_ops.specs.Operations.{IsCombined};
 
-use crate::halves::cut_both;
-use crate::operation::{Combined, Operation, with_no_head, with_nothing};
+use crate::begin::{Begun, begin};
+use crate::operation::{Combined, Operation};
 use crate::rejoin::rejoin;
 use chunk_parts::Part;
 use std::alloc::{AllocError, Global};
@@ -23,28 +23,23 @@ pub(crate) fn combine(
     requires second_over { Ascends base second.now.elements }
     ensures { IfOk result (λ c. IsCombined operation first.now second.now c.pieces c.common) }
 {
-    if let Some(combined) = with_nothing(operation, first, second)? {
-        return Ok(combined);
-    }
-    let Some(halves) = cut_both(alloc, first, second)? else {
-        return with_no_head(alloc, operation, base, first, second);
+    let halves = match begin(alloc, operation, base, first, second)? {
+        Begun::Whole(combined) => return Ok(combined),
+        Begun::Cut(halves) => halves,
     };
-    let (first, second) = (&halves.first, &halves.second);
-    let found = (first.found, second.found);
-    let key = halves.key;
     let below = combine(
         alloc,
         operation,
         base,
-        &first.below.part(),
-        &second.below.part(),
+        &halves.first.below.part(),
+        &halves.second.below.part(),
     )?;
     let above = combine(
         alloc,
         operation,
-        Some(key),
-        &first.above.part(),
-        &second.above.part(),
+        Some(halves.key),
+        &halves.first.above.part(),
+        &halves.second.above.part(),
     )?;
-    rejoin(alloc, operation, below, key, found, above)
+    rejoin(alloc, operation, &halves, below, above)
 }

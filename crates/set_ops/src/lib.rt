@@ -12,16 +12,23 @@
 //! Sets of k and n elements take the heads of the smaller and of what lies beside them, about
 //! `k log(n / k + 1)` nodes, beside the chunks that both sets reach into.
 //!
+//! `union_forked` and `difference_forked` give the same answers, with the halves on two threads at the
+//! first levels; a `Fork` is told of each half that begins. Only they need a handle of threads.
+//!
 //! Graphs stand on this crate. The recursion is that of "Just Join for Parallel Ordered Sets"
 //! (Blelloch, Ferizovic, Sun, SPAA 2016) as Aspen has it on C-trees (PLDI 2019).
 #![tactic(auto)]
 
+mod begin;
 mod combine;
 mod error;
+mod fork;
+mod forked;
 mod halves;
 mod operation;
 mod rejoin;
 mod sets;
 
 pub use error::SetError;
-pub use sets::{difference, union};
+pub use fork::{Fork, Quiet};
+pub use sets::{difference, difference_forked, union, union_forked};

@@ -1,13 +1,21 @@
 //! The operations on two sets.
 
+ghost use Rattle.std.specs.Prelude.{◌≡◌, ◌≢◌, IfOk, IfErr};
+ghost use Rattle.set_ops.specs.declared.error.SetError.TheVariants.{ChunkSizesDiffer};
 ghost use Rattle.set_ops.specs.Outcome.{Unites, Subtracts};
 
 use crate::combine::combine;
 use crate::error::SetError;
+use crate::fork::Fork;
+use crate::forked::combine_forked;
 use crate::operation::Operation;
 use c_tree::CTree;
 use chunk_parts::Part;
 use std::alloc::Global;
+use std::thread::Threads;
+
+/// The most levels at which halves go to two threads.
+const MOST_FORKS: u32 = 6;
 
 /// The set of the elements of both sets, in chunks of the size that both have. The two sets stay as
 /// they were, and the answer shares with them the chunks in whose range the other has nothing.
@@ -16,10 +24,7 @@ use std::alloc::Global;
 pub fn union(alloc: Global, first: &CTree, second: &CTree) -> Result<CTree, SetError>
     ensures { Unites first.now second.now result }
 {
-    if first.chunk_size().get() != second.chunk_size().get() {
-        return Err(SetError::ChunkSizesDiffer);
-    }
-    let (a, b) = (Part::of(first), Part::of(second));
+    let (a, b) = parts_of(first, second)?;
     let united = combine(alloc, Operation::Unite, None, &a, &b)?;
     let len = first.len() + second.len() - united.common;
     Ok(united.pieces.into_set(alloc, len)?)
@@ -33,11 +38,65 @@ pub fn union(alloc: Global, first: &CTree, second: &CTree) -> Result<CTree, SetE
 pub fn difference(alloc: Global, first: &CTree, second: &CTree) -> Result<CTree, SetError>
     ensures { Subtracts first.now second.now result }
 {
-    if first.chunk_size().get() != second.chunk_size().get() {
-        return Err(SetError::ChunkSizesDiffer);
-    }
-    let (a, b) = (Part::of(first), Part::of(second));
+    let (a, b) = parts_of(first, second)?;
     let rest = combine(alloc, Operation::Subtract, None, &a, &b)?;
     let len = first.len() - rest.common;
     Ok(rest.pieces.into_set(alloc, len)?)
+}
+
+/// As [`union`], with the two halves on two threads at so many levels, at most 6. Where no thread can
+/// be started, the caller does both halves. The answer is that of `union` whatever `forks` is.
+/// `fork` is told of each half that begins.
+///
+/// Errors: `ChunkSizesDiffer` where the sets have different chunk sizes, else `NoMemory`.
+pub fn union_forked<R: Threads + Sync, F: Fork + Sync>(
+    rt: &R,
+    alloc: Global,
+    first: &CTree,
+    second: &CTree,
+    forks: u32,
+    fork: &F,
+) -> Result<CTree, SetError>
+    ensures { Unites first.now second.now result }
+{
+    let (a, b) = parts_of(first, second)?;
+    let forks = forks.min(MOST_FORKS);
+    let both = combine_forked(rt, alloc, Operation::Unite, None, &a, &b, forks, 1, fork)?;
+    let len = first.len() + second.len() - both.common;
+    Ok(both.pieces.into_set(alloc, len)?)
+}
+
+/// As [`difference`], with the two halves on two threads at so many levels, at most 6. Where no thread
+/// can be started, the caller does both halves. The answer is that of `difference` whatever `forks`
+/// is. `fork` is told of each half that begins.
+///
+/// Errors: `ChunkSizesDiffer` where the sets have different chunk sizes, else `NoMemory`.
+pub fn difference_forked<R: Threads + Sync, F: Fork + Sync>(
+    rt: &R,
+    alloc: Global,
+    first: &CTree,
+    second: &CTree,
+    forks: u32,
+    fork: &F,
+) -> Result<CTree, SetError>
+    ensures { Subtracts first.now second.now result }
+{
+    let (a, b) = parts_of(first, second)?;
+    let forks = forks.min(MOST_FORKS);
+    let left = combine_forked(rt, alloc, Operation::Subtract, None, &a, &b, forks, 1, fork)?;
+    let len = first.len() - left.common;
+    Ok(left.pieces.into_set(alloc, len)?)
+}
+
+/// Both sets as parts.
+fn parts_of<'a>(first: &'a CTree, second: &'a CTree) -> Result<(Part<'a>, Part<'a>), SetError>
+    ensures parts { IfOk result (λ p. (first.now.chunk_size ≡ second.now.chunk_size)
+        × (p.0 ≡ first.now) × (p.1 ≡ second.now)) }
+    ensures refused { IfErr result (λ e. (e ≡ ChunkSizesDiffer)
+        × (first.now.chunk_size ≢ second.now.chunk_size)) }
+{
+    if first.chunk_size().get() != second.chunk_size().get() {
+        return Err(SetError::ChunkSizesDiffer);
+    }
+    Ok((Part::of(first), Part::of(second)))
 }
