@@ -1,9 +1,6 @@
 //! How long the parser takes for long sources of statements, beside the lexer alone.
 
 use crate::timing::{TURNS, Times, print_head, print_row};
-use grammar::{Declaration, Source};
-use lexer::{Token, tokens};
-use parser::parse;
 use std::alloc::{AllocError, Global};
 use std::io;
 use std::io::Error;
@@ -51,7 +48,7 @@ fn source(alloc: Global, bytes: usize) -> Result<String, AllocError> {
 /// Prints what a small source has.
 pub fn print_outcomes<R: Print + AllocGlobal>(rt: &R) -> io::Result<()> {
     let text = source(rt.alloc(), SHORT)?;
-    let statements = statements_of(&parsed(rt.alloc(), text.as_bytes())?);
+    let statements = statements_of(rt.alloc(), text.as_bytes())?;
     println!(rt;
         "source of {} bytes: {statements} statements of a function",
         text.len()
@@ -67,8 +64,12 @@ pub fn print_times<R: Print + AllocGlobal + Clock>(rt: &R) -> io::Result<()> {
         let mut parser = Times::new(rt.alloc());
         let mut lexer = Times::new(rt.alloc());
         for _ in 0..TURNS {
-            found ^= time_parser(rt, text.as_bytes(), &mut parser)?;
-            found ^= time_lexer(rt, text.as_bytes(), &mut lexer)?;
+            let start = Instant::now(rt)?;
+            found ^= statements_of(rt.alloc(), text.as_bytes())?;
+            parser.push(rt, start)?;
+            let start = Instant::now(rt)?;
+            found ^= tokens_of(rt.alloc(), text.as_bytes())?;
+            lexer.push(rt, start)?;
         }
         print_row(rt, "parser, bytes", text.len(), &mut parser)?;
         print_row(rt, "lexer alone, bytes", text.len(), &mut lexer)?;
@@ -76,44 +77,21 @@ pub fn print_times<R: Print + AllocGlobal + Clock>(rt: &R) -> io::Result<()> {
     println!(rt; "check {found}")
 }
 
-// Parses a text, and answers how many statements it has. That the tree's memory is given back is not timed.
-fn time_parser<R: AllocGlobal + Clock>(
-    rt: &R,
-    text: &[u8],
-    times: &mut Times,
-) -> io::Result<usize> {
-    let start = Instant::now(rt)?;
-    let source = parsed(rt.alloc(), text)?;
-    times.push(rt, start)?;
-    Ok(statements_of(&source))
-}
-
-// The same of the lexer, with the number of tokens.
-fn time_lexer<R: AllocGlobal + Clock>(rt: &R, text: &[u8], times: &mut Times) -> io::Result<usize> {
-    let start = Instant::now(rt)?;
-    let tokens = lexed(rt.alloc(), text)?;
-    times.push(rt, start)?;
-    Ok(tokens.len())
-}
-
-fn parsed(alloc: Global, text: &[u8]) -> io::Result<Source> {
-    match parse(alloc, text) {
-        Ok(source) => Ok(source),
-        Err(error) => Err(Error::other(error.to_string(alloc)?.as_str())),
-    }
-}
-
-fn lexed(alloc: Global, text: &[u8]) -> io::Result<Vec<Token>> {
-    match tokens(alloc, text) {
-        Ok(tokens) => Ok(tokens),
-        Err(error) => Err(Error::other(error.to_string(alloc)?.as_str())),
-    }
-}
-
 // How many statements stand in the first function of a source, aside from those in other statements.
-fn statements_of(source: &Source) -> usize {
-    match source.declarations.first() {
-        Some(Declaration::Function { body, .. }) => body.len(),
-        _ => 0,
+fn statements_of(alloc: Global, text: &[u8]) -> io::Result<usize> {
+    match parser::parse(alloc, text) {
+        Ok(source) => match source.declarations.first() {
+            Some(grammar::Declaration::Function { body, .. }) => Ok(body.len()),
+            _ => Ok(0),
+        },
+        Err(error) => Err(Error::other(error.to_string(alloc)?.as_str())),
+    }
+}
+
+// How many tokens a text has.
+fn tokens_of(alloc: Global, text: &[u8]) -> io::Result<usize> {
+    match lexer::tokens(alloc, text) {
+        Ok(tokens) => Ok(tokens.len()),
+        Err(error) => Err(Error::other(error.to_string(alloc)?.as_str())),
     }
 }
