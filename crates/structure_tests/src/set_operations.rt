@@ -1,9 +1,6 @@
-ghost use Rattle.std.specs.Prelude.{◌<◌};
-
 use c_tree::CTree;
-use set_ops::{Fork, Quiet, SetError, difference, difference_forked, union, union_forked};
+use set_ops::{SetError, difference, union};
 use std::alloc::Global;
-use std::sync::atomic::{AtomicU64, Ordering};
 use std::test::Fail;
 
 // Two sets' lists, their union and their difference, at a chunk size.
@@ -100,112 +97,9 @@ fn refuses_two_chunk_sizes(rt: HostRuntime) -> Result<(), Fail> {
     for refused in [
         union(rt.alloc(), &first, &second).err(),
         difference(rt.alloc(), &first, &second).err(),
-        union_forked(&rt, rt.alloc(), &first, &second, 1, &Quiet).err(),
-        difference_forked(&rt, rt.alloc(), &first, &second, 1, &Quiet).err(),
     ] {
         let number = refused.map(SetError::number);
         assert_eq!(rt; number, Some(104));
     }
-    Ok(())
-}
-
-// Numbers below a bound, from `first` on in steps.
-fn steps(alloc: Global, first: usize, step: usize, below: u32) -> Result<Vec<u32>, Fail>
-    requires { 0 < step }
-{
-    Ok((0..below).skip(first).step_by(step).collect(alloc)?)
-}
-
-#[test]
-fn gives_the_same_by_any_forks(rt: HostRuntime) -> Result<(), Fail> {
-    let all = steps(rt.alloc(), 0, 1, 600)?;
-    let threes = steps(rt.alloc(), 0, 3, 600)?;
-    let rest: Vec<u32> = (0..600)
-        .filter(|number| number % 3 != 0)
-        .collect(rt.alloc())?;
-    for chunk_size in [1, 4, 64] {
-        let first = CTree::from_sorted(rt.alloc(), chunk_size, all.as_slice())?;
-        let second = CTree::from_sorted(rt.alloc(), chunk_size, threes.as_slice())?;
-        let less = difference(rt.alloc(), &first, &second)?;
-        for forks in [0, 1, 3, 6, 7] {
-            let both = union_forked(&rt, rt.alloc(), &less, &second, forks, &Quiet)?;
-            assert!(rt;
-                is_made(rt.alloc(), chunk_size, &both, all.as_slice())?,
-                "union by {chunk_size} with {forks} forks"
-            );
-            let left = difference_forked(&rt, rt.alloc(), &first, &second, forks, &Quiet)?;
-            assert!(rt;
-                is_made(rt.alloc(), chunk_size, &left, rest.as_slice())?,
-                "difference by {chunk_size} with {forks} forks"
-            );
-        }
-    }
-    Ok(())
-}
-
-// How often a half looks whether the other was entered.
-const TRIES: u32 = 100_000_000;
-
-/// Holds each half of level 1 until the other was entered.
-#[derive(Drop)]
-struct Meeting {
-    halves: [AtomicU64; 2],
-    missed: AtomicU64,
-}
-
-impl Fork for Meeting {
-    fn enter(&self, level: u32, second: bool) {
-        if level != 1 {
-            return;
-        }
-        let [below, above] = &self.halves;
-        let (own, other) = if second {
-            (above, below)
-        } else {
-            (below, above)
-        };
-        own.store(1, Ordering::SeqCst);
-        for _ in 0..TRIES {
-            if other.load(Ordering::SeqCst) == 1 {
-                return;
-            }
-        }
-        self.missed.store(1, Ordering::SeqCst);
-    }
-}
-
-fn unmet() -> Meeting {
-    Meeting {
-        halves: [AtomicU64::new(0), AtomicU64::new(0)],
-        missed: AtomicU64::new(0),
-    }
-}
-
-// Whether both halves were entered, each before the other's tries had ended.
-fn has_met(meeting: &Meeting) -> bool {
-    let [below, above] = &meeting.halves;
-    below.load(Ordering::SeqCst) == 1
-        && above.load(Ordering::SeqCst) == 1
-        && meeting.missed.load(Ordering::SeqCst) == 0
-}
-
-#[test]
-fn runs_both_halves_at_once(rt: HostRuntime) -> Result<(), Fail> {
-    let all = steps(rt.alloc(), 0, 1, 200)?;
-    let evens = steps(rt.alloc(), 0, 2, 200)?;
-    let odds = steps(rt.alloc(), 1, 2, 200)?;
-    let first = CTree::from_sorted(rt.alloc(), 1, evens.as_slice())?;
-    let second = CTree::from_sorted(rt.alloc(), 1, odds.as_slice())?;
-    let united = unmet();
-    let both = union_forked(&rt, rt.alloc(), &first, &second, 1, &united)?;
-    assert!(rt; is_made(rt.alloc(), 1, &both, all.as_slice())?, "union");
-    assert!(rt; has_met(&united), "halves of a union");
-    let subtracted = unmet();
-    let left = difference_forked(&rt, rt.alloc(), &first, &second, 1, &subtracted)?;
-    assert!(rt;
-        is_made(rt.alloc(), 1, &left, evens.as_slice())?,
-        "difference"
-    );
-    assert!(rt; has_met(&subtracted), "halves of a difference");
     Ok(())
 }
