@@ -7,7 +7,7 @@ use Rattle.expressions.specs.Words.{Word, Reserved}
 use Rattle.expressions.specs.Spelling.{prefix_word}
 use Rattle.grammar.specs.declared.schedule.Chain.{Chain}
 use Rattle.grammar.specs.Spelling.{each_before}
-use Rattle.grammar.specs.Trees.{ChainTree}
+use Rattle.grammar.specs.Trees.{ActionTree, While, For, If, IfElse, ChainTree}
 use Rattle.grammar.specs.Views.{chain_tree}
 use Rattle.source_text.specs.Text.{text_of}
 
@@ -27,6 +27,14 @@ signs_before signs rest = each_before (λ sign others. prefix_word sign ∷ othe
 unfoldable pub PutsUpTo : {A : Type 0} → (List Word → List Word) → (A → List Word → List Word) → List A → ℕ → List ℕ → List ℕ → Type 0
 PutsUpTo before step items i old new =
     (rest : List Word) (whole : List ℕ) → Completes old (before rest) whole → Completes new (each_before step (drop i items) rest) whole
+
+-- the statement holds no block
+abbrev pub IsSimple : ActionTree → Type 0
+IsSimple (While at test body) = ⊥
+IsSimple (For at name first limit body) = ⊥
+IsSimple (If at test body) = ⊥
+IsSimple (IfElse at test body otherwise) = ⊥
+IsSimple _ = Unit {0}
 
 -- the schedule's chains
 abbrev pub chains_tree : Vec Chain → List ChainTree

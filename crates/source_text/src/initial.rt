@@ -3,7 +3,7 @@ ghost use Rattle.std.specs.Prelude.{◌++◌, ◌∷◌, OnOk};
 ghost use Rattle.lexer.specs.declared.keyword.Keyword.TheVariants as keyword_word;
 ghost use Rattle.lexer.specs.declared.symbol.Symbol.TheVariants as symbol;
 ghost use Rattle.expressions.specs.Words.{Mark, Name as word_name, Reserved};
-ghost use Rattle.grammar.specs.Trees.{Load};
+ghost use Rattle.grammar.specs.Trees.{ApplyModified, Filter, Load, NewSet};
 ghost use Rattle.grammar.specs.Spelling.{argument_words, assigned_before, end_words, ends_before, ended_before, initial_before, type_words, typed_before};
 ghost use Rattle.grammar.specs.Views.{ends_tree, initial_tree, parameter_tree};
 ghost use Rattle.source_text.specs.Written.{Puts};
@@ -139,43 +139,31 @@ fn put_initial(out: &mut Vec<u8>, initial: &Initial) -> Result<(), AllocError>
     ensures { OnOk result (Puts (initial_before (initial_tree initial.now)) out.old.items out.new.items) }
 {
     match initial {
-        Initial::NewSet(size) => {
-            put_keyword(out, Keyword::New)?;
-            put_keyword(out, Keyword::VertexSet)?;
-            put_in_braces(out, Keyword::Vertex)?;
-            put_symbol(out, Symbol::OpenParenthesis)?;
-            put_number(out, size)?;
-            put_symbol(out, Symbol::CloseParenthesis)
-        }
+        Initial::NewSet(size) => put_new_set(out, size),
         Initial::Load(number) => put_load(out, number),
-        Initial::Vertices(edges) => {
-            put_name(out, edges)?;
-            put_method(out, Keyword::GetVertices)?;
-            put_no_arguments(out)
-        }
-        Initial::OutDegrees(edges) => {
-            put_name(out, edges)?;
-            put_method(out, Keyword::GetOutDegrees)?;
-            put_no_arguments(out)
-        }
-        Initial::Filter { set, test } => {
-            put_name(out, set)?;
-            put_method(out, Keyword::Filter)?;
-            put_argument(out, test)
-        }
+        Initial::Vertices(edges) => put_query(out, edges, Keyword::GetVertices),
+        Initial::OutDegrees(edges) => put_query(out, edges, Keyword::GetOutDegrees),
+        Initial::Filter { set, test } => put_filter(out, set, test),
         Initial::ApplyModified {
             edges,
             ends,
             function,
             vector,
-        } => {
-            put_name(out, edges)?;
-            put_ends(out, ends)?;
-            put_method(out, Keyword::ApplyModified)?;
-            put_name_pair(out, function, vector)
-        }
+        } => put_apply_modified(out, edges, ends, function, vector),
         Initial::Value(value) => put_expression(out, value),
     }
+}
+
+/// Puts `new vertexset{Vertex}(size)` down.
+fn put_new_set(out: &mut Vec<u8>, size: &i64) -> Result<(), AllocError>
+    ensures { OnOk result (Puts (initial_before (NewSet size.now)) out.old.items out.new.items) }
+{
+    put_keyword(out, Keyword::New)?;
+    put_keyword(out, Keyword::VertexSet)?;
+    put_in_braces(out, Keyword::Vertex)?;
+    put_symbol(out, Symbol::OpenParenthesis)?;
+    put_number(out, size)?;
+    put_symbol(out, Symbol::CloseParenthesis)
 }
 
 /// Puts `load(argv[number])` down.
@@ -189,6 +177,38 @@ fn put_load(out: &mut Vec<u8>, number: &i64) -> Result<(), AllocError>
     put_number(out, number)?;
     put_symbol(out, Symbol::CloseBracket)?;
     put_symbol(out, Symbol::CloseParenthesis)
+}
+
+/// Puts a call on the edges down that takes no arguments.
+fn put_query(out: &mut Vec<u8>, edges: &Name, keyword: Keyword) -> Result<(), AllocError>
+    ensures { OnOk result (Puts (λ rest. word_name edges.now ∷ Mark symbol.Dot ∷ Reserved keyword ∷ Mark symbol.OpenParenthesis ∷ Mark symbol.CloseParenthesis ∷ rest) out.old.items out.new.items) }
+{
+    put_name(out, edges)?;
+    put_method(out, keyword)?;
+    put_no_arguments(out)
+}
+
+fn put_filter(out: &mut Vec<u8>, set: &Name, test: &Name) -> Result<(), AllocError>
+    ensures { OnOk result (Puts (initial_before (Filter set.now test.now)) out.old.items out.new.items) }
+{
+    put_name(out, set)?;
+    put_method(out, Keyword::Filter)?;
+    put_argument(out, test)
+}
+
+fn put_apply_modified(
+    out: &mut Vec<u8>,
+    edges: &Name,
+    ends: &Ends,
+    function: &Name,
+    vector: &Name,
+) -> Result<(), AllocError>
+    ensures { OnOk result (Puts (initial_before (ApplyModified edges.now (ends_tree ends.now) function.now vector.now)) out.old.items out.new.items) }
+{
+    put_name(out, edges)?;
+    put_ends(out, ends)?;
+    put_method(out, Keyword::ApplyModified)?;
+    put_name_pair(out, function, vector)
 }
 
 /// Puts two names in parentheses down.

@@ -18,6 +18,7 @@ mod declaration;
 mod expression;
 mod initial;
 mod schedule;
+mod simple;
 mod statement;
 mod text;
 mod writer;

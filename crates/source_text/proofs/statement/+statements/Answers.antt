@@ -19,40 +19,40 @@ pub put_block-returns : goal.put_block-returns
 put_block-returns t c =
     up_to_all _ statement_before c.args.block.now c.block.statement-index c.args.out.now.items c.block.out.items c.block.invariant c.block-test.false
 
-pub put_action-returns-in_ok-put_expression-in-While : goal.put_action-returns-in_ok-put_expression-in-While
-put_action-returns-in_ok-put_expression-in-While t c =
+pub put_action-returns-in_ok-put_test-in-While : goal.put_action-returns-in_ok-put_test-in-While
+put_action-returns-in_ok-put_test-in-While t c =
     let tree = ap action_tree c.in-While.is ∙ action_tree-While c.in-While.at c.in-While.test c.in-While.body
     ∙ ap (λ b. While c.in-While.at c.in-While.test (block_tree b)) (sym c.deref.ensures.value) in
     on_ok_weaker c.put_to_end.result (λ puts rest whole h.
-    puts rest whole (c.in_ok-put_expression-in-While.ensures _ whole (c.in_ok-put_keyword-in-While.ensures.opening c.in-While.at _ whole
-    (completes_same c.args.out.now.items whole _ _ (ap (λ a. action_before a rest) tree) h))))
+    puts rest whole (c.in_ok-put_test-in-While.ensures c.in-While.at _ whole
+    (completes_same c.args.out.now.items whole _ _ (ap (λ a. action_before a rest) tree) h)))
     c.put_to_end.ensures
 
-pub put_action-returns-in_ok-put_bounds-in-For : goal.put_action-returns-in_ok-put_bounds-in-For
-put_action-returns-in_ok-put_bounds-in-For t c =
+pub put_action-returns-in_ok-put_range-in-For : goal.put_action-returns-in_ok-put_range-in-For
+put_action-returns-in_ok-put_range-in-For t c =
     let tree = ap action_tree c.in-For.is ∙ action_tree-For c.in-For.at c.in-For.name c.in-For.first c.in-For.limit c.in-For.body
     ∙ ap (λ b. For c.in-For.at c.in-For.name c.in-For.first c.in-For.limit (block_tree b)) (sym c.deref-in-For.ensures.value) in
     on_ok_weaker c.put_to_end-in-For.result (λ puts rest whole h.
-    puts rest whole (c.in_ok-put_bounds-in-For.ensures _ whole (c.in_ok-put_keyword-in-For.ensures.opening c.in-For.at _ whole
-    (completes_same c.args.out.now.items whole _ _ (ap (λ a. action_before a rest) tree) h))))
+    puts rest whole (c.in_ok-put_range-in-For.ensures c.in-For.at _ whole
+    (completes_same c.args.out.now.items whole _ _ (ap (λ a. action_before a rest) tree) h)))
     c.put_to_end-in-For.ensures
 
-pub put_action-returns-in_ok-put_expression-in-If : goal.put_action-returns-in_ok-put_expression-in-If
-put_action-returns-in_ok-put_expression-in-If t c =
+pub put_action-returns-in_ok-put_test-in-If : goal.put_action-returns-in_ok-put_test-in-If
+put_action-returns-in_ok-put_test-in-If t c =
     let tree = ap action_tree c.in-If.is ∙ action_tree-If c.in-If.at c.in-If.test c.in-If.body
     ∙ ap (λ b. If c.in-If.at c.in-If.test (block_tree b)) (sym c.deref-in-If.ensures.value) in
     on_ok_weaker c.put_to_end-in-If.result (λ puts rest whole h.
-    puts rest whole (c.in_ok-put_expression-in-If.ensures _ whole (c.in_ok-put_keyword-in-If.ensures.opening c.in-If.at _ whole
-    (completes_same c.args.out.now.items whole _ _ (ap (λ a. action_before a rest) tree) h))))
+    puts rest whole (c.in_ok-put_test-in-If.ensures c.in-If.at _ whole
+    (completes_same c.args.out.now.items whole _ _ (ap (λ a. action_before a rest) tree) h)))
     c.put_to_end-in-If.ensures
 
-pub put_action-returns-in_ok-put_keyword-in-IfElse-2 : goal.put_action-returns-in_ok-put_keyword-in-IfElse-2
-put_action-returns-in_ok-put_keyword-in-IfElse-2 t c =
+pub put_action-returns-in_ok-put_keyword-in-IfElse : goal.put_action-returns-in_ok-put_keyword-in-IfElse
+put_action-returns-in_ok-put_keyword-in-IfElse t c =
     let tree = ap action_tree c.in-IfElse.is ∙ action_tree-IfElse c.in-IfElse.at c.in-IfElse.test c.in-IfElse.body c.in-IfElse.otherwise
     ∙ ap (λ b. IfElse c.in-IfElse.at c.in-IfElse.test (block_tree b) (block_tree c.in-IfElse.otherwise.items)) (sym c.deref-in-IfElse.ensures.value)
     ∙ ap (λ b. IfElse c.in-IfElse.at c.in-IfElse.test (block_tree c.deref-in-IfElse.result.now) (block_tree b)) (sym c.deref-in-IfElse-2.ensures.value) in
     on_ok_weaker c.put_to_end-in-IfElse.result (λ puts rest whole h.
-    puts rest whole (c.in_ok-put_keyword-in-IfElse-2.ensures.reserved _ whole (c.in_ok-put_block-in-IfElse.ensures _ whole
-    (c.in_ok-put_expression-in-IfElse.ensures _ whole (c.in_ok-put_keyword-in-IfElse.ensures.opening c.in-IfElse.at _ whole
-    (completes_same c.args.out.now.items whole _ _ (ap (λ a. action_before a rest) tree) h))))))
+    puts rest whole (c.in_ok-put_keyword-in-IfElse.ensures.reserved _ whole (c.in_ok-put_block-in-IfElse.ensures _ whole
+    (c.in_ok-put_test-in-IfElse.ensures c.in-IfElse.at _ whole
+    (completes_same c.args.out.now.items whole _ _ (ap (λ a. action_before a rest) tree) h)))))
     c.put_to_end-in-IfElse.ensures

@@ -1,0 +1,164 @@
+//! Simple statements: those that hold no block.
+ghost use Rattle.std.specs.Prelude.{ℕ, ◌++◌, ◌∷◌, OnOk};
+ghost use Rattle.lexer.specs.declared.symbol.Symbol.TheVariants as symbol;
+ghost use Rattle.expressions.specs.Words.{Mark, Name as word_name};
+ghost use Rattle.expressions.specs.Spelling.{expression_words};
+ghost use Rattle.grammar.specs.Spelling.{action_before, reduction_word};
+ghost use Rattle.grammar.specs.Trees.{AddVertex, Apply, Assign, Declare, Print, Reduce, ReduceEntry, SetEntry};
+ghost use Rattle.grammar.specs.Views.{action_tree, ends_tree, initial_tree, parameter_tree};
+ghost use Rattle.source_text.specs.Written.{IsSimple, Puts};
+
+use crate::expression::put_expression;
+use crate::initial::{put_argument, put_assigned, put_ended, put_ends, put_method, put_parameter};
+use crate::text::{put_keyword, put_name, put_symbol};
+use expressions::{Expression, Name};
+use grammar::{Action, Ends, Initial, Parameter, Reduction};
+use lexer::{Keyword, Symbol};
+use std::alloc::AllocError;
+
+/// Puts a simple statement down.
+pub(crate) fn put_simple(out: &mut Vec<u8>, action: &Action) -> Result<(), AllocError>
+    requires { IsSimple (action_tree action.now) }
+    ensures { OnOk result (Puts (action_before (action_tree action.now)) out.old.items out.new.items) }
+{
+    match action {
+        Action::Declare {
+            variable,
+            initial,
+            ..
+        } => put_declare(out, variable, initial),
+        Action::Print { value, .. } => put_print(out, value),
+        Action::Assign { name, value } => put_assign(out, name, value),
+        Action::Reduce {
+            name,
+            reduction,
+            value,
+        } => put_reduce(out, name, *reduction, value),
+        Action::SetEntry {
+            vector,
+            index,
+            value,
+        } => put_set_entry(out, vector, index, value),
+        Action::ReduceEntry {
+            vector,
+            index,
+            reduction,
+            value,
+        } => put_reduce_entry(out, vector, index, *reduction, value),
+        Action::AddVertex { set, vertex } => put_add_vertex(out, set, vertex),
+        Action::Apply {
+            target,
+            ends,
+            function,
+        } => put_apply(out, target, ends, function),
+        _ => unreachable!(),
+    }
+}
+
+fn put_declare(out: &mut Vec<u8>, variable: &Parameter, initial: &Initial) -> Result<(), AllocError>
+    ensures { OnOk result ((at : ℕ) → Puts (action_before (Declare at (parameter_tree variable.now) (initial_tree initial.now))) out.old.items out.new.items) }
+{
+    put_keyword(out, Keyword::Var)?;
+    put_parameter(out, variable)?;
+    put_assigned(out, initial)
+}
+
+fn put_print(out: &mut Vec<u8>, value: &Expression) -> Result<(), AllocError>
+    ensures { OnOk result ((at : ℕ) → Puts (action_before (Print at value.now)) out.old.items out.new.items) }
+{
+    put_keyword(out, Keyword::Print)?;
+    put_ended(out, value)
+}
+
+fn put_assign(out: &mut Vec<u8>, name: &Name, value: &Initial) -> Result<(), AllocError>
+    ensures { OnOk result (Puts (action_before (Assign name.now (initial_tree value.now))) out.old.items out.new.items) }
+{
+    put_name(out, name)?;
+    put_assigned(out, value)
+}
+
+fn put_reduce(
+    out: &mut Vec<u8>,
+    name: &Name,
+    reduction: Reduction,
+    value: &Expression,
+) -> Result<(), AllocError>
+    ensures { OnOk result (Puts (action_before (Reduce name.now reduction value.now)) out.old.items out.new.items) }
+{
+    put_name(out, name)?;
+    put_reduction(out, reduction)?;
+    put_ended(out, value)
+}
+
+fn put_set_entry(
+    out: &mut Vec<u8>,
+    vector: &Name,
+    index: &Expression,
+    value: &Expression,
+) -> Result<(), AllocError>
+    ensures { OnOk result (Puts (action_before (SetEntry vector.now index.now value.now)) out.old.items out.new.items) }
+{
+    put_entry(out, vector, index)?;
+    put_symbol(out, Symbol::Assign)?;
+    put_ended(out, value)
+}
+
+fn put_reduce_entry(
+    out: &mut Vec<u8>,
+    vector: &Name,
+    index: &Expression,
+    reduction: Reduction,
+    value: &Expression,
+) -> Result<(), AllocError>
+    ensures { OnOk result (Puts (action_before (ReduceEntry vector.now index.now reduction value.now)) out.old.items out.new.items) }
+{
+    put_entry(out, vector, index)?;
+    put_reduction(out, reduction)?;
+    put_ended(out, value)
+}
+
+fn put_add_vertex(out: &mut Vec<u8>, set: &Name, vertex: &Expression) -> Result<(), AllocError>
+    ensures { OnOk result (Puts (action_before (AddVertex set.now vertex.now)) out.old.items out.new.items) }
+{
+    put_name(out, set)?;
+    put_method(out, Keyword::AddVertex)?;
+    put_symbol(out, Symbol::OpenParenthesis)?;
+    put_expression(out, vertex)?;
+    put_symbol(out, Symbol::CloseParenthesis)?;
+    put_symbol(out, Symbol::Semicolon)
+}
+
+fn put_apply(
+    out: &mut Vec<u8>,
+    target: &Name,
+    ends: &Ends,
+    function: &Name,
+) -> Result<(), AllocError>
+    ensures { OnOk result (Puts (action_before (Apply target.now (ends_tree ends.now) function.now)) out.old.items out.new.items) }
+{
+    put_name(out, target)?;
+    put_ends(out, ends)?;
+    put_method(out, Keyword::Apply)?;
+    put_argument(out, function)?;
+    put_symbol(out, Symbol::Semicolon)
+}
+
+/// Puts `vector[index]` down.
+fn put_entry(out: &mut Vec<u8>, vector: &Name, index: &Expression) -> Result<(), AllocError>
+    ensures { OnOk result (Puts (λ rest. word_name vector.now ∷ Mark symbol.OpenBracket ∷ (expression_words index.now ++ Mark symbol.CloseBracket ∷ rest)) out.old.items out.new.items) }
+{
+    put_name(out, vector)?;
+    put_symbol(out, Symbol::OpenBracket)?;
+    put_expression(out, index)?;
+    put_symbol(out, Symbol::CloseBracket)
+}
+
+fn put_reduction(out: &mut Vec<u8>, reduction: Reduction) -> Result<(), AllocError>
+    ensures { OnOk result (Puts (λ rest. reduction_word reduction ∷ rest) out.old.items out.new.items) }
+{
+    match reduction {
+        Reduction::Min => put_symbol(out, Symbol::MinAssign),
+        Reduction::Max => put_symbol(out, Symbol::MaxAssign),
+        Reduction::Plus => put_symbol(out, Symbol::PlusAssign),
+    }
+}
