@@ -194,6 +194,6 @@ fn told(error: CTreeError) -> Error {
 fn refused(error: SetError) -> Error {
     match error {
         SetError::NoMemory => Error::other("out of memory"),
-        SetError::ChunkSizesDiffer => Error::other("two chunk sizes"),
+        SetError::NotAscending | SetError::ChunkSizesDiffer => Error::other("a set was refused"),
     }
 }

@@ -5,9 +5,11 @@ ghost use Rattle.set_ops.specs.Refusal.{number_of};
 use std::alloc::AllocError;
 use thiserror::Error;
 
-/// Why two sets were not put together.
+/// Why two sets, or a set and a list, were not put together.
 #[derive(Clone, Copy, Debug, PartialEq, Eq, Error)]
 pub enum SetError {
+    #[error("the numbers do not ascend")]
+    NotAscending,
     #[error("the chunk sizes of two sets differ")]
     ChunkSizesDiffer,
     #[error("out of memory")]
@@ -15,11 +17,12 @@ pub enum SetError {
 }
 
 impl SetError {
-    /// The number by which scripts and users know the refusal: 104 or 900.
+    /// The number by which scripts and users know the refusal: 101, 104 or 900.
     pub fn number(self) -> u16
         ensures { result ≡ number_of self }
     {
         match self {
+            SetError::NotAscending => 101,
             SetError::ChunkSizesDiffer => 104,
             SetError::NoMemory => 900,
         }

@@ -12,6 +12,9 @@
 //! Sets of k and n elements take the heads of the smaller and of what lies beside them, about
 //! `k log(n / k + 1)` nodes, beside the chunks that both sets reach into.
 //!
+//! `insert_all` and `remove_all` take an ascending list in place of the second set, and refuse one that
+//! does not ascend.
+//!
 //! `union_forked` and `difference_forked` give the same answers, with the halves on two threads at the
 //! first levels; a `Fork` is told of each half that begins. Only they need a handle of threads.
 //!
@@ -25,10 +28,12 @@ mod error;
 mod fork;
 mod forked;
 mod halves;
+mod lists;
 mod operation;
 mod rejoin;
 mod sets;
 
 pub use error::SetError;
 pub use fork::{Fork, Quiet};
+pub use lists::{insert_all, remove_all};
 pub use sets::{difference, difference_forked, union, union_forked};
