@@ -26,9 +26,10 @@ impl<'a> Model for Iter<'a> {
 }
 
 impl<'a> Iter<'a> {
-    /// The elements of a prefix and chunks.
+    /// The elements of a prefix and then those of chunks, each head before its tail. It takes no
+    /// memory.
     #[inline]
-    pub(crate) fn new(prefix: &'a Tail, chunks: &'a Tree<ChunkTail>) -> Iter<'a>
+    pub fn new(prefix: &'a Tail, chunks: &'a Tree<ChunkTail>) -> Iter<'a>
         ensures { result ≡ together prefix.now chunks.now.entries }
     {
         Iter {

@@ -12,7 +12,9 @@
 //! `specs/Sets.antt` defines union and difference of ascending lists, and `below` and `above`, what a
 //! list has on either side of a number. `unions_have_what_either_has` and
 //! `differences_have_what_one_lacks` are their laws, and do nothing when called. `unite_tails` and
-//! `subtract_tails` do them on tails. The only error of this crate is want of memory.
+//! `subtract_tails` do them on tails. `unite_parts` and `subtract_parts` do them on whole parts and give
+//! a list, of which `Pieces::from_sorted` makes pieces; they give up where a tail may be shared. The
+//! only error of this crate is want of memory.
 //!
 //! Unions and differences of sets stand on this crate.
 #![tactic(auto)]
@@ -21,12 +23,15 @@ mod cut;
 mod join;
 mod laws;
 mod loose;
+mod merge;
+mod overlap;
 mod part;
 mod pieces;
 mod tails;
 
 pub use cut::Cut;
 pub use laws::{differences_have_what_one_lacks, unions_have_what_either_has};
+pub use merge::{subtract_parts, unite_parts};
 pub use part::Part;
 pub use pieces::Pieces;
 pub use tails::{subtract_tails, unite_tails};

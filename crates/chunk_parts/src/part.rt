@@ -4,7 +4,7 @@ ghost use Rattle.c_tree.specs.Chunks.{HasNoHead, chunked_set, together};
 ghost use Rattle.chunk_parts.specs.Parts.{IsPart, IsRoot};
 
 use crate::pieces::Pieces;
-use c_tree::{CTree, ChunkSize, ChunkTail};
+use c_tree::{CTree, ChunkSize, ChunkTail, Iter};
 use shared_tree::{Share, Tree};
 use std::alloc::AllocError;
 use std::marker::Model;
@@ -71,6 +71,23 @@ impl<'a> Part<'a> {
         ensures { result ≡ self.now.chunk_size }
     {
         self.chunk_size
+    }
+
+    /// How many nodes the longest way down the tree of the heads has, at most 64. It is 0 where there
+    /// is no head.
+    pub fn depth(&self) -> u32
+        ensures { result ≤ 64 }
+    {
+        self.chunks.depth()
+    }
+
+    /// The elements, ascending. It takes no memory.
+    #[inline]
+    pub fn iter(&self) -> Iter<'a>
+        ensures elements { result ≡ self.now.elements }
+        ensures ascending { Ascends None self.now.elements }
+    {
+        Iter::new(self.loose, self.chunks)
     }
 
     /// The part before the head at the root of the tree of chunks, the head, and the part after it,

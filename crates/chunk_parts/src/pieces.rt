@@ -5,7 +5,7 @@ ghost use Rattle.chunk_parts.specs.Parts.{IsPart};
 
 use crate::loose::based;
 use crate::part::Part;
-use c_tree::{CTree, ChunkSize, ChunkTail};
+use c_tree::{CTree, CTreeError, ChunkSize, ChunkTail};
 use shared_tree::Tree;
 use std::alloc::{AllocError, Global};
 use std::marker::Model;
@@ -51,6 +51,24 @@ impl Pieces {
         ensures { result ≡ chunked_set loose.elements chunk_size }
     {
         Pieces::new(loose, Tree::new(), chunk_size)
+    }
+
+    /// The elements of an ascending list, each chunk made anew. It takes time in proportion to them.
+    ///
+    /// The only error is want of memory.
+    pub fn from_sorted(
+        alloc: Global,
+        chunk_size: ChunkSize,
+        elements: &[u32],
+    ) -> Result<Pieces, AllocError>
+        requires { Ascends None elements.now }
+        ensures { IfOk result (λ p. p ≡ chunked_set elements.now chunk_size) }
+    {
+        match CTree::from_sorted(alloc, chunk_size.get(), elements) {
+            Ok(set) => Part::of(&set).share(),
+            Err(CTreeError::NoMemory) => Err(AllocError),
+            Err(CTreeError::NotAscending | CTreeError::BadChunkSize) => unreachable!(),
+        }
     }
 
     /// The elements, where they stand.

@@ -12,6 +12,10 @@
 //! Sets of k and n elements take the heads of the smaller and of what lies beside them, about
 //! `k log(n / k + 1)` nodes, beside the chunks that both sets reach into.
 //!
+//! Where both sides have few heads, and about as many, their elements are merged one by one and the
+//! answer's chunks are made anew, which is faster than a cut at each head. A merge gives up, and the
+//! sides are cut after all, where a tail may be shared.
+//!
 //! `insert_all` and `remove_all` take an ascending list in place of the second set, and refuse one that
 //! does not ascend.
 //!
@@ -29,6 +33,7 @@ mod fork;
 mod forked;
 mod halves;
 mod lists;
+mod merged;
 mod operation;
 mod rejoin;
 mod sets;
