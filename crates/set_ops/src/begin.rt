@@ -5,7 +5,6 @@ ghost use Rattle.tail_codec.specs.Spelling.{Ascends};
 ghost use Rattle.set_ops.specs.Halving.{IsBegun};
 
 use crate::halves::{Halves, cut_both};
-use crate::merged::merged;
 use crate::operation::{Combined, Operation, with_no_head, with_nothing};
 use chunk_parts::Part;
 use std::alloc::{AllocError, Global};
@@ -19,8 +18,8 @@ pub(crate) enum Begun {
     Cut(Halves),
 }
 
-/// The answer for two parts over a base below both, where one has nothing, both have few heads or none
-/// has a head, and else both parts cut at one head.
+/// The answer for two parts over a base below both, where one has nothing or none has a head, and
+/// else both parts cut at one head.
 pub(crate) fn begin(
     alloc: Global,
     operation: Operation,
@@ -34,9 +33,6 @@ pub(crate) fn begin(
     ensures { IfOk result (IsBegun operation first.now second.now) }
 {
     if let Some(combined) = with_nothing(operation, first, second)? {
-        return Ok(Begun::Whole(combined));
-    }
-    if let Some(combined) = merged(alloc, operation, first, second)? {
         return Ok(Begun::Whole(combined));
     }
     if let Some(halves) = cut_both(alloc, first, second)? {

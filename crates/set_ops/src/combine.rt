@@ -5,6 +5,7 @@ ghost use Rattle.tail_codec.specs.Spelling.{Ascends};
 ghost use Rattle.set_ops.specs.Operations.{IsCombined};
 
 use crate::begin::{Begun, begin};
+use crate::merged::merged;
 use crate::operation::{Combined, Operation};
 use crate::rejoin::rejoin;
 use chunk_parts::Part;
@@ -23,6 +24,9 @@ pub(crate) fn combine(
     requires second_over { Ascends base second.now.elements }
     ensures { IfOk result (λ c. IsCombined operation first.now second.now c.pieces c.common) }
 {
+    if let Some(combined) = merged(alloc, operation, first, second)? {
+        return Ok(combined);
+    }
     let halves = match begin(alloc, operation, base, first, second)? {
         Begun::Whole(combined) => return Ok(combined),
         Begun::Cut(halves) => halves,

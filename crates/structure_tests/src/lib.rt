@@ -7,6 +7,8 @@
 #[cfg(test)]
 mod chunked_sets;
 #[cfg(test)]
+mod forked_sets;
+#[cfg(test)]
 mod set_operations;
 #[cfg(test)]
 mod tails;

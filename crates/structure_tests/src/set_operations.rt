@@ -1,5 +1,7 @@
 use c_tree::CTree;
-use set_ops::{SetError, difference, union};
+use set_ops::{
+    Quiet, SetError, difference, difference_forked, insert_all, remove_all, union, union_forked,
+};
 use std::alloc::Global;
 use std::test::Fail;
 
@@ -74,7 +76,12 @@ fn subtracts(
 }
 
 // Whether a set has these elements, cut as a set that is made of their list.
-fn is_made(alloc: Global, chunk_size: u32, set: &CTree, list: &[u32]) -> Result<bool, Fail> {
+pub(crate) fn is_made(
+    alloc: Global,
+    chunk_size: u32,
+    set: &CTree,
+    list: &[u32],
+) -> Result<bool, Fail> {
     let made = CTree::from_sorted(alloc, chunk_size, list)?;
     let elements: Vec<u32> = set.iter().collect(alloc)?;
     let mut same = elements.as_slice() == list && set.len() == list.len();
@@ -97,9 +104,27 @@ fn refuses_two_chunk_sizes(rt: HostRuntime) -> Result<(), Fail> {
     for refused in [
         union(rt.alloc(), &first, &second).err(),
         difference(rt.alloc(), &first, &second).err(),
+        union_forked(&rt, rt.alloc(), &first, &second, 1, &Quiet).err(),
+        difference_forked(&rt, rt.alloc(), &first, &second, 1, &Quiet).err(),
     ] {
         let number = refused.map(SetError::number);
         assert_eq!(rt; number, Some(104));
+    }
+    Ok(())
+}
+
+#[test]
+fn takes_lists(rt: HostRuntime) -> Result<(), Fail> {
+    let set = CTree::from_sorted(rt.alloc(), 4, &[1, 2, 3, 5])?;
+    let more = insert_all(rt.alloc(), &set, &[0, 2, 4])?;
+    assert!(rt; is_made(rt.alloc(), 4, &more, &[0, 1, 2, 3, 4, 5])?);
+    let fewer = remove_all(rt.alloc(), &set, &[0, 2, 4, 5])?;
+    assert!(rt; is_made(rt.alloc(), 4, &fewer, &[1, 3])?);
+    for refused in [
+        insert_all(rt.alloc(), &set, &[2, 1]).err(),
+        remove_all(rt.alloc(), &set, &[1, 1]).err(),
+    ] {
+        assert_eq!(rt; refused.map(SetError::number), Some(101));
     }
     Ok(())
 }
