@@ -76,7 +76,7 @@ impl<'a> Iterator for Iter<'a> {
 
     ghost remaining = { item_count (λ i. i) };
 
-    #[inline]
+    #[inline(always)]
     fn next(&mut self) -> Option<u32> {
         if let Some(element) = self.tail.next() {
             return Some(element);
