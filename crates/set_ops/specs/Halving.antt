@@ -1,5 +1,5 @@
 -- Two parts that are cut at one head.
-use Rattle.std.specs.Prelude.{◌≡◌, ◌⊎◌, ℕ, true, Option}
+use Rattle.std.specs.Prelude.{◌≡◌, ◌⊎◌, ℕ, true, false, Option, List, []}
 use Rattle.tail_codec.specs.Spelling.{Ascends}
 use Rattle.c_tree.specs.Heads.{is_head}
 use Rattle.c_tree.specs.Chunks.{ChunkedSet}
@@ -9,6 +9,9 @@ use Rattle.set_ops.specs.declared.begin.Begun.TheVariants.{Whole, Cut}
 use Rattle.set_ops.specs.declared.halves.Halves.{Halves}
 use Rattle.set_ops.specs.declared.operation.Combined.{Combined}
 use Rattle.set_ops.specs.declared.operation.Operation.{Operation}
+use Rattle.set_ops.specs.declared.within.Side.{Side}
+use Rattle.set_ops.specs.declared.within.Side.TheVariants.{Below, Above}
+use Rattle.chunk_parts.specs.Sets.{has, below, above}
 use Rattle.set_ops.specs.Operations.{IsCombined}
 
 -- Both parts cut at a head that one of them has.
@@ -33,3 +36,8 @@ pub record AreOver (base : Option ℕ) (a b : ChunkedSet) : Type 0 where
 pub record AreAnswers (op : Operation) (h : Halves) (lo hi : Combined) : Type 0 where
   pub below : IsCombined op h.first.below h.second.below lo.pieces lo.common
   pub above : IsCombined op h.first.above h.second.above hi.pieces hi.common
+
+-- All of xs stands on a side of k.
+abbrev pub StandsOn : ℕ → List ℕ → Side → Type 0
+StandsOn k xs Below = (below k xs ≡ xs) × (has k xs ≡ false) × (above k xs ≡ [])
+StandsOn k xs Above = (below k xs ≡ []) × (has k xs ≡ false) × (above k xs ≡ xs)

@@ -8,6 +8,7 @@ use crate::begin::{Begun, begin};
 use crate::merged::merged;
 use crate::operation::{Combined, Operation};
 use crate::rejoin::rejoin;
+use crate::within::within_chunk;
 use chunk_parts::Part;
 use std::alloc::{AllocError, Global};
 
@@ -25,6 +26,9 @@ pub(crate) fn combine(
     ensures { IfOk result (λ c. IsCombined operation first.now second.now c.pieces c.common) }
 {
     if let Some(combined) = merged(alloc, operation, first, second)? {
+        return Ok(combined);
+    }
+    if let Some(combined) = within_chunk(alloc, operation, base, first, second)? {
         return Ok(combined);
     }
     let halves = match begin(alloc, operation, base, first, second)? {

@@ -16,6 +16,9 @@
 //! answer's chunks are made anew, which is faster than a cut at each head. A merge gives up, and the
 //! sides are cut after all, where a tail may be shared.
 //!
+//! Where the second side has no head and one chunk of the first takes all its elements, only the way down
+//! to that chunk is made anew.
+//!
 //! `insert_all` and `remove_all` take an ascending list in place of the second set, and refuse one that
 //! does not ascend.
 //!
@@ -37,6 +40,7 @@ mod merged;
 mod operation;
 mod rejoin;
 mod sets;
+mod within;
 
 pub use error::SetError;
 pub use fork::{Fork, Quiet};
