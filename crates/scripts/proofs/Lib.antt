@@ -1,0 +1,6 @@
+pub mod PieceLaws
+pub mod WordLaws
+pub mod SendingLaws
+pub mod ProgramLaws
+pub mod ReadingLaws
+pub mod Running

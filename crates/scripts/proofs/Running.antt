@@ -1,0 +1,163 @@
+-- A script from its first byte to its last.
+use Rattle.std.proofs.Common.{◌≡◌, ℕ, ◌<◌, Bool, true, List, [], ◌++◌, Result, Ok, Err, refl, sym, ap, ◌∙◌, subst, arith, append_assoc, append-nil}
+use Rattle.std.specs.Result.{IsErrAnd}
+use Rattle.std.proofs.lemmas.Result.{err_from_is_err_and}
+use Rattle.typed_tree.specs.ProgramTree.{ProgramTree}
+use Rattle.scripts.specs.declared.error.ScriptError.{ScriptError}
+use Rattle.scripts.specs.declared.error.ScriptError.TheVariants.{NoMemory, ReadFailed, WriteFailed}
+use Rattle.scripts.specs.Pieces.{HasNone}
+use Rattle.scripts.specs.Replies.{answer, replies, replies_to_ended, has_faulted}
+use Rattle.scripts.specs.Script.{Input, Taken, taken_by, RepliesInPart, RepliesToEnded, RunsScript}
+use Rattle.scripts.specs.Sending.{Output, output, Sends, Fails}
+use Rattle.scripts.specs.Progress.{Reading, at_start, reading_after, replies_within}
+use Rattle.scripts.proofs.PieceLaws.{HasNone-unended}
+use Rattle.scripts.proofs.ReadingLaws.{reading_then, replies_then, replies-last, faults-last}
+use Rattle.scripts.proofs.SendingLaws.{sends_none, sends_then, fails_then, fails_more, all_taken}
+
+-- the lines that have ended among the bytes so far are answered, and nothing is kept of the replies
+pub record IsReading (programs : List ProgramTree) (old now : Input) (a : Output) (reading : Reading) (b : Output) : Type 0 where
+  pub bytes : List ℕ
+  pub given : now.given ≡ old.given ++ bytes
+  pub failures : now.failures ≡ old.failures
+  pub reading_is : reading ≡ reading_after programs at_start bytes
+  pub sends : Sends a b (replies_to_ended programs bytes)
+  pub nothing_kept : b.kept ≡ []
+
+pub reading_starts : (programs : List ProgramTree) (old : Input) (a : Output) → a.kept ≡ [] → IsReading programs old old a at_start a
+reading_starts programs old a empty = record {
+  bytes = [];
+  given = sym (append-nil old.given);
+  failures = refl;
+  reading_is = refl;
+  sends = sends_none a;
+  nothing_kept = empty;
+}
+
+-- a call that fails after some bytes, which the script ends with
+pub ends_in_part : (programs : List ProgramTree) (old new : Input) (a c : Output) (bytes : List ℕ) (e : ScriptError) → a.kept ≡ [] → new.given ≡ old.given ++ bytes → Fails a c (replies programs bytes) e
+    → RunsScript programs old new (taken_by a.taken a.failures) (taken_by c.taken c.failures) (Err e)
+ends_in_part programs old new a c bytes NoMemory empty given h = in_part
+  where
+    in_part : RepliesInPart programs old new (taken_by a.taken a.failures) (taken_by c.taken c.failures)
+    in_part = record { bytes = bytes; given = given; written = h.1.sent; rest = h.0; taken = h.1.taken; beginning = h.1.whole ∙ ap (λ xs. xs ++ replies programs bytes) empty }
+ends_in_part programs old new a c bytes WriteFailed empty given h = (in_part, h.1)
+  where
+    in_part : RepliesInPart programs old new (taken_by a.taken a.failures) (taken_by c.taken c.failures)
+    in_part = record { bytes = bytes; given = given; written = h.0.1.sent; rest = h.0.0; taken = h.0.1.taken; beginning = h.0.1.whole ∙ ap (λ xs. xs ++ replies programs bytes) empty }
+ends_in_part programs old new a c bytes ReadFailed empty given h = absurd h
+
+-- a call that fails while the lines that have ended are answered
+pub ends_in_lines : (programs : List ProgramTree) (old new : Input) (a c : Output) (bytes : List ℕ) (e : ScriptError) → a.kept ≡ [] → new.given ≡ old.given ++ bytes → Fails a c (replies_to_ended programs bytes) e
+    → RunsScript programs old new (taken_by a.taken a.failures) (taken_by c.taken c.failures) (Err e)
+ends_in_lines programs old new a c bytes e empty given h =
+    let r = reading_after programs at_start bytes in
+    let longer = fails_more a c (replies_to_ended programs bytes) (answer programs r.state r.partial).text e h in
+    ends_in_part programs old new a c bytes e empty given (subst (λ text. Fails a c text e) (sym (replies-last programs bytes)) longer)
+
+module _ (programs : List ProgramTree) (old now : Input) (a : Output) (reading : Reading) (b : Output) (r : IsReading programs old now a reading b) where
+  -- no line feed stands in the line that has not ended
+  pub reading_unended : HasNone 10 reading.partial
+  reading_unended = subst (λ s. HasNone 10 s.partial) (sym r.reading_is) (HasNone-unended r.bytes)
+
+  -- a reader that fails
+  pub read_fails : (new : Input) → a.kept ≡ [] → new.given ≡ now.given → now.failures < new.failures → RunsScript programs old new (taken_by a.taken a.failures) (taken_by b.taken b.failures) (Err ReadFailed)
+  read_fails new empty given fails = (exactly, omega (arith, fails, r.failures))
+    where
+      exactly : RepliesToEnded programs old new (taken_by a.taken a.failures) (taken_by b.taken b.failures)
+      exactly = record {
+        bytes = r.bytes;
+        given = given ∙ r.given;
+        taken = all_taken a b (replies_to_ended programs r.bytes) empty r.nothing_kept r.sends;
+        rest = (answer programs (reading_after programs at_start r.bytes).state (reading_after programs at_start r.bytes).partial).text;
+        beginning = sym (replies-last programs r.bytes);
+      }
+
+  module _ (new : Input) (more : List ℕ) (given : new.given ≡ now.given ++ more) (same : new.failures ≡ now.failures) (c : Output) where
+    given_now : new.given ≡ old.given ++ (r.bytes ++ more)
+    given_now = given ∙ ap (λ xs. xs ++ more) r.given ∙ append_assoc old.given r.bytes more
+
+    -- the replies to the lines that have ended, with those that end within more bytes
+    ended_now : replies_to_ended programs (r.bytes ++ more) ≡ replies_to_ended programs r.bytes ++ replies_within programs reading more
+    ended_now =
+        replies_then programs at_start r.bytes more
+        ∙ ap (λ s. replies_to_ended programs r.bytes ++ replies_within programs s more) (sym r.reading_is)
+
+    -- the lines that end within more bytes are answered
+    lines_sent : Sends b c (replies_within programs reading more) → Sends a c (replies_to_ended programs (r.bytes ++ more))
+    lines_sent sends = subst (Sends a c) (sym ended_now) (sends_then a b c (replies_to_ended programs r.bytes) (replies_within programs reading more) r.sends sends)
+
+    -- or the answer to one fails
+    pub lines_fail : (e : ScriptError) → a.kept ≡ [] → Fails b c (replies_within programs reading more) e → RunsScript programs old new (taken_by a.taken a.failures) (taken_by c.taken c.failures) (Err e)
+    lines_fail e empty fails =
+        let both = fails_then a b c (replies_to_ended programs r.bytes) (replies_within programs reading more) e r.sends fails in
+        ends_in_lines programs old new a c (r.bytes ++ more) e empty given_now (subst (λ text. Fails a c text e) (sym ended_now) both)
+
+    -- what was kept is written, and the reading goes on
+    pub reading_goes_on : Sends b c (replies_within programs reading more) → (later : Reading) → later ≡ reading_after programs reading more → (d : Output) → Sends c d [] → d.kept ≡ [] → IsReading programs old new a later d
+    reading_goes_on sends later is d flushed empty = record {
+      bytes = r.bytes ++ more;
+      given = given_now;
+      failures = same ∙ r.failures;
+      reading_is = is ∙ ap (λ s. reading_after programs s more) r.reading_is ∙ sym (reading_then programs at_start r.bytes more);
+      sends = subst (Sends a d) (append-nil (replies_to_ended programs (r.bytes ++ more))) (sends_then a c d (replies_to_ended programs (r.bytes ++ more)) [] (lines_sent sends) flushed);
+      nothing_kept = empty;
+    }
+
+    -- or that fails
+    pub flush_fails : Sends b c (replies_within programs reading more) → (d : Output) (e : ScriptError) → a.kept ≡ [] → Fails c d [] e → RunsScript programs old new (taken_by a.taken a.failures) (taken_by d.taken d.failures) (Err e)
+    flush_fails sends d e empty fails =
+        let both = fails_then a c d (replies_to_ended programs (r.bytes ++ more)) [] e (lines_sent sends) fails in
+        ends_in_lines programs old new a d (r.bytes ++ more) e empty given_now (subst (λ text. Fails a d text e) (append-nil (replies_to_ended programs (r.bytes ++ more))) both)
+
+  module _ (new : Input) (given : new.given ≡ now.given) (c : Output) where
+    given_all : new.given ≡ old.given ++ r.bytes
+    given_all = given ∙ r.given
+
+    -- the reply to the last line
+    abbrev last : List ℕ
+    last = (answer programs reading.state reading.partial).text
+
+    -- all replies are those so far, and the last
+    all_replies : replies programs r.bytes ≡ replies_to_ended programs r.bytes ++ last
+    all_replies = replies-last programs r.bytes ∙ ap (λ s. replies_to_ended programs r.bytes ++ (answer programs s.state s.partial).text) (sym r.reading_is)
+
+    -- the last line is answered
+    all_sent : Sends b c last → Sends a c (replies programs r.bytes)
+    all_sent sends = subst (Sends a c) (sym all_replies) (sends_then a b c (replies_to_ended programs r.bytes) last r.sends sends)
+
+    -- or its answer fails
+    pub finish_fails : (e : ScriptError) → a.kept ≡ [] → Fails b c last e → RunsScript programs old new (taken_by a.taken a.failures) (taken_by c.taken c.failures) (Err e)
+    finish_fails e empty fails =
+        let both = fails_then a b c (replies_to_ended programs r.bytes) last e r.sends fails in
+        ends_in_part programs old new a c r.bytes e empty given_all (subst (λ text. Fails a c text e) (sym all_replies) both)
+
+    -- and then the last flush fails
+    pub last_flush_fails : Sends b c last → (d : Output) (e : ScriptError) → a.kept ≡ [] → Fails c d [] e → RunsScript programs old new (taken_by a.taken a.failures) (taken_by d.taken d.failures) (Err e)
+    last_flush_fails sends d e empty fails =
+        let both = fails_then a c d (replies programs r.bytes) [] e (all_sent sends) fails in
+        ends_in_part programs old new a d r.bytes e empty given_all (subst (λ text. Fails a d text e) (append-nil (replies programs r.bytes)) both)
+
+    -- or all is written
+    pub script_ends : Sends b c last → (d : Output) → a.kept ≡ [] → d.kept ≡ [] → new.ended ≡ true → Sends c d []
+        → (faulted : Bool) → faulted ≡ has_faulted (answer programs reading.state reading.partial).state → RunsScript programs old new (taken_by a.taken a.failures) (taken_by d.taken d.failures) (Ok faulted)
+    script_ends sends d empty flushed ended last_flush faulted fault = record {
+      bytes = r.bytes;
+      given = given_all;
+      ended = ended;
+      taken = all_taken a d (replies programs r.bytes) empty flushed (subst (Sends a d) (append-nil (replies programs r.bytes)) (sends_then a c d (replies programs r.bytes) [] (all_sent sends) last_flush));
+      fault = fault ∙ ap (λ s. has_faulted (answer programs s.state s.partial).state) r.reading_is ∙ sym (faults-last programs r.bytes);
+    }
+
+-- a script that ends by an error
+pub runs_failed : (programs : List ProgramTree) (old new : Input) (before after : Taken) (r : Result Bool ScriptError) (e : ScriptError)
+    → IsErrAnd r (λ d. d ≡ e) → RunsScript programs old new before after (Err e) → RunsScript programs old new before after r
+runs_failed programs old new before after r e is runs = let p = err_from_is_err_and r is in rw (p.1, p.2) runs
+
+-- a script whose writer is at last the one that the replies were sent to
+pub runs_tied : {W : Type 0} (taken : W → List ℕ) (failures : W → ℕ) (name : ℕ) (kept : List ℕ) (programs : List ProgramTree) (old new : Input) (before : Taken) (o : Output) (last sent : W) (r : Result Bool ScriptError)
+    → RunsScript programs old new before (taken_by o.taken o.failures) r → output name (taken sent) kept (failures sent) ≡ o → last ≡ sent → RunsScript programs old new before (taken_by (taken last) (failures last)) r
+runs_tied taken failures name kept programs old new before o last sent r runs is same = rw (same) (subst (λ (out : Output). RunsScript programs old new before (taken_by out.taken out.failures) r) (sym is) runs)
+
+-- a script that ends before it reads
+pub nothing_done : (programs : List ProgramTree) (i : Input) (t : Taken) → RepliesInPart programs i i t t
+nothing_done programs i t = record { bytes = []; given = sym (append-nil i.given); written = []; rest = replies programs []; taken = sym (append-nil t.taken); beginning = refl }

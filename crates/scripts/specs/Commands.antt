@@ -1,0 +1,80 @@
+-- The command that a line asks for.
+use Rattle.std.specs.Prelude.{ℕ, ◌^◌, Bool, List, [], ◌∷◌, Option, Some, None, codes, if◌then◌else◌}
+use Rattle.std.specs.Option.{option_and_then, option_map}
+use Rattle.std.specs.Str.{bytes_eq}
+use Rattle.scripts.specs.declared.commands.Command.{Command}
+use Rattle.scripts.specs.declared.commands.Command.TheVariants.{Vertices, Add, Remove, Commit, Hold, Release, Edges, EdgesOf, Run}
+use Rattle.decimal.specs.Numbers.{number_of}
+use Rattle.scripts.specs.Pieces.{words_of}
+
+-- whether the word is spelled so, byte for byte
+infix 12 ◌is◌
+abbrev pub ◌is◌ : List ℕ → List ℕ → Bool
+word is spelling = bytes_eq word spelling
+
+-- what two numbers below 2 ^ 32 make, where these two words are such numbers
+abbrev pub with_numbers : (ℕ → ℕ → Command) → List ℕ → List ℕ → Option Command
+with_numbers make first second =
+    option_and_then (λ m. option_map (make m) (number_of (2 ^ 32) second)) (number_of (2 ^ 32) first)
+
+-- "vertices N", where the chunk size is 64, and "vertices N B"
+abbrev pub vertices_of : List (List ℕ) → Option Command
+vertices_of (vertices ∷ []) = option_map (λ n. Vertices n 64) (number_of (2 ^ 32) vertices)
+vertices_of (vertices ∷ chunk_size ∷ []) = with_numbers Vertices vertices chunk_size
+vertices_of _ = None
+
+-- "add U V" and "del U V"
+abbrev pub edge_of : (ℕ → ℕ → Command) → List (List ℕ) → Option Command
+edge_of make (source ∷ destination ∷ []) = with_numbers make source destination
+edge_of make _ = None
+
+-- the number below 2 ^ 64 that one word is
+abbrev pub one_number : List (List ℕ) → Option ℕ
+one_number (word ∷ []) = number_of (2 ^ 64) word
+one_number _ = None
+
+-- "hold", which asks for the newest version, and "hold at K"
+abbrev pub hold_of : List (List ℕ) → Option Command
+hold_of [] = Some (Hold None)
+hold_of (at ∷ words) = if at is codes "at" then option_map (λ k. Hold (Some k)) (one_number words) else None
+
+-- "edges" and "edges T"
+abbrev pub edges_of : List (List ℕ) → Option Command
+edges_of [] = Some Edges
+edges_of (word ∷ words) = option_map EdgesOf (one_number (word ∷ words))
+
+-- the ticket that one word is, which may be left out
+abbrev pub ticket_of : List (List ℕ) → Option (Option ℕ)
+ticket_of [] = Some None
+ticket_of (word ∷ words) = option_map Some (one_number (word ∷ words))
+
+-- "run P TURNS W", on the newest version, and "run P TURNS W T"
+abbrev pub run_of : List (List ℕ) → Option Command
+run_of (program ∷ turns ∷ workers ∷ words) =
+    option_and_then (λ p. option_and_then (λ t. option_and_then (λ w.
+    option_map (Run p t w) (ticket_of words))
+    (number_of (2 ^ 64) workers)) (number_of (2 ^ 64) turns)) (number_of (2 ^ 64) program)
+run_of _ = None
+
+-- "commit", which no word follows
+abbrev pub alone : Command → List (List ℕ) → Option Command
+alone command [] = Some command
+alone command _ = None
+
+-- what each name asks for, given the words after it
+abbrev pub command_of_words : List (List ℕ) → Option Command
+command_of_words [] = None
+command_of_words (name ∷ words) =
+    if name is codes "vertices" then vertices_of words else
+    if name is codes "add" then edge_of Add words else
+    if name is codes "del" then edge_of Remove words else
+    if name is codes "commit" then alone Commit words else
+    if name is codes "hold" then hold_of words else
+    if name is codes "release" then option_map Release (one_number words) else
+    if name is codes "edges" then edges_of words else
+    if name is codes "run" then run_of words else
+    None
+
+-- the command of a line without its line feed
+abbrev pub command_of : List ℕ → Option Command
+command_of line = command_of_words (words_of line)

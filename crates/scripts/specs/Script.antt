@@ -1,0 +1,56 @@
+-- What a run of a script did to its reader and its writer.
+use Rattle.std.specs.Prelude.{◌≡◌, ℕ, ◌<◌, Bool, true, List, ◌++◌, Result, Ok, Err}
+use Rattle.typed_tree.specs.ProgramTree.{ProgramTree}
+use Rattle.scripts.specs.declared.error.ScriptError.{ScriptError}
+use Rattle.scripts.specs.declared.error.ScriptError.TheVariants.{NoMemory, ReadFailed, WriteFailed}
+use Rattle.scripts.specs.Replies.{replies, replies_to_ended, faults}
+
+-- the bytes that a reader has given, whether it has ended, and how often it has failed
+pub record Input : Type 0 where
+  pub given : List ℕ
+  pub ended : Bool
+  pub failures : ℕ
+
+-- the bytes that a writer has taken, and how often it has failed
+pub record Taken : Type 0 where
+  pub taken : List ℕ
+  pub failures : ℕ
+
+-- an input, and what a writer has taken, of their parts
+abbrev pub input : List ℕ → Bool → ℕ → Input
+input given ended failures = record { given = given; ended = ended; failures = failures }
+
+abbrev pub taken_by : List ℕ → ℕ → Taken
+taken_by taken failures = record { taken = taken; failures = failures }
+
+-- all was read, what was written is the replies to the bytes read, and it is known whether a run of them ended by a fault
+pub record RepliesToAll (programs : List ProgramTree) (old new : Input) (before after : Taken) (faulted : Bool) : Type 0 where
+  pub bytes : List ℕ
+  pub given : new.given ≡ old.given ++ bytes
+  pub ended : new.ended ≡ true
+  pub taken : after.taken ≡ before.taken ++ replies programs bytes
+  pub fault : faulted ≡ faults programs bytes
+
+-- what was written is exactly the replies to the lines that have ended among the bytes read, and these are a beginning of the replies to the bytes
+pub record RepliesToEnded (programs : List ProgramTree) (old new : Input) (before after : Taken) : Type 0 where
+  pub bytes : List ℕ
+  pub given : new.given ≡ old.given ++ bytes
+  pub taken : after.taken ≡ before.taken ++ replies_to_ended programs bytes
+  pub rest : List ℕ
+  pub beginning : replies_to_ended programs bytes ++ rest ≡ replies programs bytes
+
+-- what was written is a beginning of the replies to the bytes read
+pub record RepliesInPart (programs : List ProgramTree) (old new : Input) (before after : Taken) : Type 0 where
+  pub bytes : List ℕ
+  pub given : new.given ≡ old.given ++ bytes
+  pub written : List ℕ
+  pub rest : List ℕ
+  pub taken : after.taken ≡ before.taken ++ written
+  pub beginning : written ++ rest ≡ replies programs bytes
+
+-- how a script ends: each error of a device only where that device failed
+abbrev pub RunsScript : List ProgramTree → Input → Input → Taken → Taken → Result Bool ScriptError → Type 0
+RunsScript programs old new before after (Ok faulted) = RepliesToAll programs old new before after faulted
+RunsScript programs old new before after (Err NoMemory) = RepliesInPart programs old new before after
+RunsScript programs old new before after (Err ReadFailed) = RepliesToEnded programs old new before after × (old.failures < new.failures)
+RunsScript programs old new before after (Err WriteFailed) = RepliesInPart programs old new before after × (before.failures < after.failures)

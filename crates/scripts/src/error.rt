@@ -1,0 +1,47 @@
+//! What ends a script before its end.
+ghost use Rattle.std.specs.Prelude.{◌≡◌};
+ghost use Rattle.scripts.specs.declared.error.ScriptError.TheVariants.{NoMemory};
+ghost use Rattle.scripts.specs.Refusal.{number_of};
+
+use std::alloc::{AllocError, AllocFailed};
+use thiserror::Error;
+
+/// What ends a script before its end.
+#[derive(Clone, Copy, Debug, PartialEq, Eq, Error)]
+pub enum ScriptError {
+    #[error("out of memory")]
+    NoMemory,
+    #[error("the script could not be read")]
+    ReadFailed,
+    #[error("the replies could not be written")]
+    WriteFailed,
+}
+
+impl ScriptError {
+    /// The number by which users know the refusal: 900, 901 or 902.
+    pub fn number(self) -> u16
+        ensures { result ≡ number_of self }
+    {
+        match self {
+            ScriptError::NoMemory => 900,
+            ScriptError::ReadFailed => 901,
+            ScriptError::WriteFailed => 902,
+        }
+    }
+}
+
+impl From<AllocError> for ScriptError {
+    ghost from_gives = { λ _ e. e ≡ NoMemory };
+
+    fn from(_error: AllocError) -> ScriptError {
+        ScriptError::NoMemory
+    }
+}
+
+impl<T: Drop> From<AllocFailed<T>> for ScriptError {
+    ghost from_gives = { λ _ e. e ≡ NoMemory };
+
+    fn from(_error: AllocFailed<T>) -> ScriptError {
+        ScriptError::NoMemory
+    }
+}

@@ -1,0 +1,36 @@
+//! Scripts: lines of commands on a graph, and the replies to them.
+//!
+//! A script is lines ended by a line feed, of which the last may lack it. A line is words with one
+//! space between two. [`command`] reads a line, and [`script`] reads a script from a reader and writes
+//! its replies to a writer.
+//!
+//! What a script replies is a definition over the lines of its bytes, apart from the code
+//! (`specs/Replies.antt`): the lines are the pieces between the line feeds (`specs/Pieces.antt`), a
+//! table says which words are which command (`specs/Commands.antt`), and a run is answered by the text
+//! (`specs/OutcomeText.antt`) of what its program means on its version. [`script`] is proved to write
+//! exactly those replies to the bytes that the reader gave, in whatever pieces it gave them. A reader
+//! that fails finds the replies to all lines that had ended written, and no more; after the other
+//! errors a beginning of the replies stands there (`specs/Script.antt`).
+//!
+//! [`joined_pieces`] and [`first_piece`] are laws of the definitions themselves, and do nothing when
+//! called. The program stands on this crate.
+#![tactic(auto)]
+
+mod commands;
+mod error;
+mod line_reply;
+mod lines;
+mod open_graph;
+mod outcome_text;
+mod parse;
+mod pieces;
+mod reply_writer;
+mod scripts;
+mod words;
+
+pub use commands::{Command, DEFAULT_CHUNK_SIZE};
+pub use error::ScriptError;
+pub use outcome_text::{is_fault, push_outcome};
+pub use parse::command;
+pub use pieces::{first_piece, joined_pieces, split_line};
+pub use scripts::script;

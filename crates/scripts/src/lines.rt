@@ -1,0 +1,175 @@
+//! The lines of a script, whose bytes come in pieces.
+ghost use Rattle.std.specs.Prelude.{◌≡◌, [], ◌++◌, None, OnOk, map};
+ghost use Rattle.typed_tree.specs.ProgramTree.{program_tree};
+ghost use Rattle.scripts.specs.Pieces.{HasNone};
+ghost use Rattle.scripts.specs.Progress.{at_start, reading_after, replies_within};
+ghost use Rattle.scripts.specs.Replies.{answer, unopened, has_faulted as state_has_faulted};
+ghost use Rattle.scripts.specs.Sending.{Emits};
+
+use crate::commands::Command;
+use crate::error::ScriptError;
+use crate::line_reply::LineReply;
+use crate::open_graph::{BAD_LINE, OpenGraph, refusal};
+use crate::parse::command;
+use crate::pieces::split_line;
+use crate::reply_writer::ReplyWriter;
+use devices::Drain;
+use std::alloc::Global;
+use std::marker::Model;
+use typed_tree::Typed;
+use version_list::Versions;
+
+/// How far a script has been read: the graph that the lines so far opened, if they did, and the
+/// beginning of the line that has not ended.
+#[derive(Drop)]
+pub(crate) struct Lines {
+    graph: Option<OpenGraph>,
+    partial: Vec<u8>,
+}
+
+impl Model for Lines {
+    ghost use Rattle.scripts.specs.Progress.{Reading};
+
+    ghost Value = { Reading };
+
+    ghost view = { λ l. record { state = l.graph; partial = l.partial.items } };
+}
+
+impl Lines {
+    /// No line so far.
+    pub(crate) fn new(alloc: Global) -> Lines
+        ensures { result ≡ at_start }
+    {
+        Lines {
+            graph: None,
+            partial: Vec::new(alloc),
+        }
+    }
+
+    /// Whether some run has ended by a fault.
+    pub(crate) fn has_faulted(&self) -> bool
+        ensures { result ≡ state_has_faulted self.now.state }
+    {
+        match &self.graph {
+            None => false,
+            Some(graph) => graph.has_faulted(),
+        }
+    }
+
+    /// Answers the lines that end within the bytes, which come next. The script ends at an error.
+    pub(crate) fn take<W: Drain>(
+        &mut self,
+        alloc: Global,
+        programs: &[Typed],
+        bytes: &[u8],
+        replies: &mut ReplyWriter<'_, W>,
+    ) -> Result<(), ScriptError>
+        requires { HasNone 10 self.old.partial }
+        ensures emits { Emits replies.old replies.new
+            (replies_within (map program_tree programs.now) self.old bytes.now) result }
+        ensures reading { OnOk result
+            (self.new ≡ reading_after (map program_tree programs.now) self.old bytes.now) }
+    {
+        let mut rest = bytes;
+        'lines: while let Some((line, after)) = split_line(rest) {
+            self.end_line(alloc, programs, line, replies)?;
+            rest = after;
+        }
+        self.partial.extend_from_slice(rest)?;
+        Ok(())
+    }
+
+    /// Answers the line that ends with these bytes.
+    fn end_line<W: Drain>(
+        &mut self,
+        alloc: Global,
+        programs: &[Typed],
+        bytes: &[u8],
+        replies: &mut ReplyWriter<'_, W>,
+    ) -> Result<(), ScriptError>
+        ensures emits { Emits replies.old replies.new (answer (map program_tree programs.now)
+            self.old.state (self.old.partial ++ bytes.now)).text result }
+        ensures reading { OnOk result (self.new ≡ record {
+          state = (answer (map program_tree programs.now) self.old.state (self.old.partial ++ bytes.now)).state;
+          partial = [];
+        }) }
+    {
+        if self.partial.is_empty() {
+            return answer_line(alloc, programs, &mut self.graph, bytes, replies);
+        }
+        self.partial.extend_from_slice(bytes)?;
+        answer_line(alloc, programs, &mut self.graph, &self.partial, replies)?;
+        self.partial.clear();
+        Ok(())
+    }
+
+    /// Answers the last line, which no line feed ended.
+    pub(crate) fn finish<W: Drain>(
+        &mut self,
+        alloc: Global,
+        programs: &[Typed],
+        replies: &mut ReplyWriter<'_, W>,
+    ) -> Result<(), ScriptError>
+        ensures emits { Emits replies.old replies.new
+            (answer (map program_tree programs.now) self.old.state self.old.partial).text result }
+        ensures state { OnOk result (self.new.state ≡
+            (answer (map program_tree programs.now) self.old.state self.old.partial).state) }
+    {
+        answer_line(alloc, programs, &mut self.graph, &self.partial, replies)
+    }
+}
+
+/// Does a line and sends its reply.
+fn answer_line<W: Drain>(
+    alloc: Global,
+    programs: &[Typed],
+    graph: &mut Option<OpenGraph>,
+    line: &[u8],
+    replies: &mut ReplyWriter<'_, W>,
+) -> Result<(), ScriptError>
+    ensures emits { Emits replies.old replies.new
+        (answer (map program_tree programs.now) graph.old line.now).text result }
+    ensures state { OnOk result
+        (graph.new ≡ (answer (map program_tree programs.now) graph.old line.now).state) }
+{
+    if line.is_empty() {
+        return Ok(());
+    }
+    let Some(command) = command(line) else {
+        return replies.send_line(LineReply::Refused(BAD_LINE));
+    };
+    match graph {
+        Some(open) => open.answer(alloc, programs, command, replies),
+        None => open(alloc, graph, command, replies),
+    }
+}
+
+/// Does a command while no graph is open: only `vertices` may stand there, and it opens one.
+fn open<W: Drain>(
+    alloc: Global,
+    graph: &mut Option<OpenGraph>,
+    command: Command,
+    replies: &mut ReplyWriter<'_, W>,
+) -> Result<(), ScriptError>
+    requires { graph.old ≡ None }
+    ensures emits { Emits replies.old replies.new (unopened command).text result }
+    ensures state { OnOk result (graph.new ≡ (unopened command).state) }
+{
+    let Command::Vertices {
+        vertices,
+        chunk_size,
+    } = command
+    else {
+        return replies.send_line(LineReply::Refused(BAD_LINE));
+    };
+    match Versions::new(alloc, vertices, chunk_size) {
+        Ok(versions) => {
+            *graph = Some(OpenGraph::new(alloc, versions));
+            replies.send_line(LineReply::Open(vertices))
+        }
+        Err(error) => {
+            let reply = refusal(error)?;
+            replies.send_line(reply)
+        }
+    }
+}

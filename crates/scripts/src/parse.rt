@@ -1,0 +1,129 @@
+//! The command of a line.
+ghost use Rattle.std.specs.Prelude.{◌≡◌};
+ghost use Rattle.scripts.specs.Commands.{command_of, vertices_of, hold_of, edges_of, run_of, ticket_of, one_number};
+ghost use Rattle.scripts.specs.Parsing.{two_numbers};
+
+use crate::commands::{Command, DEFAULT_CHUNK_SIZE};
+use crate::words::Words;
+
+/// The command of a line without its line feed, or `None` where the line is no command. The numbers
+/// of `vertices`, `add` and `del` are below 2^32, the others below 2^64. The line is a command as it
+/// stands, byte for byte: a space more, a tab, a carriage return, a sign or another case makes it
+/// none, and so the empty line is none.
+pub fn command(line: &[u8]) -> Option<Command>
+    ensures { result ≡ command_of line.now }
+{
+    let mut words = Words::new(line);
+    match words.take_word()? {
+        b"vertices" => vertices(words),
+        b"add" => {
+            let (source, destination) = edge(words)?;
+            Some(Command::Add {
+                source,
+                destination,
+            })
+        }
+        b"del" => {
+            let (source, destination) = edge(words)?;
+            Some(Command::Remove {
+                source,
+                destination,
+            })
+        }
+        b"commit" => words.is_empty().then_some(Command::Commit),
+        b"hold" => hold(words),
+        b"release" => {
+            let ticket = last_number(words)?;
+            Some(Command::Release { ticket })
+        }
+        b"edges" => edges(words),
+        b"run" => run(words),
+        _ => None,
+    }
+}
+
+/// The numbers of vertices and of the chunk size, which may be left out.
+fn vertices(mut words: Words<'_>) -> Option<Command>
+    ensures { result ≡ vertices_of words.entry }
+{
+    let vertices = words.take_short_number()?;
+    let chunk_size = if words.is_empty() {
+        DEFAULT_CHUNK_SIZE
+    } else {
+        words.take_short_number()?
+    };
+    words.is_empty().then_some(Command::Vertices {
+        vertices,
+        chunk_size,
+    })
+}
+
+/// The version to hold: the newest, or the one behind the word `at`.
+fn hold(mut words: Words<'_>) -> Option<Command>
+    ensures { result ≡ hold_of words.entry }
+{
+    match words.take_word() {
+        None => Some(Command::Hold { version: None }),
+        Some(b"at") => {
+            let version = Some(last_number(words)?);
+            Some(Command::Hold { version })
+        }
+        Some(_) => None,
+    }
+}
+
+/// The edges of the newest version, or of a ticket's.
+fn edges(words: Words<'_>) -> Option<Command>
+    ensures { result ≡ edges_of words.entry }
+{
+    if words.is_empty() {
+        return Some(Command::Edges);
+    }
+    let ticket = last_number(words)?;
+    Some(Command::EdgesOf { ticket })
+}
+
+/// A program to run, on the newest version or a ticket's.
+fn run(mut words: Words<'_>) -> Option<Command>
+    ensures { result ≡ run_of words.entry }
+{
+    let program = words.take_number()?;
+    let turns = words.take_number()?;
+    let workers = words.take_number()?;
+    let ticket = last_ticket(words)?;
+    Some(Command::Run {
+        program,
+        turns,
+        workers,
+        ticket,
+    })
+}
+
+/// The ticket that is the only word left, if one is left.
+fn last_ticket(words: Words<'_>) -> Option<Option<u64>>
+    ensures { result ≡ ticket_of words.entry }
+{
+    if words.is_empty() {
+        return Some(None);
+    }
+    Some(Some(last_number(words)?))
+}
+
+/// The number below 2^64 that is the only word left.
+#[inline]
+fn last_number(mut words: Words<'_>) -> Option<u64>
+    ensures { result ≡ one_number words.entry }
+{
+    let number = words.take_number()?;
+    words.is_empty().then_some(number)
+}
+
+/// The two ends of an edge.
+#[inline]
+fn edge(mut words: Words<'_>) -> Option<(u32, u32)>
+    ensures { result ≡ two_numbers words.entry }
+{
+    let source = words.take_short_number()?;
+    let destination = words.take_short_number()?;
+    words.is_empty().then_some((source, destination))
+}

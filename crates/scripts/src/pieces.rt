@@ -1,0 +1,39 @@
+//! The pieces of a text between its separators.
+ghost use Rattle.std.specs.Prelude.{◌≡◌, ◌<◌, ◌↔◌, ℕ, List, [], ◌∷◌, ◌++◌, length, IsNone, IfSome, MatchOption};
+ghost use Rattle.scripts.specs.Pieces.{HasNone, lines_of, JoinsAgain, IsFirstPiece};
+ghost use Rattle.scripts.specs.Parsing.{IsCutAt};
+
+/// The first line, without its line feed, and what stands after that line feed; or `None` where the
+/// bytes have no line feed, so that they are one line. The time goes by the line, not by the rest.
+pub fn split_line(bytes: &[u8]) -> Option<(&[u8], &[u8])>
+    // The line feed is byte 10.
+    ensures none { IsNone result ↔ HasNone 10 bytes.now }
+    ensures cut { IfSome result (λ parts.
+        (bytes.now ≡ parts.0.now ++ 10 ∷ parts.1.now) × HasNone 10 parts.0.now) }
+    ensures lines { MatchOption result
+        (lines_of bytes.now ≡ bytes.now ∷ [])
+        (λ parts. lines_of bytes.now ≡ parts.0.now ∷ lines_of parts.1.now) }
+    ensures shorter { IfSome result (λ parts. length parts.1.now < length bytes.now) }
+{
+    split_piece(bytes, b'\n')
+}
+
+/// What stands before the first separator, and what stands after it.
+#[inline]
+pub fn split_piece(bytes: &[u8], separator: u8) -> Option<(&[u8], &[u8])>
+    ensures { IsCutAt separator bytes.now result }
+{
+    let end = bytes.iter().position(|byte| *byte == separator)?;
+    Some((&bytes[..end], &bytes[end + 1..]))
+}
+
+/// The law that the pieces of a text, joined by the separator, are the text again, and that no other
+/// parts without the separator are. The call does nothing.
+pub fn joined_pieces()
+    ensures { (c : ℕ) (text : List ℕ) → JoinsAgain c text }
+{}
+
+/// The law that the first piece of a text ends at its first separator. The call does nothing.
+pub fn first_piece()
+    ensures { (c : ℕ) (front : List ℕ) → HasNone c front → IsFirstPiece c front }
+{}

@@ -1,0 +1,144 @@
+//! Replies on their way to a writer: kept in a block, and written when the block is full.
+ghost use Rattle.std.specs.Prelude.{◌≡◌, [], ◌++◌, OnOk};
+ghost use Rattle.scripts.specs.OutcomeText.{outcome_text as text_of_outcome};
+ghost use Rattle.scripts.specs.ReplyText.{word_line, ticket_line, edge_line, edges_text};
+ghost use Rattle.scripts.specs.Sending.{Emits};
+ghost use Rattle.scripts.specs.Stepping.{line_text};
+
+use crate::error::ScriptError;
+use crate::line_reply::LineReply;
+use crate::outcome_text::push_outcome;
+use algorithm_meaning::Outcome;
+use decimal::push_number;
+use devices::{Drain, write_all};
+use std::alloc::AllocError;
+use std::marker::Model;
+use tree_batch::Graph;
+
+/// How many bytes are read at once, and kept before they are written.
+pub(crate) const BLOCK: usize = 65_536;
+
+/// From here on a block may lack room for a line.
+const NEARLY_FULL: usize = BLOCK - 64;
+
+/// A writer, and the bytes that are kept for it. A contract sees which writer it is, what it has taken,
+/// what is kept, and how often the writer has failed.
+#[derive(Drop)]
+pub(crate) struct ReplyWriter<'a, W: Drain> {
+    pub(crate) writer: &'a mut W,
+    pub(crate) kept: &'a mut Vec<u8>,
+}
+
+impl<'a, W: Drain> Model for ReplyWriter<'a, W> {
+    ghost use Rattle.scripts.specs.Sending.{Output, output};
+
+    ghost Value = { Output };
+
+    ghost view = { λ r. output r.writer.ghost_name (W.taken r.writer.now) r.kept.now.items (W.failures r.writer.now) };
+}
+
+impl<'a, W: Drain> ReplyWriter<'a, W> {
+    /// Writes what is kept, all of it.
+    pub(crate) fn flush(&mut self) -> Result<(), ScriptError>
+        ensures emits { Emits self.old self.new [] result }
+        ensures empty { OnOk result (self.new.kept ≡ []) }
+    {
+        match write_all(self.writer, self.kept) {
+            Ok(()) => {
+                self.kept.clear();
+                Ok(())
+            }
+            Err(_) => Err(ScriptError::WriteFailed),
+        }
+    }
+
+    /// Writes what is kept where there may be no room for another line.
+    fn make_room(&mut self) -> Result<(), ScriptError>
+        ensures { Emits self.old self.new [] result }
+    {
+        if self.kept.len() < NEARLY_FULL {
+            return Ok(());
+        }
+        self.flush()
+    }
+
+    /// Sends a reply of one line.
+    pub(crate) fn send_line(&mut self, reply: LineReply) -> Result<(), ScriptError>
+        ensures { Emits self.old self.new (line_text reply) result }
+    {
+        self.make_room()?;
+        push_line(self.kept, reply)?;
+        Ok(())
+    }
+
+    /// Sends how many edges a graph has, and a line for each.
+    pub(crate) fn send_edges(&mut self, graph: &Graph) -> Result<(), ScriptError>
+        ensures { Emits self.old self.new (edges_text graph.now.edges) result }
+    {
+        self.send_line(LineReply::Edges(graph.edge_count() as u64))?;
+        'edges: for edge in graph.edges() {
+            self.send_edge(edge)?;
+        }
+        Ok(())
+    }
+
+    fn send_edge(&mut self, edge: (u32, u32)) -> Result<(), ScriptError>
+        ensures { Emits self.old self.new (edge_line edge) result }
+    {
+        self.make_room()?;
+        push_edge_line(self.kept, edge)?;
+        Ok(())
+    }
+
+    /// Sends what a run shows. Its text is made whole before it is written.
+    pub(crate) fn send_outcome(&mut self, outcome: &Outcome) -> Result<(), ScriptError>
+        ensures { Emits self.old self.new (text_of_outcome outcome.now) result }
+    {
+        self.make_room()?;
+        push_outcome(self.kept, outcome)?;
+        Ok(())
+    }
+}
+
+/// Appends the text of a reply of one line. After `AllocError` a part of it may stand there.
+fn push_line(out: &mut Vec<u8>, reply: LineReply) -> Result<(), AllocError>
+    ensures { OnOk result (out.new.items ≡ out.old.items ++ line_text reply) }
+{
+    match reply {
+        LineReply::Open(vertices) => push_word_line(out, b"open", u64::from(vertices)),
+        LineReply::Version(number) => push_word_line(out, b"version", number),
+        LineReply::Ticket(ticket, version) => push_ticket_line(out, ticket, version),
+        LineReply::Released(ticket) => push_word_line(out, b"released", ticket),
+        LineReply::Edges(count) => push_word_line(out, b"edges", count),
+        LineReply::Refused(number) => push_word_line(out, b"refused", u64::from(number)),
+    }
+}
+
+fn push_word_line(out: &mut Vec<u8>, word: &[u8], number: u64) -> Result<(), AllocError>
+    ensures { OnOk result (out.new.items ≡ out.old.items ++ word_line word.now number) }
+{
+    out.extend_from_slice(word)?;
+    out.push(b' ')?;
+    push_number(out, number)?;
+    out.push(b'\n')?;
+    Ok(())
+}
+
+fn push_ticket_line(out: &mut Vec<u8>, ticket: u64, version: u64) -> Result<(), AllocError>
+    ensures { OnOk result (out.new.items ≡ out.old.items ++ ticket_line ticket version) }
+{
+    out.extend_from_slice(b"ticket ")?;
+    push_number(out, ticket)?;
+    out.push(b' ')?;
+    push_word_line(out, b"version", version)
+}
+
+fn push_edge_line(out: &mut Vec<u8>, edge: (u32, u32)) -> Result<(), AllocError>
+    ensures { OnOk result (out.new.items ≡ out.old.items ++ edge_line edge) }
+{
+    push_number(out, u64::from(edge.0))?;
+    out.push(b' ')?;
+    push_number(out, u64::from(edge.1))?;
+    out.push(b'\n')?;
+    Ok(())
+}

@@ -1,0 +1,87 @@
+//! Scripts from their first byte to their last.
+ghost use Rattle.std.specs.Prelude.{◌≡◌, ◌<◌, [], length, map};
+ghost use Rattle.typed_tree.specs.ProgramTree.{program_tree};
+ghost use Rattle.scripts.specs.Progress.{at_start};
+ghost use Rattle.scripts.specs.Script.{input, taken_by, RunsScript};
+
+use crate::error::ScriptError;
+use crate::lines::Lines;
+use crate::reply_writer::{BLOCK, ReplyWriter};
+use devices::{Drain, Feed};
+use std::alloc::Global;
+use typed_tree::Typed;
+
+/// Reads a script to its end and writes the replies to its lines, in blocks of 64 KiB. Its runs are of
+/// these programs, numbered from 1. `Ok` says whether some run ended by a fault.
+///
+/// The replies to the lines that have come are written before more is read. Errors:
+/// - `ReadFailed` where the reader failed in this call. What was written is exactly the replies to the
+///   lines that had ended among the bytes read.
+/// - `WriteFailed` where the writer failed in this call, or `NoMemory`. What was written is a beginning
+///   of the replies to the bytes read.
+pub fn script<R: Feed, W: Drain>(
+    alloc: Global,
+    programs: &[Typed],
+    reader: &mut R,
+    writer: &mut W,
+) -> Result<bool, ScriptError>
+    ensures { RunsScript (map program_tree programs.now) (input (R.given reader.old) (R.ended reader.old) (R.failures reader.old))
+        (input (R.given reader.new) (R.ended reader.new) (R.failures reader.new))
+        (taken_by (W.taken writer.old) (W.failures writer.old))
+        (taken_by (W.taken writer.new) (W.failures writer.new)) result }
+{
+    let mut block = vec![in alloc; 0u8; BLOCK]?;
+    let mut kept = Vec::with_capacity(alloc, BLOCK)?;
+    let mut lines = Lines::new(alloc);
+    let mut replies = ReplyWriter {
+        writer,
+        kept: &mut kept,
+    };
+    let result = read_to_end(
+        alloc,
+        programs,
+        &mut lines,
+        &mut block,
+        reader,
+        &mut replies,
+    );
+    let ReplyWriter { writer, kept: _ } = replies;
+    // No effect at run time. The proof reads what the writer holds from this use.
+    let _ = &*writer;
+    result
+}
+
+/// Answers the lines of all that comes. The replies to what has come are written before more is
+/// read.
+fn read_to_end<R: Feed, W: Drain>(
+    alloc: Global,
+    programs: &[Typed],
+    lines: &mut Lines,
+    block: &mut [u8],
+    reader: &mut R,
+    replies: &mut ReplyWriter<'_, W>,
+) -> Result<bool, ScriptError>
+    requires lines { lines.old ≡ at_start }
+    requires block { 0 < length block.old }
+    requires kept { replies.old.kept ≡ [] }
+    ensures same_writer { replies.new.writer ≡ replies.old.writer }
+    ensures runs { RunsScript (map program_tree programs.now) (input (R.given reader.old) (R.ended reader.old) (R.failures reader.old))
+        (input (R.given reader.new) (R.ended reader.new) (R.failures reader.new))
+        (taken_by replies.old.taken replies.old.failures)
+        (taken_by replies.new.taken replies.new.failures) result }
+{
+    'reads: loop {
+        let count = match reader.read(block) {
+            Ok(count) => count,
+            Err(_) => return Err(ScriptError::ReadFailed),
+        };
+        if count == 0 {
+            break;
+        }
+        lines.take(alloc, programs, &block[..count], replies)?;
+        replies.flush()?;
+    }
+    lines.finish(alloc, programs, replies)?;
+    replies.flush()?;
+    Ok(lines.has_faulted())
+}
