@@ -1,4 +1,4 @@
--- Elements that are read into a block. No public clause cites this file.
+-- For proofs only: elements that are read into a block.
 use Rattle.std.specs.Prelude.{◌≡◌, ℕ, ◌+◌, ◌-◌, List, ◌++◌, length, take, drop, min}
 
 -- The first elements of xs, as many as fit, were read into the block old from a place on: the block is

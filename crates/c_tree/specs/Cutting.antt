@@ -1,4 +1,4 @@
--- A list that is cut at one head after another. No public clause cites this file.
+-- For proofs only: a list that is cut at one head after another.
 use Rattle.std.specs.Prelude.{ℕ, if◌then◌else◌, Option, None, Some, List, [], ◌∷◌}
 use Rattle.c_tree.specs.Heads.{is_head}
 

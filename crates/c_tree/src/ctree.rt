@@ -14,7 +14,6 @@ use tail_codec::Tail;
 
 /// A set of numbers below 2^32, cut at its heads. A contract sees its elements as an ascending list,
 /// and its chunk size. It is 64 bytes beside what its prefix and its tree of chunks take.
-#[derive(Drop)]
 pub struct CTree {
     prefix: Tail,
     chunks: Tree<ChunkTail>,
@@ -23,6 +22,17 @@ pub struct CTree {
 }
 
 const _: () = prove!(size_of::<CTree>() == 64);
+
+impl Drop for CTree {
+    fn drop(self) {
+        let CTree {
+            prefix: _,
+            chunks: _,
+            count: _,
+            chunk_size: _,
+        } = self;
+    }
+}
 
 impl Model for CTree {
     ghost use Rattle.c_tree.specs.Heads.{IsChunkSize};

@@ -6,7 +6,7 @@ use std::marker::Model;
 use tail_codec::Tail;
 
 /// The tail of a chunk, as the value at the chunk's head in a tree. A contract sees the tail.
-#[derive(Debug, Drop)]
+#[derive(Drop)]
 pub struct ChunkTail {
     tail: Tail,
 }

@@ -9,3 +9,5 @@ pub mod Halves
 pub mod Ascending
 pub mod Stacks
 pub mod Lookups
+mod Deepened
+mod Rotated

@@ -1,4 +1,4 @@
--- A root apart from its sides, and a last entry apart from those before it.
+-- For proofs only: a root apart from its sides, and a last entry apart from those before it.
 use Rattle.std.specs.Prelude.{◌≡◌, Option, Some, None}
 use Rattle.shared_tree.specs.declared.open.Opened.{Opened}
 use Rattle.shared_tree.specs.declared.joins.Last.{Last}

@@ -1,4 +1,4 @@
--- What an iterator over a tree has still to give.
+-- For proofs only: what an iterator over a tree has still to give.
 use Rattle.std.specs.Prelude.{ℕ, ◌+◌, ◌≤◌, List, [], ◌∷◌, ◌++◌}
 use Rattle.std.specs.Borrow.{Bor}
 use Rattle.shared_tree.specs.declared.tree.Link.{Link}

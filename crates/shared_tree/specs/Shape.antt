@@ -1,4 +1,4 @@
--- Which tree a link is seen as, and what holds of each link.
+-- For proofs only: which tree a link is seen as, and what holds of each link.
 use Rattle.std.specs.Prelude.{◌≡◌, ◌∷◌, ◌++◌}
 use Rattle.shared_tree.specs.declared.tree.Link.{Link}
 use Rattle.shared_tree.specs.declared.tree.Link.TheVariants.{Empty, Fork}

@@ -12,9 +12,15 @@ use std::sync::Arc;
 /// A map from `u32` to values, over nodes that owners and threads share. It goes to another thread,
 /// and is shared with one, where its values may.
 #[cycle(tree)]
-#[derive(Drop)]
 pub struct Tree<V> {
     link: Link<V>,
+}
+
+impl<V: Drop> Drop for Tree<V> {
+    #[cycle(drops)]
+    fn drop(self) {
+        let Tree { link: _ } = self;
+    }
 }
 
 /// The way to a node, with the depth below it and its key, so that a search and a change read only
@@ -89,7 +95,8 @@ impl<V> Tree<V> {
     pub(crate) fn into_link(self) -> Link<V>
         ensures { IsBelow result self }
     {
-        self.link
+        let Tree { link } = self;
+        link
     }
 
     /// The root: its left side, with the entries below its key, the key, the value, and its right

@@ -1,4 +1,4 @@
--- Bytes that several owners share.
+-- For proofs only: bytes that several owners share.
 use Rattle.std.specs.Prelude.{ℕ, List, []}
 use Rattle.tail_codec.specs.declared.shared_bytes.Held.{Held}
 use Rattle.tail_codec.specs.declared.shared_bytes.Held.TheVariants.{Nothing, UpTo15, UpTo31, UpTo47, UpTo63, UpTo95, UpTo127, Longer}

@@ -1,5 +1,4 @@
--- Bytes read one at a time: what the code keeps of a list that is partly read or written. No public
--- clause cites this file.
+-- For proofs only: bytes read one at a time, and what the code keeps of a list that is partly read or written.
 use Rattle.std.specs.Prelude.{◌≡◌, ℕ, ◌+◌, ◌-◌, ◌*◌, ◌^◌, ◌==◌, nat_lt, Bool, ◌&&◌, ◌||◌, if◌then◌else◌, Option, List, [], ◌∷◌, ◌++◌, length}
 use Rattle.tail_codec.specs.Spelling.{least, SpellsNumber, Spells}
 

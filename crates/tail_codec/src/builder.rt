@@ -13,7 +13,7 @@ const MAX_BYTES: usize = 5;
 
 /// A tail that is made element by element. A contract sees its base and its elements so far. One
 /// builder makes one tail after another and keeps its buffer.
-#[derive(Debug, Drop)]
+#[derive(Drop)]
 pub struct TailBuilder {
     base: Option<u32>,
     low: u64,

@@ -5,7 +5,7 @@ ghost use Rattle.tail_codec.specs.Decoding.{elements_from, is_spelling_from};
 use std::marker::Model;
 
 /// The elements of a tail that are still to come, ascending.
-#[derive(Debug, Drop)]
+#[derive(Drop)]
 pub struct TailIter<'a> {
     low: u64,
     rest: &'a [u8],

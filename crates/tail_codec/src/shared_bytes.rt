@@ -6,12 +6,12 @@ use std::sync::Arc;
 
 /// Bytes that several owners share. A contract sees their list. No bytes take no memory, up to 127
 /// bytes one allocation, and more bytes two.
-#[derive(Debug, Drop)]
+#[derive(Drop)]
 pub(crate) struct SharedBytes {
     held: Held,
 }
 
-#[derive(Debug, Drop)]
+#[derive(Drop)]
 enum Held {
     Nothing,
     UpTo15(Arc<Room<15>>),
@@ -96,7 +96,7 @@ impl SharedBytes {
 }
 
 /// Room for up to `N` bytes beside their number.
-#[derive(Debug, Drop)]
+#[derive(Drop)]
 struct Room<const N: usize> {
     len: u8,
     bytes: [u8; N],

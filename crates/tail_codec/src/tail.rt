@@ -14,7 +14,6 @@ use std::marker::Model;
 
 /// An ascending list of numbers below 2^32 that stands above a base, or above none, kept in its
 /// bytes. A contract sees its base and its elements.
-#[derive(Debug, Drop)]
 pub struct Tail {
     base: Option<u32>,
     len: usize,
@@ -22,6 +21,16 @@ pub struct Tail {
 }
 
 const _: () = prove!(size_of::<Tail>() == 32);
+
+impl Drop for Tail {
+    fn drop(self) {
+        let Tail {
+            base: _,
+            len: _,
+            bytes: _,
+        } = self;
+    }
+}
 
 impl Model for Tail {
     ghost use Rattle.std.specs.Prelude.{◌≡◌, length};

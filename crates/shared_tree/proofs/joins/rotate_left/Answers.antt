@@ -1,4 +1,7 @@
+use Rattle.std.proofs.Common.{arith}
 use Rattle.shared_tree.proofs.Rotations.{opened, map_right, map_left, map_around_left, map_middle_left}
+use Rattle.shared_tree.proofs.Deepened.{forked, joined_on_left}
+use Rattle.shared_tree.proofs.Rotated.{single_left, double_left, rotated_left}
 use Rattle.shared_tree.proofs.joins.rotate_left.Goals as goal
 
 pub fork-requires-clause-map : goal.fork-requires-clause-map
@@ -28,3 +31,42 @@ fork-requires-4-clause-map g c =
     let top = opened c.args.right _ _ c.in-Some.is c.in_ok-top.ensures in
     let middle = opened c.in-Some.top.left _ _ c.in-Some-2.is c.in_ok-middle.ensures in
     map_middle_left _ _ _ _ _ _ _ _ _ _ _ c.requires.map top.entries middle.entries c.in_ok-before.ensures.entries c.in_ok-after.ensures.entries
+
+pub fork-requires-clause-balanced : goal.fork-requires-clause-balanced
+fork-requires-clause-balanced g c =
+    let top = opened c.args.right _ _ c.in-Some.is c.in_ok-top.ensures in
+    (single_left _ _ _ _ top.depth top.balanced c.requires.deeper (omega arith)).0
+
+pub fork-requires-then-depth-clause-balanced : goal.fork-requires-then-depth-clause-balanced
+fork-requires-then-depth-clause-balanced g c =
+    let top = opened c.args.right _ _ c.in-Some.is c.in_ok-top.ensures in
+    rw c.in_ok-lower.ensures.depth (single_left _ _ _ _ top.depth top.balanced c.requires.deeper (omega arith)).1
+
+pub fork-requires-2-clause-balanced : goal.fork-requires-2-clause-balanced
+fork-requires-2-clause-balanced g c =
+    let top = opened c.args.right _ _ c.in-Some.is c.in_ok-top.ensures in
+    let middle = opened c.in-Some.top.left _ _ c.in-Some-2.is c.in_ok-middle.ensures in
+    (double_left _ _ _ _ top.depth top.balanced c.requires.deeper _ _ (omega arith) middle.depth middle.balanced).0
+
+pub fork-requires-3-clause-balanced : goal.fork-requires-3-clause-balanced
+fork-requires-3-clause-balanced g c =
+    let top = opened c.args.right _ _ c.in-Some.is c.in_ok-top.ensures in
+    let middle = opened c.in-Some.top.left _ _ c.in-Some-2.is c.in_ok-middle.ensures in
+    (double_left _ _ _ _ top.depth top.balanced c.requires.deeper _ _ (omega arith) middle.depth middle.balanced).1.0
+
+pub fork-requires-4-clause-balanced : goal.fork-requires-4-clause-balanced
+fork-requires-4-clause-balanced g c =
+    let top = opened c.args.right _ _ c.in-Some.is c.in_ok-top.ensures in
+    let middle = opened c.in-Some.top.left _ _ c.in-Some-2.is c.in_ok-middle.ensures in
+    rw (c.in_ok-before.ensures.depth, c.in_ok-after.ensures.depth) (double_left _ _ _ _ top.depth top.balanced c.requires.deeper _ _ (omega arith) middle.depth middle.balanced).1.1
+
+pub returns-then-depth : goal.returns-then-depth
+returns-then-depth g c =
+    let top = opened c.args.right _ _ c.in-Some.is c.in_ok-top.ensures in
+    joined_on_left _ _ _ _ _ top _ _ _ (omega arith) _ _ (forked _ _ _ _ _ c.in_ok-lower.ensures) (forked _ _ _ _ _ c.in_ok-fork.ensures)
+
+pub returns : goal.returns
+returns g c =
+    let top = opened c.args.right _ _ c.in-Some.is c.in_ok-top.ensures in
+    let middle = opened c.in-Some.top.left _ _ c.in-Some-2.is c.in_ok-middle.ensures in
+    rotated_left _ _ _ _ _ top _ _ _ c.requires.deeper _ _ _ _ _ _ _ middle (omega arith) c.in_ok-before.ensures c.in_ok-after.ensures c.in_ok-fork-2.ensures
