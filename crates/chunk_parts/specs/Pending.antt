@@ -1,4 +1,4 @@
--- Elements that are read one at a time. No public clause cites this file.
+-- For proofs only: elements that are read one at a time.
 use Rattle.std.specs.Prelude.{ℕ, Option, Some, None, List, [], ◌∷◌}
 
 -- the element that was read last, if there was one, and those after it

@@ -26,9 +26,11 @@ impl Pieces {
         ensures { IfOk result (λ p. p
             ≡ chunked_set (self.elements ++ key ∷ other.elements) self.chunk_size) }
     {
-        let tail = ChunkTail::new(based(alloc, other.loose, Some(key))?);
-        let chunks = joined(alloc, self.chunks, key, tail, other.chunks)?;
-        Ok(Pieces::new(self.loose, chunks, self.chunk_size))
+        let (loose, front, chunk_size) = self.into_parts();
+        let (between, back, _) = other.into_parts();
+        let tail = ChunkTail::new(based(alloc, between, Some(key))?);
+        let chunks = joined(alloc, front, key, tail, back)?;
+        Ok(Pieces::new(loose, chunks, chunk_size))
     }
 
     /// The elements of these pieces and then those of other pieces. What stands before the heads of
@@ -41,9 +43,11 @@ impl Pieces {
         ensures { IfOk result (λ p. p
             ≡ chunked_set (self.elements ++ other.elements) self.chunk_size) }
     {
-        let front = extended(alloc, self, &other.loose)?;
-        let chunks = concatenated(alloc, front.chunks, other.chunks)?;
-        Ok(Pieces::new(front.loose, chunks, front.chunk_size))
+        let (between, back, _) = other.into_parts();
+        let front = extended(alloc, self, &between)?;
+        let (loose, front, chunk_size) = front.into_parts();
+        let chunks = concatenated(alloc, front, back)?;
+        Ok(Pieces::new(loose, chunks, chunk_size))
     }
 }
 

@@ -13,11 +13,20 @@ use tail_codec::Tail;
 
 /// Elements before all heads, and chunks, of which a set may be made. A contract sees the elements as
 /// an ascending list, and the chunk size.
-#[derive(Drop)]
 pub struct Pieces {
     pub(crate) loose: Tail,
     pub(crate) chunks: Tree<ChunkTail>,
     pub(crate) chunk_size: ChunkSize,
+}
+
+impl Drop for Pieces {
+    fn drop(self) {
+        let Pieces {
+            loose: _,
+            chunks: _,
+            chunk_size: _,
+        } = self;
+    }
 }
 
 impl Model for Pieces {
@@ -53,6 +62,19 @@ impl Pieces {
         Pieces::new(loose, Tree::new(), chunk_size)
     }
 
+    /// The elements before all heads, the chunks, and the chunk size.
+    pub(crate) fn into_parts(self) -> (Tail, Tree<ChunkTail>, ChunkSize)
+        ensures part { IsPart result.2 result.0 result.1.entries }
+        ensures whole { chunked_set (together result.0 result.1.entries) result.2 ≡ self }
+    {
+        let Pieces {
+            loose,
+            chunks,
+            chunk_size,
+        } = self;
+        (loose, chunks, chunk_size)
+    }
+
     /// The elements of an ascending list, each chunk made anew. It takes time in proportion to them.
     ///
     /// The only error is want of memory.
@@ -83,7 +105,12 @@ impl Pieces {
         requires { len ≡ length self.elements }
         ensures { IfOk result (λ t. t ≡ self) }
     {
-        let loose = based(alloc, self.loose, None)?;
-        Ok(CTree::from_parts(loose, self.chunks, len, self.chunk_size))
+        let Pieces {
+            loose,
+            chunks,
+            chunk_size,
+        } = self;
+        let loose = based(alloc, loose, None)?;
+        Ok(CTree::from_parts(loose, chunks, len, chunk_size))
     }
 }

@@ -1,12 +1,11 @@
 -- Answers where all of the second part stands on one side of the first's root.
-use Rattle.std.proofs.Common.{◌≡◌, ℕ, ◌+◌, ◌<◌, ◌≤◌, true, false, inl, inr, Option, None, Some, List, [], ◌∷◌, ◌++◌, length, refl, sym, ◌∙◌, ap, arith}
+use Rattle.std.proofs.Common.{◌≡◌, ℕ, ◌+◌, ◌<◌, true, false, inl, Option, None, Some, List, [], ◌∷◌, ◌++◌, length, refl, sym, ◌∙◌, ap, arith}
 use Rattle.std.specs.List.{All}
 use Rattle.std.proofs.lemmas.Bool.{lt-ltb, le-ltb, ne_eqb}
 use Rattle.std.proofs.lemmas.List.Elements.{All-head, All-tail}
 use Rattle.tail_codec.specs.Spelling.{AscendsFrom, Ascends}
 use Rattle.c_tree.specs.Heads.{is_head}
 use Rattle.c_tree.specs.Chunks.{ChunkedSet, chunked_set}
-use Rattle.chunk_parts.specs.Sets.{has, below, above}
 use Rattle.chunk_parts.specs.Parts.{IsRoot, IsCut}
 use Rattle.chunk_parts.proofs.Cutting.{below_none, has_none, above_all}
 use Rattle.chunk_parts.proofs.Cuts.{cut_here}
@@ -15,8 +14,8 @@ use Rattle.set_ops.specs.declared.operation.Operation.{Operation}
 use Rattle.set_ops.specs.declared.operation.Operation.TheVariants.{Unite, Subtract}
 use Rattle.set_ops.specs.declared.halves.Halves.{Halves}
 use Rattle.set_ops.specs.declared.within.Side.TheVariants.{Below, Above}
-use Rattle.set_ops.specs.Halving.{AreHalves, AreAnswers, StandsOn}
-use Rattle.set_ops.specs.Operations.{combined, most, rejoined, IsCombined, IsRejoined}
+use Rattle.set_ops.specs.Halving.{StandsOn}
+use Rattle.set_ops.specs.Operations.{rejoined, IsCombined}
 use Rattle.set_ops.proofs.Combining.{CanRejoin, below_over, above_over, can_rejoin}
 use Rattle.set_ops.proofs.Laws.{with_no_second, most_no_second}
 

@@ -1,9 +1,9 @@
 -- Answers for two parts that are cut at one head.
-use Rattle.std.proofs.Common.{◌≡◌, ◌⊎◌, ℕ, ◌+◌, ◌^◌, ◌<◌, ◌≤◌, Bool, true, false, ◌&&◌, inl, inr, Option, None, Some, List, [], ◌∷◌, ◌++◌, length, refl, sym, ◌∙◌, ap, length-append, arith}
+use Rattle.std.proofs.Common.{◌≡◌, ◌⊎◌, ℕ, ◌+◌, ◌^◌, ◌<◌, ◌≤◌, Bool, true, inl, inr, Option, None, Some, length, sym, ◌∙◌, ap, arith}
 use Rattle.std.specs.Prelude.{Result, Ok, Err, IfOk}
 use Rattle.std.specs.declared.alloc.AllocError.{AllocError}
 use Rattle.set_ops.specs.declared.operation.Combined.{Combined}
-use Rattle.tail_codec.specs.Spelling.{AscendsFrom, Ascends, least}
+use Rattle.tail_codec.specs.Spelling.{Ascends, least}
 use Rattle.c_tree.specs.Heads.{is_head}
 use Rattle.c_tree.specs.Chunks.{ChunkedSet, chunked_set}
 use Rattle.c_tree.proofs.Members.{ascends_from}

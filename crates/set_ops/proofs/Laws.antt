@@ -1,15 +1,15 @@
 -- Both lists cut at one number that one of them has.
-use Rattle.std.proofs.Common.{◌≡◌, ◌⊎◌, ℕ, ◌+◌, ◌^◌, ◌<◌, ◌≤◌, Bool, true, false, not, ◌&&◌, if◌then◌else◌, inl, inr, Option, None, Some, List, [], ◌∷◌, ◌++◌, length, refl, sym, ◌∙◌, ap, length-append, arith}
-use Rattle.std.proofs.lemmas.Bool.{cases_lt, cases_order, cases_Bool, both_ways, lt-ltb, le-ltb, eq-eqb, ne_eqb}
+use Rattle.std.proofs.Common.{◌≡◌, ◌⊎◌, ℕ, ◌+◌, ◌^◌, ◌≤◌, Bool, true, false, ◌&&◌, if◌then◌else◌, inl, inr, List, [], ◌∷◌, ◌++◌, length, refl, sym, ◌∙◌, ap, length-append, arith}
+use Rattle.std.proofs.lemmas.Bool.{cases_order, cases_Bool, both_ways, lt-ltb, le-ltb, eq-eqb, ne_eqb}
 use Rattle.std.specs.List.{All}
 use Rattle.std.proofs.lemmas.List.Elements.{All-cons, All-head, All-tail, All-append}
 use Rattle.c_tree.specs.Heads.{is_head}
 use Rattle.c_tree.specs.Chunks.{HasNoHead}
 use Rattle.chunk_parts.proofs.Cuts.{all_below, all_above}
-use Rattle.tail_codec.specs.Spelling.{AscendsFrom, Ascends, least}
-use Rattle.c_tree.proofs.Members.{ascends_from, ascends_front, ascends_back, ascends_room}
+use Rattle.tail_codec.specs.Spelling.{AscendsFrom}
+use Rattle.c_tree.proofs.Members.{ascends_from, ascends_room}
 use Rattle.chunk_parts.specs.Sets.{has, below, above, union, difference}
-use Rattle.chunk_parts.proofs.Cutting.{below_none, above_all, has_none, below_ascends, above_ascends, above_from}
+use Rattle.chunk_parts.proofs.Cutting.{below_none, above_all, has_none, below_ascends, above_ascends}
 use Rattle.chunk_parts.proofs.Unions.{union_at, union_swap, union_ascends, union_nothing}
 use Rattle.chunk_parts.proofs.Differences.{difference_at, difference_by, difference_ascends, difference_nothing}
 use Rattle.set_ops.specs.declared.operation.Operation.{Operation}

@@ -1,4 +1,4 @@
--- Two parts that are cut at one head.
+-- For proofs only: two parts that are cut at one head.
 use Rattle.std.specs.Prelude.{◌≡◌, ◌⊎◌, ℕ, true, false, Option, List, []}
 use Rattle.tail_codec.specs.Spelling.{Ascends}
 use Rattle.c_tree.specs.Heads.{is_head}

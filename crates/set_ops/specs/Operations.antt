@@ -1,4 +1,4 @@
--- What the operations on two sets give.
+-- For proofs only: what the operations give for parts of sets.
 use Rattle.std.specs.Prelude.{◌≡◌, ℕ, ◌+◌, Bool, true, not, ◌&&◌, if◌then◌else◌, List, ◌∷◌, ◌++◌, length}
 use Rattle.c_tree.specs.Chunks.{ChunkedSet, chunked_set}
 use Rattle.chunk_parts.specs.Sets.{union, difference}

@@ -9,11 +9,20 @@ use chunk_parts::{Cut, Part};
 use std::alloc::{AllocError, Global};
 
 /// Two parts cut at a head that one of them has.
-#[derive(Drop)]
 pub(crate) struct Halves {
     pub(crate) key: u32,
     pub(crate) first: Cut,
     pub(crate) second: Cut,
+}
+
+impl Drop for Halves {
+    fn drop(self) {
+        let Halves {
+            key: _,
+            first: _,
+            second: _,
+        } = self;
+    }
 }
 
 /// Both parts cut at the root of one of them, or `None` where none has a head.

@@ -1,8 +1,8 @@
-use Rattle.std.proofs.Common.{◌≡◌, length, ap, arith, rules}
+use Rattle.std.proofs.Common.{length, ap, arith, rules}
 use Rattle.c_tree.specs.Chunks.{ChunkedSet}
-use Rattle.set_ops.specs.Halving.{AreHalves, AreOver, AreAnswers}
+use Rattle.set_ops.specs.Halving.{AreHalves, AreAnswers}
 use Rattle.set_ops.specs.Operations.{IsCombined, IsRejoined}
-use Rattle.set_ops.proofs.Combining.{CanRejoin, over_below, over_above, less_below, less_above, can_rejoin, ok_is}
+use Rattle.set_ops.proofs.Combining.{over_below, over_above, less_below, less_above, can_rejoin, ok_is}
 use Rattle.set_ops.proofs.combine.+combine.Goals as goal
 
 pub combine-requires : goal.combine-requires

@@ -1,4 +1,4 @@
-use Rattle.std.proofs.Common.{◌≡◌, IfOk, subst, rules}
+use Rattle.std.proofs.Common.{IfOk, subst}
 use Rattle.set_ops.specs.Halving.{AreHalves, AreAnswers}
 use Rattle.set_ops.specs.Operations.{IsCombined, IsRejoined}
 use Rattle.set_ops.proofs.Combining.{over_below, over_above, can_rejoin, ok_is}

@@ -1,4 +1,4 @@
-use Rattle.std.proofs.Common.{◌≡◌, true, inl, inr, sym, ap, ◌∙◌, subst, arith, rules}
+use Rattle.std.proofs.Common.{◌≡◌, true, inl, inr, rules}
 use Rattle.c_tree.specs.Heads.{is_head}
 use Rattle.chunk_parts.specs.Parts.{IsCut}
 use Rattle.set_ops.proofs.halves.cut_both.Goals as goal

@@ -1,4 +1,4 @@
-use Rattle.std.proofs.Common.{◌≡◌, sym, ap, ◌∙◌, subst, arith, rules}
+use Rattle.std.proofs.Common.{◌≡◌, arith}
 use Rattle.tail_codec.specs.Spelling.{least}
 use Rattle.c_tree.specs.Chunks.{HasNoHead}
 use Rattle.c_tree.proofs.Members.{ascends_from}

@@ -1,5 +1,5 @@
-use Rattle.std.proofs.Common.{◌≡◌, ◌+◌, [], length, sym, ap, ◌∙◌, arith, rules}
-use Rattle.c_tree.specs.Chunks.{ChunkedSet, chunked_set}
+use Rattle.std.proofs.Common.{◌≡◌, [], length, sym, ap, ◌∙◌, arith, rules}
+use Rattle.c_tree.specs.Chunks.{chunked_set}
 use Rattle.set_ops.proofs.Laws.{with_no_second, most_no_second}
 use Rattle.set_ops.proofs.operation.with_nothing.Goals as goal
 

@@ -1,4 +1,4 @@
-use Rattle.std.proofs.Common.{◌≡◌, ◌++◌, ◌∷◌, length, sym, ◌∙◌, arith, rules}
+use Rattle.std.proofs.Common.{◌≡◌, ◌++◌, ◌∷◌, ◌∙◌, arith, rules}
 use Rattle.c_tree.specs.Chunks.{chunked_set}
 use Rattle.chunk_parts.specs.Parts.{IsRoot}
 use Rattle.chunk_parts.proofs.Rooted.{root_smaller}

@@ -1,4 +1,4 @@
-use Rattle.std.proofs.Common.{◌≡◌, ◌<◌, ◌∷◌, List, ℕ, rules}
+use Rattle.std.proofs.Common.{◌≡◌, ◌<◌, ◌∷◌, rules}
 use Rattle.std.specs.List.{All}
 use Rattle.set_ops.proofs.Beside.{all_below, all_above}
 use Rattle.set_ops.proofs.within.side_of.Goals as goal

@@ -5,28 +5,28 @@ use Rattle.chunk_parts.proofs.pieces.Pieces.join2.Goals as goal
 
 pub extended-requires-clause-ascending : goal.extended-requires-clause-ascending
 extended-requires-clause-ascending c =
-    let q = c.other.inside in
-    more_ascends c.args.self.elements c.args.other q.chunk_size q.loose q.chunks.entries c.other.view_is c.requires.ascending
+    let q = c.into_parts-between.result in
+    more_ascends c.args.self.elements c.args.other q.2 q.0 q.1.entries c.into_parts-between.ensures.whole c.requires.ascending
 
 pub concatenated-requires : goal.concatenated-requires
 concatenated-requires c =
-    let p = c.front.inside in
-    let q = c.other.inside in
-    let is : c.in_ok-front.front ≡ chunked_set (c.args.self.elements ++ q.loose.elements) c.args.self.chunk_size = search rules in
-    two_map p.chunk_size q.chunk_size p.loose p.chunks.entries q.loose q.chunks.entries c.front.invariant c.other.invariant c.args.self c.args.other c.in_ok-front.front c.other.view_is c.requires.sizes c.requires.ascending c.front.view_is is
+    let p = c.into_parts-loose.result in
+    let q = c.into_parts-between.result in
+    let is : c.in_ok-front.front ≡ chunked_set (c.args.self.elements ++ q.0.elements) c.args.self.chunk_size = search rules in
+    two_map p.2 q.2 p.0 p.1.entries q.0 q.1.entries c.into_parts-loose.ensures.part c.into_parts-between.ensures.part c.args.self c.args.other c.in_ok-front.front c.into_parts-between.ensures.whole c.requires.sizes c.requires.ascending c.into_parts-loose.ensures.whole is
 
 pub new-requires : goal.new-requires
 new-requires c =
-    let p = c.front.inside in
-    let q = c.other.inside in
-    let is : c.in_ok-front.front ≡ chunked_set (c.args.self.elements ++ q.loose.elements) c.args.self.chunk_size = search rules in
-    let all : c.in_ok-chunks.chunks.entries ≡ p.chunks.entries ++ q.chunks.entries = search rules in
-    two_part p.chunk_size q.chunk_size p.loose p.chunks.entries q.loose q.chunks.entries c.front.invariant c.other.invariant c.args.self c.args.other c.in_ok-front.front c.other.view_is c.requires.sizes c.requires.ascending c.front.view_is is c.in_ok-chunks.chunks.entries all
+    let p = c.into_parts-loose.result in
+    let q = c.into_parts-between.result in
+    let is : c.in_ok-front.front ≡ chunked_set (c.args.self.elements ++ q.0.elements) c.args.self.chunk_size = search rules in
+    let all : c.in_ok-chunks.chunks.entries ≡ p.1.entries ++ q.1.entries = search rules in
+    two_part p.2 q.2 p.0 p.1.entries q.0 q.1.entries c.into_parts-loose.ensures.part c.into_parts-between.ensures.part c.args.self c.args.other c.in_ok-front.front c.into_parts-between.ensures.whole c.requires.sizes c.requires.ascending c.into_parts-loose.ensures.whole is c.in_ok-chunks.chunks.entries all
 
 pub returns : goal.returns
 returns c =
-    let p = c.front.inside in
-    let q = c.other.inside in
-    let is : c.in_ok-front.front ≡ chunked_set (c.args.self.elements ++ q.loose.elements) c.args.self.chunk_size = search rules in
-    let all : c.in_ok-chunks.chunks.entries ≡ p.chunks.entries ++ q.chunks.entries = search rules in
-    c.new.ensures ∙ two_whole p.chunk_size q.chunk_size p.loose p.chunks.entries q.loose q.chunks.entries c.front.invariant c.other.invariant c.args.self c.args.other c.in_ok-front.front c.other.view_is c.requires.sizes c.requires.ascending c.front.view_is is c.in_ok-chunks.chunks.entries all
+    let p = c.into_parts-loose.result in
+    let q = c.into_parts-between.result in
+    let is : c.in_ok-front.front ≡ chunked_set (c.args.self.elements ++ q.0.elements) c.args.self.chunk_size = search rules in
+    let all : c.in_ok-chunks.chunks.entries ≡ p.1.entries ++ q.1.entries = search rules in
+    c.new.ensures ∙ two_whole p.2 q.2 p.0 p.1.entries q.0 q.1.entries c.into_parts-loose.ensures.part c.into_parts-between.ensures.part c.args.self c.args.other c.in_ok-front.front c.into_parts-between.ensures.whole c.requires.sizes c.requires.ascending c.into_parts-loose.ensures.whole is c.in_ok-chunks.chunks.entries all
