@@ -1,5 +1,7 @@
--- What contracts see of a run's state.
+-- For proofs only: what private contracts see of a run's state.
 use Rattle.std.specs.Prelude.{Option, Some, None}
+use Rattle.typed_tree.specs.declared.statement.Action.{Action}
+use Rattle.typed_tree.specs.declared.statement.Action.TheVariants as rust
 use Rattle.algorithm_meaning.specs.declared.state.Graph.{Graph}
 use Rattle.algorithm_meaning.specs.declared.state.Scope.{Scope}
 use Rattle.algorithm_meaning.specs.declared.state.State.{State}
@@ -20,3 +22,11 @@ state_of s = record { vectors = s.vectors.items; sets = s.sets.items; scope = sc
 abbrev pub stand : Option End → StateValue → Stand
 stand None s = Live s
 stand (Some end) s = Over s end
+
+-- the statement has no block
+abbrev pub HasNoBlock : Action → Type 0
+HasNoBlock (rust.If' c shape body) = ⊥
+HasNoBlock (rust.IfElse' c shape body shape' other) = ⊥
+HasNoBlock (rust.While' c shape body) = ⊥
+HasNoBlock (rust.For' name first end shape body) = ⊥
+HasNoBlock action = Unit

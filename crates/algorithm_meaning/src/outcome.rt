@@ -12,21 +12,21 @@ pub enum End {
 }
 
 /// A vector's name, and its entry for each vertex.
-#[derive(Debug, Drop)]
+#[derive(Drop)]
 pub struct NamedVector {
     pub name: Name,
     pub entries: Sequence<i64>,
 }
 
 /// A vertex set's name, and its members, ascending.
-#[derive(Debug, Drop)]
+#[derive(Drop)]
 pub struct NamedSet {
     pub name: Name,
     pub members: Sequence<u32>,
 }
 
 /// What a run shows.
-#[derive(Debug, Drop)]
+#[derive(Drop)]
 pub struct Outcome {
     pub end: End,
     /// How many turns were used.

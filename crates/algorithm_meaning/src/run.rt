@@ -6,7 +6,7 @@ ghost use Rattle.typed_tree.specs.ProgramTree.{program_tree};
 ghost use Rattle.algorithm_meaning.specs.declared.error.MeaningError.TheVariants.{NoMemory};
 ghost use Rattle.algorithm_meaning.specs.Loop.{after_for, after_while, for_body, inside, take_turn};
 ghost use Rattle.algorithm_meaning.specs.Meaning.{after, after_all};
-ghost use Rattle.algorithm_meaning.specs.Seen.{graph_of, stand, state_of};
+ghost use Rattle.algorithm_meaning.specs.Seen.{HasNoBlock, graph_of, stand, state_of};
 ghost use Rattle.algorithm_meaning.specs.Shown.{meaning};
 
 use crate::change::{
@@ -81,6 +81,41 @@ fn run_statement(
     let number = statement.number;
     let vertices = graph.vertices;
     match &statement.action {
+        Action::If(c, body) => match decide(c, vertices, state) {
+            None => Ok(fault(number)),
+            Some(true) => run_inside(alloc, body, program, graph, state),
+            Some(false) => Ok(None),
+        },
+        Action::IfElse(c, body, other) => match decide(c, vertices, state) {
+            None => Ok(fault(number)),
+            Some(true) => run_inside(alloc, body, program, graph, state),
+            Some(false) => run_inside(alloc, other, program, graph, state),
+        },
+        Action::While(c, body) => run_while(alloc, body, c, number, program, graph, state),
+        Action::For(_, first, end, body) => match bounds_of(first, end, vertices, state) {
+            None => Ok(fault(number)),
+            Some(bounds) => run_for(alloc, body, bounds, number, program, graph, state),
+        },
+        action => run_without_block(alloc, action, number, program, graph, state),
+    }
+}
+
+/// Runs a statement that has no block.
+fn run_without_block(
+    alloc: Global,
+    action: &Action,
+    number: u64,
+    program: &Typed,
+    graph: &Graph,
+    state: &mut State,
+) -> Result<Option<End>, AllocError>
+    requires { HasNoBlock action.now }
+    ensures meaning { IfOk result (λ end. stand end (state_of state.new)
+        ≡ after (program_tree program.now) (graph_of graph.now) number (action_tree action.now) (state_of state.old)) }
+    ensures turns { state.new.turns ≡ state.old.turns }
+{
+    let vertices = graph.vertices;
+    match action {
         Action::DeclareInteger(_, e) => declare_integer(e, number, vertices, state),
         Action::DeclareCondition(_, c) => declare_condition(c, number, vertices, state),
         Action::SetInteger(slot, e) => Ok(set_integer(slot.place, e, number, vertices, state)),
@@ -115,21 +150,10 @@ fn run_statement(
             );
             Ok(None)
         }
-        Action::If(c, body) => match decide(c, vertices, state) {
-            None => Ok(fault(number)),
-            Some(true) => run_inside(alloc, body, program, graph, state),
-            Some(false) => Ok(None),
-        },
-        Action::IfElse(c, body, other) => match decide(c, vertices, state) {
-            None => Ok(fault(number)),
-            Some(true) => run_inside(alloc, body, program, graph, state),
-            Some(false) => run_inside(alloc, other, program, graph, state),
-        },
-        Action::While(c, body) => run_while(alloc, body, c, number, program, graph, state),
-        Action::For(_, first, end, body) => match bounds_of(first, end, vertices, state) {
-            None => Ok(fault(number)),
-            Some(bounds) => run_for(alloc, body, bounds, number, program, graph, state),
-        },
+        Action::If(_, _)
+        | Action::IfElse(_, _, _)
+        | Action::While(_, _)
+        | Action::For(_, _, _, _) => { unreachable!() }
     }
 }
 

@@ -9,14 +9,14 @@ pub(crate) struct Graph<'a> {
 }
 
 /// A vertex set: the place of its name in the program's names, and its members, ascending.
-#[derive(Debug, Drop)]
+#[derive(Drop)]
 pub(crate) struct VertexSet {
     pub(crate) name: usize,
     pub(crate) members: Sequence<u32>,
 }
 
 /// The variables that are visible, by their places, and the vertices that a function works on.
-#[derive(Debug, Drop)]
+#[derive(Drop)]
 pub(crate) struct Scope {
     pub(crate) integers: Vec<i64>,
     pub(crate) conditions: Vec<bool>,
@@ -25,7 +25,7 @@ pub(crate) struct Scope {
 }
 
 /// Where a run stands.
-#[derive(Debug, Drop)]
+#[derive(Drop)]
 pub(crate) struct State {
     pub(crate) vectors: Vec<Sequence<i64>>,
     pub(crate) sets: Vec<VertexSet>,

@@ -38,7 +38,7 @@ pub enum Entity {
 }
 
 /// A visible name, and what it is.
-#[derive(Debug, Drop)]
+#[derive(Drop)]
 pub struct Visible {
     pub name: Name,
     pub entity: Entity,
@@ -54,7 +54,7 @@ pub enum Inside {
 }
 
 /// The names that are visible at a point of a source.
-#[derive(Debug, Drop)]
+#[derive(Drop)]
 pub struct Scope {
     visible: Vec<Visible>,
     inside: Inside,

@@ -10,7 +10,7 @@ use crate::scope::Entity;
 use typed_tree::{Condition, Endpoint, Integer, Slot};
 
 /// A typed expression.
-#[derive(Debug, Drop)]
+#[derive(Drop)]
 pub enum Value {
     Integer(Integer),
     Condition(Condition),

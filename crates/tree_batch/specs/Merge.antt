@@ -1,4 +1,4 @@
--- The steps by which sorted entries are merged into ascending edges.
+-- For proofs only: the steps by which sorted entries are merged into ascending edges.
 use Rattle.std.specs.Prelude.{◌≡◌, ℕ, ◌+◌, ◌^◌, ◌<◌, ◌≤◌, Bool, false, ◌⊎◌, if◌then◌else◌, List, [], ◌∷◌, ◌++◌}
 use Rattle.tree_batch.specs.Edge.{Edge, place, edge_eq, Rises}
 

@@ -47,7 +47,6 @@ pub enum Connective {
 }
 
 /// An expression of type `int`. A vertex reads as its number.
-#[derive(Debug, Drop)]
 pub enum Integer {
     /// A literal.
     Number(i64),
@@ -70,7 +69,6 @@ pub enum Integer {
 }
 
 /// An expression of type `bool`.
-#[derive(Debug, Drop)]
 pub enum Condition {
     /// `true` or `false`.
     Literal(bool),
@@ -84,6 +82,37 @@ pub enum Condition {
     Compare(Comparison, Integer, Integer),
     /// An operator on two conditions, of which both are evaluated.
     Connect(Connective, Box<Condition>, Box<Condition>),
+}
+
+impl Drop for Integer {
+    #[cycle(drops)]
+    fn drop(self) {
+        match self {
+            Integer::Number(_)
+            | Integer::Constant(_, _)
+            | Integer::Variable(_)
+            | Integer::Parameter(_)
+            | Integer::EntryAt(_, _)
+            | Integer::Entry(_, _)
+            | Integer::SetSize(_)
+            | Integer::Negative(_)
+            | Integer::Arithmetic(_, _, _) => {}
+        }
+    }
+}
+
+impl Drop for Condition {
+    #[cycle(drops)]
+    fn drop(self) {
+        match self {
+            Condition::Literal(_)
+            | Condition::Constant(_, _)
+            | Condition::Variable(_)
+            | Condition::Not(_)
+            | Condition::Compare(_, _, _)
+            | Condition::Connect(_, _, _) => {}
+        }
+    }
 }
 
 /// How a new number is joined to one that is there.

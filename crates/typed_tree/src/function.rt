@@ -1,7 +1,7 @@
 use crate::expression::{Integer, Reduction};
 
 /// A statement of a function.
-#[derive(Debug, Drop)]
+#[derive(Drop)]
 pub enum Step {
     /// The entry of the vector at this place gets the value, at the function's own vertex.
     SetEntry(usize, Integer),
@@ -10,7 +10,7 @@ pub enum Step {
 }
 
 /// A function on one vertex, without result.
-#[derive(Debug, Drop)]
+#[derive(Drop)]
 pub struct VertexFunction {
     /// The place of its name in the program's names.
     pub name: usize,

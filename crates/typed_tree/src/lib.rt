@@ -7,12 +7,14 @@
 //! and conditions are types of their own, so that no number stands for a truth value. A named constant
 //! keeps its name beside its value, and a statement its number and its label.
 //!
-//! Each Rust type is plain data. Contracts speak of the pure trees of `specs/Trees.antt`, which have no
-//! pointers; `specs/Views.antt` says which one a Rust tree is. A [`Sequence`] is a `Vec` that contracts
-//! see as a list.
+//! Each Rust type is plain data. Contracts speak of pure trees, which have no pointers: each file of
+//! `specs/` defines one kind, as `IntegerTree` or `BlockTree`, and says which one a Rust tree is. A
+//! [`Sequence`] is a `Vec` that contracts see as a list.
 //!
-//! The meaning of programs stands on this crate, and so will the checker that makes these trees, the
-//! schedule's rules and the compiler.
+//! The trees have their `Drop` by hand. A derived one would be written out, and proved again, in each
+//! function of each crate where a tree ends.
+//!
+//! The checker, which makes these trees, and the meaning of programs stand on this crate.
 #![tactic(auto)]
 
 mod expression;

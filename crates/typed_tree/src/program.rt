@@ -3,7 +3,6 @@ use crate::sequence::Name;
 use crate::statement::Statement;
 
 /// A checked program.
-#[derive(Debug, Drop)]
 pub struct Typed {
     /// All names that the trees speak of, each at its place.
     pub names: Vec<Name>,
@@ -17,6 +16,19 @@ pub struct Typed {
     pub vertex_functions: Vec<VertexFunction>,
     /// The statements of `main`.
     pub main: Vec<Statement>,
+}
+
+impl Drop for Typed {
+    fn drop(self) {
+        let Typed {
+            names: _,
+            edges: _,
+            vectors: _,
+            sets: _,
+            vertex_functions: _,
+            main: _,
+        } = self;
+    }
 }
 
 /// A vector: a number for each vertex.

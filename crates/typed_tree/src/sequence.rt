@@ -4,7 +4,7 @@ use std::marker::Model;
 
 /// A `Vec` that contracts see as the list of its items. It is made from a `Vec` and gives it back,
 /// and neither takes memory.
-#[derive(Debug, Drop)]
+#[derive(Drop)]
 pub struct Sequence<T> {
     items: Vec<T>,
 }

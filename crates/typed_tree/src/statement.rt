@@ -1,7 +1,6 @@
 use crate::expression::{Condition, Integer, Reduction, Slot};
 
 /// A statement of `main`.
-#[derive(Debug, Drop)]
 #[cycle(statements)]
 pub struct Statement {
     /// Its number, from 1 in the order of the text, a block before its body.
@@ -23,7 +22,6 @@ pub enum SetValue {
 }
 
 /// What a statement of `main` does.
-#[derive(Debug, Drop)]
 #[cycle(statements)]
 pub enum Action {
     /// Declares an int variable, whose name is at this place, with its first value.
@@ -56,4 +54,40 @@ pub enum Action {
     /// Declares an int variable, whose name is at this place, in its body, and runs the body with each
     /// value from the first bound up to the second, which is left out.
     For(usize, Integer, Integer, Vec<Statement>),
+}
+
+impl Drop for Statement {
+    #[cycle(drops)]
+    fn drop(self) {
+        let Statement {
+            number: _,
+            label: _,
+            action: _,
+        } = self;
+    }
+}
+
+impl Drop for Action {
+    #[cycle(drops)]
+    fn drop(self) {
+        match self {
+            Action::DeclareInteger(_, _)
+            | Action::DeclareCondition(_, _)
+            | Action::SetInteger(_, _)
+            | Action::SetCondition(_, _)
+            | Action::ReduceInteger(_, _, _)
+            | Action::SetEntry(_, _, _)
+            | Action::ReduceEntry(_, _, _, _)
+            | Action::DeclareSet(_, _)
+            | Action::AssignSet(_, _)
+            | Action::AddVertex(_, _)
+            | Action::PrintInteger(_)
+            | Action::PrintCondition(_)
+            | Action::ApplyVertex(_, _)
+            | Action::If(_, _)
+            | Action::IfElse(_, _, _)
+            | Action::While(_, _)
+            | Action::For(_, _, _, _) => {}
+        }
+    }
 }

@@ -9,7 +9,7 @@ use std::alloc::Global;
 use typed_tree::{Name as Text, Sequence, Slot};
 
 /// What is visible at a point of the source, and what came before it.
-#[derive(Debug, Drop)]
+#[derive(Drop)]
 pub(crate) struct Checker {
     pub(crate) scope: Scope,
     /// All names that were declared, but for parameters.

@@ -18,7 +18,7 @@ use std::alloc::Global;
 use typed_tree::{Beginning, Endpoint, SetValue, Slot, Statement, Step, Vector, VertexFunction};
 
 /// What was declared so far.
-#[derive(Debug, Drop)]
+#[derive(Drop)]
 pub(crate) struct Declared {
     pub(crate) checker: Checker,
     pub(crate) edges: Option<usize>,

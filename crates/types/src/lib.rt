@@ -16,8 +16,6 @@
 //! passed over. `statements_are_numbered_in_order` is a law of the definitions, that the statements of
 //! `main` are numbered from 1 in the order of the text; it does nothing when called.
 //!
-//! What a whole text gives is shown by the tests of the crate that has the parser.
-//!
 //! The compiler stands on this crate.
 #![tactic(auto)]
 

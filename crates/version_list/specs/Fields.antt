@@ -1,4 +1,4 @@
--- What the fields of versions stand for, and what is true of them.
+-- For proofs only: what the fields of versions stand for, and what is true of them.
 use Rattle.std.specs.Prelude.{◌≡◌, ◌+◌, ◌≤◌, length, vec_capacity}
 use Rattle.tree_batch.specs.Digraph.{empty_graph, graph_through}
 use Rattle.version_list.specs.declared.versions.Versions.TheInside.{Inside}

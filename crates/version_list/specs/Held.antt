@@ -1,4 +1,4 @@
--- What is kept of open tickets, and of the versions that they hold.
+-- For proofs only: what is kept of open tickets, and of the versions that they hold.
 use Rattle.std.specs.Prelude.{◌≡◌, ℕ, ◌+◌, ◌-◌, ◌<◌, ◌==◌, nat_eq, nat_lt, if◌then◌else◌, List, [], ◌∷◌, length, Option, Some, None}
 use Rattle.indexmap.specs.IndexMap.{get, index_map_len}
 use Rattle.tree_batch.specs.Digraph.{Digraph}

@@ -14,7 +14,7 @@ run_statement-returns-in-Some-true-clause-meaning t c =
     let tree = ap action_tree c.in-If.is ∙ action_tree-If c.in-If.c c.in-If.body in
     let holds = sym c.decide.ensures ∙ c.in-Some-true.is ∙ ap (λ (b : Bool). Some b) c.in-Some-true.field-0-test in
     let step = after-If_true (program_tree c.args.program.now) (graph_of c.args.graph.now) c.args.statement.now.number (condition_tree c.in-If.c) (block_tree c.in-If.body.items) (state_of c.args.state.now) holds in
-    rw (tree, step, ← c.deref-in-Some-true.ensures.value) c.run_inside.ensures.meaning
+    rw (tree, step, ← c.deref.ensures.value) c.run_inside.ensures.meaning
 
 pub run_statement-returns-in-Some-true-decide-clause-meaning :
     goal.run_statement-returns-in-Some-true-decide-clause-meaning
