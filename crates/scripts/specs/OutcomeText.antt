@@ -17,6 +17,7 @@ is_fault _ = false
 abbrev pub labelled : List ℕ → ℕ → List ℕ
 labelled label number = label ++ decimal number
 
+-- a fault's number, and that of its statement
 abbrev pub fault_text : ℕ → ℕ → List ℕ
 fault_text number statement = labelled (codes "fault ") number ++ labelled (codes " statement ") statement
 
@@ -34,13 +35,15 @@ end_line end turns = codes "end " ++ (end_text end ++ (labelled (codes " turns "
 abbrev pub integers_line : List ℕ → List ℤ → List ℕ
 integers_line name entries = name ++ (58 ∷ (flat_map (λ n. 32 ∷ signed_decimal n) entries ++ 10 ∷ []))
 
+-- a name, and members behind a space each
 abbrev pub members_line : List ℕ → List ℕ → List ℕ
 members_line name members = name ++ (58 ∷ (flat_map (λ n. 32 ∷ decimal n) members ++ 10 ∷ []))
 
--- a vector's line, and a set's
+-- a vector's line
 abbrev pub vector_line : NamedVector → List ℕ
 vector_line v = codes "vector " ++ integers_line v.name v.entries
 
+-- a set's line
 abbrev pub set_line : NamedSet → List ℕ
 set_line s = codes "set " ++ members_line s.name s.members
 

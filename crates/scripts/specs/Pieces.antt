@@ -53,3 +53,8 @@ ended_lines text = all_but_last (lines_of text)
 -- what stands after the last line feed: the beginning of a line that has not ended
 abbrev pub unended_line : List ℕ → List ℕ
 unended_line text = last_of (lines_of text)
+
+-- the lines of a text are those that have ended and one more, in which no line feed stands
+pub record HasLastLine (text : List ℕ) : Type 0 where
+  pub lines : lines_of text ≡ ended_lines text ++ unended_line text ∷ []
+  pub unended : HasNone 10 (unended_line text)

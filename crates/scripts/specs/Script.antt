@@ -16,10 +16,11 @@ pub record Taken : Type 0 where
   pub taken : List ℕ
   pub failures : ℕ
 
--- an input, and what a writer has taken, of their parts
+-- an input of its parts
 abbrev pub input : List ℕ → Bool → ℕ → Input
 input given ended failures = record { given = given; ended = ended; failures = failures }
 
+-- what a writer has taken, of its parts
 abbrev pub taken_by : List ℕ → ℕ → Taken
 taken_by taken failures = record { taken = taken; failures = failures }
 

@@ -23,7 +23,7 @@ pub record IsAnswered (new : OpenState) (answer : Answer OpenState) (reply : Lin
   pub state : new ≡ answer.state
   pub text : line_text reply ≡ answer.text
 
--- the reply to a step that was refused, or that memory is lacking
+-- the reply to a step that was refused, or that it was out of memory
 abbrev pub refusal_of : VersionError → Result LineReply AllocError
 refusal_of refusal.NoMemory = Err alloc_error
 refusal_of error = Ok (line_reply.Refused (number_of error))

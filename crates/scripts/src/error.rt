@@ -9,10 +9,13 @@ use thiserror::Error;
 /// What ends a script before its end.
 #[derive(Clone, Copy, Debug, PartialEq, Eq, Error)]
 pub enum ScriptError {
+    /// There was no memory for what a line needs.
     #[error("out of memory")]
     NoMemory,
+    /// The reader failed.
     #[error("the script could not be read")]
     ReadFailed,
+    /// The writer failed.
     #[error("the replies could not be written")]
     WriteFailed,
 }

@@ -12,8 +12,8 @@
 //! that fails finds the replies to all lines that had ended written, and no more; after the other
 //! errors a beginning of the replies stands there (`specs/Script.antt`).
 //!
-//! [`joined_pieces`] and [`first_piece`] are laws of the definitions themselves, and do nothing when
-//! called. The program stands on this crate.
+//! [`joined_pieces`], [`first_piece`] and [`last_line`] are laws of the definitions themselves, and do
+//! nothing when called. The program stands on this crate.
 #![tactic(auto)]
 
 mod commands;
@@ -32,5 +32,5 @@ pub use commands::{Command, DEFAULT_CHUNK_SIZE};
 pub use error::ScriptError;
 pub use outcome_text::{is_fault, push_outcome};
 pub use parse::command;
-pub use pieces::{first_piece, joined_pieces, split_line};
+pub use pieces::{first_piece, joined_pieces, last_line, split_line};
 pub use scripts::script;

@@ -248,7 +248,7 @@ fn run_on(alloc: Global, program: &Typed, graph: &Graph, turns: u64) -> Result<O
     }
 }
 
-/// The reply to a step that was refused, or that memory is lacking.
+/// The reply to a step that was refused. `NoMemory` has no reply, and gives `AllocError`.
 pub(crate) fn refusal(error: VersionError) -> Result<LineReply, AllocError>
     ensures { result ≡ refusal_of error }
 {

@@ -15,8 +15,8 @@ pub fn is_fault(end: End) -> bool
     matches!(end, End::Fault(..))
 }
 
-/// Appends the text of what a run shows. The one error is that memory is lacking, and then part of the
-/// text may stand there.
+/// Appends the text of what a run shows. After `AllocError`, the only error, a part of the text may
+/// stand there.
 pub fn push_outcome(out: &mut Vec<u8>, outcome: &Outcome) -> Result<(), AllocError>
     ensures { OnOk result (out.new.items ≡ out.old.items ++ outcome_text outcome.now) }
 {

@@ -1,6 +1,8 @@
 //! The command of a line.
-ghost use Rattle.std.specs.Prelude.{◌≡◌};
-ghost use Rattle.scripts.specs.Commands.{command_of, vertices_of, hold_of, edges_of, run_of, ticket_of, one_number};
+ghost use Rattle.std.specs.Prelude.{◌≡◌, ◌∷◌};
+ghost use Rattle.std.specs.Option.{option_map};
+ghost use Rattle.scripts.specs.declared.commands.Command.TheVariants.{Add, Remove, Commit, Release};
+ghost use Rattle.scripts.specs.Commands.{command_of, command_of_words, vertices_of, edge_of, alone, hold_of, edges_of, run_of, ticket_of, one_number};
 ghost use Rattle.scripts.specs.Parsing.{two_numbers};
 
 use crate::commands::{Command, DEFAULT_CHUNK_SIZE};
@@ -14,28 +16,21 @@ pub fn command(line: &[u8]) -> Option<Command>
     ensures { result ≡ command_of line.now }
 {
     let mut words = Words::new(line);
-    match words.take_word()? {
+    let name = words.take_word()?;
+    named(name, words)
+}
+
+/// The command of this name, with the words after it.
+fn named(name: &[u8], words: Words<'_>) -> Option<Command>
+    ensures { result ≡ command_of_words (name.now ∷ words.entry) }
+{
+    match name {
         b"vertices" => vertices(words),
-        b"add" => {
-            let (source, destination) = edge(words)?;
-            Some(Command::Add {
-                source,
-                destination,
-            })
-        }
-        b"del" => {
-            let (source, destination) = edge(words)?;
-            Some(Command::Remove {
-                source,
-                destination,
-            })
-        }
-        b"commit" => words.is_empty().then_some(Command::Commit),
+        b"add" => add(words),
+        b"del" => remove(words),
+        b"commit" => commit(words),
         b"hold" => hold(words),
-        b"release" => {
-            let ticket = last_number(words)?;
-            Some(Command::Release { ticket })
-        }
+        b"release" => release(words),
         b"edges" => edges(words),
         b"run" => run(words),
         _ => None,
@@ -58,6 +53,35 @@ fn vertices(mut words: Words<'_>) -> Option<Command>
     })
 }
 
+/// An edge to add.
+fn add(words: Words<'_>) -> Option<Command>
+    ensures { result ≡ edge_of Add words.entry }
+{
+    let (source, destination) = edge(words)?;
+    Some(Command::Add {
+        source,
+        destination,
+    })
+}
+
+/// An edge to remove.
+fn remove(words: Words<'_>) -> Option<Command>
+    ensures { result ≡ edge_of Remove words.entry }
+{
+    let (source, destination) = edge(words)?;
+    Some(Command::Remove {
+        source,
+        destination,
+    })
+}
+
+/// No word may follow `commit`.
+fn commit(words: Words<'_>) -> Option<Command>
+    ensures { result ≡ alone Commit words.entry }
+{
+    words.is_empty().then_some(Command::Commit)
+}
+
 /// The version to hold: the newest, or the one behind the word `at`.
 fn hold(mut words: Words<'_>) -> Option<Command>
     ensures { result ≡ hold_of words.entry }
@@ -70,6 +94,14 @@ fn hold(mut words: Words<'_>) -> Option<Command>
         }
         Some(_) => None,
     }
+}
+
+/// The ticket to close.
+fn release(words: Words<'_>) -> Option<Command>
+    ensures { result ≡ option_map Release (one_number words.entry) }
+{
+    let ticket = last_number(words)?;
+    Some(Command::Release { ticket })
 }
 
 /// The edges of the newest version, or of a ticket's.

@@ -1,6 +1,6 @@
 //! The pieces of a text between its separators.
 ghost use Rattle.std.specs.Prelude.{◌≡◌, ◌<◌, ◌↔◌, ℕ, List, [], ◌∷◌, ◌++◌, length, IsNone, IfSome, MatchOption};
-ghost use Rattle.scripts.specs.Pieces.{HasNone, lines_of, JoinsAgain, IsFirstPiece};
+ghost use Rattle.scripts.specs.Pieces.{HasNone, lines_of, JoinsAgain, IsFirstPiece, HasLastLine};
 ghost use Rattle.scripts.specs.Parsing.{IsCutAt};
 
 /// The first line, without its line feed, and what stands after that line feed; or `None` where the
@@ -20,7 +20,7 @@ pub fn split_line(bytes: &[u8]) -> Option<(&[u8], &[u8])>
 
 /// What stands before the first separator, and what stands after it.
 #[inline]
-pub fn split_piece(bytes: &[u8], separator: u8) -> Option<(&[u8], &[u8])>
+pub(crate) fn split_piece(bytes: &[u8], separator: u8) -> Option<(&[u8], &[u8])>
     ensures { IsCutAt separator bytes.now result }
 {
     let end = bytes.iter().position(|byte| *byte == separator)?;
@@ -36,4 +36,10 @@ pub fn joined_pieces()
 /// The law that the first piece of a text ends at its first separator. The call does nothing.
 pub fn first_piece()
     ensures { (c : ℕ) (front : List ℕ) → HasNone c front → IsFirstPiece c front }
+{}
+
+/// The law that the lines of a text are those that a line feed has ended and one more, which stands
+/// behind the last line feed. The call does nothing.
+pub fn last_line()
+    ensures { (text : List ℕ) → HasLastLine text }
 {}

@@ -9,7 +9,7 @@ use std::marker::Model;
 
 /// The words of a line that are not read yet. A contract sees them as the list of those words.
 #[derive(Drop)]
-pub struct Words<'a> {
+pub(crate) struct Words<'a> {
     // What stands after the space behind the last word that was read, or `None` after the last word.
     rest: Option<&'a [u8]>,
 }
@@ -23,7 +23,7 @@ impl<'a> Model for Words<'a> {
 impl<'a> Words<'a> {
     /// All words of a line.
     #[inline]
-    pub fn new(line: &'a [u8]) -> Self
+    pub(crate) fn new(line: &'a [u8]) -> Self
         ensures { result ≡ words_of line.now }
     {
         Words { rest: Some(line) }
@@ -31,7 +31,7 @@ impl<'a> Words<'a> {
 
     /// Whether no word is left.
     #[inline]
-    pub fn is_empty(&self) -> bool
+    pub(crate) fn is_empty(&self) -> bool
         ensures { IsTrue result ↔ (self.now ≡ []) }
     {
         self.rest.is_none()
@@ -40,7 +40,7 @@ impl<'a> Words<'a> {
     /// Reads the next word, if there is one.
     #[inline]
     #[tactic(auto, using(crate::proofs::PieceLaws::pieces_alone, crate::proofs::PieceLaws::pieces_before))]
-    pub fn take_word(&mut self) -> Option<&'a [u8]>
+    pub(crate) fn take_word(&mut self) -> Option<&'a [u8]>
         ensures { MatchOption result (self.old ≡ []) (λ word. self.old ≡ word.now ∷ self.new) }
     {
         let rest = self.rest?;
@@ -58,7 +58,7 @@ impl<'a> Words<'a> {
 
     /// Reads the next word, where it is a number below 2^64. After `None` the words may be any.
     #[inline]
-    pub fn take_number(&mut self) -> Option<u64>
+    pub(crate) fn take_number(&mut self) -> Option<u64>
         ensures { IsFirstNumber (2 ^ 64) self.old self.new result }
     {
         let rest = self.rest?;
@@ -76,7 +76,7 @@ impl<'a> Words<'a> {
 
     /// Reads the next word, where it is a number below 2^32. After `None` the words may be any.
     #[inline]
-    pub fn take_short_number(&mut self) -> Option<u32>
+    pub(crate) fn take_short_number(&mut self) -> Option<u32>
         ensures { IsFirstNumber (2 ^ 32) self.old self.new result }
     {
         u32::try_from(self.take_number()?).ok()
