@@ -4,3 +4,4 @@ pub mod SendingLaws
 pub mod ProgramLaws
 pub mod ReadingLaws
 pub mod Running
+pub mod TextLaws

@@ -9,3 +9,4 @@ pub mod Parsing
 pub mod Stepping
 pub mod Sending
 pub mod Progress
+pub mod Text

@@ -8,8 +8,8 @@
 //! (`specs/Replies.antt`): the lines are the pieces between the line feeds (`specs/Pieces.antt`), a
 //! table says which words are which command (`specs/Commands.antt`), and a run is answered by the text
 //! (`specs/OutcomeText.antt`) of what its program means on its version. [`script`] is proved to write
-//! exactly those replies to the bytes that the reader gave, in whatever pieces it gave them. A reader
-//! that fails finds the replies to all lines that had ended written, and no more; after the other
+//! exactly those replies to the bytes that the reader gave, in whatever pieces it gave them, and
+//! [`run_text`] those to a text (`specs/Text.antt`). A reader that fails finds the replies to all lines that had ended written, and no more; after the other
 //! errors a beginning of the replies stands there (`specs/Script.antt`).
 //!
 //! [`joined_pieces`], [`first_piece`] and [`last_line`] are laws of the definitions themselves, and do
@@ -26,6 +26,7 @@ mod parse;
 mod pieces;
 mod reply_writer;
 mod scripts;
+mod text;
 mod words;
 
 pub use commands::{Command, DEFAULT_CHUNK_SIZE};
@@ -34,3 +35,4 @@ pub use outcome_text::{is_fault, push_outcome};
 pub use parse::command;
 pub use pieces::{first_piece, joined_pieces, last_line, split_line};
 pub use scripts::script;
+pub use text::run_text;
