@@ -6,10 +6,16 @@ use std::marker::Model;
 
 /// One conjunction, or several with `or` between them.
 #[cycle(expression)]
-#[derive(Drop)]
 pub struct Expression {
     pub first: Conjunction,
     pub more: Vec<Conjunction>,
+}
+
+impl Drop for Expression {
+    #[cycle(drops)]
+    fn drop(self) {
+        let Expression { first: _, more: _ } = self;
+    }
 }
 
 impl Model for Expression {
@@ -35,40 +41,63 @@ impl Model for Expression {
 
 /// One comparison, or several with `and` between them.
 #[cycle(expression)]
-#[derive(Drop)]
 pub struct Conjunction {
     pub first: Comparison,
     pub more: Vec<Comparison>,
 }
 
+impl Drop for Conjunction {
+    #[cycle(drops)]
+    fn drop(self) {
+        let Conjunction { first: _, more: _ } = self;
+    }
+}
+
 /// A sum, or two with a relation between them.
 #[cycle(expression)]
-#[derive(Drop)]
 pub struct Comparison {
     pub left: Sum,
     pub right: Option<(Relation, Sum)>,
 }
 
+impl Drop for Comparison {
+    #[cycle(drops)]
+    fn drop(self) {
+        let Comparison { left: _, right: _ } = self;
+    }
+}
+
 /// One term, or several with `+` and `-` between them: each but the first stands behind its operator.
 #[cycle(expression)]
-#[derive(Drop)]
 pub struct Sum {
     pub first: Term,
     pub more: Vec<(Addition, Term)>,
 }
 
+impl Drop for Sum {
+    #[cycle(drops)]
+    fn drop(self) {
+        let Sum { first: _, more: _ } = self;
+    }
+}
+
 /// One operand, or several with `*`, `/` and `%` between them: each but the first stands behind its
 /// operator.
 #[cycle(expression)]
-#[derive(Drop)]
 pub struct Term {
     pub first: Unary,
     pub more: Vec<(Multiplication, Unary)>,
 }
 
+impl Drop for Term {
+    #[cycle(drops)]
+    fn drop(self) {
+        let Term { first: _, more: _ } = self;
+    }
+}
+
 /// A primary behind any number of `-` and `not`, in the order of the text.
 #[cycle(expression)]
-#[derive(Drop)]
 pub struct Unary {
     /// The offset of its first token in the text, in bytes.
     pub at: usize,
@@ -76,9 +105,19 @@ pub struct Unary {
     pub primary: Primary,
 }
 
+impl Drop for Unary {
+    #[cycle(drops)]
+    fn drop(self) {
+        let Unary {
+            at: _,
+            signs: _,
+            primary: _,
+        } = self;
+    }
+}
+
 /// An operand without operators.
 #[cycle(expression)]
-#[derive(Drop)]
 pub enum Primary {
     /// A number.
     Number(i64),
@@ -92,6 +131,18 @@ pub enum Primary {
     Size(Name),
     /// An expression in parentheses.
     Parentheses(Box<Expression>),
+}
+
+impl Drop for Primary {
+    #[cycle(drops)]
+    fn drop(self) {
+        match self {
+            Primary::Number(_) | Primary::Truth(_) => {}
+            Primary::Variable(_) | Primary::Size(_) => {}
+            Primary::Entry(_, _) => {}
+            Primary::Parentheses(_) => {}
+        }
+    }
 }
 
 impl Expression {

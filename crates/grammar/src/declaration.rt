@@ -30,7 +30,6 @@ pub struct Parameter {
 }
 
 /// A declaration. `at` is the offset of its first token in the text.
-#[derive(Drop)]
 pub enum Declaration {
     /// `const name : type = initial;`
     Constant {
@@ -46,6 +45,25 @@ pub enum Declaration {
         result: Option<Parameter>,
         body: Vec<Statement>,
     },
+}
+
+impl Drop for Declaration {
+    fn drop(self) {
+        match self {
+            Declaration::Constant {
+                at: _,
+                constant: _,
+                initial: _,
+            } => {}
+            Declaration::Function {
+                at: _,
+                name: _,
+                parameters: _,
+                result: _,
+                body: _,
+            } => {}
+        }
+    }
 }
 
 /// A source: its declarations, and its schedule where it has that part. `length` is the length of its text

@@ -3,14 +3,18 @@
 use expressions::{Expression, Name};
 
 /// The sets between which an apply looks at edges: a vertex set or a filter for each end, where one is given.
-#[derive(Drop)]
 pub struct Ends {
     pub from: Option<Name>,
     pub to: Option<Name>,
 }
 
+impl Drop for Ends {
+    fn drop(self) {
+        let Ends { from: _, to: _ } = self;
+    }
+}
+
 /// An initial or assigned value.
-#[derive(Drop)]
 pub enum Initial {
     /// `new vertexset{Vertex}(size)`
     NewSet(i64),
@@ -34,4 +38,21 @@ pub enum Initial {
     },
     /// An expression.
     Value(Expression),
+}
+
+impl Drop for Initial {
+    fn drop(self) {
+        match self {
+            Initial::NewSet(_) | Initial::Load(_) => {}
+            Initial::Vertices(_) | Initial::OutDegrees(_) => {}
+            Initial::Filter { set: _, test: _ } => {}
+            Initial::ApplyModified {
+                edges: _,
+                ends: _,
+                function: _,
+                vector: _,
+            } => {}
+            Initial::Value(_) => {}
+        }
+    }
 }

@@ -17,16 +17,24 @@ pub enum Reduction {
 
 /// A statement, with its label where it has one.
 #[cycle(statement)]
-#[derive(Drop)]
 pub struct Statement {
     pub label: Option<Name>,
     pub action: Action,
 }
 
+impl Drop for Statement {
+    #[cycle(drops)]
+    fn drop(self) {
+        let Statement {
+            label: _,
+            action: _,
+        } = self;
+    }
+}
+
 /// What a statement does. `at` is the offset of its first token in the text; where there is none, the first
 /// token is the first name.
 #[cycle(statement)]
-#[derive(Drop)]
 pub enum Action {
     /// `var name : type = initial;`
     Declare {
@@ -101,4 +109,64 @@ pub enum Action {
         ends: Ends,
         function: Name,
     },
+}
+
+impl Drop for Action {
+    #[cycle(drops)]
+    fn drop(self) {
+        match self {
+            Action::Declare {
+                at: _,
+                variable: _,
+                initial: _,
+            } => {}
+            Action::While {
+                at: _,
+                test: _,
+                body: _,
+            } => {}
+            Action::For {
+                at: _,
+                name: _,
+                first: _,
+                limit: _,
+                body: _,
+            } => {}
+            Action::If {
+                at: _,
+                test: _,
+                body: _,
+            } => {}
+            Action::IfElse {
+                at: _,
+                test: _,
+                body: _,
+                otherwise: _,
+            } => {}
+            Action::Print { at: _, value: _ } => {}
+            Action::Assign { name: _, value: _ } => {}
+            Action::Reduce {
+                name: _,
+                reduction: _,
+                value: _,
+            } => {}
+            Action::SetEntry {
+                vector: _,
+                index: _,
+                value: _,
+            } => {}
+            Action::ReduceEntry {
+                vector: _,
+                index: _,
+                reduction: _,
+                value: _,
+            } => {}
+            Action::AddVertex { set: _, vertex: _ } => {}
+            Action::Apply {
+                target: _,
+                ends: _,
+                function: _,
+            } => {}
+        }
+    }
 }

@@ -1,5 +1,5 @@
 -- Laws of how keywords and symbols are spelled.
-use Rattle.std.proofs.Common.{◌≡◌, ℕ, ◌<◌, ◌≤◌, ◌&&◌, Bool, true, false, List, [], ◌∷◌, ◌⊎◌, inl, inr, Option, Some, None, length, get_or, codes, refl, sym, ◌∙◌, ap, arith, if◌then◌else◌}
+use Rattle.std.proofs.Common.{◌≡◌, ◌≢◌, ℕ, ◌<◌, ◌≤◌, ◌&&◌, Bool, true, false, List, [], ◌∷◌, ◌⊎◌, inl, inr, Option, Some, None, length, get_or, codes, refl, sym, ◌∙◌, ap, arith, if◌then◌else◌}
 use Rattle.std.specs.Str.{bytes_eq}
 use Rattle.std.proofs.lemmas.Bool.{and_parts, false≢true}
 use Rattle.lexer.specs.declared.keyword.Keyword.{Keyword}
@@ -20,6 +20,22 @@ keyword_at-spelling : (word : Keyword) → keyword_at (keyword_spelling word) �
 unfolding keyword_at
 keyword_at-spelling keyword.Element = refl
 keyword_at-spelling _ = refl
+
+-- where no keyword stands at the place of a text, the text is none
+pub none_at : (text : List ℕ) → get_or KEYWORDS (place_of text) None ≡ None → (word : Keyword) → text ≢ keyword_spelling word
+unfolding keyword_at
+none_at text none word same =
+    let e : None ≡ Some word = sym none ∙ ap keyword_at same ∙ keyword_at-spelling word in
+    cc
+
+-- a text is no other keyword than the one at its place
+pub other_at : (text : List ℕ) (found : Keyword) → get_or KEYWORDS (place_of text) None ≡ Some found → text ≢ keyword_spelling found
+    → (word : Keyword) → text ≢ keyword_spelling word
+unfolding keyword_at
+other_at text found is other word same =
+    let e : Some found ≡ Some word = sym is ∙ ap keyword_at same ∙ keyword_at-spelling word in
+    let same_word : found ≡ word = cc in
+    other (same ∙ ap keyword_spelling (sym same_word))
 
 -- no two keywords are spelled alike
 pub keyword_spelling-injective : (v w : Keyword) → keyword_spelling v ≡ keyword_spelling w → v ≡ w

@@ -104,7 +104,7 @@ impl Keyword {
 }
 
 /// The keyword of each place. [`place`] says which place is a keyword's.
-const KEYWORDS: [Option<Keyword>; 100] = [
+static KEYWORDS: [Option<Keyword>; 100] = [
     None,
     None,
     None,

@@ -1,18 +1,26 @@
 -- The trees of statements that hold blocks, and what reading statements comes to by their first word.
-use Rattle.std.proofs.Common.{◌≡◌, ◌∙◌, ℕ, zero, suc, true, false, List, [], ◌∷◌, map, Option, Some, None, ap, refl, rules}
+use Rattle.std.proofs.Common.{◌≡◌, sym, ◌∙◌, ℕ, zero, suc, true, false, List, [], ◌∷◌, map, Option, Some, None, ap, refl, rules}
 use Rattle.std.specs.Global.{Vec}
-use Rattle.expressions.specs.Words.{Word, Identifier}
-use Rattle.expressions.specs.Reading.{◌>>=◌}
+use Rattle.std.proofs.lemmas.Bool.{false≢true}
+use Rattle.std.specs.Option.{is_some}
+use Rattle.lexer.specs.declared.keyword.Keyword.{Keyword}
+use Rattle.lexer.specs.declared.keyword.Keyword.TheVariants as keyword
+use Rattle.lexer.specs.declared.symbol.Symbol.TheVariants as symbol
+use Rattle.expressions.specs.Words.{Word, Identifier, Opening, Reserved, Mark, keyword_word}
+use Rattle.expressions.specs.Reading.{Reader, ◌>>=◌}
 use Rattle.expressions.specs.Trees.{ExpressionTree}
 use Rattle.grammar.specs.declared.statement.Statement.{Statement}
 use Rattle.grammar.specs.declared.statement.Action.{Row_of-Statement, end_of-Statement, more_of-Statement, items-the_row-Statement}
 use Rattle.grammar.specs.declared.statement.Action.TheViews as views
 use Rattle.grammar.specs.declared.statement.Action.TheViews.{the_lemmas}
 use Rattle.expressions.proofs.Loops.{Goes, goes_end, goes_fails}
-use Rattle.grammar.specs.Trees.{ActionTree, While, For, If, IfElse, Then}
+use Rattle.grammar.specs.Trees.{BlockTree, ActionTree, While, For, If, IfElse, Then}
 use Rattle.grammar.specs.Views.{action_tree, rows_tree, block_tree, statement_of}
-use Rattle.grammar.specs.Reading.{block_by, block_at, block_from, next_statement, statement_by, begins_statement, where_begins}
-use Rattle.parser.specs.Blocks.{action_at}
+use Rattle.grammar.specs.Reading.{expression, name_at, after_word, action_by, block_by, block_at, block_from, next_statement, statement_by, begins_statement, where_begins}
+use Rattle.parser.proofs.Steps.{bind_bind}
+use Rattle.parser.specs.declared.block.Opening.{Opening as Begun}
+use Rattle.parser.specs.declared.block.Opening.TheVariants as opening
+use Rattle.parser.specs.Blocks.{action_at, opening_of, opened_by}
 
 pub rows_tree-items : {m : _} (rows : Row_of-Statement m) → rows_tree rows ≡ block_tree (items-the_row-Statement m rows)
 rows_tree-items end_of-Statement = refl
@@ -52,6 +60,27 @@ module _ (depth : ℕ) {start : List Word} {front : List (Option Identifier × A
       block_at-is depth start
       ∙ ap (λ r. r >>= λ b. Some (block_from b.0, b.1))
       (goes_fails goes (ap (λ b. where_begins b (statement_by (action_at depth) left)) begins ∙ ap (λ (r : Option ((Option Identifier × ActionTree) × List Word)). Some r) none))
+
+for_is : (block : Reader BlockTree) (at : ℕ) (ws : List Word) → action_by block (Opening keyword.For at ∷ ws) ≡ opened_by block opening.For at ws
+for_is block at ws =
+    sym (bind_bind (name_at ws) _ _ _ (λ n.
+    bind_bind (after_word (Reserved keyword.In) n.1) _ _ _ (λ a.
+    bind_bind (expression a) _ _ _ (λ e.
+    bind_bind (after_word (Mark symbol.Colon) e.1) _ _ _ (λ c.
+    bind_bind (expression c) _ _ _ (λ f. refl))))))
+
+same_opening : (o p : Begun) → Some o ≡ Some p → o ≡ p
+same_opening o p is = cc is
+
+-- what a statement does that begins with such a keyword
+pub opened_is : (block : Reader BlockTree) (word : Keyword) (at : ℕ) (opening : Begun) (ws : List Word) → opening_of word ≡ Some opening
+    → action_by block (keyword_word word at ∷ ws) ≡ opened_by block opening at ws
+opened_is block keyword.Var at o ws is = ap (λ o. opened_by block o at ws) (same_opening opening.Var o is)
+opened_is block keyword.While at o ws is = ap (λ o. opened_by block o at ws) (same_opening opening.While o is)
+opened_is block keyword.For at o ws is = for_is block at ws ∙ ap (λ o. opened_by block o at ws) (same_opening opening.For o is)
+opened_is block keyword.If at o ws is = ap (λ o. opened_by block o at ws) (same_opening opening.If o is)
+opened_is block keyword.Print at o ws is = ap (λ o. opened_by block o at ws) (same_opening opening.Print o is)
+opened_is block _ at o ws is = absurd (false≢true (ap is_some is))
 
 pub next_is : (depth : ℕ) (left rest : List Word) (s : Option Identifier × ActionTree) → begins_statement left ≡ true → statement_by (action_at depth) left ≡ Some (s, rest)
     → next_statement (action_at depth) left ≡ Some (Some (s, rest))

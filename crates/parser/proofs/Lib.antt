@@ -4,4 +4,5 @@ pub mod DeclarationLaws
 pub mod FrontLaws
 pub mod InitialLaws
 pub mod Lists
+pub mod Steps
 pub mod ParseLaws

@@ -3,7 +3,8 @@ use Rattle.std.specs.Prelude.{ℕ, zero, suc, [], ◌∷◌, Option, Some, None}
 use Rattle.lexer.specs.declared.keyword.Keyword.{Keyword}
 use Rattle.lexer.specs.declared.keyword.Keyword.TheVariants as keyword
 use Rattle.lexer.specs.declared.symbol.Symbol.TheVariants as symbol
-use Rattle.expressions.specs.Words.{Reserved, Mark}
+use Rattle.expressions.specs.Words.{Identifier, Reserved, Mark}
+use Rattle.expressions.specs.Trees.{ExpressionTree}
 use Rattle.expressions.specs.Reading.{Reader, ◌>>=◌}
 use Rattle.grammar.specs.Trees.{ActionTree, Declare, While, For, Print, BlockTree}
 use Rattle.grammar.specs.Reading.{expression, typed_at, assigned_at, ended_at, name_at, after_word, closed, else_by, no_block, block_at, action_by}
@@ -35,13 +36,17 @@ declared_at at ws = typed_at ws >>= λ n. assigned_at n.1 >>= λ i. Some (Declar
 abbrev pub printed_at : ℕ → Reader ActionTree
 printed_at at ws = ended_at ws >>= λ e. Some (Print at e.0, e.1)
 
+-- a variable and the two ends of what it runs over
+abbrev pub range_at : Reader (Identifier × ExpressionTree × ExpressionTree)
+range_at ws =
+    name_at ws >>= λ n. after_word (Reserved keyword.In) n.1 >>= λ a. expression a >>= λ e.
+    after_word (Mark symbol.Colon) e.1 >>= λ c. expression c >>= λ f. Some ((n.0, e.0, f.0), f.1)
+
 -- what stands behind that keyword
 abbrev pub opened_by : Reader BlockTree → Opening → ℕ → Reader ActionTree
 opened_by block opening.Var at ws = declared_at at ws
 opened_by block opening.While at ws = expression ws >>= λ e. block e.1 >>= λ b. closed (Reserved keyword.End ∷ []) (While at e.0 b.0, b.1)
 opened_by block opening.For at ws =
-    name_at ws >>= λ n. after_word (Reserved keyword.In) n.1 >>= λ a. expression a >>= λ e.
-    after_word (Mark symbol.Colon) e.1 >>= λ c. expression c >>= λ f. block f.1 >>= λ b.
-    closed (Reserved keyword.End ∷ []) (For at n.0 e.0 f.0 b.0, b.1)
+    range_at ws >>= λ r. block r.1 >>= λ b. closed (Reserved keyword.End ∷ []) (For at r.0.0 r.0.1 r.0.2 b.0, b.1)
 opened_by block opening.If at ws = expression ws >>= λ e. block e.1 >>= λ b. else_by block at e.0 b (after_word (Reserved keyword.Else) b.1)
 opened_by block opening.Print at ws = printed_at at ws

@@ -9,8 +9,8 @@ use Rattle.grammar.specs.declared.declaration.DeclaredType.{DeclaredType}
 use Rattle.grammar.specs.declared.declaration.DeclaredType.TheVariants as type
 use Rattle.grammar.specs.declared.schedule.Setting.{Setting}
 use Rattle.grammar.specs.declared.schedule.Setting.TheVariants as setting
-use Rattle.grammar.specs.Trees.{InitialTree, NewSet, Load, Vertices, OutDegrees, Filter}
-use Rattle.grammar.specs.Reading.{in_braces, in_parentheses, after_words, closed, number_at, argument_at, method_at, modified_at}
+use Rattle.grammar.specs.Trees.{InitialTree, NewSet, Load, Vertices, OutDegrees, Filter, ApplyModified}
+use Rattle.grammar.specs.Reading.{in_braces, in_parentheses, after_word, after_words, closed, name_at, number_at, argument_at, method_at, ends_at}
 
 -- the type that begins with a keyword
 abbrev pub begun_type : Keyword → Option DeclaredType
@@ -53,6 +53,18 @@ abbrev pub begins_call : List Word → Bool
 begins_call (Name name ∷ rest) = is_called (method_at rest)
 begins_call _ = false
 
+-- two names in parentheses
+abbrev pub name_pair_at : Reader (Identifier × Identifier)
+name_pair_at ws =
+    after_word (Mark symbol.OpenParenthesis) ws >>= λ a. name_at a >>= λ f. after_word (Mark symbol.Comma) f.1 >>= λ b.
+    name_at b >>= λ s. after_word (Mark symbol.CloseParenthesis) s.1 >>= λ c. Some ((f.0, s.0), c)
+
+-- what `applyModified` and its ends give
+abbrev pub modified_by : Identifier → Reader InitialTree
+modified_by name ws =
+    ends_at ws >>= λ e. after_words (Mark symbol.Dot ∷ Reserved keyword.ApplyModified ∷ []) e.1 >>= λ a.
+    name_pair_at a >>= λ p. Some (ApplyModified name e.0 p.0.0 p.0.1, p.1)
+
 -- an initial value that is no expression, behind its name
 abbrev pub call_by : Identifier → List Word → Option Keyword → Option (InitialTree × List Word)
 call_by name ws (Some keyword.GetVertices) =
@@ -61,7 +73,7 @@ call_by name ws (Some keyword.GetOutDegrees) =
     closed (Mark symbol.Dot ∷ Reserved keyword.GetOutDegrees ∷ in_parentheses []) (OutDegrees name, ws)
 call_by name ws (Some keyword.Filter) =
     after_words (Mark symbol.Dot ∷ Reserved keyword.Filter ∷ []) ws >>= λ a. argument_at a >>= λ n. Some (Filter name n.0, n.1)
-call_by name ws _ = modified_at name ws
+call_by name ws _ = modified_by name ws
 
 -- what stands behind `new`
 abbrev pub new_set_at : Reader InitialTree

@@ -5,7 +5,7 @@ ghost use Rattle.expressions.specs.Outcome.{words, Gives};
 ghost use Rattle.grammar.specs.Trees.{While, For, If, IfElse};
 ghost use Rattle.grammar.specs.Reading.{block_at, statement_by, begins_statement as begins_statement_at, else_by, after_word};
 ghost use Rattle.grammar.specs.Views.{action_tree, statement_of, block_tree};
-ghost use Rattle.parser.specs.Blocks.{action_at, block_in, declared_at, printed_at, opening_of, opened_by};
+ghost use Rattle.parser.specs.Blocks.{action_at, block_in, declared_at, printed_at, range_at, opening_of, opened_by};
 ghost use Rattle.parser.specs.Views.{statements_tree};
 
 use crate::front::{after_reserved, expect_mark, expect_reserved, expression, label, name};
@@ -18,7 +18,7 @@ use lexer::{Keyword, Symbol, TokenKind};
 use std::alloc::Global;
 
 /// What a statement begins with that begins with a keyword.
-#[derive(Clone, Copy, Debug, PartialEq, Eq)]
+#[derive(Clone, Copy)]
 pub(crate) enum Opening {
     Var,
     While,
@@ -205,14 +205,26 @@ fn for_loop(
     ensures reads { Gives action_tree result (opened_by (block_in depth) Opening.For at (words cursor.entry)) }
     ensures shorter { IfOk result (λ x. length (words x.1) ≤ length (words cursor.entry)) }
 {
+    let ((name, first, limit), rest) = range(alloc, cursor)?;
+    let (body, end) = inner(alloc, rest, depth)?;
+    let behind = expect_reserved(end, Keyword::End)?;
+    Ok((for_action(at, name, first, limit, body), behind))
+}
+
+/// The variable of a `for` and the two ends of what it runs over, and the place behind them.
+fn range(
+    alloc: Global,
+    cursor: Cursor<'_>,
+) -> Result<((Name, Expression, Expression), Cursor<'_>), SyntaxError>
+    ensures reads { Gives (λ r. r) result (range_at (words cursor.entry)) }
+    ensures shorter { IfOk result (λ x. length (words x.1) ≤ length (words cursor.entry)) }
+{
     let (name, within) = name(alloc, cursor)?;
     let bound = expect_reserved(within, Keyword::In)?;
     let (first, colon) = expression(alloc, bound)?;
     let bound = expect_mark(colon, Symbol::Colon)?;
-    let (limit, rest) = expression(alloc, bound)?;
-    let (body, end) = inner(alloc, rest, depth)?;
-    let behind = expect_reserved(end, Keyword::End)?;
-    Ok((for_action(at, name, first, limit, body), behind))
+    let (limit, behind) = expression(alloc, bound)?;
+    Ok(((name, first, limit), behind))
 }
 
 fn for_action(

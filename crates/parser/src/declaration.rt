@@ -17,7 +17,7 @@ use lexer::{Keyword, Symbol, TokenKind};
 use std::alloc::Global;
 
 /// What begins with a keyword.
-#[derive(Clone, Copy, Debug, PartialEq, Eq)]
+#[derive(Clone, Copy)]
 pub(crate) enum Beginning {
     Constant,
     Function,

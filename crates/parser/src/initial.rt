@@ -2,9 +2,9 @@
 ghost use Rattle.std.specs.Prelude.{◌≡◌, ◌≤◌, ℕ, List, ◌∷◌, length, IfOk};
 ghost use Rattle.expressions.specs.Words.{Word, Reserved, keyword_word};
 ghost use Rattle.expressions.specs.Outcome.{words, Gives};
-ghost use Rattle.grammar.specs.Reading.{end_at, ends_at, method_at, modified_at, initial_at, value_at, assigned_at};
+ghost use Rattle.grammar.specs.Reading.{end_at, ends_at, method_at, initial_at, value_at, assigned_at};
 ghost use Rattle.grammar.specs.Views.{initial_tree, ends_tree};
-ghost use Rattle.parser.specs.Fronts.{begins_call as begins_call_at, is_called, called_word, call_by, new_set_at, load_at};
+ghost use Rattle.parser.specs.Fronts.{begins_call as begins_call_at, is_called, called_word, name_pair_at, modified_by, call_by, new_set_at, load_at};
 
 use crate::front::{
     after_mark, after_method, after_reserved, argument, expect_mark, expect_method,
@@ -185,16 +185,12 @@ fn modified(
     edges: Name,
     cursor: Cursor<'_>,
 ) -> Result<(Initial, Cursor<'_>), SyntaxError>
-    ensures reads { Gives initial_tree result (modified_at edges (words cursor.entry)) }
+    ensures reads { Gives initial_tree result (modified_by edges (words cursor.entry)) }
     ensures shorter { IfOk result (λ x. length (words x.1) ≤ length (words cursor.entry)) }
 {
     let (ends, dot) = ends(alloc, cursor)?;
     let open = expect_method(dot, Keyword::ApplyModified)?;
-    let inside = expect_mark(open, Symbol::OpenParenthesis)?;
-    let (function, comma) = name(alloc, inside)?;
-    let second = expect_mark(comma, Symbol::Comma)?;
-    let (vector, close) = name(alloc, second)?;
-    let behind = expect_mark(close, Symbol::CloseParenthesis)?;
+    let ((function, vector), behind) = name_pair(alloc, open)?;
     let initial = Initial::ApplyModified {
         edges,
         ends,
@@ -202,4 +198,17 @@ fn modified(
         vector,
     };
     Ok((initial, behind))
+}
+
+/// Two names in parentheses, and the place behind them.
+fn name_pair(alloc: Global, cursor: Cursor<'_>) -> Result<((Name, Name), Cursor<'_>), SyntaxError>
+    ensures reads { Gives (λ p. p) result (name_pair_at (words cursor.entry)) }
+    ensures shorter { IfOk result (λ x. length (words x.1) ≤ length (words cursor.entry)) }
+{
+    let inside = expect_mark(cursor, Symbol::OpenParenthesis)?;
+    let (first, comma) = name(alloc, inside)?;
+    let rest = expect_mark(comma, Symbol::Comma)?;
+    let (second, close) = name(alloc, rest)?;
+    let behind = expect_mark(close, Symbol::CloseParenthesis)?;
+    Ok(((first, second), behind))
 }

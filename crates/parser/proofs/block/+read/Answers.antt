@@ -1,11 +1,14 @@
-use Rattle.std.proofs.Common.{sym, ◌∙◌, ap, Some, ◌≡◌, false}
+use Rattle.std.proofs.Common.{sym, ◌∙◌, ap, subst, Some, ◌≡◌, false, ◌∷◌}
 use Rattle.std.proofs.lemmas.Result.{err_from_is_err_and}
-use Rattle.expressions.specs.Outcome.{words}
+use Rattle.lexer.specs.Tokens.{slice_of}
+use Rattle.expressions.specs.Words.{keyword_word, word_of}
+use Rattle.expressions.specs.Outcome.{words, Gives}
 use Rattle.expressions.proofs.Faults.{passed_on}
-use Rattle.grammar.specs.Views.{statement_of}
+use Rattle.grammar.specs.Views.{statement_of, action_tree}
 use Rattle.grammar.specs.Reading.{begins_statement}
+use Rattle.parser.specs.Blocks.{action_at, block_in, opening_of}
 use Rattle.parser.specs.Views.{statements_tree}
-use Rattle.parser.proofs.BlockLaws.{block_ends, block_fails, next_is, block_from-map}
+use Rattle.parser.proofs.BlockLaws.{block_ends, block_fails, next_is, block_from-map, opened_is}
 use Rattle.parser.proofs.Lists.{list_start, list_step}
 use Rattle.parser.proofs.block.+read.Goals as goal
 
@@ -29,3 +32,15 @@ pub block-returns-clause-reads : goal.block-returns-clause-reads
 block-returns-clause-reads t c =
     let begins : begins_statement (words c.statements.left) ≡ false = sym c.begins_statement.ensures ∙ c.statements-test.false in
     block_ends c.args.depth c.statements.invariant begins ∙ ap (λ b. Some (b, words c.statements.left)) (block_from-map c.statements.statements.items)
+
+pub action-returns-in-Some-begun_by-clause-reads : goal.action-returns-in-Some-begun_by-clause-reads
+action-returns-in-Some-begun_by-clause-reads t c =
+    let is : words c.args.cursor ≡ keyword_word c.in-Keyword.keyword c.in-Some.token.span.start ∷ words c.in-Some.after =
+    c.in-Some.ensures.word
+    ∙ ap (λ kind. word_of kind (slice_of c.args.cursor.text.now c.in-Some.token.span) c.in-Some.token.span.start ∷ words c.in-Some.after) c.in-Keyword.is
+    in
+    let opening : opening_of c.in-Keyword.keyword ≡ Some c.in-Some-begun_by.opening = sym c.in-Some-begun_by.ensures in
+    subst (Gives action_tree c.opened.result)
+    (sym (ap (action_at c.args.depth) is
+    ∙ opened_is (block_in c.args.depth) c.in-Keyword.keyword c.in-Some.token.span.start c.in-Some-begun_by.opening (words c.in-Some.after) opening))
+    c.opened.ensures.reads
