@@ -1,5 +1,5 @@
 -- Operands in a row: each further one is joined to all that stands at its left.
-use Rattle.std.proofs.Common.{◌≡◌, ℕ, suc, ◌<◌, ap, sym, ◌∙◌, map, length, drop, get_or, drop-cons, List, [], ◌∷◌, Option, Some, None}
+use Rattle.std.proofs.Common.{◌≡◌, ℕ, suc, ◌+◌, ◌<◌, ap, sym, ◌∙◌, map, length, drop, get_or, drop-cons, add-one, List, [], ◌∷◌, Option, Some, None}
 use Rattle.expressions.specs.declared.operators.Addition.{Addition}
 use Rattle.expressions.specs.declared.operators.Multiplication.{Multiplication}
 use Rattle.expressions.specs.declared.tree.Unary.{Unary}
@@ -119,3 +119,12 @@ joined_fails step left items i x inside is none =
     ap (joined step left) (drop-cons items i x inside)
     ∙ ap (λ y. step left y >>= λ value. joined step value (drop (suc i) items)) (sym is)
     ∙ ap (λ o. o >>= λ value. joined step value (drop (suc i) items)) none
+
+-- an operand that is joined stands at the left of those behind it
+pub joined_on : {L : Type 0} (step : ValueTree → L → Option ValueTree) (left : ValueTree) (items : List L) (i : ℕ) (x : L) (value : ValueTree)
+    → i < length items → x ≡ get_or items i x → step left x ≡ Some value → joined step left (drop i items) ≡ joined step value (drop (i + 1) items)
+joined_on step left items i x value inside is given =
+    ap (joined step left) (drop-cons items i x inside)
+    ∙ ap (λ y. step left y >>= λ value. joined step value (drop (suc i) items)) (sym is)
+    ∙ ap (λ o. o >>= λ value. joined step value (drop (suc i) items)) given
+    ∙ ap (λ n. joined step value (drop n items)) (sym (add-one i))

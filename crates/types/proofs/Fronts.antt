@@ -61,3 +61,14 @@ pub front_done : (c : CheckerTree) (front : List Statement) (block : List source
     → with_front front (statements_typed c (source_block (drop i block))) ≡ Some (block_tree front, c)
 front_done c front block i past =
     ap (λ b. with_front front (statements_typed c (source_block b))) (drop_all i block past) ∙ front_ends front c
+
+-- the next statement has no tree
+pub front_refused : (c : CheckerTree) (front : List Statement) (block : List source.Statement) (i : ℕ) (x : source.Statement)
+    → i < length block → x ≡ get_or block i x → statement_typed c x.label (source_action x.action) ≡ None
+    → with_front front (statements_typed c (source_block (drop i block))) ≡ None
+front_refused c front block i x inside is none =
+    let rest : List source.Statement = drop (suc i) block in
+    let go : StatementTree × CheckerTree → Checked BlockTree = λ s. statements_typed s.1 (source_block rest) >>= λ o. Some (before s.0 o.0, o.1) in
+    ap (λ b. with_front front (statements_typed c (source_block b))) (drop-cons block i x inside)
+    ∙ ap (λ y. with_front front (statement_typed c y.label (source_action y.action) >>= go)) (sym is)
+    ∙ ap (λ o. with_front front (o >>= go)) none

@@ -6,3 +6,4 @@ pub mod Fronts
 pub mod Kept
 pub mod Sources
 pub mod StepFronts
+pub mod Labels

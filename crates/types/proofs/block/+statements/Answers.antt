@@ -1,12 +1,14 @@
-use Rattle.std.proofs.Common.{◌+◌, refl, drop, ap, sym, ◌∙◌}
+use Rattle.std.proofs.Common.{◌+◌, refl, drop, ap, subst, sym, ◌∙◌}
 use Rattle.std.proofs.lemmas.Result.{err_from_is_err_and}
 use Rattle.expression_types.proofs.Faults.{passed_on}
-use Rattle.grammar.specs.Views.{block_tree as source_block}
-use Rattle.expression_types.specs.ScopeTree.{left}
+use Rattle.grammar.specs.Views.{action_tree as source_action, block_tree as source_block}
+use Rattle.expression_types.specs.ScopeTree.{Keeps, left}
+use Rattle.typed_tree.specs.BlockTree.{action_tree}
 use Rattle.types.specs.Block.{tested_tree, statements_typed}
 use Rattle.types.specs.CheckerTree.{checker_of}
 use Rattle.types.proofs.Forms.{for_given, while_given, while_missing, if_given, if_missing, if_else_given, if_else_missing, else_missing, for_form}
-use Rattle.types.proofs.Fronts.{with_front, front_step, front_done}
+use Rattle.types.proofs.Fronts.{with_front, front_step, front_refused, front_done}
+use Rattle.types.proofs.Labels.{counted-scope, statement_unlabelled, statement_refused, statement_given}
 use Rattle.types.proofs.Kept.{left_again, keeps_again, keeps_on, declared_keeps}
 use Rattle.types.proofs.block.+statements.Goals as goal
 
@@ -87,3 +89,36 @@ pub statements-returns-clause-typed : goal.statements-returns-clause-typed
 statements-returns-clause-typed t c =
     c.statements.invariant.0
     ∙ front_done (checker_of c.statements.checker) c.statements.typed.items c.args.block.now c.statements.statement-index c.statements-test.false
+
+pub statements-returns-in_err-next-clause-typed : goal.statements-returns-in_err-next-clause-typed
+statements-returns-in_err-next-clause-typed t c =
+    let p = err_from_is_err_and c.from_residual.result c.from_residual.ensures.1 in
+    rw (p.1, p.2) (passed_on c.in_err-next.field-0.0 _ _ c.in_err-next.ensures.typed (λ none.
+    c.statements.invariant.0
+    ∙ front_refused (checker_of c.statements.checker) c.statements.typed.items c.args.block.now c.statements.statement-index c.statement-item.result c.statements-test.true c.statement-item.is none))
+
+pub one-returns-in_err-label-clause-typed : goal.one-returns-in_err-label-clause-typed
+one-returns-in_err-label-clause-typed t c =
+    let p = err_from_is_err_and c.from_residual.result c.from_residual.ensures.1 in
+    rw (p.1, p.2) (passed_on c.in_err-label.field-0.0 _ _ c.in_err-label.ensures (λ none.
+    statement_unlabelled (checker_of c.args.checker.now) c.args.statement.now.label (source_action c.args.statement.now.action) none))
+
+pub one-returns-in_err-action-clause-typed : goal.one-returns-in_err-action-clause-typed
+one-returns-in_err-action-clause-typed t c =
+    let p = err_from_is_err_and c.from_residual-in_err-action.result c.from_residual-in_err-action.ensures.1 in
+    rw (p.1, p.2) (passed_on c.in_err-action.field-0.0 _ _ c.in_err-action.ensures.typed (λ none.
+    statement_refused (checker_of c.args.checker.now) c.args.statement.now.label (source_action c.args.statement.now.action)
+    (checker_of c.label.new.checker) (checker_of c.count.new.checker) c.in_ok-label.label c.in_ok-number.number c.in_ok-label.ensures c.in_ok-number.ensures none))
+
+pub one-returns-clause-typed : goal.one-returns-clause-typed
+one-returns-clause-typed t c =
+    statement_given (checker_of c.args.checker.now) c.args.statement.now.label (source_action c.args.statement.now.action)
+    (checker_of c.label.new.checker) (checker_of c.count.new.checker) c.in_ok-label.label c.in_ok-number.number c.in_ok-label.ensures c.in_ok-number.ensures
+    (checker_of c.action.new.checker) (action_tree c.in_ok-action.action) c.in_ok-action.ensures.typed
+
+pub one-returns-clause-kept : goal.one-returns-clause-kept
+one-returns-clause-kept t c =
+    subst (λ scope. Keeps scope c.action.new.checker.scope)
+    (counted-scope (checker_of c.args.checker.now) c.args.statement.now.label (source_action c.args.statement.now.action)
+    (checker_of c.label.new.checker) (checker_of c.count.new.checker) c.in_ok-label.label c.in_ok-number.number c.in_ok-label.ensures c.in_ok-number.ensures)
+    c.in_ok-action.ensures.kept
