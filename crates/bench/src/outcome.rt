@@ -7,11 +7,11 @@ use std::io::Error;
 
 /// Runs the script over memory, and gives its replies.
 ///
-/// The `Err` is want of memory, told as the runner tells it.
+/// The `Err` is that memory ran out, told as `scripts` tells it.
 pub fn replies_to(alloc: Global, script: &str) -> io::Result<Vec<u8>> {
     let mut replies = Vec::new(alloc);
     let mut reader = Device::new(script.as_bytes());
-    match runner::script(alloc, &[], &mut reader, &mut Device::new(&mut replies)) {
+    match scripts::script(alloc, &[], &mut reader, &mut Device::new(&mut replies)) {
         Ok(_) => Ok(replies),
         Err(error) => Err(Error::other(error.to_string(alloc)?.as_str())),
     }

@@ -1,0 +1,145 @@
+//! One case.
+
+use crate::compare::{Output, add_differences};
+use crate::listing::Place;
+use crate::repeated::expanded;
+use devices::Device;
+use driver::{Files, run};
+use std::alloc::{AllocError, Global};
+use std::io::ErrorKind;
+use std::{fs, io, str};
+
+// The files of a case: those of its folder.
+#[derive(Drop)]
+struct Folder<'a> {
+    rt: &'a HostRuntime,
+    name: &'a str,
+}
+
+impl Folder<'_> {
+    // The path of the file of this name.
+    fn path(&self, name: &str) -> Result<String, AllocError> {
+        format!(in self.rt.alloc(); "{}/{name}", self.name)
+    }
+
+    // What the file of this name and ending holds; nothing where it is not there.
+    fn read_with(&self, name: &str, ending: &str) -> io::Result<Option<Vec<u8>>> {
+        let file = format!(in self.rt.alloc(); "{name}.{ending}")?;
+        match self.read(self.rt.alloc(), file.as_str()) {
+            Ok(bytes) => Ok(Some(bytes)),
+            Err(error) if error.kind() == ErrorKind::NotFound => Ok(None),
+            Err(error) => Err(error),
+        }
+    }
+}
+
+impl Files for Folder<'_> {
+    ghost may_hold = { λ _ _ _. Unit {0} };
+
+    ghost may_fail = { λ _ _ _. Unit {0} };
+
+    // A file that is not there may stand there in a short form.
+    fn read(&self, alloc: Global, name: &str) -> io::Result<Vec<u8>> {
+        let path = self.path(name)?;
+        match fs::read(self.rt, path.as_str()) {
+            Err(error) if error.kind() == ErrorKind::NotFound => {
+                let short = format!(in alloc; "{path}.repeated")?;
+                expanded(alloc, &fs::read(self.rt, short.as_str())?)
+            }
+            held => held,
+        }
+    }
+}
+
+/// Runs a case. The answer tells each difference, by a line, and is empty where there is none.
+pub fn differences<'a>(rt: &'a HostRuntime, place: &'a Place) -> io::Result<String> {
+    let name = place.name.as_str();
+    let folder = &Folder {
+        rt,
+        name: place.folder.as_str(),
+    };
+    let words = words_of(folder, name)?;
+    let input = folder.read_with(name, "input")?;
+    let mut out = Vec::new(rt.alloc());
+    let mut err = Vec::new(rt.alloc());
+    let status = run(
+        rt.alloc(),
+        &texts(rt.alloc(), &words)?,
+        folder,
+        &mut Device::new(bytes_of(&input)),
+        &mut Device::new(&mut out),
+        &mut Device::new(&mut err),
+    );
+    let status = format!(in rt.alloc(); "{status}\n")?;
+    let mut told = String::new(rt.alloc());
+    let case = folder.path(name)?;
+    let outputs: [(&str, &[u8], &[u8]); 3] = [
+        ("status", b"0\n", status.as_bytes()),
+        ("out", b"", &out),
+        ("err", b"", &err),
+    ];
+    for (output, default, got) in outputs {
+        let wanted = folder.read_with(name, output)?;
+        let output = Output {
+            case: case.as_str(),
+            name: output,
+            wanted: wanted.as_ref().map_or(default, |bytes| bytes.as_slice()),
+            got,
+        };
+        add_differences(rt.alloc(), &mut told, output)?;
+    }
+    Ok(told)
+}
+
+// What a file holds, or nothing.
+fn bytes_of(held: &Option<Vec<u8>>) -> &[u8] {
+    match held {
+        Some(bytes) => bytes,
+        None => &[],
+    }
+}
+
+// The words as texts.
+fn texts(alloc: Global, words: &[String]) -> Result<Vec<&str>, AllocError> {
+    words.iter().map(|word| word.as_str()).collect(alloc)
+}
+
+// The words of a case's command line: those of its file of words, or the script and its programs.
+fn words_of(folder: &Folder<'_>, name: &str) -> io::Result<Vec<String>> {
+    let alloc = folder.rt.alloc();
+    match folder.read_with(name, "args")? {
+        Some(lines) => words_in(alloc, &lines),
+        None => script_words(folder, name),
+    }
+}
+
+// The words that stand in lines.
+fn words_in(alloc: Global, lines: &[u8]) -> io::Result<Vec<String>> {
+    let Ok(text) = str::from_utf8(lines) else {
+        return Err(io::Error::from(ErrorKind::InvalidData));
+    };
+    let mut words = Vec::new(alloc);
+    for line in text.lines() {
+        words.push(String::from_str(alloc, line)?)?;
+    }
+    Ok(words)
+}
+
+// The words that run a case's script with its programs: one without a number, or those with the numbers
+// from 1 as far as there are some.
+fn script_words(folder: &Folder<'_>, name: &str) -> io::Result<Vec<String>> {
+    let alloc = folder.rt.alloc();
+    let mut words = Vec::new(alloc);
+    words.push(String::from_str(alloc, "script")?)?;
+    words.push(format!(in alloc; "{name}.script")?)?;
+    if folder.read_with(name, "program")?.is_some() {
+        words.push(format!(in alloc; "{name}.program")?)?;
+    }
+    for number in 1..10 {
+        let program = format!(in alloc; "{name}.{number}")?;
+        if folder.read_with(program.as_str(), "program")?.is_some() {
+            words.push(format!(in alloc; "{name}.{number}.program")?)?;
+        }
+    }
+    Ok(words)
+}

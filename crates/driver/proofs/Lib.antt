@@ -1,0 +1,4 @@
+mod Compiling
+mod Flags
+mod Reading
+mod ScriptWords

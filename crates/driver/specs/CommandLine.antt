@@ -1,0 +1,52 @@
+-- The command line: what clap is told of it, and the words that each request stands for.
+use Rattle.std.specs.Prelude.{◌≡◌, List, [], ◌∷◌, Some, None, true, codes, map, if◌then◌else◌}
+use Rattle.std.specs.List.{AllByRecursion}
+use Rattle.std.specs.Str.{bytes_eq}
+use Rattle.clap.specs.Lexer.{strip_byte, usize_max}
+use Rattle.clap.specs.Words.{App, Rule, Text, new_app, new_rule, with_rule, with_subcommand}
+use Rattle.clap.specs.declared.builder.action.ArgAction.TheVariants.{Append}
+use Rattle.driver.specs.declared.requests.Request.{Request}
+use Rattle.driver.specs.declared.requests.Request.TheVariants.{Input, Script}
+
+-- the files' names after `script`: that of the script, and then those of programs
+abbrev pub script_files : Rule
+script_files = record (new_rule (codes "FILE")) {
+  required = true;
+  action = Some Append;
+  value_names = 2;
+  range = Some (record { start_inclusive = 1; end_inclusive = usize_max });
+}
+
+-- the command `script`
+abbrev pub script_command : App
+script_command = with_rule (new_app (codes "script")) script_files
+
+-- the program, which clap gets the words of without its name
+abbrev pub program : App
+program =
+    let named = new_app (codes "gsnap") in
+    record { top = record named.top { no_binary_name = true }; subs = [] }
+
+-- the whole command line
+abbrev pub command_line : App
+command_line = with_subcommand program script_command.top
+
+-- the words without the first `--`, after which no word is an option
+abbrev pub operands : List Text → List Text
+operands [] = []
+operands (w ∷ ws) = if bytes_eq w (codes "--") then ws else w ∷ operands ws
+
+-- the operands that a request stands for
+abbrev pub words_of : Request → List Text
+words_of Input = []
+words_of (Script script programs) = codes "script" ∷ script.now ∷ map (λ p. p.now) programs.items
+
+-- no hyphen (45) begins the word
+abbrev pub HasNoHyphen : Text → Type 0
+HasNoHyphen word = strip_byte 45 word ≡ None
+
+-- no words, or `script` and files, behind `--` where a hyphen may begin a name
+pub data IsCommand : List Text → Type 0 where
+  no_words : IsCommand []
+  script_words : (file : Text) (others : List Text) → AllByRecursion HasNoHyphen (file ∷ others) → IsCommand (codes "script" ∷ file ∷ others)
+  script_after_dashes : (file : Text) (others : List Text) → IsCommand (codes "script" ∷ codes "--" ∷ file ∷ others)

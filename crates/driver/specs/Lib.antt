@@ -1,0 +1,5 @@
+pub mod CommandLine
+pub mod Endings
+pub mod Reading
+pub mod Running
+pub mod Serving

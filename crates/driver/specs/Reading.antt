@@ -1,0 +1,66 @@
+-- What files hold, and what is made of them.
+use Rattle.std.specs.Prelude.{◌≡◌, ◌≢◌, ℕ, List, [], ◌∷◌, ◌⊎◌, Result, Ok, Err, map}
+use Rattle.std.specs.Global.{Vec}
+use Rattle.std.specs.declared.io.Error.{Error}
+use Rattle.compiler.specs.declared.error.CompileError.{CompileError}
+use Rattle.compiler.specs.declared.error.CompileError.TheVariants as compiler
+use Rattle.compiler.specs.Outcome.{Compiles, IsProgram}
+use Rattle.typed_tree.specs.declared.program.Typed.{Typed}
+use Rattle.typed_tree.specs.ProgramTree.{ProgramTree, program_tree}
+use Rattle.driver.specs.Endings.{of_read}
+use Rattle.driver.specs.declared.error.ServeError.{ServeError}
+use Rattle.driver.specs.declared.error.ServeError.TheVariants.{NoMemory, ReadFailed, WriteFailed, Refused}
+
+-- a read answered with bytes that the file may hold, or failed as it may fail
+abbrev pub AnswersRead : (List ℕ → Type 0) → (Error → Type 0) → Result (Vec ℕ) Error → Type 0
+AnswersRead holds fails (Ok bytes) = holds bytes.items
+AnswersRead holds fails (Err error) = fails error
+
+-- a file that may hold the text of this program
+pub record HoldsProgram (holds : List ℕ → Type 0) (program : ProgramTree) : Type 0 where
+  pub text : List ℕ
+  pub held : holds text
+  pub compiled : IsProgram text program
+
+-- a file that may hold a text which the compiler refuses so
+pub record HoldsRefused (holds : List ℕ → Type 0) (error : CompileError) : Type 0 where
+  pub text : List ℕ
+  pub held : holds text
+  pub refused : Compiles text (Err error)
+  pub cause : error ≢ compiler.NoMemory
+
+-- a file that may fail to be read, with this outcome
+pub record FailsRead (fails : Error → Type 0) (e : ServeError) : Type 0 where
+  pub error : Error
+  pub failed : fails error
+  pub outcome : e ≡ of_read error
+
+-- The file of this name is no program: it cannot be read, or its text is refused. Nothing is said where memory runs out.
+abbrev pub IsNoProgram : (List ℕ → Type 0) → (Error → Type 0) → List ℕ → ServeError → Type 0
+IsNoProgram holds fails name NoMemory = Unit {0}
+IsNoProgram holds fails name ReadFailed = FailsRead fails ReadFailed
+IsNoProgram holds fails name WriteFailed = ⊥
+IsNoProgram holds fails name (Refused file error) = (file.now ≡ name) × HoldsRefused holds error
+
+-- what is made of the file of this name
+abbrev pub CompilesFile : (List ℕ → Type 0) → (Error → Type 0) → List ℕ → Result Typed ServeError → Type 0
+CompilesFile holds fails name (Ok program) = HoldsProgram holds (program_tree program)
+CompilesFile holds fails name (Err e) = IsNoProgram holds fails name e
+
+-- the files of these names may hold these programs, one for one
+abbrev pub HoldPrograms : (List ℕ → List ℕ → Type 0) → List (List ℕ) → List ProgramTree → Type 0
+HoldPrograms holds [] [] = Unit {0}
+HoldPrograms holds [] (p ∷ programs) = ⊥
+HoldPrograms holds (name ∷ names) [] = ⊥
+HoldPrograms holds (name ∷ names) (p ∷ programs) = HoldsProgram (holds name) p × HoldPrograms holds names programs
+
+-- the first of these files that is no program is no program for this reason
+abbrev pub LacksProgram : (List ℕ → List ℕ → Type 0) → (List ℕ → Error → Type 0) → List (List ℕ) → ServeError → Type 0
+LacksProgram holds fails [] e = e ≡ NoMemory
+LacksProgram holds fails (name ∷ names) e =
+    IsNoProgram (holds name) (fails name) name e ⊎ ((p : ProgramTree) × (HoldsProgram (holds name) p × LacksProgram holds fails names e))
+
+-- what is made of the files of these names
+abbrev pub CompilesFiles : (List ℕ → List ℕ → Type 0) → (List ℕ → Error → Type 0) → List (List ℕ) → Result (Vec Typed) ServeError → Type 0
+CompilesFiles holds fails names (Ok programs) = HoldPrograms holds names (map program_tree programs.items)
+CompilesFiles holds fails names (Err e) = LacksProgram holds fails names e

@@ -1,0 +1,64 @@
+-- What serving a request comes to.
+use Rattle.std.specs.Prelude.{◌≡◌, ℕ, Bool, List, [], ◌⊎◌, Result, Ok, Err, map}
+use Rattle.std.specs.declared.io.Error.{Error}
+use Rattle.typed_tree.specs.ProgramTree.{ProgramTree}
+use Rattle.scripts.specs.declared.error.ScriptError.{ScriptError}
+use Rattle.scripts.specs.Script.{Input, Taken, RunsScript}
+use Rattle.scripts.specs.Text.{RunsText}
+use Rattle.driver.specs.Endings.{of_script, status_of_end}
+use Rattle.driver.specs.Reading.{HoldPrograms, LacksProgram, FailsRead}
+use Rattle.driver.specs.declared.error.ServeError.{ServeError}
+use Rattle.driver.specs.declared.error.ServeError.TheVariants.{NoMemory}
+use Rattle.driver.specs.declared.requests.Request.{Request}
+use Rattle.driver.specs.declared.requests.Request.TheVariants as request
+
+-- the end of a script, with the errors of this crate
+abbrev pub end_of : Result Bool ScriptError → Result Bool ServeError
+end_of (Ok faulted) = Ok faulted
+end_of (Err e) = Err (of_script e)
+
+-- the standard input was run as a script without programs, which ended so
+pub record RunsInput (old new : Input) (before after : Taken) (ended : Result Bool ServeError) : Type 0 where
+  pub script_ended : Result Bool ScriptError
+  pub runs : RunsScript [] old new before after script_ended
+  pub ending : ended ≡ end_of script_ended
+
+-- the files may hold these programs and this script, which was run with them and ended so
+pub record RunsScriptOf (holds : List ℕ → List ℕ → Type 0) (script : List ℕ) (names : List (List ℕ)) (before after : Taken) (ended : Result Bool ServeError) : Type 0 where
+  pub programs : List ProgramTree
+  pub compiled : HoldPrograms holds names programs
+  pub text : List ℕ
+  pub held : holds script text
+  pub script_ended : Result Bool ScriptError
+  pub runs : RunsText programs text before after script_ended
+  pub ending : ended ≡ end_of script_ended
+
+-- no script was run, and nothing was written, since some file has no program, or that of the script cannot be read
+pub record RunsNone (holds : List ℕ → List ℕ → Type 0) (fails : List ℕ → Error → Type 0) (script : List ℕ) (names : List (List ℕ)) (before after : Taken) (e : ServeError) : Type 0 where
+  pub untouched : after ≡ before
+  pub cause : LacksProgram holds fails names e ⊎ FailsRead (fails script) e
+
+-- what running the script in a file, with the programs in files, comes to
+abbrev pub RunsFiles : (List ℕ → List ℕ → Type 0) → (List ℕ → Error → Type 0) → List ℕ → List (List ℕ) → Taken → Taken → Result Bool ServeError → Type 0
+RunsFiles holds fails script names before after (Ok faulted) = RunsScriptOf holds script names before after (Ok faulted)
+RunsFiles holds fails script names before after (Err e) =
+    RunsNone holds fails script names before after e ⊎ RunsScriptOf holds script names before after (Err e)
+
+-- the standard input was run, with this status at the end
+pub record ServesInput (old new : Input) (before after : Taken) (status : ℕ) : Type 0 where
+  pub ended : Result Bool ServeError
+  pub runs : RunsInput old new before after ended
+  pub ending : status ≡ status_of_end ended
+
+-- the files were run, with this status at the end; the standard input was not read
+pub record ServesFiles (holds : List ℕ → List ℕ → Type 0) (fails : List ℕ → Error → Type 0) (script : List ℕ) (names : List (List ℕ)) (old new : Input) (before after : Taken) (status : ℕ) : Type 0 where
+  pub ended : Result Bool ServeError
+  pub runs : RunsFiles holds fails script names before after ended
+  pub ending : status ≡ status_of_end ended
+  pub unread : new ≡ old
+
+-- what serving a request comes to
+abbrev pub Serves : (List ℕ → List ℕ → Type 0) → (List ℕ → Error → Type 0) → Request → Input → Input → Taken → Taken → ℕ → Type 0
+Serves holds fails request.Input old new before after status = ServesInput old new before after status
+Serves holds fails (request.Script script names) old new before after status =
+    ServesFiles holds fails script.now (map (λ n. n.now) names.items) old new before after status

@@ -1,0 +1,81 @@
+//! The words after the program's name.
+
+ghost use Rattle.std.specs.Prelude.{◌≡◌, IfOk, IsOkUnless, false, map};
+ghost use Rattle.clap.specs.Words.{app_of};
+ghost use Rattle.clap.specs.declared.builder.command.Command.TheViews.{out-Command as fields_of};
+ghost use Rattle.driver.specs.CommandLine.{IsCommand, command_line, operands, script_command};
+ghost use Rattle.driver.specs.CommandLine.{words_of};
+
+use crate::requests::{Request, RequestError};
+use clap::{Arg, ArgAction, Command};
+use std::alloc::{AllocError, Global};
+
+const SCRIPT: &str = "script";
+
+const FILES: &str = "FILE";
+
+const SHOWN: &[&str] = &["SCRIPT", "PROGRAM"];
+
+const HELP: &str =
+    "With no command, the script is read from standard input, and it has no programs.\n\
+    Example: gsnap script examples/squares.script examples/squares.program\n\
+    docs/SCRIPTS.md lists the lines of scripts, and docs/LANGUAGE.md describes programs.";
+
+const SCRIPT_HELP: &str =
+    "A line `run 2 10 1` of the script runs the second PROGRAM, for at most 10 turns, with one worker.\n\
+    Example: gsnap script examples/squares.script examples/squares.program";
+
+/// Reads the words after the program's name. No words are `Input`; `script SCRIPT [PROGRAM..]` is
+/// `Script`. A `--` may stand before a file whose name begins with a hyphen.
+///
+/// Errors: `Fault`, with the text to show, at other words and where help is asked for, and
+/// `NoMemory`.
+pub fn request<'a>(alloc: Global, words: &'a [&'a str]) -> Result<Request<'a>, RequestError>
+    ensures reads { IfOk result (λ r. operands (map (λ w. w.now) words.entry.now) ≡ words_of r) }
+    ensures accepts { IsCommand (map (λ w. w.now) words.entry.now)
+        → IsOkUnless result RequestError.NoMemory }
+{
+    // (so many files at most, and each `usize` is a number of files that may be given)
+    let _count = words.len();
+    let matches = command(alloc)?.try_get_matches_from(words)?;
+    let Some(found) = matches.subcommand_matches(SCRIPT) else {
+        return Ok(Request::Input);
+    };
+    match found.get_raw(FILES).unwrap_or(&[]).split_first() {
+        Some((script, programs)) => Ok(Request::Script {
+            script,
+            programs: Vec::from_slice(alloc, programs)?,
+        }),
+        None => Ok(Request::Input),
+    }
+}
+
+// All commands.
+fn command<'a>(alloc: Global) -> Result<Command<'a>, AllocError>
+    ensures { IfOk result (λ c. app_of c ≡ command_line) }
+{
+    Command::new(alloc, "gsnap")
+        .bin_name("gsnap")?
+        .no_binary_name(true)
+        .about("Runs graph programs on versions of a graph that a script edits.")
+        .override_usage("gsnap\n       gsnap script SCRIPT [PROGRAM]..")
+        .after_help(HELP)
+        .subcommand(script_command(alloc)?)
+}
+
+fn script_command<'a>(alloc: Global) -> Result<Command<'a>, AllocError>
+    ensures app { IfOk result (λ c. app_of c ≡ script_command) }
+    ensures local { IfOk result (λ c. (fields_of c).has_globals ≡ false) }
+{
+    let files = Arg::new(alloc, FILES)
+        .required(true)
+        .num_args(1..)
+        .action(ArgAction::Append)
+        .value_names(SHOWN)
+        .help("The file with the script, and then the files with its programs, in order");
+    Command::new(alloc, SCRIPT)
+        .about("Compiles the programs in files, runs the script in a file, and prints its replies")
+        .override_usage("gsnap script SCRIPT [PROGRAM]..")
+        .after_help(SCRIPT_HELP)
+        .arg(files)
+}

@@ -1,0 +1,92 @@
+//! Why a request is not done to its end.
+
+ghost use Rattle.std.specs.Prelude.{◌≡◌};
+ghost use Rattle.driver.specs.Endings.{of_read, of_script, status_of};
+ghost use Rattle.driver.specs.declared.error.ServeError.TheVariants.{NoMemory};
+
+use crate::status;
+use compiler::CompileError;
+use scripts::ScriptError;
+use std::alloc::{AllocError, AllocFailed};
+use std::io::ErrorKind;
+use std::{fmt, io};
+
+/// Why a request is not done to its end. The text is what standard error is told.
+#[derive(Clone, Copy, Debug)]
+pub enum ServeError<'a> {
+    /// Memory ran out.
+    NoMemory,
+    /// A file, or the standard input, cannot be read.
+    ReadFailed,
+    /// The replies cannot be written.
+    WriteFailed,
+    /// The text in the file of this name is no program. The error is never that memory ran out.
+    Refused { file: &'a str, error: CompileError },
+}
+
+impl ServeError<'_> {
+    /// The exit status: 4 where memory ran out, 5 where reading or writing failed, 1 where a text is
+    /// refused.
+    pub fn status(&self) -> u8
+        ensures { result ≡ status_of self.now }
+    {
+        match self {
+            ServeError::NoMemory => status::NO_MEMORY,
+            ServeError::ReadFailed | ServeError::WriteFailed => status::DEVICE_FAILED,
+            ServeError::Refused { .. } => status::REFUSED,
+        }
+    }
+}
+
+impl fmt::Display for ServeError<'_> {
+    fn fmt<W: fmt::Write>(&self, f: &mut fmt::Formatter<W>) -> fmt::Result {
+        match self {
+            ServeError::NoMemory => f.write_str("refused 900"),
+            ServeError::ReadFailed => f.write_str("refused 901"),
+            ServeError::WriteFailed => f.write_str("refused 902"),
+            ServeError::Refused { file, error } => match error.at() {
+                Some(at) => write!(f, "{file}: refused {} at {at}", error.number()),
+                None => write!(f, "{file}: refused {}", error.number()),
+            },
+        }
+    }
+}
+
+impl From<AllocError> for ServeError<'_> {
+    ghost from_gives = { λ _ e. e ≡ NoMemory };
+
+    fn from(_error: AllocError) -> Self {
+        ServeError::NoMemory
+    }
+}
+
+impl<T: Drop> From<AllocFailed<T>> for ServeError<'_> {
+    ghost from_gives = { λ _ e. e ≡ NoMemory };
+
+    fn from(_error: AllocFailed<T>) -> Self {
+        ServeError::NoMemory
+    }
+}
+
+impl From<io::Error> for ServeError<'_> {
+    ghost from_gives = { λ error e. e ≡ of_read error };
+
+    fn from(error: io::Error) -> Self {
+        match error.kind() {
+            ErrorKind::OutOfMemory => ServeError::NoMemory,
+            _ => ServeError::ReadFailed,
+        }
+    }
+}
+
+impl From<ScriptError> for ServeError<'_> {
+    ghost from_gives = { λ error e. e ≡ of_script error };
+
+    fn from(error: ScriptError) -> Self {
+        match error {
+            ScriptError::NoMemory => ServeError::NoMemory,
+            ScriptError::ReadFailed => ServeError::ReadFailed,
+            ScriptError::WriteFailed => ServeError::WriteFailed,
+        }
+    }
+}

@@ -1,0 +1,37 @@
+//! Files by name.
+
+ghost use Rattle.std.specs.Prelude.{List, ℕ};
+ghost use Rattle.std.specs.declared.io.Error.{Error};
+ghost use Rattle.driver.specs.Reading.{AnswersRead};
+
+use std::alloc::Global;
+use std::{fs, io, rt};
+
+/// Files that are read whole, by name.
+pub trait Files {
+    // What a read of the file of this name may answer: bytes, or an error.
+    ghost may_hold: { Self → List ℕ → List ℕ → Type 0 };
+
+    ghost may_fail: { Self → List ℕ → Error → Type 0 };
+
+    /// Reads the file of this name whole.
+    ///
+    /// Errors: of kind `OutOfMemory` where memory runs out, and of another kind where the file cannot
+    /// be opened or read.
+    fn read(&self, alloc: Global, name: &str) -> io::Result<Vec<u8>>
+        ensures { AnswersRead (may_hold self.now name.now) (may_fail self.now name.now) result };
+}
+
+/// The files of the system. No contract knows what they hold.
+#[derive(Drop)]
+pub struct Disk<R>(pub R);
+
+impl<R: rt::Files + AllocGlobal> Files for Disk<R> {
+    ghost may_hold = { λ _ _ _. Unit {0} };
+
+    ghost may_fail = { λ _ _ _. Unit {0} };
+
+    fn read(&self, _alloc: Global, name: &str) -> io::Result<Vec<u8>> {
+        fs::read(&self.0, name)
+    }
+}

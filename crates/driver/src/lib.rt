@@ -1,0 +1,27 @@
+//! What the program `gsnap` does, as a library: it reads a command line and does what that asks for.
+//!
+//! [`request`] reads the words, and [`serve`] does the request over any files, readers and writers.
+//! [`run`] does both, tells a refusal, and answers the exit status.
+//!
+//! Contracts see a request as the words that it stands for, files as a relation between a name and
+//! what a read may answer, and readers and writers by the bytes that they gave and took. The promise
+//! is that what was written is the replies of the script (crate `scripts`), with the programs that
+//! the files hold, and that the status says how the request ended.
+//!
+//! `gsnap` hands in the real files and streams, and `cases` a folder of tests.
+#![tactic(auto)]
+
+mod command_line;
+mod error;
+mod files;
+mod requests;
+mod running;
+mod serving;
+mod status;
+
+pub use command_line::request;
+pub use error::ServeError;
+pub use files::{Disk, Files};
+pub use requests::{Request, RequestError};
+pub use running::run;
+pub use serving::serve;

@@ -1,0 +1,67 @@
+//! What a command line can ask for, and why one is refused.
+
+ghost use Rattle.std.specs.Prelude.{◌≡◌};
+ghost use Rattle.clap.specs.Words.{kind_of};
+ghost use Rattle.driver.specs.Endings.{of_fault, refusal_status_of};
+ghost use Rattle.driver.specs.declared.requests.RequestError.TheVariants.{NoMemory};
+
+use crate::status;
+use clap::error::ErrorKind;
+use std::alloc::AllocError;
+use thiserror::Error;
+
+/// What a command line asks for.
+#[derive(Debug, Drop)]
+pub enum Request<'a> {
+    /// To run the standard input as a script.
+    Input,
+    /// To run the file of this name as a script, with the programs in the other files, in order.
+    Script {
+        script: &'a str,
+        programs: Vec<&'a str>,
+    },
+}
+
+/// Why a command line is not done. The text is what standard error is told.
+#[derive(Debug, Drop, Error)]
+pub enum RequestError {
+    #[error("refused 900\n")]
+    NoMemory,
+    #[error("error: a word of the command line is not UTF-8\n")]
+    NotText,
+    /// The words are no request, or they ask for help.
+    #[error("{0}")]
+    Fault(clap::Error),
+}
+
+impl RequestError {
+    /// The exit status.
+    pub fn status(&self) -> u8
+        ensures { result ≡ refusal_status_of self.now }
+    {
+        match self {
+            RequestError::NoMemory => status::NO_MEMORY,
+            RequestError::NotText | RequestError::Fault(_) => status::BAD_COMMAND_LINE,
+        }
+    }
+}
+
+impl From<AllocError> for RequestError {
+    ghost from_gives = { λ _ e. e ≡ NoMemory };
+
+    fn from(_error: AllocError) -> RequestError {
+        RequestError::NoMemory
+    }
+}
+
+impl From<clap::Error> for RequestError {
+    ghost from_gives = { λ e r. r ≡ of_fault (kind_of e) e };
+
+    fn from(error: clap::Error) -> RequestError {
+        if error.kind() == ErrorKind::OutOfMemory {
+            RequestError::NoMemory
+        } else {
+            RequestError::Fault(error)
+        }
+    }
+}

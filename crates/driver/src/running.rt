@@ -1,0 +1,46 @@
+//! A command line, done.
+
+ghost use Rattle.std.specs.Prelude.{◌≡◌, map};
+ghost use Rattle.scripts.specs.Script.{input as input_of, taken_by};
+ghost use Rattle.driver.specs.Endings.{refusal_status_of};
+ghost use Rattle.driver.specs.Running.{Runs};
+
+use crate::command_line::request;
+use crate::files::Files;
+use crate::requests::RequestError;
+use crate::serving::{Text, serve};
+use devices::{Drain, Feed};
+use std::alloc::Global;
+use std::fmt::Write;
+
+/// Reads the words after the program's name, and does what they ask for; the answer is the exit status.
+///
+/// It is that of `serve` where the words are a request. Where they are none, or ask for help, it is 2, and 4
+/// where memory runs out over them; `err` is then told why, and `out` took nothing.
+pub fn run<F: Files, R: Feed, W: Drain, E: Drain>(
+    alloc: Global,
+    words: &[&str],
+    files: &F,
+    input: &mut R,
+    out: &mut W,
+    err: &mut E,
+) -> u8
+    ensures { Runs (F.may_hold files.now) (F.may_fail files.now) (map (λ w. w.now) words.entry.now)
+        (input_of (R.given input.old) (R.ended input.old) (R.failures input.old))
+        (input_of (R.given input.new) (R.ended input.new) (R.failures input.new))
+        (taken_by (W.taken out.old) (W.failures out.old))
+        (taken_by (W.taken out.new) (W.failures out.new)) result }
+{
+    match request(alloc, words) {
+        Ok(request) => serve(alloc, &request, files, input, out, err),
+        Err(error) => refused(&error, err),
+    }
+}
+
+// Tells a refusal, and answers its status. Where telling fails too, the status alone tells.
+fn refused<E: Drain>(error: &RequestError, err: &mut E) -> u8
+    ensures { result ≡ refusal_status_of error.now }
+{
+    let _ = write!(Text(err), "{error}");
+    error.status()
+}

@@ -1,0 +1,139 @@
+//! What the program does for a request.
+
+ghost use Rattle.std.specs.Prelude.{◌≡◌, ◌++◌, map};
+ghost use Rattle.scripts.specs.Script.{input as input_of, taken_by, RunsScript};
+ghost use Rattle.driver.specs.Endings.{status_of_end};
+ghost use Rattle.driver.specs.Reading.{CompilesFile, CompilesFiles};
+ghost use Rattle.driver.specs.Serving.{RunsFiles, RunsInput, Serves};
+
+use crate::error::ServeError;
+use crate::files::Files;
+use crate::requests::Request;
+use crate::status;
+use compiler::{CompileError, compile};
+use devices::{Drain, Feed};
+use scripts::{run_text, script};
+use std::alloc::Global;
+use std::fmt;
+use std::fmt::Write;
+use typed_tree::Typed;
+
+/// Does a request, and answers the exit status: 0 where all was done, or 3 where some run of the script
+/// ended by a fault. `out` has then taken the replies of the script.
+///
+/// `Script` compiles each program before it reads the next file, and reads the script's file last. The
+/// status is 1 where a program's text is refused; `err` is then told the file, `refused`, the number
+/// and where the fault stands, if that is known, and `out` took nothing. It is 4 where memory runs out,
+/// and 5 where a file or `input` cannot be read or `out` fails; `err` is then told `refused` and the
+/// number, and `out` took a beginning of the replies.
+pub fn serve<F: Files, R: Feed, W: Drain, E: Drain>(
+    alloc: Global,
+    request: &Request<'_>,
+    files: &F,
+    input: &mut R,
+    out: &mut W,
+    err: &mut E,
+) -> u8
+    ensures { Serves (F.may_hold files.now) (F.may_fail files.now) request.now
+        (input_of (R.given input.old) (R.ended input.old) (R.failures input.old))
+        (input_of (R.given input.new) (R.ended input.new) (R.failures input.new))
+        (taken_by (W.taken out.old) (W.failures out.old))
+        (taken_by (W.taken out.new) (W.failures out.new)) result }
+{
+    match request {
+        Request::Input => told(run_input(alloc, input, out), err),
+        Request::Script { script, programs } => {
+            told(run_files(alloc, script, programs, files, out), err)
+        }
+    }
+}
+
+// Tells how a request ended where it was not done, and answers the status. Where telling fails too,
+// the status alone tells.
+fn told<E: Drain>(ended: Result<bool, ServeError<'_>>, err: &mut E) -> u8
+    ensures { result ≡ status_of_end ended.entry }
+{
+    match ended {
+        Ok(false) => status::DONE,
+        Ok(true) => status::FAULTED,
+        Err(error) => {
+            let _ = writeln!(Text(err), "{error}");
+            error.status()
+        }
+    }
+}
+
+// Runs the standard input as a script without programs.
+fn run_input<'a, R: Feed, W: Drain>(
+    alloc: Global,
+    input: &mut R,
+    out: &mut W,
+) -> Result<bool, ServeError<'a>>
+    ensures { RunsInput
+        (input_of (R.given input.old) (R.ended input.old) (R.failures input.old))
+        (input_of (R.given input.new) (R.ended input.new) (R.failures input.new))
+        (taken_by (W.taken out.old) (W.failures out.old))
+        (taken_by (W.taken out.new) (W.failures out.new)) result }
+{
+    Ok(script(alloc, &[], input, out)?)
+}
+
+// Compiles the programs in the files of these names, and then runs the script that a file holds.
+fn run_files<'a, F: Files, W: Drain>(
+    alloc: Global,
+    script: &str,
+    programs: &[&'a str],
+    files: &F,
+    out: &mut W,
+) -> Result<bool, ServeError<'a>>
+    ensures { RunsFiles (F.may_hold files.now) (F.may_fail files.now) script.now (map (λ p. p.now) programs.entry.now)
+        (taken_by (W.taken out.old) (W.failures out.old))
+        (taken_by (W.taken out.new) (W.failures out.new)) result }
+{
+    let compiled = compiled_files(alloc, programs, files)?;
+    let text = files.read(alloc, script)?;
+    Ok(run_text(alloc, &compiled, &text, out)?)
+}
+
+// The programs in the files of these names.
+fn compiled_files<'a, F: Files>(
+    alloc: Global,
+    names: &[&'a str],
+    files: &F,
+) -> Result<Vec<Typed>, ServeError<'a>>
+    ensures { CompilesFiles (F.may_hold files.now) (F.may_fail files.now) (map (λ n. n.now) names.entry.now) result }
+{
+    let mut compiled = Vec::new(alloc);
+    'names: for name in names {
+        compiled.push(compiled_file(alloc, name, files)?)?;
+    }
+    Ok(compiled)
+}
+
+// The program in the file of this name.
+fn compiled_file<'a, F: Files>(
+    alloc: Global,
+    file: &'a str,
+    files: &F,
+) -> Result<Typed, ServeError<'a>>
+    ensures { CompilesFile (F.may_hold files.now file.entry.now) (F.may_fail files.now file.entry.now) file.entry.now result }
+{
+    let text = files.read(alloc, file)?;
+    match compile(alloc, &text) {
+        Ok(program) => Ok(program),
+        Err(CompileError::NoMemory) => Err(ServeError::NoMemory),
+        Err(error) => Err(ServeError::Refused { file, error }),
+    }
+}
+
+// Takes text for a writer of bytes.
+#[derive(Drop)]
+pub(crate) struct Text<'a, E: Drain>(pub &'a mut E);
+
+impl<E: Drain> fmt::Write for Text<'_, E> {
+    ghost write_str_gives = { λ old text new. E.taken new.0.now ≡ E.taken old.0.now ++ text };
+
+    fn write_str(&mut self, text: &str) -> fmt::Result {
+        devices::write_all(self.0, text.as_bytes()).map_err(|_| fmt::Error)
+    }
+}

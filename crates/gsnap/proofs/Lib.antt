@@ -1,3 +1,0 @@
-pub mod Flags
-pub mod Reading
-pub mod ScriptWords

@@ -1,0 +1,27 @@
+//! Tests of what only a call of a library shows: devices that fail, pieces of input, spans of tokens,
+//! histories with little room, bytes of tails and sets, forks and threads. What a script or a program can
+//! show is a case in `crates/cases/data`.
+//!
+//! They stand above the crates that they test, so that each of those is proved once.
+#![tactic(auto)]
+
+#[cfg(test)]
+mod chunked_sets;
+#[cfg(test)]
+mod device_calls;
+#[cfg(test)]
+mod forked_sets;
+#[cfg(test)]
+mod script_devices;
+#[cfg(test)]
+mod set_operations;
+#[cfg(test)]
+mod shared_trees;
+#[cfg(test)]
+mod tails;
+#[cfg(test)]
+mod token_spans;
+#[cfg(test)]
+mod version_steps;
+#[cfg(test)]
+mod written_sources;

@@ -1,0 +1,214 @@
+//! Scripts and their replies, over readers and writers that fail or go slowly.
+use devices::Device;
+use scripts::{ScriptError, script};
+use std::alloc::Global;
+use std::io;
+use std::io::{Error, ErrorKind, Read, Write};
+use std::sync::atomic::{AtomicUsize, Ordering};
+use std::test::Fail;
+
+// Gives at most so many bytes at a time, and fails where another would end.
+#[derive(Drop)]
+struct FakeReader<'a> {
+    bytes: &'a [u8],
+    most: usize,
+    is_broken: bool,
+}
+
+impl Read for FakeReader<'_> {
+    fn read(&mut self, buffer: &mut [u8]) -> io::Result<usize> {
+        if self.bytes.is_empty() && self.is_broken {
+            return Err(Error::from(ErrorKind::BrokenPipe));
+        }
+        let count = self.most.min(buffer.len()).min(self.bytes.len());
+        buffer[..count].copy_from_slice(&self.bytes[..count]);
+        self.bytes = &self.bytes[count..];
+        Ok(count)
+    }
+}
+
+// Takes at most so many bytes at a time, and fails where it has no room for one more.
+#[derive(Drop)]
+struct FakeWriter {
+    bytes: Vec<u8>,
+    most: usize,
+    room: usize,
+}
+
+impl Write for FakeWriter {
+    fn write(&mut self, bytes: &[u8]) -> io::Result<usize> {
+        if self.room == 0 {
+            return Err(Error::from(ErrorKind::BrokenPipe));
+        }
+        let count = self.most.min(bytes.len()).min(self.room);
+        self.bytes.extend_from_slice(&bytes[..count])?;
+        self.room -= count;
+        Ok(count)
+    }
+
+    fn flush(&mut self) -> io::Result<()> {
+        Ok(())
+    }
+}
+
+fn run(
+    alloc: Global,
+    reader: FakeReader<'_>,
+    writer: &mut FakeWriter,
+) -> Result<bool, ScriptError> {
+    script(
+        alloc,
+        &[],
+        &mut Device::new(reader),
+        &mut Device::new(writer),
+    )
+}
+
+fn whole(bytes: &[u8]) -> FakeReader<'_> {
+    FakeReader {
+        bytes,
+        most: usize::MAX,
+        is_broken: false,
+    }
+}
+
+fn unbounded(alloc: Global) -> FakeWriter {
+    FakeWriter {
+        bytes: Vec::new(alloc),
+        most: usize::MAX,
+        room: usize::MAX,
+    }
+}
+
+const FIRST: &[u8] = b"vertices 4\nadd 3 0\nadd 0 1\nadd 0 1\ndel 2 2\ncommit\nedges\n";
+
+const FIRST_REPLIES: &[u8] = b"open 4\nversion 1\nedges 2\n0 1\n3 0\n";
+
+#[test]
+fn replies_in_any_pieces(rt: HostRuntime) -> Result<(), Fail> {
+    for most in 1..9 {
+        let reader = FakeReader {
+            bytes: FIRST,
+            most,
+            is_broken: false,
+        };
+        let mut writer = FakeWriter {
+            bytes: Vec::new(rt.alloc()),
+            most,
+            room: usize::MAX,
+        };
+        assert_eq!(rt;
+            run(rt.alloc(), reader, &mut writer),
+            Ok(false),
+            "at {most}"
+        );
+        assert_eq!(rt; writer.bytes.as_slice(), FIRST_REPLIES, "at {most}");
+    }
+    Ok(())
+}
+
+// The replies are exactly those to the lines that ended before the reader failed.
+#[test]
+fn ends_where_the_reader_fails(rt: HostRuntime) -> Result<(), Fail> {
+    for count in 0..FIRST.len() {
+        let reader = FakeReader {
+            bytes: &FIRST[..count],
+            most: usize::MAX,
+            is_broken: true,
+        };
+        let mut writer = unbounded(rt.alloc());
+        let result = run(rt.alloc(), reader, &mut writer);
+        assert_eq!(rt; result, Err(ScriptError::ReadFailed), "at {count}");
+        let ended = replies_after(&FIRST[..count]);
+        assert_eq!(rt; writer.bytes.len(), ended, "at {count}");
+        assert!(rt; FIRST_REPLIES.starts_with(&writer.bytes), "at {count}");
+    }
+    Ok(())
+}
+
+// How many bytes the replies to the lines that end in a beginning of the first script have.
+fn replies_after(bytes: &[u8]) -> usize {
+    match bytes.iter().filter(|byte| **byte == b'\n').count() {
+        0 => 0,
+        1..=5 => b"open 4\n".len(),
+        6 => b"open 4\nversion 1\n".len(),
+        _ => FIRST_REPLIES.len(),
+    }
+}
+
+// Gives one line at a read, and looks then at how many bytes the writer has.
+#[derive(Drop)]
+struct WaitingReader<'a> {
+    given: usize,
+    taken: &'a AtomicUsize,
+    missed: &'a AtomicUsize,
+}
+
+impl Read for WaitingReader<'_> {
+    fn read(&mut self, buffer: &mut [u8]) -> io::Result<usize> {
+        let so_far = &FIRST[..self.given.min(FIRST.len())];
+        if self.taken.load(Ordering::SeqCst) != replies_after(so_far) {
+            self.missed.store(1, Ordering::SeqCst);
+        }
+        let rest = &FIRST[so_far.len()..];
+        let line = rest.iter().position(|byte| *byte == b'\n');
+        let count = line.map_or(0, |end| end + 1).min(buffer.len());
+        buffer[..count].copy_from_slice(&rest[..count]);
+        self.given = so_far.len() + count;
+        Ok(count)
+    }
+}
+
+// Counts what it takes.
+#[derive(Drop)]
+struct CountingWriter<'a>(&'a AtomicUsize);
+
+impl Write for CountingWriter<'_> {
+    fn write(&mut self, bytes: &[u8]) -> io::Result<usize> {
+        self.0.fetch_add(bytes.len(), Ordering::SeqCst);
+        Ok(bytes.len())
+    }
+
+    fn flush(&mut self) -> io::Result<()> {
+        Ok(())
+    }
+}
+
+// The replies to what has come are written before more is read.
+#[test]
+fn replies_before_it_reads_on(rt: HostRuntime) {
+    let (taken, missed) = (AtomicUsize::new(0), AtomicUsize::new(0));
+    let reader = WaitingReader {
+        given: 0,
+        taken: &taken,
+        missed: &missed,
+    };
+    let ended = script(
+        rt.alloc(),
+        &[],
+        &mut Device::new(reader),
+        &mut Device::new(CountingWriter(&taken)),
+    );
+    assert_eq!(rt; ended, Ok(false));
+    assert_eq!(rt; taken.load(Ordering::SeqCst), FIRST_REPLIES.len());
+    assert_eq!(rt; missed.load(Ordering::SeqCst), 0);
+}
+
+#[test]
+fn ends_where_the_writer_fails(rt: HostRuntime) -> Result<(), Fail> {
+    for room in 0..FIRST_REPLIES.len() {
+        let mut writer = FakeWriter {
+            bytes: Vec::new(rt.alloc()),
+            most: 3,
+            room,
+        };
+        let result = run(rt.alloc(), whole(FIRST), &mut writer);
+        assert_eq!(rt; result, Err(ScriptError::WriteFailed), "at {room}");
+        assert_eq!(rt;
+            writer.bytes.as_slice(),
+            &FIRST_REPLIES[..room],
+            "at {room}"
+        );
+    }
+    Ok(())
+}

@@ -1,2 +1,0 @@
-pub mod PieceLaws
-pub mod WordLaws

@@ -1,8 +1,0 @@
-use Rattle.script_text.proofs.PieceLaws.{pieces_alone, pieces_before}
-use Rattle.script_text.proofs.pieces.first_piece.Goals as goal
-
-pub returns : goal.returns
-returns c = λ separator front none. record {
-  alone = pieces_alone separator front none;
-  before = λ rest. pieces_before separator front rest none;
-}

@@ -1,8 +1,0 @@
-use Rattle.script_text.proofs.PieceLaws.{split_none, split_pieces}
-use Rattle.script_text.proofs.pieces.split_line.Goals as goal
-
-pub returns-clause-none : goal.returns-clause-none
-returns-clause-none c = split_none 10 c.args.bytes.now c.split_piece.result c.split_piece.ensures
-
-pub returns-clause-lines : goal.returns-clause-lines
-returns-clause-lines c = split_pieces 10 c.args.bytes.now c.split_piece.result c.split_piece.ensures

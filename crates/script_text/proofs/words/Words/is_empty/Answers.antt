@@ -1,5 +1,0 @@
-use Rattle.script_text.proofs.WordLaws.{is_empty-words_left}
-use Rattle.script_text.proofs.words.Words.is_empty.Goals as goal
-
-pub returns : goal.returns
-returns c = is_empty-words_left c.self.inside.rest c.args.self.now c.is_none.result c.self.view_is c.is_none.ensures

@@ -1,3 +1,0 @@
-pub mod Commands
-pub mod Pieces
-pub mod Reading
