@@ -48,23 +48,6 @@ const BITS: usize = 24;
 
 const WORDS: usize = 1 << (BITS - 6);
 
-/// Prints what comes of a set of each size, the same on every machine.
-pub fn print_outcomes<R: Print + AllocGlobal>(rt: &R) -> io::Result<()> {
-    let mut random = Random::new(SEED);
-    for Sets { size, .. } in SETS {
-        let list = neighbours(rt.alloc(), &mut random, size)?;
-        let set = made(CTree::from_sorted(rt.alloc(), CHUNK_SIZE, &list))?;
-        let sum = sum_by_blocks(&set);
-        let (bytes, heads) = (byte_count(&set), set.heads().count());
-        let found = found_among(&set, &list);
-        let depth = set.depth();
-        println!(rt;
-            "set of {size}: {bytes} bytes, {heads} heads, depth {depth}, found {found}, sum {sum}"
-        )?;
-    }
-    Ok(())
-}
-
 /// Prints the times of all sets of a size, and what a set's walk and making cost an element.
 pub fn print_times<R: Print + AllocGlobal + Clock>(rt: &R) -> io::Result<()> {
     println!(rt;
@@ -165,11 +148,20 @@ fn best_time<R: AllocGlobal + Clock>(rt: &R, row: Row, work: &Work) -> io::Resul
 }
 
 // Lists, the sets of them, and the prefixes and tails of the sets.
-#[derive(Drop)]
 struct Work {
     lists: Vec<Vec<u32>>,
     sets: Vec<CTree>,
     tails: Vec<Tail>,
+}
+
+impl Drop for Work {
+    fn drop(self) {
+        let Work {
+            lists: _,
+            sets: _,
+            tails: _,
+        } = self;
+    }
 }
 
 impl Work {
@@ -324,25 +316,6 @@ fn sum_of(block: &[u32]) -> u64 {
         sum = sum.wrapping_add(u64::from(*element));
     }
     sum
-}
-
-fn byte_count(set: &CTree) -> usize {
-    let mut count = set.prefix().bytes().len();
-    for (_, tail) in set.heads() {
-        count = count.saturating_add(tail.bytes().len());
-    }
-    count
-}
-
-// How many elements of a list and of the numbers after them are in a set.
-fn found_among(set: &CTree, list: &[u32]) -> u32 {
-    let mut count = 0u32;
-    for element in list {
-        let found = u32::from(set.contains(*element));
-        let next = u32::from(set.contains(element.saturating_add(1)));
-        count = count.saturating_add(found).saturating_add(next);
-    }
-    count
 }
 
 fn made(answer: Result<CTree, CTreeError>) -> io::Result<CTree> {

@@ -110,13 +110,6 @@ fn source(alloc: Global, bytes: usize) -> Result<String, AllocError> {
     Ok(text)
 }
 
-/// Prints how many tokens a small source has.
-pub fn print_outcomes<R: Print + AllocGlobal>(rt: &R) -> io::Result<()> {
-    let text = source(rt.alloc(), 100_000)?;
-    let tokens = tokens_of(rt.alloc(), text.as_bytes())?;
-    println!(rt; "source of {} bytes: {tokens} tokens", text.len())
-}
-
 /// Prints the times of the lexer and of a plain loop over the same bytes.
 pub fn print_times<R: Print + AllocGlobal + Clock>(rt: &R) -> io::Result<()> {
     print_head(rt)?;

@@ -11,7 +11,7 @@ mod lexing;
 mod outcome;
 mod parsing;
 mod random;
-mod scripts;
+mod script_times;
 mod sets;
 mod tails;
 mod timing;
@@ -22,45 +22,58 @@ use outcome::hash_of;
 use random::Random;
 use std::io::Error;
 use std::process::ExitCode;
+use std::rt::Clock;
+use std::thread::Threads;
 use std::{env, io};
 use workload::adds_script;
 
 fn main(rt: HostRuntime) -> io::Result<ExitCode> {
-    let args: Vec<String> = env::args(&rt)?.collect(rt.alloc())?;
-    let words: Vec<&str> = args
-        .iter()
-        .skip(1)
-        .map(|word| word.as_str())
-        .collect(rt.alloc())?;
-    match words.as_slice() {
-        [] => print_outcomes(&rt)?,
-        ["--time", "scripts"] => scripts::print_times(&rt)?,
-        ["--time", "lexer"] => lexing::print_times(&rt)?,
-        ["--time", "parser"] => parsing::print_times(&rt)?,
-        ["--time", "tails"] => tails::print_times(&rt)?,
-        ["--time", "trees"] => trees::print_times(&rt)?,
-        ["--time", "ctrees"] => ctrees::print_times(&rt)?,
-        ["--time", "sets"] => sets::print_times(&rt)?,
-        ["--script", adds] => print_script(&rt, adds)?,
-        _ => {
-            eprintln!(rt;
-                "usage: bench [--time scripts|lexer|parser|tails|trees|ctrees|sets | --script ADDS]"
-            )?;
-            return Ok(ExitCode::from(2));
-        }
+    let args: Vec<String> = env::args(&rt)?.skip(1).collect(rt.alloc())?;
+    let words: Vec<&str> = args.iter().map(|word| word.as_str()).collect(rt.alloc())?;
+    if print(&rt, &words)? {
+        return Ok(ExitCode::SUCCESS);
     }
-    Ok(ExitCode::SUCCESS)
+    eprintln!(rt;
+        "usage: bench [--time scripts|lexer|parser|tails|trees|ctrees|sets | --script ADDS]"
+    )?;
+    Ok(ExitCode::from(2))
+}
+
+// Prints what the words ask for, and tells whether they ask for something.
+fn print<R: Print + AllocGlobal + Clock + Threads + Sync>(
+    rt: &R,
+    words: &[&str],
+) -> io::Result<bool> {
+    let printed = match words {
+        [] => print_outcomes(rt),
+        ["--time", subject] => print_times(rt, subject),
+        ["--script", adds] => print_script(rt, adds),
+        _ => return Ok(false),
+    };
+    printed.map(|()| true)
+}
+
+// Prints the times of a subject.
+fn print_times<R: Print + AllocGlobal + Clock + Threads + Sync>(
+    rt: &R,
+    subject: &str,
+) -> io::Result<()> {
+    match subject {
+        "scripts" => script_times::print_times(rt),
+        "lexer" => lexing::print_times(rt),
+        "parser" => parsing::print_times(rt),
+        "tails" => tails::print_times(rt),
+        "trees" => trees::print_times(rt),
+        "ctrees" => ctrees::print_times(rt),
+        "sets" => sets::print_times(rt),
+        _ => Err(Error::other("nothing of this name is timed")),
+    }
 }
 
 // Prints what comes of small work.
 fn print_outcomes<R: Print + AllocGlobal>(rt: &R) -> io::Result<()> {
     print_known(rt)?;
-    scripts::print_outcomes(rt)?;
-    lexing::print_outcomes(rt)?;
-    parsing::print_outcomes(rt)?;
-    tails::print_outcomes(rt)?;
-    trees::print_outcomes(rt)?;
-    ctrees::print_outcomes(rt)
+    script_times::print_outcomes(rt)
 }
 
 // Prints what the generator and the hash give where their authors have published it.

@@ -45,36 +45,33 @@ fn source(alloc: Global, bytes: usize) -> Result<String, AllocError> {
     Ok(text)
 }
 
-/// Prints what a small source has.
-pub fn print_outcomes<R: Print + AllocGlobal>(rt: &R) -> io::Result<()> {
-    let text = source(rt.alloc(), SHORT)?;
-    let statements = statements_of(rt.alloc(), text.as_bytes())?;
-    println!(rt;
-        "source of {} bytes: {statements} statements of a function",
-        text.len()
-    )
-}
-
 /// Prints the times of the parser, and of the lexer on the same bytes.
 pub fn print_times<R: Print + AllocGlobal + Clock>(rt: &R) -> io::Result<()> {
     print_head(rt)?;
     let mut found = 0;
     for bytes in [SHORT, LONG] {
-        let text = source(rt.alloc(), bytes)?;
-        let mut parser = Times::new(rt.alloc());
-        let mut lexer = Times::new(rt.alloc());
-        for _ in 0..TURNS {
-            let start = Instant::now(rt)?;
-            found ^= statements_of(rt.alloc(), text.as_bytes())?;
-            parser.push(rt, start)?;
-            let start = Instant::now(rt)?;
-            found ^= tokens_of(rt.alloc(), text.as_bytes())?;
-            lexer.push(rt, start)?;
-        }
-        print_row(rt, "parser, bytes", text.len(), &mut parser)?;
-        print_row(rt, "lexer alone, bytes", text.len(), &mut lexer)?;
+        found ^= print_rows(rt, bytes)?;
     }
     println!(rt; "check {found}")
+}
+
+// Prints both rows of a source of so many bytes, and gives a number that depends on the work.
+fn print_rows<R: Print + AllocGlobal + Clock>(rt: &R, bytes: usize) -> io::Result<usize> {
+    let text = source(rt.alloc(), bytes)?;
+    let mut parser = Times::new(rt.alloc());
+    let mut lexer = Times::new(rt.alloc());
+    let mut found = 0;
+    for _ in 0..TURNS {
+        let start = Instant::now(rt)?;
+        found ^= statements_of(rt.alloc(), text.as_bytes())?;
+        parser.push(rt, start)?;
+        let start = Instant::now(rt)?;
+        found ^= tokens_of(rt.alloc(), text.as_bytes())?;
+        lexer.push(rt, start)?;
+    }
+    print_row(rt, "parser, bytes", text.len(), &mut parser)?;
+    print_row(rt, "lexer alone, bytes", text.len(), &mut lexer)?;
+    Ok(found)
 }
 
 // How many statements stand in the first function of a source, aside from those in other statements.

@@ -30,22 +30,43 @@ pub fn print_times<R: Print + AllocGlobal + Clock + Threads + Sync>(rt: &R) -> i
     let mut random = Random::new(SEED);
     for (size, rounds) in OTHERS {
         let work = Work::new(rt.alloc(), &mut random, size)?;
-        for row in ROWS {
-            let nanos = best_time(rt, row, &work, rounds)? / rounds.max(1);
-            let name = row.name();
-            println!(rt; "{name:<22} {size:>8} {nanos:>12}")?;
-        }
+        print_rows(rt, &work, size, rounds)?;
+    }
+    Ok(())
+}
+
+// Prints all rows of a set and another of so many elements.
+fn print_rows<R: Print + AllocGlobal + Clock + Threads + Sync>(
+    rt: &R,
+    work: &Work,
+    size: u64,
+    rounds: u64,
+) -> io::Result<()> {
+    for row in ROWS {
+        let nanos = best_time(rt, row, work, rounds)? / rounds.max(1);
+        let name = row.name();
+        println!(rt; "{name:<22} {size:>8} {nanos:>12}")?;
     }
     Ok(())
 }
 
 // Two lists and the sets of them.
-#[derive(Drop)]
 struct Work {
     first: Vec<u32>,
     second: Vec<u32>,
     one: CTree,
     other: CTree,
+}
+
+impl Drop for Work {
+    fn drop(self) {
+        let Work {
+            first: _,
+            second: _,
+            one: _,
+            other: _,
+        } = self;
+    }
 }
 
 impl Work {

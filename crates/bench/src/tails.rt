@@ -1,4 +1,4 @@
-//! Tails: how long they take to read and to make, and how many bytes they take.
+//! Tails: how long they take to read and to make.
 
 use crate::random::Random;
 use crate::timing::Times;
@@ -7,7 +7,7 @@ use std::io;
 use std::io::Error;
 use std::rt::Clock;
 use std::time::Instant;
-use tail_codec::{Tail, TailBuilder, TailError};
+use tail_codec::{Tail, TailError};
 
 // How many tails are timed together, and how many elements each has.
 const TAILS: u32 = 4096;
@@ -44,90 +44,6 @@ const GAPS: [Gaps; 3] = [
         mask: 0xff,
     },
 ];
-
-/// Prints the sums of the elements that are timed, the bytes that they and the neighbours of a random
-/// graph take, and how many strings of three bytes are spellings.
-pub fn print_outcomes<R: Print + AllocGlobal>(rt: &R) -> io::Result<()> {
-    for gaps in GAPS {
-        let lists = lists(rt.alloc(), gaps)?;
-        let tails = tails(rt.alloc(), lists.as_slice()).map_err(told)?;
-        let sum = sum_of(tails.as_slice());
-        let bytes = byte_count(tails.as_slice());
-        let name = gaps.name;
-        println!(rt; "tails of {name} gaps: {bytes} bytes, sum {sum}")?;
-    }
-    let (elements, bytes) = rmat_bytes(rt.alloc()).map_err(told)?;
-    println!(rt; "tails of a random graph's neighbours: {elements} elements in {bytes} bytes")?;
-    let spellings = spellings_of_three_bytes(rt.alloc()).map_err(told)?;
-    println!(rt; "strings of three bytes: {spellings} spell a list")
-}
-
-// The edges of an RMAT graph (Chakrabarti, Zhan, Faloutsos, SDM 2004) of 2^16 vertices, by source and
-// then by destination, some of them more than once: each of 16 bits of both ends falls into a quarter
-// of 57, 19, 19 and 5 in a hundred.
-fn rmat_edges(alloc: Global, edges: usize) -> Result<Vec<(u32, u32)>, AllocError> {
-    let mut random = Random::new(SEED);
-    let mut made = Vec::with_capacity(alloc, edges)?;
-    for _ in 0..edges {
-        let mut edge = (0u32, 0u32);
-        for _ in 0..16 {
-            let (from, to) = match random.below(100) {
-                0..57 => (0, 0),
-                57..76 => (0, 1),
-                76..95 => (1, 0),
-                _ => (1, 1),
-            };
-            edge = (edge.0 << 1 | from, edge.1 << 1 | to);
-        }
-        made.push(edge)?;
-    }
-    made.sort_by_key(|edge| (u64::from(edge.0) << 32) | u64::from(edge.1))?;
-    Ok(made)
-}
-
-// How many neighbours the vertices of an RMAT graph of 2^20 edges have, each once, and how many bytes
-// they take as one tail for each vertex.
-fn rmat_bytes(alloc: Global) -> Result<(u64, u64), TailError> {
-    let mut builder = TailBuilder::new(alloc, None);
-    let mut counts = (0u64, 0u64);
-    let mut source = 0u32;
-    for (from, to) in rmat_edges(alloc, 1 << 20)? {
-        if from != source {
-            source = from;
-            counts = counted(counts, &builder.finish(alloc, None)?);
-        }
-        if builder.may_push(to) {
-            builder.push(to)?;
-        }
-    }
-    Ok(counted(counts, &builder.finish(alloc, None)?))
-}
-
-// The counts of elements and bytes with those of a tail.
-fn counted(counts: (u64, u64), tail: &Tail) -> (u64, u64) {
-    (
-        counts.0.saturating_add(tail.len() as u64),
-        counts.1.saturating_add(tail.bytes().len() as u64),
-    )
-}
-
-// How many strings of three bytes spell a list over no base, which is spelled again so.
-fn spellings_of_three_bytes(alloc: Global) -> Result<u32, TailError> {
-    let mut count = 0u32;
-    let mut elements = [0u32; 3];
-    for number in 0u32..1 << 24 {
-        let bytes = number.to_le_bytes();
-        let Ok(tail) = Tail::from_bytes(alloc, None, &bytes[..3]) else {
-            continue;
-        };
-        let len = tail.iter().fill(&mut elements);
-        let again = Tail::encode(alloc, None, &elements[..len])?;
-        if again.bytes() == tail.bytes() {
-            count = count.saturating_add(1);
-        }
-    }
-    Ok(count)
-}
 
 /// Prints the times of a pass over all tails, in nanoseconds.
 pub fn print_times<R: Print + AllocGlobal + Clock>(rt: &R) -> io::Result<()> {

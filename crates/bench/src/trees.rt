@@ -23,22 +23,6 @@ const GAP: u32 = 4;
 
 const SEED: u64 = 2026;
 
-/// Prints what small work on trees gives, the same on every machine.
-pub fn print_outcomes<R: Print + AllocGlobal>(rt: &R) -> io::Result<()> {
-    for count in [0, 1, 1000, 20_000] {
-        let tree = tree_of(rt.alloc(), count)?;
-        let found = sum_of_finds(&tree, count, count);
-        let grown = grown_tree(rt.alloc(), tree, count, count, false)?;
-        let (len, depth) = (grown.len(), grown.depth());
-        let sum = sum_of_tree(&grown);
-        let above = sum_above(rt.alloc(), &grown, count)?;
-        println!(rt;
-            "tree of {count}: found {found}, {len} entries, depth {depth}, sums {sum} and {above}"
-        )?;
-    }
-    Ok(())
-}
-
 /// Prints the times of trees and of maps: of each row the best of some turns, in microseconds.
 pub fn print_times<R: Print + AllocGlobal + Clock>(rt: &R) -> io::Result<()> {
     println!(rt;
@@ -94,17 +78,25 @@ fn micros_since<R: Clock>(rt: &R, start: Instant) -> io::Result<u64> {
 fn time_builds<R: AllocGlobal + Clock>(rt: &R) -> io::Result<Times> {
     let mut times = Times::new();
     for _ in 0..TURNS {
-        let entries = entries_of(rt.alloc(), ENTRIES)?;
-        let start = Instant::now(rt)?;
-        let tree = made(rt.alloc(), Tree::from_sorted(rt.alloc(), entries))?;
-        let for_tree = micros_since(rt, start)?;
-        let entries = entries_of(rt.alloc(), ENTRIES)?;
-        let start = Instant::now(rt)?;
-        let map: BTreeMap<u32, u64> = entries.into_iter().collect(rt.alloc())?;
-        let for_map = micros_since(rt, start)?;
-        times.note((for_tree, sum_of_tree(&tree)), (for_map, sum_of_map(&map)));
+        times.note(tree_build(rt)?, map_build(rt)?);
     }
     Ok(times)
+}
+
+// How long a tree takes to build, and the sum of its entries.
+fn tree_build<R: AllocGlobal + Clock>(rt: &R) -> io::Result<(u64, u64)> {
+    let entries = entries_of(rt.alloc(), ENTRIES)?;
+    let start = Instant::now(rt)?;
+    let tree = made(rt.alloc(), Tree::from_sorted(rt.alloc(), entries))?;
+    Ok((micros_since(rt, start)?, sum_of_tree(&tree)))
+}
+
+// How long a map takes to build, and the sum of its entries.
+fn map_build<R: AllocGlobal + Clock>(rt: &R) -> io::Result<(u64, u64)> {
+    let entries = entries_of(rt.alloc(), ENTRIES)?;
+    let start = Instant::now(rt)?;
+    let map: BTreeMap<u32, u64> = entries.into_iter().collect(rt.alloc())?;
+    Ok((micros_since(rt, start)?, sum_of_map(&map)))
 }
 
 // Goes over the tree and the map.
@@ -130,7 +122,7 @@ fn time_finds<R: AllocGlobal + Clock>(rt: &R) -> io::Result<Times> {
     let map = map_of(rt.alloc(), ENTRIES)?;
     for _ in 0..TURNS {
         let start = Instant::now(rt)?;
-        let tree_sum = sum_of_finds(&tree, ENTRIES, FINDS);
+        let tree_sum = sum_of_finds(&tree, FINDS);
         let for_tree = micros_since(rt, start)?;
         let start = Instant::now(rt)?;
         let map_sum = sum_of_map_finds(&map, FINDS);
@@ -144,17 +136,25 @@ fn time_finds<R: AllocGlobal + Clock>(rt: &R) -> io::Result<Times> {
 fn time_inserts<R: AllocGlobal + Clock>(rt: &R, shared: bool) -> io::Result<Times> {
     let mut times = Times::new();
     for _ in 0..TURNS {
-        let tree = tree_of(rt.alloc(), ENTRIES)?;
-        let start = Instant::now(rt)?;
-        let tree = grown_tree(rt.alloc(), tree, ENTRIES, INSERTS, shared)?;
-        let for_tree = micros_since(rt, start)?;
-        let mut map = map_of(rt.alloc(), ENTRIES)?;
-        let start = Instant::now(rt)?;
-        grow_map(&mut map, INSERTS)?;
-        let for_map = micros_since(rt, start)?;
-        times.note((for_tree, sum_of_tree(&tree)), (for_map, sum_of_map(&map)));
+        times.note(tree_inserts(rt, shared)?, map_inserts(rt)?);
     }
     Ok(times)
+}
+
+// How long a tree takes for new entries, and the sum of its entries then.
+fn tree_inserts<R: AllocGlobal + Clock>(rt: &R, shared: bool) -> io::Result<(u64, u64)> {
+    let tree = tree_of(rt.alloc(), ENTRIES)?;
+    let start = Instant::now(rt)?;
+    let tree = grown_tree(rt.alloc(), tree, INSERTS, shared)?;
+    Ok((micros_since(rt, start)?, sum_of_tree(&tree)))
+}
+
+// How long a map takes for new entries, and the sum of its entries then.
+fn map_inserts<R: AllocGlobal + Clock>(rt: &R) -> io::Result<(u64, u64)> {
+    let mut map = map_of(rt.alloc(), ENTRIES)?;
+    let start = Instant::now(rt)?;
+    grow_map(&mut map, INSERTS)?;
+    Ok((micros_since(rt, start)?, sum_of_map(&map)))
 }
 
 fn entries_of(alloc: Global, count: u32) -> io::Result<Vec<(u32, u64)>> {
@@ -180,26 +180,20 @@ fn made<T: Drop>(alloc: Global, answer: Result<T, TreeError>) -> io::Result<T> {
     }
 }
 
-// A key of so many entries, or one between two of them.
-fn key_among(random: &mut Random, entries: u32) -> u32 {
-    let bound = u64::from(entries.max(1)) * u64::from(GAP);
+// A key of an entry, or one between two of them.
+fn key_among(random: &mut Random) -> u32 {
+    let bound = u64::from(ENTRIES) * u64::from(GAP);
     u32::try_from(random.next() % bound).unwrap_or(0)
 }
 
-fn grown_tree(
-    alloc: Global,
-    tree: Tree<u64>,
-    entries: u32,
-    inserts: u32,
-    shared: bool,
-) -> io::Result<Tree<u64>> {
+fn grown_tree(alloc: Global, tree: Tree<u64>, inserts: u32, shared: bool) -> io::Result<Tree<u64>> {
     let mut random = Random::new(SEED);
     let mut tree = tree;
     for i in 0..inserts {
         let other = if shared { tree.share()? } else { Tree::new() };
         tree = made(
             alloc,
-            tree.insert(alloc, key_among(&mut random, entries), u64::from(i)),
+            tree.insert(alloc, key_among(&mut random), u64::from(i)),
         )?;
         drop(other);
     }
@@ -209,16 +203,16 @@ fn grown_tree(
 fn grow_map(map: &mut BTreeMap<u32, u64>, inserts: u32) -> io::Result<()> {
     let mut random = Random::new(SEED);
     for i in 0..inserts {
-        let _old = map.insert(key_among(&mut random, ENTRIES), u64::from(i))?;
+        let _old = map.insert(key_among(&mut random), u64::from(i))?;
     }
     Ok(())
 }
 
-fn sum_of_finds(tree: &Tree<u64>, entries: u32, finds: u32) -> u64 {
+fn sum_of_finds(tree: &Tree<u64>, finds: u32) -> u64 {
     let mut random = Random::new(SEED);
     let mut sum = 0u64;
     for _ in 0..finds {
-        let key = key_among(&mut random, entries) / GAP * GAP;
+        let key = key_among(&mut random) / GAP * GAP;
         sum = sum.wrapping_add(tree.find(key).copied().unwrap_or(1));
     }
     sum
@@ -228,7 +222,7 @@ fn sum_of_map_finds(map: &BTreeMap<u32, u64>, finds: u32) -> u64 {
     let mut random = Random::new(SEED);
     let mut sum = 0u64;
     for _ in 0..finds {
-        let key = key_among(&mut random, ENTRIES) / GAP * GAP;
+        let key = key_among(&mut random) / GAP * GAP;
         sum = sum.wrapping_add(map.get(&key).copied().unwrap_or(1));
     }
     sum
@@ -248,12 +242,4 @@ fn sum_of_map(map: &BTreeMap<u32, u64>) -> u64 {
         sum = sum.wrapping_add(u64::from(*key) ^ *value);
     }
     sum
-}
-
-// Splits the tree, takes its least key out of the upper part, and adds up the rest.
-fn sum_above(alloc: Global, tree: &Tree<u64>, key: u32) -> io::Result<u64> {
-    let (_, _, above) = made(alloc, tree.split(alloc, key))?;
-    let least = above.iter().next().map_or(0, |entry| entry.0);
-    let (rest, _) = made(alloc, above.remove(alloc, least))?;
-    Ok(sum_of_tree(&rest))
 }
