@@ -1,12 +1,12 @@
 -- A script from its first byte to its last.
-use Rattle.std.proofs.Common.{◌≡◌, ℕ, ◌<◌, Bool, true, List, [], ◌++◌, Result, Ok, Err, refl, sym, ap, ◌∙◌, subst, arith, append_assoc, append-nil}
+use Rattle.std.proofs.Common.{◌≡◌, ℕ, ◌<◌, Bool, true, Option, List, [], ◌++◌, Result, Ok, Err, refl, sym, ap, ◌∙◌, subst, arith, append_assoc, append-nil}
 use Rattle.std.specs.Result.{IsErrAnd}
 use Rattle.std.proofs.lemmas.Result.{err_from_is_err_and}
 use Rattle.typed_tree.specs.ProgramTree.{ProgramTree}
 use Rattle.scripts.specs.declared.error.ScriptError.{ScriptError}
 use Rattle.scripts.specs.declared.error.ScriptError.TheVariants.{NoMemory, ReadFailed, WriteFailed}
 use Rattle.scripts.specs.Pieces.{HasNone}
-use Rattle.scripts.specs.Replies.{answer, replies, replies_to_ended, has_faulted}
+use Rattle.scripts.specs.Replies.{OpenState, answer, replies, replies_to_ended, has_faulted}
 use Rattle.scripts.specs.Script.{Input, Taken, taken_by, RepliesInPart, RepliesToEnded, RunsScript}
 use Rattle.scripts.specs.Sending.{Output, output, Sends, Fails}
 use Rattle.scripts.specs.Progress.{Reading, at_start, reading_after, replies_within}
@@ -23,6 +23,7 @@ pub record IsReading (programs : List ProgramTree) (old now : Input) (a : Output
   pub sends : Sends a b (replies_to_ended programs bytes)
   pub nothing_kept : b.kept ≡ []
 
+-- nothing is read, and nothing answered
 pub reading_starts : (programs : List ProgramTree) (old : Input) (a : Output) → a.kept ≡ [] → IsReading programs old old a at_start a
 reading_starts programs old a empty = record {
   bytes = [];
@@ -73,6 +74,7 @@ module _ (programs : List ProgramTree) (old now : Input) (a : Output) (reading :
       }
 
   module _ (new : Input) (more : List ℕ) (given : new.given ≡ now.given ++ more) (same : new.failures ≡ now.failures) (c : Output) where
+    -- the bytes so far, with those that came
     given_now : new.given ≡ old.given ++ (r.bytes ++ more)
     given_now = given ∙ ap (λ xs. xs ++ more) r.given ∙ append_assoc old.given r.bytes more
 
@@ -110,6 +112,7 @@ module _ (programs : List ProgramTree) (old now : Input) (a : Output) (reading :
         ends_in_lines programs old new a d (r.bytes ++ more) e empty given_now (subst (λ text. Fails a d text e) (append-nil (replies_to_ended programs (r.bytes ++ more))) both)
 
   module _ (new : Input) (given : new.given ≡ now.given) (c : Output) where
+    -- no more bytes came
     given_all : new.given ≡ old.given ++ r.bytes
     given_all = given ∙ r.given
 
@@ -139,13 +142,14 @@ module _ (programs : List ProgramTree) (old now : Input) (a : Output) (reading :
 
     -- or all is written
     pub script_ends : Sends b c last → (d : Output) → a.kept ≡ [] → d.kept ≡ [] → new.ended ≡ true → Sends c d []
-        → (faulted : Bool) → faulted ≡ has_faulted (answer programs reading.state reading.partial).state → RunsScript programs old new (taken_by a.taken a.failures) (taken_by d.taken d.failures) (Ok faulted)
-    script_ends sends d empty flushed ended last_flush faulted fault = record {
+        → (state : Option OpenState) → state ≡ (answer programs reading.state reading.partial).state → (faulted : Bool) → faulted ≡ has_faulted state
+        → RunsScript programs old new (taken_by a.taken a.failures) (taken_by d.taken d.failures) (Ok faulted)
+    script_ends sends d empty flushed ended last_flush state is faulted fault = record {
       bytes = r.bytes;
       given = given_all;
       ended = ended;
       taken = all_taken a d (replies programs r.bytes) empty flushed (subst (Sends a d) (append-nil (replies programs r.bytes)) (sends_then a c d (replies programs r.bytes) [] (all_sent sends) last_flush));
-      fault = fault ∙ ap (λ s. has_faulted (answer programs s.state s.partial).state) r.reading_is ∙ sym (faults-last programs r.bytes);
+      fault = fault ∙ ap has_faulted is ∙ ap (λ s. has_faulted (answer programs s.state s.partial).state) r.reading_is ∙ sym (faults-last programs r.bytes);
     }
 
 -- a script that ends by an error

@@ -9,8 +9,9 @@
 //! table says which words are which command (`specs/Commands.antt`), and a run is answered by the text
 //! (`specs/OutcomeText.antt`) of what its program means on its version. [`script`] is proved to write
 //! exactly those replies to the bytes that the reader gave, in whatever pieces it gave them, and
-//! [`run_text`] those to a text (`specs/Text.antt`). A reader that fails finds the replies to all lines that had ended written, and no more; after the other
-//! errors a beginning of the replies stands there (`specs/Script.antt`).
+//! [`run_text`] those to a text (`specs/Text.antt`). A reader that fails finds the replies to all lines
+//! that had ended written, and no more; after the other errors a beginning of the replies stands there
+//! (`specs/Script.antt`).
 //!
 //! [`joined_pieces`], [`first_piece`] and [`last_line`] are laws of the definitions themselves, and do
 //! nothing when called. The program stands on this crate.

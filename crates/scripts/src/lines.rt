@@ -90,7 +90,8 @@ impl Lines {
         ensures emits { Emits replies.old replies.new (answer (map program_tree programs.now)
             self.old.state (self.old.partial ++ bytes.now)).text result }
         ensures reading { OnOk result (self.new ≡ record {
-          state = (answer (map program_tree programs.now) self.old.state (self.old.partial ++ bytes.now)).state;
+          state = (answer (map program_tree programs.now)
+              self.old.state (self.old.partial ++ bytes.now)).state;
           partial = [];
         }) }
     {

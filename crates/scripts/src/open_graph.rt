@@ -231,7 +231,8 @@ impl OpenGraph {
 
 /// The program of this number, from 1.
 fn program_at(programs: &[Typed], number: u64) -> Option<&Typed>
-    ensures { option_map (λ p. program_tree p.now) result ≡ program_of (map program_tree programs.now) number }
+    ensures { option_map (λ p. program_tree p.now) result
+        ≡ program_of (map program_tree programs.now) number }
 {
     let place = usize::try_from(number.checked_sub(1)?).ok()?;
     programs.get(place)

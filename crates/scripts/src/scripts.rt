@@ -25,7 +25,8 @@ pub fn script<R: Feed, W: Drain>(
     reader: &mut R,
     writer: &mut W,
 ) -> Result<bool, ScriptError>
-    ensures { RunsScript (map program_tree programs.now) (input (R.given reader.old) (R.ended reader.old) (R.failures reader.old))
+    ensures { RunsScript (map program_tree programs.now)
+        (input (R.given reader.old) (R.ended reader.old) (R.failures reader.old))
         (input (R.given reader.new) (R.ended reader.new) (R.failures reader.new))
         (taken_by (W.taken writer.old) (W.failures writer.old))
         (taken_by (W.taken writer.new) (W.failures writer.new)) result }
@@ -65,7 +66,8 @@ fn read_to_end<R: Feed, W: Drain>(
     requires block { 0 < length block.old }
     requires kept { replies.old.kept ≡ [] }
     ensures same_writer { replies.new.writer ≡ replies.old.writer }
-    ensures runs { RunsScript (map program_tree programs.now) (input (R.given reader.old) (R.ended reader.old) (R.failures reader.old))
+    ensures runs { RunsScript (map program_tree programs.now)
+        (input (R.given reader.old) (R.ended reader.old) (R.failures reader.old))
         (input (R.given reader.new) (R.ended reader.new) (R.failures reader.new))
         (taken_by replies.old.taken replies.old.failures)
         (taken_by replies.new.taken replies.new.failures) result }

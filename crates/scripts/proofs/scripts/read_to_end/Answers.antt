@@ -1,7 +1,6 @@
 use Rattle.std.proofs.Common.{map, ◌≡◌, ◌∙◌, ◌++◌, ◌<◌, length, take, true, ap, arith, append-nil}
 use Rattle.std.proofs.lemmas.Bool.{or_right, and_from, eq-eqb, lt-ltb}
 use Rattle.typed_tree.specs.ProgramTree.{program_tree}
-use Rattle.scripts.specs.Replies.{has_faulted}
 use Rattle.scripts.specs.Script.{input}
 use Rattle.scripts.proofs.Running.{reading_unended, read_fails, lines_fail, reading_goes_on, flush_fails, finish_fails, last_flush_fails, script_ends, runs_failed}
 use Rattle.scripts.proofs.scripts.read_to_end.Goals as goal
@@ -68,5 +67,4 @@ returns-clause-runs g c =
     let nothing : g.R.Feed.given c.read.new.self ≡ g.R.Feed.given c.reads.reader = c.in-Ok.ensures.given ∙ ap (λ n. g.R.Feed.given c.reads.reader ++ take n c.read.new.buffer) c.if-count-eq0.true ∙ append-nil (g.R.Feed.given c.reads.reader) in
     let room : 0 < length c.read.new.buffer = omega (arith, c.requires.block, c.reads.auto.block, c.read.auto.buffer) in
     let at_end : g.R.Feed.ended c.read.new.self ≡ true = c.in-Ok.ensures.ended ∙ or_right _ _ (and_from _ _ (eq-eqb c.in-Ok.count 0 c.if-count-eq0.true) (lt-ltb 0 (length c.read.new.buffer) room)) in
-    let fault = c.has_faulted.ensures ∙ ap has_faulted c.in_ok-finish.ensures.state in
-    script_ends (map program_tree c.args.programs.now) old now c.args.replies.now c.reads.lines c.reads.replies c.reads.invariant new nothing c.finish.new.replies c.in_ok-finish.ensures.emits c.flush-2.new.self c.requires.kept c.in_ok-flush-2.ensures.empty at_end c.in_ok-flush-2.ensures.emits _ fault
+    script_ends (map program_tree c.args.programs.now) old now c.args.replies.now c.reads.lines c.reads.replies c.reads.invariant new nothing c.finish.new.replies c.in_ok-finish.ensures.emits c.flush-2.new.self c.requires.kept c.in_ok-flush-2.ensures.empty at_end c.in_ok-flush-2.ensures.emits _ c.in_ok-finish.ensures.state _ c.has_faulted.ensures

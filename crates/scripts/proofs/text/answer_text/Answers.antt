@@ -1,6 +1,5 @@
-use Rattle.std.proofs.Common.{◌∙◌, Ok, map, refl, ap}
+use Rattle.std.proofs.Common.{Ok, map, refl}
 use Rattle.typed_tree.specs.ProgramTree.{program_tree}
-use Rattle.scripts.specs.Replies.{has_faulted}
 use Rattle.scripts.specs.Script.{taken_by}
 use Rattle.scripts.proofs.Running.{IsReading, reading_starts, lines_fail, reading_goes_on, flush_fails, finish_fails, last_flush_fails, script_ends, runs_failed}
 use Rattle.scripts.proofs.TextLaws.{unread, read, runs_text}
@@ -51,7 +50,6 @@ returns-clause-runs g c =
     let text = c.args.text.now in
     let start : IsReading ps unread unread a c.args.lines.now a = rw c.requires.lines (reading_starts ps unread a c.requires.kept) in
     let all = reading_goes_on ps unread unread a c.args.lines.now a start (read text) text refl refl c.take.new.replies c.in_ok-take.ensures.emits c.take.new.self c.in_ok-take.ensures.reading c.flush.new.self c.in_ok-flush.ensures.emits c.in_ok-flush.ensures.empty in
-    let fault = c.has_faulted.ensures ∙ ap has_faulted c.in_ok-finish.ensures.state in
     let last = c.flush-2.new.self in
     runs_text ps text (taken_by a.taken a.failures) (taken_by last.taken last.failures) (Ok c.has_faulted.result)
-    (script_ends ps unread (read text) a c.take.new.self c.flush.new.self all (read text) refl c.finish.new.replies c.in_ok-finish.ensures.emits c.flush-2.new.self c.requires.kept c.in_ok-flush-2.ensures.empty refl c.in_ok-flush-2.ensures.emits _ fault)
+    (script_ends ps unread (read text) a c.take.new.self c.flush.new.self all (read text) refl c.finish.new.replies c.in_ok-finish.ensures.emits c.flush-2.new.self c.requires.kept c.in_ok-flush-2.ensures.empty refl c.in_ok-flush-2.ensures.emits _ c.in_ok-finish.ensures.state _ c.has_faulted.ensures)

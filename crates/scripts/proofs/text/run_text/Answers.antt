@@ -1,5 +1,4 @@
 use Rattle.std.proofs.Common.{◌∙◌, sym, ap, rules}
-use Rattle.scripts.proofs.Running.{nothing_done, runs_failed}
 use Rattle.scripts.proofs.TextLaws.{text_tied}
 use Rattle.scripts.proofs.text.run_text.Goals as goal
 
