@@ -16,6 +16,7 @@ pub struct Tree<V> {
     link: Link<V>,
 }
 
+// By hand: a derived drop would be written out, and proved again, in each function that lets a tree go.
 impl<V: Drop> Drop for Tree<V> {
     #[cycle(drops)]
     fn drop(self) {

@@ -13,12 +13,23 @@ const MAX_BYTES: usize = 5;
 
 /// A tail that is made element by element. A contract sees its base and its elements so far. One
 /// builder makes one tail after another and keeps its buffer.
-#[derive(Drop)]
 pub struct TailBuilder {
     base: Option<u32>,
     low: u64,
     len: usize,
     bytes: Vec<u8>,
+}
+
+// By hand, as that of a tail.
+impl Drop for TailBuilder {
+    fn drop(self) {
+        let TailBuilder {
+            base: _,
+            low: _,
+            len: _,
+            bytes: _,
+        } = self;
+    }
 }
 
 impl Model for TailBuilder {

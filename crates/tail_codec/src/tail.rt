@@ -22,6 +22,7 @@ pub struct Tail {
 
 const _: () = prove!(size_of::<Tail>() == 32);
 
+// By hand: a derived drop would be written out, and proved again, in each function that lets a tail go.
 impl Drop for Tail {
     fn drop(self) {
         let Tail {
