@@ -23,6 +23,7 @@ pub struct CTree {
 
 const _: () = prove!(size_of::<CTree>() == 64);
 
+// By hand: a derived drop would be written out, and proved again, in each function that lets a set go.
 impl Drop for CTree {
     fn drop(self) {
         let CTree {

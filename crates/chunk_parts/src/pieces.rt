@@ -19,6 +19,7 @@ pub struct Pieces {
     pub(crate) chunk_size: ChunkSize,
 }
 
+// By hand: a derived drop would be written out, and proved again, in each function that lets pieces go.
 impl Drop for Pieces {
     fn drop(self) {
         let Pieces {

@@ -15,6 +15,7 @@ pub(crate) struct Halves {
     pub(crate) second: Cut,
 }
 
+// By hand: a derived drop would be written out, and proved again, in each function that lets halves go.
 impl Drop for Halves {
     fn drop(self) {
         let Halves {
