@@ -68,15 +68,11 @@ fn read_block<'a, F: Feed>(feed: &mut F, buffer: &'a mut [u8; 4]) -> Result<&'a 
 
 #[test]
 fn reads(rt: HostRuntime) {
-    let cases: [(&[Turn], &[Result<&[u8], ErrorKind>]); 6] = [
+    let cases: [(&[Turn], &[Result<&[u8], ErrorKind>]); 5] = [
         (&[], &[Ok(b"abcd"), Ok(b"ef"), Ok(b""), Ok(b"")]),
         (
             &[Turn::Pass(1), Turn::Pass(1)],
             &[Ok(b"a"), Ok(b"b"), Ok(b"cdef"), Ok(b"")],
-        ),
-        (
-            &[Turn::Interrupt, Turn::Interrupt, Turn::Pass(3)],
-            &[Ok(b"abc"), Ok(b"def")],
         ),
         (
             &[Turn::Pass(2), Turn::Fail],
@@ -102,7 +98,7 @@ fn reads(rt: HostRuntime) {
 
 #[test]
 fn writes_all(rt: HostRuntime) -> Result<(), Fail> {
-    let cases: [(&[Turn], Result<(), ErrorKind>, &[u8]); 6] = [
+    let cases: [(&[Turn], Result<(), ErrorKind>, &[u8]); 5] = [
         (&[], Ok(()), b"abcd"),
         (
             &[Turn::Pass(1), Turn::Pass(1), Turn::Pass(1), Turn::Pass(1)],
@@ -113,11 +109,6 @@ fn writes_all(rt: HostRuntime) -> Result<(), Fail> {
             &[Turn::Pass(1), Turn::Interrupt, Turn::Pass(2)],
             Ok(()),
             b"abcd",
-        ),
-        (
-            &[Turn::Pass(2), Turn::Fail],
-            Err(ErrorKind::BrokenPipe),
-            b"ab",
         ),
         (
             &[Turn::Pass(3), Turn::Pass(0)],

@@ -84,29 +84,6 @@ const FIRST: &[u8] = b"vertices 4\nadd 3 0\nadd 0 1\nadd 0 1\ndel 2 2\ncommit\ne
 
 const FIRST_REPLIES: &[u8] = b"open 4\nversion 1\nedges 2\n0 1\n3 0\n";
 
-#[test]
-fn replies_in_any_pieces(rt: HostRuntime) -> Result<(), Fail> {
-    for most in 1..9 {
-        let reader = FakeReader {
-            bytes: FIRST,
-            most,
-            is_broken: false,
-        };
-        let mut writer = FakeWriter {
-            bytes: Vec::new(rt.alloc()),
-            most,
-            room: usize::MAX,
-        };
-        assert_eq!(rt;
-            run(rt.alloc(), reader, &mut writer),
-            Ok(false),
-            "at {most}"
-        );
-        assert_eq!(rt; writer.bytes.as_slice(), FIRST_REPLIES, "at {most}");
-    }
-    Ok(())
-}
-
 // The replies are exactly those to the lines that ended before the reader failed.
 #[test]
 fn ends_where_the_reader_fails(rt: HostRuntime) -> Result<(), Fail> {

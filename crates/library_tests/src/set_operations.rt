@@ -33,9 +33,16 @@ fn takes_lists(rt: HostRuntime) -> Result<(), Fail> {
     assert!(rt; is_made(rt.alloc(), 4, &more, &[0, 1, 2, 3, 4, 5])?);
     let fewer = remove_all(rt.alloc(), &set, &[0, 2, 4, 5])?;
     assert!(rt; is_made(rt.alloc(), 4, &fewer, &[1, 3])?);
-    let both = union(rt.alloc(), &more, &fewer)?;
-    assert!(rt; is_made(rt.alloc(), 4, &both, &[0, 1, 2, 3, 4, 5])?);
-    let rest = difference(rt.alloc(), &more, &fewer)?;
-    assert!(rt; is_made(rt.alloc(), 4, &rest, &[0, 2, 4, 5])?);
+    Ok(())
+}
+
+#[test]
+fn unites_and_subtracts(rt: HostRuntime) -> Result<(), Fail> {
+    let first = CTree::from_sorted(rt.alloc(), 4, &[2, 3, 5])?;
+    let second = CTree::from_sorted(rt.alloc(), 4, &[1, 3, 4])?;
+    let both = union(rt.alloc(), &first, &second)?;
+    assert!(rt; is_made(rt.alloc(), 4, &both, &[1, 2, 3, 4, 5])?);
+    let rest = difference(rt.alloc(), &first, &second)?;
+    assert!(rt; is_made(rt.alloc(), 4, &rest, &[2, 5])?);
     Ok(())
 }

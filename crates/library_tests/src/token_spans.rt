@@ -1,5 +1,5 @@
 //! Tokens with their spans.
-use Symbol::{Arrow, Assign, Equal, Less, LessOrEqual, MinAssign, Minus};
+use Symbol::{Assign, Equal, Less, LessOrEqual, MinAssign, Minus};
 use TokenKind::{Label, Name, Number, Text};
 use lexer::{Span, Symbol, Token, TokenKind, tokens};
 use std::test::Fail;
@@ -8,7 +8,7 @@ use std::test::Fail;
 fn reads_tokens(rt: HostRuntime) -> Result<(), Fail> {
     let symbol = TokenKind::Symbol;
     let most = Number(i64::MAX);
-    let table: [(&[u8], &[(TokenKind, usize, usize)]); 22] = [
+    let table: [(&[u8], &[(TokenKind, usize, usize)]); 21] = [
         (b"", &[]),
         (b"//\x00\x01\x7f\x80\xff#\"!\n", &[]),
         (b"// a\rb\nx", &[(Name, 7, 8)]),
@@ -28,7 +28,6 @@ fn reads_tokens(rt: HostRuntime) -> Result<(), Fail> {
             b"min==",
             &[(symbol(MinAssign), 0, 4), (symbol(Assign), 4, 5)],
         ),
-        (b"->", &[(symbol(Arrow), 0, 2)]),
         (
             b"- >",
             &[(symbol(Minus), 0, 1), (symbol(Symbol::Greater), 2, 3)],
@@ -53,28 +52,6 @@ fn reads_tokens(rt: HostRuntime) -> Result<(), Fail> {
             span: Span { start, end },
         });
         assert!(rt; found.iter().copied().eq(want), "the tokens of {text:?}");
-    }
-    Ok(())
-}
-
-#[test]
-fn reads_every_byte_in_a_comment(rt: HostRuntime) -> Result<(), Fail> {
-    for byte in 0..=255 {
-        let text = [b'/', b'/', byte, b'x', b'\n', b'y'];
-        let found = tokens(rt.alloc(), &text)?;
-        let names = if byte == b'\n' { 2 } else { 1 };
-        assert_eq!(rt; found.len(), names, "a comment with the byte {byte}");
-        let span = Span { start: 5, end: 6 };
-        assert_eq!(rt;
-            found.last().copied(),
-            Some(Token { kind: Name, span }),
-            "behind {byte}"
-        );
-        assert_eq!(rt;
-            span.slice_of(&text),
-            Some(b"y".as_slice()),
-            "behind {byte}"
-        );
     }
     Ok(())
 }

@@ -1,8 +1,8 @@
-//! Steps of versions whose history has little room, one by one and in one run.
+//! Steps of versions whose history has little room, in one run.
 use std::alloc::Global;
 use std::test::Fail;
 use tree_batch::Batch;
-use version_list::{Reply, Step, Ticket, VersionError, Versions, Which};
+use version_list::{Reply, Step, VersionError, Versions, Which};
 
 // A step, the commits with an empty batch.
 #[derive(Clone, Copy, Debug)]
@@ -22,40 +22,7 @@ impl Asked {
     }
 }
 
-// What the call for a step answers, an accepted one by its entry in the history.
-fn answer(alloc: Global, versions: &mut Versions, asked: Asked) -> Reply {
-    let result = match asked {
-        Asked::Commit => versions.commit(alloc, Batch::new(alloc)).map(|_| ()),
-        Asked::Acquire(which) => versions.acquire(which).map(|_| ()),
-        Asked::Release(number) => versions.release(Ticket { number }),
-    };
-    match result {
-        Ok(()) => versions
-            .history()
-            .last()
-            .map_or(Reply::Released, |done| done.reply),
-        Err(error) => Reply::Refused(error.number()),
-    }
-}
-
-fn replies_one_by_one(
-    alloc: Global,
-    room: u64,
-    asked: &[Asked],
-) -> Result<Vec<Reply>, VersionError> {
-    let mut versions = Versions::with_room(alloc, 2, 64, room)?;
-    let mut replies = Vec::new(alloc);
-    for step in asked {
-        replies.push(answer(alloc, &mut versions, *step))?;
-    }
-    Ok(replies)
-}
-
-fn replies_in_one_run(
-    alloc: Global,
-    room: u64,
-    asked: &[Asked],
-) -> Result<Vec<Reply>, VersionError> {
+fn replies_to(alloc: Global, room: u64, asked: &[Asked]) -> Result<Vec<Reply>, VersionError> {
     let mut versions = Versions::with_room(alloc, 2, 64, room)?;
     let mut steps = Vec::new(alloc);
     for step in asked {
@@ -127,10 +94,8 @@ fn tickets_hold_versions_and_room(rt: HostRuntime) -> Result<(), Fail> {
         ),
     ];
     for (room, asked, wants) in cases {
-        let replies = replies_one_by_one(rt.alloc(), room, asked)?;
-        assert_eq!(rt; replies.as_slice(), wants, "one by one at {room}");
-        let replies = replies_in_one_run(rt.alloc(), room, asked)?;
-        assert_eq!(rt; replies.as_slice(), wants, "in one run at {room}");
+        let replies = replies_to(rt.alloc(), room, asked)?;
+        assert_eq!(rt; replies.as_slice(), wants, "at {room}");
     }
     Ok(())
 }

@@ -38,20 +38,15 @@ fn words(alloc: Global, text: &[u8]) -> Result<Vec<u8>, Fail> {
 
 #[test]
 fn what_is_written_has_the_words_of_the_text(rt: HostRuntime) -> Result<(), Fail> {
-    let table: [&[u8]; 22] = [
+    let table: [&[u8]; 17] = [
         b"",
-        b"schedule:",
         b"const edges : edgeset{Edge}(Vertex, Vertex) = load(argv[1]);",
         b"const v : vertexset{Vertex} = edges.getVertices(); const d : vector{Vertex}(int) = edges.getOutDegrees();",
         b"const least : int = -9223372036854775807 - 1; const most : int = 9223372036854775807;",
-        b"const zeros : int = 000; const seven : int = 007;",
         b"const x : bool = not not true and false or -(-(1)) < 2;",
-        b"const x : bool = 1 == 2 or 1 != 2 and 1 <= 2 or (1 > 2) and 1 >= 2;",
         b"const x : int = 1 + 2 - 3 * 4 / 5 % 6 - (7 - 8);",
-        b"func f(v : Vertex) -> o : bool o = a[v] < 1; end",
         b"func f(src : Vertex, dst : Vertex) a[dst] min= src; a[dst] max= src; a[dst] += src; end",
         b"func f() min = max; min min= max; x max= 1; x += 2; end",
-        b"func main() if true end if true else end if true print 1; else print 2; end end",
         b"func main() #s1# x = 1; #_# if true #a# print 1; end #b# y[1] = 2; end",
         b"func main() while x < 3 x += 1; end for i in a : b + 1 for j in 0 : i print j; end end end",
         b"func main() var s : vertexset{Vertex} = new vertexset{Vertex}(0); s.addVertex((0)); end",
