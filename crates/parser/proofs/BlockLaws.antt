@@ -16,11 +16,11 @@ use Rattle.grammar.specs.declared.statement.Action.TheViews.{the_lemmas}
 use Rattle.expressions.proofs.Loops.{Goes, goes_end, goes_fails}
 use Rattle.grammar.specs.Trees.{BlockTree, ActionTree, While, For, If, IfElse, Then}
 use Rattle.grammar.specs.Views.{action_tree, rows_tree, block_tree, statement_of}
-use Rattle.grammar.specs.Reading.{expression, name_at, after_word, action_by, block_by, block_at, block_from, next_statement, statement_by, begins_statement, where_begins}
-use Rattle.parser.proofs.Steps.{bind_bind}
+use Rattle.grammar.specs.Reading.{expression, name_at, after_word, after_words, closed, else_by, action_by, block_by, block_at, block_from, next_statement, statement_by, begins_statement, where_begins}
+use Rattle.parser.proofs.Steps.{bind_bind, bind_same}
 use Rattle.parser.specs.declared.block.Opening.{Opening as Begun}
 use Rattle.parser.specs.declared.block.Opening.TheVariants as opening
-use Rattle.parser.specs.Blocks.{action_at, opening_of, opened_by}
+use Rattle.parser.specs.Blocks.{action_at, to_end_by, otherwise_by, opening_of, opened_by}
 
 pub rows_tree-items : {m : _} (rows : Row_of-Statement m) → rows_tree rows ≡ block_tree (items-the_row-Statement m rows)
 rows_tree-items end_of-Statement = refl
@@ -61,13 +61,32 @@ module _ (depth : ℕ) {start : List Word} {front : List (Option Identifier × A
       ∙ ap (λ r. r >>= λ b. Some (block_from b.0, b.1))
       (goes_fails goes (ap (λ b. where_begins b (statement_by (action_at depth) left)) begins ∙ ap (λ (r : Option ((Option Identifier × ActionTree) × List Word)). Some r) none))
 
+-- `end` behind a block, and the statement of the block
+closed_is : (block : Reader BlockTree) (ws : List Word) (action : BlockTree → ActionTree)
+    → (to_end_by block ws >>= λ b. Some (action b.0, b.1)) ≡ (block ws >>= λ b. closed (Reserved keyword.End ∷ []) (action b.0, b.1))
+closed_is block ws action =
+    bind_bind (block ws) _ _ _ (λ b. bind_bind (after_words (Reserved keyword.End ∷ []) b.1) _ _ _ (λ rest. refl))
+
+while_is : (block : Reader BlockTree) (at : ℕ) (ws : List Word) → action_by block (Opening keyword.While at ∷ ws) ≡ opened_by block opening.While at ws
+while_is block at ws = bind_same (expression ws) _ _ (λ e. sym (closed_is block e.1 (While at e.0)))
+
+else_is : (block : Reader BlockTree) (at : ℕ) (test : ExpressionTree) (body : BlockTree × List Word) (after : Option (List Word))
+    → else_by block at test body after ≡ otherwise_by block at test body after
+else_is block at test body None = refl
+else_is block at test body (Some after) = sym (closed_is block after (IfElse at test body.0))
+
+if_is : (block : Reader BlockTree) (at : ℕ) (ws : List Word) → action_by block (Opening keyword.If at ∷ ws) ≡ opened_by block opening.If at ws
+if_is block at ws =
+    bind_same (expression ws) _ _ (λ e.
+    bind_same (block e.1) _ _ (λ b. else_is block at e.0 b (after_word (Reserved keyword.Else) b.1)))
+
 for_is : (block : Reader BlockTree) (at : ℕ) (ws : List Word) → action_by block (Opening keyword.For at ∷ ws) ≡ opened_by block opening.For at ws
 for_is block at ws =
     sym (bind_bind (name_at ws) _ _ _ (λ n.
     bind_bind (after_word (Reserved keyword.In) n.1) _ _ _ (λ a.
     bind_bind (expression a) _ _ _ (λ e.
     bind_bind (after_word (Mark symbol.Colon) e.1) _ _ _ (λ c.
-    bind_bind (expression c) _ _ _ (λ f. refl))))))
+    bind_bind (expression c) _ _ _ (λ f. closed_is block f.1 (For at n.0 e.0 f.0)))))))
 
 same_opening : (o p : Begun) → Some o ≡ Some p → o ≡ p
 same_opening o p is = cc is
@@ -76,9 +95,9 @@ same_opening o p is = cc is
 pub opened_is : (block : Reader BlockTree) (word : Keyword) (at : ℕ) (opening : Begun) (ws : List Word) → opening_of word ≡ Some opening
     → action_by block (keyword_word word at ∷ ws) ≡ opened_by block opening at ws
 opened_is block keyword.Var at o ws is = ap (λ o. opened_by block o at ws) (same_opening opening.Var o is)
-opened_is block keyword.While at o ws is = ap (λ o. opened_by block o at ws) (same_opening opening.While o is)
+opened_is block keyword.While at o ws is = while_is block at ws ∙ ap (λ o. opened_by block o at ws) (same_opening opening.While o is)
 opened_is block keyword.For at o ws is = for_is block at ws ∙ ap (λ o. opened_by block o at ws) (same_opening opening.For o is)
-opened_is block keyword.If at o ws is = ap (λ o. opened_by block o at ws) (same_opening opening.If o is)
+opened_is block keyword.If at o ws is = if_is block at ws ∙ ap (λ o. opened_by block o at ws) (same_opening opening.If o is)
 opened_is block keyword.Print at o ws is = ap (λ o. opened_by block o at ws) (same_opening opening.Print o is)
 opened_is block _ at o ws is = absurd (false≢true (ap is_some is))
 

@@ -1,8 +1,9 @@
 -- Steps of a reader that are taken together, and one by one.
-use Rattle.std.proofs.Common.{◌≡◌, refl, sym, ◌∙◌, List, [], ◌∷◌, ◌++◌, Option, Some, None}
+use Rattle.std.proofs.Common.{◌≡◌, refl, sym, ap, ◌∙◌, List, [], ◌∷◌, ◌++◌, Option, Some, None}
 use Rattle.expressions.specs.Words.{Word}
 use Rattle.expressions.specs.Reading.{◌>>=◌}
-use Rattle.grammar.specs.Reading.{after_word, after_words}
+use Rattle.grammar.specs.Reading.{after_word, after_words, closed}
+use Rattle.grammar.proofs.WordLaws.{bind_some}
 
 -- a step of two steps, and the next one
 pub bind_bind : {A B C : Type 0} (read : Option A) (step : A → Option B) (next : B → Option C) (both : A → Option C)
@@ -24,3 +25,17 @@ after_words-append (word ∷ front) last ws next =
     ∙ bind_same (after_word word ws) (λ a. after_words (front ++ last ∷ []) a >>= next) (λ a. after_words front a >>= λ rest. after_word last rest >>= next)
     (λ a. after_words-append front last a next)
     ∙ sym (bind_bind (after_word word ws) (after_words front) (λ rest. after_word last rest >>= next) (λ a. after_words front a >>= λ rest. after_word last rest >>= next) (λ a. refl))
+
+-- words behind those that were found
+after_words-found : (front back ws rest : List Word) → after_words front ws ≡ Some rest → after_words (front ++ back) ws ≡ after_words back rest
+after_words-found [] back ws rest is = ap (after_words back) (same_rest ws rest is)
+  where
+    same_rest : (ws rest : List Word) → ◌≡◌ {A = Option (List Word)} (Some ws) (Some rest) → ws ≡ rest
+    same_rest ws rest is = cc is
+after_words-found (word ∷ front) back ws rest is =
+    let found = bind_some (after_word word ws) (after_words front) rest is in
+    ap (λ r. r >>= after_words (front ++ back)) found.1 ∙ after_words-found front back found.0 rest found.2
+
+pub closed-found : {A : Type 0} (front back : List Word) (tree : A) (ws rest : List Word) → after_words front ws ≡ Some rest
+    → closed (front ++ back) (tree, ws) ≡ closed back (tree, rest)
+closed-found front back tree ws rest is = ap (λ r. r >>= λ behind. Some (tree, behind)) (after_words-found front back ws rest is)

@@ -1,13 +1,13 @@
 -- What statements are read by their first word, and blocks by how deep they may stand in each other.
-use Rattle.std.specs.Prelude.{ℕ, zero, suc, [], ◌∷◌, Option, Some, None}
+use Rattle.std.specs.Prelude.{ℕ, zero, suc, List, [], ◌∷◌, Option, Some, None}
 use Rattle.lexer.specs.declared.keyword.Keyword.{Keyword}
 use Rattle.lexer.specs.declared.keyword.Keyword.TheVariants as keyword
 use Rattle.lexer.specs.declared.symbol.Symbol.TheVariants as symbol
-use Rattle.expressions.specs.Words.{Identifier, Reserved, Mark}
+use Rattle.expressions.specs.Words.{Word, Identifier, Reserved, Mark}
 use Rattle.expressions.specs.Trees.{ExpressionTree}
 use Rattle.expressions.specs.Reading.{Reader, ◌>>=◌}
-use Rattle.grammar.specs.Trees.{ActionTree, Declare, While, For, Print, BlockTree}
-use Rattle.grammar.specs.Reading.{expression, typed_at, assigned_at, ended_at, name_at, after_word, closed, else_by, no_block, block_at, action_by}
+use Rattle.grammar.specs.Trees.{ActionTree, Declare, While, For, If, IfElse, Print, BlockTree}
+use Rattle.grammar.specs.Reading.{expression, typed_at, assigned_at, ended_at, name_at, after_word, closed, no_block, block_at, action_by}
 use Rattle.parser.specs.declared.block.Opening.{Opening}
 use Rattle.parser.specs.declared.block.Opening.TheVariants as opening
 
@@ -42,11 +42,20 @@ range_at ws =
     name_at ws >>= λ n. after_word (Reserved keyword.In) n.1 >>= λ a. expression a >>= λ e.
     after_word (Mark symbol.Colon) e.1 >>= λ c. expression c >>= λ f. Some ((n.0, e.0, f.0), f.1)
 
+-- a block and `end`
+abbrev pub to_end_by : Reader BlockTree → Reader BlockTree
+to_end_by block ws = block ws >>= closed (Reserved keyword.End ∷ [])
+
+-- what stands behind the body of an `if`
+abbrev pub otherwise_by : Reader BlockTree → ℕ → ExpressionTree → BlockTree × List Word → Option (List Word) → Option (ActionTree × List Word)
+otherwise_by block at test body None = closed (Reserved keyword.End ∷ []) (If at test body.0, body.1)
+otherwise_by block at test body (Some after) = to_end_by block after >>= λ b. Some (IfElse at test body.0 b.0, b.1)
+
 -- what stands behind that keyword
 abbrev pub opened_by : Reader BlockTree → Opening → ℕ → Reader ActionTree
 opened_by block opening.Var at ws = declared_at at ws
-opened_by block opening.While at ws = expression ws >>= λ e. block e.1 >>= λ b. closed (Reserved keyword.End ∷ []) (While at e.0 b.0, b.1)
+opened_by block opening.While at ws = expression ws >>= λ e. to_end_by block e.1 >>= λ b. Some (While at e.0 b.0, b.1)
 opened_by block opening.For at ws =
-    range_at ws >>= λ r. block r.1 >>= λ b. closed (Reserved keyword.End ∷ []) (For at r.0.0 r.0.1 r.0.2 b.0, b.1)
-opened_by block opening.If at ws = expression ws >>= λ e. block e.1 >>= λ b. else_by block at e.0 b (after_word (Reserved keyword.Else) b.1)
+    range_at ws >>= λ r. to_end_by block r.1 >>= λ b. Some (For at r.0.0 r.0.1 r.0.2 b.0, b.1)
+opened_by block opening.If at ws = expression ws >>= λ e. block e.1 >>= λ b. otherwise_by block at e.0 b (after_word (Reserved keyword.Else) b.1)
 opened_by block opening.Print at ws = printed_at at ws

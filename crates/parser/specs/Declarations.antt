@@ -3,7 +3,7 @@ use Rattle.std.specs.Prelude.{ℕ, List, [], ◌∷◌, Option, Some, None}
 use Rattle.lexer.specs.declared.keyword.Keyword.{Keyword}
 use Rattle.lexer.specs.declared.keyword.Keyword.TheVariants as keyword
 use Rattle.lexer.specs.declared.symbol.Symbol.TheVariants as symbol
-use Rattle.expressions.specs.Words.{Word, Reserved, Mark}
+use Rattle.expressions.specs.Words.{Word, Identifier, Reserved, Mark}
 use Rattle.expressions.specs.Reading.{Reader, ◌>>=◌}
 use Rattle.grammar.specs.Trees.{ParameterTree, DeclarationTree, Constant, Function}
 use Rattle.grammar.specs.Reading.{block, typed_at, assigned_at, name_at, parameters_at, result_by, after_word, closed, each_at, next_parameter}
@@ -20,11 +20,16 @@ beginning_of _ = None
 abbrev pub constant_at : ℕ → Reader DeclarationTree
 constant_at at ws = typed_at ws >>= λ n. assigned_at n.1 >>= λ i. Some (Constant at n.0 i.0, i.1)
 
+-- a name, the parameters and the result
+abbrev pub signature_at : Reader (Identifier × List ParameterTree × Option ParameterTree)
+signature_at ws =
+    name_at ws >>= λ n. parameters_at n.1 >>= λ p. result_by p.1 (after_word (Mark symbol.Arrow) p.1) >>= λ r.
+    Some ((n.0, p.0, r.0), r.1)
+
 -- what stands behind `func`
 abbrev pub function_at : ℕ → Reader DeclarationTree
 function_at at ws =
-    name_at ws >>= λ n. parameters_at n.1 >>= λ p. result_by p.1 (after_word (Mark symbol.Arrow) p.1) >>= λ r.
-    block r.1 >>= λ b. closed (Reserved keyword.End ∷ []) (Function at n.0 p.0 r.0 b.0, b.1)
+    signature_at ws >>= λ s. block s.1 >>= λ b. closed (Reserved keyword.End ∷ []) (Function at s.0.0 s.0.1 s.0.2 b.0, b.1)
 
 abbrev pub declared_by : Beginning → ℕ → Reader DeclarationTree
 declared_by beginning.Constant at ws = constant_at at ws

@@ -65,6 +65,10 @@ modified_by name ws =
     ends_at ws >>= λ e. after_words (Mark symbol.Dot ∷ Reserved keyword.ApplyModified ∷ []) e.1 >>= λ a.
     name_pair_at a >>= λ p. Some (ApplyModified name e.0 p.0.0 p.0.1, p.1)
 
+-- what stands behind `filter`
+abbrev pub filter_at : Identifier → Reader InitialTree
+filter_at set ws = argument_at ws >>= λ n. Some (Filter set n.0, n.1)
+
 -- an initial value that is no expression, behind its name
 abbrev pub call_by : Identifier → List Word → Option Keyword → Option (InitialTree × List Word)
 call_by name ws (Some keyword.GetVertices) =
@@ -72,7 +76,7 @@ call_by name ws (Some keyword.GetVertices) =
 call_by name ws (Some keyword.GetOutDegrees) =
     closed (Mark symbol.Dot ∷ Reserved keyword.GetOutDegrees ∷ in_parentheses []) (OutDegrees name, ws)
 call_by name ws (Some keyword.Filter) =
-    after_words (Mark symbol.Dot ∷ Reserved keyword.Filter ∷ []) ws >>= λ a. argument_at a >>= λ n. Some (Filter name n.0, n.1)
+    after_words (Mark symbol.Dot ∷ Reserved keyword.Filter ∷ []) ws >>= filter_at name
 call_by name ws _ = modified_by name ws
 
 -- what stands behind `new`

@@ -1,9 +1,11 @@
 -- What vectors are seen as.
-use Rattle.std.specs.Prelude.{List, map}
+use Rattle.std.specs.Prelude.{List, Option, map, option_map}
 use Rattle.std.specs.Global.{Vec}
+use Rattle.expressions.specs.Words.{Identifier}
+use Rattle.grammar.specs.declared.declaration.Parameter.{Parameter}
 use Rattle.grammar.specs.declared.statement.Statement.{Statement}
-use Rattle.grammar.specs.Trees.{BlockTree}
-use Rattle.grammar.specs.Views.{block_tree}
+use Rattle.grammar.specs.Trees.{BlockTree, ParameterTree}
+use Rattle.grammar.specs.Views.{block_tree, parameter_tree}
 
 -- what each is seen as, in order
 abbrev pub each : {T L : Type 0} → (T → L) → Vec T → List L
@@ -12,3 +14,7 @@ each view v = map view v.items
 -- the block of the statements
 abbrev pub statements_tree : Vec Statement → BlockTree
 statements_tree v = block_tree v.items
+
+-- a name, the parameters and the result
+abbrev pub signature_tree : Identifier × Vec Parameter × Option Parameter → Identifier × List ParameterTree × Option ParameterTree
+signature_tree s = (s.0, each parameter_tree s.1, option_map parameter_tree s.2)

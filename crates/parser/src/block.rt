@@ -3,9 +3,9 @@ ghost use Rattle.std.specs.Prelude.{◌≡◌, ◌<◌, ◌≤◌, length, IfOk}
 ghost use Rattle.expressions.specs.Words.{Reserved};
 ghost use Rattle.expressions.specs.Outcome.{words, Gives};
 ghost use Rattle.grammar.specs.Trees.{While, For, If, IfElse};
-ghost use Rattle.grammar.specs.Reading.{block_at, statement_by, begins_statement as begins_statement_at, else_by, after_word};
+ghost use Rattle.grammar.specs.Reading.{block_at, statement_by, begins_statement as begins_statement_at, after_word};
 ghost use Rattle.grammar.specs.Views.{action_tree, statement_of, block_tree};
-ghost use Rattle.parser.specs.Blocks.{action_at, block_in, declared_at, printed_at, range_at, opening_of, opened_by};
+ghost use Rattle.parser.specs.Blocks.{action_at, block_in, declared_at, printed_at, range_at, to_end_by, otherwise_by, opening_of, opened_by};
 ghost use Rattle.parser.specs.Views.{statements_tree};
 
 use crate::front::{after_reserved, expect_mark, expect_reserved, expression, label, name};
@@ -183,8 +183,7 @@ fn while_loop(
     ensures shorter { IfOk result (λ x. length (words x.1) ≤ length (words cursor.entry)) }
 {
     let (test, rest) = expression(alloc, cursor)?;
-    let (body, end) = inner(alloc, rest, depth)?;
-    let behind = expect_reserved(end, Keyword::End)?;
+    let (body, behind) = to_end(alloc, rest, depth)?;
     Ok((while_action(at, test, body), behind))
 }
 
@@ -206,8 +205,7 @@ fn for_loop(
     ensures shorter { IfOk result (λ x. length (words x.1) ≤ length (words cursor.entry)) }
 {
     let ((name, first, limit), rest) = range(alloc, cursor)?;
-    let (body, end) = inner(alloc, rest, depth)?;
-    let behind = expect_reserved(end, Keyword::End)?;
+    let (body, behind) = to_end(alloc, rest, depth)?;
     Ok((for_action(at, name, first, limit, body), behind))
 }
 
@@ -272,7 +270,7 @@ fn otherwise(
     depth: u32,
 ) -> Result<(Action, Cursor<'_>), SyntaxError>
     ensures reads { Gives action_tree result
-        (else_by (block_in depth) at test (block_tree body.items, words cursor.entry) (after_word (Reserved Keyword.Else) (words cursor.entry))) }
+        (otherwise_by (block_in depth) at test (block_tree body.items, words cursor.entry) (after_word (Reserved Keyword.Else) (words cursor.entry))) }
     ensures shorter { IfOk result (λ x. length (words x.1) ≤ length (words cursor.entry)) }
 {
     match after_reserved(cursor, Keyword::Else) {
@@ -281,8 +279,7 @@ fn otherwise(
             Ok((if_action(at, test, body), behind))
         }
         Some(after) => {
-            let (otherwise, end) = inner(alloc, after, depth)?;
-            let behind = expect_reserved(end, Keyword::End)?;
+            let (otherwise, behind) = to_end(alloc, after, depth)?;
             Ok((if_else_action(at, test, body, otherwise), behind))
         }
     }
@@ -308,6 +305,21 @@ fn if_else_action(
         body,
         otherwise,
     }
+}
+
+/// A block in a statement and `end`, and the place behind them.
+#[cycle(read)]
+fn to_end(
+    alloc: Global,
+    cursor: Cursor<'_>,
+    depth: u32,
+) -> Result<(Vec<Statement>, Cursor<'_>), SyntaxError>
+    ensures reads { Gives statements_tree result (to_end_by (block_in depth) (words cursor.entry)) }
+    ensures shorter { IfOk result (λ x. length (words x.1) ≤ length (words cursor.entry)) }
+{
+    let (body, end) = inner(alloc, cursor, depth)?;
+    let behind = expect_reserved(end, Keyword::End)?;
+    Ok((body, behind))
 }
 
 /// A block in a statement, where one more may stand in the others.

@@ -4,14 +4,14 @@ ghost use Rattle.expressions.specs.Words.{Mark};
 ghost use Rattle.expressions.specs.Outcome.{words, Gives};
 ghost use Rattle.grammar.specs.Reading.{after_word, each_at, parameters_at, result_by, begins_declaration as begins_declaration_at, next_declaration, declaration_by, block as block_at_limit};
 ghost use Rattle.grammar.specs.Views.{parameter_tree, declaration_tree};
-ghost use Rattle.parser.specs.Declarations.{beginning_of, declared_by, constant_at, function_at, parameters_from};
-ghost use Rattle.parser.specs.Views.{each, statements_tree};
+ghost use Rattle.parser.specs.Declarations.{beginning_of, declared_by, constant_at, signature_at, function_at, parameters_from};
+ghost use Rattle.parser.specs.Views.{each, signature_tree, statements_tree};
 
 use crate::block::block;
 use crate::front::{after_mark, expect_mark, expect_reserved, name};
 use crate::initial::assigned;
 use crate::types::typed;
-use expressions::{Cursor, SyntaxError};
+use expressions::{Cursor, Name, SyntaxError};
 use grammar::{Declaration, NESTING_LIMIT, Parameter, Statement};
 use lexer::{Keyword, Symbol, TokenKind};
 use std::alloc::Global;
@@ -125,9 +125,7 @@ fn function(
     ensures reads { Gives declaration_tree result (function_at at (words cursor.entry)) }
     ensures shorter { IfOk result (λ x. length (words x.1) ≤ length (words cursor.entry)) }
 {
-    let (name, open) = name(alloc, cursor)?;
-    let (parameters, arrow) = parameters(alloc, open)?;
-    let (result, rest) = result(alloc, arrow)?;
+    let ((name, parameters, result), rest) = signature(alloc, cursor)?;
     let (body, end) = body(alloc, rest)?;
     let behind = expect_reserved(end, Keyword::End)?;
     let declaration = Declaration::Function {
@@ -138,6 +136,20 @@ fn function(
         body,
     };
     Ok((declaration, behind))
+}
+
+/// The name of a function, its parameters and its result, and the place behind them.
+fn signature(
+    alloc: Global,
+    cursor: Cursor<'_>,
+) -> Result<((Name, Vec<Parameter>, Option<Parameter>), Cursor<'_>), SyntaxError>
+    ensures reads { Gives signature_tree result (signature_at (words cursor.entry)) }
+    ensures shorter { IfOk result (λ x. length (words x.1) ≤ length (words cursor.entry)) }
+{
+    let (name, open) = name(alloc, cursor)?;
+    let (parameters, arrow) = parameters(alloc, open)?;
+    let (result, behind) = result(alloc, arrow)?;
+    Ok(((name, parameters, result), behind))
 }
 
 /// The statements of a function. Within them no more stands in each other than may be open at once.

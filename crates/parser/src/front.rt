@@ -1,9 +1,11 @@
 //! What stands at the front of the tokens that are left.
-ghost use Rattle.std.specs.Prelude.{◌≡◌, ◌<◌, ◌≤◌, ℕ, [], ◌∷◌, length, Some, option_map, IfSome, IfOk};
+ghost use Rattle.std.specs.Prelude.{◌≡◌, ◌<◌, ◌≤◌, ℕ, [], ◌∷◌, length, map, Some, option_map, IsTrue, IfSome, IfOk};
+ghost use Rattle.std.specs.List.{list_all};
 ghost use Rattle.expressions.specs.Words.{Reserved, Mark, keyword_word};
 ghost use Rattle.expressions.specs.Outcome.{words, Gives, Passes};
-ghost use Rattle.grammar.specs.Reading.{after_word, after_words, in_braces as braced, in_parentheses as parenthesized, name_at, number_at, text_at, label_at, argument_at, expression as expression_at_limit};
+ghost use Rattle.grammar.specs.Reading.{after_word, after_words, name_at, number_at, text_at, label_at, argument_at, expression as expression_at_limit};
 ghost use Rattle.grammar.specs.Views.{text_of};
+ghost use Rattle.parser.specs.Plain.{is_plain, plain_word};
 
 use expressions::{Cursor, Expression, Name, SyntaxError, read_expression};
 use grammar::{NESTING_LIMIT, Text};
@@ -63,34 +65,34 @@ pub(crate) fn expect_reserved(
     }
 }
 
-/// The place behind a dot and a keyword that opens nothing.
-pub(crate) fn expect_method(cursor: Cursor<'_>, keyword: Keyword) -> Result<Cursor<'_>, SyntaxError>
-    requires { (at : ℕ) → keyword_word keyword at ≡ Reserved keyword }
-    ensures passes { Passes result (after_words (Mark Symbol.Dot ∷ Reserved keyword ∷ []) (words cursor.entry)) }
+/// The place behind these tokens, or `Unexpected` at the first that is another one. Each is a symbol or a keyword
+/// that opens nothing.
+pub(crate) fn expect_all<'a>(
+    cursor: Cursor<'a>,
+    tokens: &[TokenKind],
+) -> Result<Cursor<'a>, SyntaxError>
+    requires { IsTrue (list_all is_plain tokens.now) }
+    ensures passes { Passes result (after_words (map plain_word tokens.now) (words cursor.entry)) }
     ensures shorter { IfOk result (λ after. length (words after) ≤ length (words cursor.entry)) }
 {
-    let method = expect_mark(cursor, Symbol::Dot)?;
-    expect_reserved(method, keyword)
+    let Some((token, others)) = tokens.split_first() else {
+        return Ok(cursor);
+    };
+    let after = expect(cursor, *token)?;
+    expect_all(after, others)
 }
 
-/// The place behind a keyword in braces.
-pub(crate) fn in_braces(cursor: Cursor<'_>, keyword: Keyword) -> Result<Cursor<'_>, SyntaxError>
-    requires { (at : ℕ) → keyword_word keyword at ≡ Reserved keyword }
-    ensures passes { Passes result (after_words (braced (Reserved keyword)) (words cursor.entry)) }
-    ensures shorter { IfOk result (λ after. length (words after) ≤ length (words cursor.entry)) }
+/// The place behind a token, or `Unexpected` at the next one, if that is another one.
+fn expect(cursor: Cursor<'_>, token: TokenKind) -> Result<Cursor<'_>, SyntaxError>
+    requires { IsTrue (is_plain token) }
+    ensures passes { Passes result (after_word (plain_word token) (words cursor.entry)) }
+    ensures shorter { IfOk result (λ after. length (words after) < length (words cursor.entry)) }
 {
-    let inside = expect_mark(cursor, Symbol::OpenBrace)?;
-    let close = expect_reserved(inside, keyword)?;
-    expect_mark(close, Symbol::CloseBrace)
-}
-
-/// The place behind `()`.
-pub(crate) fn no_arguments(cursor: Cursor<'_>) -> Result<Cursor<'_>, SyntaxError>
-    ensures passes { Passes result (after_words (parenthesized []) (words cursor.entry)) }
-    ensures shorter { IfOk result (λ after. length (words after) ≤ length (words cursor.entry)) }
-{
-    let close = expect_mark(cursor, Symbol::OpenParenthesis)?;
-    expect_mark(close, Symbol::CloseParenthesis)
+    match token {
+        TokenKind::Keyword(keyword) => expect_reserved(cursor, keyword),
+        TokenKind::Symbol(symbol) => expect_mark(cursor, symbol),
+        _ => Err(cursor.unexpected()),
+    }
 }
 
 /// The name at the front, and the place behind it.

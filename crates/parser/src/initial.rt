@@ -1,19 +1,53 @@
 //! Initial and assigned values.
-ghost use Rattle.std.specs.Prelude.{◌≡◌, ◌≤◌, ℕ, List, ◌∷◌, length, IfOk};
+ghost use Rattle.std.specs.Prelude.{◌≡◌, ◌≤◌, ℕ, List, [], ◌∷◌, length, IfOk};
 ghost use Rattle.expressions.specs.Words.{Word, Reserved, keyword_word};
 ghost use Rattle.expressions.specs.Outcome.{words, Gives};
-ghost use Rattle.grammar.specs.Reading.{end_at, ends_at, method_at, initial_at, value_at, assigned_at};
+ghost use Rattle.grammar.specs.Reading.{in_parentheses, closed, end_at, ends_at, method_at, initial_at, value_at, assigned_at};
 ghost use Rattle.grammar.specs.Views.{initial_tree, ends_tree};
-ghost use Rattle.parser.specs.Fronts.{begins_call as begins_call_at, is_called, called_word, name_pair_at, modified_by, call_by, new_set_at, load_at};
+ghost use Rattle.parser.specs.Fronts.{begins_call as begins_call_at, is_called, called_word, name_pair_at, modified_by, filter_at, call_by, new_set_at, load_at};
 
 use crate::front::{
-    after_mark, after_method, after_reserved, argument, expect_mark, expect_method,
-    expect_reserved, expression, in_braces, name, no_arguments, number,
+    after_mark, after_method, after_reserved, argument, expect_all, expect_mark, expression, name,
+    number,
 };
 use expressions::{Cursor, Name, SyntaxError};
 use grammar::{Ends, Initial};
 use lexer::{Keyword, Symbol, TokenKind};
 use std::alloc::Global;
+
+/// `vertexset{Vertex}(`
+static OPEN_SET: [TokenKind; 5] = [
+    TokenKind::Keyword(Keyword::VertexSet),
+    TokenKind::Symbol(Symbol::OpenBrace),
+    TokenKind::Keyword(Keyword::Vertex),
+    TokenKind::Symbol(Symbol::CloseBrace),
+    TokenKind::Symbol(Symbol::OpenParenthesis),
+];
+
+/// `(argv[`
+static OPEN_ARGUMENT: [TokenKind; 3] = [
+    TokenKind::Symbol(Symbol::OpenParenthesis),
+    TokenKind::Keyword(Keyword::Argv),
+    TokenKind::Symbol(Symbol::OpenBracket),
+];
+
+/// `])`
+static CLOSE_ARGUMENT: [TokenKind; 2] = [
+    TokenKind::Symbol(Symbol::CloseBracket),
+    TokenKind::Symbol(Symbol::CloseParenthesis),
+];
+
+/// `.applyModified`
+static APPLY_MODIFIED: [TokenKind; 2] = [
+    TokenKind::Symbol(Symbol::Dot),
+    TokenKind::Keyword(Keyword::ApplyModified),
+];
+
+/// `()`
+static NO_ARGUMENTS: [TokenKind; 2] = [
+    TokenKind::Symbol(Symbol::OpenParenthesis),
+    TokenKind::Symbol(Symbol::CloseParenthesis),
+];
 
 /// `=`, the initial value and `;`, and the place behind them.
 pub(crate) fn assigned(
@@ -92,9 +126,7 @@ fn new_set(cursor: Cursor<'_>) -> Result<(Initial, Cursor<'_>), SyntaxError>
     ensures reads { Gives initial_tree result (new_set_at (words cursor.entry)) }
     ensures shorter { IfOk result (λ x. length (words x.1) ≤ length (words cursor.entry)) }
 {
-    let brace = expect_reserved(cursor, Keyword::VertexSet)?;
-    let open = in_braces(brace, Keyword::Vertex)?;
-    let inside = expect_mark(open, Symbol::OpenParenthesis)?;
+    let inside = expect_all(cursor, &OPEN_SET)?;
     let (size, close) = number(inside)?;
     let behind = expect_mark(close, Symbol::CloseParenthesis)?;
     Ok((Initial::NewSet(size), behind))
@@ -105,12 +137,9 @@ fn load(cursor: Cursor<'_>) -> Result<(Initial, Cursor<'_>), SyntaxError>
     ensures reads { Gives initial_tree result (load_at (words cursor.entry)) }
     ensures shorter { IfOk result (λ x. length (words x.1) ≤ length (words cursor.entry)) }
 {
-    let open = expect_mark(cursor, Symbol::OpenParenthesis)?;
-    let bracket = expect_reserved(open, Keyword::Argv)?;
-    let inside = expect_mark(bracket, Symbol::OpenBracket)?;
+    let inside = expect_all(cursor, &OPEN_ARGUMENT)?;
     let (argument, close) = number(inside)?;
-    let last = expect_mark(close, Symbol::CloseBracket)?;
-    let behind = expect_mark(last, Symbol::CloseParenthesis)?;
+    let behind = expect_all(close, &CLOSE_ARGUMENT)?;
     Ok((Initial::Load(argument), behind))
 }
 
@@ -165,18 +194,40 @@ fn call(alloc: Global, name: Name, cursor: Cursor<'_>) -> Result<(Initial, Curso
     ensures shorter { IfOk result (λ x. length (words x.1) ≤ length (words cursor.entry)) }
 {
     if let Some(after) = after_method(cursor, Keyword::GetVertices) {
-        let behind = no_arguments(after)?;
-        return Ok((Initial::Vertices(name), behind));
+        return without_arguments(Initial::Vertices(name), after);
     }
     if let Some(after) = after_method(cursor, Keyword::GetOutDegrees) {
-        let behind = no_arguments(after)?;
-        return Ok((Initial::OutDegrees(name), behind));
+        return without_arguments(Initial::OutDegrees(name), after);
     }
     if let Some(after) = after_method(cursor, Keyword::Filter) {
-        let (test, behind) = argument(alloc, after)?;
-        return Ok((Initial::Filter { set: name, test }, behind));
+        return filter(alloc, name, after);
     }
     modified(alloc, name, cursor)
+}
+
+/// A call that has no arguments, and the place behind its `()`.
+fn without_arguments(
+    call: Initial,
+    cursor: Cursor<'_>,
+) -> Result<(Initial, Cursor<'_>), SyntaxError>
+    ensures reads { Gives initial_tree result (closed (in_parentheses []) (initial_tree call, words cursor.entry)) }
+    ensures shorter { IfOk result (λ x. length (words x.1) ≤ length (words cursor.entry)) }
+{
+    let behind = expect_all(cursor, &NO_ARGUMENTS)?;
+    Ok((call, behind))
+}
+
+/// The test of a filter in parentheses.
+fn filter(
+    alloc: Global,
+    set: Name,
+    cursor: Cursor<'_>,
+) -> Result<(Initial, Cursor<'_>), SyntaxError>
+    ensures reads { Gives initial_tree result (filter_at set (words cursor.entry)) }
+    ensures shorter { IfOk result (λ x. length (words x.1) ≤ length (words cursor.entry)) }
+{
+    let (test, behind) = argument(alloc, cursor)?;
+    Ok((Initial::Filter { set, test }, behind))
 }
 
 /// The ends and `.applyModified(function, vector)` behind a name.
@@ -189,7 +240,7 @@ fn modified(
     ensures shorter { IfOk result (λ x. length (words x.1) ≤ length (words cursor.entry)) }
 {
     let (ends, dot) = ends(alloc, cursor)?;
-    let open = expect_method(dot, Keyword::ApplyModified)?;
+    let open = expect_all(dot, &APPLY_MODIFIED)?;
     let ((function, vector), behind) = name_pair(alloc, open)?;
     let initial = Initial::ApplyModified {
         edges,

@@ -1,18 +1,18 @@
 //! A whole source.
 ghost use Rattle.std.specs.Prelude.{◌≡◌, ℕ, List, Result, length, IfOk};
-ghost use Rattle.expressions.specs.Outcome.{words, Passes};
-ghost use Rattle.grammar.specs.Reading.{after_words, elements as elements_words, source_at};
+ghost use Rattle.expressions.specs.Outcome.{words};
+ghost use Rattle.grammar.specs.Reading.{source_at};
 ghost use Rattle.grammar.specs.Trees.{SourceTree};
 ghost use Rattle.parser.specs.declared.error.ParseError.{ParseError};
 ghost use Rattle.parser.specs.Outcome.{Answers, Parses, GivesSource, tree_or_error, without_place};
 
 use crate::declaration::declarations;
 use crate::error::ParseError;
-use crate::front::expect_reserved;
+use crate::front::expect_all;
 use crate::schedule::schedule;
 use expressions::{Cursor, SyntaxError};
 use grammar::{Source, first_too_deep};
-use lexer::{Keyword, tokens};
+use lexer::{Keyword, TokenKind, tokens};
 use std::alloc::Global;
 
 /// The source that a text is. The text may have any bytes.
@@ -45,12 +45,22 @@ pub fn one_answer()
         → without_place answer ≡ without_place other }
 {}
 
+/// With what each source begins.
+static ELEMENTS: [TokenKind; 6] = [
+    TokenKind::Keyword(Keyword::Element),
+    TokenKind::Keyword(Keyword::Vertex),
+    TokenKind::Keyword(Keyword::End),
+    TokenKind::Keyword(Keyword::Element),
+    TokenKind::Keyword(Keyword::Edge),
+    TokenKind::Keyword(Keyword::End),
+];
+
 /// The source that all tokens are, of a text of this length.
 fn whole(alloc: Global, cursor: Cursor<'_>, len: usize) -> Result<Source, SyntaxError>
     ensures reads { GivesSource result (source_at (words cursor.entry)) }
     ensures length { IfOk result (λ source. source.length ≡ len) }
 {
-    let rest = elements(cursor)?;
+    let rest = expect_all(cursor, &ELEMENTS)?;
     let (declarations, left) = declarations(alloc, rest)?;
     let (schedule, end) = schedule(alloc, left)?;
     match end.next() {
@@ -61,16 +71,4 @@ fn whole(alloc: Global, cursor: Cursor<'_>, len: usize) -> Result<Source, Syntax
             length: len,
         }),
     }
-}
-
-/// The place behind `element Vertex end element Edge end`.
-fn elements(cursor: Cursor<'_>) -> Result<Cursor<'_>, SyntaxError>
-    ensures { Passes result (after_words elements_words (words cursor.entry)) }
-{
-    let vertex = expect_reserved(cursor, Keyword::Element)?;
-    let end = expect_reserved(vertex, Keyword::Vertex)?;
-    let element = expect_reserved(end, Keyword::End)?;
-    let edge = expect_reserved(element, Keyword::Element)?;
-    let end = expect_reserved(edge, Keyword::Edge)?;
-    expect_reserved(end, Keyword::End)
 }

@@ -5,12 +5,24 @@ ghost use Rattle.expressions.specs.Outcome.{words, Gives};
 ghost use Rattle.grammar.specs.Reading.{reduction_at, ended_at, entry_at, entry_by, after_word, after_words, method_by, added_at, applied_at, reduced_at, named_action};
 ghost use Rattle.grammar.specs.Views.{action_tree};
 
-use crate::front::{after_mark, after_method, argument, expect_mark, expect_method, expression};
+use crate::front::{after_mark, after_method, argument, expect_all, expect_mark, expression};
 use crate::initial::{assigned, ends};
 use expressions::{Cursor, Expression, Name, SyntaxError};
 use grammar::{Action, Reduction};
 use lexer::{Keyword, Symbol, TokenKind};
 use std::alloc::Global;
+
+/// `.apply`
+static APPLY: [TokenKind; 2] = [
+    TokenKind::Symbol(Symbol::Dot),
+    TokenKind::Keyword(Keyword::Apply),
+];
+
+/// `);`
+static CLOSE_CALL: [TokenKind; 2] = [
+    TokenKind::Symbol(Symbol::CloseParenthesis),
+    TokenKind::Symbol(Symbol::Semicolon),
+];
 
 /// An expression and `;`, and the place behind them.
 pub(crate) fn ended(
@@ -150,8 +162,7 @@ fn added(alloc: Global, set: Name, cursor: Cursor<'_>) -> Result<(Action, Cursor
 {
     let inside = expect_mark(cursor, Symbol::OpenParenthesis)?;
     let (vertex, close) = expression(alloc, inside)?;
-    let semicolon = expect_mark(close, Symbol::CloseParenthesis)?;
-    let behind = expect_mark(semicolon, Symbol::Semicolon)?;
+    let behind = expect_all(close, &CLOSE_CALL)?;
     Ok((Action::AddVertex { set, vertex }, behind))
 }
 
@@ -165,7 +176,7 @@ fn applied(
     ensures shorter { IfOk result (λ x. length (words x.1) ≤ length (words cursor.entry)) }
 {
     let (ends, dot) = ends(alloc, cursor)?;
-    let open = expect_method(dot, Keyword::Apply)?;
+    let open = expect_all(dot, &APPLY)?;
     let (function, semicolon) = argument(alloc, open)?;
     let behind = expect_mark(semicolon, Symbol::Semicolon)?;
     let action = Action::Apply {

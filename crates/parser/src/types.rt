@@ -5,11 +5,40 @@ ghost use Rattle.grammar.specs.Reading.{after_words, type_at, typed_at};
 ghost use Rattle.grammar.specs.Views.{parameter_tree};
 ghost use Rattle.parser.specs.Fronts.{begun_type, words_behind};
 
-use crate::front::{expect_mark, expect_reserved, in_braces, name};
+use crate::front::{expect_all, expect_mark, name};
 use expressions::{Cursor, SyntaxError};
 use grammar::{DeclaredType, Parameter};
 use lexer::{Keyword, Symbol, TokenKind};
 use std::alloc::Global;
+
+/// `{Vertex}`
+static OF_VERTICES: [TokenKind; 3] = [
+    TokenKind::Symbol(Symbol::OpenBrace),
+    TokenKind::Keyword(Keyword::Vertex),
+    TokenKind::Symbol(Symbol::CloseBrace),
+];
+
+/// `{Vertex}(int)`
+static OF_VERTICES_AND_NUMBERS: [TokenKind; 6] = [
+    TokenKind::Symbol(Symbol::OpenBrace),
+    TokenKind::Keyword(Keyword::Vertex),
+    TokenKind::Symbol(Symbol::CloseBrace),
+    TokenKind::Symbol(Symbol::OpenParenthesis),
+    TokenKind::Keyword(Keyword::Int),
+    TokenKind::Symbol(Symbol::CloseParenthesis),
+];
+
+/// `{Edge}(Vertex, Vertex)`
+static OF_EDGES_AND_VERTICES: [TokenKind; 8] = [
+    TokenKind::Symbol(Symbol::OpenBrace),
+    TokenKind::Keyword(Keyword::Edge),
+    TokenKind::Symbol(Symbol::CloseBrace),
+    TokenKind::Symbol(Symbol::OpenParenthesis),
+    TokenKind::Keyword(Keyword::Vertex),
+    TokenKind::Symbol(Symbol::Comma),
+    TokenKind::Keyword(Keyword::Vertex),
+    TokenKind::Symbol(Symbol::CloseParenthesis),
+];
 
 /// The name and its type at the front, and the place behind them.
 pub(crate) fn typed(
@@ -65,20 +94,8 @@ fn rest_of_type(declared: DeclaredType, cursor: Cursor<'_>) -> Result<Cursor<'_>
 {
     match declared {
         DeclaredType::Int | DeclaredType::Bool | DeclaredType::Vertex => Ok(cursor),
-        DeclaredType::VertexSet => in_braces(cursor, Keyword::Vertex),
-        DeclaredType::Vector => {
-            let open = in_braces(cursor, Keyword::Vertex)?;
-            let inside = expect_mark(open, Symbol::OpenParenthesis)?;
-            let close = expect_reserved(inside, Keyword::Int)?;
-            expect_mark(close, Symbol::CloseParenthesis)
-        }
-        DeclaredType::EdgeSet => {
-            let open = in_braces(cursor, Keyword::Edge)?;
-            let inside = expect_mark(open, Symbol::OpenParenthesis)?;
-            let comma = expect_reserved(inside, Keyword::Vertex)?;
-            let second = expect_mark(comma, Symbol::Comma)?;
-            let close = expect_reserved(second, Keyword::Vertex)?;
-            expect_mark(close, Symbol::CloseParenthesis)
-        }
+        DeclaredType::VertexSet => expect_all(cursor, &OF_VERTICES),
+        DeclaredType::Vector => expect_all(cursor, &OF_VERTICES_AND_NUMBERS),
+        DeclaredType::EdgeSet => expect_all(cursor, &OF_EDGES_AND_VERTICES),
     }
 }

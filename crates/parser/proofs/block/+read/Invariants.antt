@@ -7,31 +7,34 @@ use Rattle.parser.specs.Blocks.{action_at}
 use Rattle.parser.proofs.block.+read.Given as goal
 
 abbrev pub decreases-inner : goal.decreases-inner
-decreases-inner l = 7 * l.depth + 0
+decreases-inner l = 8 * l.depth + 0
+
+abbrev pub decreases-to_end : goal.decreases-to_end
+decreases-to_end l = 8 * l.depth + 1
 
 abbrev pub decreases-otherwise : goal.decreases-otherwise
-decreases-otherwise l = 7 * l.depth + 1
+decreases-otherwise l = 8 * l.depth + 2
 
 abbrev pub decreases-while_loop : goal.decreases-while_loop
-decreases-while_loop l = 7 * l.depth + 1
+decreases-while_loop l = 8 * l.depth + 2
 
 abbrev pub decreases-for_loop : goal.decreases-for_loop
-decreases-for_loop l = 7 * l.depth + 1
+decreases-for_loop l = 8 * l.depth + 2
 
 abbrev pub decreases-choice : goal.decreases-choice
-decreases-choice l = 7 * l.depth + 2
+decreases-choice l = 8 * l.depth + 3
 
 abbrev pub decreases-opened : goal.decreases-opened
-decreases-opened l = 7 * l.depth + 3
+decreases-opened l = 8 * l.depth + 4
 
 abbrev pub decreases-action : goal.decreases-action
-decreases-action l = 7 * l.depth + 4
+decreases-action l = 8 * l.depth + 5
 
 abbrev pub decreases-statement : goal.decreases-statement
-decreases-statement l = 7 * l.depth + 5
+decreases-statement l = 8 * l.depth + 6
 
 abbrev pub decreases-block : goal.decreases-block
-decreases-block l = 7 * l.depth + 6
+decreases-block l = 8 * l.depth + 7
 
 abbrev pub invariant-block-statements : goal.invariant-block-statements
 invariant-block-statements l = Goes (next_statement (action_at l.depth)) (words l.cursor) (map statement_of l.statements.items) (words l.left)

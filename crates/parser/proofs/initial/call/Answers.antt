@@ -1,14 +1,35 @@
-use Rattle.std.proofs.Common.{ap, ◌∙◌, Some}
+use Rattle.std.proofs.Common.{ap, ◌∙◌, subst, sym, [], ◌∷◌}
 use Rattle.lexer.specs.declared.keyword.Keyword.TheVariants as keyword
-use Rattle.expressions.specs.Outcome.{words}
+use Rattle.lexer.specs.declared.symbol.Symbol.TheVariants as symbol
+use Rattle.expressions.specs.Words.{Reserved, Mark}
+use Rattle.expressions.specs.Outcome.{words, Gives}
 use Rattle.expressions.specs.Reading.{◌>>=◌}
-use Rattle.grammar.specs.Reading.{argument_at}
-use Rattle.grammar.specs.Trees.{Filter}
+use Rattle.grammar.specs.Reading.{in_parentheses}
+use Rattle.grammar.specs.Trees.{Vertices, OutDegrees}
+use Rattle.grammar.specs.Views.{initial_tree}
+use Rattle.parser.specs.Fronts.{filter_at}
 use Rattle.parser.proofs.InitialLaws.{call_by_method}
+use Rattle.parser.proofs.Steps.{closed-found}
 use Rattle.parser.proofs.initial.call.Goals as goal
 
 pub returns-in-Some-after_method-2-clause-reads : goal.returns-in-Some-after_method-2-clause-reads
 returns-in-Some-after_method-2-clause-reads c =
-    call_by_method c.args.name (words c.args.cursor) keyword.Filter (words c.in-Some-after_method-2.after) c.in-Some-after_method-2.ensures.behind
-    ∙ ap (λ r. r >>= λ a. argument_at a >>= λ n. Some (Filter c.args.name n.0, n.1)) c.in-Some-after_method-2.ensures.behind
-    ∙ ap (λ r. r >>= λ n. Some (Filter c.args.name n.0, n.1)) c.in_ok-test.ensures.reads
+    subst (Gives initial_tree c.filter.result)
+    (sym (call_by_method c.args.name (words c.args.cursor) keyword.Filter (words c.in-Some-after_method-2.after) c.in-Some-after_method-2.ensures.behind
+    ∙ ap (λ r. r >>= filter_at c.args.name) c.in-Some-after_method-2.ensures.behind))
+    c.filter.ensures.reads
+
+pub returns-in-Some-clause-reads : goal.returns-in-Some-clause-reads
+returns-in-Some-clause-reads c =
+    subst (Gives initial_tree c.without_arguments.result)
+    (sym (call_by_method c.args.name (words c.args.cursor) keyword.GetVertices (words c.in-Some.after) c.in-Some.ensures.behind
+    ∙ closed-found (Mark symbol.Dot ∷ Reserved keyword.GetVertices ∷ []) (in_parentheses []) (Vertices c.args.name) (words c.args.cursor) (words c.in-Some.after) c.in-Some.ensures.behind))
+    c.without_arguments.ensures.reads
+
+pub returns-in-Some-after_method-clause-reads : goal.returns-in-Some-after_method-clause-reads
+returns-in-Some-after_method-clause-reads c =
+    subst (Gives initial_tree c.without_arguments-in-Some-after_method.result)
+    (sym (call_by_method c.args.name (words c.args.cursor) keyword.GetOutDegrees (words c.in-Some-after_method.after) c.in-Some-after_method.ensures.behind
+    ∙ closed-found (Mark symbol.Dot ∷ Reserved keyword.GetOutDegrees ∷ []) (in_parentheses []) (OutDegrees c.args.name) (words c.args.cursor) (words c.in-Some-after_method.after)
+    c.in-Some-after_method.ensures.behind))
+    c.without_arguments-in-Some-after_method.ensures.reads

@@ -1,0 +1,20 @@
+use Rattle.std.proofs.Common.{sym, ◌∙◌, ap, subst, Some, ◌≡◌, ◌∷◌}
+use Rattle.lexer.specs.Tokens.{slice_of}
+use Rattle.expressions.specs.Words.{keyword_word, word_of}
+use Rattle.expressions.specs.Outcome.{words, Gives}
+use Rattle.grammar.specs.Views.{declaration_tree}
+use Rattle.grammar.specs.Reading.{declaration_by}
+use Rattle.parser.specs.Declarations.{beginning_of}
+use Rattle.parser.proofs.DeclarationLaws.{declared_is}
+use Rattle.parser.proofs.declaration.declaration.Goals as goal
+
+pub returns-in-Some-begun_by-clause-reads : goal.returns-in-Some-begun_by-clause-reads
+returns-in-Some-begun_by-clause-reads c =
+    let is : words c.args.cursor ≡ keyword_word c.in-Keyword.keyword c.in-Some.token.span.start ∷ words c.in-Some.after =
+    c.in-Some.ensures.word
+    ∙ ap (λ kind. word_of kind (slice_of c.args.cursor.text.now c.in-Some.token.span) c.in-Some.token.span.start ∷ words c.in-Some.after) c.in-Keyword.is
+    in
+    let beginning : beginning_of c.in-Keyword.keyword ≡ Some c.in-Some-begun_by.beginning = sym c.in-Some-begun_by.ensures in
+    subst (Gives declaration_tree c.begun.result)
+    (sym (ap declaration_by is ∙ declared_is c.in-Keyword.keyword c.in-Some.token.span.start c.in-Some-begun_by.beginning (words c.in-Some.after) beginning))
+    c.begun.ensures.reads
