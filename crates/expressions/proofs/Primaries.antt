@@ -1,12 +1,16 @@
 -- What reading a primary comes to, by its first word.
-use Rattle.std.proofs.Common.{◌≡◌, ◌≢◌, refl, ap, ◌∙◌, ℕ, zero, suc, List, ◌∷◌, None}
+use Rattle.std.proofs.Common.{◌≡◌, ◌≢◌, refl, sym, ap, ◌∙◌, ℕ, zero, suc, List, ◌∷◌, Option, Some, None}
 use Rattle.lexer.specs.declared.keyword.Keyword.{Keyword}
 use Rattle.lexer.specs.declared.keyword.Keyword.TheVariants as keyword
 use Rattle.lexer.specs.declared.symbol.Symbol.{Symbol}
 use Rattle.lexer.specs.declared.symbol.Symbol.TheVariants as symbol
-use Rattle.expressions.specs.Words.{Word, Name, Mark, Identifier, keyword_word}
+use Rattle.lexer.specs.declared.token.TokenKind.{TokenKind}
+use Rattle.lexer.specs.declared.token.TokenKind.TheVariants as kind
+use Rattle.expressions.specs.Words.{Word, Name, Mark, Identifier, keyword_word, word_of}
 use Rattle.expressions.specs.Trees.{ExpressionTree}
-use Rattle.expressions.specs.Reading.{Reader, primary_at, primary_by, expression_in, expression_at, named_by, after_open_bracket, after_dot, truth_of}
+use Rattle.expressions.specs.Literals.{literal_at}
+use Rattle.expressions.proofs.Fronts.{none_open_bracket}
+use Rattle.expressions.specs.Reading.{Reader, no_expression, primary_at, primary_by, expression_in, expression_at, named_by, after_open_bracket, after_dot}
 
 pub primary_at-is : (depth : ℕ) (ws : List Word) → primary_at depth ws ≡ primary_by (expression_in depth) ws
 primary_at-is zero ws = refl
@@ -27,11 +31,31 @@ pub primary_symbol : (depth : ℕ) (ws : List Word) (mark : Symbol) (rest : List
     → primary_at depth ws ≡ None
 primary_symbol depth ws mark rest is other = primary_at-is depth ws ∙ ap (primary_by (expression_in depth)) is ∙ no_symbol (expression_in depth) mark rest other
 
-no_keyword : (e : Reader ExpressionTree) (word : Keyword) (at : ℕ) (rest : List Word) → truth_of word ≡ None → primary_by e (keyword_word word at ∷ rest) ≡ None
-no_keyword e keyword.True at rest other = cc other
-no_keyword e keyword.False at rest other = cc other
-no_keyword e _ at rest other = refl
+-- a primary that begins neither with a name nor with a symbol
+literal_is : (e : Reader ExpressionTree) (k : TokenKind) (bytes : List ℕ) (at : ℕ) (rest : List Word) → k ≢ kind.Name → ((mark : Symbol) → k ≢ kind.Symbol mark)
+    → primary_by e (word_of k bytes at ∷ rest) ≡ literal_at (word_of k bytes at ∷ rest)
+literal_is e kind.Name bytes at rest no_name no_mark = absurd (no_name refl)
+literal_is e (kind.Number n) bytes at rest no_name no_mark = refl
+literal_is e kind.Label bytes at rest no_name no_mark = refl
+literal_is e kind.Text bytes at rest no_name no_mark = refl
+literal_is e (kind.Keyword word) bytes at rest no_name no_mark = go word
+  where
+    go : (word : Keyword) → primary_by e (keyword_word word at ∷ rest) ≡ literal_at (keyword_word word at ∷ rest)
+    go keyword.Const = refl
+    go _ = refl
+literal_is e (kind.Symbol mark) bytes at rest no_name no_mark = absurd (no_mark mark refl)
 
-pub primary_keyword : (depth : ℕ) (ws : List Word) (word : Keyword) (at : ℕ) (rest : List Word) → ws ≡ keyword_word word at ∷ rest → truth_of word ≡ None
-    → primary_at depth ws ≡ None
-primary_keyword depth ws word at rest is other = primary_at-is depth ws ∙ ap (primary_by (expression_in depth)) is ∙ no_keyword (expression_in depth) word at rest other
+pub primary_literal : (depth : ℕ) (ws : List Word) (k : TokenKind) (bytes : List ℕ) (at : ℕ) (rest : List Word) → ws ≡ word_of k bytes at ∷ rest
+    → k ≢ kind.Name → ((mark : Symbol) → k ≢ kind.Symbol mark) → primary_at depth ws ≡ literal_at ws
+primary_literal depth ws k bytes at rest is no_name no_mark =
+    primary_at-is depth ws ∙ ap (primary_by (expression_in depth)) is ∙ literal_is (expression_in depth) k bytes at rest no_name no_mark ∙ sym (ap literal_at is)
+
+unindexed_is : (e : Reader ExpressionTree) (name : Identifier) (ws : List Word) (dot : Option (List Word)) → named_by e name ws None dot ≡ named_by no_expression name ws None dot
+unindexed_is e name ws None = refl
+unindexed_is e name ws (Some after) = refl
+
+-- a name behind which no bracket is opened
+pub named_unindexed : (e : Reader ExpressionTree) (name : Identifier) (ws : List Word) → ((rest : List Word) → ws ≢ Mark symbol.OpenBracket ∷ rest)
+    → named_by e name ws (after_open_bracket ws) (after_dot ws) ≡ named_by no_expression name ws None (after_dot ws)
+named_unindexed e name ws other =
+    ap (λ bracket. named_by e name ws bracket (after_dot ws)) (none_open_bracket ws other) ∙ unindexed_is e name ws (after_dot ws)

@@ -3,6 +3,7 @@ pub mod Depth
 pub mod Ends
 pub mod Falls
 pub mod Grammar
+pub mod Literals
 pub mod Outcome
 pub mod Reading
 pub mod Refusal

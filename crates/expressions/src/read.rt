@@ -1,8 +1,9 @@
 //! The reader of expressions: one function for each level of the grammar.
-ghost use Rattle.std.specs.Prelude.{◌≡◌, ◌≤◌, length, IfOk};
+ghost use Rattle.std.specs.Prelude.{◌≡◌, ◌≤◌, length, None, IfOk};
 ghost use Rattle.expressions.specs.Outcome.{words, Gives, Passes, AnswersBegins};
 ghost use Rattle.expressions.specs.Seen.{primary_of, unary_of, term_of, sum_of, comparison_of, conjunction_of};
-ghost use Rattle.expressions.specs.Reading.{expression_in, primary_at, named_by, after_open_bracket, after_dot, after_size_call, truth_of as truth_of_word, unary_at, term_at, sum_at, comparison_at, conjunction_at, expression_at};
+ghost use Rattle.expressions.specs.Literals.{literal_at};
+ghost use Rattle.expressions.specs.Reading.{no_expression, expression_in, primary_at, named_by, after_open_bracket, after_dot, after_size_call, truth_of as truth_of_word, unary_at, term_at, sum_at, comparison_at, conjunction_at, expression_at};
 
 use crate::cursor::Cursor;
 use crate::error::SyntaxError;
@@ -153,15 +154,10 @@ fn primary(
         return Err(cursor.unexpected());
     };
     match token.kind {
-        TokenKind::Number(n) => Ok((Primary::Number(n), after)),
         TokenKind::Name => {
             let name = Name::of(alloc, cursor.bytes(token.span), token.span.start)?;
             named(alloc, name, after, depth)
         }
-        TokenKind::Keyword(keyword) => match truth_of(keyword) {
-            Some(truth) => Ok((Primary::Truth(truth), after)),
-            None => Err(cursor.unexpected()),
-        },
         TokenKind::Symbol(symbol) => {
             if symbol != Symbol::OpenParenthesis {
                 return Err(cursor.unexpected());
@@ -170,7 +166,25 @@ fn primary(
             let behind = rest.expect_symbol(Symbol::CloseParenthesis)?;
             Ok((Primary::Parentheses(Box::new(alloc, inside)?), behind))
         }
-        TokenKind::Label | TokenKind::Text => Err(cursor.unexpected()),
+        _ => literal(cursor),
+    }
+}
+
+/// The number or the truth value at the front, and the place behind it.
+fn literal(cursor: Cursor<'_>) -> Result<(Primary, Cursor<'_>), SyntaxError>
+    ensures reads { Gives primary_of result (literal_at (words cursor.entry)) }
+    ensures shorter { IfOk result (λ x. length (words x.1) ≤ length (words cursor.entry)) }
+{
+    let Some((token, after)) = cursor.next() else {
+        return Err(cursor.unexpected());
+    };
+    match token.kind {
+        TokenKind::Number(n) => Ok((Primary::Number(n), after)),
+        TokenKind::Keyword(keyword) => match truth_of(keyword) {
+            Some(truth) => Ok((Primary::Truth(truth), after)),
+            None => Err(cursor.unexpected()),
+        },
+        _ => Err(cursor.unexpected()),
     }
 }
 
@@ -202,6 +216,14 @@ fn named(
         let behind = left.expect_symbol(Symbol::CloseBracket)?;
         return Ok((Primary::Entry(name, Box::new(alloc, index)?), behind));
     }
+    unindexed(name, rest)
+}
+
+/// What begins with a name behind which no bracket is opened, from behind the name.
+fn unindexed(name: Name, rest: Cursor<'_>) -> Result<(Primary, Cursor<'_>), SyntaxError>
+    ensures reads { Gives primary_of result (named_by no_expression name (words rest.entry) None (after_dot (words rest.entry))) }
+    ensures shorter { IfOk result (λ x. length (words x.1) ≤ length (words rest.entry)) }
+{
     if let Some(after) = rest.after_symbol(Symbol::Dot) {
         let behind = size_call(after)?;
         return Ok((Primary::Size(name), behind));

@@ -8,11 +8,11 @@ use Rattle.expressions.specs.Words.{Name, word_of}
 use Rattle.expressions.specs.Outcome.{words, Gives}
 use Rattle.expressions.specs.Seen.{primary_of, unary_of, term_of, sum_of, comparison_of, conjunction_of, term_from, sum_from, conjunction_from, expression_from}
 use Rattle.expressions.specs.Trees.{Bare}
-use Rattle.expressions.specs.Reading.{◌>>=◌, operand_by, behind_by, multiplication, addition, after_and, after_or, unary_at, term_at, comparison_at, conjunction_at}
+use Rattle.expressions.specs.Reading.{◌>>=◌, operand_by, behind_by, multiplication, addition, after_and, after_or, unary_at, term_at, comparison_at, conjunction_at, expression_in}
 use Rattle.expressions.proofs.Faults.{passed_on, refused}
 use Rattle.expressions.proofs.Fronts.{none_or, none_and}
 use Rattle.expressions.proofs.Loops.{chain_start, chain_step, chain_end, chain_fails, operand_found, operand_fails, behind_found, behind_fails, signs_start, signs_step, signs_end, with_signs, behind_word, below}
-use Rattle.expressions.proofs.Primaries.{in_deeper, primary_name, primary_symbol, primary_keyword}
+use Rattle.expressions.proofs.Primaries.{in_deeper, primary_name, primary_symbol, primary_literal, named_unindexed}
 use Rattle.expressions.proofs.read.+read.Goals as goal
 
 pub sum-more-init : goal.sum-more-init
@@ -117,12 +117,18 @@ primary-returns-then-ne-clause-reads t c =
     (c.in-Some.ensures.word ∙ ap (λ kind. word_of kind (slice_of c.args.cursor.text.now c.in-Some.token.span) c.in-Some.token.span.start ∷ words c.in-Some.after) c.in-Symbol.is)
     (λ is. let differs : true ≡ false = c.if-ne.ensures ∙ ap (λ mark. not (sameb the_type mark symbol.OpenParenthesis)) is in cc))
 
-pub primary-returns-in-None-clause-reads : goal.primary-returns-in-None-clause-reads
-primary-returns-in-None-clause-reads t c =
-    refused primary_of c.unexpected-in-None.result _ _ c.unexpected-in-None.ensures
-    (primary_keyword c.args.depth (words c.args.cursor) c.in-Keyword.keyword c.in-Some.token.span.start (words c.in-Some.after)
-    (c.in-Some.ensures.word ∙ ap (λ kind. word_of kind (slice_of c.args.cursor.text.now c.in-Some.token.span) c.in-Some.token.span.start ∷ words c.in-Some.after) c.in-Keyword.is)
-    (sym c.in-None.ensures))
+pub primary-returns-in_default-kind-clause-reads : goal.primary-returns-in_default-kind-clause-reads
+primary-returns-in_default-kind-clause-reads t c =
+    subst (Gives primary_of c.literal.result)
+    (sym (primary_literal c.args.depth (words c.args.cursor) c.in-Some.token.kind (slice_of c.args.cursor.text.now c.in-Some.token.span) c.in-Some.token.span.start (words c.in-Some.after)
+    c.in-Some.ensures.word c.in_default-kind.not-Name c.in_default-kind.not-Symbol))
+    c.literal.ensures.reads
+
+pub named-returns-clause-reads : goal.named-returns-clause-reads
+named-returns-clause-reads t c =
+    subst (Gives primary_of c.unindexed.result)
+    (sym (named_unindexed (expression_in c.args.depth) c.args.name (words c.args.rest) c.in_default.ensures))
+    c.unindexed.ensures.reads
 
 pub expression-more-init : goal.expression-more-init
 expression-more-init t c = chain_start conjunction_of c.new-more.result.items _ c.new-more.ensures.items c.in_ok-first.ensures.reads c.in_ok-first.ensures.shorter
