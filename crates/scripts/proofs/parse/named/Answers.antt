@@ -1,4 +1,5 @@
 use Rattle.std.proofs.Common.{◌≡◌, arith, rules, codes}
+use Rattle.std.proofs.lemmas.Grind.{common_steps}
 use Rattle.std.proofs.lemmas.Slice.Eq.{text_from_reads}
 use Rattle.scripts.proofs.WordLaws.{command_by_name}
 use Rattle.scripts.proofs.parse.named.Goals as goal
@@ -42,3 +43,6 @@ pub returns-in-run : goal.returns-in-run
 returns-in-run c =
     let is : c.args.name.now ≡ codes "run" = text_from_reads _ _ (omega arith) (search rules) in
     command_by_name c.args.name.now (codes "run") c.args.words _ is c.run.ensures
+
+pub returns-in_default : goal.returns-in_default
+returns-in_default c = grind (arith, common_steps)
