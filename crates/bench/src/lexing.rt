@@ -114,20 +114,34 @@ fn source(alloc: Global, bytes: usize) -> Result<String, AllocError> {
 pub fn print_times<R: Print + AllocGlobal + Clock>(rt: &R) -> io::Result<()> {
     print_head(rt)?;
     let text = source(rt.alloc(), BYTES)?;
-    let mut lexer = Times::new(rt.alloc());
-    let mut plain = Times::new(rt.alloc());
-    let mut found = 0;
+    print_lexer(rt, "lexer, bytes", text.as_bytes())?;
+    print_plain_loop(rt, text.as_bytes())
+}
+
+/// Prints the row of the lexer on a text.
+pub fn print_lexer<R: Print + AllocGlobal + Clock>(
+    rt: &R,
+    name: &str,
+    text: &[u8],
+) -> io::Result<()> {
+    let mut times = Times::new(rt.alloc());
     for _ in 0..TURNS {
         let start = Instant::now(rt)?;
-        found = tokens_of(rt.alloc(), text.as_bytes())?;
-        lexer.push(rt, start)?;
-        let start = Instant::now(rt)?;
-        found ^= class_runs(text.as_bytes());
-        plain.push(rt, start)?;
+        times.note(tokens_of(rt.alloc(), text)?);
+        times.push(rt, start)?;
     }
-    print_row(rt, "lexer, bytes", text.len(), &mut lexer)?;
-    print_row(rt, "plain loop, bytes", text.len(), &mut plain)?;
-    println!(rt; "check {found}")
+    print_row(rt, name, text.len(), &mut times)
+}
+
+// Prints the row of a plain loop over a text.
+fn print_plain_loop<R: Print + AllocGlobal + Clock>(rt: &R, text: &[u8]) -> io::Result<()> {
+    let mut times = Times::new(rt.alloc());
+    for _ in 0..TURNS {
+        let start = Instant::now(rt)?;
+        times.note(class_runs(text));
+        times.push(rt, start)?;
+    }
+    print_row(rt, "plain loop, bytes", text.len(), &mut times)
 }
 
 // What a byte may be part of.

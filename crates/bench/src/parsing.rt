@@ -1,6 +1,8 @@
 //! How long the parser takes for long sources of statements, beside the lexer alone.
 
+use crate::lexing::print_lexer;
 use crate::timing::{TURNS, Times, print_head, print_row};
+use grammar::{Declaration, Source};
 use std::alloc::{AllocError, Global};
 use std::io;
 use std::io::Error;
@@ -48,47 +50,37 @@ fn source(alloc: Global, bytes: usize) -> Result<String, AllocError> {
 /// Prints the times of the parser, and of the lexer on the same bytes.
 pub fn print_times<R: Print + AllocGlobal + Clock>(rt: &R) -> io::Result<()> {
     print_head(rt)?;
-    let mut found = 0;
     for bytes in [SHORT, LONG] {
-        found ^= print_rows(rt, bytes)?;
+        let text = source(rt.alloc(), bytes)?;
+        print_parser(rt, text.as_bytes())?;
+        print_lexer(rt, "lexer alone, bytes", text.as_bytes())?;
     }
-    println!(rt; "check {found}")
+    Ok(())
 }
 
-// Prints both rows of a source of so many bytes, and gives a number that depends on the work.
-fn print_rows<R: Print + AllocGlobal + Clock>(rt: &R, bytes: usize) -> io::Result<usize> {
-    let text = source(rt.alloc(), bytes)?;
-    let mut parser = Times::new(rt.alloc());
-    let mut lexer = Times::new(rt.alloc());
-    let mut found = 0;
+// Prints the row of the parser on a text.
+fn print_parser<R: Print + AllocGlobal + Clock>(rt: &R, text: &[u8]) -> io::Result<()> {
+    let mut times = Times::new(rt.alloc());
     for _ in 0..TURNS {
         let start = Instant::now(rt)?;
-        found ^= statements_of(rt.alloc(), text.as_bytes())?;
-        parser.push(rt, start)?;
-        let start = Instant::now(rt)?;
-        found ^= tokens_of(rt.alloc(), text.as_bytes())?;
-        lexer.push(rt, start)?;
+        times.note(statements_of(rt.alloc(), text)?);
+        times.push(rt, start)?;
     }
-    print_row(rt, "parser, bytes", text.len(), &mut parser)?;
-    print_row(rt, "lexer alone, bytes", text.len(), &mut lexer)?;
-    Ok(found)
+    print_row(rt, "parser, bytes", text.len(), &mut times)
+}
+
+// How many statements stand in the first function of a text, aside from those in other statements.
+fn statements_of(alloc: Global, text: &[u8]) -> io::Result<usize> {
+    match parser::parse(alloc, text) {
+        Ok(source) => Ok(statements_in(&source)),
+        Err(error) => Err(Error::other(error.to_string(alloc)?.as_str())),
+    }
 }
 
 // How many statements stand in the first function of a source, aside from those in other statements.
-fn statements_of(alloc: Global, text: &[u8]) -> io::Result<usize> {
-    match parser::parse(alloc, text) {
-        Ok(source) => match source.declarations.first() {
-            Some(grammar::Declaration::Function { body, .. }) => Ok(body.len()),
-            _ => Ok(0),
-        },
-        Err(error) => Err(Error::other(error.to_string(alloc)?.as_str())),
-    }
-}
-
-// How many tokens a text has.
-fn tokens_of(alloc: Global, text: &[u8]) -> io::Result<usize> {
-    match lexer::tokens(alloc, text) {
-        Ok(tokens) => Ok(tokens.len()),
-        Err(error) => Err(Error::other(error.to_string(alloc)?.as_str())),
+fn statements_in(source: &Source) -> usize {
+    match source.declarations.first() {
+        Some(Declaration::Function { body, .. }) => body.len(),
+        _ => 0,
     }
 }

@@ -12,6 +12,7 @@ pub const TURNS: usize = 5;
 #[derive(Drop)]
 pub struct Times {
     turns: Vec<u64>,
+    found: usize,
 }
 
 impl Times {
@@ -19,7 +20,13 @@ impl Times {
     pub fn new(alloc: Global) -> Times {
         Times {
             turns: Vec::new(alloc),
+            found: 0,
         }
+    }
+
+    /// Takes what a turn's work came to into account, so that the work is really done.
+    pub fn note(&mut self, found: usize) {
+        self.found ^= found;
     }
 
     /// Adds the turn that began then and ends now.
@@ -45,8 +52,8 @@ impl Times {
 /// Prints the head of a table of times in microseconds.
 pub fn print_head<R: Print>(rt: &R) -> io::Result<()> {
     println!(rt;
-        "{:<28} {:>10} {:>10} {:>10}",
-        "row", "size", "best us", "median us"
+        "{:<28} {:>10} {:>10} {:>10} {:>10}",
+        "row", "size", "best us", "median us", "check"
     )
 }
 
@@ -54,5 +61,6 @@ pub fn print_head<R: Print>(rt: &R) -> io::Result<()> {
 pub fn print_row<R: Print>(rt: &R, name: &str, size: usize, times: &mut Times) -> io::Result<()> {
     let best = times.best() / 1000;
     let median = times.median()? / 1000;
-    println!(rt; "{name:<28} {size:>10} {best:>10} {median:>10}")
+    let found = times.found;
+    println!(rt; "{name:<28} {size:>10} {best:>10} {median:>10} {found:>10}")
 }
