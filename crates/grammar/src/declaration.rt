@@ -68,9 +68,18 @@ impl Drop for Declaration {
 
 /// A source: its declarations, and its schedule where it has that part. `length` is the length of its text
 /// in bytes, which is no part of the tree that a contract sees.
-#[derive(Drop)]
 pub struct Source {
     pub declarations: Vec<Declaration>,
     pub schedule: Option<Vec<Chain>>,
     pub length: usize,
+}
+
+impl Drop for Source {
+    fn drop(self) {
+        let Source {
+            declarations: _,
+            schedule: _,
+            length: _,
+        } = self;
+    }
 }

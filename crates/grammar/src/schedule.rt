@@ -40,7 +40,6 @@ impl Text {
 
 /// A schedule call with its arguments, of which there is one at least. `at` is the offset of its first
 /// token in the text.
-#[derive(Drop)]
 pub struct Call {
     pub at: usize,
     pub setting: Setting,
@@ -48,9 +47,25 @@ pub struct Call {
     pub more: Vec<Text>,
 }
 
+impl Drop for Call {
+    fn drop(self) {
+        let Call {
+            at: _,
+            setting: _,
+            first: _,
+            more: _,
+        } = self;
+    }
+}
+
 /// Calls on the program, one after the other: `program->first->more;`
-#[derive(Drop)]
 pub struct Chain {
     pub first: Call,
     pub more: Vec<Call>,
+}
+
+impl Drop for Chain {
+    fn drop(self) {
+        let Chain { first: _, more: _ } = self;
+    }
 }
