@@ -8,8 +8,6 @@ use Rattle.std.specs.Str.{all_ascii_digits}
 use Rattle.std.proofs.lemmas.Bool.{false≢true}
 use Rattle.std.proofs.lemmas.List.{length-take, take-append-drop, drop_more}
 use Rattle.decimal.specs.Numbers.{value_of}
-use Rattle.scripts.specs.declared.commands.Command.{Command}
-use Rattle.scripts.specs.Commands.{command_of_words}
 use Rattle.scripts.specs.Pieces.{HasNone, pieces, words_of}
 use Rattle.decimal.specs.Digits.{AreLeadingDigits}
 use Rattle.scripts.specs.Parsing.{words_left, first_number}
@@ -100,7 +98,3 @@ first_number-alone limit bytes digits some small =
 -- the first of these, of what the reader of digits says
 pub first_number-overflow : (bytes : List ℕ) → AreLeadingDigits bytes None → first_number (2 ^ 64) (words_of bytes) ≡ None
 first_number-overflow bytes (len, begins, large) = first_number-large (2 ^ 64) bytes len begins.1 large
-
--- a word that is spelled as a name is that name
-pub command_by_name : (name spelling : List ℕ) (words : List (List ℕ)) (r : Option Command) → name ≡ spelling → r ≡ command_of_words (spelling ∷ words) → r ≡ command_of_words (name ∷ words)
-command_by_name name spelling words r is command = command ∙ ap (λ word. command_of_words (word ∷ words)) (sym is)

@@ -24,16 +24,24 @@ pub fn command(line: &[u8]) -> Option<Command>
 fn named(name: &[u8], words: Words<'_>) -> Option<Command>
     ensures { result ≡ command_of_words (name.now ∷ words.entry) }
 {
-    match name {
-        b"vertices" => vertices(words),
-        b"add" => add(words),
-        b"del" => remove(words),
-        b"commit" => commit(words),
-        b"hold" => hold(words),
-        b"release" => release(words),
-        b"edges" => edges(words),
-        b"run" => run(words),
-        _ => None,
+    if name == b"vertices".as_slice() {
+        vertices(words)
+    } else if name == b"add".as_slice() {
+        add(words)
+    } else if name == b"del".as_slice() {
+        remove(words)
+    } else if name == b"commit".as_slice() {
+        commit(words)
+    } else if name == b"hold".as_slice() {
+        hold(words)
+    } else if name == b"release".as_slice() {
+        release(words)
+    } else if name == b"edges".as_slice() {
+        edges(words)
+    } else if name == b"run".as_slice() {
+        run(words)
+    } else {
+        None
     }
 }
 
