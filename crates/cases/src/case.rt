@@ -58,45 +58,66 @@ pub fn differences<'a>(rt: &'a HostRuntime, place: &'a Place) -> io::Result<Stri
         rt,
         name: place.folder.as_str(),
     };
-    let words = words_of(folder, name)?;
-    let input = folder.read_with(name, "input")?;
-    let mut out = Vec::new(rt.alloc());
-    let mut err = Vec::new(rt.alloc());
-    let status = run(
-        rt.alloc(),
-        &texts(rt.alloc(), &words)?,
-        folder,
-        &mut Device::new(bytes_of(&input)),
-        &mut Device::new(&mut out),
-        &mut Device::new(&mut err),
-    );
-    let status = format!(in rt.alloc(); "{status}\n")?;
+    let got = outcome_of(folder, name)?;
     let mut told = String::new(rt.alloc());
-    let case = folder.path(name)?;
-    let outputs: [(&str, &[u8], &[u8]); 3] = [
-        ("status", b"0\n", status.as_bytes()),
-        ("out", b"", &out),
-        ("err", b"", &err),
-    ];
-    for (output, default, got) in outputs {
-        let wanted = folder.read_with(name, output)?;
-        let output = Output {
-            case: case.as_str(),
-            name: output,
-            wanted: wanted.as_ref().map_or(default, |bytes| bytes.as_slice()),
-            got,
-        };
-        add_differences(rt.alloc(), &mut told, output)?;
-    }
+    add_output(folder, name, &mut told, ("status", b"0\n", &got.status))?;
+    add_output(folder, name, &mut told, ("out", b"", &got.out))?;
+    add_output(folder, name, &mut told, ("err", b"", &got.err))?;
     Ok(told)
 }
 
-// What a file holds, or nothing.
-fn bytes_of(held: &Option<Vec<u8>>) -> &[u8] {
-    match held {
-        Some(bytes) => bytes,
-        None => &[],
+// What a case got: the digits of its status, and what its outputs were told.
+#[derive(Drop)]
+struct Outcome {
+    status: Vec<u8>,
+    out: Vec<u8>,
+    err: Vec<u8>,
+}
+
+// Does the command line of a case.
+fn outcome_of(folder: &Folder<'_>, name: &str) -> io::Result<Outcome> {
+    let words = words_of(folder, name)?;
+    let words = texts(folder.rt.alloc(), &words)?;
+    match folder.read_with(name, "input")? {
+        Some(input) => outcome_on(folder, &words, &input),
+        None => outcome_on(folder, &words, &[]),
     }
+}
+
+// Does these words over the files of the folder and this standard input.
+fn outcome_on(folder: &Folder<'_>, words: &[&str], input: &[u8]) -> io::Result<Outcome> {
+    let alloc = folder.rt.alloc();
+    let mut out = Vec::new(alloc);
+    let mut err = Vec::new(alloc);
+    let status = run(
+        alloc,
+        words,
+        folder,
+        &mut Device::new(input),
+        &mut Device::new(&mut out),
+        &mut Device::new(&mut err),
+    );
+    let status = Vec::from_slice(alloc, format!(in alloc; "{status}\n")?.as_bytes())?;
+    Ok(Outcome { status, out, err })
+}
+
+// Adds how an output differs from what its file wants: its name, what is wanted where there is no file,
+// and what it was told.
+fn add_output(
+    folder: &Folder<'_>,
+    name: &str,
+    told: &mut String,
+    (output, default, got): (&str, &[u8], &[u8]),
+) -> io::Result<()> {
+    let case = folder.path(name)?;
+    let wanted = folder.read_with(name, output)?;
+    let output = Output {
+        case: case.as_str(),
+        name: output,
+        wanted: wanted.as_ref().map_or(default, |bytes| bytes.as_slice()),
+        got,
+    };
+    Ok(add_differences(folder.rt.alloc(), told, output)?)
 }
 
 // The words as texts.
