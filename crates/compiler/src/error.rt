@@ -7,7 +7,7 @@ use thiserror::Error;
 /// Why a text is not compiled.
 #[derive(Clone, Copy, Debug, PartialEq, Eq, Error)]
 pub enum CompileError {
-    /// It is no source; the parser's error says why. It is never the parser's want of memory.
+    /// It is no source; the parser's error says why. It is never that the parser is out of memory.
     #[error("{0}")]
     NotParsed(ParseError),
     /// It is a source that is no program. The offset is the text's length.
@@ -29,7 +29,7 @@ impl CompileError {
         }
     }
 
-    /// The offset of the fault, in bytes, or `None` for want of memory.
+    /// The offset of the fault, in bytes, or `None` where memory ran out.
     pub fn at(self) -> Option<usize>
         ensures { result ≡ offset_of self }
     {

@@ -79,7 +79,7 @@ abbrev pub advanced_through : Timeline → List Step → Timeline
 advanced_through t [] = t
 advanced_through t (step ∷ steps) = advanced_through (advanced t step) steps
 
--- the step is answered as the machine does, and taken; or nothing is changed for want of memory
+-- the step is answered as the machine does, and taken; or memory runs out and nothing is changed
 abbrev pub Takes : Timeline → Step → Result Reply VersionError → Timeline → Type 0
 Takes old step (Ok reply) new = (reply ≡ reply_to old.state step) × (new ≡ advanced old step)
 Takes old step (Err NoMemory) new = new ≡ old
@@ -89,7 +89,7 @@ Takes old step (Err NotKept) new = ⊥
 Takes old step (Err NotHeld) new = ⊥
 Takes old step (Err HistoryFull) new = ⊥
 
--- each step is answered and taken in order, where replies is the list that the call gives; for want of memory it may stop before a step, after those in front of it
+-- each step is answered and taken in order, where replies is the list that the call gives; where memory runs out it may stop before a step, after those in front of it
 abbrev pub Runs : {A : Type 0} → Timeline → List Step → (A → List Reply) → Result A VersionError → Timeline → Type 0
 Runs old steps replies (Ok x) new = (replies x ≡ replies_to old.state steps) × (new ≡ advanced_through old steps)
 Runs old steps replies (Err NoMemory) new = (k : ℕ) × (k < length steps) × (new ≡ advanced_through old (take k steps))
