@@ -8,4 +8,3 @@ pub mod Change
 pub mod Loop
 pub mod Meaning
 pub mod Shown
-pub mod Refusal

@@ -16,7 +16,6 @@
 
 mod arithmetic;
 mod change;
-mod error;
 mod evaluate;
 mod function;
 mod opening;
@@ -29,6 +28,5 @@ mod show;
 mod state;
 
 pub use arithmetic::{arithmetic_of, compare, connect, negate, quotients_leave_remainders, reduce};
-pub use error::MeaningError;
 pub use outcome::{End, NamedSet, NamedVector, Outcome};
 pub use run::plain_run;

@@ -1,9 +1,8 @@
 //! The slow run of programs.
-ghost use Rattle.std.specs.Prelude.{◌≡◌, ◌<◌, ◌≤◌, IfOk, IfErr, IfNone};
+ghost use Rattle.std.specs.Prelude.{◌≡◌, ◌<◌, ◌≤◌, IfOk, IfNone};
 ghost use Rattle.typed_tree.specs.ConditionTree.{condition_tree};
 ghost use Rattle.typed_tree.specs.BlockTree.{action_tree, block_tree};
 ghost use Rattle.typed_tree.specs.ProgramTree.{program_tree};
-ghost use Rattle.algorithm_meaning.specs.declared.error.MeaningError.TheVariants.{NoMemory};
 ghost use Rattle.algorithm_meaning.specs.Loop.{after_for, after_while, for_body, inside, take_turn};
 ghost use Rattle.algorithm_meaning.specs.Meaning.{after, after_all};
 ghost use Rattle.algorithm_meaning.specs.Seen.{HasNoBlock, graph_of, stand, state_of};
@@ -13,7 +12,6 @@ use crate::change::{
     apply_vertex, declare_condition, declare_integer, print_condition_in, print_integer_in,
     reduce_entry, reduce_integer, set_condition, set_entry_in, set_integer,
 };
-use crate::error::MeaningError;
 use crate::opening::open;
 use crate::outcome::{End, Outcome};
 use crate::read::{bounds_of, decide, depth, fault, forget, go_on, is_below, push_bounds};
@@ -27,21 +25,20 @@ use typed_tree::{Action, Condition, Statement, Typed};
 /// it goes over the trees, one statement after the other, and is slow. The loops of the program make at
 /// most `turns` turns in all. The caller sees to it that the edges ascend and name vertices.
 ///
-/// The only error is `NoMemory`.
+/// The only error is out of memory.
 pub fn plain_run(
     alloc: Global,
     program: &Typed,
     vertices: u32,
     edges: &[(u32, u32)],
     turns: u64,
-) -> Result<Outcome, MeaningError>
-    ensures ok { IfOk result (λ o. o ≡ meaning (program_tree program.now) (record { vertices = vertices; edges = edges.now }) turns) }
-    ensures err { IfErr result (λ e. e ≡ NoMemory) }
+) -> Result<Outcome, AllocError>
+    ensures { IfOk result (λ o. o ≡ meaning (program_tree program.now) (record { vertices = vertices; edges = edges.now }) turns) }
 {
     let graph = Graph { vertices, edges };
     let mut state = open(alloc, program, &graph, turns)?;
     let end = run_all(alloc, &program.main, program, &graph, &mut state)?;
-    Ok(show(alloc, program, turns, state, end)?)
+    show(alloc, program, turns, state, end)
 }
 
 /// Runs statements in order, and answers how the run ended if it did.

@@ -243,10 +243,7 @@ fn run_on(alloc: Global, program: &Typed, graph: &Graph, turns: u64) -> Result<O
     ensures { IfOk result (λ o. o ≡ meaning_on graph.now (program_tree program.now) turns) }
 {
     let edges: Vec<(u32, u32)> = graph.edges().collect(alloc)?;
-    match plain_run(alloc, program, graph.vertices(), &edges, turns) {
-        Ok(outcome) => Ok(outcome),
-        Err(_) => Err(AllocError),
-    }
+    plain_run(alloc, program, graph.vertices(), &edges, turns)
 }
 
 /// The reply to a step that was refused. `NoMemory` has no reply, and gives `AllocError`.
