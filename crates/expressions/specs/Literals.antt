@@ -1,4 +1,4 @@
--- Reading a number or a truth value.
+-- For proofs only: reading a number or a truth value.
 use Rattle.std.specs.Prelude.{◌∷◌, Some, None}
 use Rattle.expressions.specs.Words.{Number, Reserved}
 use Rattle.expressions.specs.Trees.{PrimaryTree, Literal, Truth}

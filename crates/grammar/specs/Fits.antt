@@ -1,4 +1,4 @@
--- Trees whose expressions and blocks stand in each other no deeper than readers go.
+-- For proofs only: trees whose expressions and blocks stand in each other no deeper than readers go.
 use Rattle.std.specs.Prelude.{ℕ, zero, suc, ◌≤◌, List, [], ◌∷◌}
 use Rattle.expressions.specs.Trees.{ExpressionTree}
 use Rattle.expressions.specs.Depth.{expression_depth}

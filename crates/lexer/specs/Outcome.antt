@@ -6,7 +6,7 @@ use Rattle.lexer.specs.declared.error.LexError.{LexError}
 use Rattle.lexer.specs.declared.error.LexError.TheVariants.{NoMemory}
 use Rattle.lexer.specs.Tokens.{Reads}
 
--- the answer is how the text reads, or want of memory
+-- the answer is how the text reads, or that memory ran out
 abbrev pub Answers : List ℕ → Result (List Token) LexError → Type 0
 Answers text (Err NoMemory) = Unit {0}
 Answers text answer = Reads text answer

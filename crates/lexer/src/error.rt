@@ -34,7 +34,7 @@ impl LexError {
         }
     }
 
-    /// The offset of the fault, in bytes, or `None` for want of memory.
+    /// The offset of the fault, in bytes, or `None` where memory ran out.
     pub fn at(self) -> Option<usize>
         ensures { result ≡ offset_of self }
     {

@@ -1,4 +1,4 @@
--- What statements are read by their first word, and blocks by how deep they may stand in each other.
+-- For proofs only: what statements are read by their first word, and blocks by how deep they may stand in each other.
 use Rattle.std.specs.Prelude.{ℕ, zero, suc, List, [], ◌∷◌, Option, Some, None}
 use Rattle.lexer.specs.declared.keyword.Keyword.{Keyword}
 use Rattle.lexer.specs.declared.keyword.Keyword.TheVariants as keyword

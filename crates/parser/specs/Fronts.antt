@@ -1,4 +1,4 @@
--- What the first words of a piece of a source decide.
+-- For proofs only: what the first words of a piece of a source decide.
 use Rattle.std.specs.Prelude.{Bool, true, false, List, [], ◌∷◌, ◌++◌, Option, Some, None}
 use Rattle.lexer.specs.declared.keyword.Keyword.{Keyword}
 use Rattle.lexer.specs.declared.keyword.Keyword.TheVariants as keyword

@@ -45,7 +45,7 @@ Parses text (Err (Unexpected at)) = IsNoSource text
 Parses text (Err (TooDeep at)) = IsTooDeep text at
 Parses text (Err NoMemory) = ⊥
 
--- the answer is what the text is, or want of memory
+-- the answer is what the text is, or that memory ran out
 abbrev pub Answers : List ℕ → Result SourceTree ParseError → Type 0
 Answers text (Err NoMemory) = Unit {0}
 Answers text answer = Parses text answer

@@ -1,4 +1,4 @@
--- Tokens that have no text and no place: symbols, and keywords that open nothing.
+-- For proofs only: tokens that have no text and no place: symbols, and keywords that open nothing.
 use Rattle.std.specs.Prelude.{Bool, true, false, []}
 use Rattle.lexer.specs.declared.token.TokenKind.{TokenKind}
 use Rattle.lexer.specs.declared.token.TokenKind.TheVariants as kind

@@ -1,4 +1,4 @@
--- What vectors are seen as.
+-- For proofs only: what vectors are seen as.
 use Rattle.std.specs.Prelude.{List, Option, map, option_map}
 use Rattle.std.specs.Global.{Vec}
 use Rattle.expressions.specs.Words.{Identifier}

@@ -1,4 +1,4 @@
--- What the steps of the writer say of the bytes so far. No public contract cites these.
+-- For proofs only: what the steps of the writer say of the bytes so far.
 use Rattle.std.specs.Prelude.{◌≡◌, ℕ, List, ◌∷◌, ◌++◌, drop, map}
 use Rattle.std.specs.Global.{Vec}
 use Rattle.lexer.specs.declared.keyword.Keyword.TheVariants as keyword

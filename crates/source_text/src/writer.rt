@@ -20,7 +20,7 @@ use std::alloc::{AllocError, Global};
 /// with is. A source that is built by hand may hold what no text has, such as a keyword for a name: it is
 /// written as it is.
 ///
-/// The one error is want of memory. The time is in proportion to the length of the text; no call goes deeper
+/// The one error is that memory runs out. The time is in proportion to the length of the text; no call goes deeper
 /// than the source nests, and only the text itself takes memory.
 pub fn write(alloc: Global, source: &Source) -> Result<Vec<u8>, AllocError>
     ensures text { IfOk result (λ text. text.items ≡ text_of (source_words (source_tree source.now))) }
