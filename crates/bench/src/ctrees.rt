@@ -183,9 +183,9 @@ impl Work {
 }
 
 fn share_tails(set: &CTree, tails: &mut Vec<Tail>) -> io::Result<()> {
-    tails.push(set.prefix().share().map_err(told)?)?;
+    tails.push(set.prefix().share()?)?;
     for (_, tail) in set.heads() {
-        tails.push(tail.share().map_err(told)?)?;
+        tails.push(tail.share()?)?;
     }
     Ok(())
 }

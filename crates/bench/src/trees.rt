@@ -173,9 +173,9 @@ fn map_of(alloc: Global, count: u32) -> io::Result<BTreeMap<u32, u64>> {
     Ok(entries_of(alloc, count)?.into_iter().collect(alloc)?)
 }
 
-fn made<T: Drop>(alloc: Global, answer: Result<T, TreeError>) -> io::Result<T> {
+fn made(alloc: Global, answer: Result<Tree<u64>, TreeError>) -> io::Result<Tree<u64>> {
     match answer {
-        Ok(value) => Ok(value),
+        Ok(tree) => Ok(tree),
         Err(error) => Err(Error::other(error.to_string(alloc)?.as_str())),
     }
 }
@@ -191,10 +191,7 @@ fn grown_tree(alloc: Global, tree: Tree<u64>, inserts: u32, shared: bool) -> io:
     let mut tree = tree;
     for i in 0..inserts {
         let other = if shared { tree.share()? } else { Tree::new() };
-        tree = made(
-            alloc,
-            tree.insert(alloc, key_among(&mut random), u64::from(i)),
-        )?;
+        tree = tree.insert(alloc, key_among(&mut random), u64::from(i))?;
         drop(other);
     }
     Ok(tree)

@@ -165,9 +165,7 @@ impl Share for CTree {
     /// One more owner of the prefix's bytes and of the root of the tree of chunks. It takes no
     /// memory; the error comes where a count of owners is full.
     fn share(&self) -> Result<CTree, AllocError> {
-        let Ok(prefix) = self.prefix.share() else {
-            return Err(AllocError);
-        };
+        let prefix = self.prefix.share()?;
         let chunks = self.chunks.share()?;
         Ok(CTree {
             prefix,

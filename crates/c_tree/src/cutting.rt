@@ -1,9 +1,8 @@
 //! Sets made of ascending lists.
 
-ghost use Rattle.std.specs.Prelude.{◌≡◌, ◌↔◌, ◌++◌, [], IsTrue, IfOk, IfErr, OnOk, None};
+ghost use Rattle.std.specs.Prelude.{◌≡◌, ◌↔◌, ◌++◌, [], IsTrue, IfOk, OnOk, None};
 ghost use Rattle.shared_tree.specs.Entries.{IsMap};
 ghost use Rattle.tail_codec.specs.Spelling.{Ascends, based_list};
-ghost use Rattle.c_tree.specs.declared.error.CTreeError.TheVariants.{NoMemory};
 ghost use Rattle.c_tree.specs.Chunks.{before_head, chunks_of};
 ghost use Rattle.c_tree.specs.Cutting.{from_head, first_of};
 ghost use Rattle.c_tree.specs.Outcome.{Builds};
@@ -13,7 +12,7 @@ use crate::ctree::CTree;
 use crate::error::CTreeError;
 use crate::tail::ChunkTail;
 use shared_tree::{Tree, TreeError};
-use std::alloc::Global;
+use std::alloc::{AllocError, Global};
 use tail_codec::TailBuilder;
 
 impl CTree {
@@ -34,9 +33,7 @@ impl CTree {
         }
         let mut builder = TailBuilder::new(alloc, None);
         let rest = push_before_head(&mut builder, chunk_size, elements)?;
-        let prefix = builder
-            .finish(alloc, rest.first().copied())
-            .or(Err(CTreeError::NoMemory))?;
+        let prefix = builder.finish(alloc, rest.first().copied())?;
         let chunks = cut(alloc, builder, chunk_size, rest)?;
         let chunks = tree_of(alloc, chunks)?;
         Ok(CTree::from_parts(prefix, chunks, elements.len(), chunk_size))
@@ -63,18 +60,17 @@ fn push_before_head<'a>(
     builder: &mut TailBuilder,
     chunk_size: ChunkSize,
     elements: &'a [u32],
-) -> Result<&'a [u32], CTreeError>
+) -> Result<&'a [u32], AllocError>
     requires { Ascends builder.old.base (builder.old.elements ++ elements.now) }
     ensures tail { OnOk result (builder.new ≡ based_list builder.old.base
         (builder.old.elements ++ before_head chunk_size elements.now)) }
     ensures rest { IfOk result (λ r. r.now ≡ from_head chunk_size elements.now) }
-    ensures no_memory { IfErr result (λ e. e ≡ NoMemory) }
 {
     for (place, element) in elements.iter().enumerate() {
         if chunk_size.is_head(*element) {
             return Ok(&elements[place..]);
         }
-        builder.push(*element).or(Err(CTreeError::NoMemory))?;
+        builder.push(*element)?;
     }
     Ok(&[])
 }
@@ -86,34 +82,30 @@ fn cut(
     mut builder: TailBuilder,
     chunk_size: ChunkSize,
     elements: &[u32],
-) -> Result<Vec<(u32, ChunkTail)>, CTreeError>
+) -> Result<Vec<(u32, ChunkTail)>, AllocError>
     requires ascending { Ascends None elements.now }
     requires cut { before_head chunk_size elements.now ≡ [] }
     requires builder { builder ≡ based_list (first_of elements.now) [] }
-    ensures chunks { IfOk result (λ v. v.items ≡ chunks_of chunk_size elements.now) }
-    ensures no_memory { IfErr result (λ e. e ≡ NoMemory) }
+    ensures { IfOk result (λ v. v.items ≡ chunks_of chunk_size elements.now) }
 {
     let mut chunks = Vec::new(alloc);
     let mut rest = elements;
     while let Some((head, after)) = rest.split_first() {
         rest = push_before_head(&mut builder, chunk_size, after)?;
-        let tail = builder
-            .finish(alloc, rest.first().copied())
-            .or(Err(CTreeError::NoMemory))?;
+        let tail = builder.finish(alloc, rest.first().copied())?;
         chunks.push((*head, ChunkTail::new(tail)))?;
     }
     Ok(chunks)
 }
 
 /// The tree of chunks whose heads ascend.
-fn tree_of(alloc: Global, chunks: Vec<(u32, ChunkTail)>) -> Result<Tree<ChunkTail>, CTreeError>
+fn tree_of(alloc: Global, chunks: Vec<(u32, ChunkTail)>) -> Result<Tree<ChunkTail>, AllocError>
     requires { IsMap chunks.items }
-    ensures entries { IfOk result (λ t. t.entries ≡ chunks.items) }
-    ensures no_memory { IfErr result (λ e. e ≡ NoMemory) }
+    ensures { IfOk result (λ t. t.entries ≡ chunks.items) }
 {
     match Tree::from_sorted(alloc, chunks) {
         Ok(tree) => Ok(tree),
-        Err(TreeError::NoMemory) => Err(CTreeError::NoMemory),
+        Err(TreeError::NoMemory) => Err(AllocError),
         Err(TreeError::NotAscending) => unreachable!(),
     }
 }

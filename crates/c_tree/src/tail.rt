@@ -39,9 +39,7 @@ impl ChunkTail {
 impl Share for ChunkTail {
     /// One more owner of the tail's bytes.
     fn share(&self) -> Result<ChunkTail, AllocError> {
-        match self.tail.share() {
-            Ok(tail) => Ok(ChunkTail { tail }),
-            Err(_) => Err(AllocError),
-        }
+        let tail = self.tail.share()?;
+        Ok(ChunkTail { tail })
     }
 }

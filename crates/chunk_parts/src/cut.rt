@@ -40,7 +40,7 @@ impl<'a> Part<'a> {
     /// The part cut at a number. Chunks that lie on one side are shared. It takes time in proportion
     /// to the depth and to the length of one tail.
     ///
-    /// The only error is want of memory.
+    /// The only error is out of memory.
     pub fn cut(&self, alloc: Global, key: u32) -> Result<Cut, AllocError>
         ensures { IfOk result (λ c. IsCut key self.now c.below c.found c.above) }
     {

@@ -18,7 +18,7 @@ impl Pieces {
     /// The elements of these pieces, then a head, then those of other pieces. What stands before the
     /// heads of the other pieces becomes the tail of the head.
     ///
-    /// The only error is want of memory.
+    /// The only error is out of memory.
     pub fn join(self, alloc: Global, key: u32, other: Pieces) -> Result<Pieces, AllocError>
         requires sizes { other.chunk_size ≡ self.chunk_size }
         requires head { is_head self.chunk_size key ≡ true }
@@ -36,7 +36,7 @@ impl Pieces {
     /// The elements of these pieces and then those of other pieces. What stands before the heads of
     /// the other pieces goes to the tail of the last head, or to what stands before all heads.
     ///
-    /// The only error is want of memory.
+    /// The only error is out of memory.
     pub fn join2(self, alloc: Global, other: Pieces) -> Result<Pieces, AllocError>
         requires sizes { other.chunk_size ≡ self.chunk_size }
         requires ascending { Ascends None (self.elements ++ other.elements) }
@@ -62,10 +62,7 @@ fn joined(
     requires { IsMap (left.entries ++ (key, tail) ∷ right.entries) }
     ensures { IfOk result (λ t. t.entries ≡ left.entries ++ (key, tail) ∷ right.entries) }
 {
-    match shared_tree::join(alloc, left, key, tail, right) {
-        Ok(tree) => Ok(tree),
-        Err(_) => Err(AllocError),
-    }
+    shared_tree::join(alloc, left, key, tail, right)
 }
 
 /// The chunks of one tree and then those of another.
@@ -77,10 +74,7 @@ fn concatenated(
     requires { IsMap (left.entries ++ right.entries) }
     ensures { IfOk result (λ t. t.entries ≡ left.entries ++ right.entries) }
 {
-    match shared_tree::join2(alloc, left, right) {
-        Ok(tree) => Ok(tree),
-        Err(_) => Err(AllocError),
-    }
+    shared_tree::join2(alloc, left, right)
 }
 
 /// Pieces with more elements after them, of which none is a head.

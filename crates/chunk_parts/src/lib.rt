@@ -14,7 +14,7 @@
 //! `differences_have_what_one_lacks` are their laws, and do nothing when called. `unite_tails` and
 //! `subtract_tails` do them on tails. `unite_parts` and `subtract_parts` do them on whole parts and give
 //! a list, of which `Pieces::from_sorted` makes pieces; they give up where a tail may be shared. The
-//! only error of this crate is want of memory.
+//! only error of this crate is out of memory.
 //!
 //! Unions and differences of sets stand on this crate.
 #![tactic(auto)]

@@ -20,7 +20,7 @@ pub(crate) fn push_rest(
 {
     let mut next = next;
     while let Some(element) = next {
-        builder.push(element).or(Err(AllocError))?;
+        builder.push(element)?;
         next = rest.next();
     }
     Ok(())
@@ -43,7 +43,7 @@ pub(crate) fn push_below(
         if element >= key {
             return Ok(Some(element));
         }
-        builder.push(element).or(Err(AllocError))?;
+        builder.push(element)?;
     }
     Ok(None)
 }
@@ -60,7 +60,7 @@ pub(crate) fn based(alloc: Global, tail: Tail, base: Option<u32>) -> Result<Tail
     let mut rest = tail.iter();
     let next = rest.next();
     push_rest(&mut builder, next, &mut rest)?;
-    builder.finish(alloc, None).or(Err(AllocError))
+    builder.finish(alloc, None)
 }
 
 /// The elements of one tail and then those of another, over a base below them.
@@ -80,7 +80,7 @@ pub(crate) fn appended(
     let mut rest = back.iter();
     let next = rest.next();
     push_rest(&mut builder, next, &mut rest)?;
-    builder.finish(alloc, None).or(Err(AllocError))
+    builder.finish(alloc, None)
 }
 
 /// What a tail has below a number, whether it has the number, and what it has above. A tail that lies
@@ -97,21 +97,21 @@ pub(crate) fn cut_tail(
     let mut builder = TailBuilder::new(alloc, tail.base());
     let mut rest = tail.iter();
     let Some(next) = push_below(&mut builder, &mut rest, key)? else {
-        let same = tail.share().or(Err(AllocError))?;
+        let same = tail.share()?;
         return Ok((same, false, Tail::new(Some(key))));
     };
-    let below = builder.finish(alloc, Some(key)).or(Err(AllocError))?;
+    let below = builder.finish(alloc, Some(key))?;
     if next == key {
         let next = rest.next();
         push_rest(&mut builder, next, &mut rest)?;
-        let above = builder.finish(alloc, None).or(Err(AllocError))?;
+        let above = builder.finish(alloc, None)?;
         return Ok((below, true, above));
     }
     if below.is_empty() {
-        let same = tail.share().or(Err(AllocError))?;
+        let same = tail.share()?;
         return Ok((below, false, same));
     }
     push_rest(&mut builder, Some(next), &mut rest)?;
-    let above = builder.finish(alloc, None).or(Err(AllocError))?;
+    let above = builder.finish(alloc, None)?;
     Ok((below, false, above))
 }

@@ -14,7 +14,7 @@ use std::alloc::{AllocError, Global};
 /// head, or what stands before all heads, has no element of the other part in its range, so that it may
 /// be shared.
 ///
-/// The only error is want of memory.
+/// The only error is out of memory.
 #[inline(never)]
 pub fn unite_parts(
     alloc: Global,
@@ -61,7 +61,7 @@ pub fn unite_parts(
 /// What the first part has and the second lacks, and how many elements they have in common, or `None`
 /// where a tail may be shared, as at [`unite_parts`].
 ///
-/// The only error is want of memory.
+/// The only error is out of memory.
 #[inline(never)]
 pub fn subtract_parts(
     alloc: Global,

@@ -115,7 +115,7 @@ impl<'a> Part<'a> {
     pub fn share(&self) -> Result<Pieces, AllocError>
         ensures { IfOk result (λ p. p ≡ self.now) }
     {
-        let loose = self.loose.share().or(Err(AllocError))?;
+        let loose = self.loose.share()?;
         let chunks = self.chunks.share()?;
         Ok(Pieces::new(loose, chunks, self.chunk_size))
     }

@@ -78,7 +78,7 @@ impl Pieces {
 
     /// The elements of an ascending list, each chunk made anew. It takes time in proportion to them.
     ///
-    /// The only error is want of memory.
+    /// The only error is out of memory.
     pub fn from_sorted(
         alloc: Global,
         chunk_size: ChunkSize,

@@ -10,7 +10,7 @@ use tail_codec::{Tail, TailBuilder};
 
 /// The union of two tails over a base below both, and how many elements they have in common.
 ///
-/// The only error is want of memory.
+/// The only error is out of memory.
 pub fn unite_tails(
     alloc: Global,
     base: Option<u32>,
@@ -30,13 +30,13 @@ pub fn unite_tails(
     let (mut next_x, mut next_y) = (xs.next(), ys.next());
     while let (Some(x), Some(y)) = (next_x, next_y) {
         if x < y {
-            builder.push(x).or(Err(AllocError))?;
+            builder.push(x)?;
             next_x = xs.next();
         } else if y < x {
-            builder.push(y).or(Err(AllocError))?;
+            builder.push(y)?;
             next_y = ys.next();
         } else {
-            builder.push(x).or(Err(AllocError))?;
+            builder.push(x)?;
             common += 1;
             next_x = xs.next();
             next_y = ys.next();
@@ -44,14 +44,14 @@ pub fn unite_tails(
     }
     push_rest(&mut builder, next_x, &mut xs)?;
     push_rest(&mut builder, next_y, &mut ys)?;
-    let tail = builder.finish(alloc, None).or(Err(AllocError))?;
+    let tail = builder.finish(alloc, None)?;
     Ok((tail, common))
 }
 
 /// What the first tail has and the second lacks, over a base below the first, and how many elements
 /// they have in common.
 ///
-/// The only error is want of memory.
+/// The only error is out of memory.
 pub fn subtract_tails(
     alloc: Global,
     base: Option<u32>,
@@ -71,7 +71,7 @@ pub fn subtract_tails(
     let (mut next_x, mut next_y) = (xs.next(), ys.next());
     while let (Some(x), Some(y)) = (next_x, next_y) {
         if x < y {
-            builder.push(x).or(Err(AllocError))?;
+            builder.push(x)?;
             next_x = xs.next();
         } else if y < x {
             next_y = ys.next();
@@ -82,6 +82,6 @@ pub fn subtract_tails(
         }
     }
     push_rest(&mut builder, next_x, &mut xs)?;
-    let tail = builder.finish(alloc, None).or(Err(AllocError))?;
+    let tail = builder.finish(alloc, None)?;
     Ok((tail, common))
 }

@@ -1,13 +1,9 @@
 -- What the calls that make trees give, case by case.
-use Rattle.std.specs.Prelude.{◌≡◌, ℕ, ◌+◌, ◌*◌, ◌^◌, ◌<◌, ◌≤◌, Result, Ok, Err, MatchResult, List}
+use Rattle.std.specs.Prelude.{◌≡◌, ℕ, ◌+◌, ◌*◌, ◌^◌, ◌<◌, ◌≤◌, Result, Ok, Err, List}
 use Rattle.shared_tree.specs.declared.error.TreeError.{TreeError}
 use Rattle.shared_tree.specs.declared.error.TreeError.TheVariants.{NotAscending, NoMemory}
 use Rattle.shared_tree.specs.Entries.{IsMap}
 use Rattle.shared_tree.specs.Balanced.{Balanced}
-
--- the call gives a value with P, unless there is no memory for it
-abbrev pub Gives : {T : Type 0} → Result T TreeError → (T → Type 0) → Type 0
-Gives r P = MatchResult r P (λ e. e ≡ NoMemory)
 
 -- a tree of these entries, unless they are no map in order
 abbrev pub Builds : {V : Type 0} → List (ℕ × V) → Result (Balanced V) TreeError → Type 0

@@ -1,23 +1,26 @@
 //! Trees split at a key, and trees with one key changed.
 
+ghost use Rattle.std.specs.Prelude.{IfOk};
 ghost use Rattle.shared_tree.specs.Changes.{IsSplit, IsInserted, IsRemoved};
-ghost use Rattle.shared_tree.specs.Outcome.{Gives};
 
-use crate::error::TreeError;
 use crate::joins::{balance, join, join2, with_left, with_right};
 use crate::open::{Opened, fork, fork_new, open, take_apart, without_left, without_right};
 use crate::share::Share;
 use crate::tree::{Link, Tree};
-use std::alloc::Global;
+use std::alloc::{AllocError, Global};
 
 impl<V: Share> Tree<V> {
     /// The tree of the entries below `key`, the value at `key` if there is one, and the tree of the
     /// entries above. The tree itself stays as it is, and shares nodes with the two. It takes time
     /// in proportion to the depth.
     ///
-    /// The only error is `NoMemory`.
-    pub fn split(&self, alloc: Global, key: u32) -> Result<(Tree<V>, Option<V>, Tree<V>), TreeError>
-        ensures { Gives result (λ p. IsSplit key self.now.entries p.0.entries p.1 p.2.entries) }
+    /// The only error is out of memory.
+    pub fn split(
+        &self,
+        alloc: Global,
+        key: u32,
+    ) -> Result<(Tree<V>, Option<V>, Tree<V>), AllocError>
+        ensures { IfOk result (λ p. IsSplit key self.now.entries p.0.entries p.1 p.2.entries) }
     {
         let Some((left, root_key, value, right)) = self.parts() else {
             return Ok((Tree::new(), None, Tree::new()));
@@ -39,9 +42,9 @@ impl<V: Share> Tree<V> {
     /// way that have another owner are copied; those that have none are used again. It takes time
     /// in proportion to the depth.
     ///
-    /// The only error is `NoMemory`, which leaves other owners' trees as they are.
-    pub fn insert(self, alloc: Global, key: u32, value: V) -> Result<Tree<V>, TreeError>
-        ensures { Gives result (λ t. IsInserted key value self t) }
+    /// The only error is out of memory, which leaves other owners' trees as they are.
+    pub fn insert(self, alloc: Global, key: u32, value: V) -> Result<Tree<V>, AllocError>
+        ensures { IfOk result (λ t. IsInserted key value self t) }
     {
         let (root_key, node) = match self.into_link() {
             Link::Empty => {
@@ -68,9 +71,9 @@ impl<V: Share> Tree<V> {
     /// no entry. Nodes on the way are copied or used again as by `insert`, also where nothing is
     /// found. It takes time in proportion to the depth.
     ///
-    /// The only error is `NoMemory`, which leaves other owners' trees as they are.
-    pub fn remove(self, alloc: Global, key: u32) -> Result<(Tree<V>, Option<V>), TreeError>
-        ensures { Gives result (λ p. IsRemoved key self p.1 p.0) }
+    /// The only error is out of memory, which leaves other owners' trees as they are.
+    pub fn remove(self, alloc: Global, key: u32) -> Result<(Tree<V>, Option<V>), AllocError>
+        ensures { IfOk result (λ p. IsRemoved key self p.1 p.0) }
     {
         let Some(root) = open(alloc, self)? else {
             return Ok((Tree::new(), None));

@@ -1,32 +1,30 @@
 //! Joining trees, with rotations where the sides differ in depth.
 
-ghost use Rattle.std.specs.Prelude.{◌≡◌, ◌+◌, ◌≤◌, ◌∷◌, ◌++◌};
+ghost use Rattle.std.specs.Prelude.{◌≡◌, ◌+◌, ◌≤◌, ◌∷◌, ◌++◌, IfOk};
 ghost use Rattle.shared_tree.specs.Entries.{IsMap};
 ghost use Rattle.shared_tree.specs.Joins.{IsJoin, IsConcatenation};
 ghost use Rattle.shared_tree.specs.Opened.{IsPopped};
-ghost use Rattle.shared_tree.specs.Outcome.{Gives};
 
-use crate::error::TreeError;
 use crate::open::{Opened, Slot, fork, fork_new, open, rooted, without_left, without_right};
 use crate::share::Share;
 use crate::tree::{Node, Tree};
-use std::alloc::Global;
+use std::alloc::{AllocError, Global};
 use std::sync::Arc;
 
 /// The tree of the entries of `left`, then `key` with `value`, then the entries of `right`. The
 /// caller sees to it that `key` is above all keys of `left` and below all of `right`. It takes time
 /// in proportion to the difference of their depths.
 ///
-/// The only error is `NoMemory`.
+/// The only error is out of memory.
 pub fn join<V: Share>(
     alloc: Global,
     left: Tree<V>,
     key: u32,
     value: V,
     right: Tree<V>,
-) -> Result<Tree<V>, TreeError>
+) -> Result<Tree<V>, AllocError>
     requires { IsMap (left.entries ++ (key, value) ∷ right.entries) }
-    ensures { Gives result (λ t. IsJoin left key value right t) }
+    ensures { IfOk result (λ t. IsJoin left key value right t) }
 {
     let slot = Slot::new(alloc, value)?;
     Ok(joined(alloc, left, key, slot, right)?)
@@ -35,10 +33,10 @@ pub fn join<V: Share>(
 /// The tree of the entries of `left` and then those of `right`. The caller sees to it that all keys
 /// of `left` are below all of `right`. It takes time in proportion to their depths.
 ///
-/// The only error is `NoMemory`.
-pub fn join2<V: Share>(alloc: Global, left: Tree<V>, right: Tree<V>) -> Result<Tree<V>, TreeError>
+/// The only error is out of memory.
+pub fn join2<V: Share>(alloc: Global, left: Tree<V>, right: Tree<V>) -> Result<Tree<V>, AllocError>
     requires { IsMap (left.entries ++ right.entries) }
-    ensures { Gives result (λ t. IsConcatenation left right t) }
+    ensures { IfOk result (λ t. IsConcatenation left right t) }
 {
     match pop_last(alloc, left)? {
         None => Ok(right),
@@ -55,8 +53,8 @@ struct Last<V> {
 }
 
 /// The last entry apart from the others, or `None` where there is none.
-fn pop_last<V: Share>(alloc: Global, tree: Tree<V>) -> Result<Option<Last<V>>, TreeError>
-    ensures { Gives result (IsPopped tree) }
+fn pop_last<V: Share>(alloc: Global, tree: Tree<V>) -> Result<Option<Last<V>>, AllocError>
+    ensures { IfOk result (IsPopped tree) }
 {
     let Some(root) = open(alloc, tree)? else {
         return Ok(None);
@@ -91,9 +89,9 @@ pub(crate) fn joined<V: Share>(
     key: u32,
     slot: Slot<V>,
     right: Tree<V>,
-) -> Result<Tree<V>, TreeError>
+) -> Result<Tree<V>, AllocError>
     requires { IsMap (left.entries ++ (key, slot.node.value.value) ∷ right.entries) }
-    ensures { Gives result (λ t. IsJoin left key slot.node.value.value right t) }
+    ensures { IfOk result (λ t. IsJoin left key slot.node.value.value right t) }
 {
     if left.depth() > right.depth() + 1 {
         let Some(top) = open(alloc, left)? else {
@@ -119,11 +117,11 @@ pub(crate) fn balance<V: Share>(
     key: u32,
     slot: Slot<V>,
     right: Tree<V>,
-) -> Result<Tree<V>, TreeError>
+) -> Result<Tree<V>, AllocError>
     requires map { IsMap (left.entries ++ (key, slot.node.value.value) ∷ right.entries) }
     requires left_near { left.depth ≤ right.depth + 2 }
     requires right_near { right.depth ≤ left.depth + 2 }
-    ensures { Gives result (λ t. IsJoin left key slot.node.value.value right t) }
+    ensures { IfOk result (λ t. IsJoin left key slot.node.value.value right t) }
 {
     if left.depth() == right.depth() + 2 {
         Ok(rotate_right(alloc, left, key, slot, right)?)
@@ -141,11 +139,11 @@ pub(crate) fn with_left<V: Share>(
     left: Tree<V>,
     key: u32,
     node: Arc<Node<V>>,
-) -> Result<Tree<V>, TreeError>
+) -> Result<Tree<V>, AllocError>
     requires map { IsMap (left.entries ++ (key, node.value.value) ∷ node.value.right.entries) }
     requires left_near { left.depth ≤ node.value.right.depth + 2 }
     requires right_near { node.value.right.depth ≤ left.depth + 2 }
-    ensures { Gives result (λ t. IsJoin left key node.value.value node.value.right t) }
+    ensures { IfOk result (λ t. IsJoin left key node.value.value node.value.right t) }
 {
     let (left_depth, right_depth) = (left.depth(), node.right.depth());
     if left_depth > right_depth + 1 || right_depth > left_depth + 1 {
@@ -172,11 +170,11 @@ pub(crate) fn with_right<V: Share>(
     right: Tree<V>,
     key: u32,
     node: Arc<Node<V>>,
-) -> Result<Tree<V>, TreeError>
+) -> Result<Tree<V>, AllocError>
     requires map { IsMap (node.value.left.entries ++ (key, node.value.value) ∷ right.entries) }
     requires left_near { node.value.left.depth ≤ right.depth + 2 }
     requires right_near { right.depth ≤ node.value.left.depth + 2 }
-    ensures { Gives result (λ t. IsJoin node.value.left key node.value.value right t) }
+    ensures { IfOk result (λ t. IsJoin node.value.left key node.value.value right t) }
 {
     let (left_depth, right_depth) = (node.left.depth(), right.depth());
     if left_depth > right_depth + 1 || right_depth > left_depth + 1 {
@@ -203,10 +201,10 @@ fn rotate_right<V: Share>(
     key: u32,
     slot: Slot<V>,
     right: Tree<V>,
-) -> Result<Tree<V>, TreeError>
+) -> Result<Tree<V>, AllocError>
     requires map { IsMap (left.entries ++ (key, slot.node.value.value) ∷ right.entries) }
     requires deeper { left.depth ≡ right.depth + 2 }
-    ensures { Gives result (λ t. IsJoin left key slot.node.value.value right t) }
+    ensures { IfOk result (λ t. IsJoin left key slot.node.value.value right t) }
 {
     let Some(top) = open(alloc, left)? else {
         unreachable!()
@@ -230,10 +228,10 @@ fn rotate_left<V: Share>(
     key: u32,
     slot: Slot<V>,
     right: Tree<V>,
-) -> Result<Tree<V>, TreeError>
+) -> Result<Tree<V>, AllocError>
     requires map { IsMap (left.entries ++ (key, slot.node.value.value) ∷ right.entries) }
     requires deeper { right.depth ≡ left.depth + 2 }
-    ensures { Gives result (λ t. IsJoin left key slot.node.value.value right t) }
+    ensures { IfOk result (λ t. IsJoin left key slot.node.value.value right t) }
 {
     let Some(top) = open(alloc, right)? else {
         unreachable!()

@@ -11,7 +11,7 @@
 //! is used again in its own block. A node is one block of memory: its count, its value and the
 //! links to its sides. A link has the depth below it and the key of its node, so that a search and
 //! a change read no node beside their way. Where there is no memory, or a count of owners is full,
-//! a call answers `NoMemory`; what it owned is dropped, and nothing else is changed.
+//! a call answers out of memory; what it owned is dropped, and nothing else is changed.
 //!
 //! Values are of a type that is [`Share`]. The balance is that of Adelson-Velsky and Landis (1962),
 //! and `join` as the call on which others rest is from Blelloch, Ferizovic and Sun, "Just Join for

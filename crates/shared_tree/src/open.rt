@@ -1,12 +1,10 @@
 //! Nodes taken apart and put together, in their own blocks where they have one owner.
 
-ghost use Rattle.std.specs.Prelude.{◌≡◌, ◌∷◌, ◌++◌};
+ghost use Rattle.std.specs.Prelude.{◌≡◌, ◌∷◌, ◌++◌, IfOk};
 ghost use Rattle.shared_tree.specs.Entries.{IsMap};
 ghost use Rattle.shared_tree.specs.Balanced.{IsFork, DifferByAtMostOne};
 ghost use Rattle.shared_tree.specs.Opened.{IsOpened};
-ghost use Rattle.shared_tree.specs.Outcome.{Gives};
 
-use crate::error::TreeError;
 use crate::share::Share;
 use crate::tree::{Link, Node, Tree};
 use std::alloc::{AllocError, Global};
@@ -30,8 +28,8 @@ pub(crate) struct Opened<V> {
 
 impl<V: Share> Slot<V> {
     /// The value in a new block.
-    pub(crate) fn new(alloc: Global, value: V) -> Result<Slot<V>, TreeError>
-        ensures { Gives result (λ slot. slot.node.value.value ≡ value) }
+    pub(crate) fn new(alloc: Global, value: V) -> Result<Slot<V>, AllocError>
+        ensures { IfOk result (λ slot. slot.node.value.value ≡ value) }
     {
         let node = Node {
             value,
@@ -44,8 +42,8 @@ impl<V: Share> Slot<V> {
     }
 
     /// The slot with another value in it.
-    pub(crate) fn with(self, alloc: Global, value: V) -> Result<Slot<V>, TreeError>
-        ensures { Gives result (λ slot. slot.node.value.value ≡ value) }
+    pub(crate) fn with(self, alloc: Global, value: V) -> Result<Slot<V>, AllocError>
+        ensures { IfOk result (λ slot. slot.node.value.value ≡ value) }
     {
         let mut node = self.node;
         match Arc::get_mut(&mut node) {
@@ -58,8 +56,8 @@ impl<V: Share> Slot<V> {
     }
 
     /// The value out of its block.
-    pub(crate) fn into_value(self) -> Result<V, TreeError>
-        ensures { Gives result (λ value. value ≡ self.node.value.value) }
+    pub(crate) fn into_value(self) -> Result<V, AllocError>
+        ensures { IfOk result (λ value. value ≡ self.node.value.value) }
     {
         match Arc::try_unwrap(self.node) {
             Ok(node) => Ok(node.value),
@@ -70,8 +68,8 @@ impl<V: Share> Slot<V> {
 
 /// The root apart from its sides, or `None` where the tree is empty.
 #[inline]
-pub(crate) fn open<V: Share>(alloc: Global, tree: Tree<V>) -> Result<Option<Opened<V>>, TreeError>
-    ensures { Gives result (IsOpened tree) }
+pub(crate) fn open<V: Share>(alloc: Global, tree: Tree<V>) -> Result<Option<Opened<V>>, AllocError>
+    ensures { IfOk result (IsOpened tree) }
 {
     match tree.into_link() {
         Link::Empty => Ok(None),
@@ -85,8 +83,8 @@ pub(crate) fn take_apart<V: Share>(
     alloc: Global,
     key: u32,
     node: Arc<Node<V>>,
-) -> Result<Opened<V>, TreeError>
-    ensures { Gives result (λ o. (o.left ≡ node.value.left) × (o.key ≡ key)
+) -> Result<Opened<V>, AllocError>
+    ensures { IfOk result (λ o. (o.left ≡ node.value.left) × (o.key ≡ key)
         × (o.slot.node.value.value ≡ node.value.value) × (o.right ≡ node.value.right)) }
 {
     let mut node = node;
@@ -115,8 +113,8 @@ pub(crate) fn take_apart<V: Share>(
 pub(crate) fn without_left<V: Share>(
     alloc: Global,
     node: Arc<Node<V>>,
-) -> Result<(Tree<V>, Arc<Node<V>>), TreeError>
-    ensures { Gives result (λ p. (p.0 ≡ node.value.left)
+) -> Result<(Tree<V>, Arc<Node<V>>), AllocError>
+    ensures { IfOk result (λ p. (p.0 ≡ node.value.left)
         × (p.1.value.value ≡ node.value.value) × (p.1.value.right ≡ node.value.right)) }
 {
     let mut node = node;
@@ -141,8 +139,8 @@ pub(crate) fn without_left<V: Share>(
 pub(crate) fn without_right<V: Share>(
     alloc: Global,
     node: Arc<Node<V>>,
-) -> Result<(Tree<V>, Arc<Node<V>>), TreeError>
-    ensures { Gives result (λ p. (p.0 ≡ node.value.right)
+) -> Result<(Tree<V>, Arc<Node<V>>), AllocError>
+    ensures { IfOk result (λ p. (p.0 ≡ node.value.right)
         × (p.1.value.value ≡ node.value.value) × (p.1.value.left ≡ node.value.left)) }
 {
     let mut node = node;
@@ -170,10 +168,10 @@ pub(crate) fn fork<V: Share>(
     key: u32,
     slot: Slot<V>,
     right: Tree<V>,
-) -> Result<Tree<V>, TreeError>
+) -> Result<Tree<V>, AllocError>
     requires map { IsMap (left.entries ++ (key, slot.node.value.value) ∷ right.entries) }
     requires balanced { DifferByAtMostOne left.depth right.depth }
-    ensures { Gives result (λ t. IsFork t left key slot.node.value.value right) }
+    ensures { IfOk result (λ t. IsFork t left key slot.node.value.value right) }
 {
     let node = with_sides(alloc, slot, left, right)?;
     Ok(rooted(key, node))
@@ -187,10 +185,10 @@ pub(crate) fn fork_new<V: Drop>(
     key: u32,
     value: V,
     right: Tree<V>,
-) -> Result<Tree<V>, TreeError>
+) -> Result<Tree<V>, AllocError>
     requires map { IsMap (left.entries ++ (key, value) ∷ right.entries) }
     requires balanced { DifferByAtMostOne left.depth right.depth }
-    ensures { Gives result (λ t. IsFork t left key value right) }
+    ensures { IfOk result (λ t. IsFork t left key value right) }
 {
     let node = Arc::new(alloc, Node { value, left, right })?;
     Ok(rooted(key, node))
@@ -219,8 +217,8 @@ fn with_sides<V: Share>(
     slot: Slot<V>,
     left: Tree<V>,
     right: Tree<V>,
-) -> Result<Arc<Node<V>>, TreeError>
-    ensures { Gives result (λ node. node.value
+) -> Result<Arc<Node<V>>, AllocError>
+    ensures { IfOk result (λ node. node.value
         ≡ record { value = slot.node.value.value; left = left; right = right }) }
 {
     let mut node = slot.node;

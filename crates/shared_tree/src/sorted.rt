@@ -1,13 +1,13 @@
 //! Trees built from entries in order.
 
-ghost use Rattle.std.specs.Prelude.{◌≡◌, ◌+◌, ◌≤◌, ◌↔◌, ◌++◌, vec_len, IsTrue, OnOk};
+ghost use Rattle.std.specs.Prelude.{◌≡◌, ◌+◌, ◌≤◌, ◌↔◌, ◌++◌, vec_len, IsTrue, IfOk, OnOk};
 ghost use Rattle.shared_tree.specs.Entries.{IsMap};
-ghost use Rattle.shared_tree.specs.Outcome.{Gives, Builds, IsLeastDepth};
+ghost use Rattle.shared_tree.specs.Outcome.{Builds, IsLeastDepth};
 
 use crate::error::TreeError;
 use crate::open::fork_new;
 use crate::tree::Tree;
-use std::alloc::Global;
+use std::alloc::{AllocError, Global};
 
 impl<V: Drop> Tree<V> {
     /// The tree of these entries, as flat as can be. It takes time in proportion to their number.
@@ -46,12 +46,12 @@ fn build<V: Drop>(
     alloc: Global,
     entries: &mut Vec<(u32, V)>,
     count: usize,
-) -> Result<Tree<V>, TreeError>
+) -> Result<Tree<V>, AllocError>
     requires enough { count ≤ vec_len entries.old }
     requires map { IsMap entries.old.items }
-    ensures taken { Gives result (λ t. entries.old.items ≡ entries.new.items ++ t.entries) }
+    ensures taken { IfOk result (λ t. entries.old.items ≡ entries.new.items ++ t.entries) }
     ensures left { OnOk result (vec_len entries.new + count ≡ vec_len entries.old) }
-    ensures deep { Gives result (λ t. IsLeastDepth count t.depth) }
+    ensures deep { IfOk result (λ t. IsLeastDepth count t.depth) }
 {
     if count == 0 {
         return Ok(Tree::new());

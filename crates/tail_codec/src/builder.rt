@@ -1,9 +1,7 @@
-ghost use Rattle.std.specs.Prelude.{◌≡◌, ◌++◌, [], ◌∷◌, IfOk, IfErr, OnOk, OnErr, IsTrue, ◌↔◌, ℕ, ◌+◌, ◌<◌, ◌≤◌, ◌^◌, vec_len, vec_capacity};
-ghost use Rattle.tail_codec.specs.declared.error.TailError.TheVariants.{NoMemory};
+ghost use Rattle.std.specs.Prelude.{◌≡◌, ◌++◌, [], ◌∷◌, IfOk, OnOk, OnErr, IsTrue, ◌↔◌, ℕ, ◌+◌, ◌<◌, ◌≤◌, ◌^◌, vec_len, vec_capacity};
 ghost use Rattle.tail_codec.specs.Spelling.{Ascends, based_list};
 ghost use Rattle.tail_codec.specs.Decoding.{AppendsNumber};
 
-use crate::error::TailError;
 use crate::tail::{Tail, least_over};
 use std::alloc::{AllocError, Global};
 use std::marker::Model;
@@ -79,15 +77,14 @@ impl TailBuilder {
         u64::from(element) >= self.low
     }
 
-    /// Adds an element, which is above the base and above the elements so far. The only error is
-    /// `NoMemory`, and it leaves the builder as it was.
+    /// Adds an element, which is above the base and above the elements so far. The only error is out
+    /// of memory, and it leaves the builder as it was.
     #[inline(always)]
-    pub fn push(&mut self, element: u32) -> Result<(), TailError>
+    pub fn push(&mut self, element: u32) -> Result<(), AllocError>
         requires { Ascends self.old.base (self.old.elements ++ element ∷ []) }
         ensures ok { OnOk result
             (self.new ≡ based_list self.old.base (self.old.elements ++ element ∷ [])) }
         ensures err { OnErr result (self.new ≡ self.old) }
-        ensures no_memory { IfErr result (λ e. e ≡ NoMemory) }
     {
         let element = u64::from(element);
         push_number(&mut self.bytes, element - self.low)?;
@@ -97,12 +94,11 @@ impl TailBuilder {
     }
 
     /// The tail of the elements so far. The builder then has none, over the base `next`. The only
-    /// error is `NoMemory`, and it leaves the builder as it was.
-    pub fn finish(&mut self, alloc: Global, next: Option<u32>) -> Result<Tail, TailError>
+    /// error is out of memory, and it leaves the builder as it was.
+    pub fn finish(&mut self, alloc: Global, next: Option<u32>) -> Result<Tail, AllocError>
         ensures ok { IfOk result (λ t. t ≡ self.old) }
         ensures next { OnOk result (self.new ≡ based_list next []) }
         ensures err { OnErr result (self.new ≡ self.old) }
-        ensures no_memory { IfErr result (λ e. e ≡ NoMemory) }
     {
         let tail = Tail::from_spelling(alloc, self.base, self.len, &self.bytes)?;
         self.base = next;

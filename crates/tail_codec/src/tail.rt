@@ -1,5 +1,4 @@
-ghost use Rattle.std.specs.Prelude.{◌≡◌, ◌↔◌, ◌+◌, [], length, IsTrue, IfOk, IfErr};
-ghost use Rattle.tail_codec.specs.declared.error.TailError.TheVariants.{NoMemory};
+ghost use Rattle.std.specs.Prelude.{◌≡◌, ◌↔◌, ◌+◌, [], length, IsTrue, IfOk};
 ghost use Rattle.tail_codec.specs.Spelling.{Ascends, Spells, IsBasedList, based_list, least};
 ghost use Rattle.tail_codec.specs.Decoding.{elements_over};
 ghost use Rattle.tail_codec.specs.Outcome.{Encodes, Reads};
@@ -72,7 +71,7 @@ impl Tail {
         for element in elements {
             builder.push(*element)?;
         }
-        builder.finish(alloc, None)
+        Ok(builder.finish(alloc, None)?)
     }
 
     /// The tail that these bytes spell over the base. Takes time in proportion to the bytes.
@@ -140,10 +139,9 @@ impl Tail {
         TailIter::new(least_over(self.base), self.bytes.as_slice())
     }
 
-    /// One more owner of the same bytes. The only error is `NoMemory`.
-    pub fn share(&self) -> Result<Tail, TailError>
-        ensures ok { IfOk result (λ t. t ≡ self.now) }
-        ensures no_memory { IfErr result (λ e. e ≡ NoMemory) }
+    /// One more owner of the same bytes. The only error is out of memory.
+    pub fn share(&self) -> Result<Tail, AllocError>
+        ensures { IfOk result (λ t. t ≡ self.now) }
     {
         let bytes = self.bytes.share()?;
         Ok(Tail {

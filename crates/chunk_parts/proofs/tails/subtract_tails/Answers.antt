@@ -20,8 +20,8 @@ overflow_add-common c =
     let l = c.loop-next_x in
     omega (arith, l.invariant.taking.count, room (least c.args.base) c.args.first.now.elements c.requires)
 
-pub loop-next_x-preserved-in_ok-or : goal.loop-next_x-preserved-in_ok-or
-loop-next_x-preserved-in_ok-or c =
+pub loop-next_x-preserved-in_ok-push : goal.loop-next_x-preserved-in_ok-push
+loop-next_x-preserved-in_ok-push c =
     let l = c.loop-next_x in
     let m = rw (c.in-Some-Some.is-0, c.in-Some-Some.is-1) at l.invariant.taking in
     let more : c.push.new.self.elements ≡ l.builder.elements ++ c.in-Some-Some.x ∷ [] = search rules in

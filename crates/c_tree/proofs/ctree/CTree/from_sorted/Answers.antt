@@ -18,7 +18,7 @@ tree_of-requires c =
     let ascends : Ascends None c.args.elements.now = search rules in
     let b = c.in_ok-chunk_size.chunk_size in
     let items : c.in_ok-chunks.chunks.items ≡ chunks_of b c.args.elements.now =
-    c.in_ok-chunks.ensures.chunks ∙ ap (chunks_of b) c.in_ok-rest.ensures.rest ∙ chunks_from_head b c.args.elements.now in
+    c.in_ok-chunks.ensures ∙ ap (chunks_of b) c.in_ok-rest.ensures.rest ∙ chunks_from_head b c.args.elements.now in
     rw items (chunks_map b c.args.elements.now ascends)
 
 pub from_parts-requires : goal.from_parts-requires
@@ -29,8 +29,8 @@ from_parts-requires c =
     let taken : c.in_ok-prefix.prefix ≡ c.push_before_head.new.builder = search rules in
     let prefix : c.in_ok-prefix.prefix ≡ prefix_of b c.args.elements.now = taken ∙ pushed in
     let items : c.in_ok-chunks.chunks.items ≡ chunks_of b c.args.elements.now =
-    c.in_ok-chunks.ensures.chunks ∙ ap (chunks_of b) c.in_ok-rest.ensures.rest ∙ chunks_from_head b c.args.elements.now in
-    made b c.args.elements.now c.in_ok-prefix.prefix c.in_ok-chunks-2.chunks.entries ascends prefix (c.in_ok-chunks-2.ensures.entries ∙ items)
+    c.in_ok-chunks.ensures ∙ ap (chunks_of b) c.in_ok-rest.ensures.rest ∙ chunks_from_head b c.args.elements.now in
+    made b c.args.elements.now c.in_ok-prefix.prefix c.in_ok-chunks-2.chunks.entries ascends prefix (c.in_ok-chunks-2.ensures ∙ items)
 
 pub returns : goal.returns
 returns c =
@@ -40,7 +40,7 @@ returns c =
     let taken : c.in_ok-prefix.prefix ≡ c.push_before_head.new.builder = search rules in
     let prefix : c.in_ok-prefix.prefix ≡ prefix_of b c.args.elements.now = taken ∙ pushed in
     let items : c.in_ok-chunks.chunks.items ≡ chunks_of b c.args.elements.now =
-    c.in_ok-chunks.ensures.chunks ∙ ap (chunks_of b) c.in_ok-rest.ensures.rest ∙ chunks_from_head b c.args.elements.now in
-    let whole = made_whole b c.args.elements.now c.in_ok-prefix.prefix c.in_ok-chunks-2.chunks.entries prefix (c.in_ok-chunks-2.ensures.entries ∙ items) in
+    c.in_ok-chunks.ensures ∙ ap (chunks_of b) c.in_ok-rest.ensures.rest ∙ chunks_from_head b c.args.elements.now in
+    let whole = made_whole b c.args.elements.now c.in_ok-prefix.prefix c.in_ok-chunks-2.chunks.entries prefix (c.in_ok-chunks-2.ensures ∙ items) in
     let size = c.in_ok-chunk_size.ensures in
     (size.0, ascends, c.from_parts.ensures ∙ ap (λ xs. chunked_set xs b) whole ∙ ap (chunked_set c.args.elements.now) size.1)
