@@ -9,5 +9,7 @@ pub mod Halves
 pub mod Ascending
 pub mod Stacks
 pub mod Lookups
+pub mod CutMaps
+pub mod ChangedMaps
 mod Deepened
 mod Rotated

@@ -1,8 +1,10 @@
 pub mod Entries
 pub mod Changes
+pub mod ChangedMaps
 pub mod Balanced
 pub mod Shape
 pub mod Joins
+pub mod Halves
 pub mod Opened
 pub mod Pending
 pub mod Refusal
