@@ -2,7 +2,7 @@
 
 use crate::lexing::print_lexer;
 use crate::timing::{TURNS, Times, print_head, print_row};
-use grammar::{Declaration, Source};
+use syntax::{Declaration, Source};
 use std::alloc::{AllocError, Global};
 use std::io;
 use std::io::Error;

@@ -1,6 +1,6 @@
 -- What compiling a text answers.
 use Rattle.std.specs.Prelude.{◌≡◌, ℕ, List, length, Some, None, Result, Ok, Err}
-use Rattle.grammar.specs.Trees.{SourceTree}
+use Rattle.syntax.specs.SourceTrees.{SourceTree}
 use Rattle.typed_tree.specs.declared.program.Typed.{Typed}
 use Rattle.typed_tree.specs.ProgramTree.{ProgramTree, program_tree}
 use Rattle.parser.specs.Outcome.{Answers, IsSource}

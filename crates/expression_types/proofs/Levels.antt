@@ -1,13 +1,13 @@
 -- Operands in a row: each further one is joined to all that stands at its left.
 use Rattle.std.proofs.Common.{◌≡◌, ℕ, suc, ◌+◌, ◌<◌, ap, sym, ◌∙◌, map, length, drop, get_or, drop-cons, add-one, List, [], ◌∷◌, Option, Some, None}
-use Rattle.expressions.specs.declared.operators.Addition.{Addition}
-use Rattle.expressions.specs.declared.operators.Multiplication.{Multiplication}
-use Rattle.expressions.specs.declared.tree.Unary.{Unary}
-use Rattle.expressions.specs.declared.tree.Term.{Term}
-use Rattle.expressions.specs.declared.tree.Comparison.{Comparison}
-use Rattle.expressions.specs.declared.tree.Conjunction.{Conjunction}
-use Rattle.expressions.specs.Seen.{unary_of, term_of, comparison_of, conjunction_of, term_from, sum_from, conjunction_from, expression_from}
-use Rattle.expressions.specs.Trees.{ConjunctionTree, ComparisonTree, TermTree, UnaryTree}
+use Rattle.syntax.specs.declared.operators.Addition.{Addition}
+use Rattle.syntax.specs.declared.operators.Multiplication.{Multiplication}
+use Rattle.syntax.specs.declared.expression.Unary.{Unary}
+use Rattle.syntax.specs.declared.expression.Term.{Term}
+use Rattle.syntax.specs.declared.expression.Comparison.{Comparison}
+use Rattle.syntax.specs.declared.expression.Conjunction.{Conjunction}
+use Rattle.syntax.specs.ExpressionViews.{unary_of, term_of, comparison_of, conjunction_of, term_from, sum_from, conjunction_from, expression_from}
+use Rattle.syntax.specs.ExpressionTrees.{ConjunctionTree, ComparisonTree, TermTree, UnaryTree}
 use Rattle.typed_tree.specs.declared.expression.Connective.TheVariants as connective
 use Rattle.expression_types.specs.Expression.{Join, alone, expression_value, conjunction_value, comparison_value, sum_value, term_value, unary_value}
 use Rattle.expression_types.specs.Operators.{◌>>=◌, added, multiplied, arithmetic_value, connected_value}

@@ -1,8 +1,8 @@
 -- Signs before a value.
 use Rattle.std.proofs.Common.{◌≡◌, ap, sym, ◌∙◌, List, [], ◌∷◌, ◌++◌}
-use Rattle.expressions.specs.declared.operators.Prefix.{Prefix}
-use Rattle.expressions.specs.Seen.{behind}
-use Rattle.expressions.specs.Trees.{PrimaryTree, Bare}
+use Rattle.syntax.specs.declared.operators.Prefix.{Prefix}
+use Rattle.syntax.specs.ExpressionViews.{behind}
+use Rattle.syntax.specs.ExpressionTrees.{PrimaryTree, Bare}
 use Rattle.expression_types.specs.Expression.{unary_value, primary_value}
 use Rattle.expression_types.specs.Operators.{◌>>=◌, signed_value, signs_value}
 use Rattle.expression_types.specs.ScopeTree.{ScopeTree}

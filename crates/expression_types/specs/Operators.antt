@@ -1,13 +1,13 @@
 -- What operators make of typed operands, where these have the types that it takes.
 use Rattle.std.specs.Prelude.{ℕ, if◌then◌else◌, List, [], ◌∷◌, Option, Some, None}
-use Rattle.expressions.specs.declared.operators.Addition.{Addition}
-use Rattle.expressions.specs.declared.operators.Addition.TheVariants as addition
-use Rattle.expressions.specs.declared.operators.Multiplication.{Multiplication}
-use Rattle.expressions.specs.declared.operators.Multiplication.TheVariants as multiplication
-use Rattle.expressions.specs.declared.operators.Prefix.{Prefix}
-use Rattle.expressions.specs.declared.operators.Prefix.TheVariants as prefix
-use Rattle.expressions.specs.declared.operators.Relation.{Relation}
-use Rattle.expressions.specs.declared.operators.Relation.TheVariants as relation
+use Rattle.syntax.specs.declared.operators.Addition.{Addition}
+use Rattle.syntax.specs.declared.operators.Addition.TheVariants as addition
+use Rattle.syntax.specs.declared.operators.Multiplication.{Multiplication}
+use Rattle.syntax.specs.declared.operators.Multiplication.TheVariants as multiplication
+use Rattle.syntax.specs.declared.operators.Prefix.{Prefix}
+use Rattle.syntax.specs.declared.operators.Prefix.TheVariants as prefix
+use Rattle.syntax.specs.declared.operators.Relation.{Relation}
+use Rattle.syntax.specs.declared.operators.Relation.TheVariants as relation
 use Rattle.typed_tree.specs.declared.expression.Comparison.{Comparison}
 use Rattle.typed_tree.specs.declared.expression.Comparison.TheVariants as comparison
 use Rattle.typed_tree.specs.declared.expression.Connective.{Connective}

@@ -1,6 +1,6 @@
 //! Expressions, one function for each level of the grammar.
 ghost use Rattle.std.specs.Prelude.{Some};
-ghost use Rattle.expressions.specs.Seen.{comparison_of, conjunction_of, primary_of, sum_of, term_of, unary_of};
+ghost use Rattle.syntax.specs.ExpressionViews.{comparison_of, conjunction_of, primary_of, sum_of, term_of, unary_of};
 ghost use Rattle.expression_types.specs.Expression.{alone, comparison_value, conjunction_value, name_value, primary_value, size_value, sum_value, term_value, unary_value, value_of, vector_place};
 ghost use Rattle.expression_types.specs.Operators.{signs_value};
 ghost use Rattle.expression_types.specs.Outcome.{Answers};
@@ -10,7 +10,7 @@ use crate::error::TypeError;
 use crate::operators::{addition, arithmetic, connect, entry, multiplication, relate, sign};
 use crate::scope::{Entity, Scope};
 use crate::value::{Value, set_named, value_named, vector_named};
-use expressions::{Comparison, Conjunction, Expression, Name, Prefix, Primary, Sum, Term, Unary};
+use syntax::{Comparison, Conjunction, Expression, Name, Prefix, Primary, Sum, Term, Unary};
 use std::alloc::Global;
 use typed_tree::{Condition, Connective, Integer};
 

@@ -8,7 +8,7 @@ ghost use Rattle.expression_types.specs.ValueTree.{value_tree};
 use crate::error::TypeError;
 use crate::scope::Inside;
 use crate::value::{Value, condition_of, holds_entry, integer_of};
-use expressions::{Addition, Multiplication, Prefix, Relation};
+use syntax::{Addition, Multiplication, Prefix, Relation};
 use std::alloc::Global;
 use typed_tree::{Comparison, Condition, Connective, Integer, Operator};
 

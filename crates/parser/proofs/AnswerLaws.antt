@@ -5,9 +5,9 @@ use Rattle.lexer.specs.declared.error.LexError.{LexError}
 use Rattle.lexer.specs.declared.error.LexError.TheVariants as lexer
 use Rattle.lexer.specs.Tokens.{HasTokens, slice_of}
 use Rattle.lexer.proofs.ReadingLaws.{reads_unique}
-use Rattle.expressions.specs.Words.{words_of, word_of}
-use Rattle.grammar.specs.Trees.{SourceTree}
-use Rattle.grammar.specs.Nesting.{limit, StaysWithin, PassesAt, nesting_behind}
+use Rattle.syntax.specs.Words.{words_of, word_of}
+use Rattle.syntax.specs.SourceTrees.{SourceTree}
+use Rattle.syntax.specs.Nesting.{limit, StaysWithin, PassesAt, nesting_behind}
 use Rattle.parser.specs.declared.error.ParseError.{ParseError}
 use Rattle.parser.specs.declared.error.ParseError.TheVariants.{BadByte, NumberTooLarge, UnfinishedText, Unexpected, TooDeep, NoMemory}
 use Rattle.parser.specs.Outcome.{Parses, without_place}

@@ -6,17 +6,17 @@ use Rattle.std.specs.Option.{is_some}
 use Rattle.lexer.specs.declared.keyword.Keyword.{Keyword}
 use Rattle.lexer.specs.declared.keyword.Keyword.TheVariants as keyword
 use Rattle.lexer.specs.declared.symbol.Symbol.TheVariants as symbol
-use Rattle.expressions.specs.Words.{Word, Identifier, Opening, Reserved, Mark, keyword_word}
-use Rattle.expressions.specs.Reading.{Reader, ◌>>=◌}
-use Rattle.expressions.specs.Trees.{ExpressionTree}
-use Rattle.grammar.specs.declared.statement.Statement.{Statement}
-use Rattle.grammar.specs.declared.statement.Action.{Row_of-Statement, end_of-Statement, more_of-Statement, items-the_row-Statement}
-use Rattle.grammar.specs.declared.statement.Action.TheViews as views
-use Rattle.grammar.specs.declared.statement.Action.TheViews.{the_lemmas}
-use Rattle.expressions.proofs.Loops.{Goes, goes_end, goes_fails}
-use Rattle.grammar.specs.Trees.{BlockTree, ActionTree, While, For, If, IfElse, Then}
-use Rattle.grammar.specs.Views.{action_tree, rows_tree, block_tree, statement_of}
-use Rattle.grammar.specs.Reading.{expression, name_at, after_word, after_words, closed, else_by, action_by, block_by, block_at, block_from, next_statement, statement_by, begins_statement, where_begins}
+use Rattle.syntax.specs.Words.{Word, Identifier, Opening, Reserved, Mark, keyword_word}
+use Rattle.syntax.specs.ExpressionReading.{Reader, ◌>>=◌}
+use Rattle.syntax.specs.ExpressionTrees.{ExpressionTree}
+use Rattle.syntax.specs.declared.statement.Statement.{Statement}
+use Rattle.syntax.specs.declared.statement.Action.{Row_of-Statement, end_of-Statement, more_of-Statement, items-the_row-Statement}
+use Rattle.syntax.specs.declared.statement.Action.TheViews as views
+use Rattle.syntax.specs.declared.statement.Action.TheViews.{the_lemmas}
+use Rattle.syntax.proofs.Loops.{Goes, goes_end, goes_fails}
+use Rattle.syntax.specs.SourceTrees.{BlockTree, ActionTree, While, For, If, IfElse, Then}
+use Rattle.syntax.specs.SourceViews.{action_tree, rows_tree, block_tree, statement_of}
+use Rattle.syntax.specs.SourceReading.{expression, name_at, after_word, after_words, closed, else_by, action_by, block_by, block_at, block_from, next_statement, statement_by, begins_statement, where_begins}
 use Rattle.parser.proofs.Steps.{bind_bind, bind_same}
 use Rattle.parser.specs.declared.block.Opening.{Opening as Begun}
 use Rattle.parser.specs.declared.block.Opening.TheVariants as opening

@@ -5,9 +5,9 @@ use Rattle.std.specs.Option.{is_some}
 use Rattle.lexer.specs.declared.keyword.Keyword.{Keyword}
 use Rattle.lexer.specs.declared.keyword.Keyword.TheVariants as keyword
 use Rattle.lexer.specs.declared.symbol.Symbol.TheVariants as symbol
-use Rattle.expressions.specs.Words.{Word, Opening, Mark, keyword_word}
-use Rattle.grammar.specs.Trees.{DeclarationTree}
-use Rattle.grammar.specs.Reading.{name_at, parameters_at, result_by, after_word, declaration_by, next_declaration, begins_declaration, where_begins}
+use Rattle.syntax.specs.Words.{Word, Opening, Mark, keyword_word}
+use Rattle.syntax.specs.SourceTrees.{DeclarationTree}
+use Rattle.syntax.specs.SourceReading.{name_at, parameters_at, result_by, after_word, declaration_by, next_declaration, begins_declaration, where_begins}
 use Rattle.parser.specs.declared.declaration.Beginning.{Beginning}
 use Rattle.parser.specs.declared.declaration.Beginning.TheVariants as beginning
 use Rattle.parser.specs.Declarations.{beginning_of, declared_by, function_at}

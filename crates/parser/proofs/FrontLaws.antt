@@ -4,13 +4,13 @@ use Rattle.std.proofs.lemmas.Slice.Eq.{bytes_eq-Decides}
 use Rattle.lexer.specs.declared.keyword.Keyword.{Keyword}
 use Rattle.lexer.specs.declared.symbol.Symbol.{Symbol}
 use Rattle.lexer.specs.Spelling.{keyword_spelling, symbol_spelling}
-use Rattle.expressions.specs.declared.cursor.Cursor.{Cursor}
-use Rattle.expressions.specs.declared.error.SyntaxError.{SyntaxError}
-use Rattle.expressions.specs.declared.error.SyntaxError.TheVariants.{Unexpected, NoMemory}
-use Rattle.expressions.specs.Words.{Word, Name, Reserved, Mark, Identifier}
-use Rattle.expressions.specs.Outcome.{words, IsAfter, IsName, Gives}
-use Rattle.grammar.specs.Reading.{same_word, after_word, name_at}
-use Rattle.grammar.proofs.WordLaws.{after_word-sound}
+use Rattle.parser.specs.declared.cursor.Cursor.{Cursor}
+use Rattle.parser.specs.declared.syntax_error.SyntaxError.{SyntaxError}
+use Rattle.parser.specs.declared.syntax_error.SyntaxError.TheVariants.{Unexpected, NoMemory}
+use Rattle.syntax.specs.Words.{Word, Name, Reserved, Mark, Identifier}
+use Rattle.parser.specs.Readers.{words, IsAfter, IsName, Gives}
+use Rattle.syntax.specs.SourceReading.{same_word, after_word, name_at}
+use Rattle.syntax.proofs.WordLaws.{after_word-sound}
 
 -- a word that has no text and no place
 pub data IsPlain : Word → Type 0 where

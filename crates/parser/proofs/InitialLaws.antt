@@ -4,11 +4,11 @@ use Rattle.std.proofs.lemmas.Bool.{false≢true}
 use Rattle.lexer.specs.declared.keyword.Keyword.{Keyword}
 use Rattle.lexer.specs.declared.keyword.Keyword.TheVariants as keyword
 use Rattle.lexer.specs.declared.symbol.Symbol.TheVariants as symbol
-use Rattle.expressions.specs.Words.{Word, Identifier, Name, Reserved, Mark}
-use Rattle.expressions.specs.Reading.{Reader, ◌>>=◌}
-use Rattle.grammar.specs.Trees.{EndsTree, InitialTree, ApplyModified}
-use Rattle.grammar.specs.Reading.{after_word, after_words, closed, name_at, ends_at, method_at, modified_at, initial_at, named_initial}
-use Rattle.grammar.proofs.WordLaws.{after_word-sound, after_words-sound}
+use Rattle.syntax.specs.Words.{Word, Identifier, Name, Reserved, Mark}
+use Rattle.syntax.specs.ExpressionReading.{Reader, ◌>>=◌}
+use Rattle.syntax.specs.SourceTrees.{EndsTree, InitialTree, ApplyModified}
+use Rattle.syntax.specs.SourceReading.{after_word, after_words, closed, name_at, ends_at, method_at, modified_at, initial_at, named_initial}
+use Rattle.syntax.proofs.WordLaws.{after_word-sound, after_words-sound}
 use Rattle.parser.specs.Fronts.{is_called, called_word, begins_call, name_pair_at, modified_by, call_by}
 use Rattle.parser.proofs.Steps.{bind_bind, bind_same, after_words-append}
 

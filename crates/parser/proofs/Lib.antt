@@ -1,8 +1,12 @@
 pub mod AnswerLaws
 pub mod BlockLaws
 pub mod DeclarationLaws
+pub mod ExpressionAnswers
+pub mod Faults
 pub mod FrontLaws
+pub mod Fronts
 pub mod InitialLaws
 pub mod Lists
-pub mod Steps
 pub mod ParseLaws
+pub mod Primaries
+pub mod Steps

@@ -1,9 +1,9 @@
 -- A loop that reads trees one after the other into a vector.
 use Rattle.std.proofs.Common.{◌≡◌, sym, ◌∙◌, ap, subst, map, ℕ, ◌<◌, arith, length, List, [], ◌∷◌, ◌++◌, Option, Some, None}
 use Rattle.std.proofs.lemmas.List.{map-append}
-use Rattle.expressions.specs.Words.{Word}
-use Rattle.expressions.proofs.Loops.{Goes, goes_start, goes_step, goes_end, goes_fails}
-use Rattle.grammar.specs.Reading.{each_at}
+use Rattle.syntax.specs.Words.{Word}
+use Rattle.syntax.proofs.Loops.{Goes, goes_start, goes_step, goes_end, goes_fails}
+use Rattle.syntax.specs.SourceReading.{each_at}
 use Rattle.parser.specs.Declarations.{with_first}
 
 module _ {L T : Type 0} {link : List Word → Option (Option (L × List Word))} (view : T → L) where

@@ -2,14 +2,14 @@
 use Rattle.std.proofs.Common.{◌≡◌, sym, ◌∙◌, ap, subst, ℕ, List, Option, Some, None, Err}
 use Rattle.lexer.specs.declared.token.Token.{Token}
 use Rattle.lexer.specs.Tokens.{HasTokens}
-use Rattle.expressions.specs.Words.{Word, words_of}
-use Rattle.grammar.specs.Trees.{SourceTree}
-use Rattle.grammar.specs.Spelling.{source_words}
-use Rattle.grammar.specs.Nesting.{limit, StaysWithin}
-use Rattle.grammar.specs.Reading.{source_at}
-use Rattle.grammar.proofs.Exact.{sources_sound, sources_complete}
-use Rattle.expressions.specs.declared.error.SyntaxError.{SyntaxError}
-use Rattle.expressions.specs.declared.error.SyntaxError.TheVariants as syntax
+use Rattle.syntax.specs.Words.{Word, words_of}
+use Rattle.syntax.specs.SourceTrees.{SourceTree}
+use Rattle.syntax.specs.SourceSpelling.{source_words}
+use Rattle.syntax.specs.Nesting.{limit, StaysWithin}
+use Rattle.syntax.specs.SourceReading.{source_at}
+use Rattle.syntax.proofs.SourcesExact.{sources_sound, sources_complete}
+use Rattle.parser.specs.declared.syntax_error.SyntaxError.{SyntaxError}
+use Rattle.parser.specs.declared.syntax_error.SyntaxError.TheVariants as syntax
 use Rattle.parser.specs.Refusal.{of_syntax}
 use Rattle.parser.specs.Outcome.{IsSource, IsNoSource, Answers, GivesSource}
 

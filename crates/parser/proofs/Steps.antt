@@ -1,9 +1,9 @@
 -- Steps of a reader that are taken together, and one by one.
 use Rattle.std.proofs.Common.{◌≡◌, refl, sym, ap, ◌∙◌, List, [], ◌∷◌, ◌++◌, Option, Some, None}
-use Rattle.expressions.specs.Words.{Word}
-use Rattle.expressions.specs.Reading.{◌>>=◌}
-use Rattle.grammar.specs.Reading.{after_word, after_words, closed}
-use Rattle.grammar.proofs.WordLaws.{bind_some}
+use Rattle.syntax.specs.Words.{Word}
+use Rattle.syntax.specs.ExpressionReading.{◌>>=◌}
+use Rattle.syntax.specs.SourceReading.{after_word, after_words, closed}
+use Rattle.syntax.proofs.WordLaws.{bind_some}
 
 -- a step of two steps, and the next one
 pub bind_bind : {A B C : Type 0} (read : Option A) (step : A → Option B) (next : B → Option C) (both : A → Option C)

@@ -3,11 +3,11 @@ use Rattle.std.specs.Prelude.{ℕ, zero, suc, List, [], ◌∷◌, Option, Some,
 use Rattle.lexer.specs.declared.keyword.Keyword.{Keyword}
 use Rattle.lexer.specs.declared.keyword.Keyword.TheVariants as keyword
 use Rattle.lexer.specs.declared.symbol.Symbol.TheVariants as symbol
-use Rattle.expressions.specs.Words.{Word, Identifier, Reserved, Mark}
-use Rattle.expressions.specs.Trees.{ExpressionTree}
-use Rattle.expressions.specs.Reading.{Reader, ◌>>=◌}
-use Rattle.grammar.specs.Trees.{ActionTree, Declare, While, For, If, IfElse, Print, BlockTree}
-use Rattle.grammar.specs.Reading.{expression, typed_at, assigned_at, ended_at, name_at, after_word, closed, no_block, block_at, action_by}
+use Rattle.syntax.specs.Words.{Word, Identifier, Reserved, Mark}
+use Rattle.syntax.specs.ExpressionTrees.{ExpressionTree}
+use Rattle.syntax.specs.ExpressionReading.{Reader, ◌>>=◌}
+use Rattle.syntax.specs.SourceTrees.{ActionTree, Declare, While, For, If, IfElse, Print, BlockTree}
+use Rattle.syntax.specs.SourceReading.{expression, typed_at, assigned_at, ended_at, name_at, after_word, closed, no_block, block_at, action_by}
 use Rattle.parser.specs.declared.block.Opening.{Opening}
 use Rattle.parser.specs.declared.block.Opening.TheVariants as opening
 

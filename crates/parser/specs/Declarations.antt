@@ -3,10 +3,10 @@ use Rattle.std.specs.Prelude.{ℕ, List, [], ◌∷◌, Option, Some, None}
 use Rattle.lexer.specs.declared.keyword.Keyword.{Keyword}
 use Rattle.lexer.specs.declared.keyword.Keyword.TheVariants as keyword
 use Rattle.lexer.specs.declared.symbol.Symbol.TheVariants as symbol
-use Rattle.expressions.specs.Words.{Word, Identifier, Reserved, Mark}
-use Rattle.expressions.specs.Reading.{Reader, ◌>>=◌}
-use Rattle.grammar.specs.Trees.{ParameterTree, DeclarationTree, Constant, Function}
-use Rattle.grammar.specs.Reading.{block, typed_at, assigned_at, name_at, parameters_at, result_by, after_word, closed, each_at, next_parameter}
+use Rattle.syntax.specs.Words.{Word, Identifier, Reserved, Mark}
+use Rattle.syntax.specs.ExpressionReading.{Reader, ◌>>=◌}
+use Rattle.syntax.specs.SourceTrees.{ParameterTree, DeclarationTree, Constant, Function}
+use Rattle.syntax.specs.SourceReading.{block, typed_at, assigned_at, name_at, parameters_at, result_by, after_word, closed, each_at, next_parameter}
 use Rattle.parser.specs.declared.declaration.Beginning.{Beginning}
 use Rattle.parser.specs.declared.declaration.Beginning.TheVariants as beginning
 

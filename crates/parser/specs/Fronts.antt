@@ -3,14 +3,14 @@ use Rattle.std.specs.Prelude.{Bool, true, false, List, [], ◌∷◌, ◌++◌, 
 use Rattle.lexer.specs.declared.keyword.Keyword.{Keyword}
 use Rattle.lexer.specs.declared.keyword.Keyword.TheVariants as keyword
 use Rattle.lexer.specs.declared.symbol.Symbol.TheVariants as symbol
-use Rattle.expressions.specs.Words.{Word, Identifier, Name, Reserved, Mark}
-use Rattle.expressions.specs.Reading.{Reader, ◌>>=◌}
-use Rattle.grammar.specs.declared.declaration.DeclaredType.{DeclaredType}
-use Rattle.grammar.specs.declared.declaration.DeclaredType.TheVariants as type
-use Rattle.grammar.specs.declared.schedule.Setting.{Setting}
-use Rattle.grammar.specs.declared.schedule.Setting.TheVariants as setting
-use Rattle.grammar.specs.Trees.{InitialTree, NewSet, Load, Vertices, OutDegrees, Filter, ApplyModified}
-use Rattle.grammar.specs.Reading.{in_braces, in_parentheses, after_word, after_words, closed, name_at, number_at, argument_at, method_at, ends_at}
+use Rattle.syntax.specs.Words.{Word, Identifier, Name, Reserved, Mark}
+use Rattle.syntax.specs.ExpressionReading.{Reader, ◌>>=◌}
+use Rattle.syntax.specs.declared.declaration.DeclaredType.{DeclaredType}
+use Rattle.syntax.specs.declared.declaration.DeclaredType.TheVariants as type
+use Rattle.syntax.specs.declared.schedule.Setting.{Setting}
+use Rattle.syntax.specs.declared.schedule.Setting.TheVariants as setting
+use Rattle.syntax.specs.SourceTrees.{InitialTree, NewSet, Load, Vertices, OutDegrees, Filter, ApplyModified}
+use Rattle.syntax.specs.SourceReading.{in_braces, in_parentheses, after_word, after_words, closed, name_at, number_at, argument_at, method_at, ends_at}
 
 -- the type that begins with a keyword
 abbrev pub begun_type : Keyword → Option DeclaredType

@@ -1,7 +1,10 @@
 pub mod Blocks
 pub mod Declarations
 pub mod Fronts
+pub mod Literals
 pub mod Outcome
 pub mod Plain
+pub mod Readers
 pub mod Refusal
+pub mod SyntaxRefusal
 pub mod Views

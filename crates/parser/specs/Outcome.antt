@@ -3,14 +3,14 @@ use Rattle.std.specs.Prelude.{◌≡◌, ◌≢◌, ℕ, List, Option, Some, Non
 use Rattle.lexer.specs.declared.token.Token.{Token}
 use Rattle.lexer.specs.declared.error.LexError.TheVariants as lexer
 use Rattle.lexer.specs.Tokens.{HasTokens, Reads}
-use Rattle.expressions.specs.declared.error.SyntaxError.{SyntaxError}
-use Rattle.expressions.specs.declared.error.SyntaxError.TheVariants as syntax
-use Rattle.expressions.specs.Words.{words_of}
-use Rattle.grammar.specs.declared.declaration.Source.{Source}
-use Rattle.grammar.specs.Trees.{SourceTree}
-use Rattle.grammar.specs.Views.{source_tree}
-use Rattle.grammar.specs.Spelling.{source_words}
-use Rattle.grammar.specs.Nesting.{limit, StaysWithin, PassesAt}
+use Rattle.parser.specs.declared.syntax_error.SyntaxError.{SyntaxError}
+use Rattle.parser.specs.declared.syntax_error.SyntaxError.TheVariants as syntax
+use Rattle.syntax.specs.Words.{words_of}
+use Rattle.syntax.specs.declared.declaration.Source.{Source}
+use Rattle.syntax.specs.SourceTrees.{SourceTree}
+use Rattle.syntax.specs.SourceViews.{source_tree}
+use Rattle.syntax.specs.SourceSpelling.{source_words}
+use Rattle.syntax.specs.Nesting.{limit, StaysWithin, PassesAt}
 use Rattle.parser.specs.declared.error.ParseError.{ParseError}
 use Rattle.parser.specs.declared.error.ParseError.TheVariants.{BadByte, NumberTooLarge, UnfinishedText, Unexpected, TooDeep, NoMemory}
 

@@ -2,7 +2,7 @@
 use Rattle.std.specs.Prelude.{Bool, true, false, []}
 use Rattle.lexer.specs.declared.token.TokenKind.{TokenKind}
 use Rattle.lexer.specs.declared.token.TokenKind.TheVariants as kind
-use Rattle.expressions.specs.Words.{Word, Reserved, word_of}
+use Rattle.syntax.specs.Words.{Word, Reserved, word_of}
 
 -- a word that has neither
 abbrev is_plain_word : Word → Bool

@@ -2,8 +2,8 @@
 use Rattle.std.specs.Prelude.{ℕ, Option, Some, None}
 use Rattle.lexer.specs.declared.error.LexError.{LexError}
 use Rattle.lexer.specs.declared.error.LexError.TheVariants as lexer
-use Rattle.expressions.specs.declared.error.SyntaxError.{SyntaxError}
-use Rattle.expressions.specs.declared.error.SyntaxError.TheVariants as syntax
+use Rattle.parser.specs.declared.syntax_error.SyntaxError.{SyntaxError}
+use Rattle.parser.specs.declared.syntax_error.SyntaxError.TheVariants as syntax
 use Rattle.parser.specs.declared.error.ParseError.{ParseError}
 use Rattle.parser.specs.declared.error.ParseError.TheVariants.{BadByte, NumberTooLarge, UnfinishedText, Unexpected, TooDeep, NoMemory}
 

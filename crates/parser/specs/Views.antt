@@ -1,11 +1,11 @@
 -- For proofs only: what vectors are seen as.
 use Rattle.std.specs.Prelude.{List, Option, map, option_map}
 use Rattle.std.specs.Global.{Vec}
-use Rattle.expressions.specs.Words.{Identifier}
-use Rattle.grammar.specs.declared.declaration.Parameter.{Parameter}
-use Rattle.grammar.specs.declared.statement.Statement.{Statement}
-use Rattle.grammar.specs.Trees.{BlockTree, ParameterTree}
-use Rattle.grammar.specs.Views.{block_tree, parameter_tree}
+use Rattle.syntax.specs.Words.{Identifier}
+use Rattle.syntax.specs.declared.declaration.Parameter.{Parameter}
+use Rattle.syntax.specs.declared.statement.Statement.{Statement}
+use Rattle.syntax.specs.SourceTrees.{BlockTree, ParameterTree}
+use Rattle.syntax.specs.SourceViews.{block_tree, parameter_tree}
 
 -- what each is seen as, in order
 abbrev pub each : {T L : Type 0} → (T → L) → Vec T → List L

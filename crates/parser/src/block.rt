@@ -1,10 +1,10 @@
 //! Blocks, and the statements that hold blocks.
 ghost use Rattle.std.specs.Prelude.{◌≡◌, ◌<◌, ◌≤◌, length, IfOk};
-ghost use Rattle.expressions.specs.Words.{Reserved};
-ghost use Rattle.expressions.specs.Outcome.{words, Gives};
-ghost use Rattle.grammar.specs.Trees.{While, For, If, IfElse};
-ghost use Rattle.grammar.specs.Reading.{block_at, statement_by, begins_statement as begins_statement_at, after_word};
-ghost use Rattle.grammar.specs.Views.{action_tree, statement_of, block_tree};
+ghost use Rattle.syntax.specs.Words.{Reserved};
+ghost use Rattle.parser.specs.Readers.{words, Gives};
+ghost use Rattle.syntax.specs.SourceTrees.{While, For, If, IfElse};
+ghost use Rattle.syntax.specs.SourceReading.{block_at, statement_by, begins_statement as begins_statement_at, after_word};
+ghost use Rattle.syntax.specs.SourceViews.{action_tree, statement_of, block_tree};
 ghost use Rattle.parser.specs.Blocks.{action_at, block_in, declared_at, printed_at, range_at, to_end_by, otherwise_by, opening_of, opened_by};
 ghost use Rattle.parser.specs.Views.{statements_tree};
 
@@ -12,8 +12,9 @@ use crate::front::{after_reserved, expect_mark, expect_reserved, expression, lab
 use crate::initial::assigned;
 use crate::statement::{ended, named};
 use crate::types::typed;
-use expressions::{Cursor, Expression, Name, SyntaxError};
-use grammar::{Action, Statement};
+use crate::cursor::Cursor;
+use crate::syntax_error::SyntaxError;
+use syntax::{Action, Expression, Name, Statement};
 use lexer::{Keyword, Symbol, TokenKind};
 use std::alloc::Global;
 

@@ -1,9 +1,9 @@
 //! Declarations.
 ghost use Rattle.std.specs.Prelude.{◌≡◌, ◌<◌, ◌≤◌, length, option_map, IfOk};
-ghost use Rattle.expressions.specs.Words.{Mark};
-ghost use Rattle.expressions.specs.Outcome.{words, Gives};
-ghost use Rattle.grammar.specs.Reading.{after_word, each_at, parameters_at, result_by, begins_declaration as begins_declaration_at, next_declaration, declaration_by, block as block_at_limit};
-ghost use Rattle.grammar.specs.Views.{parameter_tree, declaration_tree};
+ghost use Rattle.syntax.specs.Words.{Mark};
+ghost use Rattle.parser.specs.Readers.{words, Gives};
+ghost use Rattle.syntax.specs.SourceReading.{after_word, each_at, parameters_at, result_by, begins_declaration as begins_declaration_at, next_declaration, declaration_by, block as block_at_limit};
+ghost use Rattle.syntax.specs.SourceViews.{parameter_tree, declaration_tree};
 ghost use Rattle.parser.specs.Declarations.{beginning_of, declared_by, constant_at, signature_at, function_at, parameters_from};
 ghost use Rattle.parser.specs.Views.{each, signature_tree, statements_tree};
 
@@ -11,8 +11,9 @@ use crate::block::block;
 use crate::front::{after_mark, expect_mark, expect_reserved, name};
 use crate::initial::assigned;
 use crate::types::typed;
-use expressions::{Cursor, Name, SyntaxError};
-use grammar::{Declaration, NESTING_LIMIT, Parameter, Statement};
+use crate::cursor::Cursor;
+use crate::syntax_error::SyntaxError;
+use syntax::{Declaration, NESTING_LIMIT, Name, Parameter, Statement};
 use lexer::{Keyword, Symbol, TokenKind};
 use std::alloc::Global;
 

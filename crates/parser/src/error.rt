@@ -2,7 +2,7 @@ ghost use Rattle.std.specs.Prelude.{◌≡◌};
 ghost use Rattle.parser.specs.declared.error.ParseError.TheVariants.{NoMemory};
 ghost use Rattle.parser.specs.Refusal.{number_of, offset_of, of_lexer, of_syntax};
 
-use expressions::SyntaxError;
+use crate::syntax_error::SyntaxError;
 use lexer::LexError;
 use std::alloc::{AllocError, AllocFailed};
 use thiserror::Error;

@@ -1,14 +1,16 @@
 //! What stands at the front of the tokens that are left.
 ghost use Rattle.std.specs.Prelude.{◌≡◌, ◌<◌, ◌≤◌, ℕ, [], ◌∷◌, length, map, Some, option_map, IsTrue, IfSome, IfOk};
 ghost use Rattle.std.specs.List.{list_all};
-ghost use Rattle.expressions.specs.Words.{Reserved, Mark, keyword_word};
-ghost use Rattle.expressions.specs.Outcome.{words, Gives, Passes};
-ghost use Rattle.grammar.specs.Reading.{after_word, after_words, name_at, number_at, text_at, label_at, argument_at, expression as expression_at_limit};
-ghost use Rattle.grammar.specs.Views.{text_of};
+ghost use Rattle.syntax.specs.Words.{Reserved, Mark, keyword_word};
+ghost use Rattle.parser.specs.Readers.{words, Gives, Passes};
+ghost use Rattle.syntax.specs.SourceReading.{after_word, after_words, name_at, number_at, text_at, label_at, argument_at, expression as expression_at_limit};
+ghost use Rattle.syntax.specs.SourceViews.{text_of};
 ghost use Rattle.parser.specs.Plain.{is_plain, plain_word};
 
-use expressions::{Cursor, Expression, Name, SyntaxError, read_expression};
-use grammar::{NESTING_LIMIT, Text};
+use crate::cursor::Cursor;
+use crate::syntax_error::SyntaxError;
+use crate::expression::read_expression;
+use syntax::{Expression, NESTING_LIMIT, Name, Text};
 use lexer::{Keyword, Symbol, TokenKind};
 use std::alloc::Global;
 

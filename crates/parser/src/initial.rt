@@ -1,17 +1,18 @@
 //! Initial and assigned values.
 ghost use Rattle.std.specs.Prelude.{◌≡◌, ◌≤◌, ℕ, List, [], ◌∷◌, length, IfOk};
-ghost use Rattle.expressions.specs.Words.{Word, Reserved, keyword_word};
-ghost use Rattle.expressions.specs.Outcome.{words, Gives};
-ghost use Rattle.grammar.specs.Reading.{in_parentheses, closed, end_at, ends_at, method_at, initial_at, value_at, assigned_at};
-ghost use Rattle.grammar.specs.Views.{initial_tree, ends_tree};
+ghost use Rattle.syntax.specs.Words.{Word, Reserved, keyword_word};
+ghost use Rattle.parser.specs.Readers.{words, Gives};
+ghost use Rattle.syntax.specs.SourceReading.{in_parentheses, closed, end_at, ends_at, method_at, initial_at, value_at, assigned_at};
+ghost use Rattle.syntax.specs.SourceViews.{initial_tree, ends_tree};
 ghost use Rattle.parser.specs.Fronts.{begins_call as begins_call_at, is_called, called_word, name_pair_at, modified_by, filter_at, call_by, new_set_at, load_at};
 
 use crate::front::{
     after_mark, after_method, after_reserved, argument, expect_all, expect_mark, expression, name,
     number,
 };
-use expressions::{Cursor, Name, SyntaxError};
-use grammar::{Ends, Initial};
+use crate::cursor::Cursor;
+use crate::syntax_error::SyntaxError;
+use syntax::{Ends, Initial, Name};
 use lexer::{Keyword, Symbol, TokenKind};
 use std::alloc::Global;
 

@@ -14,14 +14,20 @@
 #![tactic(auto)]
 
 mod block;
+mod cursor;
 mod declaration;
 mod error;
+mod expression;
 mod front;
 mod initial;
 mod schedule;
 mod source;
 mod statement;
+mod syntax_error;
 mod types;
 
+pub use cursor::Cursor;
 pub use error::ParseError;
+pub use expression::read_expression;
 pub use source::{one_answer, parse};
+pub use syntax_error::SyntaxError;

@@ -1,15 +1,16 @@
 //! The schedule's part of a source.
 ghost use Rattle.std.specs.Prelude.{◌≡◌, ◌<◌, ◌≤◌, length, option_map, IfOk};
-ghost use Rattle.expressions.specs.Words.{Reserved, Mark};
-ghost use Rattle.expressions.specs.Outcome.{words, Gives};
-ghost use Rattle.grammar.specs.Reading.{after_word, each_at, next_text, next_call, next_chain, call_at, chain_at, setting_at, schedule_by};
-ghost use Rattle.grammar.specs.Views.{text_of, call_tree, chain_tree};
+ghost use Rattle.syntax.specs.Words.{Reserved, Mark};
+ghost use Rattle.parser.specs.Readers.{words, Gives};
+ghost use Rattle.syntax.specs.SourceReading.{after_word, each_at, next_text, next_call, next_chain, call_at, chain_at, setting_at, schedule_by};
+ghost use Rattle.syntax.specs.SourceViews.{text_of, call_tree, chain_tree};
 ghost use Rattle.parser.specs.Fronts.{begun_setting};
 ghost use Rattle.parser.specs.Views.{each};
 
 use crate::front::{after_mark, after_reserved, expect_mark, text};
-use expressions::{Cursor, SyntaxError};
-use grammar::{Call, Chain, Setting, Text};
+use crate::cursor::Cursor;
+use crate::syntax_error::SyntaxError;
+use syntax::{Call, Chain, Setting, Text};
 use lexer::{Keyword, Symbol, TokenKind};
 use std::alloc::Global;
 

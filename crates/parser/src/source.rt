@@ -1,8 +1,8 @@
 //! A whole source.
 ghost use Rattle.std.specs.Prelude.{◌≡◌, ℕ, List, Result, length, IfOk};
-ghost use Rattle.expressions.specs.Outcome.{words};
-ghost use Rattle.grammar.specs.Reading.{source_at};
-ghost use Rattle.grammar.specs.Trees.{SourceTree};
+ghost use Rattle.parser.specs.Readers.{words};
+ghost use Rattle.syntax.specs.SourceReading.{source_at};
+ghost use Rattle.syntax.specs.SourceTrees.{SourceTree};
 ghost use Rattle.parser.specs.declared.error.ParseError.{ParseError};
 ghost use Rattle.parser.specs.Outcome.{Answers, Parses, GivesSource, tree_or_error, without_place};
 
@@ -10,8 +10,9 @@ use crate::declaration::declarations;
 use crate::error::ParseError;
 use crate::front::expect_all;
 use crate::schedule::schedule;
-use expressions::{Cursor, SyntaxError};
-use grammar::{Source, first_too_deep};
+use crate::cursor::Cursor;
+use crate::syntax_error::SyntaxError;
+use syntax::{Source, first_too_deep};
 use lexer::{Keyword, TokenKind, tokens};
 use std::alloc::Global;
 
@@ -19,7 +20,7 @@ use std::alloc::Global;
 ///
 /// The errors, of which the first that fits is given: `BadByte`, `NumberTooLarge` and `UnfinishedText`
 /// where the text has no tokens, at its first fault; `TooDeep` at the first token with which more than
-/// [`NESTING_LIMIT`](grammar::NESTING_LIMIT) are open, whether or not the tokens are a source;
+/// [`NESTING_LIMIT`](syntax::NESTING_LIMIT) are open, whether or not the tokens are a source;
 /// `Unexpected` where they are none, at the first token after which no text is in the grammar, or at the
 /// length of the text where the tokens are all a beginning. `NoMemory` may come at any time.
 ///
@@ -31,7 +32,7 @@ pub fn parse(alloc: Global, text: &[u8]) -> Result<Source, ParseError>
 {
     let tokens = tokens(alloc, text)?;
     let cursor = Cursor::new(text, &tokens);
-    if let Some(at) = first_too_deep(cursor) {
+    if let Some(at) = first_too_deep(&tokens) {
         return Err(ParseError::TooDeep { at });
     }
     let source = whole(alloc, cursor, text.len())?;

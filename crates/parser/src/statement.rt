@@ -1,14 +1,15 @@
 //! Statements.
 ghost use Rattle.std.specs.Prelude.{◌≤◌, [], ◌∷◌, length, IfOk};
-ghost use Rattle.expressions.specs.Words.{Reserved, Mark};
-ghost use Rattle.expressions.specs.Outcome.{words, Gives};
-ghost use Rattle.grammar.specs.Reading.{reduction_at, ended_at, entry_at, entry_by, after_word, after_words, method_by, added_at, applied_at, reduced_at, named_action};
-ghost use Rattle.grammar.specs.Views.{action_tree};
+ghost use Rattle.syntax.specs.Words.{Reserved, Mark};
+ghost use Rattle.parser.specs.Readers.{words, Gives};
+ghost use Rattle.syntax.specs.SourceReading.{reduction_at, ended_at, entry_at, entry_by, after_word, after_words, method_by, added_at, applied_at, reduced_at, named_action};
+ghost use Rattle.syntax.specs.SourceViews.{action_tree};
 
 use crate::front::{after_mark, after_method, argument, expect_all, expect_mark, expression};
 use crate::initial::{assigned, ends};
-use expressions::{Cursor, Expression, Name, SyntaxError};
-use grammar::{Action, Reduction};
+use crate::cursor::Cursor;
+use crate::syntax_error::SyntaxError;
+use syntax::{Action, Expression, Name, Reduction};
 use lexer::{Keyword, Symbol, TokenKind};
 use std::alloc::Global;
 

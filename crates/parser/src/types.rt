@@ -1,13 +1,14 @@
 //! Types, and names with their types.
 ghost use Rattle.std.specs.Prelude.{◌≡◌, ◌<◌, ◌≤◌, ℕ, length, IfOk};
-ghost use Rattle.expressions.specs.Outcome.{words, Gives, Passes};
-ghost use Rattle.grammar.specs.Reading.{after_words, type_at, typed_at};
-ghost use Rattle.grammar.specs.Views.{parameter_tree};
+ghost use Rattle.parser.specs.Readers.{words, Gives, Passes};
+ghost use Rattle.syntax.specs.SourceReading.{after_words, type_at, typed_at};
+ghost use Rattle.syntax.specs.SourceViews.{parameter_tree};
 ghost use Rattle.parser.specs.Fronts.{begun_type, words_behind};
 
 use crate::front::{expect_all, expect_mark, name};
-use expressions::{Cursor, SyntaxError};
-use grammar::{DeclaredType, Parameter};
+use crate::cursor::Cursor;
+use crate::syntax_error::SyntaxError;
+use syntax::{DeclaredType, Parameter};
 use lexer::{Keyword, Symbol, TokenKind};
 use std::alloc::Global;
 

@@ -2,23 +2,23 @@
 use Rattle.std.proofs.Common.{◌≡◌, ℕ, Bool, true, false, List, [], ◌∷◌, ◌++◌, map, Option, Some, None, option_map, refl, ◌∙◌, ap}
 use Rattle.lexer.specs.declared.keyword.Keyword.TheVariants as keyword
 use Rattle.lexer.specs.declared.symbol.Symbol.TheVariants as symbol
-use Rattle.expressions.specs.declared.operators.Addition.{Addition}
-use Rattle.expressions.specs.declared.operators.Addition.TheVariants as addition
-use Rattle.expressions.specs.declared.operators.Multiplication.{Multiplication}
-use Rattle.expressions.specs.declared.operators.Multiplication.TheVariants as multiplication
-use Rattle.expressions.specs.declared.operators.Prefix.{Prefix}
-use Rattle.expressions.specs.declared.operators.Prefix.TheVariants as prefix
-use Rattle.expressions.specs.declared.operators.Relation.{Relation}
-use Rattle.expressions.specs.declared.operators.Relation.TheVariants as relation
-use Rattle.expressions.specs.Words.{Word, Identifier, Name, Text, Opening, Reserved, Mark}
-use Rattle.expressions.specs.Trees.{ExpressionTree, ConjunctionTree, ComparisonTree, SumTree, TermTree, UnaryTree, PrimaryTree, LastConjunction, ConjunctionThen, LastComparison, ComparisonThen, OneSum, TwoSums, LastTerm, TermThen, LastUnary, UnaryThen, Bare, Signed, Literal, Truth, Variable, Entry, Size, Parentheses}
-use Rattle.expressions.specs.Spelling.{addition_word, multiplication_word, relation_word, prefix_word, truth_word, expression_words, conjunction_words, comparison_words, sum_words, term_words, unary_words, primary_words}
-use Rattle.grammar.specs.declared.declaration.DeclaredType.{DeclaredType}
-use Rattle.grammar.specs.declared.declaration.DeclaredType.TheVariants as type
-use Rattle.grammar.specs.declared.statement.Reduction.{Reduction}
-use Rattle.grammar.specs.declared.statement.Reduction.TheVariants as reduction
-use Rattle.grammar.specs.Trees.{EndsTree, InitialTree, NewSet, Load, Vertices, OutDegrees, Filter, ApplyModified, Value, ActionTree, Declare, While, For, If, IfElse, Print, Assign, Reduce, SetEntry, ReduceEntry, AddVertex, Apply, BlockTree, Empty, Then, ParameterTree, DeclarationTree, Constant, Function, CallTree, ChainTree, SourceTree}
-use Rattle.grammar.specs.Spelling.{each_before, type_words, reduction_word, argument_words, end_words, ends_before, initial_before, typed_before, assigned_before, label_words, action_before, block_before, next_parameter_before, parameters_before, result_before, declaration_before, setting_keyword, next_text_before, call_before, next_call_before, chain_before, schedule_before, source_words}
+use Rattle.syntax.specs.declared.operators.Addition.{Addition}
+use Rattle.syntax.specs.declared.operators.Addition.TheVariants as addition
+use Rattle.syntax.specs.declared.operators.Multiplication.{Multiplication}
+use Rattle.syntax.specs.declared.operators.Multiplication.TheVariants as multiplication
+use Rattle.syntax.specs.declared.operators.Prefix.{Prefix}
+use Rattle.syntax.specs.declared.operators.Prefix.TheVariants as prefix
+use Rattle.syntax.specs.declared.operators.Relation.{Relation}
+use Rattle.syntax.specs.declared.operators.Relation.TheVariants as relation
+use Rattle.syntax.specs.Words.{Word, Identifier, Name, Text, Opening, Reserved, Mark}
+use Rattle.syntax.specs.ExpressionTrees.{ExpressionTree, ConjunctionTree, ComparisonTree, SumTree, TermTree, UnaryTree, PrimaryTree, LastConjunction, ConjunctionThen, LastComparison, ComparisonThen, OneSum, TwoSums, LastTerm, TermThen, LastUnary, UnaryThen, Bare, Signed, Literal, Truth, Variable, Entry, Size, Parentheses}
+use Rattle.syntax.specs.ExpressionSpelling.{addition_word, multiplication_word, relation_word, prefix_word, truth_word, expression_words, conjunction_words, comparison_words, sum_words, term_words, unary_words, primary_words}
+use Rattle.syntax.specs.declared.declaration.DeclaredType.{DeclaredType}
+use Rattle.syntax.specs.declared.declaration.DeclaredType.TheVariants as type
+use Rattle.syntax.specs.declared.statement.Reduction.{Reduction}
+use Rattle.syntax.specs.declared.statement.Reduction.TheVariants as reduction
+use Rattle.syntax.specs.SourceTrees.{EndsTree, InitialTree, NewSet, Load, Vertices, OutDegrees, Filter, ApplyModified, Value, ActionTree, Declare, While, For, If, IfElse, Print, Assign, Reduce, SetEntry, ReduceEntry, AddVertex, Apply, BlockTree, Empty, Then, ParameterTree, DeclarationTree, Constant, Function, CallTree, ChainTree, SourceTree}
+use Rattle.syntax.specs.SourceSpelling.{each_before, type_words, reduction_word, argument_words, end_words, ends_before, initial_before, typed_before, assigned_before, label_words, action_before, block_before, next_parameter_before, parameters_before, result_before, declaration_before, setting_keyword, next_text_before, call_before, next_call_before, chain_before, schedule_before, source_words}
 use Rattle.source_text.specs.Text.{bare}
 use Rattle.source_text.specs.Bare.{bare_name, bare_expression, bare_conjunction, bare_comparison, bare_sum, bare_term, bare_unary, bare_primary, bare_ends, bare_initial, bare_parameter, bare_action, bare_block, bare_declaration, bare_call, bare_chain, bare_source}
 

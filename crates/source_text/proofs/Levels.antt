@@ -1,18 +1,18 @@
 -- The words of a level of expressions: its first operand, and then each other behind its operator.
 use Rattle.std.proofs.Common.{◌≡◌, List, [], ◌∷◌, ◌++◌, map, refl, ◌∙◌, ap, append_assoc}
 use Rattle.lexer.specs.declared.keyword.Keyword.TheVariants as keyword
-use Rattle.expressions.specs.declared.operators.Addition.{Addition}
-use Rattle.expressions.specs.declared.operators.Multiplication.{Multiplication}
-use Rattle.expressions.specs.declared.operators.Prefix.{Prefix}
-use Rattle.expressions.specs.declared.tree.Unary.{Unary}
-use Rattle.expressions.specs.declared.tree.Term.{Term}
-use Rattle.expressions.specs.declared.tree.Comparison.{Comparison}
-use Rattle.expressions.specs.declared.tree.Conjunction.{Conjunction}
-use Rattle.expressions.specs.Seen.{behind, comparison_of, conjunction_of, conjunction_from, expression_from, sum_from, term_from, term_of, unary_of}
-use Rattle.expressions.specs.Spelling.{addition_word, comparison_words, conjunction_words, expression_words, multiplication_word, prefix_word, primary_words, sum_words, term_words, unary_words}
-use Rattle.expressions.specs.Trees.{ConjunctionTree, ComparisonTree, TermTree, UnaryTree, PrimaryTree, Bare}
-use Rattle.expressions.specs.Words.{Word, Reserved}
-use Rattle.grammar.specs.Spelling.{each_before}
+use Rattle.syntax.specs.declared.operators.Addition.{Addition}
+use Rattle.syntax.specs.declared.operators.Multiplication.{Multiplication}
+use Rattle.syntax.specs.declared.operators.Prefix.{Prefix}
+use Rattle.syntax.specs.declared.expression.Unary.{Unary}
+use Rattle.syntax.specs.declared.expression.Term.{Term}
+use Rattle.syntax.specs.declared.expression.Comparison.{Comparison}
+use Rattle.syntax.specs.declared.expression.Conjunction.{Conjunction}
+use Rattle.syntax.specs.ExpressionViews.{behind, comparison_of, conjunction_of, conjunction_from, expression_from, sum_from, term_from, term_of, unary_of}
+use Rattle.syntax.specs.ExpressionSpelling.{addition_word, comparison_words, conjunction_words, expression_words, multiplication_word, prefix_word, primary_words, sum_words, term_words, unary_words}
+use Rattle.syntax.specs.ExpressionTrees.{ConjunctionTree, ComparisonTree, TermTree, UnaryTree, PrimaryTree, Bare}
+use Rattle.syntax.specs.Words.{Word, Reserved}
+use Rattle.syntax.specs.SourceSpelling.{each_before}
 use Rattle.source_text.specs.Written.{signs_before}
 
 abbrev pub or_before : Conjunction → List Word → List Word

@@ -17,7 +17,7 @@ use Rattle.lexer.specs.Tokens.{IsWord, Lexeme, IsLongest}
 use Rattle.lexer.proofs.LongestLaws.{IsNoReduction, IsNoPair, word_longest, number_longest, label_longest, text_longest, reduction_longest, pair_longest, single_longest}
 use Rattle.lexer.proofs.ShapeLaws.{digit-not_white, letter-not_white}
 use Rattle.lexer.proofs.SpellingLaws.{keyword_spelling-IsWord}
-use Rattle.expressions.specs.Words.{Word, Name, Number, Label, Text, Opening, Reserved, Mark}
+use Rattle.syntax.specs.Words.{Word, Name, Number, Label, Text, Opening, Reserved, Mark}
 use Rattle.source_text.specs.Text.{word_bytes, IsSpelled}
 
 -- the kind of token that a word is

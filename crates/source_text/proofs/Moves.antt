@@ -4,17 +4,17 @@ use Rattle.std.proofs.lemmas.Bool.{and_parts, false≢true}
 use Rattle.lexer.specs.declared.keyword.Keyword.{Keyword}
 use Rattle.lexer.specs.declared.keyword.Keyword.TheVariants as keyword
 use Rattle.lexer.specs.declared.symbol.Symbol.TheVariants as symbol
-use Rattle.expressions.specs.declared.operators.Addition.{Addition}
-use Rattle.expressions.specs.declared.operators.Addition.TheVariants as addition
-use Rattle.expressions.specs.declared.operators.Multiplication.{Multiplication}
-use Rattle.expressions.specs.declared.operators.Multiplication.TheVariants as multiplication
-use Rattle.expressions.specs.declared.operators.Prefix.{Prefix}
-use Rattle.expressions.specs.declared.operators.Prefix.TheVariants as prefix
-use Rattle.expressions.specs.declared.operators.Relation.{Relation}
-use Rattle.expressions.specs.declared.operators.Relation.TheVariants as relation
-use Rattle.expressions.specs.Words.{Word, Identifier, Name, Number, Label, Text, Opening, Reserved, Mark}
-use Rattle.expressions.specs.Trees.{ExpressionTree, ConjunctionTree, ComparisonTree, SumTree, TermTree, UnaryTree, PrimaryTree, LastConjunction, ConjunctionThen, LastComparison, ComparisonThen, OneSum, TwoSums, LastTerm, TermThen, LastUnary, UnaryThen, Bare, Signed, Literal, Truth, Variable, Entry, Size, Parentheses}
-use Rattle.expressions.specs.Spelling.{addition_word, multiplication_word, relation_word, prefix_word, truth_word, expression_words, conjunction_words, comparison_words, sum_words, term_words, unary_words, primary_words}
+use Rattle.syntax.specs.declared.operators.Addition.{Addition}
+use Rattle.syntax.specs.declared.operators.Addition.TheVariants as addition
+use Rattle.syntax.specs.declared.operators.Multiplication.{Multiplication}
+use Rattle.syntax.specs.declared.operators.Multiplication.TheVariants as multiplication
+use Rattle.syntax.specs.declared.operators.Prefix.{Prefix}
+use Rattle.syntax.specs.declared.operators.Prefix.TheVariants as prefix
+use Rattle.syntax.specs.declared.operators.Relation.{Relation}
+use Rattle.syntax.specs.declared.operators.Relation.TheVariants as relation
+use Rattle.syntax.specs.Words.{Word, Identifier, Name, Number, Label, Text, Opening, Reserved, Mark}
+use Rattle.syntax.specs.ExpressionTrees.{ExpressionTree, ConjunctionTree, ComparisonTree, SumTree, TermTree, UnaryTree, PrimaryTree, LastConjunction, ConjunctionThen, LastComparison, ComparisonThen, OneSum, TwoSums, LastTerm, TermThen, LastUnary, UnaryThen, Bare, Signed, Literal, Truth, Variable, Entry, Size, Parentheses}
+use Rattle.syntax.specs.ExpressionSpelling.{addition_word, multiplication_word, relation_word, prefix_word, truth_word, expression_words, conjunction_words, comparison_words, sum_words, term_words, unary_words, primary_words}
 use Rattle.source_text.specs.Text.{bare, AreAlike}
 
 -- a word that has no offset

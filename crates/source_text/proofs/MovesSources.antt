@@ -2,14 +2,14 @@
 use Rattle.std.proofs.Common.{◌≡◌, ℕ, true, List, [], ◌∷◌, ◌++◌, Option, Some, None, refl, ◌∙◌, ap}
 use Rattle.lexer.specs.declared.keyword.Keyword.TheVariants as keyword
 use Rattle.lexer.specs.declared.symbol.Symbol.TheVariants as symbol
-use Rattle.expressions.specs.Words.{Word, Identifier, Name, Number, Text, Opening, Reserved, Mark}
-use Rattle.expressions.specs.Spelling.{expression_words}
-use Rattle.grammar.specs.declared.declaration.DeclaredType.{DeclaredType}
-use Rattle.grammar.specs.declared.declaration.DeclaredType.TheVariants as type
-use Rattle.grammar.specs.declared.statement.Reduction.{Reduction}
-use Rattle.grammar.specs.declared.statement.Reduction.TheVariants as reduction
-use Rattle.grammar.specs.Trees.{EndsTree, InitialTree, NewSet, Load, Vertices, OutDegrees, Filter, ApplyModified, Value, ActionTree, Declare, While, For, If, IfElse, Print, Assign, Reduce, SetEntry, ReduceEntry, AddVertex, Apply, BlockTree, Empty, Then, ParameterTree, DeclarationTree, Constant, Function, CallTree, ChainTree, SourceTree}
-use Rattle.grammar.specs.Spelling.{each_before, type_words, reduction_word, argument_words, end_words, ends_before, initial_before, typed_before, assigned_before, label_words, action_before, block_before, next_parameter_before, parameters_before, result_before, declaration_before, setting_keyword, next_text_before, call_before, next_call_before, chain_before, schedule_before, source_words}
+use Rattle.syntax.specs.Words.{Word, Identifier, Name, Number, Text, Opening, Reserved, Mark}
+use Rattle.syntax.specs.ExpressionSpelling.{expression_words}
+use Rattle.syntax.specs.declared.declaration.DeclaredType.{DeclaredType}
+use Rattle.syntax.specs.declared.declaration.DeclaredType.TheVariants as type
+use Rattle.syntax.specs.declared.statement.Reduction.{Reduction}
+use Rattle.syntax.specs.declared.statement.Reduction.TheVariants as reduction
+use Rattle.syntax.specs.SourceTrees.{EndsTree, InitialTree, NewSet, Load, Vertices, OutDegrees, Filter, ApplyModified, Value, ActionTree, Declare, While, For, If, IfElse, Print, Assign, Reduce, SetEntry, ReduceEntry, AddVertex, Apply, BlockTree, Empty, Then, ParameterTree, DeclarationTree, Constant, Function, CallTree, ChainTree, SourceTree}
+use Rattle.syntax.specs.SourceSpelling.{each_before, type_words, reduction_word, argument_words, end_words, ends_before, initial_before, typed_before, assigned_before, label_words, action_before, block_before, next_parameter_before, parameters_before, result_before, declaration_before, setting_keyword, next_text_before, call_before, next_call_before, chain_before, schedule_before, source_words}
 use Rattle.source_text.specs.Text.{AreAlike}
 use Rattle.source_text.proofs.Moves.{all_fixed, take_fixed, take_name, take_label, take_opening, Moves, MovesWords, move_expression}
 

@@ -1,10 +1,10 @@
 -- Laws of writing words one after the other.
 use Rattle.std.proofs.Common.{◌≡◌, ℕ, ◌+◌, ◌<◌, ◌≤◌, List, [], ◌∷◌, ◌++◌, map, length, get_or, drop, suc, refl, sym, ◌∙◌, ap, subst, append_assoc, drop-cons, add-one, append-nil}
 use Rattle.std.proofs.lemmas.List.{drop_all}
-use Rattle.expressions.specs.Words.{Word}
-use Rattle.grammar.specs.declared.statement.Statement.{Statement}
-use Rattle.grammar.specs.Spelling.{each_before, label_words, action_before, block_before}
-use Rattle.grammar.specs.Views.{action_tree, block_tree}
+use Rattle.syntax.specs.Words.{Word}
+use Rattle.syntax.specs.declared.statement.Statement.{Statement}
+use Rattle.syntax.specs.SourceSpelling.{each_before, label_words, action_before, block_before}
+use Rattle.syntax.specs.SourceViews.{action_tree, block_tree}
 use Rattle.source_text.specs.Text.{word_bytes, gap_behind, text_of}
 use Rattle.source_text.specs.Written.{Completes, Puts, PutsUpTo}
 

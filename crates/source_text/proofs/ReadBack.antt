@@ -1,10 +1,10 @@
 -- What is written of a source is read as that source.
 use Rattle.std.proofs.Common.{◌≡◌, ℕ, ◌≤◌, List, [], ◌∷◌, map, Result, Ok, Err, refl, sym, ◌∙◌, ap, subst}
-use Rattle.expressions.specs.Words.{Word, Name, Number, Label, Text, Opening, Reserved, Mark, words_of}
-use Rattle.grammar.specs.Nesting.{limit, nesting_behind, StaysWithin}
-use Rattle.grammar.specs.Spelling.{source_words}
-use Rattle.grammar.specs.Trees.{SourceTree}
-use Rattle.grammar.proofs.Exact.{one_source}
+use Rattle.syntax.specs.Words.{Word, Name, Number, Label, Text, Opening, Reserved, Mark, words_of}
+use Rattle.syntax.specs.Nesting.{limit, nesting_behind, StaysWithin}
+use Rattle.syntax.specs.SourceSpelling.{source_words}
+use Rattle.syntax.specs.SourceTrees.{SourceTree}
+use Rattle.syntax.proofs.SourcesExact.{one_source}
 use Rattle.parser.specs.declared.error.ParseError.{ParseError}
 use Rattle.parser.specs.declared.error.ParseError.TheVariants.{Unexpected}
 use Rattle.parser.specs.Outcome.{Parses, without_place}

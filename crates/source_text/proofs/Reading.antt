@@ -10,7 +10,7 @@ use Rattle.lexer.specs.Runs.{EndsRun}
 use Rattle.lexer.specs.Tokens.{White, Lexeme, Piece, IsSmall, AreSmall, AreLongest, IsReadUpTo, bytes_of, tokens_from, slice_of}
 use Rattle.lexer.proofs.LongestLaws.{white_longest}
 use Rattle.lexer.proofs.OrderLaws.{slice_between}
-use Rattle.expressions.specs.Words.{Word, Name, Number, Label, Text, Opening, Reserved, Mark, keyword_word, word_of, words_of}
+use Rattle.syntax.specs.Words.{Word, Name, Number, Label, Text, Opening, Reserved, Mark, keyword_word, word_of, words_of}
 use Rattle.source_text.specs.Text.{word_bytes, keyword_gap, symbol_gap, gap_behind, text_of, IsSpelled, AreSpelled, bare, AreAlike, HasWords}
 use Rattle.source_text.proofs.Longest.{kind_of, word_before, first_not_white}
 

@@ -10,7 +10,7 @@ use Rattle.lexer.specs.declared.token.TokenKind.{TokenKind}
 use Rattle.lexer.specs.declared.token.TokenKind.TheVariants as kind
 use Rattle.lexer.specs.Tokens.{PieceKind, White, Comment, Lexeme, Piece, IsToken, IsSmall, AreSmall, token_of, tokens_from, HasTokens, slice_of, AreInOrder}
 use Rattle.lexer.proofs.OrderLaws.{HasTokens-AreInOrder}
-use Rattle.expressions.specs.Words.{keyword_word, word_of, words_of}
+use Rattle.syntax.specs.Words.{keyword_word, word_of, words_of}
 use Rattle.source_text.specs.Text.{IsSpelled, AreSpelled}
 
 spelled_keyword : (k : Keyword) (at : ℕ) → IsSpelled (keyword_word k at)

@@ -1,8 +1,8 @@
 -- What is read of the text of a source.
 use Rattle.std.specs.Prelude.{◌≡◌, ℕ, List, Result, Ok}
-use Rattle.grammar.specs.Nesting.{limit, StaysWithin}
-use Rattle.grammar.specs.Spelling.{source_words}
-use Rattle.grammar.specs.Trees.{SourceTree}
+use Rattle.syntax.specs.Nesting.{limit, StaysWithin}
+use Rattle.syntax.specs.SourceSpelling.{source_words}
+use Rattle.syntax.specs.SourceTrees.{SourceTree}
 use Rattle.parser.specs.declared.error.ParseError.{ParseError}
 use Rattle.parser.specs.Outcome.{Parses}
 use Rattle.source_text.specs.Bare.{bare_source}

@@ -10,7 +10,7 @@ use Rattle.lexer.specs.declared.token.Token.{Token}
 use Rattle.lexer.specs.declared.token.TokenKind.TheVariants as kind
 use Rattle.lexer.specs.Spelling.{keyword_spelling, symbol_spelling}
 use Rattle.lexer.specs.Tokens.{IsName, IsToken, HasTokens}
-use Rattle.expressions.specs.Words.{Word, Name, Number, Label, Text, Opening, Reserved, Mark, keyword_word, words_of}
+use Rattle.syntax.specs.Words.{Word, Name, Number, Label, Text, Opening, Reserved, Mark, keyword_word, words_of}
 
 -- the bytes of a word
 abbrev pub word_bytes : Word → List ℕ

@@ -2,13 +2,13 @@
 use Rattle.std.specs.Prelude.{◌≡◌, ℕ, List, ◌∷◌, ◌++◌, drop, map}
 use Rattle.std.specs.Global.{Vec}
 use Rattle.lexer.specs.declared.keyword.Keyword.TheVariants as keyword
-use Rattle.expressions.specs.declared.operators.Prefix.{Prefix}
-use Rattle.expressions.specs.Words.{Word, Reserved}
-use Rattle.expressions.specs.Spelling.{prefix_word}
-use Rattle.grammar.specs.declared.schedule.Chain.{Chain}
-use Rattle.grammar.specs.Spelling.{each_before}
-use Rattle.grammar.specs.Trees.{ActionTree, While, For, If, IfElse, ChainTree}
-use Rattle.grammar.specs.Views.{chain_tree}
+use Rattle.syntax.specs.declared.operators.Prefix.{Prefix}
+use Rattle.syntax.specs.Words.{Word, Reserved}
+use Rattle.syntax.specs.ExpressionSpelling.{prefix_word}
+use Rattle.syntax.specs.declared.schedule.Chain.{Chain}
+use Rattle.syntax.specs.SourceSpelling.{each_before}
+use Rattle.syntax.specs.SourceTrees.{ActionTree, While, For, If, IfElse, ChainTree}
+use Rattle.syntax.specs.SourceViews.{chain_tree}
 use Rattle.source_text.specs.Text.{text_of}
 
 -- the bytes and then the text of the words are the whole

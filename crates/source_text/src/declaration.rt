@@ -1,13 +1,13 @@
 //! Declarations.
 ghost use Rattle.std.specs.Prelude.{map, option_map, OnOk};
-ghost use Rattle.grammar.specs.Spelling.{declaration_before, each_before, next_parameter_before, parameters_before, result_before};
-ghost use Rattle.grammar.specs.Views.{declaration_tree, parameter_tree};
+ghost use Rattle.syntax.specs.SourceSpelling.{declaration_before, each_before, next_parameter_before, parameters_before, result_before};
+ghost use Rattle.syntax.specs.SourceViews.{declaration_tree, parameter_tree};
 ghost use Rattle.source_text.specs.Written.{Puts};
 
 use crate::initial::{put_assigned, put_parameter};
 use crate::statement::put_block;
 use crate::text::{put_keyword, put_name, put_symbol};
-use grammar::{Declaration, Parameter};
+use syntax::{Declaration, Parameter};
 use lexer::{Keyword, Symbol};
 use std::alloc::AllocError;
 

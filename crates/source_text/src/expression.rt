@@ -1,14 +1,11 @@
 //! Expressions, one function for each level of the grammar.
 ghost use Rattle.std.specs.Prelude.{◌++◌, ◌∷◌, OnOk};
-ghost use Rattle.expressions.specs.Seen.{comparison_of, conjunction_of, primary_of, sum_of, term_of, unary_of};
-ghost use Rattle.expressions.specs.Spelling.{addition_word, comparison_words, conjunction_words, expression_words, multiplication_word, prefix_word, primary_words, relation_word, sum_words, term_words, unary_words};
+ghost use Rattle.syntax.specs.ExpressionViews.{comparison_of, conjunction_of, primary_of, sum_of, term_of, unary_of};
+ghost use Rattle.syntax.specs.ExpressionSpelling.{addition_word, comparison_words, conjunction_words, expression_words, multiplication_word, prefix_word, primary_words, relation_word, sum_words, term_words, unary_words};
 ghost use Rattle.source_text.specs.Written.{Puts, signs_before};
 
 use crate::text::{put_keyword, put_name, put_number, put_symbol};
-use expressions::{
-    Addition, Comparison, Conjunction, Expression, Multiplication, Prefix, Primary, Relation, Sum,
-    Term, Unary,
-};
+use syntax::{Addition, Comparison, Conjunction, Expression, Multiplication, Prefix, Primary, Relation, Sum, Term, Unary};
 use lexer::{Keyword, Symbol};
 use std::alloc::AllocError;
 

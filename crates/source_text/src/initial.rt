@@ -2,16 +2,15 @@
 ghost use Rattle.std.specs.Prelude.{◌++◌, ◌∷◌, OnOk};
 ghost use Rattle.lexer.specs.declared.keyword.Keyword.TheVariants as keyword_word;
 ghost use Rattle.lexer.specs.declared.symbol.Symbol.TheVariants as symbol;
-ghost use Rattle.expressions.specs.Words.{Mark, Name as word_name, Reserved};
-ghost use Rattle.grammar.specs.Trees.{ApplyModified, Filter, Load, NewSet};
-ghost use Rattle.grammar.specs.Spelling.{argument_words, assigned_before, end_words, ends_before, ended_before, initial_before, type_words, typed_before};
-ghost use Rattle.grammar.specs.Views.{ends_tree, initial_tree, parameter_tree};
+ghost use Rattle.syntax.specs.Words.{Mark, Name as word_name, Reserved};
+ghost use Rattle.syntax.specs.SourceTrees.{ApplyModified, Filter, Load, NewSet};
+ghost use Rattle.syntax.specs.SourceSpelling.{argument_words, assigned_before, end_words, ends_before, ended_before, initial_before, type_words, typed_before};
+ghost use Rattle.syntax.specs.SourceViews.{ends_tree, initial_tree, parameter_tree};
 ghost use Rattle.source_text.specs.Written.{Puts};
 
 use crate::expression::put_expression;
 use crate::text::{put_keyword, put_name, put_number, put_symbol};
-use expressions::{Expression, Name};
-use grammar::{DeclaredType, Ends, Initial, Parameter};
+use syntax::{DeclaredType, Ends, Expression, Initial, Name, Parameter};
 use lexer::{Keyword, Symbol};
 use std::alloc::AllocError;
 

@@ -1,12 +1,12 @@
 //! The schedule's part of a source.
 ghost use Rattle.std.specs.Prelude.{ℕ, ◌∷◌, map, option_map, OnOk};
-ghost use Rattle.expressions.specs.Words.{Opening};
-ghost use Rattle.grammar.specs.Spelling.{call_before, chain_before, each_before, next_call_before, next_text_before, schedule_before, setting_keyword};
-ghost use Rattle.grammar.specs.Views.{call_tree, chain_tree, text_of};
+ghost use Rattle.syntax.specs.Words.{Opening};
+ghost use Rattle.syntax.specs.SourceSpelling.{call_before, chain_before, each_before, next_call_before, next_text_before, schedule_before, setting_keyword};
+ghost use Rattle.syntax.specs.SourceViews.{call_tree, chain_tree, text_of};
 ghost use Rattle.source_text.specs.Written.{Puts, chains_tree};
 
 use crate::text::{put_keyword, put_symbol, put_text};
-use grammar::{Call, Chain, Setting, Text};
+use syntax::{Call, Chain, Setting, Text};
 use lexer::{Keyword, Symbol};
 use std::alloc::AllocError;
 

@@ -1,18 +1,17 @@
 //! Simple statements: those that hold no block.
 ghost use Rattle.std.specs.Prelude.{ℕ, ◌++◌, ◌∷◌, OnOk};
 ghost use Rattle.lexer.specs.declared.symbol.Symbol.TheVariants as symbol;
-ghost use Rattle.expressions.specs.Words.{Mark, Name as word_name};
-ghost use Rattle.expressions.specs.Spelling.{expression_words};
-ghost use Rattle.grammar.specs.Spelling.{action_before, reduction_word};
-ghost use Rattle.grammar.specs.Trees.{AddVertex, Apply, Assign, Declare, Print, Reduce, ReduceEntry, SetEntry};
-ghost use Rattle.grammar.specs.Views.{action_tree, ends_tree, initial_tree, parameter_tree};
+ghost use Rattle.syntax.specs.Words.{Mark, Name as word_name};
+ghost use Rattle.syntax.specs.ExpressionSpelling.{expression_words};
+ghost use Rattle.syntax.specs.SourceSpelling.{action_before, reduction_word};
+ghost use Rattle.syntax.specs.SourceTrees.{AddVertex, Apply, Assign, Declare, Print, Reduce, ReduceEntry, SetEntry};
+ghost use Rattle.syntax.specs.SourceViews.{action_tree, ends_tree, initial_tree, parameter_tree};
 ghost use Rattle.source_text.specs.Written.{IsSimple, Puts};
 
 use crate::expression::put_expression;
 use crate::initial::{put_argument, put_assigned, put_ended, put_ends, put_method, put_parameter};
 use crate::text::{put_keyword, put_name, put_symbol};
-use expressions::{Expression, Name};
-use grammar::{Action, Ends, Initial, Parameter, Reduction};
+use syntax::{Action, Ends, Expression, Initial, Name, Parameter, Reduction};
 use lexer::{Keyword, Symbol};
 use std::alloc::AllocError;
 

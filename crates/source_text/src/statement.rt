@@ -2,17 +2,16 @@
 ghost use Rattle.std.specs.Prelude.{ℕ, ◌++◌, ◌∷◌, OnOk};
 ghost use Rattle.lexer.specs.declared.keyword.Keyword.TheVariants as keyword;
 ghost use Rattle.lexer.specs.declared.symbol.Symbol.TheVariants as symbol;
-ghost use Rattle.expressions.specs.Words.{Mark, Name as word_name, Opening, Reserved};
-ghost use Rattle.expressions.specs.Spelling.{expression_words};
-ghost use Rattle.grammar.specs.Spelling.{action_before, block_before, label_words};
-ghost use Rattle.grammar.specs.Views.{action_tree, block_tree};
+ghost use Rattle.syntax.specs.Words.{Mark, Name as word_name, Opening, Reserved};
+ghost use Rattle.syntax.specs.ExpressionSpelling.{expression_words};
+ghost use Rattle.syntax.specs.SourceSpelling.{action_before, block_before, label_words};
+ghost use Rattle.syntax.specs.SourceViews.{action_tree, block_tree};
 ghost use Rattle.source_text.specs.Written.{Puts};
 
 use crate::expression::put_expression;
 use crate::simple::put_simple;
 use crate::text::{put_keyword, put_label, put_name, put_symbol};
-use expressions::{Expression, Name};
-use grammar::{Action, Statement};
+use syntax::{Action, Expression, Name, Statement};
 use lexer::{Keyword, Symbol};
 use std::alloc::AllocError;
 

@@ -1,13 +1,12 @@
 //! Words as text.
 ghost use Rattle.std.specs.Prelude.{◌≡◌, ◌++◌, ℕ, List, [], ◌∷◌, OnOk};
 ghost use Rattle.lexer.specs.Spelling.{symbol_spelling};
-ghost use Rattle.expressions.specs.Words.{Word, Label as label_word, Mark, Name as name_word, Number, Opening, Reserved, Text as text_word};
+ghost use Rattle.syntax.specs.Words.{Word, Label as label_word, Mark, Name as name_word, Number, Opening, Reserved, Text as text_word};
 ghost use Rattle.source_text.specs.Text.{text_of, keyword_gap, symbol_gap, AreSpelled, HasWords};
 ghost use Rattle.source_text.specs.Written.{Puts};
 
 use decimal::push_integer;
-use expressions::Name;
-use grammar::Text;
+use syntax::{Name, Text};
 use lexer::{Keyword, Symbol};
 use std::alloc::AllocError;
 

@@ -1,8 +1,8 @@
 //! A whole source.
 ghost use Rattle.std.specs.Prelude.{◌≡◌, ℕ, List, Ok, IfOk, OnOk};
-ghost use Rattle.grammar.specs.Spelling.{source_words};
-ghost use Rattle.grammar.specs.Views.{source_tree};
-ghost use Rattle.grammar.specs.Trees.{SourceTree};
+ghost use Rattle.syntax.specs.SourceSpelling.{source_words};
+ghost use Rattle.syntax.specs.SourceViews.{source_tree};
+ghost use Rattle.syntax.specs.SourceTrees.{SourceTree};
 ghost use Rattle.parser.specs.Outcome.{Parses};
 ghost use Rattle.source_text.specs.ReadBack.{IsReadBack, IsWritable};
 ghost use Rattle.source_text.specs.Text.{text_of};
@@ -11,7 +11,7 @@ ghost use Rattle.source_text.specs.Written.{Puts, elements_before};
 use crate::declaration::put_declarations;
 use crate::schedule::put_schedule;
 use crate::text::put_keyword;
-use grammar::Source;
+use syntax::Source;
 use lexer::Keyword;
 use std::alloc::{AllocError, Global};
 

@@ -1,12 +1,12 @@
 -- What statements of main with blocks come to.
 use Rattle.std.proofs.Common.{◌≡◌, ap, sym, ◌∙◌, ℕ, length, List, Some, None}
 use Rattle.std.specs.Global.{Vec}
-use Rattle.expressions.specs.Words.{Identifier}
-use Rattle.expressions.specs.Trees.{ExpressionTree}
-use Rattle.grammar.specs.declared.statement.Action.{Action}
-use Rattle.grammar.specs.declared.statement.Action.TheViews as written
-use Rattle.grammar.specs.declared.statement.Statement as source
-use Rattle.grammar.specs.Views.{action_tree as source_action, block_tree as source_block}
+use Rattle.syntax.specs.Words.{Identifier}
+use Rattle.syntax.specs.ExpressionTrees.{ExpressionTree}
+use Rattle.syntax.specs.declared.statement.Action.{Action}
+use Rattle.syntax.specs.declared.statement.Action.TheViews as written
+use Rattle.syntax.specs.declared.statement.Statement as source
+use Rattle.syntax.specs.SourceViews.{action_tree as source_action, block_tree as source_block}
 use Rattle.typed_tree.specs.declared.expression.Condition.{Condition}
 use Rattle.typed_tree.specs.declared.expression.Integer.{Integer}
 use Rattle.typed_tree.specs.declared.expression.Slot.{Slot}

@@ -1,8 +1,8 @@
 -- Statements that were looked at, in front of those that are left.
 use Rattle.std.proofs.Common.{◌≡◌, ℕ, suc, ◌+◌, ◌<◌, ◌≤◌, length, drop, get_or, drop-cons, add-one, refl, ap, sym, ◌∙◌, List, [], ◌∷◌, ◌++◌, Some, None}
 use Rattle.std.proofs.lemmas.List.{drop_all}
-use Rattle.grammar.specs.declared.statement.Statement as source
-use Rattle.grammar.specs.Views.{action_tree as source_action, block_tree as source_block}
+use Rattle.syntax.specs.declared.statement.Statement as source
+use Rattle.syntax.specs.SourceViews.{action_tree as source_action, block_tree as source_block}
 use Rattle.typed_tree.specs.BlockTree.{BlockTree, block_tree, Empty}
 use Rattle.typed_tree.specs.declared.statement.Statement.{Statement}
 use Rattle.expression_types.specs.Operators.{◌>>=◌}

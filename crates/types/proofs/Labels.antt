@@ -1,6 +1,6 @@
 -- What labels and numbers of statements leave as it was, and statements of main with both.
 use Rattle.std.proofs.Common.{◌≡◌, ap, sym, ◌∙◌, ℕ, suc, Bool, true, false, List, Option, Some, None}
-use Rattle.expressions.specs.Words.{Identifier}
+use Rattle.syntax.specs.Words.{Identifier}
 use Rattle.grammar.specs.Trees as source
 use Rattle.typed_tree.specs.BlockTree.{ActionTree}
 use Rattle.expression_types.specs.Operators.{◌>>=◌}

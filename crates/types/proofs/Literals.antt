@@ -1,15 +1,15 @@
 -- Several operands, or signs, are no literal.
 use Rattle.std.proofs.Common.{◌≡◌, ◌<◌, refl, arith, map, length, List, [], ◌∷◌, None}
-use Rattle.expressions.specs.declared.operators.Addition.{Addition}
-use Rattle.expressions.specs.declared.operators.Multiplication.{Multiplication}
-use Rattle.expressions.specs.declared.operators.Prefix.{Prefix}
-use Rattle.expressions.specs.declared.operators.Prefix.TheVariants as prefix
-use Rattle.expressions.specs.declared.tree.Unary.{Unary}
-use Rattle.expressions.specs.declared.tree.Term.{Term}
-use Rattle.expressions.specs.declared.tree.Comparison.{Comparison}
-use Rattle.expressions.specs.declared.tree.Conjunction.{Conjunction}
-use Rattle.expressions.specs.Seen.{behind, unary_of, term_of, comparison_of, conjunction_of, term_from, sum_from, conjunction_from, expression_from}
-use Rattle.expressions.specs.Trees.{ConjunctionTree, ComparisonTree, TermTree, UnaryTree, PrimaryTree, Bare}
+use Rattle.syntax.specs.declared.operators.Addition.{Addition}
+use Rattle.syntax.specs.declared.operators.Multiplication.{Multiplication}
+use Rattle.syntax.specs.declared.operators.Prefix.{Prefix}
+use Rattle.syntax.specs.declared.operators.Prefix.TheVariants as prefix
+use Rattle.syntax.specs.declared.expression.Unary.{Unary}
+use Rattle.syntax.specs.declared.expression.Term.{Term}
+use Rattle.syntax.specs.declared.expression.Comparison.{Comparison}
+use Rattle.syntax.specs.declared.expression.Conjunction.{Conjunction}
+use Rattle.syntax.specs.ExpressionViews.{behind, unary_of, term_of, comparison_of, conjunction_of, term_from, sum_from, conjunction_from, expression_from}
+use Rattle.syntax.specs.ExpressionTrees.{ConjunctionTree, ComparisonTree, TermTree, UnaryTree, PrimaryTree, Bare}
 use Rattle.types.specs.Literal.{only_unary, only_term, only_comparison, only_operand, unary_number, unary_truth}
 
 pub several_units : (first : UnaryTree) (more : List (Multiplication × Unary)) → 0 < length more

@@ -1,11 +1,11 @@
 -- Statements are numbered in order.
 use Rattle.std.proofs.Common.{◌≡◌, ℕ, suc, ◌+◌, refl, sym, subst, arith, length, length-append, List, [], ◌∷◌, ◌++◌, Bool, true, false, Option, Some, None}
-use Rattle.expressions.specs.Words.{Identifier}
-use Rattle.expressions.specs.Trees.{ExpressionTree}
-use Rattle.grammar.specs.declared.declaration.DeclaredType.{DeclaredType}
-use Rattle.grammar.specs.declared.declaration.DeclaredType.TheVariants as declared
+use Rattle.syntax.specs.Words.{Identifier}
+use Rattle.syntax.specs.ExpressionTrees.{ExpressionTree}
+use Rattle.syntax.specs.declared.declaration.DeclaredType.{DeclaredType}
+use Rattle.syntax.specs.declared.declaration.DeclaredType.TheVariants as declared
 use Rattle.grammar.specs.Trees as source
-use Rattle.grammar.specs.Trees.{InitialTree}
+use Rattle.syntax.specs.SourceTrees.{InitialTree}
 use Rattle.typed_tree.specs.BlockTree.{ActionTree, ReduceInteger, SetEntry, ReduceEntry, AddVertex, ApplyVertex, For, BlockTree}
 use Rattle.expression_types.specs.declared.scope.Entity.{Entity}
 use Rattle.expression_types.specs.declared.scope.Entity.TheVariants as entity

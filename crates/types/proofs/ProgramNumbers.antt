@@ -1,9 +1,9 @@
 -- The statements of main are numbered in order.
 use Rattle.std.proofs.Common.{◌≡◌, ℕ, List, [], ◌∷◌, length, Bool, true, false, if◌then◌else◌, Option, Some, None}
 use Rattle.std.specs.Str.{bytes_eq}
-use Rattle.grammar.specs.declared.declaration.DeclaredType.{DeclaredType}
-use Rattle.grammar.specs.declared.declaration.DeclaredType.TheVariants as declared
-use Rattle.grammar.specs.Trees.{BlockTree, InitialTree, ParameterTree, DeclarationTree, Constant, Function, SourceTree}
+use Rattle.syntax.specs.declared.declaration.DeclaredType.{DeclaredType}
+use Rattle.syntax.specs.declared.declaration.DeclaredType.TheVariants as declared
+use Rattle.syntax.specs.SourceTrees.{BlockTree, InitialTree, ParameterTree, DeclarationTree, Constant, Function, SourceTree}
 use Rattle.typed_tree.specs.BlockTree as typed
 use Rattle.typed_tree.specs.ProgramTree.{ProgramTree}
 use Rattle.types.specs.CheckerTree.{restarted, declared_in}

@@ -1,14 +1,14 @@
 -- The trees of statements of a source that hold blocks.
 use Rattle.std.proofs.Common.{◌≡◌, ℕ, ap, refl, rules}
 use Rattle.std.specs.Global.{Vec}
-use Rattle.expressions.specs.Words.{Identifier}
-use Rattle.expressions.specs.Trees.{ExpressionTree}
-use Rattle.grammar.specs.declared.statement.Statement.{Statement}
-use Rattle.grammar.specs.declared.statement.Action.{Row_of-Statement, end_of-Statement, more_of-Statement, items-the_row-Statement}
-use Rattle.grammar.specs.declared.statement.Action.TheViews as views
-use Rattle.grammar.specs.declared.statement.Action.TheViews.{the_lemmas}
-use Rattle.grammar.specs.Trees.{While, For, If, IfElse, Then}
-use Rattle.grammar.specs.Views.{action_tree, rows_tree, block_tree}
+use Rattle.syntax.specs.Words.{Identifier}
+use Rattle.syntax.specs.ExpressionTrees.{ExpressionTree}
+use Rattle.syntax.specs.declared.statement.Statement.{Statement}
+use Rattle.syntax.specs.declared.statement.Action.{Row_of-Statement, end_of-Statement, more_of-Statement, items-the_row-Statement}
+use Rattle.syntax.specs.declared.statement.Action.TheViews as views
+use Rattle.syntax.specs.declared.statement.Action.TheViews.{the_lemmas}
+use Rattle.syntax.specs.SourceTrees.{While, For, If, IfElse, Then}
+use Rattle.syntax.specs.SourceViews.{action_tree, rows_tree, block_tree}
 
 pub rows_tree-items : {m : _} (row : Row_of-Statement m) → rows_tree row ≡ block_tree (items-the_row-Statement m row)
 rows_tree-items end_of-Statement = refl

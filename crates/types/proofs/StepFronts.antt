@@ -1,14 +1,14 @@
 -- Statements of a function that were looked at, in front of those that are left.
 use Rattle.std.proofs.Common.{◌≡◌, refl, ap, sym, ◌∙◌, ℕ, suc, ◌+◌, ◌<◌, ◌≤◌, length, drop, get_or, drop-cons, add-one, map, List, [], ◌∷◌, ◌++◌, Option, Some, None}
 use Rattle.std.proofs.lemmas.List.{append_assoc, append-nil, drop_all, map-append}
-use Rattle.grammar.specs.declared.statement.Statement as source
-use Rattle.grammar.specs.Views.{action_tree as source_action, block_tree as source_block}
+use Rattle.syntax.specs.declared.statement.Statement as source
+use Rattle.syntax.specs.SourceViews.{action_tree as source_action, block_tree as source_block}
 use Rattle.typed_tree.specs.StepTree.{StepTree, step_tree}
 use Rattle.typed_tree.specs.declared.function.Step.{Step}
 use Rattle.expression_types.specs.Operators.{◌>>=◌}
 use Rattle.expression_types.specs.declared.scope.Entity.TheVariants as entity
 use Rattle.expression_types.specs.ScopeTree.{ScopeTree, declared, function_scope}
-use Rattle.grammar.specs.Trees.{BlockTree}
+use Rattle.syntax.specs.SourceTrees.{BlockTree}
 use Rattle.typed_tree.specs.declared.expression.Endpoint.TheVariants as endpoint
 use Rattle.types.specs.CheckerTree.{CheckerTree, with_scope, labelled}
 use Rattle.types.specs.Declaration.{function_body}

@@ -1,7 +1,7 @@
 -- What is met on the way through a source.
 use Rattle.std.specs.Prelude.{ℕ, suc, Bool, true, false, ◌||◌, List, [], ◌∷◌, ◌++◌, length, Option, Some, None}
 use Rattle.std.specs.Str.{bytes_eq}
-use Rattle.expressions.specs.Words.{Identifier}
+use Rattle.syntax.specs.Words.{Identifier}
 use Rattle.typed_tree.specs.declared.expression.Slot.{Slot}
 use Rattle.expression_types.specs.declared.scope.Entity.{Entity}
 use Rattle.expression_types.specs.Operators.{◌>>=◌}

@@ -1,10 +1,10 @@
 -- What is declared.
 use Rattle.std.specs.Prelude.{ℕ, zero, suc, ℤ, pos, negsuc, Bool, true, false, if◌then◌else◌, List, [], ◌∷◌, ◌++◌, length, map, Option, Some, None, option_map}
 use Rattle.std.specs.Str.{bytes_eq}
-use Rattle.grammar.specs.declared.declaration.DeclaredType.{DeclaredType}
-use Rattle.grammar.specs.declared.declaration.DeclaredType.TheVariants as declared
+use Rattle.syntax.specs.declared.declaration.DeclaredType.{DeclaredType}
+use Rattle.syntax.specs.declared.declaration.DeclaredType.TheVariants as declared
 use Rattle.grammar.specs.Trees as source
-use Rattle.grammar.specs.Trees.{ParameterTree, InitialTree, NewSet, Load, Vertices, OutDegrees, Filter, ApplyModified, Value, DeclarationTree, Constant, Function}
+use Rattle.syntax.specs.SourceTrees.{ParameterTree, InitialTree, NewSet, Load, Vertices, OutDegrees, Filter, ApplyModified, Value, DeclarationTree, Constant, Function}
 use Rattle.typed_tree.specs.declared.expression.Endpoint.TheVariants as endpoint
 use Rattle.typed_tree.specs.declared.program.Beginning.TheVariants as beginning
 use Rattle.typed_tree.specs.declared.program.Vector.{Vector}

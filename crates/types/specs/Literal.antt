@@ -1,9 +1,9 @@
 -- Literals, which are all that constants of type int or bool, and vectors, may be declared to be.
 use Rattle.std.specs.Prelude.{ℤ, pos, negsuc, neg_ℤ, Bool, Option, Some, None}
-use Rattle.expressions.specs.declared.operators.Prefix.TheVariants as prefix
-use Rattle.expressions.specs.Trees as tree
-use Rattle.expressions.specs.Trees.{ExpressionTree, ConjunctionTree, ComparisonTree, SumTree, TermTree, UnaryTree, PrimaryTree}
-use Rattle.grammar.specs.Trees.{InitialTree, NewSet, Load, Vertices, OutDegrees, Filter, ApplyModified, Value}
+use Rattle.syntax.specs.declared.operators.Prefix.TheVariants as prefix
+use Rattle.syntax.specs.ExpressionTrees as tree
+use Rattle.syntax.specs.ExpressionTrees.{ExpressionTree, ConjunctionTree, ComparisonTree, SumTree, TermTree, UnaryTree, PrimaryTree}
+use Rattle.syntax.specs.SourceTrees.{InitialTree, NewSet, Load, Vertices, OutDegrees, Filter, ApplyModified, Value}
 use Rattle.expression_types.specs.Operators.{◌>>=◌}
 
 -- a number without its sign is changed; a source has no other

@@ -1,8 +1,8 @@
 -- The program that a source is.
 use Rattle.std.specs.Prelude.{ℕ, suc, List, [], ◌∷◌, Option, Some, None}
-use Rattle.grammar.specs.declared.declaration.DeclaredType.{DeclaredType}
-use Rattle.grammar.specs.declared.declaration.DeclaredType.TheVariants as declared
-use Rattle.grammar.specs.Trees.{DeclarationTree, Constant, Function, SourceTree}
+use Rattle.syntax.specs.declared.declaration.DeclaredType.{DeclaredType}
+use Rattle.syntax.specs.declared.declaration.DeclaredType.TheVariants as declared
+use Rattle.syntax.specs.SourceTrees.{DeclarationTree, Constant, Function, SourceTree}
 use Rattle.typed_tree.specs.BlockTree.{BlockTree}
 use Rattle.typed_tree.specs.ProgramTree.{ProgramTree}
 use Rattle.expression_types.specs.Operators.{◌>>=◌}

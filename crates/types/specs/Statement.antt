@@ -1,12 +1,12 @@
 -- Statements of main without blocks.
 use Rattle.std.specs.Prelude.{ℕ, List, length, Option, Some, None}
-use Rattle.expressions.specs.Words.{Identifier}
-use Rattle.expressions.specs.Trees.{ExpressionTree}
-use Rattle.grammar.specs.declared.declaration.DeclaredType.{DeclaredType}
-use Rattle.grammar.specs.declared.declaration.DeclaredType.TheVariants as declared
-use Rattle.grammar.specs.declared.statement.Reduction.{Reduction}
-use Rattle.grammar.specs.declared.statement.Reduction.TheVariants as written
-use Rattle.grammar.specs.Trees.{InitialTree}
+use Rattle.syntax.specs.Words.{Identifier}
+use Rattle.syntax.specs.ExpressionTrees.{ExpressionTree}
+use Rattle.syntax.specs.declared.declaration.DeclaredType.{DeclaredType}
+use Rattle.syntax.specs.declared.declaration.DeclaredType.TheVariants as declared
+use Rattle.syntax.specs.declared.statement.Reduction.{Reduction}
+use Rattle.syntax.specs.declared.statement.Reduction.TheVariants as written
+use Rattle.syntax.specs.SourceTrees.{InitialTree}
 use Rattle.typed_tree.specs.declared.expression.Reduction as typed
 use Rattle.typed_tree.specs.declared.expression.Reduction.TheVariants as reduction
 use Rattle.typed_tree.specs.declared.expression.Slot.{Slot}

@@ -1,7 +1,7 @@
 -- Statements of vertex functions.
 use Rattle.std.specs.Prelude.{ℕ, List, [], ◌∷◌, Option, Some, None}
-use Rattle.expressions.specs.Words.{Identifier}
-use Rattle.expressions.specs.Trees.{ExpressionTree}
+use Rattle.syntax.specs.Words.{Identifier}
+use Rattle.syntax.specs.ExpressionTrees.{ExpressionTree}
 use Rattle.grammar.specs.Trees as source
 use Rattle.typed_tree.specs.declared.expression.Endpoint.{Endpoint}
 use Rattle.typed_tree.specs.declared.expression.Endpoint.TheVariants as endpoint

@@ -1,6 +1,6 @@
 //! Statements of `main`, and their blocks.
 ghost use Rattle.std.specs.Prelude.{◌≡◌, OnOk};
-ghost use Rattle.grammar.specs.Views.{action_tree as source_action, block_tree as source_block};
+ghost use Rattle.syntax.specs.SourceViews.{action_tree as source_action, block_tree as source_block};
 ghost use Rattle.typed_tree.specs.BlockTree.{action_tree, block_tree};
 ghost use Rattle.expression_types.specs.Outcome.{Answers};
 ghost use Rattle.expression_types.specs.ScopeTree.{Keeps};
@@ -13,8 +13,7 @@ use crate::statement::{
     add_vertex, apply, assign, declare_variable, print, reduce, reduce_entry, set_entry,
 };
 use expression_types::{Entity, TypeError};
-use expressions::{Expression, Name};
-use grammar::Action as Written;
+use syntax::{Action as Written, Expression, Name};
 use std::alloc::Global;
 use typed_tree::{Action, Condition, Statement};
 
@@ -22,7 +21,7 @@ use typed_tree::{Action, Condition, Statement};
 #[cycle(statements)]
 fn statements(
     alloc: Global,
-    block: &[grammar::Statement],
+    block: &[syntax::Statement],
     checker: &mut Checker,
 ) -> Result<Vec<Statement>, TypeError>
     ensures typed { Answers (λ b. (block_tree b.items, checker_of checker.new)) result (statements_typed (checker_of checker.old) (source_block block.now)) }
@@ -40,7 +39,7 @@ fn statements(
 #[cycle(statements)]
 fn one(
     alloc: Global,
-    statement: &grammar::Statement,
+    statement: &syntax::Statement,
     checker: &mut Checker,
 ) -> Result<Statement, TypeError>
     ensures typed { Answers (λ s. (statement_tree s, checker_of checker.new)) result (statement_typed (checker_of checker.old) statement.now.label (source_action statement.now.action)) }
@@ -60,7 +59,7 @@ fn one(
 #[cycle(statements)]
 pub(crate) fn inner(
     alloc: Global,
-    block: &[grammar::Statement],
+    block: &[syntax::Statement],
     checker: &mut Checker,
 ) -> Result<Vec<Statement>, TypeError>
     ensures typed { Answers (λ b. (block_tree b.items, checker_of checker.new)) result (block_typed (checker_of checker.old) (source_block block.now)) }
@@ -140,7 +139,7 @@ fn action(alloc: Global, action: &Written, checker: &mut Checker) -> Result<Acti
 #[cycle(statements)]
 fn tested(
     alloc: Global,
-    body: &[grammar::Statement],
+    body: &[syntax::Statement],
     test: &Expression,
     checker: &mut Checker,
 ) -> Result<(Condition, Vec<Statement>), TypeError>
@@ -156,7 +155,7 @@ fn tested(
 #[cycle(statements)]
 fn repeat(
     alloc: Global,
-    body: &[grammar::Statement],
+    body: &[syntax::Statement],
     name: &Name,
     first: &Expression,
     limit: &Expression,

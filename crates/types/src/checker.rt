@@ -4,7 +4,7 @@ ghost use Rattle.expression_types.specs.Outcome.{Answers};
 ghost use Rattle.types.specs.CheckerTree.{checker_of, declared_in, label_stands, labelled, next_statement};
 
 use expression_types::{Entity, Scope, TypeError};
-use expressions::Name;
+use syntax::Name;
 use std::alloc::Global;
 use typed_tree::{Name as Text, Sequence, Slot};
 

@@ -1,6 +1,6 @@
 //! Declarations.
 ghost use Rattle.std.specs.Prelude.{◌≡◌, map};
-ghost use Rattle.grammar.specs.Views.{block_tree as source_block, declaration_tree, initial_tree, parameter_tree};
+ghost use Rattle.syntax.specs.SourceViews.{block_tree as source_block, declaration_tree, initial_tree, parameter_tree};
 ghost use Rattle.typed_tree.specs.StepTree.{step_tree};
 ghost use Rattle.expression_types.specs.Outcome.{Answers};
 ghost use Rattle.types.specs.CheckerTree.{checker_of};
@@ -12,8 +12,7 @@ use crate::initial::all_of;
 use crate::literal::{condition_literal, integer_literal};
 use crate::step::steps;
 use expression_types::{Entity, Scope, TypeError};
-use expressions::Name;
-use grammar::{Declaration, DeclaredType, Initial, Parameter};
+use syntax::{Declaration, DeclaredType, Initial, Name, Parameter};
 use std::alloc::Global;
 use typed_tree::{Beginning, Endpoint, SetValue, Slot, Statement, Step, Vector, VertexFunction};
 
@@ -211,7 +210,7 @@ fn function(
     alloc: Global,
     name: &Name,
     parameters: &[Parameter],
-    body: &[grammar::Statement],
+    body: &[syntax::Statement],
     declared: &mut Declared,
 ) -> Result<(), TypeError>
     ensures { Answers (λ _. declared_of declared.new) result (declare_with (declared_of declared.old) name.now.bytes (map parameter_tree parameters.now) (source_block body.now)) }
@@ -235,7 +234,7 @@ fn function(
 fn main_function(
     alloc: Global,
     name: &Name,
-    body: &[grammar::Statement],
+    body: &[syntax::Statement],
     declared: &mut Declared,
 ) -> Result<(), TypeError>
     ensures { Answers (λ _. declared_of declared.new) result (declare_main (declared_of declared.old) name.now.bytes (source_block body.now)) }
@@ -252,7 +251,7 @@ fn function_on(
     alloc: Global,
     name: &Name,
     parameter: &Parameter,
-    body: &[grammar::Statement],
+    body: &[syntax::Statement],
     declared: &mut Declared,
 ) -> Result<(), TypeError>
     ensures { Answers (λ _. declared_of declared.new) result (declare_on parameter.now.declared (declared_of declared.old) name.now.bytes parameter.now.name.bytes (source_block body.now)) }
@@ -267,7 +266,7 @@ fn vertex_function(
     alloc: Global,
     name: &Name,
     parameter: &Name,
-    body: &[grammar::Statement],
+    body: &[syntax::Statement],
     declared: &mut Declared,
 ) -> Result<(), TypeError>
     ensures { Answers (λ _. declared_of declared.new) result (declare_function (declared_of declared.old) name.now.bytes parameter.now.bytes (source_block body.now)) }
@@ -286,7 +285,7 @@ fn vertex_function(
 fn within(
     alloc: Global,
     parameter: &Name,
-    body: &[grammar::Statement],
+    body: &[syntax::Statement],
     checker: &mut Checker,
 ) -> Result<Vec<Step>, TypeError>
     ensures { Answers (λ s. (map step_tree s.items, checker_of checker.new)) result (function_body (checker_of checker.old) parameter.now.bytes (source_block body.now)) }

@@ -1,7 +1,7 @@
 //! What a name may be declared or assigned to be.
 ghost use Rattle.std.specs.Prelude.{◌≡◌};
-ghost use Rattle.expressions.specs.Seen.{comparison_of, conjunction_of, sum_of, term_of, unary_of};
-ghost use Rattle.grammar.specs.Views.{initial_tree};
+ghost use Rattle.syntax.specs.ExpressionViews.{comparison_of, conjunction_of, sum_of, term_of, unary_of};
+ghost use Rattle.syntax.specs.SourceViews.{initial_tree};
 ghost use Rattle.typed_tree.specs.ConditionTree.{condition_tree};
 ghost use Rattle.typed_tree.specs.IntegerTree.{integer_tree};
 ghost use Rattle.expression_types.specs.Outcome.{Answers};
@@ -11,8 +11,7 @@ ghost use Rattle.types.specs.Initial.{all_vertices, as_copy, condition_in, index
 use expression_types::{
     Entity, Scope, TypeError, Value, condition_of, index_of, integer_of, type_expression,
 };
-use expressions::{Expression, Name};
-use grammar::Initial;
+use syntax::{Expression, Initial, Name};
 use std::alloc::Global;
 use typed_tree::{Condition, Integer, SetValue};
 

@@ -1,6 +1,6 @@
 //! What the definitions that contracts cite come to. The call does nothing.
 ghost use Rattle.std.specs.Prelude.{◌≡◌, Some};
-ghost use Rattle.grammar.specs.Trees.{SourceTree};
+ghost use Rattle.syntax.specs.SourceTrees.{SourceTree};
 ghost use Rattle.typed_tree.specs.ProgramTree.{ProgramTree};
 ghost use Rattle.types.specs.Numbers.{InOrder, numbers};
 ghost use Rattle.types.specs.Program.{program_of};

@@ -1,11 +1,10 @@
 //! Literals, which are all that constants of type int or bool, and vectors, may be declared to be.
 ghost use Rattle.std.specs.Prelude.{◌≡◌, option_map};
-ghost use Rattle.expressions.specs.Seen.{comparison_of, conjunction_of, primary_of, sum_of, term_of, unary_of};
-ghost use Rattle.grammar.specs.Views.{initial_tree};
+ghost use Rattle.syntax.specs.ExpressionViews.{comparison_of, conjunction_of, primary_of, sum_of, term_of, unary_of};
+ghost use Rattle.syntax.specs.SourceViews.{initial_tree};
 ghost use Rattle.types.specs.Literal.{expression_integer, expression_truth, literal_condition, literal_integer, negated, only_comparison, only_operand, only_sum, only_term, only_unary, primary_number, primary_truth, unary_number, unary_truth};
 
-use expressions::{Comparison, Conjunction, Expression, Prefix, Primary, Sum, Term, Unary};
-use grammar::Initial;
+use syntax::{Comparison, Conjunction, Expression, Initial, Prefix, Primary, Sum, Term, Unary};
 
 /// The number that a value is, with `-` before it or not, or `None` where it is no such literal.
 pub(crate) fn integer_literal(initial: &Initial) -> Option<i64>

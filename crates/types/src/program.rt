@@ -1,7 +1,7 @@
 //! Whole sources.
 ghost use Rattle.std.specs.Prelude.{◌≡◌, ◌+◌, List, ◌∷◌, Some, map};
-ghost use Rattle.grammar.specs.Trees.{DeclarationTree};
-ghost use Rattle.grammar.specs.Views.{declaration_tree, source_tree};
+ghost use Rattle.syntax.specs.SourceTrees.{DeclarationTree};
+ghost use Rattle.syntax.specs.SourceViews.{declaration_tree, source_tree};
 ghost use Rattle.typed_tree.specs.ProgramTree.{program_tree};
 ghost use Rattle.expression_types.specs.Outcome.{Answers};
 ghost use Rattle.types.specs.Declaration.{declared_of};
@@ -10,7 +10,7 @@ ghost use Rattle.types.specs.Program.{opening, program_of, set_count, with_main}
 use crate::checker::Checker;
 use crate::declaration::{Declared, declare_all};
 use expression_types::{Scope, TypeError};
-use grammar::{Declaration, DeclaredType, Source};
+use syntax::{Declaration, DeclaredType, Source};
 use std::alloc::Global;
 use typed_tree::Typed;
 

@@ -1,6 +1,6 @@
 //! Statements of `main` without blocks.
 ghost use Rattle.std.specs.Prelude.{◌≡◌};
-ghost use Rattle.grammar.specs.Views.{initial_tree};
+ghost use Rattle.syntax.specs.SourceViews.{initial_tree};
 ghost use Rattle.typed_tree.specs.BlockTree.{action_tree};
 ghost use Rattle.expression_types.specs.Expression.{vector_place};
 ghost use Rattle.expression_types.specs.Outcome.{Answers};
@@ -11,19 +11,18 @@ ghost use Rattle.types.specs.Statement.{add_vertex as vertex_added, apply_within
 use crate::checker::{Checker, declare};
 use crate::initial::{condition_from, index, integer, integer_from, set_from};
 use expression_types::{Entity, Scope, TypeError, Value, type_expression};
-use expressions::{Expression, Name};
-use grammar::{DeclaredType, Ends, Initial, Parameter};
+use syntax::{DeclaredType, Ends, Expression, Initial, Name, Parameter};
 use std::alloc::Global;
 use typed_tree::{Action, Reduction, Slot};
 
 /// How a value is joined to an old one.
-pub(crate) fn reduction(reduction: grammar::Reduction) -> Reduction
+pub(crate) fn reduction(reduction: syntax::Reduction) -> Reduction
     ensures { result ≡ reduction_of reduction }
 {
     match reduction {
-        grammar::Reduction::Min => Reduction::Min,
-        grammar::Reduction::Max => Reduction::Max,
-        grammar::Reduction::Plus => Reduction::Plus,
+        syntax::Reduction::Min => Reduction::Min,
+        syntax::Reduction::Max => Reduction::Max,
+        syntax::Reduction::Plus => Reduction::Plus,
     }
 }
 
@@ -119,7 +118,7 @@ pub(crate) fn reduce(
     alloc: Global,
     scope: &Scope,
     name: &Name,
-    by: grammar::Reduction,
+    by: syntax::Reduction,
     value: &Expression,
 ) -> Result<Action, TypeError>
     ensures { Answers action_tree result (reduced scope.now name.now by value.now) }
@@ -165,7 +164,7 @@ pub(crate) fn reduce_entry(
     scope: &Scope,
     name: &Name,
     at: &Expression,
-    by: grammar::Reduction,
+    by: syntax::Reduction,
     value: &Expression,
 ) -> Result<Action, TypeError>
     ensures { Answers action_tree result (entry_reduced scope.now name.now at.now by value.now) }

@@ -1,6 +1,6 @@
 //! Statements of vertex functions.
 ghost use Rattle.std.specs.Prelude.{◌≡◌, map, OnOk};
-ghost use Rattle.grammar.specs.Views.{action_tree as source_action, block_tree as source_block};
+ghost use Rattle.syntax.specs.SourceViews.{action_tree as source_action, block_tree as source_block};
 ghost use Rattle.typed_tree.specs.StepTree.{step_tree};
 ghost use Rattle.expression_types.specs.Outcome.{Answers};
 ghost use Rattle.expression_types.specs.ScopeTree.{Keeps};
@@ -12,8 +12,7 @@ use crate::checker::{Checker, label};
 use crate::initial::integer;
 use crate::statement::{reduction, vector};
 use expression_types::{Scope, TypeError, Value, type_expression};
-use expressions::{Expression, Name};
-use grammar::{Action, Statement};
+use syntax::{Action, Expression, Name, Statement};
 use std::alloc::Global;
 use typed_tree::{Endpoint, Step};
 

@@ -1,6 +1,6 @@
 use Rattle.std.proofs.Common.{◌≡◌, ◌<◌, length, get_or, ap, sym, ◌∙◌}
 use Rattle.std.proofs.lemmas.Result.{err_from_is_err_and}
-use Rattle.expressions.specs.Seen.{unary_of, term_of, primary_of}
+use Rattle.syntax.specs.ExpressionViews.{unary_of, term_of, primary_of}
 use Rattle.typed_tree.specs.declared.expression.Connective.TheVariants as connective
 use Rattle.expression_types.specs.Expression.{alone, expression_value}
 use Rattle.expression_types.specs.Operators.{◌>>=◌, added, multiplied, arithmetic_value, connected_value, signs_value}

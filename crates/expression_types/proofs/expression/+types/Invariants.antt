@@ -1,5 +1,5 @@
 use Rattle.std.proofs.Common.{◌≡◌, drop}
-use Rattle.expressions.specs.Seen.{conjunction_of, sum_of, term_of}
+use Rattle.syntax.specs.ExpressionViews.{conjunction_of, sum_of, term_of}
 use Rattle.expression_types.specs.Expression.{alone, conjunction_value, sum_value, term_value, value_of}
 use Rattle.expression_types.specs.ValueTree.{value_tree}
 use Rattle.expression_types.proofs.Levels.{joined, expression_step, conjunction_step, sum_step, term_step}

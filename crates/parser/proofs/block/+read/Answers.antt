@@ -1,11 +1,11 @@
 use Rattle.std.proofs.Common.{sym, ◌∙◌, ap, subst, Some, ◌≡◌, false, ◌∷◌}
 use Rattle.std.proofs.lemmas.Result.{err_from_is_err_and}
 use Rattle.lexer.specs.Tokens.{slice_of}
-use Rattle.expressions.specs.Words.{keyword_word, word_of}
-use Rattle.expressions.specs.Outcome.{words, Gives}
-use Rattle.expressions.proofs.Faults.{passed_on}
-use Rattle.grammar.specs.Views.{statement_of, action_tree}
-use Rattle.grammar.specs.Reading.{begins_statement}
+use Rattle.syntax.specs.Words.{keyword_word, word_of}
+use Rattle.parser.specs.Readers.{words, Gives}
+use Rattle.parser.proofs.Faults.{passed_on}
+use Rattle.syntax.specs.SourceViews.{statement_of, action_tree}
+use Rattle.syntax.specs.SourceReading.{begins_statement}
 use Rattle.parser.specs.Blocks.{action_at, block_in, opening_of}
 use Rattle.parser.specs.Views.{statements_tree}
 use Rattle.parser.proofs.BlockLaws.{block_ends, block_fails, next_is, block_from-map, opened_is}

@@ -1,8 +1,8 @@
 use Rattle.std.proofs.Common.{◌+◌, ◌*◌, length, map}
-use Rattle.expressions.specs.Outcome.{words}
-use Rattle.expressions.proofs.Loops.{Goes}
-use Rattle.grammar.specs.Reading.{next_statement}
-use Rattle.grammar.specs.Views.{statement_of}
+use Rattle.parser.specs.Readers.{words}
+use Rattle.syntax.proofs.Loops.{Goes}
+use Rattle.syntax.specs.SourceReading.{next_statement}
+use Rattle.syntax.specs.SourceViews.{statement_of}
 use Rattle.parser.specs.Blocks.{action_at}
 use Rattle.parser.proofs.block.+read.Given as goal
 

@@ -1,4 +1,4 @@
-use Rattle.grammar.specs.Reading.{block}
+use Rattle.syntax.specs.SourceReading.{block}
 use Rattle.parser.proofs.declaration.body.Goals as goal
 
 -- what may be open at once is how many blocks may stand in each other

@@ -1,9 +1,9 @@
 use Rattle.std.proofs.Common.{sym, ◌∙◌, ap, subst, Some, ◌≡◌, ◌∷◌}
 use Rattle.lexer.specs.Tokens.{slice_of}
-use Rattle.expressions.specs.Words.{keyword_word, word_of}
-use Rattle.expressions.specs.Outcome.{words, Gives}
-use Rattle.grammar.specs.Views.{declaration_tree}
-use Rattle.grammar.specs.Reading.{declaration_by}
+use Rattle.syntax.specs.Words.{keyword_word, word_of}
+use Rattle.parser.specs.Readers.{words, Gives}
+use Rattle.syntax.specs.SourceViews.{declaration_tree}
+use Rattle.syntax.specs.SourceReading.{declaration_by}
 use Rattle.parser.specs.Declarations.{beginning_of}
 use Rattle.parser.proofs.DeclarationLaws.{declared_is}
 use Rattle.parser.proofs.declaration.declaration.Goals as goal

@@ -1,9 +1,9 @@
 use Rattle.std.proofs.Common.{sym, ◌∙◌}
 use Rattle.std.proofs.lemmas.Result.{err_from_is_err_and}
-use Rattle.expressions.specs.Outcome.{words}
-use Rattle.expressions.proofs.Faults.{passed_on}
-use Rattle.expressions.proofs.Loops.{goes_end, goes_fails}
-use Rattle.grammar.specs.Views.{declaration_tree}
+use Rattle.parser.specs.Readers.{words}
+use Rattle.parser.proofs.Faults.{passed_on}
+use Rattle.syntax.proofs.Loops.{goes_end, goes_fails}
+use Rattle.syntax.specs.SourceViews.{declaration_tree}
 use Rattle.parser.specs.Views.{each}
 use Rattle.parser.proofs.DeclarationLaws.{next_found, next_fails, next_none}
 use Rattle.parser.proofs.Lists.{list_start, list_step}

@@ -1,8 +1,8 @@
 use Rattle.std.proofs.Common.{length, map}
-use Rattle.expressions.specs.Outcome.{words}
-use Rattle.expressions.proofs.Loops.{Goes}
-use Rattle.grammar.specs.Reading.{next_declaration}
-use Rattle.grammar.specs.Views.{declaration_tree}
+use Rattle.parser.specs.Readers.{words}
+use Rattle.syntax.proofs.Loops.{Goes}
+use Rattle.syntax.specs.SourceReading.{next_declaration}
+use Rattle.syntax.specs.SourceViews.{declaration_tree}
 use Rattle.parser.proofs.declaration.declarations.Given as goal
 
 abbrev pub invariant-declarations : goal.invariant-declarations

@@ -1,13 +1,13 @@
 use Rattle.std.proofs.Common.{ap}
 use Rattle.std.proofs.lemmas.Result.{err_from_is_err_and}
 use Rattle.lexer.specs.declared.symbol.Symbol.TheVariants as symbol
-use Rattle.expressions.specs.Words.{Mark}
-use Rattle.expressions.specs.Outcome.{words}
-use Rattle.expressions.specs.Reading.{behind_by}
-use Rattle.expressions.proofs.Faults.{passed_on}
-use Rattle.expressions.proofs.Loops.{behind_found, behind_fails, below}
-use Rattle.grammar.specs.Reading.{typed_at, after_word}
-use Rattle.grammar.specs.Views.{parameter_tree}
+use Rattle.syntax.specs.Words.{Mark}
+use Rattle.parser.specs.Readers.{words}
+use Rattle.syntax.specs.ExpressionReading.{behind_by}
+use Rattle.parser.proofs.Faults.{passed_on}
+use Rattle.syntax.proofs.Loops.{behind_found, behind_fails, below}
+use Rattle.syntax.specs.SourceReading.{typed_at, after_word}
+use Rattle.syntax.specs.SourceViews.{parameter_tree}
 use Rattle.parser.specs.Views.{each}
 use Rattle.parser.proofs.Lists.{follow_start, follow_step, follow_end, follow_fails}
 use Rattle.parser.proofs.declaration.more_parameters.Goals as goal

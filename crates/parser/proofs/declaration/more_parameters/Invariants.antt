@@ -1,7 +1,7 @@
 use Rattle.std.proofs.Common.{length, map}
-use Rattle.expressions.specs.Outcome.{words}
-use Rattle.grammar.specs.Reading.{next_parameter}
-use Rattle.grammar.specs.Views.{parameter_tree}
+use Rattle.parser.specs.Readers.{words}
+use Rattle.syntax.specs.SourceReading.{next_parameter}
+use Rattle.syntax.specs.SourceViews.{parameter_tree}
 use Rattle.parser.proofs.Lists.{Follow}
 use Rattle.parser.proofs.declaration.more_parameters.Given as goal
 

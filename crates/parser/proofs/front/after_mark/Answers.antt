@@ -1,5 +1,5 @@
-use Rattle.expressions.specs.Outcome.{words}
-use Rattle.expressions.specs.Words.{Mark}
+use Rattle.parser.specs.Readers.{words}
+use Rattle.syntax.specs.Words.{Mark}
 use Rattle.parser.proofs.FrontLaws.{behind_is, shorter_behind, plain_mark}
 use Rattle.parser.proofs.front.after_mark.Goals as goal
 

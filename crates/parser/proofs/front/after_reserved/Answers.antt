@@ -1,6 +1,6 @@
 use Rattle.std.proofs.Common.{subst}
-use Rattle.expressions.specs.Outcome.{words, IsAfter, place}
-use Rattle.expressions.specs.Words.{Reserved}
+use Rattle.parser.specs.Readers.{words, IsAfter, place}
+use Rattle.syntax.specs.Words.{Reserved}
 use Rattle.parser.proofs.FrontLaws.{behind_is, shorter_behind, plain_keyword}
 use Rattle.parser.proofs.front.after_reserved.Goals as goal
 

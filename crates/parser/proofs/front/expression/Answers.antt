@@ -1,4 +1,4 @@
-use Rattle.grammar.specs.Reading.{expression}
+use Rattle.syntax.specs.SourceReading.{expression}
 use Rattle.parser.proofs.front.expression.Goals as goal
 
 -- what may be open at once is what an expression may hold in itself

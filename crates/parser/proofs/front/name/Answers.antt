@@ -1,4 +1,4 @@
-use Rattle.expressions.specs.Outcome.{words}
+use Rattle.parser.specs.Readers.{words}
 use Rattle.parser.proofs.FrontLaws.{name_is, shorter_name}
 use Rattle.parser.proofs.front.name.Goals as goal
 

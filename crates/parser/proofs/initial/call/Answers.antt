@@ -1,12 +1,12 @@
 use Rattle.std.proofs.Common.{ap, ◌∙◌, subst, sym, [], ◌∷◌}
 use Rattle.lexer.specs.declared.keyword.Keyword.TheVariants as keyword
 use Rattle.lexer.specs.declared.symbol.Symbol.TheVariants as symbol
-use Rattle.expressions.specs.Words.{Reserved, Mark}
-use Rattle.expressions.specs.Outcome.{words, Gives}
-use Rattle.expressions.specs.Reading.{◌>>=◌}
-use Rattle.grammar.specs.Reading.{in_parentheses}
-use Rattle.grammar.specs.Trees.{Vertices, OutDegrees}
-use Rattle.grammar.specs.Views.{initial_tree}
+use Rattle.syntax.specs.Words.{Reserved, Mark}
+use Rattle.parser.specs.Readers.{words, Gives}
+use Rattle.syntax.specs.ExpressionReading.{◌>>=◌}
+use Rattle.syntax.specs.SourceReading.{in_parentheses}
+use Rattle.syntax.specs.SourceTrees.{Vertices, OutDegrees}
+use Rattle.syntax.specs.SourceViews.{initial_tree}
 use Rattle.parser.specs.Fronts.{filter_at}
 use Rattle.parser.proofs.InitialLaws.{call_by_method}
 use Rattle.parser.proofs.Steps.{closed-found}

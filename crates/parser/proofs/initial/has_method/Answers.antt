@@ -1,7 +1,7 @@
 use Rattle.std.proofs.Common.{ap, sym, ◌∙◌, ◌∷◌}
 use Rattle.lexer.specs.Tokens.{slice_of}
-use Rattle.expressions.specs.Words.{word_of}
-use Rattle.expressions.specs.Outcome.{words}
+use Rattle.syntax.specs.Words.{word_of}
+use Rattle.parser.specs.Readers.{words}
 use Rattle.parser.specs.Fronts.{called_word}
 use Rattle.parser.proofs.InitialLaws.{method_behind}
 use Rattle.parser.proofs.initial.has_method.Goals as goal

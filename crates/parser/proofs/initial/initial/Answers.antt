@@ -1,6 +1,6 @@
 use Rattle.std.proofs.Common.{sym, ◌∙◌, subst}
-use Rattle.expressions.specs.Outcome.{words, Gives}
-use Rattle.grammar.specs.Views.{initial_tree}
+use Rattle.parser.specs.Readers.{words, Gives}
+use Rattle.syntax.specs.SourceViews.{initial_tree}
 use Rattle.parser.proofs.InitialLaws.{call_is}
 use Rattle.parser.proofs.initial.initial.Goals as goal
 

@@ -1,8 +1,8 @@
 use Rattle.std.proofs.Common.{length, map}
-use Rattle.expressions.specs.Outcome.{words}
-use Rattle.expressions.proofs.Loops.{Goes}
-use Rattle.grammar.specs.Reading.{next_chain}
-use Rattle.grammar.specs.Views.{chain_tree}
+use Rattle.parser.specs.Readers.{words}
+use Rattle.syntax.proofs.Loops.{Goes}
+use Rattle.syntax.specs.SourceReading.{next_chain}
+use Rattle.syntax.specs.SourceViews.{chain_tree}
 use Rattle.parser.proofs.schedule.chains.Given as goal
 
 abbrev pub invariant-chains : goal.invariant-chains

@@ -1,13 +1,13 @@
 use Rattle.std.proofs.Common.{ap}
 use Rattle.std.proofs.lemmas.Result.{err_from_is_err_and}
 use Rattle.lexer.specs.declared.symbol.Symbol.TheVariants as symbol
-use Rattle.expressions.specs.Words.{Mark}
-use Rattle.expressions.specs.Outcome.{words}
-use Rattle.expressions.specs.Reading.{behind_by}
-use Rattle.expressions.proofs.Faults.{passed_on}
-use Rattle.expressions.proofs.Loops.{goes_end, goes_fails, behind_found, behind_fails, below}
-use Rattle.grammar.specs.Reading.{call_at, after_word}
-use Rattle.grammar.specs.Views.{call_tree}
+use Rattle.syntax.specs.Words.{Mark}
+use Rattle.parser.specs.Readers.{words}
+use Rattle.syntax.specs.ExpressionReading.{behind_by}
+use Rattle.parser.proofs.Faults.{passed_on}
+use Rattle.syntax.proofs.Loops.{goes_end, goes_fails, behind_found, behind_fails, below}
+use Rattle.syntax.specs.SourceReading.{call_at, after_word}
+use Rattle.syntax.specs.SourceViews.{call_tree}
 use Rattle.parser.specs.Views.{each}
 use Rattle.parser.proofs.Lists.{list_start, list_step}
 use Rattle.parser.proofs.schedule.more_calls.Goals as goal

@@ -1,8 +1,8 @@
 use Rattle.std.proofs.Common.{length, map}
-use Rattle.expressions.specs.Outcome.{words}
-use Rattle.expressions.proofs.Loops.{Goes}
-use Rattle.grammar.specs.Reading.{next_call}
-use Rattle.grammar.specs.Views.{call_tree}
+use Rattle.parser.specs.Readers.{words}
+use Rattle.syntax.proofs.Loops.{Goes}
+use Rattle.syntax.specs.SourceReading.{next_call}
+use Rattle.syntax.specs.SourceViews.{call_tree}
 use Rattle.parser.proofs.schedule.more_calls.Given as goal
 
 abbrev pub invariant-calls : goal.invariant-calls

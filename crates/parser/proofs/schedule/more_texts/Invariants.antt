@@ -1,8 +1,8 @@
 use Rattle.std.proofs.Common.{length, map}
-use Rattle.expressions.specs.Outcome.{words}
-use Rattle.expressions.proofs.Loops.{Goes}
-use Rattle.grammar.specs.Reading.{next_text}
-use Rattle.grammar.specs.Views.{text_of}
+use Rattle.parser.specs.Readers.{words}
+use Rattle.syntax.proofs.Loops.{Goes}
+use Rattle.syntax.specs.SourceReading.{next_text}
+use Rattle.syntax.specs.SourceViews.{text_of}
 use Rattle.parser.proofs.schedule.more_texts.Given as goal
 
 abbrev pub invariant-texts : goal.invariant-texts

@@ -1,10 +1,10 @@
 use Rattle.std.proofs.Common.{◌≡◌, ap, ◌∙◌, subst, Some, None}
 use Rattle.std.proofs.lemmas.Result.{err_from_is_err_and}
-use Rattle.expressions.specs.Words.{words_of}
-use Rattle.expressions.specs.Outcome.{words}
-use Rattle.grammar.specs.Nesting.{limit, StaysWithin}
-use Rattle.grammar.specs.Reading.{source_at}
-use Rattle.grammar.specs.Views.{source_tree}
+use Rattle.syntax.specs.Words.{words_of}
+use Rattle.parser.specs.Readers.{words}
+use Rattle.syntax.specs.Nesting.{limit, StaysWithin}
+use Rattle.syntax.specs.SourceReading.{source_at}
+use Rattle.syntax.specs.SourceViews.{source_tree}
 use Rattle.parser.proofs.ParseLaws.{is_source, is_no_source, not_whole}
 use Rattle.parser.proofs.source.parse.Goals as goal
 

@@ -1,6 +1,6 @@
 use Rattle.std.proofs.Common.{map}
-use Rattle.grammar.specs.Spelling.{each_before, next_parameter_before}
-use Rattle.grammar.specs.Views.{parameter_tree}
+use Rattle.syntax.specs.SourceSpelling.{each_before, next_parameter_before}
+use Rattle.syntax.specs.SourceViews.{parameter_tree}
 use Rattle.source_text.proofs.Puts.{up_to_none, up_to_more, up_to_all, each_before-map}
 use Rattle.source_text.proofs.declaration.put_more_parameters.Goals as goal
 

@@ -1,8 +1,8 @@
 use Rattle.std.proofs.Common.{◌++◌, ◌≡◌, ◌<◌, ◌≤◌, sym, ◌∙◌, ap, length, get_or}
 use Rattle.std.proofs.lemmas.Result.{on_ok_weaker}
-use Rattle.expressions.specs.Seen.{comparison_of, conjunction_of, primary_of, term_of, unary_of}
-use Rattle.expressions.specs.Spelling.{comparison_words, conjunction_words, expression_words, primary_words, term_words, unary_words}
-use Rattle.grammar.specs.Spelling.{each_before}
+use Rattle.syntax.specs.ExpressionViews.{comparison_of, conjunction_of, primary_of, term_of, unary_of}
+use Rattle.syntax.specs.ExpressionSpelling.{comparison_words, conjunction_words, expression_words, primary_words, term_words, unary_words}
+use Rattle.syntax.specs.SourceSpelling.{each_before}
 use Rattle.source_text.specs.Written.{signs_before}
 use Rattle.source_text.proofs.Levels.{or_before, and_before, added_before, multiplied_before, expression_split, conjunction_split, sum_split, term_split, unary_split}
 use Rattle.source_text.proofs.Puts.{up_to_first, up_to_more, up_to_all, completes_same}

@@ -1,6 +1,6 @@
 use Rattle.std.proofs.Common.{◌++◌}
-use Rattle.expressions.specs.Seen.{conjunction_of, sum_of, term_of}
-use Rattle.expressions.specs.Spelling.{conjunction_words, expression_words, sum_words, term_words}
+use Rattle.syntax.specs.ExpressionViews.{conjunction_of, sum_of, term_of}
+use Rattle.syntax.specs.ExpressionSpelling.{conjunction_words, expression_words, sum_words, term_words}
 use Rattle.source_text.specs.Written.{PutsUpTo}
 use Rattle.source_text.proofs.Levels.{or_before, and_before, added_before, multiplied_before}
 use Rattle.source_text.proofs.expression.+expressions.Given as goal

@@ -1,5 +1,5 @@
 use Rattle.std.proofs.Common.{◌∷◌, refl}
-use Rattle.expressions.specs.Spelling.{prefix_word}
+use Rattle.syntax.specs.ExpressionSpelling.{prefix_word}
 use Rattle.source_text.specs.Written.{signs_before}
 use Rattle.source_text.proofs.Puts.{up_to_none, up_to_more, up_to_all}
 use Rattle.source_text.proofs.expression.put_signs.Goals as goal

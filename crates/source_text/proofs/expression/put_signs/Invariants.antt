@@ -1,5 +1,5 @@
 use Rattle.std.proofs.Common.{◌∷◌}
-use Rattle.expressions.specs.Spelling.{prefix_word}
+use Rattle.syntax.specs.ExpressionSpelling.{prefix_word}
 use Rattle.source_text.specs.Written.{PutsUpTo, signs_before}
 use Rattle.source_text.proofs.expression.put_signs.Given as goal
 

@@ -1,6 +1,6 @@
 use Rattle.std.proofs.Common.{map}
-use Rattle.grammar.specs.Spelling.{each_before, chain_before}
-use Rattle.grammar.specs.Views.{chain_tree}
+use Rattle.syntax.specs.SourceSpelling.{each_before, chain_before}
+use Rattle.syntax.specs.SourceViews.{chain_tree}
 use Rattle.source_text.specs.Written.{PutsUpTo}
 use Rattle.source_text.proofs.schedule.put_chains.Given as goal
 

@@ -1,6 +1,6 @@
 use Rattle.std.proofs.Common.{map}
-use Rattle.grammar.specs.Spelling.{each_before, next_call_before}
-use Rattle.grammar.specs.Views.{call_tree}
+use Rattle.syntax.specs.SourceSpelling.{each_before, next_call_before}
+use Rattle.syntax.specs.SourceViews.{call_tree}
 use Rattle.source_text.proofs.Puts.{up_to_none, up_to_more, up_to_all, each_before-map}
 use Rattle.source_text.proofs.schedule.put_more_calls.Goals as goal
 

@@ -1,6 +1,6 @@
 use Rattle.std.proofs.Common.{map}
-use Rattle.grammar.specs.Spelling.{each_before, next_call_before}
-use Rattle.grammar.specs.Views.{call_tree}
+use Rattle.syntax.specs.SourceSpelling.{each_before, next_call_before}
+use Rattle.syntax.specs.SourceViews.{call_tree}
 use Rattle.source_text.specs.Written.{PutsUpTo}
 use Rattle.source_text.proofs.schedule.put_more_calls.Given as goal
 

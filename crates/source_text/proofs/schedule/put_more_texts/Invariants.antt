@@ -1,6 +1,6 @@
 use Rattle.std.proofs.Common.{map}
-use Rattle.grammar.specs.Spelling.{each_before, next_text_before}
-use Rattle.grammar.specs.Views.{text_of}
+use Rattle.syntax.specs.SourceSpelling.{each_before, next_text_before}
+use Rattle.syntax.specs.SourceViews.{text_of}
 use Rattle.source_text.specs.Written.{PutsUpTo}
 use Rattle.source_text.proofs.schedule.put_more_texts.Given as goal
 

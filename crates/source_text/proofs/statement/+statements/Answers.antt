@@ -1,8 +1,8 @@
 use Rattle.std.proofs.Common.{ap, sym, ◌∙◌}
 use Rattle.std.proofs.lemmas.Result.{on_ok_weaker}
-use Rattle.grammar.specs.Spelling.{action_before}
-use Rattle.grammar.specs.Trees.{While, For, If, IfElse}
-use Rattle.grammar.specs.Views.{action_tree, block_tree}
+use Rattle.syntax.specs.SourceSpelling.{action_before}
+use Rattle.syntax.specs.SourceTrees.{While, For, If, IfElse}
+use Rattle.syntax.specs.SourceViews.{action_tree, block_tree}
 use Rattle.parser.proofs.BlockLaws.{action_tree-While, action_tree-For, action_tree-If, action_tree-IfElse}
 use Rattle.source_text.proofs.Puts.{completes_same, statement_before, block_before-each, up_to_none, up_to_more, up_to_all}
 use Rattle.source_text.proofs.statement.+statements.Goals as goal

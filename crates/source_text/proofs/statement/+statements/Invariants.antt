@@ -1,5 +1,5 @@
-use Rattle.grammar.specs.Spelling.{block_before}
-use Rattle.grammar.specs.Views.{block_tree}
+use Rattle.syntax.specs.SourceSpelling.{block_before}
+use Rattle.syntax.specs.SourceViews.{block_tree}
 use Rattle.source_text.specs.Written.{PutsUpTo}
 use Rattle.source_text.proofs.Puts.{statement_before}
 use Rattle.source_text.proofs.statement.+statements.Given as goal

@@ -1,5 +1,5 @@
 use Rattle.std.proofs.lemmas.Result.{on_ok_weaker}
-use Rattle.expressions.specs.Words.{Opening, Reserved}
+use Rattle.syntax.specs.Words.{Opening, Reserved}
 use Rattle.source_text.proofs.Puts.{put_word}
 use Rattle.source_text.proofs.text.put_keyword.Goals as goal
 

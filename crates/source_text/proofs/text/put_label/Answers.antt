@@ -1,6 +1,6 @@
 use Rattle.std.proofs.Common.{refl}
 use Rattle.std.proofs.lemmas.Result.{on_ok_weaker}
-use Rattle.expressions.specs.Words.{Label}
+use Rattle.syntax.specs.Words.{Label}
 use Rattle.source_text.proofs.Puts.{put_word}
 use Rattle.source_text.proofs.text.put_label.Goals as goal
 

@@ -1,5 +1,5 @@
 use Rattle.std.proofs.Common.{◌≡◌, rules, refl, ◌++◌, ◌∷◌, [], append_assoc, ◌∙◌, ap}
-use Rattle.expressions.specs.Words.{Number}
+use Rattle.syntax.specs.Words.{Number}
 use Rattle.source_text.specs.Text.{word_bytes}
 use Rattle.source_text.proofs.Puts.{put_word}
 use Rattle.source_text.proofs.text.put_number.Goals as goal

@@ -1,5 +1,5 @@
 use Rattle.std.proofs.lemmas.Result.{on_ok_weaker}
-use Rattle.expressions.specs.Words.{Mark}
+use Rattle.syntax.specs.Words.{Mark}
 use Rattle.source_text.proofs.Puts.{put_word}
 use Rattle.source_text.proofs.text.put_symbol.Goals as goal
 

@@ -1,6 +1,6 @@
 use Rattle.std.proofs.Common.{refl}
 use Rattle.std.proofs.lemmas.Result.{on_ok_weaker}
-use Rattle.expressions.specs.Words.{Text}
+use Rattle.syntax.specs.Words.{Text}
 use Rattle.source_text.proofs.Puts.{put_word}
 use Rattle.source_text.proofs.text.put_text.Goals as goal
 

@@ -1,6 +1,6 @@
 use Rattle.std.proofs.Common.{[], ap, sym, subst, map}
-use Rattle.grammar.specs.Spelling.{declaration_before, each_before, schedule_before, source_words}
-use Rattle.grammar.specs.Views.{declaration_tree, source_tree}
+use Rattle.syntax.specs.SourceSpelling.{declaration_before, each_before, schedule_before, source_words}
+use Rattle.syntax.specs.SourceViews.{declaration_tree, source_tree}
 use Rattle.source_text.specs.ReadBack.{IsReadBack}
 use Rattle.source_text.proofs.Puts.{completes_same, completes_from, written_whole}
 use Rattle.source_text.proofs.ReadBack.{text_of-IsReadBack}

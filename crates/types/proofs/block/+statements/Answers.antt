@@ -1,7 +1,7 @@
 use Rattle.std.proofs.Common.{◌+◌, refl, drop, ap, subst, sym, ◌∙◌}
 use Rattle.std.proofs.lemmas.Result.{err_from_is_err_and}
 use Rattle.expression_types.proofs.Faults.{passed_on}
-use Rattle.grammar.specs.Views.{action_tree as source_action, block_tree as source_block}
+use Rattle.syntax.specs.SourceViews.{action_tree as source_action, block_tree as source_block}
 use Rattle.expression_types.specs.ScopeTree.{Keeps, left}
 use Rattle.typed_tree.specs.BlockTree.{action_tree}
 use Rattle.types.specs.Block.{tested_tree, statements_typed}

@@ -1,5 +1,5 @@
 use Rattle.std.proofs.Common.{◌≡◌, map, drop}
-use Rattle.grammar.specs.Views.{declaration_tree}
+use Rattle.syntax.specs.SourceViews.{declaration_tree}
 use Rattle.types.specs.Declaration.{declarations_typed, declared_of}
 use Rattle.types.proofs.declaration.declare_all.Given as goal
 

@@ -1,5 +1,5 @@
 use Rattle.std.proofs.Common.{◌<◌, length, rules}
-use Rattle.expressions.specs.Seen.{comparison_of}
+use Rattle.syntax.specs.ExpressionViews.{comparison_of}
 use Rattle.types.proofs.Literals.{several_comparisons}
 use Rattle.types.proofs.literal.in_conjunction.Goals as goal
 

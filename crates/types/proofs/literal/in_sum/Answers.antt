@@ -1,5 +1,5 @@
 use Rattle.std.proofs.Common.{◌<◌, length, rules}
-use Rattle.expressions.specs.Seen.{term_of}
+use Rattle.syntax.specs.ExpressionViews.{term_of}
 use Rattle.types.proofs.Literals.{several_terms}
 use Rattle.types.proofs.literal.in_sum.Goals as goal
 

@@ -1,5 +1,5 @@
 use Rattle.std.proofs.Common.{◌<◌, length, rules}
-use Rattle.expressions.specs.Seen.{unary_of}
+use Rattle.syntax.specs.ExpressionViews.{unary_of}
 use Rattle.types.proofs.Literals.{several_units}
 use Rattle.types.proofs.literal.in_term.Goals as goal
 

@@ -1,5 +1,5 @@
 use Rattle.std.proofs.Common.{◌<◌, length, rules, ap, ◌∙◌}
-use Rattle.expressions.specs.Seen.{conjunction_of}
+use Rattle.syntax.specs.ExpressionViews.{conjunction_of}
 use Rattle.types.specs.Literal.{only_operand}
 use Rattle.types.proofs.Literals.{several_conjunctions}
 use Rattle.types.proofs.literal.operand.Goals as goal

@@ -1,5 +1,5 @@
 use Rattle.std.proofs.Common.{◌<◌, length, rules}
-use Rattle.expressions.specs.Seen.{primary_of}
+use Rattle.syntax.specs.ExpressionViews.{primary_of}
 use Rattle.types.proofs.Literals.{signed_truth}
 use Rattle.types.proofs.literal.unary_condition.Goals as goal
 

@@ -1,5 +1,5 @@
 use Rattle.std.proofs.Common.{◌<◌, length, ap, sym, ◌∙◌}
-use Rattle.expressions.specs.Seen.{primary_of}
+use Rattle.syntax.specs.ExpressionViews.{primary_of}
 use Rattle.types.proofs.Literals.{several_signs}
 use Rattle.types.proofs.literal.unary_literal.Goals as goal
 

@@ -1,5 +1,5 @@
 use Rattle.std.proofs.Common.{◌≡◌, ◌+◌, map, drop}
-use Rattle.grammar.specs.Views.{declaration_tree}
+use Rattle.syntax.specs.SourceViews.{declaration_tree}
 use Rattle.types.specs.Program.{set_count}
 use Rattle.types.proofs.program.count_sets.Given as goal
 

@@ -1,6 +1,6 @@
 use Rattle.std.proofs.Common.{◌+◌, ap, subst, sym, ◌∙◌, drop}
 use Rattle.std.proofs.lemmas.Result.{err_from_is_err_and}
-use Rattle.grammar.specs.Views.{block_tree as source_block}
+use Rattle.syntax.specs.SourceViews.{block_tree as source_block}
 use Rattle.expression_types.proofs.Faults.{passed_on}
 use Rattle.expression_types.specs.ScopeTree.{Keeps}
 use Rattle.types.specs.CheckerTree.{checker_of}

@@ -1,5 +1,5 @@
 use Rattle.std.proofs.Common.{◌≡◌, drop}
-use Rattle.grammar.specs.Views.{block_tree as source_block}
+use Rattle.syntax.specs.SourceViews.{block_tree as source_block}
 use Rattle.expression_types.specs.ScopeTree.{Keeps}
 use Rattle.types.specs.CheckerTree.{checker_of}
 use Rattle.types.specs.Step.{steps_typed}

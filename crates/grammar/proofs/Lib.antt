@@ -1,9 +1,0 @@
-pub mod WordLaws
-pub mod Complete
-pub mod Actions
-pub mod Sources
-pub mod Sound
-pub mod SoundActions
-pub mod Nests
-pub mod NestsActions
-pub mod Exact

@@ -1,0 +1,186 @@
+//! A place in the tokens of a text.
+ghost use Rattle.std.specs.Prelude.{◌≡◌, ◌-◌, ◌<◌, ◌≤◌, [], ◌∷◌, length, take, drop, MatchOption, IfSome, IfOk};
+ghost use Rattle.lexer.specs.Tokens.{slice_of};
+ghost use Rattle.parser.specs.declared.syntax_error.SyntaxError.TheVariants.{Unexpected};
+ghost use Rattle.syntax.specs.Words.{Mark, Name as word_name, keyword_word, words_of};
+ghost use Rattle.parser.specs.Readers.{words, word_at, Finds, IsAfter, IsExpected, IsName, place};
+ghost use Rattle.syntax.specs.ExpressionReading.{addition, multiplication, relation, prefix};
+
+use crate::syntax_error::SyntaxError;
+use lexer::{Keyword, Span, Symbol, Token, TokenKind};
+use std::alloc::Global;
+use syntax::{Addition, Multiplication, Name, Prefix, Relation};
+
+/// A text, and those of its tokens that are left to be read.
+#[derive(Clone, Copy)]
+pub struct Cursor<'a> {
+    text: &'a [u8],
+    tokens: &'a [Token],
+}
+
+impl<'a> Cursor<'a> {
+    /// At the first of these tokens of a text.
+    pub fn new(text: &'a [u8], tokens: &'a [Token]) -> Cursor<'a>
+        ensures left { words result ≡ words_of text.now tokens.now }
+        ensures parts { (result.text.now ≡ text.now) × (result.tokens.now ≡ tokens.now) }
+    {
+        Cursor { text, tokens }
+    }
+
+    /// The next token, and the place behind it; `None` at the end.
+    pub fn next(self) -> Option<(Token, Cursor<'a>)>
+        ensures word { MatchOption result (words self.entry ≡ []) (λ x. words self.entry ≡ word_at self.entry x.0 ∷ words x.1) }
+        ensures starts { IfSome result (λ x. place self.entry ≡ x.0.span.start) }
+        ensures tokens { IfSome result (λ x. (x.1.text.now ≡ self.entry.text.now) × (self.entry.tokens.now ≡ x.0 ∷ x.1.tokens.now)) }
+    {
+        let (token, tokens) = self.tokens.split_first()?;
+        let after = Cursor {
+            text: self.text,
+            tokens,
+        };
+        Some((*token, after))
+    }
+
+    /// The offset of the next token, or the text's length at the end.
+    pub fn at(self) -> usize
+        ensures { result ≡ place self.entry }
+    {
+        match self.tokens.split_first() {
+            Some((token, _)) => token.span.start,
+            None => self.text.len(),
+        }
+    }
+
+    /// The refusal of the next token, at its offset.
+    pub fn unexpected(self) -> SyntaxError
+        ensures { result ≡ Unexpected (place self.entry) }
+    {
+        SyntaxError::Unexpected { at: self.at() }
+    }
+
+    /// The bytes of the text at a span, as many of them as the text has. They are not copied.
+    pub fn bytes(self, span: Span) -> &'a [u8]
+        ensures { result.now ≡ slice_of self.entry.text.now span }
+    {
+        let tail = self.text.get(span.start..).unwrap_or(&[]);
+        let len = span.end.saturating_sub(span.start);
+        tail.get(..len).unwrap_or(tail)
+    }
+
+    /// The place behind a symbol, if it is the next token.
+    pub fn after_symbol(self, symbol: Symbol) -> Option<Cursor<'a>>
+        ensures { IsAfter (Mark symbol) (words self.entry) result }
+    {
+        let (token, after) = self.next()?;
+        if token.kind == TokenKind::Symbol(symbol) {
+            Some(after)
+        } else {
+            None
+        }
+    }
+
+    /// The place behind a keyword, if it is the next token.
+    pub fn after_keyword(self, keyword: Keyword) -> Option<Cursor<'a>>
+        ensures { IsAfter (keyword_word keyword (place self.entry)) (words self.entry) result }
+    {
+        let (token, after) = self.next()?;
+        if token.kind == TokenKind::Keyword(keyword) {
+            Some(after)
+        } else {
+            None
+        }
+    }
+
+    /// The place behind a symbol, or `Unexpected` at the next token, if that is another one.
+    pub fn expect_symbol(self, symbol: Symbol) -> Result<Cursor<'a>, SyntaxError>
+        ensures { IsExpected (Mark symbol) (words self.entry) result }
+    {
+        match self.after_symbol(symbol) {
+            Some(after) => Ok(after),
+            None => Err(self.unexpected()),
+        }
+    }
+
+    /// The place behind a keyword, or `Unexpected` at the next token, if that is another one.
+    pub fn expect_keyword(self, keyword: Keyword) -> Result<Cursor<'a>, SyntaxError>
+        ensures { IsExpected (keyword_word keyword (place self.entry)) (words self.entry) result }
+    {
+        match self.after_keyword(keyword) {
+            Some(after) => Ok(after),
+            None => Err(self.unexpected()),
+        }
+    }
+
+    /// The name at the front, and the place behind it, or `Unexpected` at the next token, if that is
+    /// no name.
+    pub fn name(self, alloc: Global) -> Result<(Name, Cursor<'a>), SyntaxError>
+        ensures { IsName (words self.entry) result }
+    {
+        let Some((token, after)) = self.next() else {
+            return Err(self.unexpected());
+        };
+        if token.kind != TokenKind::Name {
+            return Err(self.unexpected());
+        }
+        let name = Name::of(alloc, self.bytes(token.span), token.span.start)?;
+        Ok((name, after))
+    }
+
+    /// The `+` or `-` at the front, and the place behind it.
+    pub fn addition(self) -> Option<(Addition, Cursor<'a>)>
+        ensures found { Finds result (addition (words self.entry)) }
+        ensures shorter { IfSome result (λ x. length (words x.1) < length (words self.entry)) }
+    {
+        let (token, after) = self.next()?;
+        match token.kind {
+            TokenKind::Symbol(Symbol::Plus) => Some((Addition::Plus, after)),
+            TokenKind::Symbol(Symbol::Minus) => Some((Addition::Minus, after)),
+            _ => None,
+        }
+    }
+
+    /// The `*`, `/` or `%` at the front, and the place behind it.
+    pub fn multiplication(self) -> Option<(Multiplication, Cursor<'a>)>
+        ensures found { Finds result (multiplication (words self.entry)) }
+        ensures shorter { IfSome result (λ x. length (words x.1) < length (words self.entry)) }
+    {
+        let (token, after) = self.next()?;
+        match token.kind {
+            TokenKind::Symbol(Symbol::Star) => Some((Multiplication::Times, after)),
+            TokenKind::Symbol(Symbol::Slash) => Some((Multiplication::Divide, after)),
+            TokenKind::Symbol(Symbol::Percent) => Some((Multiplication::Remainder, after)),
+            _ => None,
+        }
+    }
+
+    /// The relation at the front, and the place behind it.
+    pub fn relation(self) -> Option<(Relation, Cursor<'a>)>
+        ensures found { Finds result (relation (words self.entry)) }
+        ensures shorter { IfSome result (λ x. length (words x.1) < length (words self.entry)) }
+    {
+        let (token, after) = self.next()?;
+        let relation = match token.kind {
+            TokenKind::Symbol(Symbol::Equal) => Relation::Equal,
+            TokenKind::Symbol(Symbol::NotEqual) => Relation::NotEqual,
+            TokenKind::Symbol(Symbol::Less) => Relation::Less,
+            TokenKind::Symbol(Symbol::LessOrEqual) => Relation::LessOrEqual,
+            TokenKind::Symbol(Symbol::Greater) => Relation::Greater,
+            TokenKind::Symbol(Symbol::GreaterOrEqual) => Relation::GreaterOrEqual,
+            _ => return None,
+        };
+        Some((relation, after))
+    }
+
+    /// The `-` or `not` at the front, and the place behind it.
+    pub fn prefix(self) -> Option<(Prefix, Cursor<'a>)>
+        ensures found { Finds result (prefix (words self.entry)) }
+        ensures shorter { IfSome result (λ x. length (words x.1) < length (words self.entry)) }
+    {
+        let (token, after) = self.next()?;
+        match token.kind {
+            TokenKind::Symbol(Symbol::Minus) => Some((Prefix::Minus, after)),
+            TokenKind::Keyword(Keyword::Not) => Some((Prefix::Not, after)),
+            _ => None,
+        }
+    }
+}

@@ -1,0 +1,16 @@
+pub mod Actions
+pub mod Complete
+pub mod ExpressionReadings
+pub mod ExpressionsExact
+pub mod FirstWords
+pub mod Further
+pub mod Levels
+pub mod Loops
+pub mod Nests
+pub mod NestsActions
+pub mod Operands
+pub mod Sound
+pub mod SoundActions
+pub mod Sources
+pub mod SourcesExact
+pub mod WordLaws

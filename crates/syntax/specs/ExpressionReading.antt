@@ -1,0 +1,194 @@
+-- Reading words from the left: a reader answers with a tree and the words behind it. Depth is how many parentheses and brackets
+-- may stand in each other. The laws of `laws` say what reading gives in terms of the grammar.
+use Rattle.std.specs.Prelude.{ℕ, zero, suc, Bool, true, false, List, [], ◌∷◌, length, Option, Some, None}
+use Rattle.lexer.specs.declared.keyword.Keyword.{Keyword}
+use Rattle.lexer.specs.declared.keyword.Keyword.TheVariants as keyword
+use Rattle.lexer.specs.declared.symbol.Symbol.TheVariants as symbol
+use Rattle.syntax.specs.declared.operators.Addition.{Addition}
+use Rattle.syntax.specs.declared.operators.Addition.TheVariants as additions
+use Rattle.syntax.specs.declared.operators.Multiplication.{Multiplication}
+use Rattle.syntax.specs.declared.operators.Multiplication.TheVariants as multiplications
+use Rattle.syntax.specs.declared.operators.Prefix.{Prefix}
+use Rattle.syntax.specs.declared.operators.Prefix.TheVariants as prefixs
+use Rattle.syntax.specs.declared.operators.Relation.{Relation}
+use Rattle.syntax.specs.declared.operators.Relation.TheVariants as relations
+use Rattle.syntax.specs.Words.{Word, Name, Number, Reserved, Mark, Identifier}
+use Rattle.syntax.specs.ExpressionTrees.{ExpressionTree, ConjunctionTree, ComparisonTree, SumTree, TermTree, UnaryTree, PrimaryTree, OneSum, TwoSums, Bare, Signed, Literal, Truth, Variable, Entry, Size, Parentheses}
+use Rattle.syntax.specs.ExpressionViews.{expression_from, conjunction_from, sum_from, term_from}
+
+infixl 10 ◌>>=◌
+abbrev pub ◌>>=◌ : {A B : Type 0} → Option A → (A → Option B) → Option B
+None >>= f = None
+(Some x) >>= f = f x
+
+abbrev pub Reader : Type 0 → Type 0
+Reader A = List Word → Option (A × List Word)
+
+-- the operator of a level at the front, and the words behind it
+abbrev pub addition : List Word → Option (Addition × List Word)
+addition (Mark symbol.Plus ∷ rest) = Some (additions.Plus, rest)
+addition (Mark symbol.Minus ∷ rest) = Some (additions.Minus, rest)
+addition _ = None
+
+abbrev pub multiplication : List Word → Option (Multiplication × List Word)
+multiplication (Mark symbol.Star ∷ rest) = Some (multiplications.Times, rest)
+multiplication (Mark symbol.Slash ∷ rest) = Some (multiplications.Divide, rest)
+multiplication (Mark symbol.Percent ∷ rest) = Some (multiplications.Remainder, rest)
+multiplication _ = None
+
+abbrev pub relation : List Word → Option (Relation × List Word)
+relation (Mark symbol.Equal ∷ rest) = Some (relations.Equal, rest)
+relation (Mark symbol.NotEqual ∷ rest) = Some (relations.NotEqual, rest)
+relation (Mark symbol.Less ∷ rest) = Some (relations.Less, rest)
+relation (Mark symbol.LessOrEqual ∷ rest) = Some (relations.LessOrEqual, rest)
+relation (Mark symbol.Greater ∷ rest) = Some (relations.Greater, rest)
+relation (Mark symbol.GreaterOrEqual ∷ rest) = Some (relations.GreaterOrEqual, rest)
+relation _ = None
+
+abbrev pub prefix : List Word → Option (Prefix × List Word)
+prefix (Mark symbol.Minus ∷ rest) = Some (prefixs.Minus, rest)
+prefix (Reserved keyword.Not ∷ rest) = Some (prefixs.Not, rest)
+prefix _ = None
+
+abbrev pub truth_of : Keyword → Option Bool
+truth_of keyword.True = Some true
+truth_of keyword.False = Some false
+truth_of _ = None
+
+-- the words behind one word
+abbrev pub after_or : List Word → Option (List Word)
+after_or (Reserved keyword.Or ∷ rest) = Some rest
+after_or _ = None
+
+abbrev pub after_and : List Word → Option (List Word)
+after_and (Reserved keyword.And ∷ rest) = Some rest
+after_and _ = None
+
+abbrev pub after_open_bracket : List Word → Option (List Word)
+after_open_bracket (Mark symbol.OpenBracket ∷ rest) = Some rest
+after_open_bracket _ = None
+
+abbrev pub after_close_bracket : List Word → Option (List Word)
+after_close_bracket (Mark symbol.CloseBracket ∷ rest) = Some rest
+after_close_bracket _ = None
+
+abbrev pub after_open_parenthesis : List Word → Option (List Word)
+after_open_parenthesis (Mark symbol.OpenParenthesis ∷ rest) = Some rest
+after_open_parenthesis _ = None
+
+abbrev pub after_close_parenthesis : List Word → Option (List Word)
+after_close_parenthesis (Mark symbol.CloseParenthesis ∷ rest) = Some rest
+after_close_parenthesis _ = None
+
+abbrev pub after_dot : List Word → Option (List Word)
+after_dot (Mark symbol.Dot ∷ rest) = Some rest
+after_dot _ = None
+
+abbrev pub after_size : List Word → Option (List Word)
+after_size (Reserved keyword.GetVertexSetSize ∷ rest) = Some rest
+after_size _ = None
+
+-- As many links as there are, one after the other. A link is none where nothing at the front begins one. The fuel bounds how
+-- many there are.
+module _ {L : Type 0} (link : List Word → Option (Option (L × List Word))) where
+  abbrev pub linked : Reader (List L) → List Word → Option (Option (L × List Word)) → Option (List L × List Word)
+  linked others ws None = Some ([], ws)
+  linked others ws (Some None) = None
+  linked others ws (Some (Some x)) = others x.1 >>= λ y. Some (x.0 ∷ y.0, y.1)
+
+  abbrev pub links_by : ℕ → Reader (List L)
+  links_by zero ws = None
+  links_by (suc fuel) ws = linked (links_by fuel) ws (link ws)
+
+-- an item and the links behind it
+abbrev pub chain_by : {A L C : Type 0} → Reader A → (List Word → Option (Option (L × List Word))) → (A → List L → C) → Reader C
+chain_by item link make ws = item ws >>= λ x. links_by link (suc (length x.1)) x.1 >>= λ y. Some (make x.0 y.0, y.1)
+
+-- an operator and the operand behind it
+abbrev pub operand_by : {A O : Type 0} → Reader A → Option (O × List Word) → Option (Option ((O × A) × List Word))
+operand_by item None = None
+operand_by item (Some o) = Some (item o.1 >>= λ x. Some ((o.0, x.0), x.1))
+
+-- the operand behind a word
+abbrev pub behind_by : {A : Type 0} → Reader A → Option (List Word) → Option (Option (A × List Word))
+behind_by item None = None
+behind_by item (Some after) = Some (item after)
+
+-- signs and then a primary; the fuel bounds how many signs there are
+abbrev pub signed_by : Reader PrimaryTree → Reader UnaryTree → List Word → Option (Prefix × List Word) → Option (UnaryTree × List Word)
+signed_by p others ws None = p ws >>= λ x. Some (Bare x.0, x.1)
+signed_by p others ws (Some sign) = others sign.1 >>= λ x. Some (Signed sign.0 x.0, x.1)
+
+abbrev pub signs_by : Reader PrimaryTree → ℕ → Reader UnaryTree
+signs_by p zero ws = None
+signs_by p (suc fuel) ws = signed_by p (signs_by p fuel) ws (prefix ws)
+
+abbrev pub unary_by : Reader PrimaryTree → Reader UnaryTree
+unary_by p ws = signs_by p (suc (length ws)) ws
+
+abbrev pub term_by : Reader UnaryTree → Reader TermTree
+term_by u = chain_by u (λ ws. operand_by u (multiplication ws)) term_from
+
+abbrev pub sum_by : Reader TermTree → Reader SumTree
+sum_by t = chain_by t (λ ws. operand_by t (addition ws)) sum_from
+
+abbrev pub compared_by : Reader SumTree → SumTree → List Word → Option (Relation × List Word) → Option (ComparisonTree × List Word)
+compared_by s left rest None = Some (OneSum left, rest)
+compared_by s left rest (Some o) = s o.1 >>= λ x. Some (TwoSums left o.0 x.0, x.1)
+
+abbrev pub comparison_by : Reader SumTree → Reader ComparisonTree
+comparison_by s ws = s ws >>= λ x. compared_by s x.0 x.1 (relation x.1)
+
+abbrev pub conjunction_by : Reader ComparisonTree → Reader ConjunctionTree
+conjunction_by c = chain_by c (λ ws. behind_by c (after_and ws)) conjunction_from
+
+abbrev pub expression_by : Reader ConjunctionTree → Reader ExpressionTree
+expression_by c = chain_by c (λ ws. behind_by c (after_or ws)) expression_from
+
+-- the words behind the call of a size
+abbrev pub after_size_call : List Word → Option (List Word)
+after_size_call ws = after_size ws >>= λ call. after_open_parenthesis call >>= after_close_parenthesis
+
+-- what a name begins: a bracket or a dot behind it decides
+abbrev pub named_by : Reader ExpressionTree → Identifier → List Word → Option (List Word) → Option (List Word) → Option (PrimaryTree × List Word)
+named_by e name rest (Some after) dot = e after >>= λ x. after_close_bracket x.1 >>= λ behind. Some (Entry name x.0, behind)
+named_by e name rest None (Some after) = after_size_call after >>= λ behind. Some (Size name, behind)
+named_by e name rest None None = Some (Variable name, rest)
+
+abbrev pub primary_by : Reader ExpressionTree → Reader PrimaryTree
+primary_by e (Number n ∷ rest) = Some (Literal n, rest)
+primary_by e (Name name ∷ rest) = named_by e name rest (after_open_bracket rest) (after_dot rest)
+primary_by e (Reserved word ∷ rest) = truth_of word >>= λ b. Some (Truth b, rest)
+primary_by e (Mark symbol.OpenParenthesis ∷ rest) = e rest >>= λ x. after_close_parenthesis x.1 >>= λ behind. Some (Parentheses x.0, behind)
+primary_by e _ = None
+
+-- no expression, where no more may be opened
+abbrev pub no_expression : Reader ExpressionTree
+no_expression ws = None
+
+abbrev pub primary_at : ℕ → Reader PrimaryTree
+primary_at zero = primary_by no_expression
+primary_at (suc depth) = primary_by (expression_by (conjunction_by (comparison_by (sum_by (term_by (unary_by (primary_at depth)))))))
+
+abbrev pub unary_at : ℕ → Reader UnaryTree
+unary_at depth = unary_by (primary_at depth)
+
+abbrev pub term_at : ℕ → Reader TermTree
+term_at depth = term_by (unary_at depth)
+
+abbrev pub sum_at : ℕ → Reader SumTree
+sum_at depth = sum_by (term_at depth)
+
+abbrev pub comparison_at : ℕ → Reader ComparisonTree
+comparison_at depth = comparison_by (sum_at depth)
+
+abbrev pub conjunction_at : ℕ → Reader ConjunctionTree
+conjunction_at depth = conjunction_by (comparison_at depth)
+
+abbrev pub expression_at : ℕ → Reader ExpressionTree
+expression_at depth = expression_by (conjunction_at depth)
+
+-- where one more is opened
+abbrev pub expression_in : ℕ → Reader ExpressionTree
+expression_in zero = no_expression
+expression_in (suc depth) = expression_at depth

@@ -1,0 +1,16 @@
+pub mod ExpressionBeginnings
+pub mod ExpressionCodes
+pub mod ExpressionDepth
+pub mod ExpressionEnds
+pub mod ExpressionFalls
+pub mod ExpressionReading
+pub mod ExpressionSpelling
+pub mod ExpressionTrees
+pub mod ExpressionViews
+pub mod Fits
+pub mod Nesting
+pub mod SourceReading
+pub mod SourceSpelling
+pub mod SourceTrees
+pub mod SourceViews
+pub mod Words

@@ -1,0 +1,79 @@
+-- The trees that the structs are.
+use Rattle.std.specs.Prelude.{ℕ, List, [], ◌∷◌, map, Option, option_map}
+use Rattle.syntax.specs.Words.{Identifier}
+use Rattle.syntax.specs.declared.declaration.Declaration.{Declaration}
+use Rattle.syntax.specs.declared.declaration.Declaration.TheVariants as declaration
+use Rattle.syntax.specs.declared.declaration.Parameter.{Parameter}
+use Rattle.syntax.specs.declared.declaration.Source.{Source}
+use Rattle.syntax.specs.declared.schedule.Call.{Call}
+use Rattle.syntax.specs.declared.schedule.Chain.{Chain}
+use Rattle.syntax.specs.declared.schedule.Text.{Text}
+use Rattle.syntax.specs.declared.initial.Ends.{Ends}
+use Rattle.syntax.specs.declared.initial.Initial.{Initial}
+use Rattle.syntax.specs.declared.initial.Initial.TheVariants as initial
+use Rattle.syntax.specs.declared.statement.Action.{Action}
+use Rattle.syntax.specs.declared.statement.Action.TheVariants as action
+use Rattle.syntax.specs.declared.statement.Action as row
+use Rattle.syntax.specs.declared.statement.Statement.{Statement}
+use Rattle.syntax.specs.SourceTrees.{EndsTree, InitialTree, NewSet, Load, Vertices, OutDegrees, Filter, ApplyModified, Value, ActionTree, Declare, While, For, If, IfElse, Print, Assign, Reduce, SetEntry, ReduceEntry, AddVertex, Apply, BlockTree, Empty, Then, ParameterTree, DeclarationTree, Constant, Function, CallTree, ChainTree, SourceTree}
+
+abbrev pub parameter_tree : Parameter → ParameterTree
+parameter_tree p = record { name = p.name; declared = p.declared }
+
+abbrev pub ends_tree : Ends → EndsTree
+ends_tree ends = record { from = ends.from; to = ends.to }
+
+abbrev pub initial_tree : Initial → InitialTree
+initial_tree (initial.NewSet size) = NewSet size
+initial_tree (initial.Load argument) = Load argument
+initial_tree (initial.Vertices edges) = Vertices edges
+initial_tree (initial.OutDegrees edges) = OutDegrees edges
+initial_tree (initial.Filter set test) = Filter set test
+initial_tree (initial.ApplyModified edges ends function vector) = ApplyModified edges (ends_tree ends) function vector
+initial_tree (initial.Value e) = Value e
+
+abbrev mutual
+  pub action_tree : Action → ActionTree
+  action_tree (action.Declare at variable initial) = Declare at (parameter_tree variable) (initial_tree initial)
+  action_tree (action.While' at test m body) = While at test (rows_tree body)
+  action_tree (action.For' at name first last m body) = For at name first last (rows_tree body)
+  action_tree (action.If' at test m body) = If at test (rows_tree body)
+  action_tree (action.IfElse' at test m body n otherwise) = IfElse at test (rows_tree body) (rows_tree otherwise)
+  action_tree (action.Print at e) = Print at e
+  action_tree (action.Assign name value) = Assign name (initial_tree value)
+  action_tree (action.Reduce name reduction value) = Reduce name reduction value
+  action_tree (action.SetEntry vector index value) = SetEntry vector index value
+  action_tree (action.ReduceEntry vector index reduction value) = ReduceEntry vector index reduction value
+  action_tree (action.AddVertex set vertex) = AddVertex set vertex
+  action_tree (action.Apply target ends function) = Apply target (ends_tree ends) function
+
+  pub rows_tree : {m : _} → row.Row_of-Statement m → BlockTree
+  rows_tree row.end_of-Statement = Empty
+  rows_tree (row.more_of-Statement label action rest) = Then label (action_tree action) (rows_tree rest)
+
+abbrev pub statement_of : Statement → Option Identifier × ActionTree
+statement_of s = (s.label, action_tree s.action)
+
+abbrev pub block_tree : List Statement → BlockTree
+block_tree [] = Empty
+block_tree (s ∷ others) = Then s.label (action_tree s.action) (block_tree others)
+
+abbrev pub declaration_tree : Declaration → DeclarationTree
+declaration_tree (declaration.Constant at constant initial) = Constant at (parameter_tree constant) (initial_tree initial)
+declaration_tree (declaration.Function at name parameters result body) =
+    Function at name (map parameter_tree parameters.items) (option_map parameter_tree result) (block_tree body.items)
+
+abbrev pub text_of : Text → List ℕ
+text_of text = text.bytes.items
+
+abbrev pub call_tree : Call → CallTree
+call_tree c = record { at = c.at; setting = c.setting; first = text_of c.first; more = map text_of c.more.items }
+
+abbrev pub chain_tree : Chain → ChainTree
+chain_tree c = record { first = call_tree c.first; more = map call_tree c.more.items }
+
+abbrev pub source_tree : Source → SourceTree
+source_tree s = record {
+  declarations = map declaration_tree s.declarations.items;
+  schedule = option_map (λ chains. map chain_tree chains.items) s.schedule;
+}

@@ -1,0 +1,45 @@
+//! The syntax of the algorithm language: the trees of a source, the words that they are spelled with, and how
+//! deep a source may nest (`docs/LANGUAGE.md` has the grammar).
+//!
+//! A word is a token as the grammar sees it: its bytes or its value, without its place. Names, labels, and
+//! keywords that open a declaration, a statement or a call of the schedule keep their offsets
+//! (`specs/Words.antt`). A contract sees an [`Expression`] as an `ExpressionTree`, one type for each level of
+//! the grammar, and a [`Source`] as a `SourceTree`; both have no pointers. `specs/ExpressionSpelling.antt` and
+//! `specs/SourceSpelling.antt` give the words of each tree, with one equation for each rule of the grammar,
+//! and `specs/Nesting.antt` counts what is open. `Begins` says that words are those of an expression, at most
+//! so deep, and then a rest that does not go on with it (`specs/ExpressionBeginnings.antt`).
+//!
+//! `words_have_one_source` is the law that no two sources have the same words, and `sources_are_read_exactly`
+//! the law of the reading function, by which a parser is proved to accept exactly the grammar;
+//! `words_have_one_tree`, `beginnings_are_one`, `reading_is_exact` and `what_ends_goes_no_further` are those of
+//! expressions. They do nothing when called. [`first_too_deep`] finds where a text nests deeper than the limit.
+//!
+//! A tree keeps what makes its words its own: parentheses, labels, an absent `else` apart from an empty
+//! one, the operators of one level as one list.
+//!
+//! The parser, the writer of sources, the checker of types and the schedule stand on this crate. The language is
+//! after GraphIt (Zhang, Yang, Baghdadi, Kamil, Shun, Amarasinghe, OOPSLA 2018), with a grammar of its own.
+#![tactic(auto)]
+
+mod declaration;
+mod expression;
+mod initial;
+mod laws;
+mod name;
+mod nesting;
+mod operators;
+mod schedule;
+mod statement;
+
+pub use declaration::{Declaration, DeclaredType, Parameter, Source};
+pub use expression::{Comparison, Conjunction, Expression, Primary, Sum, Term, Unary};
+pub use initial::{Ends, Initial};
+pub use laws::{
+    beginnings_are_one, reading_is_exact, sources_are_read_exactly, what_ends_goes_no_further,
+    words_have_one_source, words_have_one_tree,
+};
+pub use name::Name;
+pub use nesting::{NESTING_LIMIT, first_too_deep};
+pub use operators::{Addition, Multiplication, Prefix, Relation};
+pub use schedule::{Call, Chain, Setting, Text};
+pub use statement::{Action, Reduction, Statement};
