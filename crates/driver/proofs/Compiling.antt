@@ -1,8 +1,8 @@
 -- Files that are compiled one after another.
-use Rattle.std.proofs.Common.{◌≡◌, ℕ, List, [], ◌∷◌, ◌++◌, map, sym, subst, append-nil}
+use Rattle.std.proofs.Common.{◌≡◌, ℕ, List, [], ◌++◌, sym, subst, append-nil}
 use Rattle.std.specs.declared.io.Error.{Error}
 use Rattle.typed_tree.specs.ProgramTree.{ProgramTree}
-use Rattle.driver.specs.Reading.{HoldsProgram, HoldPrograms, IsNoProgram, LacksProgram}
+use Rattle.driver.specs.Reading.{HoldPrograms, LacksProgram}
 use Rattle.driver.specs.declared.error.ServeError.{ServeError}
 
 -- some files of all were compiled: what is left to compile, and how that fails, makes up the whole

@@ -1,5 +1,5 @@
 -- The words after `script`: without a fault, they are the files, but for a `--`.
-use Rattle.std.proofs.Common.{◌≡◌, ◌∙◌, ℕ, ◌<◌, ◌≤◌, ◌&&◌, inl, inr, Bool, true, false, List, [], ◌∷◌, ◌++◌, length, Option, Some, None, refl, sym, ap, ap₂, subst, codes, arith, if◌then◌else◌}
+use Rattle.std.proofs.Common.{◌≡◌, ◌∙◌, ◌<◌, ◌≤◌, ◌&&◌, inl, inr, Bool, true, false, List, [], ◌∷◌, ◌++◌, length, Option, Some, None, refl, sym, ap, ap₂, subst, codes, arith, if◌then◌else◌}
 use Rattle.std.proofs.lemmas.Bool.{le-leb}
 use Rattle.std.proofs.lemmas.List.{append-nil, append_assoc}
 use Rattle.std.proofs.lemmas.Slice.Eq.{bytes_eq-Decides}
@@ -11,8 +11,8 @@ use Rattle.clap.specs.Simple.{filled}
 use Rattle.clap.specs.Takes.{default_passes, is_valid, level_passes, settle_passes, value_passes, walk_passes}
 use Rattle.clap.specs.Words.{Shape, Text, built, all_of}
 use Rattle.clap.specs.Walk.{Walk, Waiting, finished, idle, positional, rows_after, walked}
-use Rattle.clap.specs.Faults.{check_fault, defaults_fault, flag_word_fault, level_fault, settle_fault, walk_fault}
-use Rattle.clap.specs.Kinds.{Kinds, or_else}
+use Rattle.clap.specs.Faults.{defaults_fault, flag_word_fault, level_fault, walk_fault}
+use Rattle.clap.specs.Kinds.{Kinds}
 use Rattle.clap.specs.declared.error.kind.ErrorKind.TheVariants.{MissingRequiredArgument}
 use Rattle.driver.specs.CommandLine.{HasNoHyphen, command_line, operands, script_command, script_files}
 use Rattle.driver.proofs.Flags.{HasOnlyHelp, IsNoneOrHelp, TakesValues, first_is_quiet, held, help, is_value, second_is_quiet}

@@ -8,7 +8,6 @@ use Rattle.scripts.specs.Text.{RunsText}
 use Rattle.driver.specs.Endings.{of_script, status_of_end}
 use Rattle.driver.specs.Reading.{HoldPrograms, LacksProgram, FailsRead}
 use Rattle.driver.specs.declared.error.ServeError.{ServeError}
-use Rattle.driver.specs.declared.error.ServeError.TheVariants.{NoMemory}
 use Rattle.driver.specs.declared.requests.Request.{Request}
 use Rattle.driver.specs.declared.requests.Request.TheVariants as request
 

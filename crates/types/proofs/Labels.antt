@@ -1,7 +1,7 @@
 -- What labels and numbers of statements leave as it was, and statements of main with both.
 use Rattle.std.proofs.Common.{◌≡◌, ap, sym, ◌∙◌, ℕ, suc, Bool, true, false, List, Option, Some, None}
 use Rattle.syntax.specs.Words.{Identifier}
-use Rattle.grammar.specs.Trees as source
+use Rattle.syntax.specs.SourceTrees as source
 use Rattle.typed_tree.specs.BlockTree.{ActionTree}
 use Rattle.expression_types.specs.Operators.{◌>>=◌}
 use Rattle.types.specs.CheckerTree.{CheckerTree, counted, label_stands, labelled, new_label, next_statement}

@@ -4,7 +4,7 @@ use Rattle.syntax.specs.Words.{Identifier}
 use Rattle.syntax.specs.ExpressionTrees.{ExpressionTree}
 use Rattle.syntax.specs.declared.declaration.DeclaredType.{DeclaredType}
 use Rattle.syntax.specs.declared.declaration.DeclaredType.TheVariants as declared
-use Rattle.grammar.specs.Trees as source
+use Rattle.syntax.specs.SourceTrees as source
 use Rattle.syntax.specs.SourceTrees.{InitialTree}
 use Rattle.typed_tree.specs.BlockTree.{ActionTree, ReduceInteger, SetEntry, ReduceEntry, AddVertex, ApplyVertex, For, BlockTree}
 use Rattle.expression_types.specs.declared.scope.Entity.{Entity}

@@ -3,7 +3,7 @@ use Rattle.std.specs.Prelude.{ℕ, suc, List, length, Option, Some}
 use Rattle.std.specs.Global.{Vec}
 use Rattle.syntax.specs.Words.{Identifier}
 use Rattle.syntax.specs.ExpressionTrees.{ExpressionTree}
-use Rattle.grammar.specs.Trees as source
+use Rattle.syntax.specs.SourceTrees as source
 use Rattle.typed_tree.specs.BlockTree.{ActionTree, action_tree, BlockTree, block_tree, If, IfElse, While, For, Empty, Then}
 use Rattle.typed_tree.specs.declared.expression.Condition.{Condition}
 use Rattle.typed_tree.specs.declared.statement.Statement.{Statement}

@@ -3,7 +3,7 @@ use Rattle.std.specs.Prelude.{ℕ, zero, suc, ℤ, pos, negsuc, Bool, true, fals
 use Rattle.std.specs.Str.{bytes_eq}
 use Rattle.syntax.specs.declared.declaration.DeclaredType.{DeclaredType}
 use Rattle.syntax.specs.declared.declaration.DeclaredType.TheVariants as declared
-use Rattle.grammar.specs.Trees as source
+use Rattle.syntax.specs.SourceTrees as source
 use Rattle.syntax.specs.SourceTrees.{ParameterTree, InitialTree, NewSet, Load, Vertices, OutDegrees, Filter, ApplyModified, Value, DeclarationTree, Constant, Function}
 use Rattle.typed_tree.specs.declared.expression.Endpoint.TheVariants as endpoint
 use Rattle.typed_tree.specs.declared.program.Beginning.TheVariants as beginning

@@ -2,7 +2,7 @@
 use Rattle.std.specs.Prelude.{ℕ, List, [], ◌∷◌, Option, Some, None}
 use Rattle.syntax.specs.Words.{Identifier}
 use Rattle.syntax.specs.ExpressionTrees.{ExpressionTree}
-use Rattle.grammar.specs.Trees as source
+use Rattle.syntax.specs.SourceTrees as source
 use Rattle.typed_tree.specs.declared.expression.Endpoint.{Endpoint}
 use Rattle.typed_tree.specs.declared.expression.Endpoint.TheVariants as endpoint
 use Rattle.typed_tree.specs.StepTree.{StepTree, SetEntry, ReduceEntry}

@@ -1,4 +1,4 @@
-use Rattle.std.proofs.Common.{◌≡◌, ◌≤◌, List, ℕ, [], length, map, drop, ap, arith, Bor}
+use Rattle.std.proofs.Common.{◌≤◌, List, ℕ, length, map, ap, arith, Bor}
 use Rattle.std.proofs.lemmas.List.{drop_all}
 use Rattle.driver.proofs.Compiling.{all_compiled}
 use Rattle.driver.proofs.serving.compiled_files.Goals as goal
