@@ -10,8 +10,8 @@ use crate::error::TypeError;
 use crate::operators::{addition, arithmetic, connect, entry, multiplication, relate, sign};
 use crate::scope::{Entity, Scope};
 use crate::value::{Value, set_named, value_named, vector_named};
-use syntax::{Comparison, Conjunction, Expression, Name, Prefix, Primary, Sum, Term, Unary};
 use std::alloc::Global;
+use syntax::{Comparison, Conjunction, Expression, Name, Prefix, Primary, Sum, Term, Unary};
 use typed_tree::{Condition, Connective, Integer};
 
 /// The typed tree of an expression. `Refused` where it breaks a rule of types.

@@ -8,8 +8,8 @@ ghost use Rattle.expression_types.specs.ValueTree.{value_tree};
 use crate::error::TypeError;
 use crate::scope::Inside;
 use crate::value::{Value, condition_of, holds_entry, integer_of};
-use syntax::{Addition, Multiplication, Prefix, Relation};
 use std::alloc::Global;
+use syntax::{Addition, Multiplication, Prefix, Relation};
 use typed_tree::{Comparison, Condition, Connective, Integer, Operator};
 
 /// The operator that stands between the terms of a sum.

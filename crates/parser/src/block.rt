@@ -8,15 +8,15 @@ ghost use Rattle.syntax.specs.SourceViews.{action_tree, statement_of, block_tree
 ghost use Rattle.parser.specs.Blocks.{action_at, block_in, declared_at, printed_at, range_at, to_end_by, otherwise_by, opening_of, opened_by};
 ghost use Rattle.parser.specs.Views.{statements_tree};
 
+use crate::cursor::Cursor;
 use crate::front::{after_reserved, expect_mark, expect_reserved, expression, label, name};
 use crate::initial::assigned;
 use crate::statement::{ended, named};
-use crate::types::typed;
-use crate::cursor::Cursor;
 use crate::syntax_error::SyntaxError;
-use syntax::{Action, Expression, Name, Statement};
+use crate::types::typed;
 use lexer::{Keyword, Symbol, TokenKind};
 use std::alloc::Global;
+use syntax::{Action, Expression, Name, Statement};
 
 /// What a statement begins with that begins with a keyword.
 #[derive(Clone, Copy)]

@@ -8,14 +8,14 @@ ghost use Rattle.parser.specs.Declarations.{beginning_of, declared_by, constant_
 ghost use Rattle.parser.specs.Views.{each, signature_tree, statements_tree};
 
 use crate::block::block;
+use crate::cursor::Cursor;
 use crate::front::{after_mark, expect_mark, expect_reserved, name};
 use crate::initial::assigned;
-use crate::types::typed;
-use crate::cursor::Cursor;
 use crate::syntax_error::SyntaxError;
-use syntax::{Declaration, NESTING_LIMIT, Name, Parameter, Statement};
+use crate::types::typed;
 use lexer::{Keyword, Symbol, TokenKind};
 use std::alloc::Global;
+use syntax::{Declaration, NESTING_LIMIT, Name, Parameter, Statement};
 
 /// What begins with a keyword.
 #[derive(Clone, Copy)]

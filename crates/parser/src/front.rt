@@ -8,11 +8,11 @@ ghost use Rattle.syntax.specs.SourceViews.{text_of};
 ghost use Rattle.parser.specs.Plain.{is_plain, plain_word};
 
 use crate::cursor::Cursor;
-use crate::syntax_error::SyntaxError;
 use crate::expression::read_expression;
-use syntax::{Expression, NESTING_LIMIT, Name, Text};
+use crate::syntax_error::SyntaxError;
 use lexer::{Keyword, Symbol, TokenKind};
 use std::alloc::Global;
+use syntax::{Expression, NESTING_LIMIT, Name, Text};
 
 /// The place behind a symbol, if it is the next token.
 pub(crate) fn after_mark(cursor: Cursor<'_>, symbol: Symbol) -> Option<Cursor<'_>>

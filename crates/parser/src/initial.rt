@@ -6,15 +6,15 @@ ghost use Rattle.syntax.specs.SourceReading.{in_parentheses, closed, end_at, end
 ghost use Rattle.syntax.specs.SourceViews.{initial_tree, ends_tree};
 ghost use Rattle.parser.specs.Fronts.{begins_call as begins_call_at, is_called, called_word, name_pair_at, modified_by, filter_at, call_by, new_set_at, load_at};
 
+use crate::cursor::Cursor;
 use crate::front::{
     after_mark, after_method, after_reserved, argument, expect_all, expect_mark, expression, name,
     number,
 };
-use crate::cursor::Cursor;
 use crate::syntax_error::SyntaxError;
-use syntax::{Ends, Initial, Name};
 use lexer::{Keyword, Symbol, TokenKind};
 use std::alloc::Global;
+use syntax::{Ends, Initial, Name};
 
 /// `vertexset{Vertex}(`
 static OPEN_SET: [TokenKind; 5] = [

@@ -7,12 +7,12 @@ ghost use Rattle.syntax.specs.SourceViews.{text_of, call_tree, chain_tree};
 ghost use Rattle.parser.specs.Fronts.{begun_setting};
 ghost use Rattle.parser.specs.Views.{each};
 
-use crate::front::{after_mark, after_reserved, expect_mark, text};
 use crate::cursor::Cursor;
+use crate::front::{after_mark, after_reserved, expect_mark, text};
 use crate::syntax_error::SyntaxError;
-use syntax::{Call, Chain, Setting, Text};
 use lexer::{Keyword, Symbol, TokenKind};
 use std::alloc::Global;
+use syntax::{Call, Chain, Setting, Text};
 
 /// The schedule's part, where the source has it, and the place behind it.
 pub(crate) fn schedule(

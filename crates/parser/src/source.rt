@@ -6,15 +6,15 @@ ghost use Rattle.syntax.specs.SourceTrees.{SourceTree};
 ghost use Rattle.parser.specs.declared.error.ParseError.{ParseError};
 ghost use Rattle.parser.specs.Outcome.{Answers, Parses, GivesSource, tree_or_error, without_place};
 
+use crate::cursor::Cursor;
 use crate::declaration::declarations;
 use crate::error::ParseError;
 use crate::front::expect_all;
 use crate::schedule::schedule;
-use crate::cursor::Cursor;
 use crate::syntax_error::SyntaxError;
-use syntax::{Source, first_too_deep};
 use lexer::{Keyword, TokenKind, tokens};
 use std::alloc::Global;
+use syntax::{Source, first_too_deep};
 
 /// The source that a text is. The text may have any bytes.
 ///

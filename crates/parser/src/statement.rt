@@ -5,13 +5,13 @@ ghost use Rattle.parser.specs.Readers.{words, Gives};
 ghost use Rattle.syntax.specs.SourceReading.{reduction_at, ended_at, entry_at, entry_by, after_word, after_words, method_by, added_at, applied_at, reduced_at, named_action};
 ghost use Rattle.syntax.specs.SourceViews.{action_tree};
 
+use crate::cursor::Cursor;
 use crate::front::{after_mark, after_method, argument, expect_all, expect_mark, expression};
 use crate::initial::{assigned, ends};
-use crate::cursor::Cursor;
 use crate::syntax_error::SyntaxError;
-use syntax::{Action, Expression, Name, Reduction};
 use lexer::{Keyword, Symbol, TokenKind};
 use std::alloc::Global;
+use syntax::{Action, Expression, Name, Reduction};
 
 /// `.apply`
 static APPLY: [TokenKind; 2] = [

@@ -5,12 +5,12 @@ ghost use Rattle.syntax.specs.SourceReading.{after_words, type_at, typed_at};
 ghost use Rattle.syntax.specs.SourceViews.{parameter_tree};
 ghost use Rattle.parser.specs.Fronts.{begun_type, words_behind};
 
-use crate::front::{expect_all, expect_mark, name};
 use crate::cursor::Cursor;
+use crate::front::{expect_all, expect_mark, name};
 use crate::syntax_error::SyntaxError;
-use syntax::{DeclaredType, Parameter};
 use lexer::{Keyword, Symbol, TokenKind};
 use std::alloc::Global;
+use syntax::{DeclaredType, Parameter};
 
 /// `{Vertex}`
 static OF_VERTICES: [TokenKind; 3] = [

@@ -7,9 +7,9 @@ ghost use Rattle.source_text.specs.Written.{Puts};
 use crate::initial::{put_assigned, put_parameter};
 use crate::statement::put_block;
 use crate::text::{put_keyword, put_name, put_symbol};
-use syntax::{Declaration, Parameter};
 use lexer::{Keyword, Symbol};
 use std::alloc::AllocError;
+use syntax::{Declaration, Parameter};
 
 /// Puts declarations down, in their order.
 pub(crate) fn put_declarations(

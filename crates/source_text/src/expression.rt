@@ -5,9 +5,12 @@ ghost use Rattle.syntax.specs.ExpressionSpelling.{addition_word, comparison_word
 ghost use Rattle.source_text.specs.Written.{Puts, signs_before};
 
 use crate::text::{put_keyword, put_name, put_number, put_symbol};
-use syntax::{Addition, Comparison, Conjunction, Expression, Multiplication, Prefix, Primary, Relation, Sum, Term, Unary};
 use lexer::{Keyword, Symbol};
 use std::alloc::AllocError;
+use syntax::{
+    Addition, Comparison, Conjunction, Expression, Multiplication, Prefix, Primary, Relation, Sum,
+    Term, Unary,
+};
 
 /// Puts an expression down.
 #[cycle(expressions)]

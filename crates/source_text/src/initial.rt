@@ -10,9 +10,9 @@ ghost use Rattle.source_text.specs.Written.{Puts};
 
 use crate::expression::put_expression;
 use crate::text::{put_keyword, put_name, put_number, put_symbol};
-use syntax::{DeclaredType, Ends, Expression, Initial, Name, Parameter};
 use lexer::{Keyword, Symbol};
 use std::alloc::AllocError;
+use syntax::{DeclaredType, Ends, Expression, Initial, Name, Parameter};
 
 /// Puts a name and its type down.
 pub(crate) fn put_parameter(out: &mut Vec<u8>, parameter: &Parameter) -> Result<(), AllocError>

@@ -6,9 +6,9 @@ ghost use Rattle.syntax.specs.SourceViews.{call_tree, chain_tree, text_of};
 ghost use Rattle.source_text.specs.Written.{Puts, chains_tree};
 
 use crate::text::{put_keyword, put_symbol, put_text};
-use syntax::{Call, Chain, Setting, Text};
 use lexer::{Keyword, Symbol};
 use std::alloc::AllocError;
+use syntax::{Call, Chain, Setting, Text};
 
 /// Puts the schedule down, where the source has that part.
 pub(crate) fn put_schedule(

@@ -11,9 +11,9 @@ ghost use Rattle.source_text.specs.Written.{Puts};
 use crate::expression::put_expression;
 use crate::simple::put_simple;
 use crate::text::{put_keyword, put_label, put_name, put_symbol};
-use syntax::{Action, Expression, Name, Statement};
 use lexer::{Keyword, Symbol};
 use std::alloc::AllocError;
+use syntax::{Action, Expression, Name, Statement};
 
 /// Puts statements down, in their order.
 #[cycle(statements)]

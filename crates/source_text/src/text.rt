@@ -6,9 +6,9 @@ ghost use Rattle.source_text.specs.Text.{text_of, keyword_gap, symbol_gap, AreSp
 ghost use Rattle.source_text.specs.Written.{Puts};
 
 use decimal::push_integer;
-use syntax::{Name, Text};
 use lexer::{Keyword, Symbol};
 use std::alloc::AllocError;
+use syntax::{Name, Text};
 
 /// The law that the text of words has tokens, and that they are these words but for their offsets, where each
 /// word is one that some token is. The call does nothing.

@@ -11,9 +11,9 @@ ghost use Rattle.source_text.specs.Written.{Puts, elements_before};
 use crate::declaration::put_declarations;
 use crate::schedule::put_schedule;
 use crate::text::put_keyword;
-use syntax::Source;
 use lexer::Keyword;
 use std::alloc::{AllocError, Global};
+use syntax::Source;
 
 /// The text of a source: one statement a line, a space behind each other word. `parse` reads it back to the
 /// same source, but for the offsets, where the source is one that a text can have; each that `parse` answers

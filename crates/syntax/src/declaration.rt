@@ -1,9 +1,9 @@
 //! Declarations, and the source that they make.
 
 use crate::initial::Initial;
+use crate::name::Name;
 use crate::schedule::Chain;
 use crate::statement::Statement;
-use crate::name::Name;
 
 /// What a name is declared to be.
 #[derive(Clone, Copy, Debug, PartialEq, Eq)]

@@ -1,8 +1,8 @@
 //! Statements.
 
 use crate::declaration::Parameter;
-use crate::initial::{Ends, Initial};
 use crate::expression::Expression;
+use crate::initial::{Ends, Initial};
 use crate::name::Name;
 
 /// How a value is joined to an old one.

@@ -13,8 +13,8 @@ use crate::statement::{
     add_vertex, apply, assign, declare_variable, print, reduce, reduce_entry, set_entry,
 };
 use expression_types::{Entity, TypeError};
-use syntax::{Action as Written, Expression, Name};
 use std::alloc::Global;
+use syntax::{Action as Written, Expression, Name};
 use typed_tree::{Action, Condition, Statement};
 
 /// Statements in order. What they declare stays visible behind them.

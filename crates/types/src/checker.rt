@@ -4,8 +4,8 @@ ghost use Rattle.expression_types.specs.Outcome.{Answers};
 ghost use Rattle.types.specs.CheckerTree.{checker_of, declared_in, label_stands, labelled, next_statement};
 
 use expression_types::{Entity, Scope, TypeError};
-use syntax::Name;
 use std::alloc::Global;
+use syntax::Name;
 use typed_tree::{Name as Text, Sequence, Slot};
 
 /// What is visible at a point of the source, and what came before it.

@@ -12,8 +12,8 @@ use crate::initial::all_of;
 use crate::literal::{condition_literal, integer_literal};
 use crate::step::steps;
 use expression_types::{Entity, Scope, TypeError};
-use syntax::{Declaration, DeclaredType, Initial, Name, Parameter};
 use std::alloc::Global;
+use syntax::{Declaration, DeclaredType, Initial, Name, Parameter};
 use typed_tree::{Beginning, Endpoint, SetValue, Slot, Statement, Step, Vector, VertexFunction};
 
 /// What was declared so far.

@@ -11,8 +11,8 @@ ghost use Rattle.types.specs.Initial.{all_vertices, as_copy, condition_in, index
 use expression_types::{
     Entity, Scope, TypeError, Value, condition_of, index_of, integer_of, type_expression,
 };
-use syntax::{Expression, Initial, Name};
 use std::alloc::Global;
+use syntax::{Expression, Initial, Name};
 use typed_tree::{Condition, Integer, SetValue};
 
 /// An expression that has to be an integer.

@@ -10,8 +10,8 @@ ghost use Rattle.types.specs.Program.{opening, program_of, set_count, with_main}
 use crate::checker::Checker;
 use crate::declaration::{Declared, declare_all};
 use expression_types::{Scope, TypeError};
-use syntax::{Declaration, DeclaredType, Source};
 use std::alloc::Global;
+use syntax::{Declaration, DeclaredType, Source};
 use typed_tree::Typed;
 
 /// The program that a source is, with all names resolved.

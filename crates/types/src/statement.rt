@@ -11,8 +11,8 @@ ghost use Rattle.types.specs.Statement.{add_vertex as vertex_added, apply_within
 use crate::checker::{Checker, declare};
 use crate::initial::{condition_from, index, integer, integer_from, set_from};
 use expression_types::{Entity, Scope, TypeError, Value, type_expression};
-use syntax::{DeclaredType, Ends, Expression, Initial, Name, Parameter};
 use std::alloc::Global;
+use syntax::{DeclaredType, Ends, Expression, Initial, Name, Parameter};
 use typed_tree::{Action, Reduction, Slot};
 
 /// How a value is joined to an old one.

@@ -12,8 +12,8 @@ use crate::checker::{Checker, label};
 use crate::initial::integer;
 use crate::statement::{reduction, vector};
 use expression_types::{Scope, TypeError, Value, type_expression};
-use syntax::{Action, Expression, Name, Statement};
 use std::alloc::Global;
+use syntax::{Action, Expression, Name, Statement};
 use typed_tree::{Endpoint, Step};
 
 /// The statements of a function, in order.
