@@ -1,0 +1,5 @@
+pub mod ClaimSteps
+pub mod Findings
+pub mod Gathering
+pub mod Ordered
+pub mod Turns

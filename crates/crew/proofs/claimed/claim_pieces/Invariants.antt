@@ -1,0 +1,17 @@
+use Rattle.std.proofs.Common.{◌-◌}
+use Rattle.std.specs.List.{All}
+use Rattle.crew.specs.Claims.{IsClaimAt, view_of}
+use Rattle.crew.specs.Finding.{pieces_of, IsAnswered}
+use Rattle.crew.proofs.Gathering.{IsClaiming}
+use Rattle.crew.proofs.claimed.claim_pieces.Given as goal
+
+abbrev pub invariant-loop-place : goal.invariant-loop-place
+invariant-loop-place g l = record {
+  turn : IsClaimAt l.word.table_id l.turn;
+  claimed : IsClaiming l.pieces l.place (view_of l.turn) (pieces_of l.found.items);
+  state : g.W.Work.keeps l.work l.state;
+  answered : All (IsAnswered (g.W.Work.answers l.work) l.pieces) l.found.items;
+}
+
+abbrev pub decreases-loop-place : goal.decreases-loop-place
+decreases-loop-place g l = l.pieces - l.place

@@ -1,0 +1,35 @@
+use Rattle.std.proofs.Common.{◌≡◌, subst, length, IfSome, IfOk, arith}
+use Rattle.std.proofs.lemmas.List.Elements.{All-pop}
+use Rattle.std.proofs.lemmas.Result.{IfOk-at_ok}
+use Rattle.crew.specs.Claims.{view_of}
+use Rattle.crew.specs.Finding.{pieces_of, IsAnswered}
+use Rattle.crew.specs.Workers.{HasClaimed}
+use Rattle.crew.proofs.Findings.{all_pushed, all_appended, length_popped, pieces_of-appended}
+use Rattle.crew.proofs.Gathering.{IsGathered, gathers_more, gathered, none_left}
+use Rattle.crew.proofs.claimed.gather.Goals as goal
+
+pub loop-worker-preserved : goal.loop-worker-preserved
+loop-worker-preserved g c =
+    let Claimed = HasClaimed (g.W.Work.keeps c.args.work.now) (g.W.Work.answers c.args.work.now) c.args.word.now.table_id c.args.pieces in
+    let popped = All-pop (λ r. IfOk r Claimed) _ _ _ c.pop.ensures.items c.loop-worker.invariant.workers in
+    let done = IfOk-at_ok Claimed c.in_ok-turn.was (subst (λ o. IfSome o (λ r. IfOk r Claimed)) c.in-Some.is popped.1) in
+    let theirs = c.in_ok-turn.field-0 in
+    let out = length_popped _ _ _ _ c.pop.ensures.items c.in-Some.is in
+    record {
+      own = c.dismiss.ensures.0;
+      claimed = gathers_more c.args.pieces (length c.pop.new.self.items) (view_of c.loop-worker.own) (view_of theirs.turn) (view_of c.dismiss.new.claim) (pieces_of c.loop-worker.found.items) (pieces_of theirs.found.items) (pieces_of c.append.new.self.items)
+          (subst (λ n. IsGathered c.args.pieces n (view_of c.loop-worker.own) (pieces_of c.loop-worker.found.items)) out c.loop-worker.invariant.claimed)
+          c.dismiss.ensures.1 done.1 done.2 done.3 done.6 (pieces_of-appended _ _ _ c.in_ok-append.ensures.items);
+      workers = popped.0;
+      answered = all_appended (IsAnswered (g.W.Work.answers c.args.work.now) c.args.pieces) _ _ _ c.in_ok-append.ensures.items c.loop-worker.invariant.answered done.5;
+      states = all_pushed (g.W.Work.keeps c.args.work.now) _ _ _ c.in_ok-push.ensures.items c.loop-worker.invariant.states done.4;
+    }
+
+pub returns-clause-found : goal.returns-clause-found
+returns-clause-found g c =
+    let empty = none_left c.pop.result c.loop-worker.workers.len c.in_default.not-Some c.pop.ensures.variant in
+    let none : length c.loop-worker.workers.items ≡ 0 = omega (arith, c.loop-worker.workers.ok.0) in (
+      c.loop-worker.invariant.answered,
+      gathered c.args.pieces c.draw.result (view_of c.loop-worker.own) (view_of c.draw.new.claim) (pieces_of c.loop-worker.found.items)
+          (subst (λ n. IsGathered c.args.pieces n (view_of c.loop-worker.own) (pieces_of c.loop-worker.found.items)) none c.loop-worker.invariant.claimed) c.draw.ensures.draws,
+    )

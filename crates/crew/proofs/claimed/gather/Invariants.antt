@@ -1,0 +1,19 @@
+use Rattle.std.proofs.Common.{IfOk, length}
+use Rattle.std.specs.List.{All}
+use Rattle.crew.specs.Claims.{IsClaimAt, view_of}
+use Rattle.crew.specs.Finding.{pieces_of, IsAnswered}
+use Rattle.crew.specs.Workers.{HasClaimed}
+use Rattle.crew.proofs.Gathering.{IsGathered}
+use Rattle.crew.proofs.claimed.gather.Given as goal
+
+abbrev pub invariant-loop-worker : goal.invariant-loop-worker
+invariant-loop-worker g l = record {
+  own : IsClaimAt l.word.table_id l.own;
+  claimed : IsGathered l.pieces (length l.workers.items) (view_of l.own) (pieces_of l.found.items);
+  workers : All (λ r. IfOk r (HasClaimed (g.W.Work.keeps l.work) (g.W.Work.answers l.work) l.word.table_id l.pieces)) l.workers.items;
+  answered : All (IsAnswered (g.W.Work.answers l.work) l.pieces) l.found.items;
+  states : All (g.W.Work.keeps l.work) l.states.items;
+}
+
+abbrev pub decreases-loop-worker : goal.decreases-loop-worker
+decreases-loop-worker g l = length l.workers.items

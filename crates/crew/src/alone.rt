@@ -1,0 +1,33 @@
+//! A run of one worker, the caller.
+
+ghost use Rattle.std.specs.Prelude.{◌≤◌, IfOk};
+ghost use Rattle.std.specs.List.{All};
+ghost use Rattle.crew.specs.Pieces.{AreFound};
+
+use crate::found::Found;
+use crate::gate::Gate;
+use crate::piece::{do_piece, state_or_new};
+use crate::work::Work;
+use std::alloc::{AllocError, Global};
+
+/// Does all pieces in their order, as worker 1.
+pub(crate) fn run_alone<G: Gate, W: Work>(
+    alloc: Global,
+    gate: &G,
+    work: &W,
+    pieces: usize,
+    states: &mut Vec<W::State>,
+) -> Result<Vec<Found<W::Out>>, AllocError>
+    requires pieces { pieces ≤ W.pieces work.now }
+    requires states { All (W.keeps work.now) states.old.items }
+    ensures found { IfOk result (λ found. AreFound (W.answers work.now) pieces found.items) }
+    ensures states { All (W.keeps work.now) states.new.items }
+{
+    let mut state = state_or_new(alloc, work, states.pop())?;
+    let mut found = Vec::with_capacity(alloc, pieces)?;
+    for place in 0..pieces {
+        do_piece(alloc, gate, work, 1, place, pieces, &mut state, &mut found)?;
+    }
+    states.push(state)?;
+    Ok(found)
+}

@@ -1,0 +1,144 @@
+//! Runs in which workers claim their pieces.
+
+ghost use Rattle.std.specs.Prelude.{◌≡◌, ◌-◌, ◌*◌, ◌^◌, ◌<◌, ◌≤◌, [], length, IfOk};
+ghost use Rattle.std.specs.List.{All};
+ghost use Rattle.crew.specs.ClaimWord.{claim_view, all_rights};
+ghost use Rattle.crew.specs.Claims.{IsClaimAt, view_of, worker_rights};
+ghost use Rattle.crew.specs.Finding.{AreAll, IsAnswered};
+ghost use Rattle.crew.specs.Workers.{IsHired, HasClaimed};
+
+use crate::claim_word::{Claim, ClaimWord, dismiss, draw, hire, open_word};
+use crate::found::Found;
+use crate::gate::Gate;
+use crate::job::{Done, Job};
+use crate::piece::{do_piece, state_or_new};
+use crate::work::Work;
+use std::alloc::{AllocError, Global};
+use std::thread::{self, Threads};
+
+/// What so many workers found, who claim their pieces one by one, in any order. The caller is worker 1.
+pub(crate) fn find_claimed<R: Threads + Sync, G: Gate + Sync, W: Work + Sync>(
+    rt: &R,
+    alloc: Global,
+    gate: &G,
+    work: &W,
+    pieces: usize,
+    workers: usize,
+    states: &mut Vec<W::State>,
+) -> Result<Vec<Found<W::Out>>, AllocError>
+    requires pieces { (pieces ≤ W.pieces work.now) × (pieces ≤ 2 ^ 32) }
+    requires workers { (0 < workers) × (workers ≤ 64) }
+    requires states { All (W.keeps work.now) states.old.items }
+    ensures found { IfOk result (λ found. All (IsAnswered (W.answers work.now) pieces) found.items
+        × AreAll pieces found.items) }
+    ensures states { All (W.keeps work.now) states.new.items }
+{
+    let (table, mut own) = open_word(alloc)?;
+    let word = &table.shared;
+    let jobs = hire_all::<W>(alloc, word, &mut own, work, workers, states)?;
+    let done = thread::map_vec(
+        rt,
+        jobs,
+        &|job: Job<Claim, W::State>| -> Result<Done<Claim, W::State, W::Out>, AllocError>
+            requires { (pieces ≤ W.pieces work.now) × (pieces ≤ 2 ^ 32)
+                × IsHired (W.keeps work.now) word.now.table_id job }
+            ensures { IfOk result (HasClaimed (W.keeps work.entry.now) (W.answers work.entry.now)
+                word.entry.now.table_id pieces) }
+        { claim_pieces(alloc, word, gate, work, pieces, job) },
+    )?;
+    gather(alloc, word, own, work, pieces, done, states)
+}
+
+// The workers from the last to the first, which `map_vec` leaves to the caller.
+fn hire_all<W: Work>(
+    alloc: Global,
+    word: &ClaimWord,
+    own: &mut Claim,
+    work: &W,
+    workers: usize,
+    states: &mut Vec<W::State>,
+) -> Result<Vec<Job<Claim, W::State>>, AllocError>
+    requires workers { workers ≤ 64 }
+    requires own { IsClaimAt word.now.table_id own.old × (view_of own.old ≡ claim_view all_rights [] 0) }
+    requires states { All (W.keeps work.now) states.old.items }
+    ensures own { IfOk result (λ _. IsClaimAt word.now.table_id own.new
+        × (view_of own.new ≡ claim_view (all_rights - workers * worker_rights) [] 0)) }
+    ensures jobs { IfOk result (λ jobs. (length jobs.items ≡ workers)
+        × All (IsHired (W.keeps work.now) word.now.table_id) jobs.items) }
+    ensures states { All (W.keeps work.now) states.new.items }
+{
+    let mut jobs = Vec::with_capacity(alloc, workers)?;
+    for others in 0..workers {
+        jobs.push(Job {
+            worker: workers - others,
+            turn: hire(word, own),
+            state: states.pop(),
+        })?;
+    }
+    Ok(jobs)
+}
+
+// Does pieces as long as there are some to claim.
+fn claim_pieces<G: Gate, W: Work>(
+    alloc: Global,
+    word: &ClaimWord,
+    gate: &G,
+    work: &W,
+    pieces: usize,
+    job: Job<Claim, W::State>,
+) -> Result<Done<Claim, W::State, W::Out>, AllocError>
+    requires pieces { (pieces ≤ W.pieces work.now) × (pieces ≤ 2 ^ 32) }
+    requires job { IsHired (W.keeps work.now) word.now.table_id job }
+    ensures { IfOk result (HasClaimed (W.keeps work.now) (W.answers work.now) word.now.table_id pieces) }
+{
+    let Job {
+        worker,
+        mut turn,
+        state,
+    } = job;
+    let mut state = state_or_new(alloc, work, state)?;
+    let mut found = Vec::new(alloc);
+    let mut place = draw(word, &mut turn) as usize;
+    while place < pieces {
+        do_piece(
+            alloc, gate, work, worker, place, pieces, &mut state, &mut found,
+        )?;
+        place = draw(word, &mut turn) as usize;
+    }
+    Ok(Done { turn, state, found })
+}
+
+// What the workers found, worker by worker, once all of them are back.
+fn gather<W: Work>(
+    alloc: Global,
+    word: &ClaimWord,
+    mut own: Claim,
+    work: &W,
+    pieces: usize,
+    mut workers: Vec<Result<Done<Claim, W::State, W::Out>, AllocError>>,
+    states: &mut Vec<W::State>,
+) -> Result<Vec<Found<W::Out>>, AllocError>
+    requires workers { (0 < length workers.items) × (length workers.items ≤ 64)
+        × All (λ r. IfOk r (HasClaimed (W.keeps work.now) (W.answers work.now) word.now.table_id pieces)) workers.items }
+    requires own { IsClaimAt word.now.table_id own
+        × (view_of own ≡ claim_view (all_rights - length workers.items * worker_rights) [] 0) }
+    requires states { All (W.keeps work.now) states.old.items }
+    ensures found { IfOk result (λ found. All (IsAnswered (W.answers work.now) pieces) found.items
+        × AreAll pieces found.items) }
+    ensures states { All (W.keeps work.now) states.new.items }
+{
+    let mut found = Vec::new(alloc);
+    while let Some(worker) = workers.pop() {
+        let Done {
+            turn,
+            state,
+            found: mut theirs,
+        } = worker?;
+        dismiss(word, &mut own, turn);
+        states.push(state)?;
+        found.append(&mut theirs)?;
+    }
+    // Who has all rights learns by a claim that all numbers below it were claimed.
+    draw(word, &mut own);
+    Ok(found)
+}

@@ -1,0 +1,44 @@
+//! Workers that do the pieces of some work, each in a thread of its own.
+//!
+//! [`run_pieces`] has the pieces 1 to n of a [`Work`] done by 1 to 64 workers, of whom the caller is the
+//! first, and gives one [`Found`] for each piece, in the order of the pieces, with the work's answer for
+//! its number. A contract sees a work as what it may answer for each piece, so the answer is the same
+//! however the pieces fall to the workers. A worker keeps a state from piece to piece, so that it takes
+//! its memory once; the states go back to the caller, for the next run.
+//!
+//! By [`Share::Claimed`] the workers draw the places of their pieces from one word, the claim word, by
+//! steps of one kind, a `fetch_add` of 1. `specs/ClaimWord.antt` has its rule: every number below the
+//! word was claimed by one worker, once, and by no other. Each worker has a part of the rights to claim;
+//! once all parts are back with the caller, it knows that no number was left out. By [`Share::Fixed`]
+//! the pieces go round the workers in turn.
+//!
+//! The starts go by halves, each half on a thread of its own, and where no thread can be started its half
+//! is done by the thread that wanted it. What the workers found is put at the places of the pieces
+//! afterwards, in time `O(n)`. A [`Gate`] is told of each piece before it is done. [`workers_for`] says
+//! how many workers are worth their threads.
+//!
+//! The engines stand on this crate.
+#![tactic(auto)]
+
+mod alone;
+mod claim_word;
+mod claimed;
+mod error;
+mod fixed;
+mod found;
+mod gate;
+mod in_order;
+mod job;
+mod piece;
+mod run;
+mod share;
+mod work;
+mod workers;
+
+pub use error::CrewError;
+pub use found::Found;
+pub use gate::{Gate, Open};
+pub use run::run_pieces;
+pub use share::Share;
+pub use work::Work;
+pub use workers::workers_for;

@@ -1,0 +1,47 @@
+//! One piece, done by a worker.
+
+ghost use Rattle.std.specs.Prelude.{◌+◌, ◌<◌, ◌≤◌, IfOk, IfSome};
+ghost use Rattle.crew.specs.Finding.{HasAdded};
+
+use crate::found::Found;
+use crate::gate::Gate;
+use crate::work::Work;
+use std::alloc::{AllocError, Global};
+
+/// The state that a worker was given, or a new one.
+pub(crate) fn state_or_new<W: Work>(
+    alloc: Global,
+    work: &W,
+    state: Option<W::State>,
+) -> Result<W::State, AllocError>
+    requires { IfSome state (W.keeps work.now) }
+    ensures { IfOk result (W.keeps work.now) }
+{
+    match state {
+        Some(state) => Ok(state),
+        None => work.state(alloc),
+    }
+}
+
+/// Does the piece at a place, counted from 0, and adds it to what the worker found.
+pub(crate) fn do_piece<G: Gate, W: Work>(
+    alloc: Global,
+    gate: &G,
+    work: &W,
+    worker: usize,
+    place: usize,
+    pieces: usize,
+    state: &mut W::State,
+    found: &mut Vec<Found<W::Out>>,
+) -> Result<(), AllocError>
+    requires place { (place < pieces) × (pieces ≤ W.pieces work.now) }
+    requires state { W.keeps work.now state.old }
+    ensures state { IfOk result (λ _. W.keeps work.now state.new) }
+    ensures found { IfOk result (λ _. HasAdded (W.answers work.now) (place + 1) found.old.items found.new.items) }
+{
+    let piece = place + 1;
+    gate.enter(worker, piece, pieces);
+    let out = work.piece(alloc, state, piece)?;
+    found.push(Found { piece, out })?;
+    Ok(())
+}

@@ -1,0 +1,64 @@
+//! Runs of pieces.
+
+ghost use Rattle.std.specs.Prelude.{◌^◌, ◌≤◌};
+ghost use Rattle.std.specs.List.{All};
+ghost use Rattle.crew.specs.Outcome.{Finds};
+
+use crate::alone::run_alone;
+use crate::claimed::find_claimed;
+use crate::error::CrewError;
+use crate::fixed::find_fixed;
+use crate::found::Found;
+use crate::gate::Gate;
+use crate::in_order::in_order;
+use crate::share::Share;
+use crate::work::Work;
+use crate::workers::is_crew;
+use std::alloc::Global;
+use std::thread::Threads;
+
+/// What the work answers for each of its pieces 1 to `pieces`, in the order of the pieces, found by so
+/// many workers, 1 to 64, of whom the caller is worker 1. The answer is the same however the pieces
+/// fall to the workers. `gate` is told of each piece before it is done.
+///
+/// A worker takes its state from the end of `states`, or asks the work for a new one where there is
+/// none left; after the run the states of all workers are in `states`, so that the next run needs no
+/// new ones. After an error some are lost.
+///
+/// One worker, or one piece, starts no thread; else as many threads are started as there are workers
+/// beside the caller, but no more than there are pieces beside one. Where a thread cannot be started,
+/// others do what its worker would have done. The answer takes `O(pieces + workers)` beside the work.
+///
+/// Errors: `BadWorkers` where the number of workers is not 1 to 64, else `NoMemory`, also where a piece
+/// or a new state is out of memory.
+pub fn run_pieces<R: Threads + Sync, G: Gate + Sync, W: Work + Sync>(
+    rt: &R,
+    alloc: Global,
+    pieces: usize,
+    workers: usize,
+    share: Share,
+    gate: &G,
+    work: &W,
+    states: &mut Vec<W::State>,
+) -> Result<Vec<Found<W::Out>>, CrewError>
+    requires pieces { (pieces ≤ W.pieces work.now) × (pieces ≤ 2 ^ 32) }
+    requires states { All (W.keeps work.now) states.old.items }
+    ensures found { Finds (W.answers work.now) pieces workers result }
+    ensures states { All (W.keeps work.now) states.new.items }
+{
+    if !is_crew(workers) {
+        return Err(CrewError::BadWorkers);
+    }
+    if pieces == 0 {
+        return Ok(Vec::new(alloc));
+    }
+    let workers = workers.min(pieces);
+    if workers == 1 {
+        return Ok(run_alone(alloc, gate, work, pieces, states)?);
+    }
+    let found = match share {
+        Share::Claimed => find_claimed(rt, alloc, gate, work, pieces, workers, states)?,
+        Share::Fixed => find_fixed(rt, alloc, gate, work, pieces, workers, states)?,
+    };
+    Ok(in_order(alloc, found, pieces)?)
+}
