@@ -23,6 +23,9 @@ pub(crate) fn run_alone<G: Gate, W: Work>(
     ensures found { IfOk result (λ found. AreFound (W.answers work.now) pieces found.items) }
     ensures states { All (W.keeps work.now) states.new.items }
 {
+    if pieces == 0 {
+        return Ok(Vec::new(alloc));
+    }
     let mut state = state_or_new(alloc, work, states.pop())?;
     let mut found = Vec::with_capacity(alloc, pieces)?;
     for place in 0..pieces {

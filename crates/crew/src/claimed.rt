@@ -10,7 +10,7 @@ ghost use Rattle.crew.specs.Workers.{IsHired, HasClaimed};
 use crate::claim_word::{Claim, ClaimWord, dismiss, draw, hire, open_word};
 use crate::found::Found;
 use crate::gate::Gate;
-use crate::job::{Done, Job};
+use crate::job::{Done, Job, bring_back};
 use crate::piece::{do_piece, state_or_new};
 use crate::work::Work;
 use std::alloc::{AllocError, Global};
@@ -132,11 +132,10 @@ fn gather<W: Work>(
         let Done {
             turn,
             state,
-            found: mut theirs,
+            found: theirs,
         } = worker?;
         dismiss(word, &mut own, turn);
-        states.push(state)?;
-        found.append(&mut theirs)?;
+        bring_back(state, theirs, states, &mut found)?;
     }
     // Who has all rights learns by a claim that all numbers below it were claimed.
     draw(word, &mut own);

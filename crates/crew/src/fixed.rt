@@ -7,7 +7,7 @@ ghost use Rattle.crew.specs.Workers.{AreNumbered, IsNumbered, HasEvery, HaveEver
 
 use crate::found::Found;
 use crate::gate::Gate;
-use crate::job::{Done, Job};
+use crate::job::{Done, Job, bring_back};
 use crate::piece::{do_piece, state_or_new};
 use crate::work::Work;
 use std::alloc::{AllocError, Global};
@@ -122,10 +122,9 @@ fn gather<W: Work>(
         let Done {
             turn: _,
             state,
-            found: mut theirs,
+            found: theirs,
         } = worker?;
-        states.push(state)?;
-        found.append(&mut theirs)?;
+        bring_back(state, theirs, states, &mut found)?;
     }
     Ok(found)
 }

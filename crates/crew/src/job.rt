@@ -1,6 +1,9 @@
 //! What a worker gets as it starts, and what it brings back.
 
+ghost use Rattle.std.specs.Prelude.{◌≡◌, [], ◌∷◌, ◌++◌, IfOk, IfErr};
+
 use crate::found::Found;
+use std::alloc::AllocError;
 
 /// A worker that is to start: its number from 1, where its pieces come from, and a state that an
 /// earlier run left.
@@ -17,4 +20,21 @@ pub(crate) struct Done<T, S, O> {
     pub turn: T,
     pub state: S,
     pub found: Vec<Found<O>>,
+}
+
+/// Puts what a worker found behind what others found, and its state to theirs, which stay as they were
+/// where there is no memory.
+pub(crate) fn bring_back<S: Drop, O: Drop>(
+    state: S,
+    mut theirs: Vec<Found<O>>,
+    states: &mut Vec<S>,
+    found: &mut Vec<Found<O>>,
+) -> Result<(), AllocError>
+    ensures found { IfOk result (λ _. found.new.items ≡ found.old.items ++ theirs.items) }
+    ensures states { IfOk result (λ _. states.new.items ≡ states.old.items ++ state ∷ []) }
+    ensures err { IfErr result (λ _. states.new.items ≡ states.old.items) }
+{
+    found.append(&mut theirs)?;
+    states.push(state)?;
+    Ok(())
 }

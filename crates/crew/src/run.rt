@@ -1,8 +1,9 @@
 //! Runs of pieces.
 
-ghost use Rattle.std.specs.Prelude.{◌^◌, ◌≤◌};
+ghost use Rattle.std.specs.Prelude.{◌^◌, ◌<◌, ◌≤◌, IfOk};
 ghost use Rattle.std.specs.List.{All};
 ghost use Rattle.crew.specs.Outcome.{Finds};
+ghost use Rattle.crew.specs.Pieces.{AreFound};
 
 use crate::alone::run_alone;
 use crate::claimed::find_claimed;
@@ -14,7 +15,7 @@ use crate::in_order::in_order;
 use crate::share::Share;
 use crate::work::Work;
 use crate::workers::is_crew;
-use std::alloc::Global;
+use std::alloc::{AllocError, Global};
 use std::thread::Threads;
 
 /// What the work answers for each of its pieces 1 to `pieces`, in the order of the pieces, found by so
@@ -49,16 +50,32 @@ pub fn run_pieces<R: Threads + Sync, G: Gate + Sync, W: Work + Sync>(
     if !is_crew(workers) {
         return Err(CrewError::BadWorkers);
     }
-    if pieces == 0 {
-        return Ok(Vec::new(alloc));
-    }
     let workers = workers.min(pieces);
-    if workers == 1 {
+    if workers <= 1 {
         return Ok(run_alone(alloc, gate, work, pieces, states)?);
     }
+    Ok(run_together(rt, alloc, pieces, workers, share, gate, work, states)?)
+}
+
+fn run_together<R: Threads + Sync, G: Gate + Sync, W: Work + Sync>(
+    rt: &R,
+    alloc: Global,
+    pieces: usize,
+    workers: usize,
+    share: Share,
+    gate: &G,
+    work: &W,
+    states: &mut Vec<W::State>,
+) -> Result<Vec<Found<W::Out>>, AllocError>
+    requires pieces { (pieces ≤ W.pieces work.now) × (pieces ≤ 2 ^ 32) }
+    requires workers { (0 < workers) × (workers ≤ 64) }
+    requires states { All (W.keeps work.now) states.old.items }
+    ensures found { IfOk result (λ found. AreFound (W.answers work.now) pieces found.items) }
+    ensures states { All (W.keeps work.now) states.new.items }
+{
     let found = match share {
         Share::Claimed => find_claimed(rt, alloc, gate, work, pieces, workers, states)?,
         Share::Fixed => find_fixed(rt, alloc, gate, work, pieces, workers, states)?,
     };
-    Ok(in_order(alloc, found, pieces)?)
+    in_order(alloc, found, pieces)
 }

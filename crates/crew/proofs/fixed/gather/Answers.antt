@@ -7,17 +7,6 @@ use Rattle.crew.proofs.Findings.{all_pushed, all_appended, length_popped, pieces
 use Rattle.crew.proofs.Turns.{each_popped, last_popped, every_gathered}
 use Rattle.crew.proofs.fixed.gather.Goals as goal
 
-pub returns-in_err-append-clause-states : goal.returns-in_err-append-clause-states
-returns-in_err-append-clause-states g c =
-    let n = length c.args.workers.items in
-    let keeps = g.W.Work.keeps c.args.work.now in
-    let answers = g.W.Work.answers c.args.work.now in
-    let out = length c.pop.new.self.items in
-    let one = length_popped _ _ _ _ c.pop.ensures.items c.in-Some.is in
-    let last = last_popped (GivesEvery keeps answers c.args.pieces n) _ _ _ _ c.pop.ensures.items c.in-Some.is c.loop-worker.invariant.workers in
-    let some = IfOk-at_ok (HasEvery keeps answers c.args.pieces n (n - out)) c.in_ok-state.was (last (n - out) (let most = c.loop-worker.invariant.out in omega arith)) in
-    all_pushed keeps _ _ _ c.in_ok-push.ensures.items c.loop-worker.invariant.states some.0
-
 pub loop-worker-preserved : goal.loop-worker-preserved
 loop-worker-preserved g c =
     let n = length c.args.workers.items in
@@ -33,10 +22,10 @@ loop-worker-preserved g c =
     record {
       workers = each_popped (GivesEvery keeps answers c.args.pieces n) _ _ _ c.pop.ensures.items c.loop-worker.invariant.workers;
       out = (let most = c.loop-worker.invariant.out in omega arith);
-      answered = all_appended (IsAnswered answers c.args.pieces) _ _ _ c.in_ok-append.ensures.items c.loop-worker.invariant.answered some.1;
-      every = every_gathered n out c.args.pieces (pieces_of c.loop-worker.found.items) (pieces_of theirs.found.items) (pieces_of c.append.new.self.items)
-          (pieces_of-appended _ _ _ c.in_ok-append.ensures.items)
+      answered = all_appended (IsAnswered answers c.args.pieces) _ _ _ c.in_ok-bring_back.ensures.found c.loop-worker.invariant.answered some.1;
+      every = every_gathered n out c.args.pieces (pieces_of c.loop-worker.found.items) (pieces_of theirs.found.items) (pieces_of c.bring_back.new.found.items)
+          (pieces_of-appended _ _ _ c.in_ok-bring_back.ensures.found)
           (subst (λ m. (j : ℕ) → j < c.args.pieces → j % n + m < n → 0 < times (j + 1) (pieces_of c.loop-worker.found.items)) one c.loop-worker.invariant.every)
           (λ worker is. (done worker is).2);
-      states = all_pushed keeps _ _ _ c.in_ok-push.ensures.items c.loop-worker.invariant.states some.0;
+      states = all_pushed keeps _ _ _ c.in_ok-bring_back.ensures.states c.loop-worker.invariant.states some.0;
     }
