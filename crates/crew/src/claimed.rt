@@ -49,7 +49,8 @@ pub(crate) fn find_claimed<R: Threads + Sync, G: Gate + Sync, W: Work + Sync>(
     gather(alloc, word, own, work, pieces, done, states)
 }
 
-// The workers from the last to the first, which `map_vec` leaves to the caller.
+// The workers from the last to the first, which `map_vec` leaves to the caller. `work` says what their
+// states keep.
 fn hire_all<W: Work>(
     alloc: Global,
     word: &ClaimWord,
@@ -108,7 +109,7 @@ fn claim_pieces<G: Gate, W: Work>(
     Ok(Done { turn, state, found })
 }
 
-// What the workers found, worker by worker, once all of them are back.
+// What the workers found, worker by worker, once all of them are back. `work` says what it answers.
 fn gather<W: Work>(
     alloc: Global,
     word: &ClaimWord,

@@ -1,6 +1,6 @@
 //! Runs in which each worker has its pieces from the start.
 
-ghost use Rattle.std.specs.Prelude.{◌≡◌, ℕ, ◌-◌, ◌^◌, ◌<◌, ◌≤◌, length, IfOk, slice_get, Some};
+ghost use Rattle.std.specs.Prelude.{◌≡◌, ◌^◌, ◌<◌, ◌≤◌, length, IfOk};
 ghost use Rattle.std.specs.List.{All};
 ghost use Rattle.crew.specs.Finding.{AreAll, IsAnswered};
 ghost use Rattle.crew.specs.Workers.{AreNumbered, IsNumbered, HasEvery, HaveEvery};
@@ -44,7 +44,8 @@ pub(crate) fn find_fixed<R: Threads + Sync, G: Gate + Sync, W: Work + Sync>(
     gather(alloc, work, pieces, done, states)
 }
 
-// The workers from the last to the first, which `map_vec` leaves to the caller.
+// The workers from the last to the first, which `map_vec` leaves to the caller. `work` says what their
+// states keep.
 fn number_all<W: Work>(
     alloc: Global,
     work: &W,
@@ -102,7 +103,7 @@ fn fixed_pieces<G: Gate, W: Work>(
     })
 }
 
-// What the workers found, worker by worker.
+// What the workers found, worker by worker. `work` says what it answers.
 fn gather<W: Work>(
     alloc: Global,
     work: &W,

@@ -17,7 +17,7 @@
 //! afterwards, in time `O(n)`. A [`Gate`] is told of each piece before it is done. [`workers_for`] says
 //! how many workers are worth their threads.
 //!
-//! The engines stand on this crate.
+//! It is made for the engines, which do an apply in pieces. It stands on none of the other crates.
 #![tactic(auto)]
 
 mod alone;

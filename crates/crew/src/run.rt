@@ -57,6 +57,7 @@ pub fn run_pieces<R: Threads + Sync, G: Gate + Sync, W: Work + Sync>(
     Ok(run_together(rt, alloc, pieces, workers, share, gate, work, states)?)
 }
 
+// A run of two workers or more.
 fn run_together<R: Threads + Sync, G: Gate + Sync, W: Work + Sync>(
     rt: &R,
     alloc: Global,
