@@ -6,6 +6,7 @@
 //! and no more. Nothing stands on this crate.
 #![tactic(auto)]
 
+mod crew_runs;
 mod ctrees;
 mod lexing;
 mod outcome;
@@ -34,7 +35,7 @@ fn main(rt: HostRuntime) -> io::Result<ExitCode> {
         return Ok(ExitCode::SUCCESS);
     }
     eprintln!(rt;
-        "usage: bench [--time scripts|lexer|parser|tails|trees|ctrees|sets | --script ADDS]"
+        "usage: bench [--time scripts|lexer|parser|tails|trees|ctrees|sets|crew | --script ADDS]"
     )?;
     Ok(ExitCode::from(2))
 }
@@ -66,6 +67,7 @@ fn print_times<R: Print + AllocGlobal + Clock + Threads + Sync>(
         "trees" => trees::print_times(rt),
         "ctrees" => ctrees::print_times(rt),
         "sets" => sets::print_times(rt),
+        "crew" => crew_runs::print_times(rt),
         _ => Err(Error::other("nothing of this name is timed")),
     }
 }

@@ -8,6 +8,8 @@
 #[cfg(test)]
 mod chunked_sets;
 #[cfg(test)]
+mod crew_runs;
+#[cfg(test)]
 mod device_calls;
 #[cfg(test)]
 mod forked_sets;
