@@ -2,12 +2,12 @@
 
 use crate::lexing::print_lexer;
 use crate::timing::{TURNS, Times, print_head, print_row};
-use syntax::{Declaration, Source};
 use std::alloc::{AllocError, Global};
 use std::io;
 use std::io::Error;
 use std::rt::Clock;
 use std::time::Instant;
+use syntax::{Declaration, Source};
 
 // The sources that are timed have at least so many bytes.
 const SHORT: usize = 100_000;
