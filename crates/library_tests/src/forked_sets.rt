@@ -10,14 +10,14 @@ const MOST_TRIES: u32 = 100_000_000;
 
 // Holds each half of level 1 until the other is entered.
 #[derive(Drop)]
-struct Meeting {
+pub(crate) struct Meeting {
     below: AtomicBool,
     above: AtomicBool,
     missed: AtomicBool,
 }
 
 impl Meeting {
-    fn new() -> Meeting {
+    pub(crate) fn new() -> Meeting {
         Meeting {
             below: AtomicBool::new(false),
             above: AtomicBool::new(false),
@@ -26,7 +26,7 @@ impl Meeting {
     }
 
     // Whether both halves were entered, each while the other was held.
-    fn took_place(&self) -> bool {
+    pub(crate) fn took_place(&self) -> bool {
         let entered = self.below.load(Ordering::SeqCst) && self.above.load(Ordering::SeqCst);
         entered && !self.missed.load(Ordering::SeqCst)
     }

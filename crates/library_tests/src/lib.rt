@@ -12,6 +12,8 @@ mod crew_runs;
 #[cfg(test)]
 mod device_calls;
 #[cfg(test)]
+mod forked_graphs;
+#[cfg(test)]
 mod forked_sets;
 #[cfg(test)]
 mod script_devices;

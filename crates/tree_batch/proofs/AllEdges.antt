@@ -1,10 +1,10 @@
 -- The edges that a graph may have, and those of them that pass a test.
-use Rattle.std.proofs.Common.{◌≡◌, ℕ, zero, suc, ◌+◌, ◌*◌, ◌^◌, ◌<◌, ◌≤◌, leb, Bool, true, false, ◌&&◌, Option, Some, None, unwrap_or, inl, inr, List, [], ◌∷◌, refl, sym, ap, ◌∙◌, subst, arith}
+use Rattle.std.proofs.Common.{◌≡◌, ℕ, zero, suc, ◌+◌, ◌*◌, ◌^◌, ◌<◌, ◌≤◌, leb, Bool, true, false, ◌&&◌, Option, Some, None, inl, inr, List, [], ◌∷◌, refl, sym, ap, ◌∙◌, subst, arith}
 use Rattle.std.proofs.lemmas.Bool.{cases_Bool, cases_lt, and_parts, or_left, or_right, leb-true}
 use Rattle.std.specs.List.{filter, flat_map}
 use Rattle.tree_batch.specs.declared.batch.Entry.{Entry}
 use Rattle.tree_batch.specs.Edge.{Edge, place, edge_eq, has_edge, Rises, IsAscending, IsWithin, numbers_from, edges_from, all_edges}
-use Rattle.tree_batch.specs.Entry.{decision, is_edge_after, names_outside, AreEdgesAfter, SameDecisions}
+use Rattle.tree_batch.specs.Entry.{decision, is_edge_after, names_outside, AreEdgesAfter}
 use Rattle.tree_batch.specs.Digraph.{Digraph, IsDigraph, is_vertex_count, graph_after}
 use Rattle.tree_batch.proofs.Rising.{edge_eq-refl, edge_eq-true, has_edge-append, rises_from, rises_wider, rises_joined, same_edges}
 use Rattle.tree_batch.proofs.Deciding.{decided_within}
@@ -28,6 +28,10 @@ rises_rows n u (suc k) fits =
     rises_joined (u * 2 ^ 32) ((u + 1) * 2 ^ 32) ((u + suc k) * 2 ^ 32) (edges_from u (numbers_from 0 n)) (rows n (u + 1) k)
     (rises_from (place (u, 0)) (u * 2 ^ 32) ((u + 1) * 2 ^ 32) _ (omega arith) (rises_wider (place (u, 0)) (place (u, 0) + n) ((u + 1) * 2 ^ 32) _ (omega arith) (rises_row u 0 n (omega arith))))
     (rises_wider ((u + 1) * 2 ^ 32) ((u + 1 + k) * 2 ^ 32) ((u + suc k) * 2 ^ 32) _ (omega arith) (rises_rows n (u + 1) k fits))
+
+pub rises_below : (n : ℕ) → n ≤ 2 ^ 32 → Rises 0 (n * 2 ^ 32) (all_edges n)
+unfolding all_edges
+rises_below n fits = rises_wider 0 ((0 + n) * 2 ^ 32) (n * 2 ^ 32) (rows n 0 n) (omega arith) (rises_rows n 0 n fits)
 
 pub rises_all : (n : ℕ) → n ≤ 2 ^ 32 → IsAscending (all_edges n)
 unfolding all_edges
@@ -107,11 +111,4 @@ digraph_after g batch new ok inside are = record {
   count = ok.count;
   ascending = are.ascending;
   within = λ e there. after_within g batch e ok inside (sym (are.members e) ∙ there);
-}
-
--- batches that decide alike have the same edges after them
-pub after_same_decisions : (edges : List Edge) (xs ys : List Entry) (new : List Edge) → SameDecisions xs ys → AreEdgesAfter edges ys new → AreEdgesAfter edges xs new
-after_same_decisions edges xs ys new same are = record {
-  ascending = are.ascending;
-  members = λ e. are.members e ∙ ap (λ o. unwrap_or o (has_edge edges e)) (same e);
 }

@@ -1,4 +1,10 @@
 pub mod Rising
-pub mod Merging
 pub mod AllEdges
 pub mod Deciding
+pub mod SetMembers
+pub mod Parting
+pub mod Decided
+pub mod Adjacency
+pub mod Columns
+pub mod Neighbourhoods
+pub mod Crossing

@@ -1,11 +1,7 @@
 -- Edges that rise, what is among them, and that their members determine them.
-use Rattle.std.proofs.Common.{◌≡◌, ℕ, zero, suc, length, slice_index_or, Result, Ok, Err, is_ok, ◌+◌, ◌^◌, ◌<◌, ◌≤◌, ◌==◌, true, false, ◌||◌, inl, inr, List, [], ◌∷◌, ◌++◌, refl, sym, ap, ◌∙◌, subst, arith}
-use Rattle.std.proofs.lemmas.Bool.{false≢true, true≢false, cases_Bool, cases_lt, and_parts, and_from, or_from, eqb-true, eq-eqb, false_from_ne_true, or_right}
-use Rattle.std.proofs.lemmas.Bool.Decides.{nat_tests}
-use Rattle.std.proofs.lemmas.Cmp.{ranked}
-use Rattle.std.specs.List.Sorted.{IsSearchInRange, IsBinarySearchResult, IsNonDecreasingBy}
-use Rattle.std.specs.Ordering.{nat_cmp, ordering_index}
-use Rattle.tree_batch.specs.Edge.{Edge, place, edge_eq, has_edge, Rises, IsAscending}
+use Rattle.std.proofs.Common.{◌≡◌, ℕ, ◌+◌, ◌^◌, ◌<◌, ◌≤◌, ◌==◌, true, false, ◌||◌, inl, inr, List, [], ◌∷◌, ◌++◌, refl, sym, ap, ◌∙◌, subst, arith}
+use Rattle.std.proofs.lemmas.Bool.{false≢true, true≢false, cases_Bool, cases_lt, and_parts, and_from, or_from, eqb-true, eq-eqb, false_from_ne_true}
+use Rattle.tree_batch.specs.Edge.{Edge, place, edge_eq, has_edge, Rises}
 
 pub edge_eq-refl : (e : Edge) → edge_eq e e ≡ true
 edge_eq-refl e = and_from _ _ (eq-eqb e.0 e.0 refl) (eq-eqb e.1 e.1 refl)
@@ -101,51 +97,3 @@ same_edges low lower high higher (x ∷ xs) (y ∷ ys) h k same =
     let same_x : Same x = subst Same (sym is) same in
     let rises_y : Rises (place x + 1) higher ys = subst (λ (z : Edge). Rises (place z + 1) higher ys) (sym is) k.2 in
     λ i. is i ∷ same_edges (place x + 1) (place x + 1) high higher xs ys h.2 rises_y (same_rest x xs ys high higher h.2 rises_y same_x) i
-
-place_at_least : (low high : ℕ) (xs : List Edge) (j : ℕ) (d : Edge) → Rises low high xs → j < length xs → low ≤ place (slice_index_or xs j d)
-place_at_least low high [] j d h in_range = absurd (omega arith)
-place_at_least low high (x ∷ xs) zero d h in_range = h.0
-place_at_least low high (x ∷ xs) (suc j) d h in_range = omega (arith, h.0, place_at_least (place x + 1) high xs j d h.2 (omega arith))
-
--- places rise along the list
-pub place_rises : (low high : ℕ) (xs : List Edge) (i j : ℕ) (d : Edge) → Rises low high xs → i < j → j < length xs → place (slice_index_or xs i d) < place (slice_index_or xs j d)
-place_rises low high [] i j d h lt in_range = absurd (omega arith)
-place_rises low high (x ∷ xs) i zero d h lt in_range = absurd (omega arith)
-place_rises low high (x ∷ xs) zero (suc j) d h lt in_range = omega (arith, place_at_least (place x + 1) high xs j d h.2 (omega arith))
-place_rises low high (x ∷ xs) (suc i) (suc j) d h lt in_range = place_rises (place x + 1) high xs i j d h.2 (omega arith) (omega arith)
-
--- an edge at a place of the list is there
-pub has_edge-at : (xs : List Edge) (i : ℕ) (d e : Edge) → i < length xs → slice_index_or xs i d ≡ e → has_edge xs e ≡ true
-has_edge-at [] i d e in_range is = absurd (omega arith)
-has_edge-at (x ∷ xs) zero d e in_range is = rw (← is) (has_edge-head x xs)
-has_edge-at (x ∷ xs) (suc i) d e in_range is = or_right (edge_eq x e) _ (has_edge-at xs i d e (omega arith) is)
-
--- an edge at no place of the list is not
-pub has_edge-nowhere : (xs : List Edge) (d e : Edge) → ((k : ℕ) → k < length xs → place (slice_index_or xs k d) ≡ place e → ⊥) → has_edge xs e ≡ false
-has_edge-nowhere [] d e nowhere = refl
-has_edge-nowhere (x ∷ xs) d e nowhere = or_from _ _ (edge_eq-apart x e (nowhere 0 (omega arith))) (has_edge-nowhere xs d e (λ k lt. nowhere (suc k) (omega arith)))
-
-small_at : (low high : ℕ) (xs : List Edge) (i : ℕ) (d : Edge) → Rises low high xs → i < length xs → (slice_index_or xs i d).1 < 2 ^ 32
-small_at low high [] i d h in_range = absurd (omega arith)
-small_at low high (x ∷ xs) zero d h in_range = h.1
-small_at low high (x ∷ xs) (suc i) d h in_range = small_at (place x + 1) high xs i d h.2 (omega arith)
-
-module _ (xs : List Edge) (ascending : IsAscending xs) (e : Edge) (small : e.1 < 2 ^ 32) where
-  -- the comparisons with e's place rise along the list, as a binary search asks
-  comparisons_rise : IsNonDecreasingBy (λ x. ordering_index (nat_cmp (place x) (place e))) xs
-  comparisons_rise i j d le in_range =
-      let rise : i < j → place (slice_index_or xs i d) < place (slice_index_or xs j d) = λ lt. place_rises 0 (2 ^ 64) xs i j d ascending lt in_range in
-      let same : i ≡ j → place (slice_index_or xs i d) ≡ place (slice_index_or xs j d) = λ is. ap (λ k. place (slice_index_or xs k d)) is in
-      grind (arith, nat_tests)
-
-  -- a binary search by place finds an edge exactly where it is there
-  pub searched : (r : Result ℕ ℕ) → IsSearchInRange r (length xs) → IsBinarySearchResult (λ x. nat_cmp (place x) (place e)) xs r → is_ok r ≡ has_edge xs e
-  searched (Ok at) in_range equal =
-      let d : Edge = (0, 0) in
-      sym (has_edge-at xs at d e in_range (same_place (slice_index_or xs at d) e (small_at 0 (2 ^ 64) xs at d ascending in_range) small (ranked _ _ _ (sym (equal d)))))
-  searched (Err at) in_range parted =
-      let d : Edge = (0, 0) in
-      sym (has_edge-nowhere xs d e (λ k lt same. elim (cases_lt k at) [
-        | inl before ↦ let less : place (slice_index_or xs k d) < place e = ranked _ _ _ (sym ((parted comparisons_rise).0 k d (omega arith) before)) in omega arith
-        | inr after ↦ let more : place e < place (slice_index_or xs k d) = ranked _ _ _ (sym ((parted comparisons_rise).1 k d after lt)) in omega arith
-      ]))

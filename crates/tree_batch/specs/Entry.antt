@@ -1,10 +1,10 @@
 -- What the entries of a batch say of edges.
-use Rattle.std.specs.Prelude.{◌≡◌, ℕ, nat_le, Bool, true, false, ◌||◌, Option, Some, None, unwrap_or, if◌then◌else◌, List, [], ◌∷◌}
+use Rattle.std.specs.Prelude.{◌≡◌, ◌≢◌, ℕ, nat_le, Bool, true, false, ◌||◌, Option, Some, None, unwrap_or, if◌then◌else◌, List, [], ◌∷◌}
 use Rattle.std.specs.Option.{option_or}
 use Rattle.std.specs.List.{list_any}
 use Rattle.tree_batch.specs.declared.batch.Entry.{Entry}
 use Rattle.tree_batch.specs.declared.batch.Entry.TheVariants.{Add, Remove}
-use Rattle.tree_batch.specs.Edge.{Edge, place, edge_eq, has_edge, IsAscending}
+use Rattle.tree_batch.specs.Edge.{Edge, edge_eq, has_edge, IsAscending}
 
 -- the edge that an entry names
 abbrev pub edge_of : Entry → Edge
@@ -15,10 +15,6 @@ edge_of (Remove u v) = (u, v)
 abbrev pub is_add : Entry → Bool
 is_add (Add u v) = true
 is_add (Remove u v) = false
-
--- where an entry's edge stands in the order of edges
-abbrev pub entry_place : Entry → ℕ
-entry_place x = place (edge_of x)
 
 -- whether an end of the entry's edge is no vertex of n
 abbrev pub entry_names_outside : ℕ → Entry → Bool
@@ -41,9 +37,10 @@ decision (x ∷ xs) e = option_or (decision xs e) (entry_decision x e)
 abbrev pub is_edge_after : List Edge → List Entry → Edge → Bool
 is_edge_after edges batch e = unwrap_or (decision batch e) (has_edge edges e)
 
--- the two batches decide alike
-abbrev pub SameDecisions : List Entry → List Entry → Type 0
-SameDecisions xs ys = (e : Edge) → decision ys e ≡ decision xs e
+-- no entry names the edge
+abbrev pub NoneNames : Edge → List Entry → Type 0
+NoneNames e [] = Unit {0}
+NoneNames e (x ∷ xs) = (edge_of x ≢ e) × NoneNames e xs
 
 -- new is the edges after the batch, in order
 pub record AreEdgesAfter (edges : List Edge) (batch : List Entry) (new : List Edge) : Type 0 where

@@ -1,6 +1,10 @@
 pub mod Edge
 pub mod Entry
 pub mod Digraph
-pub mod Merge
+pub mod Decision
+pub mod Run
+pub mod Runs
+pub mod Neighbours
+pub mod Forking
 pub mod Outcome
 pub mod Refusal

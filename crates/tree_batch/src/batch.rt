@@ -1,11 +1,8 @@
-ghost use Rattle.std.specs.Prelude.{◌≡◌, ◌++◌, [], ◌∷◌, IfOk, IfErr, OnOk, OnErr};
-ghost use Rattle.std.specs.List.Sorted.{IsNonDecreasingBy};
+ghost use Rattle.std.specs.Prelude.{◌≡◌, ◌++◌, [], ◌∷◌, IfErr, OnOk, OnErr};
 ghost use Rattle.tree_batch.specs.declared.error.GraphError.TheVariants.{NoMemory};
-ghost use Rattle.tree_batch.specs.Edge.{place};
-ghost use Rattle.tree_batch.specs.Entry.{edge_of, names_outside, entry_names_outside, entry_place, SameDecisions};
+ghost use Rattle.tree_batch.specs.Entry.{edge_of, names_outside, entry_names_outside};
 
 use crate::error::GraphError;
-use crate::merge::place;
 use std::alloc::{AllocError, Global};
 use std::marker::Model;
 
@@ -34,12 +31,6 @@ impl Entry {
     {
         let (source, destination) = self.edge();
         source >= vertices || destination >= vertices
-    }
-
-    fn place(self) -> u64
-        ensures { result ≡ entry_place self }
-    {
-        place(self.edge())
     }
 }
 
@@ -104,15 +95,5 @@ impl Batch {
         self.entries
             .iter()
             .any(|entry| entry.names_outside(vertices))
-    }
-
-    /// The entries in the order of their edges. Entries that name one edge keep their order.
-    pub(crate) fn sorted(&self, alloc: Global) -> Result<Vec<Entry>, AllocError>
-        ensures sorted { IfOk result (λ v. IsNonDecreasingBy entry_place v.items) }
-        ensures decisions { IfOk result (λ v. SameDecisions self.now v.items) }
-    {
-        let mut entries = Vec::from_slice(alloc, &self.entries)?;
-        entries.sort_by_key(|entry| entry.place())?;
-        Ok(entries)
     }
 }

@@ -1,67 +1,95 @@
-ghost use Rattle.std.specs.Prelude.{◌≡◌, length, List, unwrap_or};
-ghost use Rattle.std.specs.Iterator.{YieldsFirst, item_count};
-ghost use Rattle.tree_batch.specs.declared.batch.Entry.{Entry};
-ghost use Rattle.tree_batch.specs.Edge.{Edge, has_edge, IsWithin, IsAscending};
-ghost use Rattle.tree_batch.specs.Entry.{decision};
-ghost use Rattle.tree_batch.specs.Digraph.{Digraph, graph_after, IsDigraph};
+//! Directed graphs.
+
+ghost use Rattle.std.specs.Prelude.{◌≡◌, length};
+ghost use Rattle.tree_batch.specs.Edge.{has_edge};
+ghost use Rattle.tree_batch.specs.Digraph.{IsDigraph};
+ghost use Rattle.tree_batch.specs.Neighbours.{destinations_of, sources_of, HasNeighbours};
 ghost use Rattle.tree_batch.specs.Outcome.{Opens, Applies};
 
 use crate::batch::Batch;
+use crate::decision::Direction;
+use crate::edges::EdgeIter;
 use crate::error::GraphError;
-use crate::merge::{merged, place};
+use crate::neighbours::{neighbours_after, neighbours_after_forked};
+use c_tree::{CTree, ChunkSize};
+use set_ops::Fork;
+use shared_tree::{Share, Tree};
 use std::alloc::{AllocError, Global};
+use std::fmt::{self, Debug};
 use std::marker::Model;
-use std::sync::ArcSlice;
+use std::thread::Threads;
 
 /// The greatest number of vertices of a graph.
 pub const MAX_VERTICES: u32 = 16_777_216;
 
-/// The chunk sizes that there are.
-const CHUNK_SIZES: [u32; 9] = [1, 2, 4, 8, 16, 32, 64, 128, 256];
+/// The most levels at which halves go to two threads.
+const MOST_FORKS: u32 = 6;
 
 /// A directed graph whose vertices are the numbers below `vertices`. Self-loops are allowed, and
-/// an edge is there once or not at all. No call changes a graph, and its clones share its edges.
-#[derive(Debug, Drop)]
+/// an edge is there once or not at all. No call changes a graph, and graphs share what they have in
+/// common.
 pub struct Graph {
     vertices: u32,
-    edges: ArcSlice<(u32, u32)>,
+    chunk_size: ChunkSize,
+    edge_count: usize,
+    outgoing: Tree<CTree>,
+    incoming: Tree<CTree>,
+}
+
+// By hand: a derived drop would be written out, and proved again, in each function that lets a graph go.
+impl Drop for Graph {
+    fn drop(self) {
+        let Graph {
+            vertices: _,
+            chunk_size: _,
+            edge_count: _,
+            outgoing: _,
+            incoming: _,
+        } = self;
+    }
 }
 
 impl Model for Graph {
-    ghost use Rattle.std.specs.Arc.{arc_slice_items};
-    ghost use Rattle.tree_batch.specs.Digraph.{Digraph, digraph, IsDigraph};
+    ghost use Rattle.tree_batch.specs.Digraph.{Digraph, digraph};
+    ghost use Rattle.tree_batch.specs.Neighbours.{edges_of, IsGraph};
 
     ghost Value = { Digraph };
 
-    ghost view = { λ g. digraph g.vertices (arc_slice_items g.edges) };
+    ghost view = { λ g. digraph g.vertices (edges_of g.outgoing.entries) };
 
-    ghost invariant = { λ g. IsDigraph (digraph g.vertices (arc_slice_items g.edges)) };
+    ghost invariant = { λ g. IsGraph g.vertices g.chunk_size g.edge_count
+        g.outgoing.entries g.incoming.entries };
 }
 
 impl Graph {
     /// A graph with this many vertices, 1 to 16,777,216, and no edges. The chunk size, a power of
-    /// two from 1 to 256, is how many neighbours are kept together; it changes no answer.
+    /// two from 1 to 256, is about how many neighbours are kept together; it changes no answer.
+    /// It takes no memory.
     ///
     /// Errors: `VertexRange` for another number of vertices, else `BadChunkSize` for another
-    /// chunk size, else `NoMemory`.
-    pub fn new(alloc: Global, vertices: u32, chunk_size: u32) -> Result<Graph, GraphError>
+    /// chunk size.
+    pub fn new(vertices: u32, chunk_size: u32) -> Result<Graph, GraphError>
         ensures { Opens vertices chunk_size result }
     {
         if vertices == 0 || vertices > MAX_VERTICES {
             return Err(GraphError::VertexRange);
         }
-        if !CHUNK_SIZES.contains(&chunk_size) {
+        let Ok(chunk_size) = ChunkSize::new(chunk_size) else {
             return Err(GraphError::BadChunkSize);
-        }
+        };
         Ok(Graph {
             vertices,
-            edges: ArcSlice::from_vec(Vec::new(alloc))?,
+            chunk_size,
+            edge_count: 0,
+            outgoing: Tree::new(),
+            incoming: Tree::new(),
         })
     }
 
     /// The graph after a batch: for each edge that the batch names, its last entry that names the
-    /// edge decides, and every other edge is there as before. Takes time in proportion to the
-    /// edges and to the entries times the logarithm of their number.
+    /// edge decides, and every other edge is there as before. The graph itself stays as it is, and
+    /// the new one shares with it what the batch does not reach. For k entries and m edges it takes
+    /// time in proportion to `k log(k + m)`.
     ///
     /// Errors: `VertexRange` where an entry names a vertex that the graph does not have, else
     /// `NoMemory`.
@@ -71,33 +99,98 @@ impl Graph {
         if batch.names_outside(self.vertices) {
             return Err(GraphError::VertexRange);
         }
-        let entries = batch.sorted(alloc)?;
-        let edges = merged(alloc, &self.edges, &entries)?;
+        let (entries, size) = (batch.entries(), self.chunk_size);
+        let out = neighbours_after(alloc, &self.outgoing, entries, Direction::Out, size)?;
+        let into = neighbours_after(alloc, &self.incoming, entries, Direction::In, size)?;
         Ok(Graph {
             vertices: self.vertices,
-            edges: ArcSlice::from_vec(edges)?,
+            chunk_size: self.chunk_size,
+            edge_count: self.edge_count.wrapping_add(out.growth),
+            outgoing: out.tree,
+            incoming: into.tree,
         })
     }
 
-    /// Whether the edge from `source` to `destination` is there. Takes logarithmic time and no
+    /// As [`Graph::apply`], with the entries sorted by threads, and with halves of the vertices on two
+    /// threads at so many levels, at most 6. Where one vertex has more than half of the entries, its
+    /// set goes by halves. Where no thread can be started, the caller does both halves. The answer is
+    /// that of `apply` whatever `forks` is. `fork` is told of each half that begins, first of those
+    /// of the edges by source and then of those by destination.
+    ///
+    /// Errors: `VertexRange` where an entry names a vertex that the graph does not have, else
+    /// `NoMemory`.
+    pub fn apply_forked<R: Threads + Sync, F: Fork + Sync>(
+        &self,
+        rt: &R,
+        alloc: Global,
+        batch: &Batch,
+        forks: u32,
+        fork: &F,
+    ) -> Result<Graph, GraphError>
+        ensures { Applies self.now batch.now result }
+    {
+        if forks == 0 {
+            return self.apply(alloc, batch);
+        }
+        if batch.names_outside(self.vertices) {
+            return Err(GraphError::VertexRange);
+        }
+        let (entries, size, most) = (batch.entries(), self.chunk_size, forks.min(MOST_FORKS));
+        let (way, tree) = (Direction::Out, &self.outgoing);
+        let outs = neighbours_after_forked(rt, alloc, tree, entries, way, size, most, fork)?;
+        let (way, tree) = (Direction::In, &self.incoming);
+        let ins = neighbours_after_forked(rt, alloc, tree, entries, way, size, most, fork)?;
+        Ok(Graph {
+            vertices: self.vertices,
+            chunk_size: self.chunk_size,
+            edge_count: self.edge_count.wrapping_add(outs.growth),
+            outgoing: outs.tree,
+            incoming: ins.tree,
+        })
+    }
+
+    /// The destinations of the edges from a vertex, or `None` where there is none. It takes
+    /// logarithmic time and no memory.
+    pub fn out(&self, source: u32) -> Option<&CTree>
+        ensures { HasNeighbours (destinations_of source self.now.edges) result }
+    {
+        self.destinations(source)
+    }
+
+    /// The sources of the edges to a vertex, or `None` where there is none. It takes logarithmic
+    /// time and no memory.
+    pub fn in_(&self, destination: u32) -> Option<&CTree>
+        ensures { HasNeighbours (sources_of destination self.now.edges) result }
+    {
+        self.incoming.find(destination)
+    }
+
+    /// As [`Graph::out`].
+    fn destinations(&self, source: u32) -> Option<&CTree>
+        ensures { HasNeighbours (destinations_of source self.now.edges) result }
+    {
+        self.outgoing.find(source)
+    }
+
+    /// Whether the edge from `source` to `destination` is there. It takes logarithmic time and no
     /// memory.
     pub fn contains(&self, source: u32, destination: u32) -> bool
         ensures { result ≡ has_edge self.now.edges (source, destination) }
     {
-        let sought = place((source, destination));
-        self.edges
-            .binary_search_by_key(&sought, |edge| place(*edge))
-            .is_ok()
+        match self.outgoing.find(source) {
+            Some(destinations) => destinations.contains(destination),
+            None => false,
+        }
     }
 
-    /// How many edges there are. Takes no memory.
+    /// How many edges there are. It takes constant time and no memory.
     pub fn edge_count(&self) -> usize
         ensures { result ≡ length self.now.edges }
     {
-        self.edges.len()
+        self.edge_count
     }
 
-    /// How many vertices there are, 1 to 16,777,216. Takes no memory.
+    /// How many vertices there are, 1 to 16,777,216. It takes no memory.
     pub fn vertices(&self) -> u32
         ensures count { result ≡ self.now.vertices }
         ensures graph { IsDigraph self.now }
@@ -106,70 +199,40 @@ impl Graph {
     }
 
     /// The edges as pairs of source and destination, ascending by source and then by
-    /// destination. Takes no memory.
+    /// destination. It takes no memory.
     pub fn edges(&self) -> EdgeIter<'_>
         ensures edges { result ≡ self.now.edges }
         ensures graph { IsDigraph self.now }
     {
-        EdgeIter { edges: &self.edges }
+        EdgeIter::new(&self.outgoing)
     }
 }
 
 impl Clone for Graph {
     ghost is_clone = { λ graph copy. copy ≡ graph };
 
-    /// The same graph once more. It shares the edges, so it takes constant time.
+    /// The same graph once more. It shares the edges, so it takes constant time and no memory.
     ///
     /// Errors: `AllocError` where the graph cannot be shared once more.
     fn clone(&self) -> Result<Graph, AllocError> {
+        let outgoing = self.outgoing.share()?;
+        let incoming = self.incoming.share()?;
         Ok(Graph {
             vertices: self.vertices,
-            edges: self.edges.clone()?,
+            chunk_size: self.chunk_size,
+            edge_count: self.edge_count,
+            outgoing,
+            incoming,
         })
     }
 }
 
-/// The edges of a graph that are still to come, in ascending order.
-#[derive(Drop)]
-pub struct EdgeIter<'a> {
-    edges: &'a [(u32, u32)],
-}
-
-impl<'a> Model for EdgeIter<'a> {
-    ghost use Rattle.std.specs.Prelude.{List};
-    ghost use Rattle.tree_batch.specs.Edge.{Edge};
-
-    ghost Value = { List Edge };
-
-    ghost view = { λ i. i.edges.now };
-}
-
-impl<'a> Iterator for EdgeIter<'a> {
-    type Item = (u32, u32);
-
-    ghost next_gives = { YieldsFirst (λ i. i) };
-
-    ghost remaining = { item_count (λ i. i) };
-
-    fn next(&mut self) -> Option<(u32, u32)> {
-        let (first, rest) = self.edges.split_first()?;
-        self.edges = rest;
-        Some(*first)
+impl Debug for Graph {
+    fn fmt<W: fmt::Write>(&self, f: &mut fmt::Formatter<W>) -> fmt::Result {
+        write!(
+            f,
+            "Graph {{ vertices: {}, edge_count: {} }}",
+            self.vertices, self.edge_count
+        )
     }
 }
-
-/// The law of a batch: after it, an edge between vertices of the graph is there exactly where the
-/// last entry that names it adds it, or where no entry names it and it was there.
-pub fn last_entry_decides()
-    ensures { (g : Digraph) (batch : List Entry) (e : Edge) → IsWithin g.vertices e
-        → has_edge (graph_after g batch).edges e ≡ unwrap_or (decision batch e) (has_edge g.edges e) }
-{}
-
-/// The edges after a batch ascend, each once, and there is no other ascending list of the same
-/// edges.
-pub fn edges_ascend()
-    ensures ascending { (g : Digraph) (batch : List Entry) → IsDigraph g
-        → IsAscending (graph_after g batch).edges }
-    ensures only { (xs ys : List Edge) → IsAscending xs → IsAscending ys
-        → ((e : Edge) → has_edge xs e ≡ has_edge ys e) → xs ≡ ys }
-{}

@@ -13,7 +13,8 @@ use crate::held::HeldVersions;
 use crate::step::{Done, Reply, Step, Ticket, Which};
 use std::alloc::{AllocError, Global};
 use std::marker::Model;
-use tree_batch::{Batch, Graph};
+use std::thread::Threads;
+use tree_batch::{Batch, Graph, Quiet};
 
 /// The greatest number of entries that a history may have.
 pub const MAX_HISTORY: u64 = 16_777_216;
@@ -64,7 +65,7 @@ impl Versions {
         ensures { Opens vertices chunk_size room result }
     {
         Ok(Versions {
-            newest: Graph::new(alloc, vertices, chunk_size)?,
+            newest: Graph::new(vertices, chunk_size)?,
             number: 0,
             room: room.min(MAX_HISTORY),
             history: Vec::new(alloc),
@@ -94,6 +95,36 @@ impl Versions {
         self.newest = next;
         self.number = number;
         Ok(number)
+    }
+
+    /// As [`Versions::commit`], by [`Graph::apply_forked`] with halves on two threads at so many
+    /// levels, at most 6. The answer is that of `commit` whatever `forks` is.
+    ///
+    /// Errors: those of `commit`.
+    pub fn commit_forked<R: Threads + Sync>(
+        &mut self,
+        rt: &R,
+        alloc: Global,
+        batch: Batch,
+        forks: u32,
+    ) -> Result<u64, VersionError>
+        ensures { Answers self.old (Commit batch) reply.Version result self.new }
+    {
+        if self.lacks_room(1) {
+            return Err(refusal_when_full(&batch, self.newest.vertices()));
+        }
+        let forked = self.newest.apply_forked(rt, alloc, &batch, forks, &Quiet)?;
+        let entries = self.held.ticket_count() + 1;
+        self.history.reserve(entries)?;
+        let step = Step::Commit(batch);
+        let version = self.number + 1;
+        self.history.push_reserved(Done {
+            step,
+            reply: Reply::Version(version),
+        });
+        self.newest = forked;
+        self.number = version;
+        Ok(version)
     }
 
     /// Holds a version by a new ticket, and answers the ticket and the version's graph, which

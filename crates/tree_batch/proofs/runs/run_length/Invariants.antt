@@ -1,0 +1,12 @@
+use Rattle.std.proofs.Common.{◌-◌, ◌≤◌, length, take}
+use Rattle.tree_batch.specs.Runs.{IsRunOf}
+use Rattle.tree_batch.proofs.runs.run_length.Given as goal
+
+abbrev pub invariant-loop-count : goal.invariant-loop-count
+invariant-loop-count l = record {
+  bounded : l.count ≤ length l.decisions;
+  run : IsRunOf l.vertex (take l.count l.decisions);
+}
+
+abbrev pub decreases-loop-count : goal.decreases-loop-count
+decreases-loop-count l = length l.decisions - l.count
