@@ -1,105 +1,76 @@
--- Lists cut at their heads, and put together again.
-use Rattle.std.proofs.Common.{◌≡◌, ℕ, true, false, inl, inr, Some, List, [], ◌∷◌, ◌++◌, refl, sym, ◌∙◌, ap}
-use Rattle.std.specs.List.{All}
-use Rattle.std.proofs.lemmas.Bool.{cases_Bool}
-use Rattle.std.proofs.lemmas.List.{append-nil}
-use Rattle.std.proofs.lemmas.List.Elements.{All-nil, All-cons, All-head, All-tail}
-use Rattle.tail_codec.specs.Spelling.{BasedList, based_list}
+-- Views cut at a number, by the heads at their roots.
+use Rattle.std.proofs.Common.{◌≡◌, ℕ, ◌<◌, Bool, true, false, None, List, [], ◌∷◌, ◌++◌, sym, ◌∙◌, ap, arith}
+use Rattle.tail_codec.specs.Sets.{has, below, above, Cuts}
+use Rattle.tail_codec.specs.Spelling.{AscendsFrom, Ascends}
+use Rattle.tail_codec.proofs.Cutting.{below_ascends, above_ascends, below_it, above_it, has_it, below_before, above_before, has_before, below_after, above_after, has_after, all_below, all_above}
 use Rattle.c_tree.specs.Heads.{is_head}
-use Rattle.c_tree.specs.Chunks.{before_head, prefix_of, chunks_of, elements_of, together, HasNoHead, IsChunk, IsChunking}
-use Rattle.c_tree.specs.Cutting.{from_head}
+use Rattle.c_tree.specs.Chunks.{ChunkedSet, HasNoHead, IsSetOf}
+use Rattle.c_tree.specs.Parts.{IsRoot, IsCut}
 
-module _ (b : ℕ) where
-  -- what stands before the first head and what stands from it on
-  pub cut_at_head : (xs : List ℕ) → before_head b xs ++ from_head b xs ≡ xs
-  cut_at_head [] = refl
-  cut_at_head (x ∷ xs) = elim (cases_Bool (is_head b x)) [ inl h ↦ rw h refl | inr h ↦ rw h (ap (λ v. x ∷ v) (cut_at_head xs)) ]
+-- a tail that is cut has no head on either side
+module _ (b k : ℕ) (s all : List ℕ) (same : all ≡ s) (none : HasNoHead b s) (up : Ascends None s) (l r : List ℕ) (found : Bool) (cut : Cuts k all l found r) where
+  pub front_ascends : Ascends None l
+  front_ascends = rw (cut.front, same) (below_ascends k 0 s up)
 
-  pub none_before_head : (xs : List ℕ) → HasNoHead b (before_head b xs)
-  none_before_head [] = All-nil (λ x. is_head b x ≡ false)
-  none_before_head (x ∷ xs) =
-      elim (cases_Bool (is_head b x)) [
-        | inl h ↦ rw h (All-nil (λ x. is_head b x ≡ false))
-        | inr h ↦ rw h (All-cons (λ x. is_head b x ≡ false) x (before_head b xs) h (none_before_head xs))
-      ]
+  pub front_plain : HasNoHead b l
+  front_plain = rw (cut.front, same) (all_below (λ x. is_head b x ≡ false) k s none)
 
-  -- nothing stands before a head
-  pub before_from_head : (xs : List ℕ) → before_head b (from_head b xs) ≡ []
-  before_from_head [] = refl
-  before_from_head (x ∷ xs) = elim (cases_Bool (is_head b x)) [ inl h ↦ rw h (rw h refl) | inr h ↦ rw h (before_from_head xs) ]
+  pub back_ascends : Ascends None r
+  back_ascends = rw (cut.back, same) (above_ascends k 0 s up)
 
-  pub chunks_from_head : (xs : List ℕ) → chunks_of b (from_head b xs) ≡ chunks_of b xs
-  chunks_from_head [] = refl
-  chunks_from_head (x ∷ xs) = elim (cases_Bool (is_head b x)) [ inl h ↦ rw h (rw h refl) | inr h ↦ rw h (chunks_from_head xs) ]
+  pub back_plain : HasNoHead b r
+  back_plain = rw (cut.back, same) (all_above (λ x. is_head b x ≡ false) k s none)
 
-  -- a list before whose first head nothing stands begins with a head
-  pub head_first : (x : ℕ) (xs : List ℕ) → before_head b (x ∷ xs) ≡ [] → is_head b x ≡ true
-  head_first x xs e = elim (cases_Bool (is_head b x)) [ inl h ↦ h | inr h ↦ let f = rw h at e in cc ]
+module _ (k : ℕ) (s l : ChunkedSet) (h : ℕ) (r : ChunkedSet) (root : IsRoot s l h r) where
+  rising : AscendsFrom 0 (l.elements ++ h ∷ r.elements)
+  rising = rw root.elements at root.ascending
 
-  pub chunks_at_head : (x : ℕ) (xs : List ℕ) → is_head b x ≡ true → chunks_of b (x ∷ xs) ≡ (x, based_list (Some x) (before_head b xs)) ∷ chunks_of b xs
-  chunks_at_head x xs h = rw h refl
+  module _ (a : ChunkedSet) (found : Bool) (z : ChunkedSet) (lt : k < h) (cut : IsCut k l a found z) where
+    back : above k s.elements ≡ z.elements ++ h ∷ r.elements
+    back = ap (above k) root.elements ∙ above_before k h r.elements 0 l.elements rising lt ∙ ap (λ v. v ++ h ∷ r.elements) (sym cut.list.back)
 
-  -- prefix, heads and tails put together give the list back
-  pub whole_again : (xs : List ℕ) → xs ≡ together (prefix_of b xs) (chunks_of b xs)
-  whole_again [] = refl
-  whole_again (x ∷ xs) = elim (cases_Bool (is_head b x)) [ inl h ↦ rw h (ap (λ v. x ∷ v) (whole_again xs)) | inr h ↦ rw h (ap (λ v. x ∷ v) (whole_again xs)) ]
+    pub left_ascends : Ascends None (z.elements ++ h ∷ r.elements)
+    left_ascends = rw (← back) (above_ascends k 0 s.elements root.ascending)
 
-  pub are_chunks : (xs : List ℕ) → All (IsChunk b) (chunks_of b xs)
-  are_chunks [] = All-nil (IsChunk b)
-  are_chunks (x ∷ xs) =
-      elim (cases_Bool (is_head b x)) [
-        | inl h ↦
-            let chunk : IsChunk b (x, based_list (Some x) (before_head b xs)) = record { head = h; base = refl; tail = none_before_head xs } in
-            rw h (All-cons (IsChunk b) (x, based_list (Some x) (before_head b xs)) (chunks_of b xs) chunk (are_chunks xs))
-        | inr h ↦ rw h (are_chunks xs)
-      ]
+    pub cut_left : (new : ChunkedSet) → IsSetOf (z.elements ++ h ∷ r.elements) z.chunk_size new → IsCut k s a found new
+    cut_left new is = record {
+      list = record {
+        front = cut.list.front ∙ sym (ap (below k) root.elements ∙ below_before k h r.elements 0 l.elements rising (omega (arith, lt)));
+        there = cut.list.there ∙ sym (ap (has k) root.elements ∙ has_before k h r.elements 0 l.elements rising lt);
+        back = is.elements ∙ sym back;
+      };
+      left_size = cut.left_size ∙ root.left_size;
+      right_size = is.chunk_size ∙ cut.right_size ∙ root.left_size;
+    }
 
-  pub chunking : (xs : List ℕ) → IsChunking b xs (prefix_of b xs) (chunks_of b xs)
-  chunking xs = record { whole = whole_again xs; base = refl; front = none_before_head xs; each = are_chunks xs }
+  module _ (a : ChunkedSet) (found : Bool) (z : ChunkedSet) (lt : h < k) (cut : IsCut k r a found z) where
+    front : below k s.elements ≡ l.elements ++ h ∷ a.elements
+    front = ap (below k) root.elements ∙ below_after k h r.elements 0 l.elements rising lt ∙ ap (λ v. l.elements ++ h ∷ v) (sym cut.list.front)
 
-  -- elements that are no heads, before others
-  before_more : (p r : List ℕ) → HasNoHead b p → before_head b (p ++ r) ≡ p ++ before_head b r
-  before_more [] r none = refl
-  before_more (x ∷ p) r none =
-      let h : is_head b x ≡ false = All-head (λ x. is_head b x ≡ false) x p none in
-      rw h (ap (λ v. x ∷ v) (before_more p r (All-tail (λ x. is_head b x ≡ false) x p none)))
+    pub right_ascends : Ascends None (l.elements ++ h ∷ a.elements)
+    right_ascends = rw (← front) (below_ascends k 0 s.elements root.ascending)
 
-  chunks_after : (p r : List ℕ) → HasNoHead b p → chunks_of b (p ++ r) ≡ chunks_of b r
-  chunks_after [] r none = refl
-  chunks_after (x ∷ p) r none =
-      let h : is_head b x ≡ false = All-head (λ x. is_head b x ≡ false) x p none in
-      rw h (chunks_after p r (All-tail (λ x. is_head b x ≡ false) x p none))
+    pub cut_right : (new : ChunkedSet) → IsSetOf (l.elements ++ h ∷ a.elements) l.chunk_size new → IsCut k s new found z
+    cut_right new is = record {
+      list = record {
+        front = is.elements ∙ sym front;
+        there = cut.list.there ∙ sym (ap (has k) root.elements ∙ has_after k h r.elements 0 l.elements rising lt);
+        back = cut.list.back ∙ sym (ap (above k) root.elements ∙ above_after k h r.elements 0 l.elements rising (omega (arith, lt)));
+      };
+      left_size = is.chunk_size ∙ root.left_size;
+      right_size = cut.right_size ∙ root.right_size;
+    }
 
-  -- nothing stands before chunks
-  before_chunks : (cs : List (ℕ × BasedList)) → All (IsChunk b) cs → before_head b (elements_of cs) ≡ []
-  before_chunks [] each = refl
-  before_chunks (c ∷ cs) each = rw (All-head (IsChunk b) c cs each).head refl
-
-  append_nothing : (p r : List ℕ) → r ≡ [] → p ++ r ≡ p
-  append_nothing p r e = rw e (append-nil p)
-
-  tail_again : (c : ℕ × BasedList) (cs : List (ℕ × BasedList)) → IsChunk b c → All (IsChunk b) cs → (c.0, based_list (Some c.0) (before_head b (c.1.elements ++ elements_of cs))) ≡ c
-  tail_again (x, t) cs is each =
-      let e : before_head b (t.elements ++ elements_of cs) ≡ t.elements =
-      before_more t.elements (elements_of cs) is.tail ∙ append_nothing t.elements _ (before_chunks cs each) in
-      rw (e, ← is.base) refl
-
-  chunks_again : (cs : List (ℕ × BasedList)) → All (IsChunk b) cs → chunks_of b (elements_of cs) ≡ cs
-  chunks_again [] each = refl
-  chunks_again (c ∷ cs) each =
-      let is = All-head (IsChunk b) c cs each in
-      let rest = All-tail (IsChunk b) c cs each in
-      chunks_at_head c.0 (c.1.elements ++ elements_of cs) is.head
-      ∙ ap (λ d. d ∷ chunks_of b (c.1.elements ++ elements_of cs)) (tail_again c cs is rest)
-      ∙ ap (λ v. c ∷ v) (chunks_after c.1.elements (elements_of cs) is.tail ∙ chunks_again cs rest)
-
-  -- a list has one chunking
-  pub one_prefix : (xs : List ℕ) (p : BasedList) (cs : List (ℕ × BasedList)) → IsChunking b xs p cs → p ≡ prefix_of b xs
-  one_prefix xs p cs is =
-      let e : before_head b xs ≡ p.elements =
-      ap (before_head b) is.whole ∙ before_more p.elements (elements_of cs) is.front ∙ append_nothing p.elements _ (before_chunks cs is.each) in
-      rw (e, ← is.base) refl
-
-  pub one_chunks : (xs : List ℕ) (p : BasedList) (cs : List (ℕ × BasedList)) → IsChunking b xs p cs → cs ≡ chunks_of b xs
-  one_chunks xs p cs is =
-      sym (ap (chunks_of b) is.whole ∙ chunks_after p.elements (elements_of cs) is.front ∙ chunks_again cs is.each)
+  pub cut_here : k ≡ h → IsCut k s l true r
+  cut_here e =
+      let up : AscendsFrom 0 (l.elements ++ k ∷ r.elements) = rw e rising in
+      let is : s.elements ≡ l.elements ++ k ∷ r.elements = root.elements ∙ ap (λ j. l.elements ++ j ∷ r.elements) (sym e) in
+      record {
+        list = record {
+          front = sym (ap (below k) is ∙ below_it k r.elements 0 l.elements up);
+          there = sym (ap (has k) is ∙ has_it k r.elements l.elements);
+          back = sym (ap (above k) is ∙ above_it k r.elements 0 l.elements up);
+        };
+        left_size = root.left_size;
+        right_size = root.right_size;
+      }

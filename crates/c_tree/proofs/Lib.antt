@@ -1,5 +1,6 @@
-pub mod Cuts
-pub mod Members
-pub mod Making
+pub mod Chunking
 pub mod Turns
+pub mod Making
+pub mod Rooted
+pub mod Cuts
 pub mod Filling

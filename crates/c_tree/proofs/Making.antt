@@ -3,18 +3,11 @@ use Rattle.std.proofs.Common.{◌≡◌, ℕ, ◌+◌, ◌^◌, ◌<◌, ◌≤�
 use Rattle.std.proofs.lemmas.List.{drop_more}
 use Rattle.shared_tree.specs.Entries.{Rises, IsMap}
 use Rattle.tail_codec.specs.Spelling.{BasedList, based_list, AscendsFrom, Ascends, least}
-use Rattle.c_tree.specs.Chunks.{before_head, prefix_of, chunks_of, elements_of, together, IsMadeOf}
+use Rattle.c_tree.specs.Chunks.{before_head, chunks_of, elements_of, together}
+use Rattle.c_tree.specs.Parts.{IsPart}
 use Rattle.c_tree.specs.Cutting.{from_head}
-use Rattle.c_tree.proofs.Cuts.{cut_at_head, none_before_head, before_from_head, chunks_from_head, head_first, chunks_at_head, whole_again, are_chunks}
-use Rattle.c_tree.proofs.Members.{ascends_from, ascends_front, ascends_back}
-
--- the next element may be added
-pub may_add : (base base' : Option ℕ) (es old xs : List ℕ) (i : ℕ) → base ≡ base' → es ++ drop i xs ≡ old ++ xs → i < length xs → Ascends base' (old ++ xs) → Ascends base (es ++ get_or xs i 0 ∷ [])
-may_add base base' es old xs i same whole lt s =
-    let cells : drop i xs ≡ get_or xs i 0 ∷ drop (i + 1) xs = drop_more xs i 0 lt in
-    let parts : (es ++ get_or xs i 0 ∷ []) ++ drop (i + 1) xs ≡ old ++ xs =
-    append_assoc es (get_or xs i 0 ∷ []) (drop (i + 1) xs) ∙ ap (λ v. es ++ v) (sym cells) ∙ whole in
-    rw same (ascends_front (least base') (es ++ get_or xs i 0 ∷ []) (drop (i + 1) xs) (rw parts s))
+use Rattle.c_tree.proofs.Chunking.{cut_at_head, none_before_head, before_from_head, chunks_from_head, head_first, chunks_at_head, whole_again, are_chunks}
+use Rattle.tail_codec.proofs.Ascending.{ascends_from, ascends_front, ascends_back}
 
 -- what stands from a head on ascends
 pub ascends_from_head : (b low : ℕ) (xs : List ℕ) → AscendsFrom low xs → AscendsFrom low (from_head b xs)
@@ -22,6 +15,10 @@ ascends_from_head b low xs s = ascends_back low (before_head b xs) (from_head b 
 
 pub from_head_shorter : (b : ℕ) (xs : List ℕ) → length (from_head b xs) ≤ length xs
 from_head_shorter b xs = omega (arith, ap length (cut_at_head b xs), length-append (before_head b xs) (from_head b xs))
+
+-- so does what stands before the first
+pub before_ascends : (b low : ℕ) (xs : List ℕ) → AscendsFrom low xs → AscendsFrom low (before_head b xs)
+before_ascends b low xs s = ascends_front low (before_head b xs) (from_head b xs) (rw (cut_at_head b xs) s)
 
 -- what stands after one chunk of a list
 module _ (b : ℕ) (list : List ℕ) (h : ℕ) (after next : List ℕ) (cells : list ≡ h ∷ after) (is : next ≡ from_head b after) where
@@ -60,14 +57,9 @@ chunks_map b xs s =
     heads_rise 0 (chunks_of b xs) (omega arith) (ascends_back 0 (before_head b xs) (elements_of (chunks_of b xs)) whole)
 
 -- the prefix and the chunks of a list make its set
-pub made : (b : ℕ) (xs : List ℕ) (p : BasedList) (cs : List (ℕ × BasedList)) → Ascends None xs → p ≡ prefix_of b xs → cs ≡ chunks_of b xs → IsMadeOf b (length xs) p cs
-made b xs p cs s e f =
-    let whole = whole_again b xs in
-    rw (e, f) (record {
-      ascending = rw (← whole) s;
-      chunking = record { whole = refl; base = refl; front = none_before_head b xs; each = are_chunks b xs };
-      count = ap length whole;
-    })
+module _ (b : ℕ) (xs : List ℕ) (p : BasedList) (cs : List (ℕ × BasedList)) (e : p.elements ≡ before_head b xs) (f : cs ≡ chunks_of b xs) where
+  pub made_whole : together p cs ≡ xs
+  made_whole = rw (e, f) (sym (whole_again b xs))
 
-pub made_whole : (b : ℕ) (xs : List ℕ) (p : BasedList) (cs : List (ℕ × BasedList)) → p ≡ prefix_of b xs → cs ≡ chunks_of b xs → together p cs ≡ xs
-made_whole b xs p cs e f = rw (e, f) (sym (whole_again b xs))
+  pub made : Ascends None xs → IsPart b p cs
+  made s = record { ascending = rw made_whole s; front = rw e (none_before_head b xs); each = rw f (are_chunks b xs) }

@@ -1,5 +1,5 @@
 -- The one way in which a list is cut into chunks.
-use Rattle.std.specs.Prelude.{◌≡◌, ℕ, false, true, if◌then◌else◌, None, Some, List, [], ◌∷◌, ◌++◌, length}
+use Rattle.std.specs.Prelude.{◌≡◌, ℕ, false, true, if◌then◌else◌, None, Some, List, [], ◌∷◌, ◌++◌}
 use Rattle.std.specs.List.{All}
 use Rattle.tail_codec.specs.Spelling.{BasedList, based_list, Ascends}
 use Rattle.c_tree.specs.Heads.{IsChunkSize, is_head}
@@ -47,21 +47,19 @@ pub record IsChunking (b : ℕ) (xs : List ℕ) (prefix : BasedList) (chunks : L
   pub front : HasNoHead b prefix.elements
   pub each : All (IsChunk b) chunks
 
--- an ascending list and the chunk size at which it is cut
+-- an ascending list, the chunk size at which it is cut, and how many nodes the longest way down the
+-- tree of its chunks has
 pub record ChunkedSet : Type 0 where
   pub elements : List ℕ
   pub chunk_size : ℕ
+  pub depth : ℕ
 
-abbrev pub chunked_set : List ℕ → ℕ → ChunkedSet
-chunked_set xs b = record { elements = xs; chunk_size = b }
+-- The set s has these elements in chunks of size b.
+pub record IsSetOf (xs : List ℕ) (b : ℕ) (s : ChunkedSet) : Type 0 where
+  pub elements : s.elements ≡ xs
+  pub chunk_size : s.chunk_size ≡ b
 
 -- what is true of each set
 pub record IsChunkedSet (s : ChunkedSet) : Type 0 where
   pub ascending : Ascends None s.elements
   pub chunk_size : IsChunkSize s.chunk_size
-
--- A prefix and chunks that make a set of so many elements.
-pub record IsMadeOf (b : ℕ) (len : ℕ) (prefix : BasedList) (chunks : List (ℕ × BasedList)) : Type 0 where
-  pub ascending : Ascends None (together prefix chunks)
-  pub chunking : IsChunking b (together prefix chunks) prefix chunks
-  pub count : len ≡ length (together prefix chunks)

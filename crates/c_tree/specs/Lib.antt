@@ -1,6 +1,7 @@
 pub mod Heads
 pub mod Chunks
-pub mod Cutting
-pub mod Blocks
+pub mod Parts
 pub mod Outcome
 pub mod Refusal
+pub mod Cutting
+pub mod Blocks

@@ -1,19 +1,21 @@
 ghost use Rattle.std.specs.Prelude.{◌≡◌, ◌↔◌, ◌+◌, ◌*◌, ◌^◌, ◌<◌, ◌≤◌, [], length, IsTrue, IfOk};
-ghost use Rattle.c_tree.specs.Chunks.{ChunkedSet, chunked_set, IsChunkedSet, IsChunking, IsMadeOf, prefix_of, chunks_of, together};
+ghost use Rattle.c_tree.specs.Chunks.{ChunkedSet, IsChunkedSet, IsChunking, prefix_of, chunks_of};
 ghost use Rattle.c_tree.specs.Outcome.{Opens};
+ghost use Rattle.c_tree.specs.Parts.{IsMadeOf, in_chunks};
 
 use crate::chunk_size::ChunkSize;
 use crate::error::CTreeError;
 use crate::heads::Heads;
 use crate::iter::Iter;
 use crate::tail::ChunkTail;
+use crate::view::View;
 use shared_tree::{Share, Tree};
 use std::alloc::AllocError;
 use std::marker::Model;
 use tail_codec::Tail;
 
 /// A set of numbers below 2^32, cut at its heads. A contract sees its elements as an ascending list,
-/// and its chunk size. It is 64 bytes beside what its prefix and its tree of chunks take.
+/// its chunk size, and the depth of its tree of chunks. It is 64 bytes beside what its prefix and its tree of chunks take.
 pub struct CTree {
     prefix: Tail,
     chunks: Tree<ChunkTail>,
@@ -37,11 +39,12 @@ impl Drop for CTree {
 
 impl Model for CTree {
     ghost use Rattle.c_tree.specs.Heads.{IsChunkSize};
-    ghost use Rattle.c_tree.specs.Chunks.{ChunkedSet, chunked_set, IsMadeOf, together};
+    ghost use Rattle.c_tree.specs.Chunks.{ChunkedSet};
+    ghost use Rattle.c_tree.specs.Parts.{IsMadeOf, in_chunks};
 
     ghost Value = { ChunkedSet };
 
-    ghost view = { λ t. chunked_set (together t.prefix t.chunks.entries) t.chunk_size };
+    ghost view = { λ t. in_chunks t.chunk_size t.prefix t.chunks };
 
     ghost invariant = { λ t. IsMadeOf t.chunk_size t.count t.prefix t.chunks.entries
         × IsChunkSize t.chunk_size };
@@ -58,17 +61,15 @@ impl CTree {
         Ok(CTree::from_parts(Tail::new(None), Tree::new(), 0, chunk_size))
     }
 
-    /// The set of a prefix and a tree of chunks that have `len` elements together. The caller sees to
-    /// it that they ascend, that each key of the tree is a head with its tail over it, and that
-    /// neither the prefix nor a tail has a head in it. It takes no memory.
-    pub fn from_parts(
+    /// The set of a prefix and a tree of chunks that have `len` elements together.
+    pub(crate) fn from_parts(
         prefix: Tail,
         chunks: Tree<ChunkTail>,
         len: usize,
         chunk_size: ChunkSize,
     ) -> CTree
         requires { IsMadeOf chunk_size len prefix chunks.entries }
-        ensures { result ≡ chunked_set (together prefix chunks.entries) chunk_size }
+        ensures { result ≡ in_chunks chunk_size prefix chunks }
     {
         CTree {
             prefix,
@@ -80,12 +81,21 @@ impl CTree {
 
     /// The prefix, and the tree of the tails by their heads.
     #[inline]
-    pub fn parts(&self) -> (&Tail, &Tree<ChunkTail>)
+    fn parts(&self) -> (&Tail, &Tree<ChunkTail>)
         ensures chunked { IsChunking self.now.chunk_size self.now.elements
             result.0.now result.1.now.entries }
+        ensures depth { result.1.now.depth ≡ self.now.depth }
         ensures valid { IsChunkedSet self.now }
     {
         (&self.prefix, &self.chunks)
+    }
+
+    /// The set, where it stands. It takes no memory.
+    #[inline]
+    pub fn view(&self) -> View<'_>
+        ensures { result ≡ self.now }
+    {
+        View::new(&self.prefix, &self.chunks, self.chunk_size)
     }
 
     /// How many elements there are, at most 2^32. Takes no time that depends on it, and no memory.
@@ -134,6 +144,7 @@ impl CTree {
     /// How many nodes the longest way down the tree of the heads has, at most 64: at least so many that
     /// there is room for the heads, and 0 where there is none. It takes no memory.
     pub fn depth(&self) -> u32
+        ensures depth { result ≡ self.now.depth }
         ensures shallow { 2 ^ result
             ≤ (length (chunks_of self.now.chunk_size self.now.elements) + 1)
             * (length (chunks_of self.now.chunk_size self.now.elements) + 1) }

@@ -29,7 +29,7 @@ impl<'a> Iter<'a> {
     /// The elements of a prefix and then those of chunks, each head before its tail. It takes no
     /// memory.
     #[inline]
-    pub fn new(prefix: &'a Tail, chunks: &'a Tree<ChunkTail>) -> Iter<'a>
+    pub(crate) fn new(prefix: &'a Tail, chunks: &'a Tree<ChunkTail>) -> Iter<'a>
         ensures { result ≡ together prefix.now chunks.now.entries }
     {
         Iter {

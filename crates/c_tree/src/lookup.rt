@@ -5,6 +5,7 @@ ghost use Rattle.std.specs.List.{Contains};
 ghost use Rattle.tail_codec.specs.Spelling.{IsBasedList};
 
 use crate::ctree::CTree;
+use crate::view::View;
 use tail_codec::Tail;
 
 impl CTree {
@@ -13,9 +14,21 @@ impl CTree {
     pub fn contains(&self, element: u32) -> bool
         ensures { IsTrue result ↔ Contains self.now.elements element }
     {
-        let (prefix, mut chunks) = self.parts();
-        let mut tail = prefix;
+        self.view().contains(element)
+    }
+}
+
+impl<'a> View<'a> {
+    /// Whether an element stands in the view. It takes time in proportion to the depth and to the
+    /// length of one tail, and no memory.
+    pub fn contains(&self, element: u32) -> bool
+        ensures { IsTrue result ↔ Contains self.now.elements element }
+    {
+        let (mut tail, mut chunks) = (self.prefix, self.chunks);
         while let Some((below, head, at_head, above)) = chunks.parts() {
+            if element == head {
+                return true;
+            }
             if element < head {
                 chunks = below;
             } else {
@@ -23,7 +36,7 @@ impl CTree {
                 chunks = above;
             }
         }
-        tail.base() == Some(element) || holds(tail, element)
+        holds(tail, element)
     }
 }
 

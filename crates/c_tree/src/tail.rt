@@ -7,7 +7,7 @@ use tail_codec::Tail;
 
 /// The tail of a chunk, as the value at the chunk's head in a tree. A contract sees the tail.
 #[derive(Drop)]
-pub struct ChunkTail {
+pub(crate) struct ChunkTail {
     tail: Tail,
 }
 
@@ -21,7 +21,7 @@ impl Model for ChunkTail {
 
 impl ChunkTail {
     /// This tail as the value at a head.
-    pub fn new(tail: Tail) -> ChunkTail
+    pub(crate) fn new(tail: Tail) -> ChunkTail
         ensures { result ≡ tail }
     {
         ChunkTail { tail }
@@ -29,7 +29,7 @@ impl ChunkTail {
 
     /// The tail.
     #[inline]
-    pub fn tail(&self) -> &Tail
+    pub(crate) fn tail(&self) -> &Tail
         ensures { result.now ≡ self.now }
     {
         &self.tail

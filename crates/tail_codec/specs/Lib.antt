@@ -1,5 +1,9 @@
 pub mod Spelling
-pub mod Decoding
-pub mod Bytes
+pub mod Sets
+pub mod Operations
 pub mod Outcome
 pub mod Refusal
+pub mod Decoding
+pub mod Merging
+pub mod Writing
+pub mod Bytes

@@ -1,30 +1,45 @@
-//! Ascending lists of numbers below 2^32, kept as the bytes of their differences.
+//! Ascending lists of numbers below 2^32, kept as the bytes of their differences, and set operations
+//! on such lists.
 //!
 //! A contract sees a [`Tail`] as a `BasedList`: its elements, and the base above which they stand if
 //! there is one. `specs/Spelling.antt` says which bytes spell which list. `Tail::encode` and
 //! `Tail::from_bytes` make a tail of the one or of the other, and refuse a list that does not ascend
-//! and bytes that spell none; `bytes` and `iter` give them back. A [`TailBuilder`] makes one tail
-//! after another, and a [`TailIter`] reads the elements where the bytes lie. `share` gives one more
-//! owner of the same bytes. `bytes_spell_one_list` and `lists_have_one_spelling` are laws of the
-//! spelling, and do nothing when called.
+//! and bytes that spell none; `bytes` and `iter` give them back, and `elements` as a list. A
+//! [`TailWriter`] makes one tail after another, and a [`TailIter`] reads the elements where the bytes
+//! lie. `share` gives one more owner of the same bytes. `bytes_spell_one_list` and
+//! `lists_have_one_spelling` are laws of the spelling, and do nothing when called.
+//!
+//! `specs/Sets.antt` defines the union and the difference of two ascending lists, and what a list has
+//! below a number and above it. `merge` gives the first two, and `cut_list` the others, as `Tail::cut`
+//! does for tails. `over` and `followed_by` write a tail over another base, and one tail after another.
+//! `unions_have_what_either_has` and `differences_have_what_one_lacks` are laws on the elements.
 //!
 //! A tail is 32 bytes beside its bytes. No elements take no memory, up to 127 bytes one allocation,
 //! and more bytes two.
 //!
-//! Trees of neighbours and graphs stand on this crate. The byte code is the one of Aspen (Dhulipala,
-//! Blelloch, Shun, PLDI 2019), with one spelling for each list.
+//! Sets in chunks stand on this crate. The byte code is the one of Aspen (Dhulipala, Blelloch, Shun,
+//! PLDI 2019), with one spelling for each list.
 #![tactic(auto)]
 
-mod builder;
+mod ascending_list;
 mod error;
 mod iter;
 mod laws;
+mod rewrite;
 mod scan;
+mod set_operation;
 mod shared_bytes;
 mod tail;
+mod writer;
 
-pub use builder::TailBuilder;
+pub use ascending_list::{ascends, cut_list};
 pub use error::TailError;
 pub use iter::TailIter;
-pub use laws::{bytes_spell_one_list, lists_have_one_spelling};
+pub use laws::{
+    bytes_spell_one_list, differences_have_what_one_lacks, lists_have_one_spelling,
+    unions_have_what_either_has,
+};
+pub use rewrite::TailCut;
+pub use set_operation::{Operation, merge};
 pub use tail::Tail;
+pub use writer::TailWriter;

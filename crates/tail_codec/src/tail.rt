@@ -3,11 +3,12 @@ ghost use Rattle.tail_codec.specs.Spelling.{Ascends, Spells, IsBasedList, based_
 ghost use Rattle.tail_codec.specs.Decoding.{elements_over};
 ghost use Rattle.tail_codec.specs.Outcome.{Encodes, Reads};
 
-use crate::builder::TailBuilder;
+use crate::ascending_list::ascends;
 use crate::error::TailError;
 use crate::iter::TailIter;
 use crate::scan::element_count;
 use crate::shared_bytes::SharedBytes;
+use crate::writer::TailWriter;
 use std::alloc::{AllocError, Global};
 use std::marker::Model;
 
@@ -67,11 +68,21 @@ impl Tail {
         if !ascends(base, elements) {
             return Err(TailError::NotAscending);
         }
-        let mut builder = TailBuilder::with_room(alloc, base, elements.len())?;
-        for element in elements {
-            builder.push(*element)?;
-        }
-        Ok(builder.finish(alloc, None)?)
+        Ok(Tail::from_ascending(alloc, base, elements)?)
+    }
+
+    /// The same of a list that is known to ascend strictly from the base.
+    ///
+    /// The only error is out of memory.
+    pub fn from_ascending(
+        alloc: Global,
+        base: Option<u32>,
+        elements: &[u32],
+    ) -> Result<Tail, AllocError>
+        requires { Ascends base elements.now }
+        ensures { IfOk result (λ t. t ≡ based_list base elements.now) }
+    {
+        TailWriter::new(alloc).write(alloc, base, elements)
     }
 
     /// The tail that these bytes spell over the base. Takes time in proportion to the bytes.
@@ -102,8 +113,10 @@ impl Tail {
     }
 
     /// The number above which the elements stand, if there is one.
+    #[inline]
     pub fn base(&self) -> Option<u32>
-        ensures { result ≡ self.now.base }
+        ensures base { result ≡ self.now.base }
+        ensures valid { IsBasedList self.now }
     {
         self.base
     }
@@ -139,6 +152,16 @@ impl Tail {
         TailIter::new(least_over(self.base), self.bytes.as_slice())
     }
 
+    /// The elements as a list. The only error is out of memory.
+    pub fn elements(&self, alloc: Global) -> Result<Vec<u32>, AllocError>
+        ensures { IfOk result (λ v. v.items ≡ self.now.elements) }
+    {
+        let mut list = Vec::new(alloc);
+        list.resize(self.len(), 0)?;
+        self.iter().fill(&mut list);
+        Ok(list)
+    }
+
     /// One more owner of the same bytes. The only error is out of memory.
     pub fn share(&self) -> Result<Tail, AllocError>
         ensures { IfOk result (λ t. t ≡ self.now) }
@@ -150,21 +173,6 @@ impl Tail {
             bytes,
         })
     }
-}
-
-/// Whether the list is strictly ascending, and its first element above the base.
-fn ascends(base: Option<u32>, elements: &[u32]) -> bool
-    ensures { IsTrue result ↔ Ascends base elements.now }
-{
-    let mut low = least_over(base);
-    for element in elements {
-        let element = u64::from(*element);
-        if element < low {
-            return false;
-        }
-        low = element + 1;
-    }
-    true
 }
 
 /// The least number that a list over the base may begin with.

@@ -1,4 +1,4 @@
-use Rattle.c_tree.proofs.Cuts.{whole_again, chunking, one_prefix, one_chunks}
+use Rattle.c_tree.proofs.Chunking.{whole_again, chunking, one_prefix, one_chunks}
 use Rattle.c_tree.proofs.laws.lists_have_one_chunking.Goals as goal
 
 pub returns : goal.returns

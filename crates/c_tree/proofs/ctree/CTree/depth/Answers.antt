@@ -1,7 +1,7 @@
 use Rattle.std.proofs.Common.{◌≡◌, ℕ, [], ◌∷◌, length, sym, ap, ◌∙◌, arith, refl, length-append}
 use Rattle.tail_codec.specs.Spelling.{BasedList}
 use Rattle.shared_tree.specs.Balanced.{Balanced, IsFork}
-use Rattle.c_tree.proofs.Cuts.{one_chunks}
+use Rattle.c_tree.proofs.Chunking.{one_chunks}
 use Rattle.c_tree.proofs.ctree.CTree.depth.Goals as goal
 
 -- a tree with a root has an entry

@@ -1,5 +1,5 @@
 use Rattle.std.proofs.Common.{◌∙◌}
-use Rattle.c_tree.proofs.Cuts.{one_chunks}
+use Rattle.c_tree.proofs.Chunking.{one_chunks}
 use Rattle.c_tree.proofs.ctree.CTree.heads.Goals as goal
 
 pub returns-clause-heads : goal.returns-clause-heads

@@ -1,4 +1,4 @@
-use Rattle.c_tree.proofs.Cuts.{one_prefix}
+use Rattle.c_tree.proofs.Chunking.{one_prefix}
 use Rattle.c_tree.proofs.ctree.CTree.prefix.Goals as goal
 
 pub returns : goal.returns

@@ -1,0 +1,20 @@
+-- What a set operation makes of two ascending lists.
+use Rattle.std.specs.Prelude.{ℕ, ◌+◌, Bool, true, false, List, length}
+use Rattle.tail_codec.specs.Sets.{union, difference}
+use Rattle.tail_codec.specs.declared.set_operation.Operation.{Operation}
+use Rattle.tail_codec.specs.declared.set_operation.Operation.TheVariants.{Union, Difference}
+
+-- the elements of the answer
+abbrev pub combined : Operation → List ℕ → List ℕ → List ℕ
+combined Union xs ys = union xs ys
+combined Difference xs ys = difference xs ys
+
+-- how many elements the answer would have if the two had none in common
+abbrev pub most : Operation → List ℕ → List ℕ → ℕ
+most Union xs ys = length xs + length ys
+most Difference xs ys = length xs
+
+-- whether the answer has what the second list has alone
+abbrev pub takes_second : Operation → Bool
+takes_second Union = true
+takes_second Difference = false
