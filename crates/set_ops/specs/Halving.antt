@@ -1,43 +1,49 @@
--- For proofs only: two parts that are cut at one head.
-use Rattle.std.specs.Prelude.{◌≡◌, ◌⊎◌, ℕ, true, false, Option, List, []}
+-- For proofs only: two sets that are cut at one head.
+use Rattle.std.specs.Prelude.{◌≡◌, ℕ, ◌+◌, ◌<◌, ◌≤◌, Option, Some}
 use Rattle.tail_codec.specs.Spelling.{Ascends}
-use Rattle.c_tree.specs.Heads.{is_head}
+use Rattle.tail_codec.specs.declared.set_operation.Operation.{Operation}
 use Rattle.c_tree.specs.Chunks.{ChunkedSet}
-use Rattle.chunk_parts.specs.Parts.{IsCut}
+use Rattle.c_tree.specs.Parts.{IsRoot, IsCut}
+use Rattle.c_tree.specs.declared.cut.Cut.{Cut}
 use Rattle.set_ops.specs.declared.begin.Begun.{Begun}
-use Rattle.set_ops.specs.declared.begin.Begun.TheVariants.{Whole, Cut}
-use Rattle.set_ops.specs.declared.halves.Halves.{Halves}
-use Rattle.set_ops.specs.declared.operation.Combined.{Combined}
-use Rattle.set_ops.specs.declared.operation.Operation.{Operation}
-use Rattle.set_ops.specs.declared.within.Side.{Side}
-use Rattle.set_ops.specs.declared.within.Side.TheVariants.{Below, Above}
-use Rattle.chunk_parts.specs.Sets.{has, below, above}
-use Rattle.set_ops.specs.Operations.{IsCombined}
+use Rattle.set_ops.specs.declared.begin.Begun.TheVariants.{Whole, Halved}
+use Rattle.set_ops.specs.declared.combined.Combined.{Combined}
+use Rattle.set_ops.specs.Answers.{IsCombined}
 
--- Both parts cut at a head that one of them has.
-pub record AreHalves (a b : ChunkedSet) (h : Halves) : Type 0 where
-  pub first : IsCut h.key a h.first.below h.first.found h.first.above
-  pub second : IsCut h.key b h.second.below h.second.found h.second.above
-  pub head : is_head a.chunk_size h.key ≡ true
-  pub there : (h.first.found ≡ true) ⊎ (h.second.found ≡ true)
+-- The set a is l, then k at its root, then r, and c is the set b cut at k.
+pub record AreHalves (a b l : ChunkedSet) (k : ℕ) (r : ChunkedSet) (c : Cut) : Type 0 where
+  pub first : IsRoot a l k r
+  pub second : IsCut k b c.below c.found c.above
 
--- the answer for both parts, or both parts cut
+-- the answer for both sets, or both sets cut
 abbrev pub IsBegun : Operation → ChunkedSet → ChunkedSet → Begun → Type 0
-IsBegun op a b (Whole c) = IsCombined op a b c.pieces c.common
-IsBegun op a b (Cut h) = AreHalves a b h
+IsBegun op a b (Whole m) = IsCombined op a.chunk_size a.elements b.elements m.part m.common
+IsBegun op a b (Halved h) = AreHalves a b h.left h.key h.right h.second
 
--- Two parts of one chunk size over a base.
+-- Two sets of one chunk size over a base.
 pub record AreOver (base : Option ℕ) (a b : ChunkedSet) : Type 0 where
   pub sizes : a.chunk_size ≡ b.chunk_size
   pub first : Ascends base a.elements
   pub second : Ascends base b.elements
 
--- The answers lo and hi are those for the halves below and above.
-pub record AreAnswers (op : Operation) (h : Halves) (lo hi : Combined) : Type 0 where
-  pub below : IsCombined op h.first.below h.second.below lo.pieces lo.common
-  pub above : IsCombined op h.first.above h.second.above hi.pieces hi.common
+-- The halves below are over a base, and those above over k.
+pub record AreHalvesOver (base : Option ℕ) (l : ChunkedSet) (k : ℕ) (r : ChunkedSet) (c : Cut) : Type 0 where
+  pub below : AreOver base l c.below
+  pub above : AreOver (Some k) r c.above
 
--- All of xs stands on a side of k.
-abbrev pub StandsOn : ℕ → List ℕ → Side → Type 0
-StandsOn k xs Below = (below k xs ≡ xs) × (has k xs ≡ false) × (above k xs ≡ [])
-StandsOn k xs Above = (below k xs ≡ []) × (has k xs ≡ false) × (above k xs ≡ xs)
+-- levels at which halves go to two threads, of which there are at most 6
+abbrev pub HasForks : ℕ → ℕ → Type 0
+HasForks forks level = (0 < forks) × (forks + level ≤ 7)
+
+-- the answer for the halves below
+abbrev pub IsBelow : Operation → ChunkedSet → Cut → Combined → Type 0
+IsBelow op l c m = IsCombined op l.chunk_size l.elements c.below.elements m.part m.common
+
+-- the answer for the halves above
+abbrev pub IsAbove : Operation → ChunkedSet → Cut → Combined → Type 0
+IsAbove op r c m = IsCombined op r.chunk_size r.elements c.above.elements m.part m.common
+
+-- The answers lo and hi are those for the halves below and above.
+pub record AreAnswers (op : Operation) (l r : ChunkedSet) (c : Cut) (lo hi : Combined) : Type 0 where
+  pub below : IsBelow op l c lo
+  pub above : IsAbove op r c hi

@@ -1,4 +1,4 @@
-pub mod Operations
-pub mod Halving
 pub mod Outcome
 pub mod Refusal
+pub mod Answers
+pub mod Halving

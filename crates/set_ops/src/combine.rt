@@ -2,52 +2,45 @@
 
 ghost use Rattle.std.specs.Prelude.{◌≡◌, IfOk};
 ghost use Rattle.tail_codec.specs.Spelling.{Ascends};
-ghost use Rattle.set_ops.specs.Operations.{IsCombined};
+ghost use Rattle.set_ops.specs.Answers.{IsCombined};
 
 use crate::begin::{Begun, begin};
-use crate::merged::merged;
-use crate::operation::{Combined, Operation};
-use crate::rejoin::rejoin;
-use crate::within::within_chunk;
-use chunk_parts::Part;
+use crate::combined::{Combined, Task, combine_lists, rejoin};
+use crate::mixed::are_mixed;
+use c_tree::View;
 use std::alloc::{AllocError, Global};
+use tail_codec::Operation;
 
-/// The answer for two parts over a base below both.
+/// The answer for two views that ascend from a base.
 pub(crate) fn combine(
     alloc: Global,
-    operation: Operation,
-    base: Option<u32>,
-    first: &Part<'_>,
-    second: &Part<'_>,
+    task: Task,
+    first: &View<'_>,
+    second: &View<'_>,
 ) -> Result<Combined, AllocError>
     requires sizes { first.now.chunk_size ≡ second.now.chunk_size }
-    requires first_over { Ascends base first.now.elements }
-    requires second_over { Ascends base second.now.elements }
-    ensures { IfOk result (λ c. IsCombined operation first.now second.now c.pieces c.common) }
+    requires first_over { Ascends task.base first.now.elements }
+    requires second_over { Ascends task.base second.now.elements }
+    ensures { IfOk result (λ c. IsCombined task.operation first.now.chunk_size first.now.elements
+        second.now.elements c.part c.common) }
 {
-    if let Some(combined) = merged(alloc, operation, first, second)? {
-        return Ok(combined);
+    if are_mixed(first, second) {
+        let (xs, ys) = (first.elements(alloc)?, second.elements(alloc)?);
+        return combine_lists(alloc, task, first.chunk_size(), &xs, &ys);
     }
-    if let Some(combined) = within_chunk(alloc, operation, base, first, second)? {
-        return Ok(combined);
-    }
-    let halves = match begin(alloc, operation, base, first, second)? {
+    let halves = match begin(alloc, task, first, second)? {
         Begun::Whole(combined) => return Ok(combined),
-        Begun::Cut(halves) => halves,
+        Begun::Halved(halves) => halves,
     };
-    let below = combine(
+    let (below, above) = (halves.second.below.view(), halves.second.above.view());
+    let below = combine(alloc, task, &halves.left, &below)?;
+    let above = combine(alloc, task.above(halves.key), &halves.right, &above)?;
+    rejoin(
         alloc,
-        operation,
-        base,
-        &halves.first.below.part(),
-        &halves.second.below.part(),
-    )?;
-    let above = combine(
-        alloc,
-        operation,
-        Some(halves.key),
-        &halves.first.above.part(),
-        &halves.second.above.part(),
-    )?;
-    rejoin(alloc, operation, &halves, below, above)
+        task.operation,
+        halves.key,
+        halves.second.found,
+        below,
+        above,
+    )
 }

@@ -2,25 +2,23 @@
 //!
 //! `union` and `difference` take two sets of one chunk size and give a set of that chunk size; a
 //! contract sees the answer's list as the union or the difference of the two lists, which
-//! `chunk_parts` defines by cases with laws on their elements. As a C-tree has one chunking for each
+//! `tail_codec` defines by cases with laws on their elements. As a C-tree has one chunking for each
 //! list, that says how the answer is cut, whatever chunks the two had. The two sets stay as they were.
 //!
-//! Both sets are cut at a head that one of them has, which the first has where it has any; the halves
-//! below it and above it are done each by itself, and joined. `specs/Operations.antt` says what the
-//! parts come to. Where one side has nothing in a range, the other's chunks there are shared. The
-//! recursion counts the elements that both have, so the answer's number of elements takes no walk.
-//! Sets of k and n elements take the heads of the smaller and of what lies beside them, about
-//! `k log(n / k + 1)` nodes, beside the chunks that both sets reach into.
+//! Both sets are cut at the head at the first's root; what lies below it and above it is done each by
+//! itself, and joined. `specs/Answers.antt` says what that comes to. Where one side has nothing in a
+//! range, the other's chunks there are shared. The recursion counts the elements that both have, so the
+//! answer's number of elements takes no walk. Sets of k and n elements take the heads of the smaller
+//! and of what lies beside them, about `k log(n / k + 1)` nodes, beside the chunks that both sets
+//! reach into.
 //!
-//! Where both sides have few heads, and about as many, their elements are merged one by one and the
-//! answer's chunks are made anew, which is faster than a cut at each head. A merge gives up, and the
-//! sides are cut after all, where a tail may be shared.
-//!
-//! Where the second side has no head and one chunk of the first takes all its elements, only the way down
-//! to that chunk is made anew.
+//! Where both sides have few heads, and about as many, and lie in one another's ranges, both are read
+//! as lists, the lists are merged, and the answer's chunks are made anew, which is faster than a cut at
+//! each head.
 //!
 //! `insert_all` and `remove_all` take an ascending list in place of the second set, and refuse one that
-//! does not ascend.
+//! does not ascend. The list is cut at the heads of the set, so that only the way down to the chunks
+//! that it reaches is made anew. A second set that has no head is taken as such a list too.
 //!
 //! `union_forked` and `difference_forked` give the same answers, with the halves on two threads at the
 //! first levels; a `Fork` is told of each half that begins. Only they need a handle of threads.
@@ -31,16 +29,14 @@
 
 mod begin;
 mod combine;
+mod combined;
 mod error;
 mod fork;
 mod forked;
-mod halves;
 mod lists;
-mod merged;
-mod operation;
-mod rejoin;
+mod mixed;
 mod sets;
-mod within;
+mod with_list;
 
 pub use error::SetError;
 pub use fork::{Fork, Quiet};

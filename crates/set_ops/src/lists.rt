@@ -1,11 +1,14 @@
 //! The operations on a set and an ascending list.
 
+ghost use Rattle.tail_codec.specs.Operations.{combined};
 ghost use Rattle.set_ops.specs.Outcome.{Changes, Inserts, Removes};
 
+use crate::combined::Task;
 use crate::error::SetError;
-use crate::sets::{difference, union};
-use c_tree::{CTree, CTreeError, ChunkSize};
+use crate::with_list::combine_with_list;
+use c_tree::CTree;
 use std::alloc::Global;
+use tail_codec::{Operation, ascends};
 
 /// The set with the elements of an ascending list added, in chunks of the set's size. The set stays
 /// as it was, and the answer shares its chunks as that of [`union`] does. A list of k elements and a
@@ -17,8 +20,7 @@ use std::alloc::Global;
 pub fn insert_all(alloc: Global, set: &CTree, elements: &[u32]) -> Result<CTree, SetError>
     ensures { Inserts set.now elements.now result }
 {
-    let more = set_of(alloc, set.chunk_size(), elements)?;
-    union(alloc, set, &more)
+    with_list(alloc, Operation::Union, set, elements)
 }
 
 /// The set without the elements of an ascending list, in chunks of the set's size. The set stays as
@@ -30,18 +32,22 @@ pub fn insert_all(alloc: Global, set: &CTree, elements: &[u32]) -> Result<CTree,
 pub fn remove_all(alloc: Global, set: &CTree, elements: &[u32]) -> Result<CTree, SetError>
     ensures { Removes set.now elements.now result }
 {
-    let fewer = set_of(alloc, set.chunk_size(), elements)?;
-    difference(alloc, set, &fewer)
+    with_list(alloc, Operation::Difference, set, elements)
 }
 
-/// The set of an ascending list.
-fn set_of(alloc: Global, chunk_size: ChunkSize, elements: &[u32]) -> Result<CTree, SetError>
-    ensures { Changes elements.now elements.now chunk_size result }
+/// What an operation gives for a set and a list, which is refused where it does not ascend.
+fn with_list(
+    alloc: Global,
+    operation: Operation,
+    set: &CTree,
+    elements: &[u32],
+) -> Result<CTree, SetError>
+    ensures { Changes elements.now (combined operation set.now.elements elements.now)
+        set.now.chunk_size result }
 {
-    match CTree::from_sorted(alloc, chunk_size.get(), elements) {
-        Ok(set) => Ok(set),
-        Err(CTreeError::NotAscending) => Err(SetError::NotAscending),
-        Err(CTreeError::NoMemory) => Err(SetError::NoMemory),
-        Err(CTreeError::BadChunkSize) => unreachable!(),
+    if !ascends(None, elements) {
+        return Err(SetError::NotAscending);
     }
+    let answer = combine_with_list(alloc, Task::new(operation), &set.view(), elements)?;
+    Ok(answer.into_set(alloc, operation, set.len(), elements.len())?)
 }

@@ -5,14 +5,14 @@ ghost use Rattle.set_ops.specs.declared.error.SetError.TheVariants.{ChunkSizesDi
 ghost use Rattle.set_ops.specs.Outcome.{Unites, Subtracts};
 
 use crate::combine::combine;
+use crate::combined::Task;
 use crate::error::SetError;
 use crate::fork::Fork;
 use crate::forked::combine_forked;
-use crate::operation::Operation;
-use c_tree::CTree;
-use chunk_parts::Part;
+use c_tree::{CTree, View};
 use std::alloc::Global;
 use std::thread::Threads;
+use tail_codec::Operation;
 
 /// The most levels at which halves go to two threads.
 const MOST_FORKS: u32 = 6;
@@ -24,10 +24,9 @@ const MOST_FORKS: u32 = 6;
 pub fn union(alloc: Global, first: &CTree, second: &CTree) -> Result<CTree, SetError>
     ensures { Unites first.now second.now result }
 {
-    let (a, b) = parts_of(first, second)?;
-    let united = combine(alloc, Operation::Unite, None, &a, &b)?;
-    let len = first.len() + second.len() - united.common;
-    Ok(united.pieces.into_set(alloc, len)?)
+    let (a, b) = views_of(first, second)?;
+    let united = combine(alloc, Task::new(Operation::Union), &a, &b)?;
+    Ok(united.into_set(alloc, Operation::Union, first.len(), second.len())?)
 }
 
 /// The set of the elements of the first set that the second lacks, in chunks of the size that both
@@ -38,10 +37,9 @@ pub fn union(alloc: Global, first: &CTree, second: &CTree) -> Result<CTree, SetE
 pub fn difference(alloc: Global, first: &CTree, second: &CTree) -> Result<CTree, SetError>
     ensures { Subtracts first.now second.now result }
 {
-    let (a, b) = parts_of(first, second)?;
-    let rest = combine(alloc, Operation::Subtract, None, &a, &b)?;
-    let len = first.len() - rest.common;
-    Ok(rest.pieces.into_set(alloc, len)?)
+    let (a, b) = views_of(first, second)?;
+    let rest = combine(alloc, Task::new(Operation::Difference), &a, &b)?;
+    Ok(rest.into_set(alloc, Operation::Difference, first.len(), second.len())?)
 }
 
 /// As [`union`], with the two halves on two threads at so many levels, at most 6. Where no thread can
@@ -59,11 +57,19 @@ pub fn union_forked<R: Threads + Sync, F: Fork + Sync>(
 ) -> Result<CTree, SetError>
     ensures { Unites first.now second.now result }
 {
-    let (a, b) = parts_of(first, second)?;
+    let (a, b) = views_of(first, second)?;
     let forks = forks.min(MOST_FORKS);
-    let both = combine_forked(rt, alloc, Operation::Unite, None, &a, &b, forks, 1, fork)?;
-    let len = first.len() + second.len() - both.common;
-    Ok(both.pieces.into_set(alloc, len)?)
+    let both = combine_forked(
+        rt,
+        alloc,
+        Task::new(Operation::Union),
+        &a,
+        &b,
+        forks,
+        1,
+        fork,
+    )?;
+    Ok(both.into_set(alloc, Operation::Union, first.len(), second.len())?)
 }
 
 /// As [`difference`], with the two halves on two threads at so many levels, at most 6. Where no thread
@@ -81,16 +87,24 @@ pub fn difference_forked<R: Threads + Sync, F: Fork + Sync>(
 ) -> Result<CTree, SetError>
     ensures { Subtracts first.now second.now result }
 {
-    let (a, b) = parts_of(first, second)?;
+    let (a, b) = views_of(first, second)?;
     let forks = forks.min(MOST_FORKS);
-    let left = combine_forked(rt, alloc, Operation::Subtract, None, &a, &b, forks, 1, fork)?;
-    let len = first.len() - left.common;
-    Ok(left.pieces.into_set(alloc, len)?)
+    let left = combine_forked(
+        rt,
+        alloc,
+        Task::new(Operation::Difference),
+        &a,
+        &b,
+        forks,
+        1,
+        fork,
+    )?;
+    Ok(left.into_set(alloc, Operation::Difference, first.len(), second.len())?)
 }
 
-/// Both sets as parts.
-fn parts_of<'a>(first: &'a CTree, second: &'a CTree) -> Result<(Part<'a>, Part<'a>), SetError>
-    ensures parts { IfOk result (λ p. (first.now.chunk_size ≡ second.now.chunk_size)
+/// Both sets where they stand.
+fn views_of<'a>(first: &'a CTree, second: &'a CTree) -> Result<(View<'a>, View<'a>), SetError>
+    ensures views { IfOk result (λ p. (first.now.chunk_size ≡ second.now.chunk_size)
         × (p.0 ≡ first.now) × (p.1 ≡ second.now)) }
     ensures refused { IfErr result (λ e. (e ≡ ChunkSizesDiffer)
         × (first.now.chunk_size ≢ second.now.chunk_size)) }
@@ -98,5 +112,5 @@ fn parts_of<'a>(first: &'a CTree, second: &'a CTree) -> Result<(Part<'a>, Part<'
     if first.chunk_size().get() != second.chunk_size().get() {
         return Err(SetError::ChunkSizesDiffer);
     }
-    Ok((Part::of(first), Part::of(second)))
+    Ok((first.view(), second.view()))
 }

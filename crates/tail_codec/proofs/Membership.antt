@@ -80,7 +80,7 @@ in_union_right e (x ∷ xs) ys c =
 pub union_members : (xs ys : List ℕ) (e : ℕ) → Contains (union xs ys) e ↔ (Contains xs e ⊎ Contains ys e)
 union_members xs ys e = (from_union e xs ys, λ c. elim c [ inl a ↦ in_union_left e xs ys a | inr b ↦ in_union_right e xs ys b ])
 
-has_if : (e : ℕ) (xs : List ℕ) → Contains xs e → has e xs ≡ true
+pub has_if : (e : ℕ) (xs : List ℕ) → Contains xs e → has e xs ≡ true
 has_if e [] c = absurd (contains_none e c)
 has_if e (x ∷ xs) c =
     elim (cases_eq x e) [
@@ -88,7 +88,7 @@ has_if e (x ∷ xs) c =
       | inr ne ↦ rw (ne_eqb x e ne) (elim (contains_cases x e xs c) [ inl is ↦ absurd (ne is) | inr later ↦ has_if e xs later ])
     ]
 
-has_only : (e : ℕ) (xs : List ℕ) → has e xs ≡ true → Contains xs e
+pub has_only : (e : ℕ) (xs : List ℕ) → has e xs ≡ true → Contains xs e
 has_only e [] h = cc
 has_only e (x ∷ xs) h =
     elim (cases_eq x e) [

@@ -110,13 +110,13 @@ module _ (op : Operation) (all : List ℕ) (xs ys list : List ℕ) (i j k : ℕ)
       ]
 
   -- what is left to write
-  pub less_left : k + from_bool (takes_second op || ltb x y) + most op (drop (i + from_bool (leb x y)) xs) (drop (j + from_bool (leb y x)) ys) ≤ k + most op (drop i xs) (drop j ys)
+  pub less_left : k + from_bool (takes_second op || ltb x y) + most op (length (drop (i + from_bool (leb x y)) xs)) (length (drop (j + from_bool (leb y x)) ys)) ≤ k + most op (length (drop i xs)) (length (drop j ys))
   less_left =
       let n = length-drop i xs in
       let n' = length-drop (i + 1) xs in
       let m = length-drop j ys in
       let m' = length-drop (j + 1) ys in
-      elim op as (λ o. k + from_bool (takes_second o || ltb x y) + most o (drop (i + from_bool (leb x y)) xs) (drop (j + from_bool (leb y x)) ys) ≤ k + most o (drop i xs) (drop j ys)) [
+      elim op as (λ o. k + from_bool (takes_second o || ltb x y) + most o (length (drop (i + from_bool (leb x y)) xs)) (length (drop (j + from_bool (leb y x)) ys)) ≤ k + most o (length (drop i xs)) (length (drop j ys))) [
         | Union ↦ elim (cases_lt y x) [
           | inl gt ↦ rw (lt-leb x y gt, le-leb y x (omega arith), none i) (omega (arith, n, m, m'))
           | inr le ↦ elim (cases_lt x y) [
@@ -150,7 +150,7 @@ merged_whole Union all out xs ys is (inr e) = append_assoc out xs ys ∙ ap (λ 
 merged_whole Difference all out xs ys is (inl e) = append-nil (out ++ xs) ∙ ap (λ v. out ++ v) (e ∙ sym (ap (λ v. difference v ys) e)) ∙ is
 merged_whole Difference all out xs ys is (inr e) = append-nil (out ++ xs) ∙ ap (λ v. out ++ v) (sym (ap (λ v. difference xs v) e ∙ difference_nothing xs)) ∙ is
 
-pub some_left : (op : Operation) (xs ys : List ℕ) (i j : ℕ) → i < length xs → j < length ys → 0 < most op (drop i xs) (drop j ys)
+pub some_left : (op : Operation) (xs ys : List ℕ) (i j : ℕ) → i < length xs → j < length ys → 0 < most op (length (drop i xs)) (length (drop j ys))
 some_left Union xs ys i j lt lt' = omega (arith, length-drop i xs)
 some_left Difference xs ys i j lt lt' = omega (arith, length-drop i xs)
 

@@ -1,5 +1,5 @@
 -- What a set operation makes of two ascending lists.
-use Rattle.std.specs.Prelude.{ℕ, ◌+◌, Bool, true, false, List, length}
+use Rattle.std.specs.Prelude.{ℕ, ◌+◌, Bool, true, false, List}
 use Rattle.tail_codec.specs.Sets.{union, difference}
 use Rattle.tail_codec.specs.declared.set_operation.Operation.{Operation}
 use Rattle.tail_codec.specs.declared.set_operation.Operation.TheVariants.{Union, Difference}
@@ -9,10 +9,10 @@ abbrev pub combined : Operation → List ℕ → List ℕ → List ℕ
 combined Union xs ys = union xs ys
 combined Difference xs ys = difference xs ys
 
--- how many elements the answer would have if the two had none in common
-abbrev pub most : Operation → List ℕ → List ℕ → ℕ
-most Union xs ys = length xs + length ys
-most Difference xs ys = length xs
+-- how many elements the answer for lists of m and n elements has if they have none in common
+abbrev pub most : Operation → ℕ → ℕ → ℕ
+most Union m n = m + n
+most Difference m n = m
 
 -- whether the answer has what the second list has alone
 abbrev pub takes_second : Operation → Bool

@@ -1,6 +1,6 @@
 //! Set operations on two ascending lists.
 
-ghost use Rattle.std.specs.Prelude.{◌≡◌, ◌+◌, ◌≤◌, length, None, IfOk};
+ghost use Rattle.std.specs.Prelude.{◌≡◌, ◌+◌, ◌^◌, ◌<◌, ◌≤◌, length, None, IfOk};
 ghost use Rattle.tail_codec.specs.Merging.{IsMerged};
 ghost use Rattle.tail_codec.specs.Operations.{combined, most, takes_second};
 ghost use Rattle.tail_codec.specs.Spelling.{Ascends};
@@ -17,6 +17,17 @@ pub enum Operation {
 }
 
 impl Operation {
+    /// How many elements the answer for lists of so many elements has if they have none in common.
+    pub fn most(self, first: usize, second: usize) -> usize
+        requires { first + second < 2 ^ 64 }
+        ensures { result ≡ most self first second }
+    {
+        match self {
+            Operation::Union => first + second,
+            Operation::Difference => first,
+        }
+    }
+
     /// Whether the answer has what the second has alone.
     fn takes_second(self) -> bool
         ensures { result ≡ takes_second self }
@@ -42,18 +53,12 @@ pub fn merge(
     requires second { Ascends None second.now }
     ensures { IfOk result (λ v. v.items ≡ combined operation first.now second.now) }
 {
-    let takes_second = operation.takes_second();
-    let room = if takes_second {
-        first.len() + second.len()
-    } else {
-        first.len()
-    };
     let mut list = Vec::new(alloc);
-    list.resize(room, 0)?;
+    list.resize(operation.most(first.len(), second.len()), 0)?;
     let merged = merge_front(operation, first, second, &mut list);
     list.truncate(merged.len);
     list.extend_from_slice(&first[merged.first..])?;
-    if takes_second {
+    if operation.takes_second() {
         list.extend_from_slice(&second[merged.second..])?;
     }
     Ok(list)
@@ -73,7 +78,7 @@ struct Merged {
 fn merge_front(operation: Operation, first: &[u32], second: &[u32], list: &mut [u32]) -> Merged
     requires first { Ascends None first.now }
     requires second { Ascends None second.now }
-    requires room { most operation first.now second.now ≤ length list.old }
+    requires room { most operation (length first.now) (length second.now) ≤ length list.old }
     ensures { IsMerged operation first.now second.now list.new result }
 {
     let takes_second = operation.takes_second();

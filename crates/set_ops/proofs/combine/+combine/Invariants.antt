@@ -1,5 +1,5 @@
-use Rattle.std.proofs.Common.{◌+◌, length}
+use Rattle.std.proofs.Common.{length}
 use Rattle.set_ops.proofs.combine.+combine.Given as goal
 
 abbrev pub decreases-combine : goal.decreases-combine
-decreases-combine l = length l.first.now.elements + length l.second.now.elements
+decreases-combine l = length l.first.now.elements

@@ -1,68 +1,81 @@
-use Rattle.std.proofs.Common.{IfOk, subst}
-use Rattle.set_ops.specs.Halving.{AreHalves, AreAnswers}
-use Rattle.set_ops.specs.Operations.{IsCombined, IsRejoined}
-use Rattle.set_ops.proofs.Combining.{over_below, over_above, can_rejoin, ok_is}
+use Rattle.std.proofs.Common.{◌≡◌, IfOk, subst, arith}
+use Rattle.set_ops.specs.Answers.{IsRejoined, IsCombined}
+use Rattle.set_ops.specs.Halving.{AreHalves, AreAnswers, IsBelow, IsAbove}
+use Rattle.set_ops.proofs.Combining.{halves_over, halves_rejoin, ok_is}
 use Rattle.set_ops.proofs.forked.+forked.Goals as goal
 
-pub combine_forked-in_two-requires-clause-below : goal.combine_forked-in_two-requires-clause-below
-combine_forked-in_two-requires-clause-below g t c κs within =
+pub combine_forked-in_two-requires-after_bounds : goal.combine_forked-in_two-requires-after_bounds
+combine_forked-in_two-requires-after_bounds g t c κs within =
     let a = c.args.first.now in
     let b = c.args.second.now in
-    let is : AreHalves a b c.in-Cut.halves = rw c.in-Cut.is at c.in_ok-combined.ensures in
-    over_below c.args.operation c.args.base a b c.in-Cut.halves is c.requires.sizes c.requires.first_over c.requires.second_over
-
-pub combine_forked-in_two-requires-clause-above : goal.combine_forked-in_two-requires-clause-above
-combine_forked-in_two-requires-clause-above g t c κs within =
-    let a = c.args.first.now in
-    let b = c.args.second.now in
-    let is : AreHalves a b c.in-Cut.halves = rw c.in-Cut.is at c.in_ok-combined.ensures in
-    over_above c.args.operation c.args.base a b c.in-Cut.halves is c.requires.sizes c.requires.first_over c.requires.second_over
+    let v = c.in-Halved.halves in
+    let h = c.in_ok-halves-in-Halved.halves in
+    let same = c.in_ok-halves-in-Halved.ensures in
+    let cut : AreHalves a b v.left v.key v.right v.second = rw c.in-Halved.is at c.in_ok-combined.ensures in
+    let is : AreHalves a b h.first.below h.key h.first.above h.second = rw (same.0, same.1, same.2, same.3) cut in
+    ((omega (arith, c.if-forks-eq0.false), c.requires.few), halves_over c.args.task.base a b h.first.below h.key h.first.above h.second is c.requires.first_over c.requires.second_over c.requires.sizes)
 
 pub combine_forked-rejoin-requires-clause-ascending : goal.combine_forked-rejoin-requires-clause-ascending
 combine_forked-rejoin-requires-clause-ascending g t c =
     let a = c.args.first.now in
     let b = c.args.second.now in
-    let h = c.in-Cut.halves in
-    let is : AreHalves a b h = rw c.in-Cut.is at c.in_ok-combined.ensures in
-    let are : AreAnswers c.args.operation h c.in_ok-below.below c.in_ok-below.above = c.in_ok-below.ensures in
-    (can_rejoin c.args.operation c.args.base a b h is c.requires.sizes c.requires.first_over c.requires.second_over c.in_ok-below.below c.in_ok-below.above are).ascending
+    let v = c.in-Halved.halves in
+    let h = c.in_ok-halves-in-Halved.halves in
+    let op = c.args.task.operation in
+    let same = c.in_ok-halves-in-Halved.ensures in
+    let cut : AreHalves a b v.left v.key v.right v.second = rw c.in-Halved.is at c.in_ok-combined.ensures in
+    let is : AreHalves a b h.first.below h.key h.first.above h.second = rw (same.0, same.1, same.2, same.3) cut in
+    let are : AreAnswers op h.first.below h.first.above h.second c.in_ok-below.below c.in_ok-below.above = c.in_ok-below.ensures in
+    (halves_rejoin c.args.task.base a b h.first.below h.key h.first.above h.second is c.requires.first_over c.requires.second_over op c.in_ok-below.below c.in_ok-below.above are).ascending
 
 pub combine_forked-rejoin-requires-clause-below_room : goal.combine_forked-rejoin-requires-clause-below_room
 combine_forked-rejoin-requires-clause-below_room g t c =
     let a = c.args.first.now in
     let b = c.args.second.now in
-    let h = c.in-Cut.halves in
-    let is : AreHalves a b h = rw c.in-Cut.is at c.in_ok-combined.ensures in
-    let are : AreAnswers c.args.operation h c.in_ok-below.below c.in_ok-below.above = c.in_ok-below.ensures in
-    (can_rejoin c.args.operation c.args.base a b h is c.requires.sizes c.requires.first_over c.requires.second_over c.in_ok-below.below c.in_ok-below.above are).below_room
+    let v = c.in-Halved.halves in
+    let h = c.in_ok-halves-in-Halved.halves in
+    let op = c.args.task.operation in
+    let same = c.in_ok-halves-in-Halved.ensures in
+    let cut : AreHalves a b v.left v.key v.right v.second = rw c.in-Halved.is at c.in_ok-combined.ensures in
+    let is : AreHalves a b h.first.below h.key h.first.above h.second = rw (same.0, same.1, same.2, same.3) cut in
+    let are : AreAnswers op h.first.below h.first.above h.second c.in_ok-below.below c.in_ok-below.above = c.in_ok-below.ensures in
+    (halves_rejoin c.args.task.base a b h.first.below h.key h.first.above h.second is c.requires.first_over c.requires.second_over op c.in_ok-below.below c.in_ok-below.above are).below_room
 
 pub combine_forked-rejoin-requires-clause-above_room : goal.combine_forked-rejoin-requires-clause-above_room
 combine_forked-rejoin-requires-clause-above_room g t c =
     let a = c.args.first.now in
     let b = c.args.second.now in
-    let h = c.in-Cut.halves in
-    let is : AreHalves a b h = rw c.in-Cut.is at c.in_ok-combined.ensures in
-    let are : AreAnswers c.args.operation h c.in_ok-below.below c.in_ok-below.above = c.in_ok-below.ensures in
-    (can_rejoin c.args.operation c.args.base a b h is c.requires.sizes c.requires.first_over c.requires.second_over c.in_ok-below.below c.in_ok-below.above are).above_room
+    let v = c.in-Halved.halves in
+    let h = c.in_ok-halves-in-Halved.halves in
+    let op = c.args.task.operation in
+    let same = c.in_ok-halves-in-Halved.ensures in
+    let cut : AreHalves a b v.left v.key v.right v.second = rw c.in-Halved.is at c.in_ok-combined.ensures in
+    let is : AreHalves a b h.first.below h.key h.first.above h.second = rw (same.0, same.1, same.2, same.3) cut in
+    let are : AreAnswers op h.first.below h.first.above h.second c.in_ok-below.below c.in_ok-below.above = c.in_ok-below.ensures in
+    (halves_rejoin c.args.task.base a b h.first.below h.key h.first.above h.second is c.requires.first_over c.requires.second_over op c.in_ok-below.below c.in_ok-below.above are).above_room
 
 pub combine_forked-returns : goal.combine_forked-returns
 combine_forked-returns g t c =
     let a = c.args.first.now in
     let b = c.args.second.now in
-    let h = c.in-Cut.halves in
-    let is : AreHalves a b h = rw c.in-Cut.is at c.in_ok-combined.ensures in
-    let are : AreAnswers c.args.operation h c.in_ok-below.below c.in_ok-below.above = c.in_ok-below.ensures in
+    let v = c.in-Halved.halves in
+    let h = c.in_ok-halves-in-Halved.halves in
+    let op = c.args.task.operation in
+    let same = c.in_ok-halves-in-Halved.ensures in
+    let cut : AreHalves a b v.left v.key v.right v.second = rw c.in-Halved.is at c.in_ok-combined.ensures in
+    let is : AreHalves a b h.first.below h.key h.first.above h.second = rw (same.0, same.1, same.2, same.3) cut in
+    let are : AreAnswers op h.first.below h.first.above h.second c.in_ok-below.below c.in_ok-below.above = c.in_ok-below.ensures in
     ok_is
-    (λ m. IsRejoined c.args.operation c.in_ok-below.below.pieces c.in_ok-below.below.common h.key (h.first.found, h.second.found) c.in_ok-below.above.pieces c.in_ok-below.above.common m.pieces m.common)
-    (λ m. IsCombined c.args.operation a b m.pieces m.common)
-    (can_rejoin c.args.operation c.args.base a b h is c.requires.sizes c.requires.first_over c.requires.second_over c.in_ok-below.below c.in_ok-below.above are).whole
+    (λ m. IsRejoined op c.in_ok-below.below h.key h.second.found c.in_ok-below.above m.part m.common)
+    (λ m. IsCombined op a.chunk_size a.elements b.elements m.part m.common)
+    (halves_rejoin c.args.task.base a b h.first.below h.key h.first.above h.second is c.requires.first_over c.requires.second_over op c.in_ok-below.below c.in_ok-below.above are).whole
     c.rejoin.result c.rejoin.ensures
 
 pub in_two-returns : goal.in_two-returns
 in_two-returns g t c =
-    let op = c.args.operation in
+    let op = c.args.task.operation in
     let h = c.args.halves.now in
     record {
-      below = subst (λ o. IfOk o (λ m. IsCombined op h.first.below h.second.below m.pieces m.common)) c.in_ok-below.was c.join-below.ensures.first;
-      above = subst (λ o. IfOk o (λ m. IsCombined op h.first.above h.second.above m.pieces m.common)) c.in_ok-above.was c.join-below.ensures.second;
+      below = subst (λ o. IfOk o (IsBelow op h.first.below h.second)) c.in_ok-below.was c.join-below.ensures.first;
+      above = subst (λ o. IfOk o (IsAbove op h.first.above h.second)) c.in_ok-above.was c.join-below.ensures.second;
     }

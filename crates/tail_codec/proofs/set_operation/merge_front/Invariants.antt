@@ -8,7 +8,7 @@ invariant-loop-from_first l = record {
   merging : IsMerging l.fn.operation (combined l.fn.operation l.first l.second) (take l.len l.list) (drop l.from_first l.first) (drop l.from_second l.second);
   first : l.from_first ≤ length l.first;
   second : l.from_second ≤ length l.second;
-  room : l.len + most l.fn.operation (drop l.from_first l.first) (drop l.from_second l.second) ≤ length l.list;
+  room : l.len + most l.fn.operation (length (drop l.from_first l.first)) (length (drop l.from_second l.second)) ≤ length l.list;
 }
 
 abbrev pub decreases-loop-from_first : goal.decreases-loop-from_first
