@@ -1,8 +1,7 @@
 -- A set that is made of an ascending list, chunk by chunk.
-use Rattle.std.proofs.Common.{◌≡◌, ℕ, ◌+◌, ◌^◌, ◌<◌, ◌≤◌, Option, None, Some, List, [], ◌∷◌, ◌++◌, length, drop, get_or, refl, sym, ◌∙◌, ap, append_assoc, length-append, arith}
-use Rattle.std.proofs.lemmas.List.{drop_more}
+use Rattle.std.proofs.Common.{◌≡◌, ℕ, ◌+◌, ◌^◌, ◌<◌, ◌≤◌, None, Some, List, [], ◌∷◌, ◌++◌, length, sym, ◌∙◌, ap, append_assoc, length-append, arith}
 use Rattle.shared_tree.specs.Entries.{Rises, IsMap}
-use Rattle.tail_codec.specs.Spelling.{BasedList, based_list, AscendsFrom, Ascends, least}
+use Rattle.tail_codec.specs.Spelling.{BasedList, based_list, AscendsFrom, Ascends}
 use Rattle.c_tree.specs.Chunks.{before_head, chunks_of, elements_of, together}
 use Rattle.c_tree.specs.Parts.{IsPart}
 use Rattle.c_tree.specs.Cutting.{from_head}

@@ -15,7 +15,8 @@ use std::marker::Model;
 use tail_codec::Tail;
 
 /// A set of numbers below 2^32, cut at its heads. A contract sees its elements as an ascending list,
-/// its chunk size, and the depth of its tree of chunks. It is 64 bytes beside what its prefix and its tree of chunks take.
+/// its chunk size, and the depth of its tree of chunks. It is 64 bytes beside what its prefix and its
+/// tree of chunks take.
 pub struct CTree {
     prefix: Tail,
     chunks: Tree<ChunkTail>,

@@ -1,17 +1,16 @@
 -- Answers for two lists that are cut at one element of the first.
-use Rattle.std.proofs.Common.{◌≡◌, ℕ, ◌+◌, ◌^◌, ◌<◌, ◌≤◌, Bool, true, Option, None, Some, List, [], ◌∷◌, ◌++◌, length, refl, sym, ◌∙◌, ap, length-append, arith}
+use Rattle.std.proofs.Common.{◌≡◌, ℕ, ◌+◌, ◌^◌, ◌<◌, ◌≤◌, Bool, Option, None, Some, List, [], ◌∷◌, ◌++◌, length, refl, sym, ◌∙◌, ap, length-append, arith}
 use Rattle.std.specs.Prelude.{Result, Ok, Err, IfOk}
 use Rattle.std.specs.declared.alloc.AllocError.{AllocError}
 use Rattle.tail_codec.specs.Operations.{combined, most}
-use Rattle.tail_codec.specs.Sets.{Cuts, has, below, above}
+use Rattle.tail_codec.specs.Sets.{Cuts, below, above}
 use Rattle.tail_codec.specs.Spelling.{AscendsFrom, Ascends, least}
 use Rattle.tail_codec.specs.declared.set_operation.Operation.{Operation}
 use Rattle.tail_codec.specs.declared.set_operation.Operation.TheVariants.{Union}
 use Rattle.tail_codec.proofs.Ascending.{ascends_from, ascends_front}
 use Rattle.tail_codec.proofs.Cutting.{after_it, below_ascends, above_from}
 use Rattle.tail_codec.proofs.Unions.{union_swap}
-use Rattle.c_tree.specs.Heads.{is_head}
-use Rattle.c_tree.specs.Chunks.{ChunkedSet, IsSetOf}
+use Rattle.c_tree.specs.Chunks.{ChunkedSet}
 use Rattle.c_tree.specs.Parts.{IsRoot}
 use Rattle.c_tree.specs.declared.cut.Cut.{Cut}
 use Rattle.set_ops.specs.declared.combined.Combined.{Combined}

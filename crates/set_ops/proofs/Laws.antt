@@ -1,6 +1,5 @@
 -- Set operations on two lists that are cut at one element of the first.
-use Rattle.std.proofs.Common.{◌≡◌, ◌⊎◌, ℕ, ◌+◌, ◌^◌, ◌≤◌, Bool, true, false, not, if◌then◌else◌, inl, inr, None, List, [], ◌∷◌, ◌++◌, length, refl, sym, ◌∙◌, ap, length-append, arith}
-use Rattle.std.specs.List.{Contains}
+use Rattle.std.proofs.Common.{◌≡◌, ℕ, ◌+◌, ◌^◌, ◌≤◌, Bool, true, false, if◌then◌else◌, inl, inr, List, [], ◌∷◌, ◌++◌, length, refl, ◌∙◌, ap, length-append, arith}
 use Rattle.std.proofs.lemmas.Bool.{cases_order, cases_lt, cases_Bool, lt-ltb, le-ltb, eq-eqb, ne_eqb}
 use Rattle.tail_codec.specs.Operations.{combined, most}
 use Rattle.tail_codec.specs.Sets.{has, below, above, union, difference}

@@ -7,6 +7,7 @@ use Rattle.c_tree.specs.Parts.{IsRoot, IsCut}
 use Rattle.c_tree.specs.declared.cut.Cut.{Cut}
 use Rattle.set_ops.specs.declared.begin.Begun.{Begun}
 use Rattle.set_ops.specs.declared.begin.Begun.TheVariants.{Whole, Halved}
+use Rattle.set_ops.specs.declared.begin.OwnedHalves.{OwnedHalves}
 use Rattle.set_ops.specs.declared.combined.Combined.{Combined}
 use Rattle.set_ops.specs.Answers.{IsCombined}
 
@@ -47,3 +48,19 @@ IsAbove op r c m = IsCombined op r.chunk_size r.elements c.above.elements m.part
 pub record AreAnswers (op : Operation) (l r : ChunkedSet) (c : Cut) (lo hi : Combined) : Type 0 where
   pub below : IsBelow op l c lo
   pub above : IsAbove op r c hi
+
+-- halves that can be lent, over a base
+abbrev pub AreLent : Option ℕ → OwnedHalves → Type 0
+AreLent base h = AreHalvesOver base h.first.below h.key h.first.above h.second
+
+-- the answer for the lent halves below
+abbrev pub IsLentBelow : Operation → OwnedHalves → Combined → Type 0
+IsLentBelow op h m = IsBelow op h.first.below h.second m
+
+-- the answer for the lent halves above
+abbrev pub IsLentAbove : Operation → OwnedHalves → Combined → Type 0
+IsLentAbove op h m = IsAbove op h.first.above h.second m
+
+-- the answers for both
+abbrev pub AreLentAnswers : Operation → OwnedHalves → Combined → Combined → Type 0
+AreLentAnswers op h lo hi = AreAnswers op h.first.below h.first.above h.second lo hi

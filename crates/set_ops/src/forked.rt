@@ -4,7 +4,7 @@ ghost use Rattle.std.specs.Prelude.{◌≡◌, ◌+◌, ◌<◌, ◌≤◌, IfOk
 ghost use denote.Param.Send.{IsSync};
 ghost use Rattle.tail_codec.specs.Spelling.{Ascends};
 ghost use Rattle.set_ops.specs.Answers.{IsCombined};
-ghost use Rattle.set_ops.specs.Halving.{AreHalvesOver, HasForks, AreAnswers, IsBelow, IsAbove};
+ghost use Rattle.set_ops.specs.Halving.{HasForks, AreLent, AreLentAnswers, IsLentBelow, IsLentAbove};
 
 use crate::begin::{Begun, OwnedHalves, begin};
 use crate::combine::combine;
@@ -64,28 +64,22 @@ fn in_two<R: Threads + Sync, F: Fork + Sync>(
     level: u32,
     fork: &F,
 ) -> Result<(Combined, Combined), AllocError>
-    requires { HasForks forks level × AreHalvesOver task.base halves.now.first.below halves.now.key
-        halves.now.first.above halves.now.second }
-    ensures { IfOk result (λ p. AreAnswers task.operation halves.now.first.below
-        halves.now.first.above halves.now.second p.0 p.1) }
+    requires { HasForks forks level × AreLent task.base halves.now }
+    ensures { IfOk result (λ p. AreLentAnswers task.operation halves.now p.0 p.1) }
 {
     let (below, above) = thread::join(
         rt,
         || -> Result<Combined, AllocError>
-            requires { IsSync R.row × IsSync F.row × HasForks forks level
-                × AreHalvesOver task.base halves.now.first.below halves.now.key halves.now.first.above
-                halves.now.second }
-            ensures { IfOk result (IsBelow task.operation halves.entry.now.first.below halves.entry.now.second) }
+            requires { IsSync R.row × IsSync F.row × HasForks forks level × AreLent task.base halves.now }
+            ensures { IfOk result (IsLentBelow task.operation halves.entry.now) }
         {
             fork.enter(level, false);
             let (first, second) = halves.below();
             combine_forked(rt, alloc, task, &first, &second, forks - 1, level + 1, fork)
         },
         || -> Result<Combined, AllocError>
-            requires { IsSync R.row × IsSync F.row × HasForks forks level
-                × AreHalvesOver task.base halves.now.first.below halves.now.key halves.now.first.above
-                halves.now.second }
-            ensures { IfOk result (IsAbove task.operation halves.entry.now.first.above halves.entry.now.second) }
+            requires { IsSync R.row × IsSync F.row × HasForks forks level × AreLent task.base halves.now }
+            ensures { IfOk result (IsLentAbove task.operation halves.entry.now) }
         {
             fork.enter(level, true);
             let task = task.above(halves.key);

@@ -1,7 +1,7 @@
 -- A list that grows at its end, and its bytes with it.
-use Rattle.std.proofs.Common.{◌≡◌, ℕ, ◌+◌, ◌-◌, ◌^◌, ◌<◌, ◌≤◌, zero, suc, List, [], ◌∷◌, ◌++◌, length, take, get_or, refl, sym, arith, append_assoc}
+use Rattle.std.proofs.Common.{◌≡◌, ℕ, ◌+◌, ◌-◌, ◌^◌, ◌<◌, ◌≤◌, zero, suc, List, [], ◌∷◌, ◌++◌, length, take, get_or, refl, sym, append_assoc}
 use Rattle.std.proofs.lemmas.List.{append-nil, take_more}
-use Rattle.tail_codec.specs.Writing.{least_after, WritesNumber, WritesList}
+use Rattle.tail_codec.specs.Writing.{least_after, WritesNumber}
 use Rattle.tail_codec.specs.Spelling.{SpellsNumber, SpellsFrom, AscendsFrom}
 
 -- the last element is above those before it

@@ -72,12 +72,7 @@ impl Tail {
 
     /// The tail of the elements on one side of a number, over a base below them. Where they are all
     /// elements this tail is shared.
-    fn side(
-        &self,
-        alloc: Global,
-        base: Option<u32>,
-        elements: &[u32],
-    ) -> Result<Tail, AllocError>
+    fn side(&self, alloc: Global, base: Option<u32>, elements: &[u32]) -> Result<Tail, AllocError>
         requires over { Ascends base elements.now }
         requires whole { length elements.now ≡ length self.now.elements
             → elements.now ≡ self.now.elements }

@@ -1,6 +1,6 @@
 use Rattle.std.proofs.Common.{◌≡◌, ◌++◌, arith, rules}
 use Rattle.c_tree.specs.Chunks.{IsSetOf}
-use Rattle.c_tree.proofs.Rooted.{more_over, more_join, more_whole, root_smaller}
+use Rattle.c_tree.proofs.Rooted.{more_over, more_join, root_smaller}
 use Rattle.c_tree.proofs.join.+with_more.Goals as goal
 
 pub with_more-requires : goal.with_more-requires

@@ -1,4 +1,4 @@
-use Rattle.std.proofs.Common.{◌≡◌, ℕ, length, ap, arith, rules}
+use Rattle.std.proofs.Common.{arith, rules}
 use Rattle.set_ops.specs.Answers.{IsCombined, IsRejoined}
 use Rattle.set_ops.specs.Halving.{AreHalves, AreAnswers}
 use Rattle.set_ops.proofs.Combining.{halves_less, halves_over, halves_rejoin, ok_is}

@@ -1,4 +1,4 @@
-use Rattle.std.proofs.Common.{◌≡◌, length, ◌∙◌, ap, refl, arith, rules}
+use Rattle.std.proofs.Common.{◌≡◌, length, ◌∙◌, ap, arith}
 use Rattle.tail_codec.specs.Operations.{combined}
 use Rattle.tail_codec.specs.Spelling.{least}
 use Rattle.tail_codec.proofs.Ascending.{ascends_from}

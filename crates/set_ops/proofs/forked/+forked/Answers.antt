@@ -1,4 +1,4 @@
-use Rattle.std.proofs.Common.{◌≡◌, IfOk, subst, arith}
+use Rattle.std.proofs.Common.{IfOk, subst, arith}
 use Rattle.set_ops.specs.Answers.{IsRejoined, IsCombined}
 use Rattle.set_ops.specs.Halving.{AreHalves, AreAnswers, IsBelow, IsAbove}
 use Rattle.set_ops.proofs.Combining.{halves_over, halves_rejoin, ok_is}

@@ -1,5 +1,4 @@
 use Rattle.std.proofs.Common.{◌≡◌, length, arith, rules}
-use Rattle.std.proofs.lemmas.Bool.{eqb-true}
 use Rattle.tail_codec.specs.Spelling.{least}
 use Rattle.tail_codec.proofs.Ascending.{ascends_from}
 use Rattle.set_ops.specs.Answers.{IsCombined, IsRejoined}

@@ -1,4 +1,4 @@
-use Rattle.std.proofs.Common.{◌≡◌, ◌++◌, ℕ, [], if◌then◌else◌, true, false, take, drop, sym, ap, ◌∙◌}
+use Rattle.std.proofs.Common.{◌≡◌, ◌++◌, true, false, take, drop, sym, ap, ◌∙◌}
 use Rattle.std.proofs.lemmas.List.{append-nil, take_rest}
 use Rattle.tail_codec.specs.Operations.{combined, takes_second}
 use Rattle.tail_codec.proofs.Merging.{merged_whole, written_anew}

@@ -1,5 +1,5 @@
-use Rattle.std.proofs.Common.{◌+◌, ◌≤◌, ◌<◌, ℕ, length, take, drop, length-set, arith}
-use Rattle.tail_codec.specs.Operations.{combined, most}
+use Rattle.std.proofs.Common.{◌<◌, ℕ, length, length-set, arith}
+use Rattle.tail_codec.specs.Operations.{combined}
 use Rattle.tail_codec.proofs.Merging.{stepped, less_left, further, some_left}
 use Rattle.tail_codec.proofs.set_operation.merge_front.Goals as goal
 

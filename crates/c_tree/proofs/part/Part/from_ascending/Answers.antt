@@ -1,4 +1,4 @@
-use Rattle.std.proofs.Common.{◌≡◌, refl, ◌∙◌, ap, arith, rules}
+use Rattle.std.proofs.Common.{◌≡◌, ◌∙◌, ap, arith}
 use Rattle.tail_codec.specs.Spelling.{BasedList, least}
 use Rattle.tail_codec.proofs.Ascending.{ascends_from}
 use Rattle.c_tree.specs.Chunks.{ChunkedSet, before_head, chunks_of}

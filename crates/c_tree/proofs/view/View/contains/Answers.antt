@@ -1,4 +1,4 @@
-use Rattle.std.proofs.Common.{ap, sym, refl, arith}
+use Rattle.std.proofs.Common.{ap, refl, arith}
 use Rattle.c_tree.specs.Chunks.{ChunkedSet, together}
 use Rattle.c_tree.proofs.Turns.{starts, turn_left, turn_right, at_head, stands_in_tail}
 use Rattle.c_tree.proofs.view.View.contains.Goals as goal

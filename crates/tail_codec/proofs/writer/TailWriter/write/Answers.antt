@@ -1,4 +1,4 @@
-use Rattle.std.proofs.Common.{◌≡◌, ℕ, Option, List, length, take, sym, ap, rules}
+use Rattle.std.proofs.Common.{◌≡◌, ℕ, Option, List, length, take, sym, ap}
 use Rattle.tail_codec.specs.Decoding.{elements_over}
 use Rattle.tail_codec.specs.Spelling.{Spells, least}
 use Rattle.tail_codec.specs.Writing.{WritesList}
