@@ -2,8 +2,8 @@
 use Rattle.std.proofs.Common.{◌≡◌, ◌≢◌, ℕ, ◌<◌, ◌==◌, Bool, true, false, ◌||◌, ◌&&◌, not, inl, inr, Option, Some, None, unwrap_or, if◌then◌else◌, List, [], ◌∷◌, ◌++◌, length, refl, sym, ap, ◌∙◌, subst, arith}
 use Rattle.std.proofs.lemmas.Bool.{cases_Bool, cases_order, lt-ltb, le-ltb, eq-eqb, eqb-true, ne_eqb}
 use lib.Dec.{ltb}
-use Rattle.chunk_parts.specs.Sets.{has, below, above, union, difference}
-use Rattle.c_tree.specs.Chunks.{ChunkedSet, chunked_set, IsChunkedSet}
+use Rattle.tail_codec.specs.Sets.{has, below, above, union, difference}
+use Rattle.c_tree.specs.Chunks.{ChunkedSet, IsSetOf, IsChunkedSet}
 use Rattle.tree_batch.specs.Run.{has_number, parted, VertexRun, elements_at, chunk_size_at, IsSetAfter}
 
 pub has_append : (xs ys : List ℕ) (v : ℕ) → has_number (xs ++ ys) v ≡ (has_number xs v || has_number ys v)
@@ -102,12 +102,12 @@ parted_bools true false o = rw (or_true o)
 parted_bools false false true = refl
 parted_bools false false false = refl
 
-module _ (r : VertexRun) (old : Option ChunkedSet) (g t : ChunkedSet) (grown : g ≡ chunked_set (union (elements_at old) r.added) (chunk_size_at r.chunk_size old)) (rest : t ≡ chunked_set (difference g.elements r.removed) g.chunk_size) where
+module _ (r : VertexRun) (old : Option ChunkedSet) (g t : ChunkedSet) (grown : IsSetOf (union (elements_at old) r.added) (chunk_size_at r.chunk_size old) g) (rest : IsSetOf (difference g.elements r.removed) g.chunk_size t) where
   members_after : (v : ℕ) → has_number t.elements v ≡ unwrap_or (parted r.added r.removed v) (has_number (elements_at old) v)
   members_after v =
-      ap (λ s. has_number s.elements v) rest
+      ap (λ xs. has_number xs v) rest.elements
       ∙ has_difference g.elements r.removed v
-      ∙ ap (λ h. h && not (has_number r.removed v)) (ap (λ s. has_number s.elements v) grown ∙ has_union (elements_at old) r.added v)
+      ∙ ap (λ h. h && not (has_number r.removed v)) (ap (λ xs. has_number xs v) grown.elements ∙ has_union (elements_at old) r.added v)
       ∙ parted_bools (has_number r.added v) (has_number r.removed v) (has_number (elements_at old) v)
 
   -- where no element is left there is no set
@@ -118,7 +118,7 @@ module _ (r : VertexRun) (old : Option ChunkedSet) (g t : ChunkedSet) (grown : g
   pub set_after : IsChunkedSet t → 0 < length t.elements → IsSetAfter r old (Some t)
   set_after valid some = record {
     members = members_after;
-    set = record { valid = valid; some = some; chunk_size = ap (λ s. s.chunk_size) rest ∙ ap (λ s. s.chunk_size) grown };
+    set = record { valid = valid; some = some; chunk_size = rest.chunk_size ∙ grown.chunk_size };
   }
 
 pub no_number : (xs : List ℕ) → length xs ≡ 0 → xs ≡ []

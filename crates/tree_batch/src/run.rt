@@ -2,10 +2,10 @@
 
 ghost use Rattle.std.specs.Prelude.{◌≡◌, None, Ok, IfOk, IfErr};
 ghost use Rattle.std.specs.Option.{option_copied};
-ghost use Rattle.c_tree.specs.Chunks.{chunked_set};
+ghost use Rattle.c_tree.specs.Chunks.{IsSetOf};
 ghost use Rattle.tail_codec.specs.Spelling.{Ascends};
+ghost use Rattle.tail_codec.specs.Sets.{union, difference};
 ghost use Rattle.set_ops.specs.declared.error.SetError.TheVariants.{NoMemory};
-ghost use Rattle.chunk_parts.specs.Sets.{union, difference};
 ghost use Rattle.tree_batch.specs.Run.{NeighboursClimb, begin_with, elements_at, chunk_size_at, IsParted, IsRunFor, IsSetAfter};
 
 use crate::decision::Decision;
@@ -178,7 +178,7 @@ pub(crate) fn with_added(
     added: &[u32],
 ) -> Result<CTree, AllocError>
     requires { Ascends None added.now }
-    ensures { IfOk result (λ t. t ≡ chunked_set
+    ensures { IfOk result (IsSetOf
         (union (elements_at (option_copied old.entry)) added.now)
         (chunk_size_at chunk_size (option_copied old.entry))) }
 {
@@ -196,7 +196,7 @@ pub(crate) fn with_added(
 /// The set of an ascending list.
 fn begun(alloc: Global, chunk_size: ChunkSize, added: &[u32]) -> Result<CTree, AllocError>
     requires { Ascends None added.now }
-    ensures { IfOk result (λ t. t ≡ chunked_set added.now chunk_size) }
+    ensures { IfOk result (IsSetOf added.now chunk_size) }
 {
     match CTree::from_sorted(alloc, chunk_size.get(), added) {
         Ok(set) => Ok(set),
@@ -208,8 +208,7 @@ fn begun(alloc: Global, chunk_size: ChunkSize, added: &[u32]) -> Result<CTree, A
 /// The set without the elements of an ascending list.
 pub(crate) fn without(alloc: Global, set: CTree, removed: &[u32]) -> Result<CTree, AllocError>
     requires { Ascends None removed.now }
-    ensures { IfOk result (λ t. t
-        ≡ chunked_set (difference set.elements removed.now) set.chunk_size) }
+    ensures { IfOk result (IsSetOf (difference set.elements removed.now) set.chunk_size) }
 {
     if removed.is_empty() {
         return Ok(set);
