@@ -4,6 +4,9 @@ use Rattle.algorithm_meaning.specs.declared.outcome.End.{End}
 use Rattle.algorithm_meaning.specs.declared.outcome.End.TheVariants.{TurnsOver, Fault}
 use Rattle.algorithm_meaning.specs.State.{StateValue}
 use Rattle.algorithm_meaning.specs.Stand.{Stand, Live, Over, then_do, with_value, choose}
+use Rattle.std.specs.Option.{is_some}
+use Rattle.std.proofs.lemmas.Bool.{false≢true}
+use Rattle.algorithm_meaning.specs.Seen.{stand}
 use Rattle.algorithm_meaning.specs.Loop.{take_turn, loop}
 
 -- where a turn is left, it is taken
@@ -83,3 +86,9 @@ faulted A test body next number b u (suc k) none =
 pub again_faults : (A : Type 0) (test : A → StateValue → Option Bool) (body : A → StateValue → Stand) (next : A → A) (number : ℕ) (a : A) (s : StateValue) (b : A) (u : StateValue)
     → Again A test body next number a s b u → test b u ≡ None → Over u (Fault 401 number) ≡ loop test body next number s.turns a s
 again_faults A test body next number a s b u r none = sym (faulted A test body next number b u r.bound none) ∙ r.same
+
+-- the same, told by an end
+pub again_over : (A : Type 0) (test : A → StateValue → Option Bool) (body : A → StateValue → Stand) (next : A → A) (number : ℕ) (a : A) (s : StateValue) (b : A) (u t : StateValue) (end : Option End)
+    → Again A test body next number a s b u → test b u ≡ Some true → stand end t ≡ take_turn u.turns u (body b) → is_some end ≡ true → stand end t ≡ loop test body next number s.turns a s
+again_over A test body next number a s b u t None r holds ran some = absurd (false≢true some)
+again_over A test body next number a s b u t (Some end) r holds ran some = again_ends A test body next number a s b u t end r holds (sym ran)

@@ -2,7 +2,7 @@
 use Rattle.std.proofs.Common.{◌≡◌, ℕ, zero, suc, ◌<◌, ◌≤◌, cond, nat_lt, List, [], ◌∷◌, ◌++◌, length, slice_set, slice_index_or, ap, refl, arith}
 use Rattle.std.proofs.lemmas.Bool.Decides.{nat_tests}
 use Rattle.algorithm_meaning.specs.declared.state.VertexSet.{VertexSet}
-use Rattle.algorithm_meaning.specs.Change.{set_members, inserted}
+use Rattle.algorithm_meaning.specs.VertexSets.{set_members, inserted}
 
 pub set_members_inside : (sets : List VertexSet) (place : ℕ) (members : List ℕ) (d : VertexSet) → place < length sets
     → slice_set sets place (record { name = (slice_index_or sets place d).name; members = members }) ≡ set_members sets place members

@@ -3,8 +3,8 @@ use Rattle.std.specs.Prelude.{◌≡◌, zero, suc, ◌<◌, unsigned_abs, ℤ, 
 use Rattle.std.specs.Int.{int_wrap, int_min, int_max, w64}
 use Rattle.typed_tree.specs.declared.expression.Operator.{Operator}
 use Rattle.typed_tree.specs.declared.expression.Operator.TheVariants as operator
-use Rattle.typed_tree.specs.declared.expression.Reduction.{Reduction}
-use Rattle.typed_tree.specs.declared.expression.Reduction.TheVariants as reduction
+use Rattle.syntax.specs.declared.statement.Reduction.{Reduction}
+use Rattle.syntax.specs.declared.statement.Reduction.TheVariants as reduction
 use Rattle.typed_tree.specs.declared.expression.Comparison.{Comparison}
 use Rattle.typed_tree.specs.declared.expression.Comparison.TheVariants as comparison
 use Rattle.typed_tree.specs.declared.expression.Connective.{Connective}

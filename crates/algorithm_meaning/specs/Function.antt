@@ -1,28 +1,62 @@
--- What functions do.
-use Rattle.std.specs.Prelude.{ℕ, ℤ, List, [], ◌∷◌, Option, Some, None}
-use Rattle.typed_tree.specs.StepTree.{StepTree, SetEntry, ReduceEntry, FunctionTree}
+-- Statements of functions. One definition does for all functions: what a statement writes changes the vectors at once in a vertex function, and is collected in an edge function, which reads the vectors as they were.
+use Rattle.std.specs.Prelude.{ℕ, ℤ, List, [], ◌∷◌, ◌++◌, if◌then◌else◌, Option, Some, None}
+use Rattle.syntax.specs.declared.statement.Reduction.{Reduction}
+use Rattle.typed_tree.specs.StepTree.{StepTree, DeclareInteger, DeclareCondition, SetInteger, SetCondition, ReduceInteger, SetEntry, ReduceEntry, If, IfElse, StepsTree, NoStep, StepThen, FunctionTree}
+use Rattle.algorithm_meaning.specs.declared.function.Contribution.{Contribution}
+use Rattle.algorithm_meaning.specs.declared.function.Writing.{Writing}
+use Rattle.algorithm_meaning.specs.declared.function.Writing.TheVariants as writing
 use Rattle.algorithm_meaning.specs.declared.state.VertexSet.{VertexSet}
-use Rattle.algorithm_meaning.specs.Arithmetic.{reduced}
-use Rattle.algorithm_meaning.specs.State.{ScopeValue, vertex_scope}
-use Rattle.algorithm_meaning.specs.Value.{value, entry, with_entry}
+use Rattle.algorithm_meaning.specs.State.{ScopeValue}
+use Rattle.algorithm_meaning.specs.Value.{value, truth, with_entry, reduce_at}
+use Rattle.algorithm_meaning.specs.Variables.{new_integer, new_condition, set_integer, set_condition, reduce_integer, forget_new}
 
--- the vectors after one statement of a vertex function
-abbrev pub after_step : StepTree → List VertexSet → ScopeValue → List (List ℤ) → List (List ℤ)
-after_step (SetEntry vector e) sets scope vectors = with_entry vectors vector scope.source (value vectors sets scope e)
-after_step (ReduceEntry vector reduction e) sets scope vectors =
-    with_entry vectors vector scope.source (reduced reduction (entry vectors vector scope.source) (value vectors sets scope e))
+-- what a function works on: the vectors, its variables, and what it has given so far
+pub record WorkValue : Type 0 where
+  pub vectors : List (List ℤ)
+  pub scope : ScopeValue
+  pub given : List Contribution
 
--- after its statements, in order
-abbrev pub after_steps : List StepTree → List VertexSet → ScopeValue → List (List ℤ) → List (List ℤ)
-after_steps [] sets scope vectors = vectors
-after_steps (step ∷ steps) sets scope vectors = after_steps steps sets scope (after_step step sets scope vectors)
+-- before the first statement
+abbrev pub first_work : List (List ℤ) → ScopeValue → WorkValue
+first_work vectors scope = record { vectors = vectors; scope = scope; given = [] }
 
--- after a function ran for each of these vertices, in order
-abbrev pub after_vertices : List StepTree → List VertexSet → List ℕ → List (List ℤ) → List (List ℤ)
-after_vertices steps sets [] vectors = vectors
-after_vertices steps sets (v ∷ vs) vectors = after_vertices steps sets vs (after_steps steps sets (vertex_scope v) vectors)
+-- an entry gets a number, at the vertex of a vertex function; an edge function sets none
+abbrev pub after_set : Writing → ℕ → ℤ → WorkValue → WorkValue
+after_set writing.AtOnce vector n w = record w { vectors = with_entry w.vectors vector w.scope.source n }
+after_set writing.Collected vector n w = w
+
+-- an entry is reduced with a number: at the vertex of a vertex function, and an edge function gives the number
+abbrev pub after_reduce : Writing → ℕ → Reduction → ℤ → WorkValue → WorkValue
+after_reduce writing.AtOnce vector reduction n w = record w { vectors = reduce_at w.vectors vector w.scope.source reduction n }
+after_reduce writing.Collected vector reduction n w =
+    record w { given = w.given ++ record { vector = vector; reduction = reduction; number = n } ∷ [] }
+
+-- a block forgets its variables
+abbrev pub after_block : WorkValue → WorkValue → WorkValue
+after_block old w = record w { scope = forget_new old.scope w.scope }
+
+abbrev mutual
+  -- after a statement; the sets are those of main
+  pub after_step : Writing → List VertexSet → StepTree → WorkValue → WorkValue
+  after_step writing sets (DeclareInteger name e) w = record w { scope = new_integer w.scope (value w.vectors sets w.scope e) }
+  after_step writing sets (DeclareCondition name c) w = record w { scope = new_condition w.scope (truth w.vectors sets w.scope c) }
+  after_step writing sets (SetInteger slot e) w = record w { scope = set_integer w.scope slot.place (value w.vectors sets w.scope e) }
+  after_step writing sets (SetCondition slot c) w = record w { scope = set_condition w.scope slot.place (truth w.vectors sets w.scope c) }
+  after_step writing sets (ReduceInteger slot reduction e) w =
+      record w { scope = reduce_integer w.scope slot.place reduction (value w.vectors sets w.scope e) }
+  after_step writing sets (SetEntry vector e) w = after_set writing vector (value w.vectors sets w.scope e) w
+  after_step writing sets (ReduceEntry vector reduction e) w = after_reduce writing vector reduction (value w.vectors sets w.scope e) w
+  after_step writing sets (If c body) w =
+      if truth w.vectors sets w.scope c then after_block w (after_steps writing sets body w) else w
+  after_step writing sets (IfElse c body other) w =
+      if truth w.vectors sets w.scope c then after_block w (after_steps writing sets body w) else after_block w (after_steps writing sets other w)
+
+  -- after statements, in order
+  pub after_steps : Writing → List VertexSet → StepsTree → WorkValue → WorkValue
+  after_steps writing sets NoStep w = w
+  after_steps writing sets (StepThen step rest) w = after_steps writing sets rest (after_step writing sets step w)
 
 -- the statements of a function, none where there is no function
-abbrev pub steps_of : Option FunctionTree → List StepTree
-steps_of None = []
+abbrev pub steps_of : Option FunctionTree → StepsTree
+steps_of None = NoStep
 steps_of (Some f) = f.steps

@@ -8,7 +8,7 @@ use Rattle.algorithm_meaning.specs.declared.state.Depth.{Depth}
 use Rattle.algorithm_meaning.specs.Arithmetic.{wrapped}
 use Rattle.algorithm_meaning.specs.State.{StateValue}
 use Rattle.algorithm_meaning.specs.Stand.{Stand, Live, Over, then_do, number_in, choice_in, with_value, choose}
-use Rattle.algorithm_meaning.specs.Change.{with_new_integer}
+use Rattle.algorithm_meaning.specs.Variables.{with_new_integer}
 
 -- how many variables and sets are visible
 abbrev pub depth_of : StateValue → Depth

@@ -1,13 +1,19 @@
 -- What statements of main do, and the state before the first one.
-use Rattle.std.specs.Prelude.{ℕ, ℤ, List, [], map, replicate}
+use Rattle.std.specs.Prelude.{ℕ, suc, ℤ, pos, if◌then◌else◌, ◌==◌, List, [], ◌∷◌, map, replicate}
 use Rattle.typed_tree.specs.declared.program.Beginning.{Beginning}
 use Rattle.typed_tree.specs.declared.program.Beginning.TheVariants as beginning
-use Rattle.typed_tree.specs.BlockTree.{ActionTree, DeclareInteger, DeclareCondition, SetInteger, SetCondition, ReduceInteger, SetEntry, ReduceEntry, DeclareSet, AssignSet, AddVertex, PrintInteger, PrintCondition, ApplyVertex, If, IfElse, While, For, BlockTree, Empty, Then}
+use Rattle.typed_tree.specs.BlockTree.{ActionTree, DeclareInteger, DeclareCondition, SetInteger, SetCondition, ReduceInteger, SetEntry, ReduceEntry, DeclareSet, AssignSet, AddVertex, PrintInteger, PrintCondition, ApplyVertex, ApplyEdges, If, IfElse, While, For, BlockTree, Empty, Then}
 use Rattle.typed_tree.specs.ProgramTree.{ProgramTree}
 use Rattle.algorithm_meaning.specs.declared.state.VertexSet.{VertexSet}
+use Rattle.algorithm_meaning.specs.Arithmetic.{wrapped}
 use Rattle.algorithm_meaning.specs.State.{GraphValue, StateValue, main_scope}
 use Rattle.algorithm_meaning.specs.Stand.{Stand, Live, then_do, choice_in, with_value, choose}
-use Rattle.algorithm_meaning.specs.Change.{after_declare_integer, after_declare_condition, after_set_integer, after_set_condition, after_reduce_integer, after_set_entry, after_reduce_entry, after_print_integer, after_print_condition, after_apply_vertex, after_add_vertex, all_below, members_for, with_new_set, with_members}
+use Rattle.algorithm_meaning.specs.Variables.{after_declare_integer, after_declare_condition, after_set_integer, after_set_condition, after_reduce_integer}
+use Rattle.algorithm_meaning.specs.Entries.{with_vectors, after_set_entry, after_reduce_entry}
+use Rattle.algorithm_meaning.specs.Print.{after_print_integer, after_print_condition}
+use Rattle.algorithm_meaning.specs.VertexSets.{all_below, after_declare_set, after_assign_set, after_add_vertex}
+use Rattle.algorithm_meaning.specs.VertexApply.{after_apply_vertex}
+use Rattle.algorithm_meaning.specs.EdgeApply.{after_edge_apply}
 use Rattle.algorithm_meaning.specs.Loop.{inside, after_while, after_for, bounds_in}
 
 abbrev mutual
@@ -20,12 +26,14 @@ abbrev mutual
   after p g number (ReduceInteger slot reduction e) s = after_reduce_integer g.vertices number slot.place reduction e s
   after p g number (SetEntry vector index e) s = after_set_entry g.vertices number vector index e s
   after p g number (ReduceEntry vector index reduction e) s = after_reduce_entry g.vertices number vector index reduction e s
-  after p g number (DeclareSet name set) s = Live (with_new_set s name (members_for g.vertices set s))
-  after p g number (AssignSet slot set) s = Live (with_members s slot.place (members_for g.vertices set s))
+  after p g number (DeclareSet name set) s = Live (after_declare_set p g name set s)
+  after p g number (AssignSet slot set) s = Live (after_assign_set p g slot.place set s)
   after p g number (AddVertex slot e) s = after_add_vertex g.vertices number slot.place e s
   after p g number (PrintInteger e) s = after_print_integer g.vertices number e s
   after p g number (PrintCondition c) s = after_print_condition g.vertices number c s
   after p g number (ApplyVertex set function) s = Live (after_apply_vertex p.vertex_functions set.place function s)
+  after p g number (ApplyEdges ends function) s =
+      Live (with_vectors s (after_edge_apply p.filters p.edge_functions g ends (function ∷ []) s))
   after p g number (If c body) s =
       with_value (choice_in g.vertices c s) number s (λ b. choose b (inside (after_all p g body) s) (Live s))
   after p g number (IfElse c body other) s =
@@ -39,9 +47,15 @@ abbrev mutual
   after_all p g Empty s = Live s
   after_all p g (Then number label action rest) s = then_do (after p g number action s) (after_all p g rest)
 
--- what a vector begins with
+-- how many of these edges leave a vertex
+abbrev pub out_degree : ℕ → List (ℕ × ℕ) → ℕ
+out_degree v [] = 0
+out_degree v (edge ∷ edges) = if edge.0 == v then suc (out_degree v edges) else out_degree v edges
+
+-- what a vector begins with; a degree is an int
 abbrev pub opening_entries : GraphValue → Beginning → List ℤ
 opening_entries g (beginning.Number n) = replicate g.vertices n
+opening_entries g beginning.OutDegrees = map (λ v. wrapped (pos (out_degree v g.edges))) (all_below g.vertices)
 
 -- a constant set has all vertices
 abbrev pub all_vertices : GraphValue → ℕ → VertexSet

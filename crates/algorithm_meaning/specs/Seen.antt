@@ -1,11 +1,15 @@
 -- For proofs only: what private contracts see of a run's state.
-use Rattle.std.specs.Prelude.{Option, Some, None}
+use Rattle.std.specs.Prelude.{Option, Some, None, List, ℤ}
+use Rattle.typed_tree.specs.declared.function.Step.{Step}
+use Rattle.typed_tree.specs.declared.function.Step.TheVariants as step
 use Rattle.typed_tree.specs.declared.statement.Action.{Action}
 use Rattle.typed_tree.specs.declared.statement.Action.TheVariants as rust
 use Rattle.algorithm_meaning.specs.declared.state.Graph.{Graph}
 use Rattle.algorithm_meaning.specs.declared.state.Scope.{Scope}
 use Rattle.algorithm_meaning.specs.declared.state.State.{State}
 use Rattle.algorithm_meaning.specs.declared.outcome.End.{End}
+use Rattle.algorithm_meaning.specs.declared.function.Work.{Work}
+use Rattle.algorithm_meaning.specs.Function.{WorkValue}
 use Rattle.algorithm_meaning.specs.State.{GraphValue, ScopeValue, StateValue}
 use Rattle.algorithm_meaning.specs.Stand.{Stand, Live, Over}
 
@@ -30,3 +34,13 @@ HasNoBlock (rust.IfElse' c shape body shape' other) = ⊥
 HasNoBlock (rust.While' c shape body) = ⊥
 HasNoBlock (rust.For' name first end shape body) = ⊥
 HasNoBlock action = Unit
+
+-- what a function works on
+abbrev pub work_of : List (List ℤ) → Work → WorkValue
+work_of vectors w = record { vectors = vectors; scope = scope_of w.scope; given = w.given.items }
+
+-- the statement of a function has no block
+abbrev pub HasNoSteps : Step → Type 0
+HasNoSteps (step.If' c shape body) = ⊥
+HasNoSteps (step.IfElse' c shape body shape' other) = ⊥
+HasNoSteps s = Unit

@@ -1,5 +1,5 @@
 -- What a run works on, and what it keeps.
-use Rattle.std.specs.Prelude.{ℕ, ℤ, Bool, List, []}
+use Rattle.std.specs.Prelude.{ℕ, ℤ, Bool, false, List, [], ◌∷◌}
 use Rattle.algorithm_meaning.specs.declared.state.VertexSet.{VertexSet}
 
 -- the vertices are the numbers below this, and the edges are pairs of them
@@ -26,6 +26,14 @@ pub record StateValue : Type 0 where
 abbrev pub main_scope : ScopeValue
 main_scope = record { integers = []; conditions = []; source = 0; destination = 0 }
 
--- the scope of a function that begins at its vertex
+-- the scope in which a vertex function begins at a vertex
 abbrev pub vertex_scope : ℕ → ScopeValue
 vertex_scope v = record { integers = []; conditions = []; source = v; destination = v }
+
+-- an edge function begins on an edge
+abbrev pub edge_scope : ℕ × ℕ → ScopeValue
+edge_scope edge = record { integers = []; conditions = []; source = edge.0; destination = edge.1 }
+
+-- a filter begins at a vertex, and its result, the first bool variable, is false
+abbrev pub filter_scope : ℕ → ScopeValue
+filter_scope v = record { integers = []; conditions = false ∷ []; source = v; destination = v }

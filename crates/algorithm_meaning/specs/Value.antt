@@ -1,13 +1,14 @@
 -- The values of expressions.
 use Rattle.std.specs.Prelude.{ℕ, ℤ, pos, negsuc, Bool, true, false, not, ◌&&◌, nat_lt, List, [], length, slice_get, slice_index_or, slice_set, Option, Some, None}
 use Rattle.std.specs.Int.{cast_signed, w64}
+use Rattle.syntax.specs.declared.statement.Reduction.{Reduction}
 use Rattle.typed_tree.specs.declared.expression.Endpoint.{Endpoint}
 use Rattle.typed_tree.specs.declared.expression.Endpoint.TheVariants as endpoint
 use Rattle.typed_tree.specs.IntegerTree as integer
 use Rattle.typed_tree.specs.IntegerTree.{IntegerTree}
 use Rattle.typed_tree.specs.ConditionTree as condition
 use Rattle.typed_tree.specs.ConditionTree.{ConditionTree}
-use Rattle.algorithm_meaning.specs.Arithmetic.{negative, arithmetic, compared, connected}
+use Rattle.algorithm_meaning.specs.Arithmetic.{negative, arithmetic, compared, connected, reduced}
 use Rattle.algorithm_meaning.specs.declared.state.VertexSet.{VertexSet}
 use Rattle.algorithm_meaning.specs.State.{ScopeValue}
 
@@ -28,6 +29,10 @@ entry_at vectors vector (negsuc n) = pos 0
 -- a vector with this entry at a vertex
 abbrev pub with_entry : List (List ℤ) → ℕ → ℕ → ℤ → List (List ℤ)
 with_entry vectors vector vertex x = slice_set vectors vector (slice_set (slice_index_or vectors vector []) vertex x)
+
+-- the vectors with the entry at a vertex reduced with a number
+abbrev pub reduce_at : List (List ℤ) → ℕ → ℕ → Reduction → ℤ → List (List ℤ)
+reduce_at vectors vector vertex reduction x = with_entry vectors vector vertex (reduced reduction (entry vectors vector vertex) x)
 
 -- the members of a set, none where there is no set
 abbrev pub members_of : Option VertexSet → List ℕ

@@ -3,7 +3,8 @@ ghost use Rattle.std.specs.Prelude.{◌≡◌, ◌<◌, ℤ, FitsSigned, int_div
 ghost use Rattle.std.specs.Int.{IsNonZero, w64};
 ghost use Rattle.algorithm_meaning.specs.Arithmetic.{DividesWithRemainder, arithmetic, compared, connected, negative, quotient, reduced, remainder, wrapped};
 
-use typed_tree::{Comparison, Connective, Operator, Reduction};
+use syntax::Reduction;
+use typed_tree::{Comparison, Connective, Operator};
 
 /// What an operator gives.
 pub fn arithmetic_of(operator: Operator, left: i64, right: i64) -> i64

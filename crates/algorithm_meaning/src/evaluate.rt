@@ -1,16 +1,25 @@
 //! The values of expressions.
 //!
 //! A value is total: an index that is no vertex reads as 0. Whether an expression has such an index is
-//! a question of its own, which `main` asks first.
+//! a question of its own, which `main` asks first. Operators in a row and signs in a row are loops, so that
+//! recursion is left for brackets and indexes.
 ghost use Rattle.std.specs.Prelude.{◌≡◌, false, pos, slice_get, slice_index_or};
 ghost use Rattle.typed_tree.specs.IntegerTree.{integer_tree};
 ghost use Rattle.typed_tree.specs.ConditionTree.{condition_tree};
+ghost use Rattle.algorithm_meaning.specs.Arithmetic.{arithmetic};
+ghost use Rattle.algorithm_meaning.specs.Chain.{conditions_stay_inside, conditions_truth, negative_times, not_times, operands_stay_inside, operands_value};
 ghost use Rattle.algorithm_meaning.specs.Seen.{scope_of};
 ghost use Rattle.algorithm_meaning.specs.Value.{condition_stays_inside, entry, entry_at, is_vertex, members_of, stays_inside, truth, value, vertex_at};
 
 use crate::arithmetic::{arithmetic_of, compare, connect, negate};
 use crate::state::{Scope, VertexSet};
-use typed_tree::{Condition, Endpoint, Integer, Sequence};
+use typed_tree::{Condition, Connective, Endpoint, Integer, Operand, Sequence};
+
+/// The number that an expression comes to.
+#[derive(Clone, Copy, Debug)]
+struct Total {
+    number: i64,
+}
 
 /// The value of an expression of type `int`.
 pub(crate) fn evaluate(
@@ -21,26 +30,92 @@ pub(crate) fn evaluate(
 ) -> i64
     ensures { result ≡ value vectors.now sets.now (scope_of scope.now) (integer_tree e.now) }
 {
+    total_of(e, vectors, sets, scope).number
+}
+
+#[cycle(totals)]
+#[tactic(auto, using(crate::proofs::Chains::value_negated))]
+fn total_of(e: &Integer, vectors: &[Sequence<i64>], sets: &[VertexSet], scope: &Scope) -> Total
+    ensures { result.number ≡ value vectors.now sets.now (scope_of scope.now) (integer_tree e.now) }
+{
     match e {
-        Integer::Number(n) => *n,
-        Integer::Constant(_, n) => *n,
-        Integer::Variable(slot) => integer_at(scope, slot.place),
-        Integer::Parameter(at) => i64::from(endpoint(scope, *at)),
-        Integer::EntryAt(vector, at) => entry_of(vectors, *vector, endpoint(scope, *at) as usize),
+        Integer::Number(n) => Total { number: *n },
+        Integer::Constant(_, n) => Total { number: *n },
+        Integer::Variable(slot) => Total {
+            number: integer_at(scope, slot.place),
+        },
+        Integer::Parameter(at) => Total {
+            number: i64::from(endpoint(scope, *at)),
+        },
+        Integer::EntryAt(vector, at) => Total {
+            number: entry_of(vectors, *vector, endpoint(scope, *at) as usize),
+        },
         Integer::Entry(vector, index) => {
-            entry_at_index(vectors, *vector, evaluate(index, vectors, sets, scope))
+            let index = total_of(index, vectors, sets, scope);
+            Total {
+                number: entry_at_index(vectors, *vector, index.number),
+            }
         }
-        Integer::SetSize(slot) => (members_at(sets, slot.place).len() as u64).cast_signed(),
-        Integer::Negative(e) => negate(evaluate(e, vectors, sets, scope)),
-        Integer::Arithmetic(operator, left, right) => arithmetic_of(
-            *operator,
-            evaluate(left, vectors, sets, scope),
-            evaluate(right, vectors, sets, scope),
-        ),
+        Integer::SetSize(slot) => Total {
+            number: (members_at(sets, slot.place).len() as u64).cast_signed(),
+        },
+        Integer::Negative(signs, e) => behind_signs(*signs, total_of(e, vectors, sets, scope)),
+        Integer::Arithmetic(first, operands) => {
+            let left = total_of(first, vectors, sets, scope);
+            before_operands(operands, left, vectors, sets, scope)
+        }
+    }
+}
+
+/// The number with its sign changed so many times.
+fn behind_signs(signs: usize, total: Total) -> Total
+    ensures { result.number ≡ negative_times signs total.number }
+{
+    let mut now = total;
+    'signs: for sign in 0..signs {
+        now = negated(now);
+    }
+    now
+}
+
+fn negated(total: Total) -> Total
+    ensures { result.number ≡ negative_times 1 total.number }
+{
+    Total {
+        number: negate(total.number),
+    }
+}
+
+/// What the operators in a list come to, behind what stands on the left.
+#[cycle(totals)]
+fn before_operands(
+    operands: &[Operand],
+    left: Total,
+    vectors: &[Sequence<i64>],
+    sets: &[VertexSet],
+    scope: &Scope,
+) -> Total
+    ensures { result.number ≡ operands_value vectors.now sets.now (scope_of scope.now) left.number operands.now }
+{
+    let mut total = left;
+    'operands: for operand in operands {
+        let right = total_of(&operand.integer, vectors, sets, scope);
+        total = combined(operand, total, right);
+    }
+    total
+}
+
+fn combined(operand: &Operand, left: Total, right: Total) -> Total
+    ensures { result.number ≡ arithmetic operand.now.operator left.number right.number }
+{
+    Total {
+        number: arithmetic_of(operand.operator, left.number, right.number),
     }
 }
 
 /// The value of an expression of type `bool`.
+#[cycle(truths)]
+#[tactic(auto, using(crate::proofs::Chains::truth_turned))]
 pub(crate) fn holds(
     c: &Condition,
     vectors: &[Sequence<i64>],
@@ -53,21 +128,53 @@ pub(crate) fn holds(
         Condition::Literal(b) => *b,
         Condition::Constant(_, b) => *b,
         Condition::Variable(slot) => condition_at(scope, slot.place),
-        Condition::Not(c) => !holds(c, vectors, sets, scope),
+        Condition::Not(turns, c) => turned(*turns, holds(c, vectors, sets, scope)),
         Condition::Compare(comparison, left, right) => compare(
             *comparison,
             evaluate(left, vectors, sets, scope),
             evaluate(right, vectors, sets, scope),
         ),
-        Condition::Connect(connective, left, right) => connect(
-            *connective,
-            holds(left, vectors, sets, scope),
-            holds(right, vectors, sets, scope),
-        ),
+        Condition::Connect(connective, first, conditions) => {
+            let left = holds(first, vectors, sets, scope);
+            before_conditions(conditions, *connective, left, vectors, sets, scope)
+        }
     }
 }
 
+/// The truth value turned so many times.
+fn turned(turns: usize, b: bool) -> bool
+    ensures { result ≡ not_times turns b }
+{
+    let mut now = b;
+    'turns: for turn in 0..turns {
+        now = !now;
+    }
+    now
+}
+
+/// What the conditions in a list come to, behind what stands on the left.
+#[cycle(truths)]
+fn before_conditions(
+    conditions: &[Condition],
+    connective: Connective,
+    left: bool,
+    vectors: &[Sequence<i64>],
+    sets: &[VertexSet],
+    scope: &Scope,
+) -> bool
+    ensures { result ≡ conditions_truth vectors.now sets.now (scope_of scope.now) connective left conditions.now }
+{
+    let mut all = left;
+    'conditions: for c in conditions {
+        let right = holds(c, vectors, sets, scope);
+        all = connect(connective, all, right);
+    }
+    all
+}
+
 /// Whether each index in the expression is a vertex.
+#[cycle(insides)]
+#[tactic(auto, using(crate::proofs::Chains::inside_negated))]
 pub(crate) fn is_inside(
     e: &Integer,
     vertices: u32,
@@ -88,15 +195,36 @@ pub(crate) fn is_inside(
             is_inside(index, vertices, vectors, sets, scope)
                 && names_vertex(vertices, evaluate(index, vectors, sets, scope))
         }
-        Integer::Negative(e) => is_inside(e, vertices, vectors, sets, scope),
-        Integer::Arithmetic(_, left, right) => {
-            is_inside(left, vertices, vectors, sets, scope)
-                && is_inside(right, vertices, vectors, sets, scope)
+        Integer::Negative(_, e) => is_inside(e, vertices, vectors, sets, scope),
+        Integer::Arithmetic(first, operands) => {
+            is_inside(first, vertices, vectors, sets, scope)
+                && are_inside(operands, vertices, vectors, sets, scope)
         }
     }
 }
 
+/// The same of all operands in a list.
+#[cycle(insides)]
+fn are_inside(
+    operands: &[Operand],
+    vertices: u32,
+    vectors: &[Sequence<i64>],
+    sets: &[VertexSet],
+    scope: &Scope,
+) -> bool
+    ensures { result ≡ operands_stay_inside vertices vectors.now sets.now (scope_of scope.now) operands.now }
+{
+    'operands: for operand in operands {
+        if !is_inside(&operand.integer, vertices, vectors, sets, scope) {
+            return false;
+        }
+    }
+    true
+}
+
 /// Whether each index in the expression is a vertex.
+#[cycle(condition_insides)]
+#[tactic(auto, using(crate::proofs::Chains::inside_turned))]
 pub(crate) fn condition_is_inside(
     c: &Condition,
     vertices: u32,
@@ -108,16 +236,35 @@ pub(crate) fn condition_is_inside(
 {
     match c {
         Condition::Literal(_) | Condition::Constant(_, _) | Condition::Variable(_) => true,
-        Condition::Not(c) => condition_is_inside(c, vertices, vectors, sets, scope),
+        Condition::Not(_, c) => condition_is_inside(c, vertices, vectors, sets, scope),
         Condition::Compare(_, left, right) => {
             is_inside(left, vertices, vectors, sets, scope)
                 && is_inside(right, vertices, vectors, sets, scope)
         }
-        Condition::Connect(_, left, right) => {
-            condition_is_inside(left, vertices, vectors, sets, scope)
-                && condition_is_inside(right, vertices, vectors, sets, scope)
+        Condition::Connect(_, first, conditions) => {
+            condition_is_inside(first, vertices, vectors, sets, scope)
+                && conditions_are_inside(conditions, vertices, vectors, sets, scope)
         }
     }
+}
+
+/// The same of all conditions in a list.
+#[cycle(condition_insides)]
+fn conditions_are_inside(
+    conditions: &[Condition],
+    vertices: u32,
+    vectors: &[Sequence<i64>],
+    sets: &[VertexSet],
+    scope: &Scope,
+) -> bool
+    ensures { result ≡ conditions_stay_inside vertices vectors.now sets.now (scope_of scope.now) conditions.now }
+{
+    'conditions: for c in conditions {
+        if !condition_is_inside(c, vertices, vectors, sets, scope) {
+            return false;
+        }
+    }
+    true
 }
 
 /// The variable at a place, 0 where there is none.
@@ -130,7 +277,8 @@ pub(crate) fn integer_at(scope: &Scope, place: usize) -> i64
     }
 }
 
-fn condition_at(scope: &Scope, place: usize) -> bool
+/// The variable at a place, false where there is none.
+pub(crate) fn condition_at(scope: &Scope, place: usize) -> bool
     ensures { result ≡ slice_index_or (scope_of scope.now).conditions place false }
 {
     match scope.conditions.get(place) {

@@ -1,13 +1,15 @@
 //! The state before the first statement.
-ghost use Rattle.std.specs.Prelude.{◌≡◌, map, IfOk};
+ghost use Rattle.std.specs.Prelude.{◌≡◌, pos, map, replicate, IfOk};
 ghost use Rattle.std.specs.List.{range_with_len};
 ghost use Rattle.typed_tree.specs.ProgramTree.{program_tree};
+ghost use Rattle.algorithm_meaning.specs.Degrees.{counted, counted_once};
 ghost use Rattle.algorithm_meaning.specs.Meaning.{all_vertices, opening, opening_entries};
 ghost use Rattle.algorithm_meaning.specs.Seen.{graph_of, state_of};
 
+use crate::arithmetic::arithmetic_of;
 use crate::state::{Graph, Scope, State, VertexSet};
 use std::alloc::{AllocError, Global};
-use typed_tree::{Beginning, Sequence, Typed, Vector};
+use typed_tree::{Beginning, Operator, Sequence, Typed, Vector};
 
 /// The state before the first statement.
 pub(crate) fn open(
@@ -58,6 +60,35 @@ fn open_vector(
             let entries = vec![in alloc; n; graph.vertices as usize]?;
             Ok(Sequence::new(entries))
         }
+        Beginning::OutDegrees => {
+            let mut degrees = zeros(alloc, graph.vertices)?;
+            count_sources(graph.edges, &mut degrees);
+            Ok(Sequence::new(degrees))
+        }
+    }
+}
+
+fn zeros(alloc: Global, vertices: u32) -> Result<Vec<i64>, AllocError>
+    ensures { IfOk result (λ v. v.items ≡ replicate vertices (pos 0)) }
+{
+    let entries = vec![in alloc; 0; vertices as usize]?;
+    Ok(entries)
+}
+
+/// Counts each edge at its source.
+fn count_sources(edges: &[(u32, u32)], degrees: &mut Vec<i64>)
+    ensures { degrees.new.items ≡ counted edges.now degrees.old.items }
+{
+    'edges: for edge in edges {
+        count_at(edge.0 as usize, degrees);
+    }
+}
+
+fn count_at(vertex: usize, degrees: &mut Vec<i64>)
+    ensures { degrees.new.items ≡ counted_once vertex degrees.old.items }
+{
+    if vertex < degrees.len() {
+        degrees[vertex] = arithmetic_of(Operator::Add, degrees[vertex], 1);
     }
 }
 

@@ -1,12 +1,53 @@
-//! What `print` writes.
-ghost use Rattle.std.specs.Prelude.{◌≡◌, ◌++◌, OnOk};
-ghost use Rattle.algorithm_meaning.specs.Change.{condition_line, integer_line};
+//! `print`.
+ghost use Rattle.std.specs.Prelude.{◌≡◌, ◌++◌, IfOk, OnOk};
+ghost use Rattle.typed_tree.specs.IntegerTree.{integer_tree};
+ghost use Rattle.typed_tree.specs.ConditionTree.{condition_tree};
+ghost use Rattle.algorithm_meaning.specs.Print.{after_print_condition, after_print_integer, condition_line, integer_line};
+ghost use Rattle.algorithm_meaning.specs.Seen.{stand, state_of};
 
+use crate::outcome::End;
+use crate::read::{decide, fault, number_of};
+use crate::state::State;
 use decimal::push_integer;
 use std::alloc::AllocError;
+use typed_tree::{Condition, Integer};
+
+pub(crate) fn print_integer_in(
+    e: &Integer,
+    number: u64,
+    vertices: u32,
+    state: &mut State,
+) -> Result<Option<End>, AllocError>
+    ensures meaning { IfOk result (λ end. stand end (state_of state.new)
+        ≡ after_print_integer vertices number (integer_tree e.now) (state_of state.old)) }
+    ensures turns { state.new.turns ≡ state.old.turns }
+{
+    let Some(printed) = number_of(e, vertices, state) else {
+        return Ok(fault(number));
+    };
+    print_integer(&mut state.text, printed)?;
+    Ok(None)
+}
+
+pub(crate) fn print_condition_in(
+    c: &Condition,
+    number: u64,
+    vertices: u32,
+    state: &mut State,
+) -> Result<Option<End>, AllocError>
+    ensures meaning { IfOk result (λ end. stand end (state_of state.new)
+        ≡ after_print_condition vertices number (condition_tree c.now) (state_of state.old)) }
+    ensures turns { state.new.turns ≡ state.old.turns }
+{
+    let Some(value) = decide(c, vertices, state) else {
+        return Ok(fault(number));
+    };
+    print_condition(&mut state.text, value)?;
+    Ok(None)
+}
 
 /// Writes a number in decimal digits, `-` before it where it is negative, and a line feed.
-pub(crate) fn print_integer(text: &mut Vec<u8>, n: i64) -> Result<(), AllocError>
+fn print_integer(text: &mut Vec<u8>, n: i64) -> Result<(), AllocError>
     ensures { OnOk result (text.new.items ≡ text.old.items ++ integer_line n) }
 {
     push_integer(text, n)?;
@@ -15,7 +56,7 @@ pub(crate) fn print_integer(text: &mut Vec<u8>, n: i64) -> Result<(), AllocError
 }
 
 /// Writes `true` or `false` and a line feed.
-pub(crate) fn print_condition(text: &mut Vec<u8>, b: bool) -> Result<(), AllocError>
+fn print_condition(text: &mut Vec<u8>, b: bool) -> Result<(), AllocError>
     ensures { OnOk result (text.new.items ≡ text.old.items ++ condition_line b) }
 {
     if b {

@@ -1,25 +1,30 @@
 //! The slow run of programs.
-ghost use Rattle.std.specs.Prelude.{◌≡◌, ◌<◌, ◌≤◌, IfOk, IfNone};
+ghost use Rattle.std.specs.Prelude.{◌≡◌, ◌<◌, ◌≤◌, [], ◌∷◌, IfOk, IfNone, OnOk};
 ghost use Rattle.typed_tree.specs.ConditionTree.{condition_tree};
 ghost use Rattle.typed_tree.specs.BlockTree.{action_tree, block_tree};
 ghost use Rattle.typed_tree.specs.ProgramTree.{program_tree};
+ghost use Rattle.algorithm_meaning.specs.EdgeApply.{after_edge_apply};
+ghost use Rattle.algorithm_meaning.specs.Entries.{with_vectors};
 ghost use Rattle.algorithm_meaning.specs.Loop.{after_for, after_while, for_body, inside, take_turn};
 ghost use Rattle.algorithm_meaning.specs.Meaning.{after, after_all};
 ghost use Rattle.algorithm_meaning.specs.Seen.{HasNoBlock, graph_of, stand, state_of};
 ghost use Rattle.algorithm_meaning.specs.Shown.{meaning};
 
-use crate::change::{
-    apply_vertex, declare_condition, declare_integer, print_condition_in, print_integer_in,
-    reduce_entry, reduce_integer, set_condition, set_entry_in, set_integer,
-};
+use crate::edge_apply::apply_edges;
+use crate::entries::{reduce_entry, set_entry_in};
 use crate::opening::open;
 use crate::outcome::{End, Outcome};
+use crate::print::{print_condition_in, print_integer_in};
 use crate::read::{bounds_of, decide, depth, fault, forget, go_on, is_below, push_bounds};
 use crate::sets::{add_vertex, assign_set, declare_set};
 use crate::show::show;
 use crate::state::{Bounds, Graph, State};
+use crate::variables::{
+    declare_condition, declare_integer, reduce_integer, set_condition, set_integer,
+};
+use crate::vertex_apply::apply_vertex;
 use std::alloc::{AllocError, Global};
-use typed_tree::{Action, Condition, Statement, Typed};
+use typed_tree::{Action, Condition, Ends, Statement, Typed};
 
 /// Runs a program on a graph, whose vertices are the numbers below `vertices`, and gives what it means:
 /// it goes over the trees, one statement after the other, and is slow. The loops of the program make at
@@ -127,11 +132,11 @@ fn run_without_block(
             *vector, index, *reduction, e, number, vertices, state,
         )),
         Action::DeclareSet(name, value) => {
-            declare_set(alloc, *name, *value, vertices, state)?;
+            declare_set(alloc, *name, *value, program, graph, state)?;
             Ok(None)
         }
         Action::AssignSet(slot, value) => {
-            assign_set(alloc, slot.place, *value, vertices, state)?;
+            assign_set(alloc, slot.place, *value, program, graph, state)?;
             Ok(None)
         }
         Action::AddVertex(slot, e) => add_vertex(alloc, slot.place, e, number, vertices, state),
@@ -144,7 +149,11 @@ fn run_without_block(
                 set.place,
                 *function,
                 state,
-            );
+            )?;
+            Ok(None)
+        }
+        Action::ApplyEdges(ends, function) => {
+            apply_in(alloc, *ends, *function, program, graph, state)?;
             Ok(None)
         }
         Action::If(_, _)
@@ -152,6 +161,32 @@ fn run_without_block(
         | Action::While(_, _)
         | Action::For(_, _, _, _) => { unreachable!() }
     }
+}
+
+/// Applies an edge function.
+fn apply_in(
+    alloc: Global,
+    ends: Ends,
+    function: usize,
+    program: &Typed,
+    graph: &Graph,
+    state: &mut State,
+) -> Result<(), AllocError>
+    ensures meaning { OnOk result (state_of state.new ≡ with_vectors (state_of state.old)
+        (after_edge_apply (program_tree program.now).filters (program_tree program.now).edge_functions (graph_of graph.now) ends (function ∷ []) (state_of state.old))) }
+    ensures turns { state.new.turns ≡ state.old.turns }
+{
+    let after = apply_edges(
+        alloc,
+        &program.filters,
+        &program.edge_functions,
+        graph,
+        ends,
+        function,
+        state,
+    )?;
+    state.vectors = after;
+    Ok(())
 }
 
 /// Runs a block and, where the run goes on, forgets what became visible in it.

@@ -3,18 +3,19 @@ use Rattle.std.specs.Prelude.{ℕ, Option, Some, None}
 use Rattle.parser.specs.declared.error.ParseError.{ParseError}
 use Rattle.parser.specs.declared.error.ParseError.TheVariants as parser
 use Rattle.parser.specs.Refusal as parse_refusal
+use Rattle.expression_types.specs.Faults.{number_of as rule_number}
 use Rattle.compiler.specs.declared.error.CompileError.{CompileError}
 use Rattle.compiler.specs.declared.error.CompileError.TheVariants.{NotParsed, NotTyped, NoMemory}
 
 abbrev pub number_of : CompileError → ℕ
 number_of (NotParsed e) = parse_refusal.number_of e
-number_of (NotTyped at) = 211
+number_of (NotTyped fault) = rule_number fault.rule
 number_of NoMemory = 900
 
 -- where the fault stands
 abbrev pub offset_of : CompileError → Option ℕ
 offset_of (NotParsed e) = parse_refusal.offset_of e
-offset_of (NotTyped at) = Some at
+offset_of (NotTyped fault) = Some fault.at
 offset_of NoMemory = None
 
 -- what becomes of a refusal of the parser

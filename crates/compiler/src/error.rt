@@ -1,6 +1,7 @@
 ghost use Rattle.std.specs.Prelude.{◌≡◌};
 ghost use Rattle.compiler.specs.Refusal.{number_of, offset_of, of_parser};
 
+use expression_types::Fault;
 use parser::ParseError;
 use thiserror::Error;
 
@@ -10,21 +11,21 @@ pub enum CompileError {
     /// It is no source; the parser's error says why. It is never that the parser is out of memory.
     #[error("{0}")]
     NotParsed(ParseError),
-    /// It is a source that is no program. The offset is the text's length.
-    #[error("the text breaks a rule of types, or has a form that no program has yet")]
-    NotTyped { at: usize },
+    /// It is a source that breaks a rule of types: the fault has the rule and the offset.
+    #[error("the text breaks a rule of types")]
+    NotTyped(Fault),
     #[error("out of memory")]
     NoMemory,
 }
 
 impl CompileError {
-    /// The number by which users know the refusal: 201, 202, 203, 211, 212 or 900.
+    /// The number by which users know the refusal: 201, 202, 203, 211, 212, 221 to 229 or 900.
     pub fn number(self) -> u16
         ensures { result ≡ number_of self }
     {
         match self {
             CompileError::NotParsed(error) => error.number(),
-            CompileError::NotTyped { .. } => 211,
+            CompileError::NotTyped(fault) => fault.rule.number(),
             CompileError::NoMemory => 900,
         }
     }
@@ -35,7 +36,7 @@ impl CompileError {
     {
         match self {
             CompileError::NotParsed(error) => error.at(),
-            CompileError::NotTyped { at } => Some(at),
+            CompileError::NotTyped(fault) => Some(fault.at),
             CompileError::NoMemory => None,
         }
     }

@@ -1,16 +1,18 @@
 -- Flags of a command that has none but `-h` and `--help`: every flag is a fault there, so a word that
 -- is none is a value.
-use Rattle.std.proofs.Common.{◌≡◌, ◌⊎◌, inl, inr, ℕ, zero, suc, false, List, [], ◌∷◌, Option, Some, None, length, refl}
+use Rattle.std.proofs.Common.{◌≡◌, ◌⊎◌, inl, inr, ℕ, zero, suc, Bool, true, false, List, [], ◌∷◌, Option, Some, None, length, refl, codes, if◌then◌else◌}
+use Rattle.std.proofs.lemmas.Slice.Eq.{bytes_eq-Decides}
 use Rattle.std.specs.Prelude.{slice_get}
 use Rattle.std.specs.Option.{option_map_or}
-use Rattle.std.specs.Str.{chars}
-use Rattle.clap.specs.Lexer.{short_of}
+use Rattle.std.specs.Str.{bytes_eq, chars}
+use Rattle.clap.specs.Lexer.{short_of, strip_byte}
 use Rattle.clap.specs.Words.{Rule, Text}
 use Rattle.clap.specs.Simple.{filled, help_rule}
 use Rattle.clap.specs.Walk.{Held, Outcome, Waiting, plain, plain_word, value, arg_by_long, arg_by_short, bundle_met, bundle_step, long_or_other, short_or_plain}
 use Rattle.clap.specs.Faults.{react_fault, settle_fault, long_fault, short_fault, flags_fault, bundle_step_fault, flag_word_fault, bundle_fault}
 use Rattle.clap.specs.Kinds.{Kinds, or_else}
 use Rattle.clap.specs.declared.error.kind.ErrorKind.{ErrorKind}
+use Rattle.driver.specs.CommandLine.{HasNoHyphen}
 use Rattle.clap.specs.declared.error.kind.ErrorKind.TheVariants.{UnknownArgument, TooManyValues, DisplayHelp}
 
 -- ---- faults in turn
@@ -40,6 +42,10 @@ pub record HasOnlyHelp (c : List Rule) : Type 0 where
   pub long : (name : Text) → IsNoneOrHelp (arg_by_long c name)
   pub short : (x : ℕ) → IsNoneOrHelp (arg_by_short c x)
 
+pub none_or_help : (b : Bool) → IsNoneOrHelp (if b then Some help else None)
+none_or_help true = inr refl
+none_or_help false = inl refl
+
 help_is_fault : (c : List Rule) (h : Held) → react_fault c false help [] h ≡ [] → ⊥
 help_is_fault c h e =
     let bad : DisplayHelp ∷ [] ≡ [] = second_is_quiet (settle_fault c false h) _ e in
@@ -63,6 +69,19 @@ short_is_fault c found rest h next (inl none) e =
 short_is_fault c found rest h next (inr some) e = help_is_fault c h (first_is_quiet _ _ (rw some at e))
 
 -- ---- a word
+
+abbrev pub dashes : Text
+dashes = codes "--"
+
+pub no_dashes : (word : Text) → HasNoHyphen word → bytes_eq word dashes ≡ false
+no_dashes word no_hyphen = go (bytes_eq word dashes) refl
+  where
+    go : (b : Bool) → bytes_eq word dashes ≡ b → bytes_eq word dashes ≡ false
+    go true t =
+        let is : word ≡ dashes = (bytes_eq-Decides word dashes).0 t in
+        let bad : strip_byte 45 dashes ≡ None = rw is at no_hyphen in
+        cc
+    go false t = t
 
 -- no use yet, and this argument pending
 abbrev pub held : Option (Text × List Text) → Held

@@ -1,4 +1,5 @@
 mod Compiling
+mod FileWords
 mod Flags
 mod Reading
 mod ScriptWords

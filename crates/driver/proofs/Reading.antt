@@ -1,5 +1,5 @@
 -- What a parse of the command line says of the words.
-use Rattle.std.proofs.Common.{◌≡◌, ◌∙◌, ◌<◌, ◌≤◌, length, map, arith, Bool, true, false, List, [], ◌∷◌, ◌++◌, Option, Some, None, refl, sym, ap, subst, codes}
+use Rattle.std.proofs.Common.{◌≡◌, ◌∙◌, ◌<◌, ◌≤◌, ◌⊎◌, inl, inr, length, map, arith, Bool, true, false, List, [], ◌∷◌, ◌++◌, Option, Some, None, refl, sym, ap, subst, codes}
 use Rattle.std.proofs.lemmas.List.{append-nil, append_assoc, length-map}
 use Rattle.std.proofs.lemmas.Slice.Eq.{bytes_eq-Decides}
 use Rattle.std.specs.Borrow.{Bor}
@@ -17,15 +17,23 @@ use Rattle.clap.specs.Faults.{level_fault, walk_fault}
 use Rattle.clap.specs.declared.error.kind.ErrorKind.TheVariants.{UnknownArgument, InvalidSubcommand, DisplayHelp}
 use Rattle.clap.specs.declared.parser.matches.ArgMatches.{ArgMatches}
 use Rattle.clap.specs.declared.parser.matches.ArgMatches.TheViews.{out-ArgMatches, out-SubCommand}
-use Rattle.driver.specs.CommandLine.{IsCommand, no_words, script_words, script_after_dashes, command_line, operands}
-use Rattle.driver.proofs.Flags.{HasOnlyHelp, first_is_quiet, held, is_value, second_is_quiet, step_is_fault}
-use Rattle.driver.proofs.ScriptWords.{NamesFiles, dashes, files_in, files_read, files_taken, files_taken_behind, none_or_help, script}
+use Rattle.driver.specs.CommandLine.{IsCommand, no_words, check_word, check_after_dashes, script_words, script_after_dashes, command_line, operands}
+use Rattle.driver.proofs.FileWords.{NamesOne, file_in, file_read, file_taken, file_taken_behind, taker}
+use Rattle.driver.proofs.Flags.{HasOnlyHelp, dashes, first_is_quiet, held, is_value, none_or_help, second_is_quiet, step_is_fault}
+use Rattle.driver.proofs.ScriptWords.{NamesFiles, files_in, files_read, files_taken, files_taken_behind, script}
 
--- a reading: no command and no operand, or `script` and its files
+-- these files fit the command of this name
+abbrev pub FitsCommand : Text → List Text → Type 0
+FitsCommand name files = ((name ≡ codes "check") × (length files ≡ 1)) ⊎ ((name ≡ codes "script") × (0 < length files))
+
+-- the words are this command and these files, which fit it
+abbrev pub NamesCommand : List Text → Text → List Text → Type 0
+NamesCommand words name files = (operands words ≡ name ∷ files) × FitsCommand name files
+
+-- a reading: no command and no operand, or a command and its files
 abbrev pub Reads : List Text → Option (Text × List Row) → Type 0
 Reads words None = operands words ≡ []
-Reads words (Some p) = (p.0 ≡ codes "script")
-    × MatchOption (all_of (codes "FILE") p.1) ⊥ (λ fs. (operands words ≡ codes "script" ∷ fs) × (0 < length fs))
+Reads words (Some p) = MatchOption (all_of (codes "FILE") p.1) ⊥ (NamesCommand words p.0)
 
 -- what clap finds in the words reads them
 abbrev IsRead : List Text → Type 0
@@ -44,7 +52,11 @@ at_start behind = record { held = held None; waiting = idle; position = 1; is_tr
 only_help : HasOnlyHelp top.rules
 only_help = record { long = λ name. none_or_help _; short = λ x. none_or_help _ }
 
--- ---- `script`
+-- ---- a command
+
+-- the walk met the command of this name
+abbrev met : Text → Walk
+met name = record (at_start false) { stopped = Some (name, []) }
 
 -- past a subcommand, the walk gathers the words
 gathers : (c : List Rule) (ns : Names) (w : Walk) (name : Text) (before words : List Text)
@@ -53,26 +65,46 @@ unfolding walked
 gathers c ns w name before [] = rw append-nil refl
 gathers c ns w name before (x ∷ xs) = rw (gathers c ns w name (before ++ x ∷ []) xs, append_assoc) refl
 
-walked_to_script : (word : Text) → bytes_eq (codes "script") word ≡ true
-    → walked top.rules names (at_start false) word ≡ record (at_start false) { stopped = Some (codes "script", []) }
+walked_to_check : (word : Text) → bytes_eq (codes "check") word ≡ true → walked top.rules names (at_start false) word ≡ met (codes "check")
 unfolding walked
-walked_to_script word is = rw is refl
+walked_to_check word is = rw is refl
+
+walked_to_script : (word : Text) → bytes_eq (codes "check") word ≡ false → bytes_eq (codes "script") word ≡ true
+    → walked top.rules names (at_start false) word ≡ met (codes "script")
+unfolding walked
+walked_to_script word other is = rw (other, is) refl
+
+walk_from_command : (name word : Text) (words : List Text) → walked top.rules names (at_start false) word ≡ met name
+    → walk top.rules names (held None) (word ∷ words) ≡ record (at_start false) { stopped = Some (name, words) }
+walk_from_command name word words first = rw first (gathers top.rules names (at_start false) name [] words)
+
+check_then_file : (word : Text) (words : List Text) (files : Option (List Text)) → word ≡ codes "check" → NamesOne words files
+    → MatchOption files ⊥ (NamesCommand (word ∷ words) (codes "check"))
+check_then_file word words None is named = named
+check_then_file word words (Some files) is named = (rw (is, named.1, named.2) refl, inl (refl, rw named.1 refl))
 
 script_then_files : (word : Text) (words : List Text) (files : Option (List Text)) → word ≡ codes "script" → NamesFiles words files
-    → MatchOption files ⊥ (λ fs. (operands (word ∷ words) ≡ codes "script" ∷ fs) × (0 < length fs))
+    → MatchOption files ⊥ (NamesCommand (word ∷ words) (codes "script"))
 script_then_files word words None is named = named
-script_then_files word words (Some files) is named = (rw (is, named.0) refl, named.1)
+script_then_files word words (Some files) is named = (rw (is, named.0) refl, inr (refl, named.1))
 
-script_first : (word : Text) (words : List Text) → bytes_eq (codes "script") word ≡ true → fault_of command_line (word ∷ words) ≡ []
+check_first : (word : Text) (words : List Text) → bytes_eq (codes "check") word ≡ true → fault_of command_line (word ∷ words) ≡ []
     → IsRead (word ∷ words)
-script_first word words t e =
-    let walk_is : walk top.rules names (held None) (word ∷ words) ≡ record (at_start false) { stopped = Some (codes "script", words) } =
-    rw (walked_to_script word t) (gathers top.rules names (at_start false) (codes "script") [] words) in
+check_first word words t e =
+    let walk_is = walk_from_command (codes "check") word words (walked_to_check word t) in
+    let below : level_fault (taker (codes "check")) [] (held None) words false [] ≡ [] = first_is_quiet _ _ (second_is_quiet _ _ (rw walk_is at e)) in
+    let is : codes "check" ≡ word = (bytes_eq-Decides (codes "check") word).0 t in
+    rw walk_is (check_then_file word words (file_in words) (sym is) (file_read (codes "check") words below))
+
+script_first : (word : Text) (words : List Text) → bytes_eq (codes "check") word ≡ false → bytes_eq (codes "script") word ≡ true
+    → fault_of command_line (word ∷ words) ≡ [] → IsRead (word ∷ words)
+script_first word words other t e =
+    let walk_is = walk_from_command (codes "script") word words (walked_to_script word other t) in
     let below : level_fault script [] (held None) words false [] ≡ [] = first_is_quiet _ _ (second_is_quiet _ _ (rw walk_is at e)) in
     let is : codes "script" ≡ word = (bytes_eq-Decides (codes "script") word).0 t in
-    rw walk_is (refl, script_then_files word words (files_in words) (sym is) (files_read words below))
+    rw walk_is (script_then_files word words (files_in words) (sym is) (files_read words below))
 
--- ---- no `script`
+-- ---- no command
 
 dashes_first : (word : Text) (words : List Text) → bytes_eq word dashes ≡ true → walk_fault top names (at_start true) words ≡ []
     → walked top.rules names (at_start false) word ≡ at_start true → IsRead (word ∷ words)
@@ -82,29 +114,30 @@ dashes_first word (x ∷ xs) is e step =
     let bad : UnknownArgument ∷ InvalidSubcommand ∷ [] ≡ [] = e in
     cc
 
-no_script_first : (word : Text) (words : List Text) → bytes_eq (codes "script") word ≡ false
+no_command_first : (word : Text) (words : List Text) → bytes_eq (codes "check") word ≡ false → bytes_eq (codes "script") word ≡ false
     → walk_fault top names (at_start false) (word ∷ words) ≡ [] → IsRead (word ∷ words)
 unfolding walk_fault walked
-no_script_first word words no_script e = go (bytes_eq (codes "help") word) (bytes_eq word dashes) refl refl
+no_command_first word words no_check no_script e = go (bytes_eq (codes "help") word) (bytes_eq word dashes) refl refl
   where
     go : (h d : Bool) → bytes_eq (codes "help") word ≡ h → bytes_eq word dashes ≡ d → IsRead (word ∷ words)
     go true d help other =
-        let bad : DisplayHelp ∷ InvalidSubcommand ∷ [] ≡ [] = rw (no_script, help) at e in
+        let bad : DisplayHelp ∷ InvalidSubcommand ∷ [] ≡ [] = rw (no_check, no_script, help) at e in
         cc
-    go false true no_help is = dashes_first word words is (rw (no_script, no_help, is) at e) (rw (no_script, no_help, is) refl)
+    go false true no_help is = dashes_first word words is (rw (no_check, no_script, no_help, is) at e) (rw (no_check, no_script, no_help, is) refl)
     go false false no_help other =
-        let faults = rw (no_script, no_help, other) at e in
+        let faults = rw (no_check, no_script, no_help, other) at e in
         let value = is_value top.rules only_help idle (λ w h. refl) None word (long_of word) (first_is_quiet _ _ (first_is_quiet _ _ faults)) in
         absurd (step_is_fault _ _ UnknownArgument (InvalidSubcommand ∷ []) (rw value at faults))
 
 is_read : (words : List Text) → fault_of command_line words ≡ [] → IsRead words
 unfolding clap_on_literals
 is_read [] e = refl
-is_read (word ∷ words) e = go (bytes_eq (codes "script") word) refl
+is_read (word ∷ words) e = go (bytes_eq (codes "check") word) (bytes_eq (codes "script") word) refl refl
   where
-    go : (b : Bool) → bytes_eq (codes "script") word ≡ b → IsRead (word ∷ words)
-    go true is = script_first word words is e
-    go false other = no_script_first word words other (first_is_quiet _ _ e)
+    go : (c s : Bool) → bytes_eq (codes "check") word ≡ c → bytes_eq (codes "script") word ≡ s → IsRead (word ∷ words)
+    go true s is no_matter = check_first word words is e
+    go false true other is = script_first word words other is e
+    go false false no_check no_script = no_command_first word words no_check no_script (first_is_quiet _ _ e)
 
 -- ---- what the code learns
 
@@ -116,39 +149,60 @@ reads app words p is faults found =
     let same = subst (λ (a : App). is_simple a ≡ true → p ≡ subcommand_of a words) is found refl in
     rw same (is_read words quiet)
 
--- the files that the code gets from the rows of a subcommand
-pub files_given : (words : List Text) (p : Option (Text × List Row)) (rows : List Row) (files : Option (Bor (List (Bor Text)))) → Reads words p
-    → option_map (λ q. q.1) p ≡ Some rows → option_map (λ s. map (λ f. f.now) s.now) files ≡ all_of (codes "FILE") rows
-    → IsSomeAnd files (λ s. (operands words ≡ codes "script" ∷ map (λ f. f.now) s.now) × (0 < length s.now))
-files_given words None rows files read found given = cc
-files_given words (Some q) rows files read found given =
-    go files (all_of (codes "FILE") q.1) (given ∙ ap (all_of (codes "FILE")) (sym same)) read.1
+-- the files that the code gets from the rows of a command
+pub files_given : (words : List Text) (p : Option (Text × List Row)) (name : Text) (rows : List Row) (files : Option (Bor (List (Bor Text)))) → Reads words p
+    → Some name ≡ option_map (λ q. q.0) p → Some rows ≡ option_map (λ q. q.1) p → option_map (λ s. map (λ f. f.now) s.now) files ≡ all_of (codes "FILE") rows
+    → IsSomeAnd files (λ s. NamesCommand words name (map (λ f. f.now) s.now))
+files_given words None name rows files read named found given = cc
+files_given words (Some q) name rows files read named found given =
+    go files (all_of (codes "FILE") q.1) (given ∙ ap (all_of (codes "FILE")) same) (subst (λ n. MatchOption (all_of (codes "FILE") q.1) ⊥ (NamesCommand words n)) (sym called) read)
   where
-    same : q.1 ≡ rows
+    same : rows ≡ q.1
     same = ap (λ (o : Option (List Row)). unwrap_or o rows) found
 
+    called : name ≡ q.0
+    called = ap (λ (o : Option Text). unwrap_or o name) named
+
     go : (f : Option (Bor (List (Bor Text)))) (o : Option (List Text)) → option_map (λ s. map (λ f. f.now) s.now) f ≡ o
-        → MatchOption o ⊥ (λ fs. (operands words ≡ codes "script" ∷ fs) × (0 < length fs))
-        → IsSomeAnd f (λ s. (operands words ≡ codes "script" ∷ map (λ f. f.now) s.now) × (0 < length s.now))
+        → MatchOption o ⊥ (NamesCommand words name) → IsSomeAnd f (λ s. NamesCommand words name (map (λ f. f.now) s.now))
     go f None e h = absurd h
     go None (Some o) e h = cc
     go (Some f) (Some o) e h =
         let is : map (λ f. f.now) f.now ≡ o = ap (λ (t : Option (List Text)). unwrap_or t o) e in
-        (rw is h.0, omega (arith, rw (← is) at h.1, length-map f.now (λ (t : Bor Text). t.now)))
+        subst (NamesCommand words name) (sym is) h
 
-name-rows : (m : ArgMatches) → subcommand_name_of m ≡ option_map (λ q. q.0) (subcommand_rows_of m)
+-- `check` has one file
+pub one_file_of : (words : List Text) (name file : Text) (others : List Text) → NamesCommand words name (file ∷ others) → name ≡ codes "check"
+    → operands words ≡ codes "check" ∷ file ∷ []
+one_file_of words name file [] named is = named.0 ∙ ap (λ (n : Text). n ∷ file ∷ []) is
+one_file_of words name file (other ∷ others) (read, inl one) is = absurd (omega (arith, one.1))
+one_file_of words name file (other ∷ others) (read, inr script) is =
+    let bad : codes "check" ≡ codes "script" = sym is ∙ script.0 in
+    cc
+
+-- a command that is not `check` is `script`
+pub files_of_script : (words : List Text) (name : Text) (files : List Text) → NamesCommand words name files → (name ≡ codes "check" → ⊥)
+    → operands words ≡ codes "script" ∷ files
+files_of_script words name files (read, inl check) other = absurd (other check.0)
+files_of_script words name files (read, inr script) other = read ∙ ap (λ (n : Text). n ∷ files) script.0
+
+-- a command has a file
+pub some_file : (words : List Text) (name : Text) (files : List Text) → NamesCommand words name files → 0 < length files
+some_file words name files (read, inl check) = omega (arith, check.1)
+some_file words name files (read, inr script) = script.1
+
+pub name-rows : (m : ArgMatches) → subcommand_name_of m ≡ option_map (λ q. q.0) (subcommand_rows_of m)
 name-rows m =
     elim ((out-ArgMatches m).subcommand) as (λ s. option_map (λ b. (out-SubCommand (box_value b)).name.now) s ≡ option_map (λ q. q.0) (subcommand_rows s))
     [ None ↦ refl | Some b ↦ refl ]
 
--- where the code meets no `script`
-pub no_operands : (words : List Text) (m : ArgMatches) → Reads words (subcommand_rows_of m)
-    → (subcommand_name_of m ≡ Some (codes "script") → ⊥) → operands words ≡ []
-no_operands words m read other = go (subcommand_rows_of m) read (λ named. other (name-rows m ∙ named))
+-- where the code meets no command
+pub no_operands : (words : List Text) (m : ArgMatches) → Reads words (subcommand_rows_of m) → None ≡ subcommand_name_of m → operands words ≡ []
+no_operands words m read none = go (subcommand_rows_of m) read (none ∙ name-rows m)
   where
-    go : (p : Option (Text × List Row)) → Reads words p → (option_map (λ q. q.0) p ≡ Some (codes "script") → ⊥) → operands words ≡ []
-    go None read other = read
-    go (Some q) read other = absurd (other (ap Some read.0))
+    go : (p : Option (Text × List Row)) → Reads words p → None ≡ option_map (λ q. q.0) p → operands words ≡ []
+    go None read none = read
+    go (Some q) read none = cc
 
 -- ---- which words a parse takes
 
@@ -161,6 +215,8 @@ left_to_it name before (word ∷ words) = left_to_it name (before ++ word ∷ []
 pub is_taken : (words : List Text) → length words ≤ usize_max → IsCommand words → takes command_line words ≡ true
 unfolding walk_passes walked
 is_taken words few no_words = refl
+is_taken words few (check_word file no_hyphen) = rw (file_taken (codes "check") file no_hyphen) refl
+is_taken words few (check_after_dashes file) = refl
 is_taken words few (script_words file others all) =
     rw (gathers top.rules names (at_start false) (codes "script") [] (file ∷ others), left_to_it (codes "script") [] (file ∷ others), files_taken file others all (omega (arith, few))) refl
 is_taken words few (script_after_dashes file others) =

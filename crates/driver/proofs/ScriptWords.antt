@@ -15,14 +15,11 @@ use Rattle.clap.specs.Faults.{defaults_fault, flag_word_fault, level_fault, walk
 use Rattle.clap.specs.Kinds.{Kinds}
 use Rattle.clap.specs.declared.error.kind.ErrorKind.TheVariants.{MissingRequiredArgument}
 use Rattle.driver.specs.CommandLine.{HasNoHyphen, command_line, operands, script_command, script_files}
-use Rattle.driver.proofs.Flags.{HasOnlyHelp, IsNoneOrHelp, TakesValues, first_is_quiet, held, help, is_value, second_is_quiet}
+use Rattle.driver.proofs.Flags.{HasOnlyHelp, TakesValues, dashes, first_is_quiet, held, is_value, no_dashes, none_or_help, second_is_quiet}
 
 -- the command `script`, once it is built
 abbrev pub script : Shape
-script = slice_index_or (built command_line).subs 0 script_command.top
-
-abbrev pub dashes : Text
-dashes = codes "--"
+script = slice_index_or (built command_line).subs 1 script_command.top
 
 -- the files that clap finds in the words after `script`
 abbrev pub files_in : List Text → Option (List Text)
@@ -31,10 +28,6 @@ files_in words = all_of (codes "FILE") (rows_after script.rules [] words)
 -- the words are those files, of which there is one, but for a `--`
 abbrev pub NamesFiles : List Text → Option (List Text) → Type 0
 NamesFiles words files = MatchOption files ⊥ (λ fs. (operands words ≡ fs) × (0 < length fs))
-
-pub none_or_help : (b : Bool) → IsNoneOrHelp (if b then Some help else None)
-none_or_help true = inr refl
-none_or_help false = inl refl
 
 only_help : HasOnlyHelp script.rules
 only_help = record { long = λ name. none_or_help _; short = λ x. none_or_help _ }
@@ -141,16 +134,6 @@ passes_behind [] [] = refl
 passes_behind (f ∷ fs) [] = refl
 passes_behind [] (word ∷ words) = rw (walked_behind [] word) (passes_behind (word ∷ []) words)
 passes_behind (f ∷ fs) (word ∷ words) = rw (walked_behind (f ∷ fs) word) (passes_behind (f ∷ (fs ++ word ∷ [])) words)
-
-no_dashes : (word : Text) → HasNoHyphen word → bytes_eq word dashes ≡ false
-no_dashes word no_hyphen = go (bytes_eq word dashes) refl
-  where
-    go : (b : Bool) → bytes_eq word dashes ≡ b → bytes_eq word dashes ≡ false
-    go true t =
-        let is : word ≡ dashes = (bytes_eq-Decides word dashes).0 t in
-        let bad : strip_byte 45 dashes ≡ None = rw is at no_hyphen in
-        cc
-    go false t = t
 
 -- a word that no hyphen begins is one more file
 walked_file : (fs : List Text) (word : Text) → HasNoHyphen word → walked script.rules [] (at_files fs false) word ≡ at_files (fs ++ word ∷ []) false

@@ -6,7 +6,15 @@ use Rattle.clap.specs.Lexer.{strip_byte, usize_max}
 use Rattle.clap.specs.Words.{App, Rule, Text, new_app, new_rule, with_rule, with_subcommand}
 use Rattle.clap.specs.declared.builder.action.ArgAction.TheVariants.{Append}
 use Rattle.driver.specs.declared.requests.Request.{Request}
-use Rattle.driver.specs.declared.requests.Request.TheVariants.{Input, Script}
+use Rattle.driver.specs.declared.requests.Request.TheVariants.{Input, Check, Script}
+
+-- the name of the one file that a command takes
+abbrev pub one_file : Rule
+one_file = record (new_rule (codes "FILE")) { required = true }
+
+-- a command of this name that takes one file
+abbrev pub file_command : Text → App
+file_command name = with_rule (new_app name) one_file
 
 -- the files' names after `script`: that of the script, and then those of programs
 abbrev pub script_files : Rule
@@ -29,7 +37,7 @@ program =
 
 -- the whole command line
 abbrev pub command_line : App
-command_line = with_subcommand program script_command.top
+command_line = with_subcommand (with_subcommand program (file_command (codes "check")).top) script_command.top
 
 -- the words without the first `--`, after which no word is an option
 abbrev pub operands : List Text → List Text
@@ -39,14 +47,17 @@ operands (w ∷ ws) = if bytes_eq w (codes "--") then ws else w ∷ operands ws
 -- the operands that a request stands for
 abbrev pub words_of : Request → List Text
 words_of Input = []
+words_of (Check file) = codes "check" ∷ file.now ∷ []
 words_of (Script script programs) = codes "script" ∷ script.now ∷ map (λ p. p.now) programs.items
 
 -- no hyphen (45) begins the word
 abbrev pub HasNoHyphen : Text → Type 0
 HasNoHyphen word = strip_byte 45 word ≡ None
 
--- no words, or `script` and files, behind `--` where a hyphen may begin a name
+-- no words, or `check` and one file, or `script` and files; behind `--` where a hyphen may begin a name
 pub data IsCommand : List Text → Type 0 where
   no_words : IsCommand []
+  check_word : (file : Text) → HasNoHyphen file → IsCommand (codes "check" ∷ file ∷ [])
+  check_after_dashes : (file : Text) → IsCommand (codes "check" ∷ codes "--" ∷ file ∷ [])
   script_words : (file : Text) (others : List Text) → AllByRecursion HasNoHyphen (file ∷ others) → IsCommand (codes "script" ∷ file ∷ others)
   script_after_dashes : (file : Text) (others : List Text) → IsCommand (codes "script" ∷ codes "--" ∷ file ∷ others)

@@ -1,13 +1,15 @@
 -- What serving a request comes to.
-use Rattle.std.specs.Prelude.{◌≡◌, ℕ, Bool, List, [], ◌⊎◌, Result, Ok, Err, map}
+use Rattle.std.specs.Prelude.{◌≡◌, ℕ, ◌<◌, Bool, false, List, [], ◌∷◌, ◌++◌, ◌⊎◌, Result, Ok, Err, map, codes}
 use Rattle.std.specs.declared.io.Error.{Error}
+use Rattle.devices.specs.Drain.{TakesPart}
 use Rattle.typed_tree.specs.ProgramTree.{ProgramTree}
 use Rattle.scripts.specs.declared.error.ScriptError.{ScriptError}
 use Rattle.scripts.specs.Script.{Input, Taken, RunsScript}
 use Rattle.scripts.specs.Text.{RunsText}
 use Rattle.driver.specs.Endings.{of_script, status_of_end}
-use Rattle.driver.specs.Reading.{HoldPrograms, LacksProgram, FailsRead}
+use Rattle.driver.specs.Reading.{HoldPrograms, HoldsProgram, IsNoProgram, LacksProgram, FailsRead}
 use Rattle.driver.specs.declared.error.ServeError.{ServeError}
+use Rattle.driver.specs.declared.error.ServeError.TheVariants.{WriteFailed}
 use Rattle.driver.specs.declared.requests.Request.{Request}
 use Rattle.driver.specs.declared.requests.Request.TheVariants as request
 
@@ -21,6 +23,35 @@ pub record RunsInput (old new : Input) (before after : Taken) (ended : Result Bo
   pub script_ended : Result Bool ScriptError
   pub runs : RunsScript [] old new before after script_ended
   pub ending : ended ≡ end_of script_ended
+
+-- what is written of a program that compiles: `ok` and a line feed (10)
+abbrev pub ok_line : List ℕ
+ok_line = codes "ok" ++ 10 ∷ []
+
+-- the file may hold a program, and all of the line `ok` was written
+pub record TellsOk (holds : List ℕ → Type 0) (before after : Taken) (faulted : Bool) : Type 0 where
+  pub program : ProgramTree
+  pub compiled : HoldsProgram holds program
+  pub taken : after.taken ≡ before.taken ++ ok_line
+  pub fault : faulted ≡ false
+
+-- nothing was written, since the file of this name is no program
+pub record TellsNothing (holds : List ℕ → Type 0) (fails : Error → Type 0) (name : List ℕ) (before after : Taken) (e : ServeError) : Type 0 where
+  pub untouched : after ≡ before
+  pub cause : IsNoProgram holds fails name e
+
+-- the file may hold a program, and a beginning of the line `ok` was written before the writer failed
+pub record BeginsOk (holds : List ℕ → Type 0) (before after : Taken) (e : ServeError) : Type 0 where
+  pub program : ProgramTree
+  pub compiled : HoldsProgram holds program
+  pub part : TakesPart before.taken after.taken ok_line
+  pub failed : before.failures < after.failures
+  pub outcome : e ≡ WriteFailed
+
+-- what checking the program in the file of this name comes to
+abbrev pub ChecksFile : (List ℕ → Type 0) → (Error → Type 0) → List ℕ → Taken → Taken → Result Bool ServeError → Type 0
+ChecksFile holds fails name before after (Ok faulted) = TellsOk holds before after faulted
+ChecksFile holds fails name before after (Err e) = TellsNothing holds fails name before after e ⊎ BeginsOk holds before after e
 
 -- the files may hold these programs and this script, which was run with them and ended so
 pub record RunsScriptOf (holds : List ℕ → List ℕ → Type 0) (script : List ℕ) (names : List (List ℕ)) (before after : Taken) (ended : Result Bool ServeError) : Type 0 where
@@ -49,6 +80,13 @@ pub record ServesInput (old new : Input) (before after : Taken) (status : ℕ) :
   pub runs : RunsInput old new before after ended
   pub ending : status ≡ status_of_end ended
 
+-- the program in the file of this name was checked, with this status at the end; the standard input was not read
+pub record ServesCheck (holds : List ℕ → List ℕ → Type 0) (fails : List ℕ → Error → Type 0) (name : List ℕ) (old new : Input) (before after : Taken) (status : ℕ) : Type 0 where
+  pub ended : Result Bool ServeError
+  pub checks : ChecksFile (holds name) (fails name) name before after ended
+  pub ending : status ≡ status_of_end ended
+  pub unread : new ≡ old
+
 -- the files were run, with this status at the end; the standard input was not read
 pub record ServesFiles (holds : List ℕ → List ℕ → Type 0) (fails : List ℕ → Error → Type 0) (script : List ℕ) (names : List (List ℕ)) (old new : Input) (before after : Taken) (status : ℕ) : Type 0 where
   pub ended : Result Bool ServeError
@@ -59,5 +97,6 @@ pub record ServesFiles (holds : List ℕ → List ℕ → Type 0) (fails : List 
 -- what serving a request comes to
 abbrev pub Serves : (List ℕ → List ℕ → Type 0) → (List ℕ → Error → Type 0) → Request → Input → Input → Taken → Taken → ℕ → Type 0
 Serves holds fails request.Input old new before after status = ServesInput old new before after status
+Serves holds fails (request.Check file) old new before after status = ServesCheck holds fails file.now old new before after status
 Serves holds fails (request.Script script names) old new before after status =
     ServesFiles holds fails script.now (map (λ n. n.now) names.items) old new before after status

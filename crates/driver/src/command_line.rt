@@ -1,14 +1,16 @@
 //! The words after the program's name.
 
-ghost use Rattle.std.specs.Prelude.{◌≡◌, IfOk, IsOkUnless, false, map};
+ghost use Rattle.std.specs.Prelude.{◌≡◌, IfOk, IsOkUnless, codes, false, map};
 ghost use Rattle.clap.specs.Words.{app_of};
 ghost use Rattle.clap.specs.declared.builder.command.Command.TheViews.{out-Command as fields_of};
-ghost use Rattle.driver.specs.CommandLine.{IsCommand, command_line, operands, script_command};
-ghost use Rattle.driver.specs.CommandLine.{words_of};
+ghost use Rattle.driver.specs.CommandLine.{IsCommand, command_line, file_command, operands};
+ghost use Rattle.driver.specs.CommandLine.{script_command, words_of};
 
 use crate::requests::{Request, RequestError};
 use clap::{Arg, ArgAction, Command};
 use std::alloc::{AllocError, Global};
+
+const CHECK: &str = "check";
 
 const SCRIPT: &str = "script";
 
@@ -21,12 +23,16 @@ const HELP: &str =
     Example: gsnap script examples/squares.script examples/squares.program\n\
     docs/SCRIPTS.md lists the lines of scripts, and docs/LANGUAGE.md describes programs.";
 
+const CHECK_HELP: &str = "Where the text is refused, the number and the place of the first fault are told.\n\
+    Example: gsnap check examples/squares.program";
+
 const SCRIPT_HELP: &str =
     "A line `run 2 10 1` of the script runs the second PROGRAM, for at most 10 turns, with one worker.\n\
     Example: gsnap script examples/squares.script examples/squares.program";
 
-/// Reads the words after the program's name. No words are `Input`; `script SCRIPT [PROGRAM..]` is
-/// `Script`. A `--` may stand before a file whose name begins with a hyphen.
+/// Reads the words after the program's name. No words are `Input`, `check FILE` is `Check`, and
+/// `script SCRIPT [PROGRAM..]` is `Script`. A `--` may stand before a file whose name begins with a
+/// hyphen.
 ///
 /// Errors: `Fault`, with the text to show, at other words and where help is asked for, and
 /// `NoMemory`.
@@ -38,10 +44,11 @@ pub fn request<'a>(alloc: Global, words: &'a [&'a str]) -> Result<Request<'a>, R
     // (so many files at most, and each `usize` is a number of files that may be given)
     let _count = words.len();
     let matches = command(alloc)?.try_get_matches_from(words)?;
-    let Some(found) = matches.subcommand_matches(SCRIPT) else {
+    let Some((name, found)) = matches.subcommand() else {
         return Ok(Request::Input);
     };
     match found.get_raw(FILES).unwrap_or(&[]).split_first() {
+        Some((file, _)) if name == CHECK => Ok(Request::Check { file }),
         Some((script, programs)) => Ok(Request::Script {
             script,
             programs: Vec::from_slice(alloc, programs)?,
@@ -58,9 +65,24 @@ fn command<'a>(alloc: Global) -> Result<Command<'a>, AllocError>
         .bin_name("gsnap")?
         .no_binary_name(true)
         .about("Runs graph programs on versions of a graph that a script edits.")
-        .override_usage("gsnap\n       gsnap script SCRIPT [PROGRAM]..")
+        .override_usage("gsnap\n       gsnap check FILE\n       gsnap script SCRIPT [PROGRAM]..")
         .after_help(HELP)
+        .subcommand(check_command(alloc)?)?
         .subcommand(script_command(alloc)?)
+}
+
+fn check_command<'a>(alloc: Global) -> Result<Command<'a>, AllocError>
+    ensures app { IfOk result (λ c. app_of c ≡ file_command (codes "check")) }
+    ensures local { IfOk result (λ c. (fields_of c).has_globals ≡ false) }
+{
+    let file = Arg::new(alloc, FILES)
+        .required(true)
+        .help("The file with the program");
+    Command::new(alloc, CHECK)
+        .about("Compiles the program in a file, and prints `ok`")
+        .override_usage("gsnap check FILE")
+        .after_help(CHECK_HELP)
+        .arg(file)
 }
 
 fn script_command<'a>(alloc: Global) -> Result<Command<'a>, AllocError>

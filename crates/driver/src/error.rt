@@ -18,7 +18,7 @@ pub enum ServeError<'a> {
     NoMemory,
     /// A file, or the standard input, cannot be read.
     ReadFailed,
-    /// The replies cannot be written.
+    /// The output cannot be written.
     WriteFailed,
     /// The text in the file of this name is no program. The error is never that memory ran out.
     Refused { file: &'a str, error: CompileError },

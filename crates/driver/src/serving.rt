@@ -4,28 +4,31 @@ ghost use Rattle.std.specs.Prelude.{◌≡◌, ◌++◌, map};
 ghost use Rattle.scripts.specs.Script.{input as input_of, taken_by, RunsScript};
 ghost use Rattle.driver.specs.Endings.{status_of_end};
 ghost use Rattle.driver.specs.Reading.{CompilesFile, CompilesFiles};
-ghost use Rattle.driver.specs.Serving.{RunsFiles, RunsInput, Serves};
+ghost use Rattle.driver.specs.Serving.{ChecksFile, RunsFiles, RunsInput, Serves};
 
 use crate::error::ServeError;
 use crate::files::Files;
 use crate::requests::Request;
 use crate::status;
 use compiler::{CompileError, compile};
-use devices::{Drain, Feed};
+use devices::{Drain, Feed, write_all};
 use scripts::{run_text, script};
 use std::alloc::Global;
 use std::fmt;
 use std::fmt::Write;
 use typed_tree::Typed;
 
+// What is told of a program that compiles.
+const OK_LINE: &[u8] = b"ok\n";
+
 /// Does a request, and answers the exit status: 0 where all was done, or 3 where some run of the script
-/// ended by a fault. `out` has then taken the replies of the script.
+/// ended by a fault. `out` has then taken the line `ok` of a check, or the replies of the script.
 ///
-/// `Script` compiles each program before it reads the next file, and reads the script's file last. The
-/// status is 1 where a program's text is refused; `err` is then told the file, `refused`, the number
-/// and where the fault stands, if that is known, and `out` took nothing. It is 4 where memory runs out,
-/// and 5 where a file or `input` cannot be read or `out` fails; `err` is then told `refused` and the
-/// number, and `out` took a beginning of the replies.
+/// `Check` writes once the program is compiled. `Script` compiles each program before it reads the next
+/// file, and reads the script's file last. The status is 1 where a program's text is refused; `err` is
+/// then told the file, `refused`, the number and where the fault stands, if that is known, and `out` took
+/// nothing. It is 4 where memory runs out, and 5 where a file or `input` cannot be read or `out` fails;
+/// `err` is then told `refused` and the number, and `out` took a beginning of that line or of the replies.
 pub fn serve<F: Files, R: Feed, W: Drain, E: Drain>(
     alloc: Global,
     request: &Request<'_>,
@@ -42,6 +45,7 @@ pub fn serve<F: Files, R: Feed, W: Drain, E: Drain>(
 {
     match request {
         Request::Input => told(run_input(alloc, input, out), err),
+        Request::Check { file } => told(check_file(alloc, file, files, out), err),
         Request::Script { script, programs } => {
             told(run_files(alloc, script, programs, files, out), err)
         }
@@ -76,6 +80,24 @@ fn run_input<'a, R: Feed, W: Drain>(
         (taken_by (W.taken out.new) (W.failures out.new)) result }
 {
     Ok(script(alloc, &[], input, out)?)
+}
+
+// Compiles the program in the file of this name, and then writes the line `ok`. No run ends by a fault.
+fn check_file<'a, F: Files, W: Drain>(
+    alloc: Global,
+    file: &'a str,
+    files: &F,
+    out: &mut W,
+) -> Result<bool, ServeError<'a>>
+    ensures { ChecksFile (F.may_hold files.now file.entry.now) (F.may_fail files.now file.entry.now) file.entry.now
+        (taken_by (W.taken out.old) (W.failures out.old))
+        (taken_by (W.taken out.new) (W.failures out.new)) result }
+{
+    drop(compiled_file(alloc, file, files)?);
+    match write_all(out, OK_LINE) {
+        Ok(()) => Ok(false),
+        Err(_) => Err(ServeError::WriteFailed),
+    }
 }
 
 // Compiles the programs in the files of these names, and then runs the script that a file holds.
@@ -134,6 +156,6 @@ impl<E: Drain> fmt::Write for Text<'_, E> {
     ghost write_str_gives = { λ old text new. E.taken new.0.now ≡ E.taken old.0.now ++ text };
 
     fn write_str(&mut self, text: &str) -> fmt::Result {
-        devices::write_all(self.0, text.as_bytes()).map_err(|_| fmt::Error)
+        write_all(self.0, text.as_bytes()).map_err(|_| fmt::Error)
     }
 }

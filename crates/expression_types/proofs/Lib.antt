@@ -1,4 +1,7 @@
-pub mod Options
-pub mod Signs
+pub mod Entries
+pub mod Least
 pub mod Levels
-pub mod Faults
+pub mod NamesLaws
+pub mod OperandLaws
+pub mod SignLaws
+pub mod Steps

@@ -1,74 +1,120 @@
--- The typed tree of an expression, one equation for each rule of the grammar. Where operators of one level stand in a row, the
--- first operand is taken as it is, and each further one is joined to all that stands at its left.
-use Rattle.std.specs.Prelude.{ℕ, Option, Some}
+-- The typed tree of an expression and its faults, one equation for each rule of the grammar. All faults but those of names stand at the
+-- first token of the statement or declaration around the expression.
+use Rattle.std.specs.Prelude.{ℕ, Option, Some, None}
+use Rattle.syntax.specs.declared.operators.Addition.{Addition}
+use Rattle.syntax.specs.declared.operators.Multiplication.{Multiplication}
 use Rattle.syntax.specs.Words.{Identifier}
 use Rattle.syntax.specs.ExpressionTrees.{ExpressionTree, ConjunctionTree, ComparisonTree, SumTree, TermTree, UnaryTree, PrimaryTree, LastConjunction, ConjunctionThen, LastComparison, ComparisonThen, OneSum, TwoSums, LastTerm, TermThen, LastUnary, UnaryThen, Bare, Signed, Literal, Truth, Variable, Entry, Size, Parentheses}
 use Rattle.typed_tree.specs.declared.expression.Connective.TheVariants as connective
+use Rattle.typed_tree.specs.declared.expression.Slot.{Slot}
 use Rattle.typed_tree.specs.IntegerTree as integer
 use Rattle.typed_tree.specs.ConditionTree as condition
-use Rattle.expression_types.specs.ScopeTree.{ScopeTree, entity_named}
-use Rattle.expression_types.specs.ValueTree.{ValueTree, Integer, Condition, named_value, named_vector, named_set}
-use Rattle.expression_types.specs.Operators.{◌>>=◌, added, multiplied, arithmetic_value, connected_value, related_value, signed_value, entry_value}
+use Rattle.expression_types.specs.declared.fault.Rule.TheVariants as rule
+use Rattle.expression_types.specs.declared.scope.Entity.{Entity}
+use Rattle.expression_types.specs.declared.scope.Entity.TheVariants as entity
+use Rattle.expression_types.specs.Names.{found}
+use Rattle.expression_types.specs.Noted.{Noted, sure, fault_at, ◌>>=◌}
+use Rattle.expression_types.specs.ScopeTree.{ScopeTree}
+use Rattle.expression_types.specs.ValueTree.{ValueTree, Integer, Condition, Faulty, named_value, named_vector, named_set}
+use Rattle.expression_types.specs.Operators.{added, multiplied, given, IntegersTree, ConditionsTree, first_integer, first_condition, beside_integer, beside_condition, grouped_integers, grouped_conditions, related_value, signed_value, entry_value}
 
--- how an operand is joined to what stands at its left
-abbrev pub Join : Type 0
-Join = ValueTree → Option ValueTree
+-- what a used name is: it has to be visible
+abbrev pub used_as : Identifier → Option Entity → Noted Entity
+used_as name None = fault_at name.at rule.UnknownName entity.Unclear
+used_as name (Some e) = sure e
 
--- a first operand, which is taken as it is
-abbrev pub alone : Join
-alone value = Some value
+abbrev pub used : ScopeTree → Identifier → Noted Entity
+used scope name = used_as name (found name.bytes scope.visible)
 
--- the value of a visible name
-abbrev pub name_value : ScopeTree → Identifier → Option ValueTree
-name_value scope name = entity_named name.bytes scope.visible >>= named_value
+-- the value of a name
+abbrev pub name_value : ScopeTree → ℕ → Identifier → Noted ValueTree
+name_value scope at name = used scope name >>= λ e. given at rule.WrongType (named_value e)
 
--- the place of a visible vector
-abbrev pub vector_place : ScopeTree → Identifier → Option ℕ
-vector_place scope name = entity_named name.bytes scope.visible >>= named_vector
+-- the place of a vector, none where the name is faulty or no vector
+abbrev pub vector_at : ℕ → Option ℕ → Noted (Option ℕ)
+vector_at at None = fault_at at rule.WrongType None
+vector_at at (Some place) = sure (Some place)
 
--- how many members a visible vertex set has
-abbrev pub size_value : ScopeTree → Identifier → Option ValueTree
-size_value scope name = entity_named name.bytes scope.visible >>= named_set >>= λ slot. Some (Integer (integer.SetSize slot))
+abbrev pub as_vector : ℕ → Entity → Noted (Option ℕ)
+as_vector at entity.Unclear = sure None
+as_vector at e = vector_at at (named_vector e)
+
+abbrev pub vector_place : ScopeTree → ℕ → Identifier → Noted (Option ℕ)
+vector_place scope at name = used scope name >>= as_vector at
+
+-- how many members a vertex set has
+abbrev pub size_of : ℕ → Option Slot → Noted ValueTree
+size_of at None = fault_at at rule.WrongType Faulty
+size_of at (Some slot) = sure (Integer (integer.SetSize slot))
+
+abbrev pub as_size : ℕ → Entity → Noted ValueTree
+as_size at entity.Unclear = sure Faulty
+as_size at e = size_of at (named_set e)
+
+abbrev pub size_value : ScopeTree → ℕ → Identifier → Noted ValueTree
+size_value scope at name = used scope name >>= as_size at
 
 abbrev mutual
-  pub expression_value : ScopeTree → ExpressionTree → Join → Option ValueTree
-  expression_value scope (LastConjunction c) join = conjunction_value scope c alone >>= join
-  expression_value scope (ConjunctionThen c others) join =
-      conjunction_value scope c alone >>= join >>= λ left. expression_value scope others (connected_value connective.Or left)
+  pub value_of : ScopeTree → ℕ → ExpressionTree → Noted ValueTree
+  value_of scope at (LastConjunction c) = conjunction_value scope at c
+  value_of scope at (ConjunctionThen c others) =
+      conjunction_value scope at c >>= λ v. disjuncts scope at (first_condition v) others >>= grouped_conditions at
 
-  pub conjunction_value : ScopeTree → ConjunctionTree → Join → Option ValueTree
-  conjunction_value scope (LastComparison c) join = comparison_value scope c >>= join
-  conjunction_value scope (ComparisonThen c others) join =
-      comparison_value scope c >>= join >>= λ left. conjunction_value scope others (connected_value connective.And left)
+  -- the conjunctions behind the first `or`, behind what stands on its left
+  pub disjuncts : ScopeTree → ℕ → ConditionsTree → ExpressionTree → Noted ConditionsTree
+  disjuncts scope at left (LastConjunction c) =
+      conjunction_value scope at c >>= λ v. sure (beside_condition connective.Or left (first_condition v))
+  disjuncts scope at left (ConjunctionThen c others) =
+      conjunction_value scope at c >>= λ v. disjuncts scope at (beside_condition connective.Or left (first_condition v)) others
 
-  pub comparison_value : ScopeTree → ComparisonTree → Option ValueTree
-  comparison_value scope (OneSum s) = sum_value scope s alone
-  comparison_value scope (TwoSums left relation right) =
-      sum_value scope left alone >>= λ a. sum_value scope right alone >>= related_value relation a
+  pub conjunction_value : ScopeTree → ℕ → ConjunctionTree → Noted ValueTree
+  conjunction_value scope at (LastComparison c) = comparison_value scope at c
+  conjunction_value scope at (ComparisonThen c others) =
+      comparison_value scope at c >>= λ v. conjuncts scope at (first_condition v) others >>= grouped_conditions at
 
-  pub sum_value : ScopeTree → SumTree → Join → Option ValueTree
-  sum_value scope (LastTerm t) join = term_value scope t alone >>= join
-  sum_value scope (TermThen t operator others) join =
-      term_value scope t alone >>= join >>= λ left. sum_value scope others (arithmetic_value (added operator) left)
+  pub conjuncts : ScopeTree → ℕ → ConditionsTree → ConjunctionTree → Noted ConditionsTree
+  conjuncts scope at left (LastComparison c) =
+      comparison_value scope at c >>= λ v. sure (beside_condition connective.And left (first_condition v))
+  conjuncts scope at left (ComparisonThen c others) =
+      comparison_value scope at c >>= λ v. conjuncts scope at (beside_condition connective.And left (first_condition v)) others
 
-  pub term_value : ScopeTree → TermTree → Join → Option ValueTree
-  term_value scope (LastUnary u) join = unary_value scope u >>= join
-  term_value scope (UnaryThen u operator others) join =
-      unary_value scope u >>= join >>= λ left. term_value scope others (arithmetic_value (multiplied operator) left)
+  pub comparison_value : ScopeTree → ℕ → ComparisonTree → Noted ValueTree
+  comparison_value scope at (OneSum s) = sum_value scope at s
+  comparison_value scope at (TwoSums left relation right) =
+      sum_value scope at left >>= λ a. sum_value scope at right >>= λ b. given at rule.WrongType (related_value relation a b)
 
-  pub unary_value : ScopeTree → UnaryTree → Option ValueTree
-  unary_value scope (Bare p) = primary_value scope p
-  unary_value scope (Signed sign u) = unary_value scope u >>= signed_value sign
+  pub sum_value : ScopeTree → ℕ → SumTree → Noted ValueTree
+  sum_value scope at (LastTerm t) = term_value scope at t
+  sum_value scope at (TermThen t o others) =
+      term_value scope at t >>= λ v. summands scope at (first_integer v) o others >>= grouped_integers at
 
-  pub primary_value : ScopeTree → PrimaryTree → Option ValueTree
-  primary_value scope (Literal n) = Some (Integer (integer.Number n))
-  primary_value scope (Truth b) = Some (Condition (condition.Literal b))
-  primary_value scope (Variable name) = name_value scope name
-  primary_value scope (Entry name index) =
-      vector_place scope name >>= λ vector. expression_value scope index alone >>= entry_value scope.inside vector
-  primary_value scope (Size name) = size_value scope name
-  primary_value scope (Parentheses inside) = expression_value scope inside alone
+  -- the terms behind the first operator, behind what stands on its left
+  pub summands : ScopeTree → ℕ → IntegersTree → Addition → SumTree → Noted IntegersTree
+  summands scope at left o (LastTerm t) =
+      term_value scope at t >>= λ v. sure (beside_integer (added o) left (first_integer v))
+  summands scope at left o (TermThen t p others) =
+      term_value scope at t >>= λ v. summands scope at (beside_integer (added o) left (first_integer v)) p others
 
--- the typed tree of an expression, none where it breaks a rule
-abbrev pub value_of : ScopeTree → ExpressionTree → Option ValueTree
-value_of scope e = expression_value scope e alone
+  pub term_value : ScopeTree → ℕ → TermTree → Noted ValueTree
+  term_value scope at (LastUnary u) = unary_value scope at u
+  term_value scope at (UnaryThen u o others) =
+      unary_value scope at u >>= λ v. factors scope at (first_integer v) o others >>= grouped_integers at
+
+  pub factors : ScopeTree → ℕ → IntegersTree → Multiplication → TermTree → Noted IntegersTree
+  factors scope at left o (LastUnary u) =
+      unary_value scope at u >>= λ v. sure (beside_integer (multiplied o) left (first_integer v))
+  factors scope at left o (UnaryThen u p others) =
+      unary_value scope at u >>= λ v. factors scope at (beside_integer (multiplied o) left (first_integer v)) p others
+
+  pub unary_value : ScopeTree → ℕ → UnaryTree → Noted ValueTree
+  unary_value scope at (Bare p) = primary_value scope at p
+  unary_value scope at (Signed sign u) = unary_value scope at u >>= λ v. given at rule.WrongType (signed_value sign v)
+
+  pub primary_value : ScopeTree → ℕ → PrimaryTree → Noted ValueTree
+  primary_value scope at (Literal n) = sure (Integer (integer.Number n))
+  primary_value scope at (Truth b) = sure (Condition (condition.Literal b))
+  primary_value scope at (Variable name) = name_value scope at name
+  primary_value scope at (Entry name index) =
+      vector_place scope at name >>= λ vector. value_of scope at index >>= λ v. entry_value scope.inside at vector v
+  primary_value scope at (Size name) = size_value scope at name
+  primary_value scope at (Parentheses inside) = value_of scope at inside

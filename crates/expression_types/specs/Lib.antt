@@ -1,5 +1,9 @@
-pub mod ScopeTree
-pub mod ValueTree
-pub mod Operators
 pub mod Expression
-pub mod Outcome
+pub mod Faults
+pub mod Names
+pub mod Noted
+pub mod Operands
+pub mod Operators
+pub mod ScopeTree
+pub mod Signs
+pub mod ValueTree

@@ -1,17 +1,19 @@
 -- The names that are visible at a point of a source.
-use Rattle.std.specs.Prelude.{◌≡◌, ℕ, ◌+◌, List, [], ◌∷◌, ◌++◌, take, length, Option, Some, None, if◌then◌else◌}
-use Rattle.std.specs.Str.{bytes_eq}
+use Rattle.std.specs.Prelude.{◌≡◌, ℕ, ◌+◌, List, [], ◌∷◌, ◌++◌, take, length, Option, Some, None}
+use Rattle.syntax.specs.Words.{Identifier}
+use Rattle.expression_types.specs.declared.fault.Rule.TheVariants as rule
 use Rattle.expression_types.specs.declared.scope.Entity.{Entity}
 use Rattle.expression_types.specs.declared.scope.Entity.TheVariants as entity
 use Rattle.expression_types.specs.declared.scope.Inside.{Inside}
 use Rattle.expression_types.specs.declared.scope.Inside.TheVariants as inside
 use Rattle.expression_types.specs.declared.scope.Mark.{Mark}
-use Rattle.expression_types.specs.declared.scope.Visible.{Visible}
+use Rattle.expression_types.specs.Names.{found}
+use Rattle.expression_types.specs.Noted.{Noted, sure, fault_at}
 
 -- Names with what they are, in the order in which they became visible; where expressions stand; and how many places of visible
 -- integers, conditions and vertex sets are taken. The constant sets of the whole program have the first places of sets.
 pub record ScopeTree : Type 0 where
-  pub visible : List Visible
+  pub visible : List (List ℕ × Entity)
   pub inside : Inside
   pub integers : ℕ
   pub conditions : ℕ
@@ -20,11 +22,6 @@ pub record ScopeTree : Type 0 where
 -- before the first declaration of a program with so many constant vertex sets
 abbrev pub empty_scope : ℕ → ScopeTree
 empty_scope sets = record { visible = []; inside = inside.Main; integers = 0; conditions = 0; sets = sets }
-
--- what a name is, none where it is not visible
-abbrev pub entity_named : List ℕ → List Visible → Option Entity
-entity_named name [] = None
-entity_named name (v ∷ others) = if bytes_eq v.name name then Some v.entity else entity_named name others
 
 -- how many places of integers it takes; a `for` has its bound behind its name
 abbrev pub integers_of : Entity → ℕ
@@ -38,8 +35,11 @@ integers_of (entity.ConditionVariable slot) = 0
 integers_of (entity.SetVariable slot) = 0
 integers_of (entity.LoopVariable slot) = 2
 integers_of (entity.Parameter at) = 0
+integers_of (entity.EdgeFunction place) = 0
 integers_of (entity.VertexFunction place) = 0
+integers_of (entity.Filter place) = 0
 integers_of entity.Main = 0
+integers_of entity.Unclear = 0
 
 -- how many places of conditions
 abbrev pub conditions_of : Entity → ℕ
@@ -53,8 +53,11 @@ conditions_of (entity.ConditionVariable slot) = 1
 conditions_of (entity.SetVariable slot) = 0
 conditions_of (entity.LoopVariable slot) = 0
 conditions_of (entity.Parameter at) = 0
+conditions_of (entity.EdgeFunction place) = 0
 conditions_of (entity.VertexFunction place) = 0
+conditions_of (entity.Filter place) = 0
 conditions_of entity.Main = 0
+conditions_of entity.Unclear = 0
 
 -- how many places of vertex sets, of which the constant ones were taken at the beginning
 abbrev pub sets_of : Entity → ℕ
@@ -68,31 +71,33 @@ sets_of (entity.ConditionVariable slot) = 0
 sets_of (entity.SetVariable slot) = 1
 sets_of (entity.LoopVariable slot) = 0
 sets_of (entity.Parameter at) = 0
+sets_of (entity.EdgeFunction place) = 0
 sets_of (entity.VertexFunction place) = 0
+sets_of (entity.Filter place) = 0
 sets_of entity.Main = 0
+sets_of entity.Unclear = 0
 
 -- the scope with one more name
 abbrev pub with_entity : List ℕ → Entity → ScopeTree → ScopeTree
 with_entity name entity scope = record {
-  visible = scope.visible ++ record { name = name; entity = entity } ∷ [];
+  visible = scope.visible ++ (name, entity) ∷ [];
   inside = scope.inside;
   integers = scope.integers + integers_of entity;
   conditions = scope.conditions + conditions_of entity;
   sets = scope.sets + sets_of entity;
 }
 
--- the scope, where no such name is visible in it
-abbrev pub if_new : ScopeTree → Option Entity → Option ScopeTree
-if_new scope None = Some scope
-if_new scope (Some entity) = None
+-- a name that is visible already stays what it was
+abbrev pub declared_over : Option Entity → Identifier → Entity → ScopeTree → Noted ScopeTree
+declared_over None name entity scope = sure (with_entity name.bytes entity scope)
+declared_over (Some old) name entity scope = fault_at name.at rule.Redeclared scope
 
--- a name is declared, which must not be visible already
-abbrev pub declared : List ℕ → Entity → ScopeTree → Option ScopeTree
-declared name entity scope = if_new (with_entity name entity scope) (entity_named name scope.visible)
+abbrev pub declared : Identifier → Entity → ScopeTree → Noted ScopeTree
+declared name entity scope = declared_over (found name.bytes scope.visible) name entity scope
 
 -- the scope of a function, before its parameters
-abbrev pub function_scope : ScopeTree → ScopeTree
-function_scope scope = record scope { inside = inside.Function }
+abbrev pub entered : Inside → ScopeTree → ScopeTree
+entered inside scope = record scope { inside = inside }
 
 -- what has to be known of a scope in order to come back to it
 abbrev pub mark_of : ScopeTree → Mark

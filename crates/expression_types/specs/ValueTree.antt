@@ -1,6 +1,7 @@
 -- Typed expressions, without pointers.
-use Rattle.std.specs.Prelude.{ℕ, Bool, true, false, ◌||◌, Option, Some, None}
+use Rattle.std.specs.Prelude.{ℕ, Bool, true, false, ◌||◌, List, [], ◌∷◌, Option, Some, None}
 use Rattle.typed_tree.specs.declared.expression.Endpoint.{Endpoint}
+use Rattle.typed_tree.specs.declared.expression.Operand.{Operand}
 use Rattle.typed_tree.specs.declared.expression.Slot.{Slot}
 use Rattle.typed_tree.specs.IntegerTree as integer
 use Rattle.typed_tree.specs.IntegerTree.{IntegerTree, integer_tree}
@@ -11,12 +12,13 @@ use Rattle.expression_types.specs.declared.scope.Entity.TheVariants as entity
 use Rattle.expression_types.specs.declared.value.Value.{Value}
 use Rattle.expression_types.specs.declared.value.Value.TheVariants as rust
 
--- an expression of type int, bool, Vertex or vertexset{Vertex}
+-- an expression of type int, bool, Vertex or vertexset{Vertex}, or one with a faulty part
 pub data ValueTree : Type 0 where
   Integer : IntegerTree → ValueTree
   Condition : ConditionTree → ValueTree
   Vertex : Endpoint → ValueTree
   Set : Slot → ValueTree
+  Faulty : ValueTree
 
 -- the tree that a Rust tree is
 abbrev pub value_tree : Value → ValueTree
@@ -24,6 +26,37 @@ value_tree (rust.Integer e) = Integer (integer_tree e)
 value_tree (rust.Condition c) = Condition (condition_tree c)
 value_tree (rust.Vertex at) = Vertex at
 value_tree (rust.Set slot) = Set slot
+value_tree rust.Faulty = Faulty
+
+abbrev pub is_faulty : ValueTree → Bool
+is_faulty (Integer e) = false
+is_faulty (Condition c) = false
+is_faulty (Vertex at) = false
+is_faulty (Set slot) = false
+is_faulty Faulty = true
+
+abbrev pub is_condition : ValueTree → Bool
+is_condition (Integer e) = false
+is_condition (Condition c) = true
+is_condition (Vertex at) = false
+is_condition (Set slot) = false
+is_condition Faulty = false
+
+-- the vertex of a function that it is
+abbrev pub as_vertex : ValueTree → Option Endpoint
+as_vertex (Integer e) = None
+as_vertex (Condition c) = None
+as_vertex (Vertex at) = Some at
+as_vertex (Set slot) = None
+as_vertex Faulty = None
+
+-- the vertex set that it is
+abbrev pub as_set : ValueTree → Option Slot
+as_set (Integer e) = None
+as_set (Condition c) = None
+as_set (Vertex at) = None
+as_set (Set slot) = Some slot
+as_set Faulty = None
 
 -- the value that a name has alone, where it has one
 abbrev pub named_value : Entity → Option ValueTree
@@ -37,8 +70,11 @@ named_value (entity.ConditionVariable slot) = Some (Condition (condition.Variabl
 named_value (entity.SetVariable slot) = Some (Set slot)
 named_value (entity.LoopVariable slot) = Some (Integer (integer.Variable slot))
 named_value (entity.Parameter at) = Some (Vertex at)
+named_value (entity.EdgeFunction place) = None
 named_value (entity.VertexFunction place) = None
+named_value (entity.Filter place) = None
 named_value entity.Main = None
+named_value entity.Unclear = Some Faulty
 
 -- the vector that a name is
 abbrev pub named_vector : Entity → Option ℕ
@@ -52,8 +88,11 @@ named_vector (entity.ConditionVariable slot) = None
 named_vector (entity.SetVariable slot) = None
 named_vector (entity.LoopVariable slot) = None
 named_vector (entity.Parameter at) = None
+named_vector (entity.EdgeFunction place) = None
 named_vector (entity.VertexFunction place) = None
+named_vector (entity.Filter place) = None
 named_vector entity.Main = None
+named_vector entity.Unclear = None
 
 -- the vertex set that a name is
 abbrev pub named_set : Entity → Option Slot
@@ -67,8 +106,11 @@ named_set (entity.ConditionVariable slot) = None
 named_set (entity.SetVariable slot) = Some slot
 named_set (entity.LoopVariable slot) = None
 named_set (entity.Parameter at) = None
+named_set (entity.EdgeFunction place) = None
 named_set (entity.VertexFunction place) = None
+named_set (entity.Filter place) = None
 named_set entity.Main = None
+named_set entity.Unclear = None
 
 -- the integer that a value reads as: a vertex reads as its number
 abbrev pub as_integer : ValueTree → Option IntegerTree
@@ -76,12 +118,14 @@ as_integer (Integer e) = Some e
 as_integer (Condition c) = None
 as_integer (Vertex at) = Some (integer.Parameter at)
 as_integer (Set slot) = None
+as_integer Faulty = None
 
 abbrev pub as_condition : ValueTree → Option ConditionTree
 as_condition (Integer e) = None
 as_condition (Condition c) = Some c
 as_condition (Vertex at) = None
 as_condition (Set slot) = None
+as_condition Faulty = None
 
 -- an entry of a vector is read in it
 abbrev pub reads_entry : IntegerTree → Bool
@@ -94,3 +138,17 @@ reads_entry (integer.Entry vector index) = true
 reads_entry (integer.SetSize slot) = false
 reads_entry (integer.Negative e) = reads_entry e
 reads_entry (integer.Arithmetic operator left right) = reads_entry left || reads_entry right
+
+-- in one of the operands
+abbrev pub operands_read_entry : List Operand → Bool
+operands_read_entry [] = false
+operands_read_entry (o ∷ others) = reads_entry (integer_tree o.integer) || operands_read_entry others
+
+-- the same of a condition
+abbrev pub condition_reads_entry : ConditionTree → Bool
+condition_reads_entry (condition.Literal b) = false
+condition_reads_entry (condition.Constant name b) = false
+condition_reads_entry (condition.Variable slot) = false
+condition_reads_entry (condition.Not c) = condition_reads_entry c
+condition_reads_entry (condition.Compare o left right) = reads_entry left || reads_entry right
+condition_reads_entry (condition.Connect o left right) = condition_reads_entry left || condition_reads_entry right

@@ -1,14 +1,16 @@
 //! What operators make of typed operands.
-ghost use Rattle.std.specs.Prelude.{◌≡◌};
-ghost use Rattle.typed_tree.specs.IntegerTree.{integer_tree};
-ghost use Rattle.expression_types.specs.Operators.{added, arithmetic_value, as_index, compared_value, connected_value, entry_at, entry_value, equated_value, multiplied, related_value, signed_value};
-ghost use Rattle.expression_types.specs.Outcome.{Answers};
-ghost use Rattle.expression_types.specs.ValueTree.{value_tree};
+ghost use Rattle.std.specs.Prelude.{◌≡◌, Some, false, IfOk, IsTrue};
+ghost use Rattle.std.specs.Option.{option_map};
+ghost use Rattle.expression_types.specs.Noted.{Notes, outcome};
+ghost use Rattle.expression_types.specs.Operators.{added, compared_value, entry_value, equated_value, function_entry, given, main_entry, multiplied, related_value};
+ghost use Rattle.expression_types.specs.Faults.{earlier};
+ghost use Rattle.expression_types.specs.Signs.{all_minus, all_not, signs_value};
+ghost use Rattle.expression_types.specs.ValueTree.{Faulty, is_condition, is_faulty, value_tree};
 
-use crate::error::TypeError;
+use crate::fault::{Fault, Rule, note};
 use crate::scope::Inside;
-use crate::value::{Value, condition_of, holds_entry, integer_of};
-use std::alloc::Global;
+use crate::value::{Value, reads_entry};
+use std::alloc::{AllocError, Global};
 use syntax::{Addition, Multiplication, Prefix, Relation};
 use typed_tree::{Comparison, Condition, Connective, Integer, Operator};
 
@@ -33,73 +35,77 @@ pub(crate) fn multiplication(operator: Multiplication) -> Operator
     }
 }
 
-/// An operator on two integers. `Refused` where an operand is none.
-pub(crate) fn arithmetic(
-    alloc: Global,
-    operator: Operator,
-    left: Value,
-    right: Value,
-) -> Result<Value, TypeError>
-    ensures { Answers value_tree result (arithmetic_value operator (value_tree left) (value_tree right)) }
+/// A comparison of two integers, or `None` where an operand is none.
+fn compare(comparison: Comparison, left: Value, right: Value) -> Option<Value>
+    ensures { option_map value_tree result ≡ compared_value comparison (value_tree left) (value_tree right) }
 {
-    let left = integer_of(left)?;
-    let right = integer_of(right)?;
-    let left = Box::new(alloc, left)?;
-    let right = Box::new(alloc, right)?;
-    Ok(Value::Integer(Integer::Arithmetic(operator, left, right)))
+    if left.is_faulty() || right.is_faulty() {
+        return Some(Value::Faulty);
+    }
+    let left = left.into_integer()?;
+    let right = right.into_integer()?;
+    Some(Value::Condition(Condition::Compare(comparison, left, right)))
 }
 
-/// An operator on two conditions. `Refused` where an operand is none.
-pub(crate) fn connect(
-    alloc: Global,
-    connective: Connective,
-    left: Value,
-    right: Value,
-) -> Result<Value, TypeError>
-    ensures { Answers value_tree result (connected_value connective (value_tree left) (value_tree right)) }
-{
-    let left = condition_of(left)?;
-    let right = condition_of(right)?;
-    let left = Box::new(alloc, left)?;
-    let right = Box::new(alloc, right)?;
-    Ok(Value::Condition(Condition::Connect(connective, left, right)))
-}
-
-/// A comparison of two integers. `Refused` where an operand is none.
-pub(crate) fn compare(comparison: Comparison, left: Value, right: Value) -> Result<Value, TypeError>
-    ensures { Answers value_tree result (compared_value comparison (value_tree left) (value_tree right)) }
-{
-    let left = integer_of(left)?;
-    let right = integer_of(right)?;
-    Ok(Value::Condition(Condition::Compare(comparison, left, right)))
-}
-
-/// `==` or `!=` of two conditions or of two integers. `Refused` where the operands are neither.
-pub(crate) fn equate(
+/// `==` or `!=` of two conditions or of two integers, or `None` where the operands are neither.
+fn equate(
     alloc: Global,
     connective: Connective,
     comparison: Comparison,
     left: Value,
     right: Value,
-) -> Result<Value, TypeError>
-    ensures { Answers value_tree result (equated_value connective comparison (value_tree left) (value_tree right)) }
+) -> Result<Option<Value>, AllocError>
+    ensures { IfOk result (λ v. option_map value_tree v ≡ equated_value connective comparison (value_tree left) (value_tree right)) }
 {
-    match left {
-        Value::Condition(c) => connect(alloc, connective, Value::Condition(c), right),
-        Value::Integer(e) => compare(comparison, Value::Integer(e), right),
-        Value::Vertex(at) => compare(comparison, Value::Vertex(at), right),
-        Value::Set(_) => Err(TypeError::Refused),
+    if !left.is_condition() {
+        return Ok(compare(comparison, left, right));
+    }
+    if right.is_faulty() {
+        return Ok(Some(Value::Faulty));
+    }
+    let (Some(left), Some(right)) = (left.into_condition(), right.into_condition()) else {
+        return Ok(None);
+    };
+    let left = Box::new(alloc, left)?;
+    let mut others = Vec::new(alloc);
+    others.push(right)?;
+    Ok(Some(Value::Condition(Condition::Connect(connective, left, others))))
+}
+
+/// A relation of two values. The fault is noted where it does not take such operands.
+pub(crate) fn relate(
+    alloc: Global,
+    operator: Relation,
+    left: Value,
+    right: Value,
+    at: usize,
+    noted: &mut Option<Fault>,
+) -> Result<Value, AllocError>
+    ensures { Notes value_tree noted.old noted.new result (given at Rule.WrongType (related_value operator (value_tree left) (value_tree right))) }
+{
+    match relation(alloc, operator, left, right)? {
+        Some(value) => Ok(value),
+        None => Ok(fault(at, Rule::WrongType, noted)),
     }
 }
 
-/// A relation of two values. `Refused` where it does not take such operands.
-pub(crate) fn relate(
+/// Notes a fault of an expression.
+pub(crate) fn fault(at: usize, rule: Rule, noted: &mut Option<Fault>) -> Value
+    ensures value { value_tree result ≡ Faulty }
+    ensures noted { noted.new ≡ Some (earlier noted.old (record { at = at; rule = rule })) }
+{
+    note(noted, at, rule);
+    Value::Faulty
+}
+
+/// A relation of two values, or `None` where it does not take such operands.
+fn relation(
     alloc: Global,
     relation: Relation,
     left: Value,
     right: Value,
-) -> Result<Value, TypeError>
-    ensures { Answers value_tree result (related_value relation (value_tree left) (value_tree right)) }
+) -> Result<Option<Value>, AllocError>
+    ensures { IfOk result (λ v. option_map value_tree v ≡ related_value relation (value_tree left) (value_tree right)) }
 {
     match relation {
         Relation::Equal => equate(alloc, Connective::Equal, Comparison::Equal, left, right),
@@ -110,65 +116,140 @@ pub(crate) fn relate(
             left,
             right,
         ),
-        Relation::Less => compare(Comparison::Less, left, right),
-        Relation::LessOrEqual => compare(Comparison::LessOrEqual, left, right),
-        Relation::Greater => compare(Comparison::Greater, left, right),
-        Relation::GreaterOrEqual => compare(Comparison::GreaterOrEqual, left, right),
+        Relation::Less => Ok(compare(Comparison::Less, left, right)),
+        Relation::LessOrEqual => Ok(compare(Comparison::LessOrEqual, left, right)),
+        Relation::Greater => Ok(compare(Comparison::Greater, left, right)),
+        Relation::GreaterOrEqual => Ok(compare(Comparison::GreaterOrEqual, left, right)),
     }
 }
 
-/// A value behind a sign. `Refused` where the sign does not take it.
-pub(crate) fn sign(alloc: Global, prefix: Prefix, value: Value) -> Result<Value, TypeError>
-    ensures { Answers value_tree result (signed_value prefix (value_tree value)) }
+/// A value behind signs, of which the last is the closest. The fault is noted where they do not take it.
+pub(crate) fn behind_signs(
+    alloc: Global,
+    signs: &[Prefix],
+    value: Value,
+    at: usize,
+    noted: &mut Option<Fault>,
+) -> Result<Value, AllocError>
+    ensures { Notes value_tree noted.old noted.new result (signs_value at signs.now (value_tree value)) }
 {
-    match prefix {
-        Prefix::Minus => {
-            let e = integer_of(value)?;
-            Ok(Value::Integer(Integer::Negative(Box::new(alloc, e)?)))
+    if signs.is_empty() {
+        return Ok(value);
+    }
+    if value.is_faulty() {
+        return Ok(value);
+    }
+    if value.is_condition() {
+        return turned(alloc, signs, value, at, noted);
+    }
+    let Some(e) = value.into_integer() else {
+        return Ok(fault(at, Rule::WrongType, noted));
+    };
+    if !are_all_minus(signs) {
+        return Ok(fault(at, Rule::WrongType, noted));
+    }
+    let e = Box::new(alloc, e)?;
+    Ok(Value::Integer(Integer::Negative(signs.len(), e)))
+}
+
+/// A condition behind signs.
+fn turned(
+    alloc: Global,
+    signs: &[Prefix],
+    value: Value,
+    at: usize,
+    noted: &mut Option<Fault>,
+) -> Result<Value, AllocError>
+    requires { IsTrue (is_condition (value_tree value)) }
+    ensures { Notes value_tree noted.old noted.new result (signs_value at signs.now (value_tree value)) }
+{
+    let Some(c) = value.into_condition() else {
+        unreachable!()
+    };
+    if !are_all_not(signs) {
+        return Ok(fault(at, Rule::WrongType, noted));
+    }
+    let c = Box::new(alloc, c)?;
+    Ok(Value::Condition(Condition::Not(signs.len(), c)))
+}
+
+/// Whether each sign is a `-`.
+fn are_all_minus(signs: &[Prefix]) -> bool
+    ensures { result ≡ all_minus signs.now }
+{
+    'signs: for sign in signs {
+        if *sign != Prefix::Minus {
+            return false;
         }
-        Prefix::Not => {
-            let c = condition_of(value)?;
-            Ok(Value::Condition(Condition::Not(Box::new(alloc, c)?)))
+    }
+    true
+}
+
+/// Whether each sign is a `not`.
+fn are_all_not(signs: &[Prefix]) -> bool
+    ensures { result ≡ all_not signs.now }
+{
+    'signs: for sign in signs {
+        if *sign != Prefix::Not {
+            return false;
         }
     }
+    true
 }
 
-/// An index of `main`. `Refused` where it is no integer, or a vector is read in it.
-pub fn index_of(value: Value) -> Result<Integer, TypeError>
-    ensures { Answers integer_tree result (as_index (value_tree value)) }
-{
-    let e = integer_of(value)?;
-    if holds_entry(&e) {
-        return Err(TypeError::Refused);
-    }
-    Ok(e)
-}
-
-/// The entry of a vector at an index of a function. `Refused` where that is no vertex of the function's.
-pub(crate) fn entry_in_function(vector: usize, index: Value) -> Result<Value, TypeError>
-    ensures { Answers value_tree result (entry_at vector (value_tree index)) }
-{
-    match index {
-        Value::Vertex(at) => Ok(Value::Integer(Integer::EntryAt(vector, at))),
-        Value::Integer(_) | Value::Condition(_) | Value::Set(_) => Err(TypeError::Refused),
-    }
-}
-
-/// The entry of a vector at an index. `Refused` where that is no index.
+/// The entry of a vector at an index. The fault is noted where that is no index.
 pub(crate) fn entry(
     alloc: Global,
     inside: Inside,
+    at: usize,
+    vector: Option<usize>,
+    index: Value,
+    noted: &mut Option<Fault>,
+) -> Result<Value, AllocError>
+    ensures { Notes value_tree noted.old noted.new result (entry_value inside at vector (value_tree index)) }
+{
+    let Some(vector) = vector else {
+        return Ok(Value::Faulty);
+    };
+    if index.is_faulty() {
+        return Ok(Value::Faulty);
+    }
+    match inside {
+        Inside::Main => entry_in_main(alloc, at, vector, index, noted),
+        Inside::EdgeFunction | Inside::VertexFunction | Inside::Filter => {
+            Ok(entry_in_function(at, vector, index, noted))
+        }
+    }
+}
+
+/// The entry of a vector at an index of `main`.
+fn entry_in_main(
+    alloc: Global,
+    at: usize,
     vector: usize,
     index: Value,
-) -> Result<Value, TypeError>
-    ensures { Answers value_tree result (entry_value inside vector (value_tree index)) }
+    noted: &mut Option<Fault>,
+) -> Result<Value, AllocError>
+    requires { is_faulty (value_tree index) ≡ false }
+    ensures { Notes value_tree noted.old noted.new result (main_entry at vector (value_tree index)) }
 {
-    match inside {
-        Inside::Main => {
-            let e = index_of(index)?;
-            let e = Box::new(alloc, e)?;
-            Ok(Value::Integer(Integer::Entry(vector, e)))
-        }
-        Inside::Function => entry_in_function(vector, index),
+    let Some(e) = index.into_integer() else {
+        return Ok(fault(at, Rule::WrongType, noted));
+    };
+    if reads_entry(&e) {
+        return Ok(fault(at, Rule::WrongIndex, noted));
+    }
+    let e = Box::new(alloc, e)?;
+    Ok(Value::Integer(Integer::Entry(vector, e)))
+}
+
+/// The entry of a vector at an index of a function.
+fn entry_in_function(at: usize, vector: usize, index: Value, noted: &mut Option<Fault>) -> Value
+    requires { is_faulty (value_tree index) ≡ false }
+    ensures { outcome noted.old (function_entry at vector (value_tree index)) ≡ (value_tree result, noted.new) }
+{
+    match index.vertex() {
+        Some(endpoint) => Value::Integer(Integer::EntryAt(vector, endpoint)),
+        None => fault(at, Rule::WrongIndex, noted),
     }
 }

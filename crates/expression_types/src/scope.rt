@@ -1,12 +1,15 @@
 //! What names are, and which are visible.
-ghost use Rattle.std.specs.Prelude.{◌≡◌, ◌+◌, Some};
-ghost use Rattle.expression_types.specs.ScopeTree.{conditions_of, declared, empty_scope, entity_named, function_scope, integers_of, left, mark_of, sets_of};
-ghost use Rattle.expression_types.specs.Outcome.{Answers};
+ghost use Rattle.std.specs.Prelude.{◌≡◌, ◌≤◌, ◌+◌, ◌*◌, ◌^◌, OnErr, length};
+ghost use Rattle.expression_types.specs.Names.{found};
+ghost use Rattle.expression_types.specs.Noted.{Notes};
+ghost use Rattle.expression_types.specs.ScopeTree.{Keeps, conditions_of, declared, empty_scope, entered, integers_of, left, mark_of, sets_of};
 
-use crate::error::TypeError;
-use std::alloc::Global;
+use crate::fault::{Fault, Rule, note};
+use crate::names::Names;
+use std::alloc::{AllocError, Global};
 use std::marker::Model;
-use typed_tree::{Endpoint, Name, Sequence, Slot};
+use syntax::Name;
+use typed_tree::{Endpoint, Slot};
 
 /// What a visible name is.
 #[derive(Clone, Copy, Debug, PartialEq, Eq)]
@@ -23,7 +26,7 @@ pub enum Entity {
     ConditionConstant(usize, bool),
     /// A variable of type int.
     IntegerVariable(Slot),
-    /// A variable of type bool.
+    /// A variable of type bool, or a filter's result.
     ConditionVariable(Slot),
     /// A variable that is a vertex set.
     SetVariable(Slot),
@@ -31,32 +34,32 @@ pub enum Entity {
     LoopVariable(Slot),
     /// A parameter of the function: a vertex that it works on.
     Parameter(Endpoint),
+    /// The edge function at this place.
+    EdgeFunction(usize),
     /// The vertex function at this place.
     VertexFunction(usize),
+    /// The filter at this place.
+    Filter(usize),
     /// The function that is run.
     Main,
+    /// Its declaration is faulty, so that its uses cause no fault.
+    Unclear,
 }
 
-/// A visible name, and what it is.
-#[derive(Drop)]
-pub struct Visible {
-    pub name: Name,
-    pub entity: Entity,
-}
-
-/// Where expressions stand.
+/// Where expressions and statements stand.
 #[derive(Clone, Copy, Debug, PartialEq, Eq)]
 pub enum Inside {
     /// In `main`, or outside of functions.
     Main,
-    /// In another function.
-    Function,
+    EdgeFunction,
+    VertexFunction,
+    Filter,
 }
 
 /// The names that are visible at a point of a source.
 #[derive(Drop)]
 pub struct Scope {
-    visible: Vec<Visible>,
+    names: Names<Entity>,
     inside: Inside,
     integers: usize,
     conditions: usize,
@@ -64,17 +67,20 @@ pub struct Scope {
 }
 
 impl Model for Scope {
+    ghost use Rattle.std.specs.Prelude.{◌≤◌, ◌*◌, ◌+◌, ◌^◌, length};
     ghost use Rattle.expression_types.specs.ScopeTree.{ScopeTree};
 
     ghost Value = { ScopeTree };
 
     ghost view = { λ s. record {
-      visible = s.visible.items;
+      visible = s.names;
       inside = s.inside;
       integers = s.integers;
       conditions = s.conditions;
       sets = s.sets;
     } };
+
+    ghost invariant = { λ s. (s.integers ≤ 2 * length s.names) × (s.conditions ≤ length s.names) × (s.sets ≤ length s.names + 2 ^ 63) };
 }
 
 /// What has to be known of a scope in order to come back to it.
@@ -90,7 +96,8 @@ pub struct Mark {
 impl Entity {
     /// How many places of integers it takes; a `for` has its bound behind its name.
     fn integers(self) -> usize
-        ensures { result ≡ integers_of self }
+        ensures places { result ≡ integers_of self }
+        ensures few { result ≤ 2 }
     {
         match self {
             Entity::IntegerVariable(_) => 1,
@@ -101,7 +108,8 @@ impl Entity {
 
     /// How many places of conditions it takes.
     fn conditions(self) -> usize
-        ensures { result ≡ conditions_of self }
+        ensures places { result ≡ conditions_of self }
+        ensures few { result ≤ 1 }
     {
         match self {
             Entity::ConditionVariable(_) => 1,
@@ -111,7 +119,8 @@ impl Entity {
 
     /// How many places of vertex sets it takes.
     fn sets(self) -> usize
-        ensures { result ≡ sets_of self }
+        ensures places { result ≡ sets_of self }
+        ensures few { result ≤ 1 }
     {
         match self {
             Entity::SetVariable(_) => 1,
@@ -123,10 +132,11 @@ impl Entity {
 impl Scope {
     /// Where no name is visible yet, in a program with so many constant vertex sets.
     pub fn new(alloc: Global, sets: usize) -> Scope
+        requires { sets ≤ 2 ^ 63 }
         ensures { result ≡ empty_scope sets }
     {
         Scope {
-            visible: Vec::new(alloc),
+            names: Names::new(alloc),
             inside: Inside::Main,
             integers: 0,
             conditions: 0,
@@ -134,20 +144,14 @@ impl Scope {
         }
     }
 
-    /// What the name is, or `None` where it is not visible. The time is in proportion to the number of
-    /// visible names.
+    /// What the name is, or `None` where it is not visible.
     pub fn look_up(&self, name: &[u8]) -> Option<Entity>
-        ensures { result ≡ entity_named name.now self.now.visible }
+        ensures { result ≡ found name.now self.now.visible }
     {
-        'visible: for visible in &self.visible {
-            if visible.name.as_slice() == name {
-                return Some(visible.entity);
-            }
-        }
-        None
+        self.names.get(name)
     }
 
-    /// Where expressions stand.
+    /// Where expressions and statements stand.
     pub fn inside(&self) -> Inside
         ensures { result ≡ self.now.inside }
     {
@@ -175,38 +179,47 @@ impl Scope {
         self.sets
     }
 
-    /// Makes a name visible, and takes the places that it needs. `Refused` where the name is visible
-    /// already.
-    pub fn declare(&mut self, alloc: Global, name: &[u8], entity: Entity) -> Result<(), TypeError>
-        ensures { Answers (λ _. self.new) result (declared name.now entity self.old) }
+    /// Makes a name visible, and takes the places that it needs. A name that is visible already stays what it
+    /// was, and the fault is noted. After out of memory nothing is changed.
+    pub fn declare(
+        &mut self,
+        alloc: Global,
+        name: &Name,
+        entity: Entity,
+        first: &mut Option<Fault>,
+    ) -> Result<(), AllocError>
+        ensures declared { Notes (λ _. self.new) first.old first.new result (declared name.now entity self.old) }
+        ensures kept { Keeps self.old self.new }
+        ensures err { OnErr result (self.new ≡ self.old) }
     {
-        if self.look_up(name).is_some() {
-            return Err(TypeError::Refused);
+        if self.names.get(name.bytes()).is_some() {
+            note(first, name.at(), Rule::Redeclared);
+            return Ok(());
         }
-        let integers = sum_of(self.integers, entity.integers())?;
-        let conditions = sum_of(self.conditions, entity.conditions())?;
-        let sets = sum_of(self.sets, entity.sets())?;
-        let name = Sequence::new(Vec::from_slice(alloc, name)?);
-        self.visible.push(Visible { name, entity })?;
-        self.integers = integers;
-        self.conditions = conditions;
-        self.sets = sets;
+        self.names.push(alloc, name.bytes(), entity)?;
+        let _names = self.names.len();
+        self.integers += entity.integers();
+        self.conditions += entity.conditions();
+        self.sets += entity.sets();
         Ok(())
     }
 
     /// Goes into a function, before its parameters.
-    pub fn enter_function(&mut self)
-        ensures { self.new ≡ function_scope self.old }
+    pub fn enter(&mut self, inside: Inside)
+        ensures { self.new ≡ entered inside self.old }
     {
-        self.inside = Inside::Function;
+        self.inside = inside;
     }
 
     /// What has to be known in order to come back to this point.
     pub fn mark(&self) -> Mark
-        ensures { result ≡ mark_of self.now }
+        ensures mark { result ≡ mark_of self.now }
+        ensures integers { result.integers ≤ 2 * result.visible }
+        ensures conditions { result.conditions ≤ result.visible }
+        ensures sets { result.sets ≤ result.visible + 2 ^ 63 }
     {
         Mark {
-            visible: self.visible.len(),
+            visible: self.names.len(),
             inside: self.inside,
             integers: self.integers,
             conditions: self.conditions,
@@ -216,19 +229,16 @@ impl Scope {
 
     /// Forgets the names that became visible since the mark was taken.
     pub fn leave(&mut self, mark: Mark)
+        requires visible { mark.visible ≤ length self.old.visible }
+        requires integers { mark.integers ≤ 2 * mark.visible }
+        requires conditions { mark.conditions ≤ mark.visible }
+        requires sets { mark.sets ≤ mark.visible + 2 ^ 63 }
         ensures { self.new ≡ left mark self.old }
     {
-        self.visible.truncate(mark.visible);
+        self.names.truncate(mark.visible);
         self.inside = mark.inside;
         self.integers = mark.integers;
         self.conditions = mark.conditions;
         self.sets = mark.sets;
     }
-}
-
-/// The sum, or `NoMemory` where it is too large.
-fn sum_of(a: usize, b: usize) -> Result<usize, TypeError>
-    ensures { Answers (λ n. n) result (Some (a + b)) }
-{
-    a.checked_add(b).ok_or(TypeError::NoMemory)
 }

@@ -1,16 +1,14 @@
 //! Typed expressions.
 ghost use Rattle.std.specs.Prelude.{◌≡◌};
+ghost use Rattle.std.specs.Option.{option_map};
 ghost use Rattle.typed_tree.specs.ConditionTree.{condition_tree};
 ghost use Rattle.typed_tree.specs.IntegerTree.{integer_tree};
-ghost use Rattle.expression_types.specs.Outcome.{Answers};
-ghost use Rattle.expression_types.specs.ValueTree.{as_condition, as_integer, named_set, named_value, named_vector, reads_entry, value_tree};
+ghost use Rattle.expression_types.specs.ValueTree.{as_condition, as_integer, as_set, as_vertex, is_condition as condition, is_faulty as faulty, named_set, named_value, named_vector, operands_read_entry, reads_entry as entry_is_read, value_tree};
 
-use crate::error::TypeError;
 use crate::scope::Entity;
-use typed_tree::{Condition, Endpoint, Integer, Slot};
+use typed_tree::{Condition, Endpoint, Integer, Operand, Slot};
 
 /// A typed expression.
-#[derive(Drop)]
 pub enum Value {
     Integer(Integer),
     Condition(Condition),
@@ -18,50 +16,102 @@ pub enum Value {
     Vertex(Endpoint),
     /// A visible vertex set.
     Set(Slot),
+    /// A part of it is faulty.
+    Faulty,
 }
 
-/// The integer that the value reads as; a vertex reads as its number. `Refused` where it is none.
-pub fn integer_of(value: Value) -> Result<Integer, TypeError>
-    ensures { Answers integer_tree result (as_integer (value_tree value)) }
-{
-    match value {
-        Value::Integer(e) => Ok(e),
-        Value::Vertex(at) => Ok(Integer::Parameter(at)),
-        Value::Condition(_) | Value::Set(_) => Err(TypeError::Refused),
+impl Drop for Value {
+    fn drop(self) {
+        match self {
+            Value::Integer(_) | Value::Condition(_) => {}
+            Value::Vertex(_) | Value::Set(_) | Value::Faulty => {}
+        }
     }
 }
 
-/// The condition that the value is. `Refused` where it is none.
-pub fn condition_of(value: Value) -> Result<Condition, TypeError>
-    ensures { Answers condition_tree result (as_condition (value_tree value)) }
-{
-    match value {
-        Value::Condition(c) => Ok(c),
-        Value::Integer(_) | Value::Vertex(_) | Value::Set(_) => Err(TypeError::Refused),
+impl Value {
+    /// Whether a part of it is faulty.
+    pub fn is_faulty(&self) -> bool
+        ensures { result ≡ faulty (value_tree self.now) }
+    {
+        match self {
+            Value::Faulty => true,
+            _ => false,
+        }
+    }
+
+    /// Whether it is a condition.
+    pub fn is_condition(&self) -> bool
+        ensures { result ≡ condition (value_tree self.now) }
+    {
+        match self {
+            Value::Condition(_) => true,
+            _ => false,
+        }
+    }
+
+    /// The vertex of a function that it is, or `None` where it is none.
+    pub fn vertex(&self) -> Option<Endpoint>
+        ensures { result ≡ as_vertex (value_tree self.now) }
+    {
+        match self {
+            Value::Vertex(at) => Some(*at),
+            _ => None,
+        }
+    }
+
+    /// The vertex set that it is, or `None` where it is none.
+    pub fn set(&self) -> Option<Slot>
+        ensures { result ≡ as_set (value_tree self.now) }
+    {
+        match self {
+            Value::Set(slot) => Some(*slot),
+            _ => None,
+        }
+    }
+
+    /// The integer that the value reads as, or `None` where it is none; a vertex reads as its number.
+    pub fn into_integer(self) -> Option<Integer>
+        ensures { option_map integer_tree result ≡ as_integer (value_tree self) }
+    {
+        match self {
+            Value::Integer(e) => Some(e),
+            Value::Vertex(at) => Some(Integer::Parameter(at)),
+            Value::Condition(_) | Value::Set(_) | Value::Faulty => None,
+        }
+    }
+
+    /// The condition that the value is, or `None` where it is none.
+    pub fn into_condition(self) -> Option<Condition>
+        ensures { option_map condition_tree result ≡ as_condition (value_tree self) }
+    {
+        match self {
+            Value::Condition(c) => Some(c),
+            Value::Integer(_) | Value::Vertex(_) | Value::Set(_) | Value::Faulty => None,
+        }
     }
 }
 
-/// The value that a name has alone. `Refused` where it has none.
-pub(crate) fn value_named(entity: Entity) -> Result<Value, TypeError>
-    ensures { Answers value_tree result (named_value entity) }
+/// The value that a name has alone, or `None` where it has none.
+pub(crate) fn value_named(entity: Entity) -> Option<Value>
+    ensures { option_map value_tree result ≡ named_value entity }
 {
     match entity {
-        Entity::ConstantSet(slot) | Entity::SetVariable(slot) => Ok(Value::Set(slot)),
-        Entity::IntegerConstant(name, n) => Ok(Value::Integer(Integer::Constant(name, n))),
-        Entity::ConditionConstant(name, b) => Ok(Value::Condition(Condition::Constant(name, b))),
+        Entity::ConstantSet(slot) | Entity::SetVariable(slot) => Some(Value::Set(slot)),
+        Entity::IntegerConstant(name, n) => Some(Value::Integer(Integer::Constant(name, n))),
+        Entity::ConditionConstant(name, b) => Some(Value::Condition(Condition::Constant(name, b))),
         Entity::IntegerVariable(slot) | Entity::LoopVariable(slot) => {
-            Ok(Value::Integer(Integer::Variable(slot)))
+            Some(Value::Integer(Integer::Variable(slot)))
         }
-        Entity::ConditionVariable(slot) => Ok(Value::Condition(Condition::Variable(slot))),
-        Entity::Parameter(at) => Ok(Value::Vertex(at)),
-        Entity::Edges | Entity::Vector(_) | Entity::VertexFunction(_) | Entity::Main => {
-            Err(TypeError::Refused)
-        }
+        Entity::ConditionVariable(slot) => Some(Value::Condition(Condition::Variable(slot))),
+        Entity::Parameter(at) => Some(Value::Vertex(at)),
+        Entity::Unclear => Some(Value::Faulty),
+        _ => None,
     }
 }
 
 /// The vector that a name is, or `None` where it is none.
-pub(crate) fn vector_named(entity: Entity) -> Option<usize>
+pub fn vector_named(entity: Entity) -> Option<usize>
     ensures { result ≡ named_vector entity }
 {
     match entity {
@@ -71,7 +121,7 @@ pub(crate) fn vector_named(entity: Entity) -> Option<usize>
 }
 
 /// The vertex set that a name is, or `None` where it is none.
-pub(crate) fn set_named(entity: Entity) -> Option<Slot>
+pub fn set_named(entity: Entity) -> Option<Slot>
     ensures { result ≡ named_set entity }
 {
     match entity {
@@ -81,8 +131,9 @@ pub(crate) fn set_named(entity: Entity) -> Option<Slot>
 }
 
 /// Whether an entry of a vector is read in the expression.
-pub(crate) fn holds_entry(e: &Integer) -> bool
-    ensures { result ≡ reads_entry (integer_tree e.now) }
+#[cycle(entries)]
+pub fn reads_entry(e: &Integer) -> bool
+    ensures { result ≡ entry_is_read (integer_tree e.now) }
 {
     match e {
         Integer::EntryAt(_, _) | Integer::Entry(_, _) => true,
@@ -91,7 +142,20 @@ pub(crate) fn holds_entry(e: &Integer) -> bool
         | Integer::Variable(_)
         | Integer::Parameter(_)
         | Integer::SetSize(_) => false,
-        Integer::Negative(e) => holds_entry(e),
-        Integer::Arithmetic(_, left, right) => holds_entry(left) || holds_entry(right),
+        Integer::Negative(_, e) => reads_entry(e),
+        Integer::Arithmetic(first, more) => reads_entry(first) || any_reads_entry(more),
     }
+}
+
+/// Whether an entry of a vector is read in one of the operands.
+#[cycle(entries)]
+fn any_reads_entry(operands: &[Operand]) -> bool
+    ensures { result ≡ operands_read_entry operands.now }
+{
+    'operands: for operand in operands {
+        if reads_entry(&operand.integer) {
+            return true;
+        }
+    }
+    false
 }

@@ -1,9 +1,10 @@
 -- Statements of main, without pointers.
 use Rattle.std.specs.Prelude.{ℕ, List, [], ◌∷◌, Option}
 use Rattle.typed_tree.specs.declared.expression.Slot.{Slot}
-use Rattle.typed_tree.specs.declared.expression.Reduction.{Reduction}
+use Rattle.syntax.specs.declared.statement.Reduction.{Reduction}
 use Rattle.typed_tree.specs.declared.statement.Action.{Action, Row_of-Statement, end_of-Statement, more_of-Statement}
 use Rattle.typed_tree.specs.declared.statement.Action.TheVariants as rust
+use Rattle.typed_tree.specs.declared.statement.Ends.{Ends}
 use Rattle.typed_tree.specs.declared.statement.SetValue.{SetValue}
 use Rattle.typed_tree.specs.declared.statement.Statement.{Statement}
 use Rattle.typed_tree.specs.IntegerTree.{IntegerTree, integer_tree}
@@ -25,6 +26,7 @@ mutual
     PrintInteger : IntegerTree → ActionTree
     PrintCondition : ConditionTree → ActionTree
     ApplyVertex : (set : Slot) → (function : ℕ) → ActionTree
+    ApplyEdges : Ends → (function : ℕ) → ActionTree
     If : ConditionTree → BlockTree → ActionTree
     IfElse : ConditionTree → (body other : BlockTree) → ActionTree
     While : ConditionTree → BlockTree → ActionTree
@@ -51,6 +53,7 @@ abbrev mutual
   action_tree (rust.PrintInteger e) = PrintInteger (integer_tree e)
   action_tree (rust.PrintCondition c) = PrintCondition (condition_tree c)
   action_tree (rust.ApplyVertex set function) = ApplyVertex set function
+  action_tree (rust.ApplyEdges ends function) = ApplyEdges ends function
   action_tree (rust.If' c shape body) = If (condition_tree c) (row_tree body)
   action_tree (rust.IfElse' c shape body shape' other) = IfElse (condition_tree c) (row_tree body) (row_tree other)
   action_tree (rust.While' c shape body) = While (condition_tree c) (row_tree body)

@@ -1,24 +1,57 @@
 -- Statements of functions, and functions, without pointers.
-use Rattle.std.specs.Prelude.{ℕ, List, map}
-use Rattle.typed_tree.specs.declared.expression.Reduction.{Reduction}
-use Rattle.typed_tree.specs.declared.function.Step.{Step}
+use Rattle.std.specs.Prelude.{ℕ, List, [], ◌∷◌}
+use Rattle.syntax.specs.declared.statement.Reduction.{Reduction}
+use Rattle.typed_tree.specs.declared.expression.Slot.{Slot}
+use Rattle.typed_tree.specs.declared.function.Step.{Step, Row_of-Step, end_of-Step, more_of-Step}
 use Rattle.typed_tree.specs.declared.function.Step.TheVariants as rust
-use Rattle.typed_tree.specs.declared.function.VertexFunction.{VertexFunction}
+use Rattle.typed_tree.specs.declared.function.Function.{Function}
 use Rattle.typed_tree.specs.IntegerTree.{IntegerTree, integer_tree}
+use Rattle.typed_tree.specs.ConditionTree.{ConditionTree, condition_tree}
 
-pub data StepTree : Type 0 where
-  SetEntry : (vector : ℕ) → (value : IntegerTree) → StepTree
-  ReduceEntry : (vector : ℕ) → Reduction → (value : IntegerTree) → StepTree
+mutual
+  -- a statement of a function
+  pub data StepTree : Type 0 where
+    DeclareInteger : (name : ℕ) → IntegerTree → StepTree
+    DeclareCondition : (name : ℕ) → ConditionTree → StepTree
+    SetInteger : Slot → IntegerTree → StepTree
+    SetCondition : Slot → ConditionTree → StepTree
+    ReduceInteger : Slot → Reduction → IntegerTree → StepTree
+    SetEntry : (vector : ℕ) → (value : IntegerTree) → StepTree
+    ReduceEntry : (vector : ℕ) → Reduction → (value : IntegerTree) → StepTree
+    If : ConditionTree → StepsTree → StepTree
+    IfElse : ConditionTree → (body other : StepsTree) → StepTree
 
--- a vertex function
+  -- statements in order
+  pub data StepsTree : Type 0 where
+    NoStep : StepsTree
+    StepThen : StepTree → StepsTree → StepsTree
+
+-- a function of a user
 pub record FunctionTree : Type 0 where
   pub name : ℕ
-  pub steps : List StepTree
+  pub steps : StepsTree
 
 -- the tree that a Rust tree is
-abbrev pub step_tree : Step → StepTree
-step_tree (rust.SetEntry vector value) = SetEntry vector (integer_tree value)
-step_tree (rust.ReduceEntry vector reduction value) = ReduceEntry vector reduction (integer_tree value)
+abbrev mutual
+  pub step_tree : Step → StepTree
+  step_tree (rust.DeclareInteger name e) = DeclareInteger name (integer_tree e)
+  step_tree (rust.DeclareCondition name c) = DeclareCondition name (condition_tree c)
+  step_tree (rust.SetInteger slot e) = SetInteger slot (integer_tree e)
+  step_tree (rust.SetCondition slot c) = SetCondition slot (condition_tree c)
+  step_tree (rust.ReduceInteger slot reduction e) = ReduceInteger slot reduction (integer_tree e)
+  step_tree (rust.SetEntry vector e) = SetEntry vector (integer_tree e)
+  step_tree (rust.ReduceEntry vector reduction e) = ReduceEntry vector reduction (integer_tree e)
+  step_tree (rust.If' c shape body) = If (condition_tree c) (steps_row body)
+  step_tree (rust.IfElse' c shape body shape' other) = IfElse (condition_tree c) (steps_row body) (steps_row other)
 
-abbrev pub function_tree : VertexFunction → FunctionTree
-function_tree f = record { name = f.name; steps = map step_tree f.steps.items }
+  -- the statements of a block inside a statement
+  pub steps_row : {n : _} → Row_of-Step n → StepsTree
+  steps_row end_of-Step = NoStep
+  steps_row (more_of-Step step rest) = StepThen (step_tree step) (steps_row rest)
+
+abbrev pub steps_tree : List Step → StepsTree
+steps_tree [] = NoStep
+steps_tree (step ∷ rest) = StepThen (step_tree step) (steps_tree rest)
+
+abbrev pub function_tree : Function → FunctionTree
+function_tree f = record { name = f.name; steps = steps_tree f.steps.items }

@@ -1,3 +1,5 @@
+//! Expressions, each of one type.
+
 /// What a run keeps and a name stands for.
 #[derive(Clone, Copy, Debug, PartialEq, Eq)]
 pub struct Slot {
@@ -47,6 +49,7 @@ pub enum Connective {
 }
 
 /// An expression of type `int`. A vertex reads as its number.
+#[cycle(integers)]
 pub enum Integer {
     /// A literal.
     Number(i64),
@@ -62,13 +65,21 @@ pub enum Integer {
     Entry(usize, Box<Integer>),
     /// How many members a vertex set has.
     SetSize(Slot),
-    /// The number with its sign changed.
-    Negative(Box<Integer>),
-    /// An operator on two integers, of which both are evaluated.
-    Arithmetic(Operator, Box<Integer>, Box<Integer>),
+    /// The number with its sign changed so many times.
+    Negative(usize, Box<Integer>),
+    /// Operators of one level, of which each takes what all before it gave.
+    Arithmetic(Box<Integer>, Vec<Operand>),
+}
+
+/// An operator and what it takes on its right.
+#[cycle(integers)]
+pub struct Operand {
+    pub operator: Operator,
+    pub integer: Integer,
 }
 
 /// An expression of type `bool`.
+#[cycle(conditions)]
 pub enum Condition {
     /// `true` or `false`.
     Literal(bool),
@@ -76,12 +87,12 @@ pub enum Condition {
     Constant(usize, bool),
     /// A variable of `main` or of the function, or a filter's result.
     Variable(Slot),
-    /// The other truth value.
-    Not(Box<Condition>),
+    /// The truth value turned so many times.
+    Not(usize, Box<Condition>),
     /// A comparison of two integers.
     Compare(Comparison, Integer, Integer),
-    /// An operator on two conditions, of which both are evaluated.
-    Connect(Connective, Box<Condition>, Box<Condition>),
+    /// One operator between conditions, which takes what all before it gave. All are evaluated.
+    Connect(Connective, Box<Condition>, Vec<Condition>),
 }
 
 impl Drop for Integer {
@@ -95,9 +106,19 @@ impl Drop for Integer {
             | Integer::EntryAt(_, _)
             | Integer::Entry(_, _)
             | Integer::SetSize(_)
-            | Integer::Negative(_)
-            | Integer::Arithmetic(_, _, _) => {}
+            | Integer::Negative(_, _)
+            | Integer::Arithmetic(_, _) => {}
         }
+    }
+}
+
+impl Drop for Operand {
+    #[cycle(drops)]
+    fn drop(self) {
+        let Operand {
+            operator: _,
+            integer: _,
+        } = self;
     }
 }
 
@@ -108,17 +129,9 @@ impl Drop for Condition {
             Condition::Literal(_)
             | Condition::Constant(_, _)
             | Condition::Variable(_)
-            | Condition::Not(_)
+            | Condition::Not(_, _)
             | Condition::Compare(_, _, _)
             | Condition::Connect(_, _, _) => {}
         }
     }
-}
-
-/// How a new number is joined to one that is there.
-#[derive(Clone, Copy, Debug, PartialEq, Eq)]
-pub enum Reduction {
-    Min,
-    Max,
-    Plus,
 }

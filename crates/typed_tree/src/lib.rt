@@ -1,20 +1,21 @@
 //! The trees of a checked program: all names are resolved, and each expression has a type.
 //!
-//! A [`Typed`] has a table of names, the vectors, the constant sets and the functions in the order in
-//! which they are declared, and the statements of `main`. What a tree speaks of it names by a place: a
-//! vector, a function and a name by its place in the program's list, a variable and a set by its place
-//! among those that are visible (`Slot`), the vertex that a function works on by `Endpoint`. Integers
-//! and conditions are types of their own, so that no number stands for a truth value. A named constant
-//! keeps its name beside its value, and a statement its number and its label.
+//! A [`Typed`] has a table of names, the labels, the vectors, the constant sets and the functions in the
+//! order in which they are declared, the statements of `main`, and the calls of the schedule. What a tree
+//! speaks of it names by a place: a vector, a function and a name by its place in the program's list, a
+//! variable and a set by its place among those that are visible (`Slot`), the vertex that a function works on
+//! by `Endpoint`. Integers and conditions are types of their own, so that no number stands for a truth value.
+//! A named constant keeps its name beside its value, and a statement its number and its label.
 //!
 //! Each Rust type is plain data. Contracts speak of pure trees, which have no pointers: each file of
 //! `specs/` defines one kind, as `IntegerTree` or `BlockTree`, and says which one a Rust tree is. A
-//! [`Sequence`] is a `Vec` that contracts see as a list.
+//! [`Sequence`] is a `Vec` that contracts see as a list. Operators in a row are one list in the Rust tree, and
+//! signs in a row one count, so that no code recurses by their number; the pure trees nest.
 //!
 //! The trees have their `Drop` by hand. A derived one would be written out, and proved again, in each
 //! function of each crate where a tree ends.
 //!
-//! The checker, which makes these trees, and the meaning of programs stand on this crate.
+//! The checker, which makes these trees, the meaning of programs and the schedule stand on this crate.
 #![tactic(auto)]
 
 mod expression;
@@ -24,9 +25,9 @@ mod sequence;
 mod statement;
 
 pub use expression::{
-    Comparison, Condition, Connective, Endpoint, Integer, Operator, Reduction, Slot,
+    Comparison, Condition, Connective, Endpoint, Integer, Operand, Operator, Slot,
 };
-pub use function::{Step, VertexFunction};
-pub use program::{Beginning, Typed, Vector};
+pub use function::{Function, Step};
+pub use program::{Beginning, ScheduleCall, Typed, Vector};
 pub use sequence::{Name, Sequence};
-pub use statement::{Action, SetValue, Statement};
+pub use statement::{Action, EndFilter, Ends, SetValue, Statement};

@@ -1,3 +1,4 @@
+//! Lists of items, and names.
 ghost use Rattle.std.specs.Prelude.{◌≡◌, slice_set};
 
 use std::marker::Model;

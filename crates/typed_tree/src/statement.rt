@@ -1,11 +1,14 @@
-use crate::expression::{Condition, Integer, Reduction, Slot};
+//! Statements of `main`.
+
+use crate::expression::{Condition, Integer, Slot};
+use syntax::Reduction;
 
 /// A statement of `main`.
 #[cycle(statements)]
 pub struct Statement {
     /// Its number, from 1 in the order of the text, a block before its body.
     pub number: u64,
-    /// Its label's place among the labels of the program, where it has one.
+    /// The place of its label among the labels of the program, where it has one.
     pub label: Option<usize>,
     pub action: Action,
 }
@@ -19,6 +22,28 @@ pub enum SetValue {
     All,
     /// The members of another set.
     Copy(Slot),
+    /// The members of a set that the filter at this place passes.
+    Filter(Slot, usize),
+    /// What an edge apply changes: the vertices whose entry of the vector at the second place differs after
+    /// the edge function at the first place was applied between the ends.
+    Modified(Ends, usize, usize),
+}
+
+/// Which vertices an end of an edge may be.
+#[derive(Clone, Copy, Debug, PartialEq, Eq)]
+pub enum EndFilter {
+    /// The members of a vertex set.
+    Members(Slot),
+    /// Those that the filter at this place passes.
+    Function(usize),
+}
+
+/// Which edges an apply looks at: those whose source `from` lets through and whose destination `to` does. An
+/// end that is not given lets all vertices through.
+#[derive(Clone, Copy, Debug, PartialEq, Eq)]
+pub struct Ends {
+    pub from: Option<EndFilter>,
+    pub to: Option<EndFilter>,
 }
 
 /// What a statement of `main` does.
@@ -48,6 +73,8 @@ pub enum Action {
     PrintCondition(Condition),
     /// Runs the vertex function at this place for each vertex of the set.
     ApplyVertex(Slot, usize),
+    /// Applies the edge function at this place to the edges between the ends.
+    ApplyEdges(Ends, usize),
     If(Condition, Vec<Statement>),
     IfElse(Condition, Vec<Statement>, Vec<Statement>),
     While(Condition, Vec<Statement>),
@@ -84,6 +111,7 @@ impl Drop for Action {
             | Action::PrintInteger(_)
             | Action::PrintCondition(_)
             | Action::ApplyVertex(_, _)
+            | Action::ApplyEdges(_, _)
             | Action::If(_, _)
             | Action::IfElse(_, _, _)
             | Action::While(_, _)

@@ -1,9 +1,7 @@
-pub mod Numbers
-pub mod ProgramNumbers
-pub mod Literals
-pub mod Forms
-pub mod Fronts
+pub mod BlockLaws
+pub mod DeclarationLaws
+pub mod EdgeWrites
 pub mod Kept
+pub mod Literals
 pub mod Sources
-pub mod StepFronts
-pub mod Labels
+pub mod StepLaws

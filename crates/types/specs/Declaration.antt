@@ -1,27 +1,31 @@
 -- What is declared.
-use Rattle.std.specs.Prelude.{ℕ, zero, suc, ℤ, pos, negsuc, Bool, true, false, if◌then◌else◌, List, [], ◌∷◌, ◌++◌, length, map, Option, Some, None, option_map}
+use Rattle.std.specs.Prelude.{ℕ, pos, Bool, true, false, not, ◌&&◌, ◌||◌, if◌then◌else◌, List, [], ◌∷◌, ◌++◌, length, map, Option, Some, None, option_map}
 use Rattle.std.specs.Str.{bytes_eq}
+use Rattle.syntax.specs.Words.{Identifier}
 use Rattle.syntax.specs.declared.declaration.DeclaredType.{DeclaredType}
 use Rattle.syntax.specs.declared.declaration.DeclaredType.TheVariants as declared
 use Rattle.syntax.specs.SourceTrees as source
-use Rattle.syntax.specs.SourceTrees.{ParameterTree, InitialTree, NewSet, Load, Vertices, OutDegrees, Filter, ApplyModified, Value, DeclarationTree, Constant, Function}
+use Rattle.syntax.specs.SourceTrees.{ParameterTree, InitialTree, DeclarationTree, Constant, Function}
+use Rattle.typed_tree.specs.declared.expression.Endpoint.{Endpoint}
 use Rattle.typed_tree.specs.declared.expression.Endpoint.TheVariants as endpoint
+use Rattle.typed_tree.specs.declared.program.Beginning.{Beginning}
 use Rattle.typed_tree.specs.declared.program.Beginning.TheVariants as beginning
 use Rattle.typed_tree.specs.declared.program.Vector.{Vector}
-use Rattle.typed_tree.specs.declared.statement.SetValue.{SetValue}
-use Rattle.typed_tree.specs.BlockTree.{BlockTree, block_tree}
-use Rattle.typed_tree.specs.StepTree.{FunctionTree, StepTree, function_tree}
+use Rattle.typed_tree.specs.BlockTree.{BlockTree, Empty, block_tree}
+use Rattle.typed_tree.specs.StepTree.{FunctionTree, StepsTree, NoStep, function_tree}
+use Rattle.expression_types.specs.declared.fault.Rule.TheVariants as rule
 use Rattle.expression_types.specs.declared.scope.Entity.{Entity}
 use Rattle.expression_types.specs.declared.scope.Entity.TheVariants as entity
-use Rattle.expression_types.specs.Operators.{◌>>=◌}
-use Rattle.expression_types.specs.ScopeTree.{ScopeTree, function_scope}
-use Rattle.expression_types.specs.ScopeTree as scope
+use Rattle.expression_types.specs.declared.scope.Inside.{Inside}
+use Rattle.expression_types.specs.declared.scope.Inside.TheVariants as inside
+use Rattle.expression_types.specs.Noted.{Noted, sure, fault_at, ◌>>=◌}
+use Rattle.expression_types.specs.ScopeTree.{entered}
 use Rattle.types.specs.declared.declaration.Declared.{Declared}
-use Rattle.types.specs.CheckerTree.{CheckerTree, checker_of, restarted, with_scope, declared_in}
-use Rattle.types.specs.Initial.{all_vertices}
+use Rattle.types.specs.Block.{statements_typed}
+use Rattle.types.specs.Checker.{CheckerTree, checker_of, condition_slot, with_scope, declared_in, restarted}
+use Rattle.types.specs.Initial.{GivenTree, Broken, is_all, is_degrees, is_loaded, is_sound, given_by}
 use Rattle.types.specs.Literal.{literal_integer, literal_condition}
-use Rattle.types.specs.Block.{block_typed}
-use Rattle.types.specs.Step.{steps_typed}
+use Rattle.types.specs.Step.{steps_typed, with_writes}
 
 -- what was declared so far, beside what the checker knows
 pub record DeclaredTree : Type 0 where
@@ -29,7 +33,9 @@ pub record DeclaredTree : Type 0 where
   pub edges : Option ℕ
   pub vectors : List Vector
   pub sets : List ℕ
-  pub functions : List FunctionTree
+  pub edge_functions : List FunctionTree
+  pub vertex_functions : List FunctionTree
+  pub filters : List FunctionTree
   pub main : Option BlockTree
 
 -- what contracts see
@@ -39,7 +45,9 @@ declared_of d = record {
   edges = d.edges;
   vectors = d.vectors.items;
   sets = d.sets.items;
-  functions = map function_tree d.functions.items;
+  edge_functions = map function_tree d.edge_functions.items;
+  vertex_functions = map function_tree d.vertex_functions.items;
+  filters = map function_tree d.filters.items;
   main = option_map (λ b. block_tree b.items) d.main;
 }
 
@@ -47,158 +55,202 @@ declared_of d = record {
 abbrev pub next_name : DeclaredTree → ℕ
 next_name d = length d.checker.names
 
--- an edgeset is loaded from the first argument
-abbrev pub loads : ℤ → Bool
-loads (pos zero) = false
-loads (pos (suc zero)) = true
-loads (pos (suc (suc n))) = false
-loads (negsuc n) = false
+-- a name is declared
+abbrev pub declare_name : DeclaredTree → Identifier → Entity → Noted DeclaredTree
+declare_name d name entity = declared_in d.checker name entity >>= λ c. sure (record d { checker = c })
 
-abbrev pub loads_edges : InitialTree → Bool
-loads_edges (NewSet size) = false
-loads_edges (Load argument) = loads argument
-loads_edges (Vertices edges) = false
-loads_edges (OutDegrees edges) = false
-loads_edges (Filter set test) = false
-loads_edges (ApplyModified edges ends function vector) = false
-loads_edges (Value e) = false
+-- A constant is a literal; one with a faulty part breaks no further rule.
+abbrev pub literal_or_fault : {A : Type 0} → ℕ → Bool → A → Option A → Noted A
+literal_or_fault at sound other (Some x) = sure x
+literal_or_fault at true other None = fault_at at rule.WrongType other
+literal_or_fault at false other None = sure other
 
--- a constant set has all vertices
-abbrev pub has_all : ScopeTree → InitialTree → Option SetValue
-has_all scope (NewSet size) = None
-has_all scope (Load argument) = None
-has_all scope (Vertices edges) = all_vertices scope edges
-has_all scope (OutDegrees edges) = None
-has_all scope (Filter set test) = None
-has_all scope (ApplyModified edges ends function vector) = None
-has_all scope (Value e) = None
+abbrev pub declare_integer : DeclaredTree → ℕ → Identifier → GivenTree → InitialTree → Noted DeclaredTree
+declare_integer d at name given initial =
+    literal_or_fault at (is_sound given) (pos 0) (literal_integer initial) >>= λ n. declare_name d name (entity.IntegerConstant (next_name d) n)
 
--- the edges, of which there are only one
-abbrev pub one_edges : DeclaredTree → List ℕ → Option ℕ → Option DeclaredTree
-one_edges d name None = declared_in d.checker name entity.Edges >>= λ c. Some (record {
-  checker = c;
-  edges = Some (next_name d);
-  vectors = d.vectors;
-  sets = d.sets;
-  functions = d.functions;
-  main = d.main;
-})
-one_edges d name (Some edges) = None
+abbrev pub declare_condition : DeclaredTree → ℕ → Identifier → GivenTree → InitialTree → Noted DeclaredTree
+declare_condition d at name given initial =
+    literal_or_fault at (is_sound given) false (literal_condition initial) >>= λ b. declare_name d name (entity.ConditionConstant (next_name d) b)
 
-abbrev pub declare_edges : DeclaredTree → List ℕ → InitialTree → Option DeclaredTree
-declare_edges d name initial = if loads_edges initial then one_edges d name d.edges else None
+-- a constant vertex set has all vertices, and the next place of constant sets
+abbrev pub wanted : ℕ → Bool → Noted GivenTree
+wanted at true = sure Broken
+wanted at false = fault_at at rule.WrongType Broken
 
--- a constant vertex set has the next place of constant sets
-abbrev pub declare_set : DeclaredTree → List ℕ → InitialTree → Option DeclaredTree
-declare_set d name initial =
-    has_all d.checker.scope initial >>= λ all.
-    declared_in d.checker name (entity.ConstantSet (record { place = length d.sets; name = next_name d })) >>= λ c. Some (record {
-      checker = c;
-      edges = d.edges;
-      vectors = d.vectors;
-      sets = d.sets ++ next_name d ∷ [];
-      functions = d.functions;
-      main = d.main;
-    })
+abbrev pub has_all : ℕ → GivenTree → Noted GivenTree
+has_all at given = wanted at (not (is_sound given) || is_all given)
 
--- a vector has the next place of vectors
-abbrev pub declare_vector : DeclaredTree → List ℕ → InitialTree → Option DeclaredTree
-declare_vector d name initial =
-    literal_integer initial >>= λ n.
-    declared_in d.checker name (entity.Vector (length d.vectors)) >>= λ c. Some (record {
-      checker = c;
-      edges = d.edges;
-      vectors = d.vectors ++ record { name = next_name d; beginning = beginning.Number n } ∷ [];
-      sets = d.sets;
-      functions = d.functions;
-      main = d.main;
-    })
+abbrev pub declare_set : DeclaredTree → ℕ → Identifier → GivenTree → Noted DeclaredTree
+declare_set d at name given =
+    has_all at given >>= λ g. declare_name d name (entity.ConstantSet (record { place = length d.sets; name = next_name d })) >>= λ e.
+    sure (record e { sets = e.sets ++ next_name d ∷ [] })
 
--- a name with what it is, of which nothing else is kept
-abbrev pub declare_name : DeclaredTree → List ℕ → Entity → Option DeclaredTree
-declare_name d name entity = declared_in d.checker name entity >>= λ c. Some (record {
-  checker = c;
-  edges = d.edges;
-  vectors = d.vectors;
-  sets = d.sets;
-  functions = d.functions;
-  main = d.main;
-})
+-- a vector begins with a literal, or with the out-degrees
+abbrev pub begins : ℕ → GivenTree → InitialTree → Noted Beginning
+begins at given initial =
+    if is_degrees given then sure beginning.OutDegrees
+    else (literal_or_fault at (is_sound given) (pos 0) (literal_integer initial) >>= λ n. sure (beginning.Number n))
 
-abbrev pub declare_integer : DeclaredTree → List ℕ → InitialTree → Option DeclaredTree
-declare_integer d name initial = literal_integer initial >>= λ n. declare_name d name (entity.IntegerConstant (next_name d) n)
+abbrev pub declare_vector : DeclaredTree → ℕ → Identifier → GivenTree → InitialTree → Noted DeclaredTree
+declare_vector d at name given initial =
+    begins at given initial >>= λ b. declare_name d name (entity.Vector (length d.vectors)) >>= λ e.
+    sure (record e { vectors = e.vectors ++ record { name = next_name d; beginning = b } ∷ [] })
 
-abbrev pub declare_condition : DeclaredTree → List ℕ → InitialTree → Option DeclaredTree
-declare_condition d name initial = literal_condition initial >>= λ b. declare_name d name (entity.ConditionConstant (next_name d) b)
+-- the edges are loaded, and there is one constant of them
+abbrev pub loads : ℕ → GivenTree → Noted GivenTree
+loads at given = wanted at (not (is_sound given) || is_loaded given)
+
+abbrev pub only_edges : Identifier → ℕ → Option ℕ → Noted (Option ℕ)
+only_edges name place None = sure (Some place)
+only_edges name place (Some old) = fault_at name.at rule.Redeclared (Some old)
+
+abbrev pub declare_edges : DeclaredTree → ℕ → Identifier → GivenTree → Noted DeclaredTree
+declare_edges d at name given =
+    loads at given >>= λ g. only_edges name (next_name d) d.edges >>= λ edges. declare_name d name entity.Edges >>= λ e. sure (record e { edges = edges })
 
 -- a constant; none is a Vertex
-abbrev pub declare_constant : DeclaredType → DeclaredTree → List ℕ → InitialTree → Option DeclaredTree
-declare_constant declared.Int d name initial = declare_integer d name initial
-declare_constant declared.Bool d name initial = declare_condition d name initial
-declare_constant declared.Vertex d name initial = None
-declare_constant declared.VertexSet d name initial = declare_set d name initial
-declare_constant declared.Vector d name initial = declare_vector d name initial
-declare_constant declared.EdgeSet d name initial = declare_edges d name initial
+abbrev pub declare_constant_as : DeclaredTree → ℕ → Identifier → InitialTree → DeclaredType → GivenTree → Noted DeclaredTree
+declare_constant_as d at name initial declared.Int given = declare_integer d at name given initial
+declare_constant_as d at name initial declared.Bool given = declare_condition d at name given initial
+declare_constant_as d at name initial declared.Vertex given = fault_at at rule.WrongType d >>= λ d. declare_name d name entity.Unclear
+declare_constant_as d at name initial declared.VertexSet given = declare_set d at name given
+declare_constant_as d at name initial declared.Vector given = declare_vector d at name given initial
+declare_constant_as d at name initial declared.EdgeSet given = declare_edges d at name given
 
--- the function that is run, in which numbers begin; its name is visible behind it
-abbrev pub declare_main : DeclaredTree → List ℕ → source.BlockTree → Option DeclaredTree
-declare_main d name body =
-    block_typed (restarted d.checker) body >>= λ b. declared_in b.1 name entity.Main >>= λ c. Some (record {
-      checker = c;
-      edges = d.edges;
-      vectors = d.vectors;
-      sets = d.sets;
-      functions = d.functions;
-      main = Some b.0;
-    })
+abbrev pub declare_constant : DeclaredTree → ℕ → ParameterTree → InitialTree → Noted DeclaredTree
+declare_constant d at p initial = given_by d.checker at initial >>= declare_constant_as d at p.name initial p.declared
 
--- the statements of a function, in which its parameter is visible, and what is known behind it
-abbrev pub function_body : CheckerTree → List ℕ → source.BlockTree → Option (List StepTree × CheckerTree)
-function_body c parameter body =
-    scope.declared parameter (entity.Parameter endpoint.Source) (function_scope c.scope) >>= λ inner.
-    steps_typed (with_scope c inner) body >>= λ s. Some (s.0, with_scope s.1 c.scope)
-
--- a vertex function has the next place of functions
-abbrev pub declare_function : DeclaredTree → (name parameter : List ℕ) → source.BlockTree → Option DeclaredTree
-declare_function d name parameter body =
-    function_body d.checker parameter body >>= λ s. declared_in s.1 name (entity.VertexFunction (length d.functions)) >>= λ c. Some (record {
-      checker = c;
-      edges = d.edges;
-      vectors = d.vectors;
-      sets = d.sets;
-      functions = d.functions ++ record { name = length s.1.names; steps = s.0 } ∷ [];
-      main = d.main;
-    })
-
--- a function on one vertex
-abbrev pub declare_on : DeclaredType → DeclaredTree → (name parameter : List ℕ) → source.BlockTree → Option DeclaredTree
-declare_on declared.Int d name parameter body = None
-declare_on declared.Bool d name parameter body = None
-declare_on declared.Vertex d name parameter body = declare_function d name parameter body
-declare_on declared.VertexSet d name parameter body = None
-declare_on declared.Vector d name parameter body = None
-declare_on declared.EdgeSet d name parameter body = None
+-- what a function is, by its name, its parameters and its result
+pub data KindTree : Type 0 where
+  MainKind : (fits : Bool) → KindTree
+  EdgeKind : KindTree
+  VertexKind : KindTree
+  FilterKind : KindTree
+  NoKind : KindTree
 
 -- `main`
-abbrev pub main_name : List ℕ
-main_name = 109 ∷ 97 ∷ 105 ∷ 110 ∷ []
+abbrev pub main_bytes : List ℕ
+main_bytes = 109 ∷ 97 ∷ 105 ∷ 110 ∷ []
 
--- a function without result is `main`, without parameters, or it has one
-abbrev pub declare_with : DeclaredTree → List ℕ → List ParameterTree → source.BlockTree → Option DeclaredTree
-declare_with d name [] body = if bytes_eq name main_name then declare_main d name body else None
-declare_with d name (p ∷ []) body = declare_on p.declared d name p.name.bytes body
-declare_with d name (p ∷ q ∷ others) body = None
+abbrev pub is_vertex : DeclaredType → Bool
+is_vertex declared.Int = false
+is_vertex declared.Bool = false
+is_vertex declared.Vertex = true
+is_vertex declared.VertexSet = false
+is_vertex declared.Vector = false
+is_vertex declared.EdgeSet = false
 
-abbrev pub without_result : Option ParameterTree → Option DeclaredTree → Option DeclaredTree
-without_result None d = d
-without_result (Some result) d = None
+abbrev pub is_bool : DeclaredType → Bool
+is_bool declared.Int = false
+is_bool declared.Bool = true
+is_bool declared.Vertex = false
+is_bool declared.VertexSet = false
+is_bool declared.Vector = false
+is_bool declared.EdgeSet = false
 
--- one more declaration
-abbrev pub declaration_typed : DeclaredTree → DeclarationTree → Option DeclaredTree
-declaration_typed d (Constant at p initial) = declare_constant p.declared d p.name.bytes initial
-declaration_typed d (Function at name parameters result body) = without_result result (declare_with d name.bytes parameters body)
+abbrev pub takes_nothing : List ParameterTree → Option ParameterTree → Bool
+takes_nothing [] None = true
+takes_nothing [] (Some result) = false
+takes_nothing (p ∷ others) result = false
 
--- all of them, in the order of the text
-abbrev pub declarations_typed : DeclaredTree → List DeclarationTree → Option DeclaredTree
-declarations_typed d [] = Some d
+abbrev pub kind_of : List ParameterTree → Option ParameterTree → KindTree
+kind_of [] result = NoKind
+kind_of (v ∷ []) None = if is_vertex v.declared then VertexKind else NoKind
+kind_of (v ∷ []) (Some result) = if is_vertex v.declared && is_bool result.declared then FilterKind else NoKind
+kind_of (src ∷ dst ∷ []) None = if is_vertex src.declared && is_vertex dst.declared then EdgeKind else NoKind
+kind_of (src ∷ dst ∷ []) (Some result) = NoKind
+kind_of (a ∷ b ∷ c ∷ others) result = NoKind
+
+abbrev pub kind : List ℕ → List ParameterTree → Option ParameterTree → KindTree
+kind name parameters result = if bytes_eq name main_bytes then MainKind (takes_nothing parameters result) else kind_of parameters result
+
+abbrev pub inside_of : KindTree → Inside
+inside_of (MainKind fits) = inside.Main
+inside_of EdgeKind = inside.EdgeFunction
+inside_of VertexKind = inside.VertexFunction
+inside_of FilterKind = inside.Filter
+inside_of NoKind = inside.VertexFunction
+
+-- Parameters are vertices: the source, and any behind the first the destination. One of another type has no clear meaning.
+abbrev pub parameter : Endpoint → DeclaredType → Entity
+parameter p type = if is_vertex type then entity.Parameter p else entity.Unclear
+
+abbrev pub parameters_declared : CheckerTree → Endpoint → List ParameterTree → Noted CheckerTree
+parameters_declared c p [] = sure c
+parameters_declared c p (v ∷ others) = declared_in c v.name (parameter p v.declared) >>= λ d. parameters_declared d endpoint.Destination others
+
+-- a filter's result is a condition, the first of its function
+abbrev pub result_entity : CheckerTree → KindTree → Entity
+result_entity c (MainKind fits) = entity.Unclear
+result_entity c EdgeKind = entity.Unclear
+result_entity c VertexKind = entity.Unclear
+result_entity c FilterKind = entity.ConditionVariable (condition_slot c)
+result_entity c NoKind = entity.Unclear
+
+abbrev pub result_declared : CheckerTree → KindTree → Option ParameterTree → Noted CheckerTree
+result_declared c kind None = sure c
+result_declared c kind (Some result) = declared_in c result.name (result_entity c kind)
+
+-- what is known at the first statement of a function
+abbrev pub opened : CheckerTree → KindTree → List ParameterTree → Option ParameterTree → Noted CheckerTree
+opened c kind parameters result =
+    parameters_declared (with_writes (with_scope c (entered (inside_of kind) c.scope)) []) endpoint.Source parameters >>= λ d. result_declared d kind result
+
+-- a function is one of the kinds
+abbrev pub kind_fits : ℕ → KindTree → Noted Bool
+kind_fits at (MainKind fits) = sure true
+kind_fits at EdgeKind = sure true
+kind_fits at VertexKind = sure true
+kind_fits at FilterKind = sure true
+kind_fits at NoKind = fault_at at rule.WrongType false
+
+abbrev pub with_main : DeclaredTree → Bool → BlockTree → DeclaredTree
+with_main d true main = record d { main = Some main }
+with_main d false main = d
+
+abbrev pub main_declared : DeclaredTree → Bool → Identifier → List ParameterTree → Option ParameterTree → source.BlockTree → Noted DeclaredTree
+main_declared d fits name parameters result body =
+    opened (restarted d.checker) (MainKind fits) parameters result >>= λ c. statements_typed c Empty body >>= λ b.
+    declare_name (record d { checker = with_scope b.1 d.checker.scope }) name entity.Main >>= λ e. sure (with_main e fits b.0)
+
+-- a function with its name and its statements
+abbrev pub function_of : DeclaredTree → StepsTree → FunctionTree
+function_of d steps = record { name = next_name d; steps = steps }
+
+-- what an edge function writes is kept
+abbrev pub edge_function_declared : DeclaredTree → Identifier → FunctionTree → Noted DeclaredTree
+edge_function_declared d name f =
+    declare_name d name (entity.EdgeFunction (length d.edge_functions)) >>= λ e.
+    sure (record e { edge_functions = e.edge_functions ++ f ∷ []; checker = record e.checker { written = e.checker.written ++ e.checker.writes ∷ []; writes = [] } })
+
+abbrev pub function_declared : DeclaredTree → KindTree → Identifier → StepsTree → Noted DeclaredTree
+function_declared d (MainKind fits) name steps = declare_name d name entity.Unclear
+function_declared d EdgeKind name steps = edge_function_declared d name (function_of d steps)
+function_declared d VertexKind name steps =
+    declare_name d name (entity.VertexFunction (length d.vertex_functions)) >>= λ e.
+    sure (record e { vertex_functions = e.vertex_functions ++ function_of d steps ∷ [] })
+function_declared d FilterKind name steps =
+    declare_name d name (entity.Filter (length d.filters)) >>= λ e. sure (record e { filters = e.filters ++ function_of d steps ∷ [] })
+function_declared d NoKind name steps = declare_name d name entity.Unclear
+
+abbrev pub steps_declared : DeclaredTree → ℕ → KindTree → Identifier → List ParameterTree → Option ParameterTree → source.BlockTree → Noted DeclaredTree
+steps_declared d at kind name parameters result body =
+    kind_fits at kind >>= λ f. opened d.checker kind parameters result >>= λ c. steps_typed c NoStep body >>= λ b.
+    function_declared (record d { checker = with_scope b.1 d.checker.scope }) kind name b.0
+
+abbrev pub declare_function : DeclaredTree → ℕ → Identifier → List ParameterTree → Option ParameterTree → source.BlockTree → KindTree → Noted DeclaredTree
+declare_function d at name parameters result body (MainKind fits) = main_declared d fits name parameters result body
+declare_function d at name parameters result body EdgeKind = steps_declared d at EdgeKind name parameters result body
+declare_function d at name parameters result body VertexKind = steps_declared d at VertexKind name parameters result body
+declare_function d at name parameters result body FilterKind = steps_declared d at FilterKind name parameters result body
+declare_function d at name parameters result body NoKind = steps_declared d at NoKind name parameters result body
+
+abbrev pub declaration_typed : DeclaredTree → DeclarationTree → Noted DeclaredTree
+declaration_typed d (Constant at p initial) = declare_constant d at p initial
+declaration_typed d (Function at name parameters result body) = declare_function d at name parameters result body (kind name.bytes parameters result)
+
+-- in the order of the text
+abbrev pub declarations_typed : DeclaredTree → List DeclarationTree → Noted DeclaredTree
+declarations_typed d [] = sure d
 declarations_typed d (x ∷ others) = declaration_typed d x >>= λ e. declarations_typed e others

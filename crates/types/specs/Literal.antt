@@ -4,7 +4,7 @@ use Rattle.syntax.specs.declared.operators.Prefix.TheVariants as prefix
 use Rattle.syntax.specs.ExpressionTrees as tree
 use Rattle.syntax.specs.ExpressionTrees.{ExpressionTree, ConjunctionTree, ComparisonTree, SumTree, TermTree, UnaryTree, PrimaryTree}
 use Rattle.syntax.specs.SourceTrees.{InitialTree, NewSet, Load, Vertices, OutDegrees, Filter, ApplyModified, Value}
-use Rattle.expression_types.specs.Operators.{◌>>=◌}
+use Rattle.syntax.specs.ExpressionReading.{◌>>=◌}
 
 -- a number without its sign is changed; a source has no other
 abbrev pub negated : ℤ → Option ℤ

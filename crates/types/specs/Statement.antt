@@ -1,158 +1,166 @@
--- Statements of main without blocks.
-use Rattle.std.specs.Prelude.{ℕ, List, length, Option, Some, None}
+-- Statements of main without blocks. Where one is faulty a harmless one stands in its place.
+use Rattle.std.specs.Prelude.{ℕ, Bool, ◌||◌, if◌then◌else◌, length, Option, Some, None, is_some}
 use Rattle.syntax.specs.Words.{Identifier}
 use Rattle.syntax.specs.ExpressionTrees.{ExpressionTree}
 use Rattle.syntax.specs.declared.declaration.DeclaredType.{DeclaredType}
 use Rattle.syntax.specs.declared.declaration.DeclaredType.TheVariants as declared
 use Rattle.syntax.specs.declared.statement.Reduction.{Reduction}
-use Rattle.syntax.specs.declared.statement.Reduction.TheVariants as written
-use Rattle.syntax.specs.SourceTrees.{InitialTree}
-use Rattle.typed_tree.specs.declared.expression.Reduction as typed
-use Rattle.typed_tree.specs.declared.expression.Reduction.TheVariants as reduction
+use Rattle.syntax.specs.SourceTrees.{EndsTree, InitialTree}
 use Rattle.typed_tree.specs.declared.expression.Slot.{Slot}
-use Rattle.typed_tree.specs.BlockTree.{ActionTree, DeclareInteger, DeclareCondition, SetInteger, SetCondition, ReduceInteger, SetEntry, ReduceEntry, DeclareSet, AssignSet, AddVertex, PrintInteger, PrintCondition, ApplyVertex}
+use Rattle.typed_tree.specs.IntegerTree.{IntegerTree, Parameter}
+use Rattle.typed_tree.specs.BlockTree.{ActionTree, DeclareInteger, DeclareCondition, SetInteger, SetCondition, ReduceInteger, SetEntry, ReduceEntry, DeclareSet, AssignSet, AddVertex, PrintInteger, PrintCondition, ApplyVertex, ApplyEdges}
+use Rattle.expression_types.specs.declared.fault.Rule.TheVariants as rule
 use Rattle.expression_types.specs.declared.scope.Entity.{Entity}
 use Rattle.expression_types.specs.declared.scope.Entity.TheVariants as entity
-use Rattle.expression_types.specs.Expression.{value_of, vector_place}
-use Rattle.expression_types.specs.Operators.{◌>>=◌}
-use Rattle.expression_types.specs.ScopeTree.{ScopeTree, entity_named}
-use Rattle.expression_types.specs.ValueTree.{ValueTree, named_set}
-use Rattle.expression_types.specs.ValueTree as value
-use Rattle.types.specs.CheckerTree.{CheckerTree, integer_slot, condition_slot, set_slot, declared_in}
-use Rattle.types.specs.Initial.{integer_in, index_in, initial_integer, initial_condition, initial_set}
+use Rattle.expression_types.specs.Expression.{used, value_of, vector_place}
+use Rattle.expression_types.specs.Noted.{Noted, sure, fault_at, ◌>>=◌}
+use Rattle.expression_types.specs.ScopeTree.{ScopeTree}
+use Rattle.expression_types.specs.ValueTree.{ValueTree, Integer, Condition, Vertex, Set, Faulty, named_set}
+use Rattle.types.specs.Checker.{CheckerTree, integer_slot, condition_slot, set_slot, declared_in}
+use Rattle.types.specs.Initial.{GivenTree, EndTree, given_by, end_of, is_wrong, is_unknown, ends_given, is_unclear, is_edges, edge_function, vertex_function, integer_given, condition_given, members_given}
+use Rattle.types.specs.Wanted.{some_integer, as_integer, as_index, integer_in}
 
-abbrev pub reduction_of : Reduction → typed.Reduction
-reduction_of written.Min = reduction.Min
-reduction_of written.Max = reduction.Max
-reduction_of written.Plus = reduction.Plus
+-- what stands in place of a faulty statement
+abbrev pub no_action : ActionTree
+no_action = PrintInteger some_integer
 
--- a declaration of a variable, and what is known behind it; the name is not visible in its first value
-abbrev pub declare_integer : CheckerTree → List ℕ → InitialTree → Option (ActionTree × CheckerTree)
-declare_integer c name initial =
-    initial_integer c.scope initial >>= λ e.
-    declared_in c name (entity.IntegerVariable (integer_slot c)) >>= λ d. Some (DeclareInteger (length c.names) e, d)
+-- A declaration of a variable, and what is known behind it. The name is not visible in its first value.
+abbrev pub declare_as : CheckerTree → ℕ → Identifier → GivenTree → DeclaredType → Noted (ActionTree × CheckerTree)
+declare_as c at name given declared.Int =
+    integer_given at given >>= λ e. declared_in c name (entity.IntegerVariable (integer_slot c)) >>= λ d. sure (DeclareInteger (length c.names) e, d)
+declare_as c at name given declared.Bool =
+    condition_given at given >>= λ e. declared_in c name (entity.ConditionVariable (condition_slot c)) >>= λ d. sure (DeclareCondition (length c.names) e, d)
+declare_as c at name given declared.VertexSet =
+    members_given at given >>= λ s. declared_in c name (entity.SetVariable (set_slot c)) >>= λ d. sure (DeclareSet (length c.names) s, d)
+declare_as c at name given declared.Vertex = fault_at at rule.WrongType no_action >>= λ a. declared_in c name entity.Unclear >>= λ d. sure (a, d)
+declare_as c at name given declared.Vector = fault_at at rule.WrongType no_action >>= λ a. declared_in c name entity.Unclear >>= λ d. sure (a, d)
+declare_as c at name given declared.EdgeSet = fault_at at rule.WrongType no_action >>= λ a. declared_in c name entity.Unclear >>= λ d. sure (a, d)
 
-abbrev pub declare_condition : CheckerTree → List ℕ → InitialTree → Option (ActionTree × CheckerTree)
-declare_condition c name initial =
-    initial_condition c.scope initial >>= λ e.
-    declared_in c name (entity.ConditionVariable (condition_slot c)) >>= λ d. Some (DeclareCondition (length c.names) e, d)
+abbrev pub declare_variable : CheckerTree → ℕ → Identifier → DeclaredType → InitialTree → Noted (ActionTree × CheckerTree)
+declare_variable c at name type initial = given_by c at initial >>= λ given. declare_as c at name given type
 
-abbrev pub declare_set : CheckerTree → List ℕ → InitialTree → Option (ActionTree × CheckerTree)
-declare_set c name initial =
-    initial_set c.scope initial >>= λ set.
-    declared_in c name (entity.SetVariable (set_slot c)) >>= λ d. Some (DeclareSet (length c.names) set, d)
+-- variables are assigned, and nothing else
+abbrev pub assigned : ℕ → GivenTree → Entity → Noted ActionTree
+assigned at given entity.Edges = fault_at at rule.WrongType no_action
+assigned at given (entity.Vector place) = fault_at at rule.WrongType no_action
+assigned at given (entity.ConstantSet slot) = fault_at at rule.WrongType no_action
+assigned at given (entity.IntegerConstant name n) = fault_at at rule.WrongType no_action
+assigned at given (entity.ConditionConstant name b) = fault_at at rule.WrongType no_action
+assigned at given (entity.IntegerVariable slot) = integer_given at given >>= λ e. sure (SetInteger slot e)
+assigned at given (entity.ConditionVariable slot) = condition_given at given >>= λ e. sure (SetCondition slot e)
+assigned at given (entity.SetVariable slot) = members_given at given >>= λ s. sure (AssignSet slot s)
+assigned at given (entity.LoopVariable slot) = fault_at at rule.WrongType no_action
+assigned at given (entity.Parameter p) = fault_at at rule.WrongType no_action
+assigned at given (entity.EdgeFunction place) = fault_at at rule.WrongType no_action
+assigned at given (entity.VertexFunction place) = fault_at at rule.WrongType no_action
+assigned at given (entity.Filter place) = fault_at at rule.WrongType no_action
+assigned at given entity.Main = fault_at at rule.WrongType no_action
+assigned at given entity.Unclear = sure no_action
 
-abbrev pub declare_as : DeclaredType → CheckerTree → List ℕ → InitialTree → Option (ActionTree × CheckerTree)
-declare_as declared.Int c name initial = declare_integer c name initial
-declare_as declared.Bool c name initial = declare_condition c name initial
-declare_as declared.Vertex c name initial = None
-declare_as declared.VertexSet c name initial = declare_set c name initial
-declare_as declared.Vector c name initial = None
-declare_as declared.EdgeSet c name initial = None
+abbrev pub assign : CheckerTree → ℕ → Identifier → InitialTree → Noted ActionTree
+assign c at name initial = used c.scope name >>= λ e. given_by c at initial >>= λ given. assigned at given e
 
--- what is assigned: variables alone
-abbrev pub assign_to : ScopeTree → InitialTree → Entity → Option ActionTree
-assign_to scope initial entity.Edges = None
-assign_to scope initial (entity.Vector place) = None
-assign_to scope initial (entity.ConstantSet slot) = None
-assign_to scope initial (entity.IntegerConstant name n) = None
-assign_to scope initial (entity.ConditionConstant name b) = None
-assign_to scope initial (entity.IntegerVariable slot) = initial_integer scope initial >>= λ e. Some (SetInteger slot e)
-assign_to scope initial (entity.ConditionVariable slot) = initial_condition scope initial >>= λ e. Some (SetCondition slot e)
-assign_to scope initial (entity.SetVariable slot) = initial_set scope initial >>= λ set. Some (AssignSet slot set)
-assign_to scope initial (entity.LoopVariable slot) = None
-assign_to scope initial (entity.Parameter at) = None
-assign_to scope initial (entity.VertexFunction place) = None
-assign_to scope initial entity.Main = None
+-- int variables are reduced
+abbrev pub reduced : ℕ → Reduction → ValueTree → Entity → Noted ActionTree
+reduced at by v entity.Edges = fault_at at rule.WrongType no_action
+reduced at by v (entity.Vector place) = fault_at at rule.WrongType no_action
+reduced at by v (entity.ConstantSet slot) = fault_at at rule.WrongType no_action
+reduced at by v (entity.IntegerConstant name n) = fault_at at rule.WrongType no_action
+reduced at by v (entity.ConditionConstant name b) = fault_at at rule.WrongType no_action
+reduced at by v (entity.IntegerVariable slot) = as_integer at v >>= λ e. sure (ReduceInteger slot by e)
+reduced at by v (entity.ConditionVariable slot) = fault_at at rule.WrongType no_action
+reduced at by v (entity.SetVariable slot) = fault_at at rule.WrongType no_action
+reduced at by v (entity.LoopVariable slot) = fault_at at rule.WrongType no_action
+reduced at by v (entity.Parameter p) = fault_at at rule.WrongType no_action
+reduced at by v (entity.EdgeFunction place) = fault_at at rule.WrongType no_action
+reduced at by v (entity.VertexFunction place) = fault_at at rule.WrongType no_action
+reduced at by v (entity.Filter place) = fault_at at rule.WrongType no_action
+reduced at by v entity.Main = fault_at at rule.WrongType no_action
+reduced at by v entity.Unclear = sure no_action
 
-abbrev pub assign : ScopeTree → Identifier → InitialTree → Option ActionTree
-assign scope name initial = entity_named name.bytes scope.visible >>= assign_to scope initial
+abbrev pub reduce : ScopeTree → ℕ → Identifier → Reduction → ExpressionTree → Noted ActionTree
+reduce scope at name by e = used scope name >>= λ n. value_of scope at e >>= λ v. reduced at by v n
 
--- the variable of type int that a name is
-abbrev pub integer_variable : Entity → Option Slot
-integer_variable entity.Edges = None
-integer_variable (entity.Vector place) = None
-integer_variable (entity.ConstantSet slot) = None
-integer_variable (entity.IntegerConstant name n) = None
-integer_variable (entity.ConditionConstant name b) = None
-integer_variable (entity.IntegerVariable slot) = Some slot
-integer_variable (entity.ConditionVariable slot) = None
-integer_variable (entity.SetVariable slot) = None
-integer_variable (entity.LoopVariable slot) = None
-integer_variable (entity.Parameter at) = None
-integer_variable (entity.VertexFunction place) = None
-integer_variable entity.Main = None
+-- an entry at an index
+abbrev pub entry_set : Option ℕ → Option IntegerTree → IntegerTree → ActionTree
+entry_set None index e = no_action
+entry_set (Some vector) None e = no_action
+entry_set (Some vector) (Some index) e = SetEntry vector index e
 
--- the variable that is a vertex set
-abbrev pub set_variable : Entity → Option Slot
-set_variable entity.Edges = None
-set_variable (entity.Vector place) = None
-set_variable (entity.ConstantSet slot) = None
-set_variable (entity.IntegerConstant name n) = None
-set_variable (entity.ConditionConstant name b) = None
-set_variable (entity.IntegerVariable slot) = None
-set_variable (entity.ConditionVariable slot) = None
-set_variable (entity.SetVariable slot) = Some slot
-set_variable (entity.LoopVariable slot) = None
-set_variable (entity.Parameter at) = None
-set_variable (entity.VertexFunction place) = None
-set_variable entity.Main = None
+abbrev pub set_entry : ScopeTree → ℕ → Identifier → (index e : ExpressionTree) → Noted ActionTree
+set_entry scope at name index e =
+    vector_place scope at name >>= λ vector. value_of scope at index >>= λ v. as_index at v >>= λ i.
+    integer_in scope at e >>= λ x. sure (entry_set vector i x)
 
--- the vertex function that a name is
-abbrev pub vertex_function : Entity → Option ℕ
-vertex_function entity.Edges = None
-vertex_function (entity.Vector place) = None
-vertex_function (entity.ConstantSet slot) = None
-vertex_function (entity.IntegerConstant name n) = None
-vertex_function (entity.ConditionConstant name b) = None
-vertex_function (entity.IntegerVariable slot) = None
-vertex_function (entity.ConditionVariable slot) = None
-vertex_function (entity.SetVariable slot) = None
-vertex_function (entity.LoopVariable slot) = None
-vertex_function (entity.Parameter at) = None
-vertex_function (entity.VertexFunction place) = Some place
-vertex_function entity.Main = None
+abbrev pub entry_reduced : Option ℕ → Option IntegerTree → Reduction → IntegerTree → ActionTree
+entry_reduced None index by e = no_action
+entry_reduced (Some vector) None by e = no_action
+entry_reduced (Some vector) (Some index) by e = ReduceEntry vector index by e
 
--- a variable of type int is reduced with an integer
-abbrev pub reduce : ScopeTree → Identifier → Reduction → ExpressionTree → Option ActionTree
-reduce scope name r e =
-    entity_named name.bytes scope.visible >>= integer_variable >>= λ slot. integer_in scope e >>= λ n. Some (ReduceInteger slot (reduction_of r) n)
+abbrev pub reduce_entry : ScopeTree → ℕ → Identifier → (index : ExpressionTree) → Reduction → (e : ExpressionTree) → Noted ActionTree
+reduce_entry scope at name index by e =
+    vector_place scope at name >>= λ vector. value_of scope at index >>= λ v. as_index at v >>= λ i.
+    integer_in scope at e >>= λ x. sure (entry_reduced vector i by x)
 
--- the entry of a vector at an index gets an integer, or is reduced with one
-abbrev pub set_entry : ScopeTree → Identifier → (index e : ExpressionTree) → Option ActionTree
-set_entry scope name index e =
-    vector_place scope name >>= λ vector. index_in scope index >>= λ i. integer_in scope e >>= λ n. Some (SetEntry vector i n)
+-- set variables get vertices
+abbrev pub added : ℕ → ValueTree → Entity → Noted ActionTree
+added at v entity.Edges = fault_at at rule.WrongType no_action
+added at v (entity.Vector place) = fault_at at rule.WrongType no_action
+added at v (entity.ConstantSet slot) = fault_at at rule.WrongType no_action
+added at v (entity.IntegerConstant name n) = fault_at at rule.WrongType no_action
+added at v (entity.ConditionConstant name b) = fault_at at rule.WrongType no_action
+added at v (entity.IntegerVariable slot) = fault_at at rule.WrongType no_action
+added at v (entity.ConditionVariable slot) = fault_at at rule.WrongType no_action
+added at v (entity.SetVariable slot) = as_integer at v >>= λ e. sure (AddVertex slot e)
+added at v (entity.LoopVariable slot) = fault_at at rule.WrongType no_action
+added at v (entity.Parameter p) = fault_at at rule.WrongType no_action
+added at v (entity.EdgeFunction place) = fault_at at rule.WrongType no_action
+added at v (entity.VertexFunction place) = fault_at at rule.WrongType no_action
+added at v (entity.Filter place) = fault_at at rule.WrongType no_action
+added at v entity.Main = fault_at at rule.WrongType no_action
+added at v entity.Unclear = sure no_action
 
-abbrev pub reduce_entry : ScopeTree → Identifier → ExpressionTree → Reduction → ExpressionTree → Option ActionTree
-reduce_entry scope name index r e =
-    vector_place scope name >>= λ vector. index_in scope index >>= λ i. integer_in scope e >>= λ n.
-    Some (ReduceEntry vector i (reduction_of r) n)
+abbrev pub add_vertex : ScopeTree → ℕ → Identifier → ExpressionTree → Noted ActionTree
+add_vertex scope at set e = used scope set >>= λ s. value_of scope at e >>= λ v. added at v s
 
--- a vertex set that is a variable gets a vertex
-abbrev pub add_vertex : ScopeTree → Identifier → ExpressionTree → Option ActionTree
-add_vertex scope name e =
-    entity_named name.bytes scope.visible >>= set_variable >>= λ slot. integer_in scope e >>= λ n. Some (AddVertex slot n)
+-- a number or a truth value is printed
+abbrev pub printed : ℕ → ValueTree → Noted ActionTree
+printed at (Integer e) = sure (PrintInteger e)
+printed at (Condition c) = sure (PrintCondition c)
+printed at (Vertex p) = sure (PrintInteger (Parameter p))
+printed at (Set slot) = fault_at at rule.WrongType no_action
+printed at Faulty = sure no_action
 
--- the vertex set, and the vertex function, that a visible name is
-abbrev pub set_place : ScopeTree → Identifier → Option Slot
-set_place scope name = entity_named name.bytes scope.visible >>= named_set
+abbrev pub print : ScopeTree → ℕ → ExpressionTree → Noted ActionTree
+print scope at e = value_of scope at e >>= printed at
 
-abbrev pub function_place : ScopeTree → Identifier → Option ℕ
-function_place scope name = entity_named name.bytes scope.visible >>= vertex_function
+-- Edge functions are applied to the edges, and vertex functions to vertex sets, which have no ends. A name that is not clear breaks no
+-- further rule.
+abbrev pub edges_applied : ℕ → EndTree → EndTree → Bool → Option ℕ → Noted ActionTree
+edges_applied at a b unclear None = if unclear then sure no_action else fault_at at rule.WrongType no_action
+edges_applied at a b unclear (Some function) = if is_unknown a || is_unknown b then sure no_action else sure (ApplyEdges (ends_given a b) function)
 
--- an integer or a condition is written
-abbrev pub printed : ValueTree → Option ActionTree
-printed (value.Integer e) = Some (PrintInteger e)
-printed (value.Condition e) = Some (PrintCondition e)
-printed (value.Vertex at) = None
-printed (value.Set slot) = None
+abbrev pub vertices_applied : ℕ → Slot → Bool → Option ℕ → Noted ActionTree
+vertices_applied at slot unclear None = if unclear then sure no_action else fault_at at rule.WrongType no_action
+vertices_applied at slot unclear (Some function) = sure (ApplyVertex slot function)
 
-abbrev pub print : ScopeTree → ExpressionTree → Option ActionTree
-print scope e = value_of scope e >>= printed
+abbrev pub set_applied : ℕ → Bool → Entity → Option Slot → Noted ActionTree
+set_applied at ends f None = fault_at at rule.WrongType no_action
+set_applied at ends f (Some slot) =
+    if ends then fault_at at rule.WrongType no_action else vertices_applied at slot (is_unclear f) (vertex_function f)
 
--- a vertex function on a vertex set, without ends
-abbrev pub apply_within : ScopeTree → Identifier → (from to : Option Identifier) → Identifier → Option ActionTree
-apply_within scope target None None function =
-    set_place scope target >>= λ set. function_place scope function >>= λ place. Some (ApplyVertex set place)
-apply_within scope target None (Some to) function = None
-apply_within scope target (Some from) to function = None
+abbrev pub applied : ℕ → Entity → EndTree → EndTree → Bool → Entity → Noted ActionTree
+applied at t a b ends f =
+    if is_unclear t then sure no_action
+    else (if is_edges t then
+    (if is_wrong a || is_wrong b then fault_at at rule.WrongType no_action else edges_applied at a b (is_unclear f) (edge_function f))
+    else set_applied at ends f (named_set t))
+
+-- whether an end is written
+abbrev pub has_ends : EndsTree → Bool
+has_ends ends = is_some ends.from || is_some ends.to
+
+abbrev pub apply : ScopeTree → ℕ → Identifier → EndsTree → Identifier → Noted ActionTree
+apply scope at target ends function =
+    used scope target >>= λ t. end_of scope ends.from >>= λ a. end_of scope ends.to >>= λ b. used scope function >>= λ f.
+    applied at t a b (has_ends ends) f

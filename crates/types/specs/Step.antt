@@ -1,53 +1,239 @@
--- Statements of vertex functions.
-use Rattle.std.specs.Prelude.{ℕ, List, [], ◌∷◌, Option, Some, None}
+-- Statements of functions, in the order of the text. Where one is faulty, or no function may hold it, a harmless one stands in its place.
+use Rattle.std.specs.Prelude.{ℕ, Bool, true, false, nat_eq, List, [], ◌∷◌, ◌++◌, length, Option, Some, None}
+use Rattle.std.specs.Map.{lookup}
 use Rattle.syntax.specs.Words.{Identifier}
 use Rattle.syntax.specs.ExpressionTrees.{ExpressionTree}
+use Rattle.syntax.specs.declared.declaration.DeclaredType.{DeclaredType}
+use Rattle.syntax.specs.declared.declaration.DeclaredType.TheVariants as declared
+use Rattle.syntax.specs.declared.statement.Reduction.{Reduction}
+use Rattle.syntax.specs.declared.statement.Reduction.TheVariants as reduction
 use Rattle.syntax.specs.SourceTrees as source
+use Rattle.syntax.specs.SourceTrees.{InitialTree}
 use Rattle.typed_tree.specs.declared.expression.Endpoint.{Endpoint}
 use Rattle.typed_tree.specs.declared.expression.Endpoint.TheVariants as endpoint
-use Rattle.typed_tree.specs.StepTree.{StepTree, SetEntry, ReduceEntry}
-use Rattle.expression_types.specs.Expression.{value_of, vector_place}
-use Rattle.expression_types.specs.Operators.{◌>>=◌}
+use Rattle.typed_tree.specs.ConditionTree.{Literal}
+use Rattle.typed_tree.specs.IntegerTree.{IntegerTree}
+use Rattle.typed_tree.specs.StepTree.{StepTree, StepsTree, DeclareInteger, DeclareCondition, SetInteger, SetCondition, ReduceInteger, SetEntry, ReduceEntry, If, IfElse, NoStep, StepThen}
+use Rattle.expression_types.specs.declared.fault.Rule.TheVariants as rule
+use Rattle.expression_types.specs.declared.scope.Entity.{Entity}
+use Rattle.expression_types.specs.declared.scope.Entity.TheVariants as entity
+use Rattle.expression_types.specs.declared.scope.Inside.{Inside}
+use Rattle.expression_types.specs.declared.scope.Inside.TheVariants as inside
+use Rattle.expression_types.specs.Expression.{used, value_of, vector_place}
+use Rattle.expression_types.specs.Noted.{Noted, sure, fault_at, ◌>>=◌}
 use Rattle.expression_types.specs.ScopeTree.{ScopeTree}
-use Rattle.expression_types.specs.ValueTree.{ValueTree}
-use Rattle.expression_types.specs.ValueTree as value
-use Rattle.types.specs.CheckerTree.{CheckerTree, labelled}
-use Rattle.types.specs.Initial.{integer_in}
-use Rattle.types.specs.Statement.{reduction_of}
+use Rattle.expression_types.specs.ValueTree.{ValueTree, Integer, Condition, Vertex, Set, Faulty}
+use Rattle.types.specs.Checker.{CheckerTree, integer_slot, condition_slot, with_scope, declared_in, labelled}
+use Rattle.types.specs.Initial.{GivenTree, end_of, given_by, integer_given, condition_given}
+use Rattle.types.specs.Wanted.{as_integer, integer_in, condition_in}
 
--- the function's own vertex, its parameter
-abbrev pub own_end : Endpoint → Option Endpoint
-own_end endpoint.Source = Some endpoint.Source
-own_end endpoint.Destination = None
+-- what stands in place of a faulty statement
+abbrev pub no_step : StepTree
+no_step = If (Literal false) NoStep
 
-abbrev pub own_vertex : ValueTree → Option Endpoint
-own_vertex (value.Integer e) = None
-own_vertex (value.Condition e) = None
-own_vertex (value.Vertex at) = own_end at
-own_vertex (value.Set slot) = None
+-- a declaration of a variable, and what is known behind it
+abbrev pub declare_step_as : CheckerTree → ℕ → Identifier → GivenTree → DeclaredType → Noted (StepTree × CheckerTree)
+declare_step_as c at name given declared.Int =
+    integer_given at given >>= λ e. declared_in c name (entity.IntegerVariable (integer_slot c)) >>= λ d. sure (DeclareInteger (length c.names) e, d)
+declare_step_as c at name given declared.Bool =
+    condition_given at given >>= λ e. declared_in c name (entity.ConditionVariable (condition_slot c)) >>= λ d. sure (DeclareCondition (length c.names) e, d)
+declare_step_as c at name given declared.VertexSet = fault_at at rule.WrongType no_step >>= λ a. declared_in c name entity.Unclear >>= λ d. sure (a, d)
+declare_step_as c at name given declared.Vertex = fault_at at rule.WrongType no_step >>= λ a. declared_in c name entity.Unclear >>= λ d. sure (a, d)
+declare_step_as c at name given declared.Vector = fault_at at rule.WrongType no_step >>= λ a. declared_in c name entity.Unclear >>= λ d. sure (a, d)
+declare_step_as c at name given declared.EdgeSet = fault_at at rule.WrongType no_step >>= λ a. declared_in c name entity.Unclear >>= λ d. sure (a, d)
 
--- the vector whose entry at the function's own vertex is named
-abbrev pub own_entry : ScopeTree → Identifier → ExpressionTree → Option ℕ
-own_entry scope name index = vector_place scope name >>= λ vector. value_of scope index >>= own_vertex >>= λ at. Some vector
+abbrev pub declare_step : CheckerTree → ℕ → Identifier → DeclaredType → InitialTree → Noted (StepTree × CheckerTree)
+declare_step c at name type initial = given_by c at initial >>= λ given. declare_step_as c at name given type
 
-abbrev pub step_typed : ScopeTree → source.ActionTree → Option StepTree
-step_typed scope (source.Declare at p initial) = None
-step_typed scope (source.While at test body) = None
-step_typed scope (source.For at name first limit body) = None
-step_typed scope (source.If at test body) = None
-step_typed scope (source.IfElse at test body otherwise) = None
-step_typed scope (source.Print at e) = None
-step_typed scope (source.Assign name initial) = None
-step_typed scope (source.Reduce name r e) = None
-step_typed scope (source.SetEntry name index e) =
-    own_entry scope name index >>= λ vector. integer_in scope e >>= λ n. Some (SetEntry vector n)
-step_typed scope (source.ReduceEntry name index r e) =
-    own_entry scope name index >>= λ vector. integer_in scope e >>= λ n. Some (ReduceEntry vector (reduction_of r) n)
-step_typed scope (source.AddVertex set e) = None
-step_typed scope (source.Apply target ends function) = None
+-- variables are assigned, and a filter's result
+abbrev pub assigned_step : ℕ → GivenTree → Entity → Noted StepTree
+assigned_step at given entity.Edges = fault_at at rule.WrongType no_step
+assigned_step at given (entity.Vector place) = fault_at at rule.WrongType no_step
+assigned_step at given (entity.ConstantSet slot) = fault_at at rule.WrongType no_step
+assigned_step at given (entity.IntegerConstant name n) = fault_at at rule.WrongType no_step
+assigned_step at given (entity.ConditionConstant name b) = fault_at at rule.WrongType no_step
+assigned_step at given (entity.IntegerVariable slot) = integer_given at given >>= λ e. sure (SetInteger slot e)
+assigned_step at given (entity.ConditionVariable slot) = condition_given at given >>= λ e. sure (SetCondition slot e)
+assigned_step at given (entity.SetVariable slot) = fault_at at rule.WrongType no_step
+assigned_step at given (entity.LoopVariable slot) = fault_at at rule.WrongType no_step
+assigned_step at given (entity.Parameter p) = fault_at at rule.WrongType no_step
+assigned_step at given (entity.EdgeFunction place) = fault_at at rule.WrongType no_step
+assigned_step at given (entity.VertexFunction place) = fault_at at rule.WrongType no_step
+assigned_step at given (entity.Filter place) = fault_at at rule.WrongType no_step
+assigned_step at given entity.Main = fault_at at rule.WrongType no_step
+assigned_step at given entity.Unclear = sure no_step
 
--- the statements of a function, of which labels count and numbers do not
-abbrev pub steps_typed : CheckerTree → source.BlockTree → Option (List StepTree × CheckerTree)
-steps_typed c source.Empty = Some ([], c)
-steps_typed c (source.Then label action others) =
-    labelled c label >>= λ l. step_typed c.scope action >>= λ s. steps_typed l.1 others >>= λ o. Some (s ∷ o.0, o.1)
+abbrev pub assign_step : CheckerTree → ℕ → Identifier → InitialTree → Noted StepTree
+assign_step c at name initial = used c.scope name >>= λ e. given_by c at initial >>= λ given. assigned_step at given e
+
+abbrev pub reduced_step : ℕ → Reduction → ValueTree → Entity → Noted StepTree
+reduced_step at by v entity.Edges = fault_at at rule.WrongType no_step
+reduced_step at by v (entity.Vector place) = fault_at at rule.WrongType no_step
+reduced_step at by v (entity.ConstantSet slot) = fault_at at rule.WrongType no_step
+reduced_step at by v (entity.IntegerConstant name n) = fault_at at rule.WrongType no_step
+reduced_step at by v (entity.ConditionConstant name b) = fault_at at rule.WrongType no_step
+reduced_step at by v (entity.IntegerVariable slot) = as_integer at v >>= λ e. sure (ReduceInteger slot by e)
+reduced_step at by v (entity.ConditionVariable slot) = fault_at at rule.WrongType no_step
+reduced_step at by v (entity.SetVariable slot) = fault_at at rule.WrongType no_step
+reduced_step at by v (entity.LoopVariable slot) = fault_at at rule.WrongType no_step
+reduced_step at by v (entity.Parameter p) = fault_at at rule.WrongType no_step
+reduced_step at by v (entity.EdgeFunction place) = fault_at at rule.WrongType no_step
+reduced_step at by v (entity.VertexFunction place) = fault_at at rule.WrongType no_step
+reduced_step at by v (entity.Filter place) = fault_at at rule.WrongType no_step
+reduced_step at by v entity.Main = fault_at at rule.WrongType no_step
+reduced_step at by v entity.Unclear = sure no_step
+
+abbrev pub reduce_step : ScopeTree → ℕ → Identifier → Reduction → ExpressionTree → Noted StepTree
+reduce_step scope at name by e = used scope name >>= λ n. value_of scope at e >>= λ v. reduced_step at by v n
+
+-- the vertex at which a function writes
+abbrev pub own_vertex : Inside → Endpoint
+own_vertex inside.Main = endpoint.Source
+own_vertex inside.EdgeFunction = endpoint.Destination
+own_vertex inside.VertexFunction = endpoint.Source
+own_vertex inside.Filter = endpoint.Source
+
+abbrev pub same_endpoint : Endpoint → Endpoint → Bool
+same_endpoint endpoint.Source endpoint.Source = true
+same_endpoint endpoint.Source endpoint.Destination = false
+same_endpoint endpoint.Destination endpoint.Source = false
+same_endpoint endpoint.Destination endpoint.Destination = true
+
+-- an entry is written there and nowhere else
+abbrev pub at_own : ℕ → Bool → Noted Bool
+at_own at true = sure true
+at_own at false = fault_at at rule.WrongIndex false
+
+abbrev pub written_at : ℕ → Endpoint → ValueTree → Noted Bool
+written_at at own (Integer e) = fault_at at rule.WrongIndex false
+written_at at own (Condition c) = fault_at at rule.WrongIndex false
+written_at at own (Vertex p) = at_own at (same_endpoint p own)
+written_at at own (Set slot) = fault_at at rule.WrongIndex false
+written_at at own Faulty = sure false
+
+-- an edge function writes no entry by `=`, and a filter none at all
+abbrev pub may_set : ℕ → Inside → Noted Bool
+may_set at inside.Main = sure false
+may_set at inside.EdgeFunction = fault_at at rule.NotReduction false
+may_set at inside.VertexFunction = sure true
+may_set at inside.Filter = fault_at at rule.WrongType false
+
+abbrev pub entry_step : Bool → Bool → Option ℕ → IntegerTree → StepTree
+entry_step may own None e = no_step
+entry_step false own (Some vector) e = no_step
+entry_step true false (Some vector) e = no_step
+entry_step true true (Some vector) e = SetEntry vector e
+
+abbrev pub set_entry_step : ScopeTree → ℕ → Identifier → (index e : ExpressionTree) → Noted StepTree
+set_entry_step scope at name index e =
+    may_set at scope.inside >>= λ may. vector_place scope at name >>= λ vector.
+    value_of scope at index >>= λ v. written_at at (own_vertex scope.inside) v >>= λ own.
+    integer_in scope at e >>= λ x. sure (entry_step may own vector x)
+
+-- an edge function reduces a vector in one way, which its first statement on that vector says
+abbrev pub same_reduction : Reduction → Reduction → Bool
+same_reduction reduction.Min reduction.Min = true
+same_reduction reduction.Min reduction.Max = false
+same_reduction reduction.Min reduction.Plus = false
+same_reduction reduction.Max reduction.Min = false
+same_reduction reduction.Max reduction.Max = true
+same_reduction reduction.Max reduction.Plus = false
+same_reduction reduction.Plus reduction.Min = false
+same_reduction reduction.Plus reduction.Max = false
+same_reduction reduction.Plus reduction.Plus = true
+
+abbrev pub reduced_as : ℕ → Bool → List (ℕ × Reduction) → Noted (Bool × List (ℕ × Reduction))
+reduced_as at true writes = sure (true, writes)
+reduced_as at false writes = fault_at at rule.MixedReductions (false, writes)
+
+abbrev pub written_with : ℕ → ℕ → Reduction → List (ℕ × Reduction) → Option Reduction → Noted (Bool × List (ℕ × Reduction))
+written_with at vector by writes None = sure (true, writes ++ (vector, by) ∷ [])
+written_with at vector by writes (Some first) = reduced_as at (same_reduction first by) writes
+
+abbrev pub one_reduction : ℕ → Option ℕ → Reduction → List (ℕ × Reduction) → Noted (Bool × List (ℕ × Reduction))
+one_reduction at None by writes = sure (false, writes)
+one_reduction at (Some vector) by writes = written_with at vector by writes (lookup (nat_eq vector) writes)
+
+-- a filter writes no entry, and a vertex function in any way
+abbrev pub may_reduce : ℕ → Inside → Option ℕ → Reduction → List (ℕ × Reduction) → Noted (Bool × List (ℕ × Reduction))
+may_reduce at inside.Main vector by writes = sure (false, writes)
+may_reduce at inside.EdgeFunction vector by writes = one_reduction at vector by writes
+may_reduce at inside.VertexFunction vector by writes = sure (true, writes)
+may_reduce at inside.Filter vector by writes = fault_at at rule.WrongType (false, writes)
+
+abbrev pub reduction_step : Bool → Bool → Option ℕ → Reduction → IntegerTree → StepTree
+reduction_step may own None by e = no_step
+reduction_step false own (Some vector) by e = no_step
+reduction_step true false (Some vector) by e = no_step
+reduction_step true true (Some vector) by e = ReduceEntry vector by e
+
+abbrev pub with_writes : CheckerTree → List (ℕ × Reduction) → CheckerTree
+with_writes c writes = record c { writes = writes }
+
+abbrev pub reduce_entry_step : CheckerTree → ℕ → Identifier → (index : ExpressionTree) → Reduction → (e : ExpressionTree) → Noted (StepTree × CheckerTree)
+reduce_entry_step c at name index by e =
+    vector_place c.scope at name >>= λ vector. may_reduce at c.scope.inside vector by c.writes >>= λ may.
+    value_of c.scope at index >>= λ v. written_at at (own_vertex c.scope.inside) v >>= λ own.
+    integer_in c.scope at e >>= λ x. sure (reduction_step may.0 own vector by x, with_writes c may.1)
+
+-- a statement that no function may hold; its parts are looked at too
+abbrev pub no_add : ScopeTree → ℕ → Identifier → ExpressionTree → Noted StepTree
+no_add scope at set e = fault_at at rule.WrongType no_step >>= λ s. used scope set >>= λ n. value_of scope at e >>= λ v. sure s
+
+abbrev pub no_apply : ScopeTree → ℕ → Identifier → source.EndsTree → Identifier → Noted StepTree
+no_apply scope at target ends function =
+    fault_at at rule.WrongType no_step >>= λ s. used scope target >>= λ t. end_of scope ends.from >>= λ a. end_of scope ends.to >>= λ b.
+    used scope function >>= λ f. sure s
+
+-- a statement that declares nothing
+abbrev pub step_in_place : CheckerTree → Noted StepTree → Noted (StepTree × CheckerTree)
+step_in_place c step = step >>= λ s. sure (s, c)
+
+-- the statements so far, with one more behind them
+abbrev pub step_behind : StepsTree → StepTree → StepsTree
+step_behind NoStep step = StepThen step NoStep
+step_behind (StepThen s others) step = StepThen s (step_behind others step)
+
+-- behind a block the names that became visible in it are forgotten
+abbrev pub steps_behind : CheckerTree → CheckerTree → CheckerTree
+steps_behind c d = with_scope d c.scope
+
+-- one statement
+abbrev pub labelled_step : CheckerTree → Option Identifier → (CheckerTree → Noted (StepTree × CheckerTree)) → Noted (StepTree × CheckerTree)
+labelled_step c label step = labelled c label >>= λ l. step l.1
+
+-- The name of a `for` is visible in its body alone, and its bounds are looked at before.
+abbrev pub no_for : CheckerTree → ℕ → Identifier → (first limit : ExpressionTree) → (CheckerTree → Noted (StepsTree × CheckerTree)) → Noted (StepTree × CheckerTree)
+no_for c at name first limit body =
+    fault_at at rule.WrongType no_step >>= λ s. integer_in c.scope at first >>= λ a. integer_in c.scope at limit >>= λ z.
+    declared_in c name (entity.LoopVariable (integer_slot c)) >>= λ d. body d >>= λ b. sure (s, steps_behind c b.1)
+
+abbrev mutual
+  pub step_typed : CheckerTree → source.ActionTree → Noted (StepTree × CheckerTree)
+  step_typed c (source.Declare at p initial) = declare_step c at p.name p.declared initial
+  step_typed c (source.While at test body) =
+      fault_at at rule.WrongType no_step >>= λ s. condition_in c.scope at test >>= λ t. steps_typed c NoStep body >>= λ b. sure (s, steps_behind c b.1)
+  step_typed c (source.For at name first limit body) =
+      no_for c at name first limit (λ d. steps_typed d NoStep body)
+  step_typed c (source.If at test body) =
+      condition_in c.scope at test >>= λ t. steps_typed c NoStep body >>= λ b. sure (If t b.0, steps_behind c b.1)
+  step_typed c (source.IfElse at test body otherwise) =
+      condition_in c.scope at test >>= λ t. steps_typed c NoStep body >>= λ b.
+      steps_typed (steps_behind c b.1) NoStep otherwise >>= λ o. sure (IfElse t b.0 o.0, steps_behind (steps_behind c b.1) o.1)
+  step_typed c (source.Print at e) = fault_at at rule.PrintOutsideMain (no_step, c)
+  step_typed c (source.Assign name initial) = step_in_place c (assign_step c name.at name initial)
+  step_typed c (source.Reduce name by e) = step_in_place c (reduce_step c.scope name.at name by e)
+  step_typed c (source.SetEntry vector index e) = step_in_place c (set_entry_step c.scope vector.at vector index e)
+  step_typed c (source.ReduceEntry vector index by e) = reduce_entry_step c vector.at vector index by e
+  step_typed c (source.AddVertex set e) = step_in_place c (no_add c.scope set.at set e)
+  step_typed c (source.Apply target ends function) = step_in_place c (no_apply c.scope target.at target ends function)
+
+  -- statements behind those so far
+  pub steps_typed : CheckerTree → StepsTree → source.BlockTree → Noted (StepsTree × CheckerTree)
+  steps_typed c so_far source.Empty = sure (so_far, c)
+  steps_typed c so_far (source.Then label action others) =
+      labelled c label >>= λ l. step_typed l.1 action >>= λ s. steps_typed s.1 (step_behind so_far s.0) others
+
+-- a block of its own
+abbrev pub steps_inside : CheckerTree → source.BlockTree → Noted (StepsTree × CheckerTree)
+steps_inside c block = steps_typed c NoStep block >>= λ b. sure (b.0, steps_behind c b.1)

@@ -1,35 +1,37 @@
 //! Statements of `main`, and their blocks.
 ghost use Rattle.std.specs.Prelude.{◌≡◌, OnOk};
 ghost use Rattle.syntax.specs.SourceViews.{action_tree as source_action, block_tree as source_block};
-ghost use Rattle.typed_tree.specs.BlockTree.{action_tree, block_tree};
-ghost use Rattle.expression_types.specs.Outcome.{Answers};
+ghost use Rattle.typed_tree.specs.BlockTree.{Empty, action_tree, block_tree};
+ghost use Rattle.expression_types.specs.Noted.{Notes};
 ghost use Rattle.expression_types.specs.ScopeTree.{Keeps};
-ghost use Rattle.types.specs.Block.{action_typed, block_typed, for_typed, statement_tree, statement_typed, statements_typed, tested_tree, tested_typed};
-ghost use Rattle.types.specs.CheckerTree.{checker_of};
+ghost use Rattle.types.specs.Block.{action_typed, block_typed, for_typed, statement_tree, statement_typed, statements_typed};
+ghost use Rattle.types.specs.Checker.{checker_of};
+ghost use Rattle.types.specs.Plain.{DeclaresNothing};
 
 use crate::checker::{Checker, count, declare, label};
-use crate::initial::{condition, integer};
 use crate::statement::{
     add_vertex, apply, assign, declare_variable, print, reduce, reduce_entry, set_entry,
 };
-use expression_types::{Entity, TypeError};
-use std::alloc::Global;
+use crate::wanted::{condition, integer};
+use expression_types::{Entity, Fault};
+use std::alloc::{AllocError, Global};
 use syntax::{Action as Written, Expression, Name};
-use typed_tree::{Action, Condition, Statement};
+use typed_tree::{Action, Statement};
 
 /// Statements in order. What they declare stays visible behind them.
 #[cycle(statements)]
-fn statements(
+pub(crate) fn statements(
     alloc: Global,
     block: &[syntax::Statement],
     checker: &mut Checker,
-) -> Result<Vec<Statement>, TypeError>
-    ensures typed { Answers (λ b. (block_tree b.items, checker_of checker.new)) result (statements_typed (checker_of checker.old) (source_block block.now)) }
+    noted: &mut Option<Fault>,
+) -> Result<Vec<Statement>, AllocError>
+    ensures typed { Notes (λ b. (block_tree b.items, checker_of checker.new)) noted.old noted.new result (statements_typed (checker_of checker.old) Empty (source_block block.now)) }
     ensures kept { OnOk result (Keeps checker.old.scope checker.new.scope) }
 {
     let mut typed = Vec::new(alloc);
     'statements: for statement in block {
-        let next = one(alloc, statement, checker)?;
+        let next = one(alloc, statement, checker, noted)?;
         typed.push(next)?;
     }
     Ok(typed)
@@ -41,13 +43,14 @@ fn one(
     alloc: Global,
     statement: &syntax::Statement,
     checker: &mut Checker,
-) -> Result<Statement, TypeError>
-    ensures typed { Answers (λ s. (statement_tree s, checker_of checker.new)) result (statement_typed (checker_of checker.old) statement.now.label (source_action statement.now.action)) }
+    noted: &mut Option<Fault>,
+) -> Result<Statement, AllocError>
+    ensures typed { Notes (λ s. (statement_tree s, checker_of checker.new)) noted.old noted.new result (statement_typed (checker_of checker.old) statement.now.label (source_action statement.now.action)) }
     ensures kept { OnOk result (Keeps checker.old.scope checker.new.scope) }
 {
-    let label = label(alloc, checker, &statement.label)?;
-    let number = count(checker)?;
-    let action = action(alloc, &statement.action, checker)?;
+    let label = label(alloc, checker, &statement.label, noted)?;
+    let number = count(checker, label)?;
+    let action = action(alloc, &statement.action, checker, noted)?;
     Ok(Statement {
         number,
         label,
@@ -57,98 +60,117 @@ fn one(
 
 /// A block of its own, behind which the names that it declares are forgotten.
 #[cycle(statements)]
-pub(crate) fn inner(
+fn inner(
     alloc: Global,
     block: &[syntax::Statement],
     checker: &mut Checker,
-) -> Result<Vec<Statement>, TypeError>
-    ensures typed { Answers (λ b. (block_tree b.items, checker_of checker.new)) result (block_typed (checker_of checker.old) (source_block block.now)) }
+    noted: &mut Option<Fault>,
+) -> Result<Vec<Statement>, AllocError>
+    ensures typed { Notes (λ b. (block_tree b.items, checker_of checker.new)) noted.old noted.new result (block_typed (checker_of checker.old) (source_block block.now)) }
     ensures kept { OnOk result (Keeps checker.old.scope checker.new.scope) }
 {
     let mark = checker.scope.mark();
-    let typed = statements(alloc, block, checker)?;
+    let typed = statements(alloc, block, checker, noted)?;
     checker.scope.leave(mark);
     Ok(typed)
 }
 
 /// What a statement does.
 #[cycle(statements)]
-fn action(alloc: Global, action: &Written, checker: &mut Checker) -> Result<Action, TypeError>
-    ensures typed { Answers (λ a. (action_tree a, checker_of checker.new)) result (action_typed (checker_of checker.old) (source_action action.now)) }
+fn action(
+    alloc: Global,
+    action: &Written,
+    checker: &mut Checker,
+    noted: &mut Option<Fault>,
+) -> Result<Action, AllocError>
+    ensures typed { Notes (λ a. (action_tree a, checker_of checker.new)) noted.old noted.new result (action_typed (checker_of checker.old) (source_action action.now)) }
     ensures kept { OnOk result (Keeps checker.old.scope checker.new.scope) }
 {
     match action {
         Written::Declare {
+            at,
             variable,
             initial,
-            ..
-        } => declare_variable(alloc, variable, initial, checker),
-        Written::While { test, body, .. } => {
-            let (test, body) = tested(alloc, body, test, checker)?;
+        } => declare_variable(alloc, checker, *at, variable, initial, noted),
+        Written::While { at, test, body } => {
+            let test = condition(alloc, &checker.scope, *at, test, noted)?;
+            let body = inner(alloc, body, checker, noted)?;
             Ok(Action::While(test, body))
         }
         Written::For {
+            at,
             name,
             first,
             limit,
             body,
-            ..
-        } => repeat(alloc, body, name, first, limit, checker),
-        Written::If { test, body, .. } => {
-            let (test, body) = tested(alloc, body, test, checker)?;
+        } => repeat(alloc, body, *at, name, first, limit, checker, noted),
+        Written::If { at, test, body } => {
+            let test = condition(alloc, &checker.scope, *at, test, noted)?;
+            let body = inner(alloc, body, checker, noted)?;
             Ok(Action::If(test, body))
         }
         Written::IfElse {
+            at,
             test,
             body,
             otherwise,
-            ..
         } => {
-            let (test, body) = tested(alloc, body, test, checker)?;
-            let otherwise = inner(alloc, otherwise, checker)?;
-            Ok(Action::IfElse(test, body, otherwise))
+            let test = condition(alloc, &checker.scope, *at, test, noted)?;
+            let body = inner(alloc, body, checker, noted)?;
+            let other = inner(alloc, otherwise, checker, noted)?;
+            Ok(Action::IfElse(test, body, other))
         }
-        Written::Print { value, .. } => print(alloc, &checker.scope, value),
-        Written::Assign { name, value } => assign(alloc, &checker.scope, name, value),
+        plain => without_block(alloc, plain, checker, noted),
+    }
+}
+
+/// What a statement does that has no block and declares nothing.
+fn without_block(
+    alloc: Global,
+    action: &Written,
+    checker: &Checker,
+    noted: &mut Option<Fault>,
+) -> Result<Action, AllocError>
+    requires { DeclaresNothing action.now }
+    ensures { Notes (λ a. (action_tree a, checker_of checker.now)) noted.old noted.new result (action_typed (checker_of checker.now) (source_action action.now)) }
+{
+    let scope = &checker.scope;
+    match action {
+        Written::Print { at, value } => print(alloc, scope, *at, value, noted),
+        Written::Assign { name, value } => { assign(alloc, checker, name.at(), name, value, noted) }
         Written::Reduce {
             name,
             reduction,
             value,
-        } => reduce(alloc, &checker.scope, name, *reduction, value),
+        } => reduce(alloc, scope, name.at(), name, *reduction, value, noted),
         Written::SetEntry {
             vector,
             index,
             value,
-        } => set_entry(alloc, &checker.scope, vector, index, value),
+        } => set_entry(alloc, scope, vector.at(), vector, index, value, noted),
         Written::ReduceEntry {
             vector,
             index,
             reduction,
             value,
-        } => reduce_entry(alloc, &checker.scope, vector, index, *reduction, value),
-        Written::AddVertex { set, vertex } => add_vertex(alloc, &checker.scope, set, vertex),
+        } => {
+            let at = vector.at();
+            reduce_entry(alloc, scope, at, vector, index, *reduction, value, noted)
+        }
+        Written::AddVertex { set, vertex } => {
+            add_vertex(alloc, scope, set.at(), set, vertex, noted)
+        }
         Written::Apply {
             target,
             ends,
             function,
-        } => apply(&checker.scope, target, ends, function),
+        } => Ok(apply(scope, target.at(), target, ends, function, noted)),
+        Written::Declare { .. }
+        | Written::While { .. }
+        | Written::For { .. }
+        | Written::If { .. }
+        | Written::IfElse { .. } => { unreachable!() }
     }
-}
-
-/// A condition, and the block behind it.
-#[cycle(statements)]
-fn tested(
-    alloc: Global,
-    body: &[syntax::Statement],
-    test: &Expression,
-    checker: &mut Checker,
-) -> Result<(Condition, Vec<Statement>), TypeError>
-    ensures typed { Answers (λ b. (tested_tree b, checker_of checker.new)) result (tested_typed (checker_of checker.old) test.now (λ d. statements_typed d (source_block body.now))) }
-    ensures kept { OnOk result (Keeps checker.old.scope checker.new.scope) }
-{
-    let test = condition(alloc, &checker.scope, test)?;
-    let body = inner(alloc, body, checker)?;
-    Ok((test, body))
 }
 
 /// A `for`, whose name is visible in its body.
@@ -156,20 +178,22 @@ fn tested(
 fn repeat(
     alloc: Global,
     body: &[syntax::Statement],
+    at: usize,
     name: &Name,
     first: &Expression,
     limit: &Expression,
     checker: &mut Checker,
-) -> Result<Action, TypeError>
-    ensures typed { Answers (λ a. (action_tree a, checker_of checker.new)) result (for_typed (checker_of checker.old) name.now.bytes first.now limit.now (λ d. statements_typed d (source_block body.now))) }
+    noted: &mut Option<Fault>,
+) -> Result<Action, AllocError>
+    ensures typed { Notes (λ a. (action_tree a, checker_of checker.new)) noted.old noted.new result (for_typed (checker_of checker.old) at name.now first.now limit.now (λ d. statements_typed d Empty (source_block body.now))) }
     ensures kept { OnOk result (Keeps checker.old.scope checker.new.scope) }
 {
-    let first = integer(alloc, &checker.scope, first)?;
-    let limit = integer(alloc, &checker.scope, limit)?;
+    let first = integer(alloc, &checker.scope, at, first, noted)?;
+    let limit = integer(alloc, &checker.scope, at, limit, noted)?;
     let mark = checker.scope.mark();
     let slot = checker.integer_slot();
-    declare(alloc, checker, name, Entity::LoopVariable(slot))?;
-    let body = statements(alloc, body, checker)?;
+    declare(alloc, checker, name, Entity::LoopVariable(slot), noted)?;
+    let body = statements(alloc, body, checker, noted)?;
     checker.scope.leave(mark);
     Ok(Action::For(slot.name, first, limit, body))
 }

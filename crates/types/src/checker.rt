@@ -1,28 +1,67 @@
 //! What is met on the way through a source.
-ghost use Rattle.std.specs.Prelude.{◌≡◌, length};
-ghost use Rattle.expression_types.specs.Outcome.{Answers};
-ghost use Rattle.types.specs.CheckerTree.{checker_of, declared_in, label_stands, labelled, next_statement};
+ghost use Rattle.std.specs.Prelude.{◌≡◌, suc, IfOk, OnOk};
+ghost use Rattle.expression_types.specs.Noted.{Notes};
+ghost use Rattle.expression_types.specs.ScopeTree.{Keeps};
+ghost use Rattle.types.specs.Checker.{checker_of, condition_slot as slot_of_condition, counted, declared_in, integer_slot as slot_of_integer, labelled, set_slot as slot_of_set};
 
-use expression_types::{Entity, Scope, TypeError};
-use std::alloc::Global;
+use crate::reductions::Reductions;
+use crate::text::between_ends;
+use expression_types::{Entity, Fault, Names, Rule, Scope, note};
+use std::alloc::{AllocError, Global};
 use syntax::Name;
 use typed_tree::{Name as Text, Sequence, Slot};
 
 /// What is visible at a point of the source, and what came before it.
-#[derive(Drop)]
 pub(crate) struct Checker {
     pub(crate) scope: Scope,
-    /// All names that were declared, but for parameters.
+    /// All names that were declared.
     pub(crate) names: Vec<Text>,
-    pub(crate) labels: Vec<Text>,
-    /// How many statements of `main` came before.
-    pub(crate) statements: u64,
+    /// The labels, with `#` at both ends, each with its place.
+    pub(crate) labels: Names<usize>,
+    /// The labels without `#`.
+    pub(crate) label_names: Vec<Text>,
+    /// The places of the labels of the statements of `main` that came before.
+    pub(crate) statements: Vec<Option<usize>>,
+    /// What the edge function around this point writes.
+    pub(crate) writes: Reductions,
+    /// What each edge function writes.
+    pub(crate) written: Vec<Reductions>,
+}
+
+impl Drop for Checker {
+    fn drop(self) {
+        let Checker {
+            scope: _,
+            names: _,
+            labels: _,
+            label_names: _,
+            statements: _,
+            writes: _,
+            written: _,
+        } = self;
+    }
 }
 
 impl Checker {
+    /// The names that were declared, and the labels.
+    pub(crate) fn into_names(self) -> (Vec<Text>, Vec<Text>)
+        ensures { (result.0.items ≡ (checker_of self).names) × (result.1.items ≡ (checker_of self).label_names) }
+    {
+        let Checker {
+            scope: _,
+            names,
+            labels: _,
+            label_names,
+            statements: _,
+            writes: _,
+            written: _,
+        } = self;
+        (names, label_names)
+    }
+
     /// The place of the next integer, for the next name.
     pub(crate) fn integer_slot(&self) -> Slot
-        ensures { result ≡ record { place = self.now.scope.integers; name = length self.now.names.items } }
+        ensures { result ≡ slot_of_integer (checker_of self.now) }
     {
         Slot {
             place: self.scope.integers(),
@@ -32,7 +71,7 @@ impl Checker {
 
     /// The place of the next condition, for the next name.
     pub(crate) fn condition_slot(&self) -> Slot
-        ensures { result ≡ record { place = self.now.scope.conditions; name = length self.now.names.items } }
+        ensures { result ≡ slot_of_condition (checker_of self.now) }
     {
         Slot {
             place: self.scope.conditions(),
@@ -42,7 +81,7 @@ impl Checker {
 
     /// The place of the next variable that is a vertex set, for the next name.
     pub(crate) fn set_slot(&self) -> Slot
-        ensures { result ≡ record { place = self.now.scope.sets; name = length self.now.names.items } }
+        ensures { result ≡ slot_of_set (checker_of self.now) }
     {
         Slot {
             place: self.scope.sets(),
@@ -51,61 +90,53 @@ impl Checker {
     }
 }
 
-/// Makes a name visible and puts it into the table of names. `Refused` where it is visible already.
+/// Makes a name visible, where it is not, and puts it into the table of names.
 pub(crate) fn declare(
     alloc: Global,
     checker: &mut Checker,
     name: &Name,
     entity: Entity,
-) -> Result<(), TypeError>
-    ensures { Answers (λ _. checker_of checker.new) result (declared_in (checker_of checker.old) name.now.bytes entity) }
+    noted: &mut Option<Fault>,
+) -> Result<(), AllocError>
+    ensures declared { Notes (λ _. checker_of checker.new) noted.old noted.new result (declared_in (checker_of checker.old) name.now entity) }
+    ensures kept { OnOk result (Keeps checker.old.scope checker.new.scope) }
 {
-    checker.scope.declare(alloc, name.bytes(), entity)?;
+    checker.scope.declare(alloc, name, entity, noted)?;
     let copy = Sequence::new(Vec::from_slice(alloc, name.bytes())?);
     checker.names.push(copy)?;
     Ok(())
 }
 
-/// The place of a label among all, which it becomes the last of. `Refused` where it stands already.
+/// The place of a label among all, where a statement has one.
 pub(crate) fn label(
     alloc: Global,
     checker: &mut Checker,
     label: &Option<Name>,
-) -> Result<Option<usize>, TypeError>
-    ensures { Answers (λ place. (place, checker_of checker.new)) result (labelled (checker_of checker.old) label.now) }
+    noted: &mut Option<Fault>,
+) -> Result<Option<usize>, AllocError>
+    ensures labelled { Notes (λ place. (place, checker_of checker.new)) noted.old noted.new result (labelled (checker_of checker.old) label.now) }
+    ensures kept { checker.new.scope ≡ checker.old.scope }
 {
     let Some(label) = label else {
         return Ok(None);
     };
-    if has_label(&checker.labels, label.bytes()) {
-        return Err(TypeError::Refused);
+    if let Some(place) = checker.labels.get(label.bytes()) {
+        note(noted, label.at(), Rule::BadLabel);
+        return Ok(Some(place));
     }
     let place = checker.labels.len();
-    let copy = Sequence::new(Vec::from_slice(alloc, label.bytes())?);
-    checker.labels.push(copy)?;
+    let name = between_ends(alloc, label.bytes())?;
+    checker.labels.push(alloc, label.bytes(), place)?;
+    checker.label_names.push(name)?;
     Ok(Some(place))
 }
 
-/// Whether the label stands among these. The time is in proportion to their number.
-fn has_label(labels: &[Text], label: &[u8]) -> bool
-    ensures { result ≡ label_stands label.now labels.now }
+/// The number of the next statement of `main`, which has this label.
+pub(crate) fn count(checker: &mut Checker, label: Option<usize>) -> Result<u64, AllocError>
+    ensures number { IfOk result (λ number. number ≡ suc (checker_of checker.old).statements) }
+    ensures counted { OnOk result (checker_of checker.new ≡ counted (checker_of checker.old)) }
+    ensures kept { checker.new.scope ≡ checker.old.scope }
 {
-    'labels: for other in labels {
-        if other.as_slice() == label {
-            return true;
-        }
-    }
-    false
-}
-
-/// The number of the next statement of `main`, or `NoMemory` where there are too many.
-pub(crate) fn count(checker: &mut Checker) -> Result<u64, TypeError>
-    ensures { Answers (λ number. (number, checker_of checker.new)) result (next_statement (checker_of checker.old)) }
-{
-    let number = checker
-        .statements
-        .checked_add(1)
-        .ok_or(TypeError::NoMemory)?;
-    checker.statements = number;
-    Ok(number)
+    checker.statements.push(label)?;
+    Ok(checker.statements.len() as u64)
 }

@@ -1,30 +1,102 @@
 //! Declarations.
-ghost use Rattle.std.specs.Prelude.{◌≡◌, map};
+ghost use Rattle.std.specs.Prelude.{◌≡◌, [], ◌∷◌, OnOk, Some, false, if◌then◌else◌, map, option_map, pos};
+ghost use Rattle.syntax.specs.SourceTrees.{ParameterTree};
 ghost use Rattle.syntax.specs.SourceViews.{block_tree as source_block, declaration_tree, initial_tree, parameter_tree};
-ghost use Rattle.typed_tree.specs.StepTree.{step_tree};
-ghost use Rattle.expression_types.specs.Outcome.{Answers};
-ghost use Rattle.types.specs.CheckerTree.{checker_of};
-ghost use Rattle.types.specs.Declaration.{declaration_typed, declarations_typed, declare_condition, declare_constant, declare_edges, declare_function, declare_integer, declare_main, declare_on, declare_set, declare_vector, declare_with, declared_of, function_body, has_all, loads_edges};
+ghost use Rattle.typed_tree.specs.BlockTree.{block_tree};
+ghost use Rattle.typed_tree.specs.ProgramTree.{call_tree, program_tree};
+ghost use Rattle.types.specs.Program.{program_tree_of};
+ghost use Rattle.typed_tree.specs.StepTree.{function_tree, steps_tree};
+ghost use Rattle.expression_types.specs.ScopeTree.{Keeps};
+ghost use Rattle.expression_types.specs.Faults.{earlier};
+ghost use Rattle.expression_types.specs.Noted.{Notes, outcome};
+ghost use Rattle.types.specs.Initial.{Broken, is_sound};
+ghost use Rattle.types.specs.Checker.{checker_of};
+ghost use Rattle.types.specs.Declaration.{declaration_typed, declarations_typed, declare_condition, declare_constant, declare_constant_as, declare_edges, declare_integer, declare_name, declare_set, declare_vector, declared_of, edge_function_declared, function_declared, has_all, begins, inside_of, is_bool as bool_type, is_vertex as vertex_type, kind as kind_by, literal_or_fault, kind_fits, kind_of as kind_by_parameters, loads, main_declared, opened, only_edges, parameter, parameters_declared, result_declared, result_entity, steps_declared, with_main};
+ghost use Rattle.types.specs.Given.{given_tree};
+ghost use Rattle.types.specs.Kind.{kind_tree};
+ghost use Rattle.types.specs.Literal.{literal_condition, literal_integer};
 
-use crate::block::inner;
+use crate::block::statements;
 use crate::checker::{Checker, declare};
-use crate::initial::all_of;
+use crate::initial::{Given, read_initial};
 use crate::literal::{condition_literal, integer_literal};
+use crate::reductions::Reductions;
 use crate::step::steps;
-use expression_types::{Entity, Scope, TypeError};
-use std::alloc::Global;
+use expression_types::{Entity, Fault, Inside, Rule, note};
+use std::alloc::{AllocError, Global};
 use syntax::{Declaration, DeclaredType, Initial, Name, Parameter};
-use typed_tree::{Beginning, Endpoint, SetValue, Slot, Statement, Step, Vector, VertexFunction};
+use typed_tree::{
+    Beginning, Endpoint, Function, ScheduleCall, Slot, Statement, Step, Typed, Vector,
+};
 
 /// What was declared so far.
-#[derive(Drop)]
 pub(crate) struct Declared {
     pub(crate) checker: Checker,
     pub(crate) edges: Option<usize>,
     pub(crate) vectors: Vec<Vector>,
     pub(crate) sets: Vec<usize>,
-    pub(crate) functions: Vec<VertexFunction>,
+    pub(crate) edge_functions: Vec<Function>,
+    pub(crate) vertex_functions: Vec<Function>,
+    pub(crate) filters: Vec<Function>,
     pub(crate) main: Option<Vec<Statement>>,
+}
+
+impl Drop for Declared {
+    fn drop(self) {
+        let Declared {
+            checker: _,
+            edges: _,
+            vectors: _,
+            sets: _,
+            edge_functions: _,
+            vertex_functions: _,
+            filters: _,
+            main: _,
+        } = self;
+    }
+}
+
+impl Declared {
+    /// The program of what was declared, with these statements to run and this schedule.
+    pub(crate) fn into_program(self, main: Vec<Statement>, schedule: Vec<ScheduleCall>) -> Typed
+        ensures { program_tree result ≡ program_tree_of (declared_of self) (block_tree main.items) (map call_tree schedule.items) }
+    {
+        let Declared {
+            checker,
+            edges,
+            vectors,
+            sets,
+            edge_functions,
+            vertex_functions,
+            filters,
+            main: _,
+        } = self;
+        let (names, labels) = checker.into_names();
+        Typed {
+            names,
+            labels,
+            edges,
+            vectors,
+            sets,
+            edge_functions,
+            vertex_functions,
+            filters,
+            main,
+            schedule,
+        }
+    }
+}
+
+/// What a function is, by its name, its parameters and its result.
+#[derive(Clone, Copy)]
+pub(crate) enum Kind {
+    /// The function that is run, and whether it has neither parameters nor a result.
+    Main(bool),
+    Edge,
+    Vertex,
+    Filter,
+    /// None of these.
+    Other,
 }
 
 /// All declarations, in the order of the text.
@@ -32,11 +104,12 @@ pub(crate) fn declare_all(
     alloc: Global,
     declarations: &[Declaration],
     declared: &mut Declared,
-) -> Result<(), TypeError>
-    ensures { Answers (λ _. declared_of declared.new) result (declarations_typed (declared_of declared.old) (map declaration_tree declarations.now)) }
+    noted: &mut Option<Fault>,
+) -> Result<(), AllocError>
+    ensures { Notes (λ _. declared_of declared.new) noted.old noted.new result (declarations_typed (declared_of declared.old) (map declaration_tree declarations.now)) }
 {
     'declarations: for declaration in declarations {
-        declare_one(alloc, declaration, declared)?;
+        declare_one(alloc, declaration, declared, noted)?;
     }
     Ok(())
 }
@@ -45,132 +118,210 @@ fn declare_one(
     alloc: Global,
     declaration: &Declaration,
     declared: &mut Declared,
-) -> Result<(), TypeError>
-    ensures { Answers (λ _. declared_of declared.new) result (declaration_typed (declared_of declared.old) (declaration_tree declaration.now)) }
+    noted: &mut Option<Fault>,
+) -> Result<(), AllocError>
+    ensures { Notes (λ _. declared_of declared.new) noted.old noted.new result (declaration_typed (declared_of declared.old) (declaration_tree declaration.now)) }
 {
     match declaration {
         Declaration::Constant {
+            at,
             constant,
             initial,
-            ..
-        } => constant_of(alloc, constant, initial, declared),
+        } => constant_of(alloc, *at, constant, initial, declared, noted),
         Declaration::Function {
+            at,
             name,
             parameters,
             result: gives,
             body,
-            ..
         } => {
-            if gives.is_some() {
-                return Err(TypeError::Refused);
+            match kind_of(name.bytes(), parameters, gives) {
+                Kind::Main(fits) => {
+                    main_function(alloc, fits, name, parameters, gives, body, declared, noted)
+                }
+                other => function(
+                    alloc, *at, other, name, parameters, gives, body, declared, noted,
+                ),
             }
-            function(alloc, name, parameters, body, declared)
         }
     }
 }
 
+/// Makes a name visible, and puts it into the table of names.
+fn name_is(
+    alloc: Global,
+    name: &Name,
+    entity: Entity,
+    declared: &mut Declared,
+    noted: &mut Option<Fault>,
+) -> Result<(), AllocError>
+    ensures { Notes (λ _. declared_of declared.new) noted.old noted.new result (declare_name (declared_of declared.old) name.now entity) }
+{
+    declare(alloc, &mut declared.checker, name, entity, noted)
+}
+
 fn constant_of(
     alloc: Global,
+    at: usize,
     constant: &Parameter,
     initial: &Initial,
     declared: &mut Declared,
-) -> Result<(), TypeError>
-    ensures { Answers (λ _. declared_of declared.new) result (declare_constant constant.now.declared (declared_of declared.old) constant.now.name.bytes (initial_tree initial.now)) }
+    noted: &mut Option<Fault>,
+) -> Result<(), AllocError>
+    ensures { Notes (λ _. declared_of declared.new) noted.old noted.new result (declare_constant (declared_of declared.old) at (parameter_tree constant.now) (initial_tree initial.now)) }
 {
+    let given = read_initial(alloc, &declared.checker, at, initial, noted)?;
+    constant_given(alloc, at, constant, initial, given, declared, noted)
+}
+
+fn constant_given(
+    alloc: Global,
+    at: usize,
+    constant: &Parameter,
+    initial: &Initial,
+    given: Given,
+    declared: &mut Declared,
+    noted: &mut Option<Fault>,
+) -> Result<(), AllocError>
+    ensures { Notes (λ _. declared_of declared.new) noted.old noted.new result (declare_constant_as (declared_of declared.old) at constant.now.name (initial_tree initial.now) constant.now.declared (given_tree given)) }
+{
+    let name = &constant.name;
     match constant.declared {
-        DeclaredType::Int => integer(alloc, &constant.name, initial, declared),
-        DeclaredType::Bool => condition(alloc, &constant.name, initial, declared),
-        DeclaredType::Vertex => Err(TypeError::Refused),
-        DeclaredType::VertexSet => set(alloc, &constant.name, initial, declared),
-        DeclaredType::Vector => vector(alloc, &constant.name, initial, declared),
-        DeclaredType::EdgeSet => edges(alloc, &constant.name, initial, declared),
+        DeclaredType::Int => integer(alloc, at, name, initial, given, declared, noted),
+        DeclaredType::Bool => condition(alloc, at, name, initial, given, declared, noted),
+        DeclaredType::Vertex => {
+            note(noted, at, Rule::WrongType);
+            name_is(alloc, name, Entity::Unclear, declared, noted)
+        }
+        DeclaredType::VertexSet => set(alloc, at, name, given, declared, noted),
+        DeclaredType::Vector => vector(alloc, at, name, initial, given, declared, noted),
+        DeclaredType::EdgeSet => edges(alloc, at, name, given, declared, noted),
+    }
+}
+
+/// Notes that a value is no literal, where no part of it is faulty.
+fn note_unless_broken(at: usize, given: &Given, noted: &mut Option<Fault>)
+    ensures { noted.new ≡ (if is_sound (given_tree given.now) then Some (earlier noted.old (record { at = at; rule = Rule.WrongType })) else noted.old) }
+{
+    if given.is_sound() {
+        note(noted, at, Rule::WrongType);
     }
 }
 
 fn integer(
     alloc: Global,
+    at: usize,
     name: &Name,
     initial: &Initial,
+    given: Given,
     declared: &mut Declared,
-) -> Result<(), TypeError>
-    ensures { Answers (λ _. declared_of declared.new) result (declare_integer (declared_of declared.old) name.now.bytes (initial_tree initial.now)) }
+    noted: &mut Option<Fault>,
+) -> Result<(), AllocError>
+    ensures { Notes (λ _. declared_of declared.new) noted.old noted.new result (declare_integer (declared_of declared.old) at name.now (given_tree given) (initial_tree initial.now)) }
 {
-    let Some(n) = integer_literal(initial) else {
-        return Err(TypeError::Refused);
-    };
+    let value = literal(at, given, initial, noted);
     let place = declared.checker.names.len();
-    declare(
+    name_is(
         alloc,
-        &mut declared.checker,
         name,
-        Entity::IntegerConstant(place, n),
+        Entity::IntegerConstant(place, value),
+        declared,
+        noted,
     )
+}
+
+/// The number that a constant is. The fault is noted where it is none.
+fn literal(at: usize, given: Given, initial: &Initial, noted: &mut Option<Fault>) -> i64
+    ensures { outcome noted.old (literal_or_fault at (is_sound (given_tree given)) (pos 0) (literal_integer (initial_tree initial.now))) ≡ (result, noted.new) }
+{
+    match integer_literal(initial) {
+        Some(n) => n,
+        None => {
+            note_unless_broken(at, &given, noted);
+            0
+        }
+    }
 }
 
 fn condition(
     alloc: Global,
+    at: usize,
     name: &Name,
     initial: &Initial,
+    given: Given,
     declared: &mut Declared,
-) -> Result<(), TypeError>
-    ensures { Answers (λ _. declared_of declared.new) result (declare_condition (declared_of declared.old) name.now.bytes (initial_tree initial.now)) }
+    noted: &mut Option<Fault>,
+) -> Result<(), AllocError>
+    ensures { Notes (λ _. declared_of declared.new) noted.old noted.new result (declare_condition (declared_of declared.old) at name.now (given_tree given) (initial_tree initial.now)) }
 {
-    let Some(b) = condition_literal(initial) else {
-        return Err(TypeError::Refused);
-    };
+    let value = truth_literal(at, given, initial, noted);
     let place = declared.checker.names.len();
-    declare(
+    name_is(
         alloc,
-        &mut declared.checker,
         name,
-        Entity::ConditionConstant(place, b),
+        Entity::ConditionConstant(place, value),
+        declared,
+        noted,
     )
+}
+
+/// The truth value that a constant is. The fault is noted where it is none.
+fn truth_literal(at: usize, given: Given, initial: &Initial, noted: &mut Option<Fault>) -> bool
+    ensures { outcome noted.old (literal_or_fault at (is_sound (given_tree given)) false (literal_condition (initial_tree initial.now))) ≡ (result, noted.new) }
+{
+    match condition_literal(initial) {
+        Some(b) => b,
+        None => {
+            note_unless_broken(at, &given, noted);
+            false
+        }
+    }
 }
 
 fn set(
     alloc: Global,
+    at: usize,
     name: &Name,
-    initial: &Initial,
+    given: Given,
     declared: &mut Declared,
-) -> Result<(), TypeError>
-    ensures { Answers (λ _. declared_of declared.new) result (declare_set (declared_of declared.old) name.now.bytes (initial_tree initial.now)) }
+    noted: &mut Option<Fault>,
+) -> Result<(), AllocError>
+    ensures { Notes (λ _. declared_of declared.new) noted.old noted.new result (declare_set (declared_of declared.old) at name.now (given_tree given)) }
 {
-    let _all = all(&declared.checker.scope, initial)?;
+    want_all(at, given, noted);
     let slot = Slot {
         place: declared.sets.len(),
         name: declared.checker.names.len(),
     };
-    let entity = Entity::ConstantSet(slot);
-    declare(alloc, &mut declared.checker, name, entity)?;
+    name_is(alloc, name, Entity::ConstantSet(slot), declared, noted)?;
     declared.sets.push(slot.name)?;
     Ok(())
 }
 
-/// All vertices, which a constant set has.
-fn all(scope: &Scope, initial: &Initial) -> Result<SetValue, TypeError>
-    ensures { Answers (λ set. set) result (has_all scope.now (initial_tree initial.now)) }
+/// Notes the fault where a constant set is not given all vertices.
+fn want_all(at: usize, given: Given, noted: &mut Option<Fault>)
+    ensures { outcome noted.old (has_all at (given_tree given)) ≡ (Broken, noted.new) }
 {
-    match initial {
-        Initial::Vertices(edges) => all_of(scope, edges),
-        _ => Err(TypeError::Refused),
+    if given.is_sound() && !given.is_all() {
+        note(noted, at, Rule::WrongType);
     }
 }
 
 fn vector(
     alloc: Global,
+    at: usize,
     name: &Name,
     initial: &Initial,
+    given: Given,
     declared: &mut Declared,
-) -> Result<(), TypeError>
-    ensures { Answers (λ _. declared_of declared.new) result (declare_vector (declared_of declared.old) name.now.bytes (initial_tree initial.now)) }
+    noted: &mut Option<Fault>,
+) -> Result<(), AllocError>
+    ensures { Notes (λ _. declared_of declared.new) noted.old noted.new result (declare_vector (declared_of declared.old) at name.now (given_tree given) (initial_tree initial.now)) }
 {
-    let Some(n) = integer_literal(initial) else {
-        return Err(TypeError::Refused);
-    };
+    let beginning = beginning_of(at, given, initial, noted);
     let place = declared.checker.names.len();
     let entity = Entity::Vector(declared.vectors.len());
-    declare(alloc, &mut declared.checker, name, entity)?;
-    let beginning = Beginning::Number(n);
+    name_is(alloc, name, entity, declared, noted)?;
     declared.vectors.push(Vector {
         name: place,
         beginning,
@@ -178,126 +329,323 @@ fn vector(
     Ok(())
 }
 
+/// What a vector begins with. The fault is noted where it is nothing that one can.
+fn beginning_of(at: usize, given: Given, initial: &Initial, noted: &mut Option<Fault>) -> Beginning
+    ensures { outcome noted.old (begins at (given_tree given) (initial_tree initial.now)) ≡ (result, noted.new) }
+{
+    if given.is_degrees() {
+        return Beginning::OutDegrees;
+    }
+    Beginning::Number(literal(at, given, initial, noted))
+}
+
 fn edges(
     alloc: Global,
+    at: usize,
     name: &Name,
-    initial: &Initial,
+    given: Given,
     declared: &mut Declared,
-) -> Result<(), TypeError>
-    ensures { Answers (λ _. declared_of declared.new) result (declare_edges (declared_of declared.old) name.now.bytes (initial_tree initial.now)) }
+    noted: &mut Option<Fault>,
+) -> Result<(), AllocError>
+    ensures { Notes (λ _. declared_of declared.new) noted.old noted.new result (declare_edges (declared_of declared.old) at name.now (given_tree given)) }
 {
-    if !loads(initial) || declared.edges.is_some() {
-        return Err(TypeError::Refused);
-    }
+    want_loaded(at, given, noted);
     let place = declared.checker.names.len();
-    declare(alloc, &mut declared.checker, name, Entity::Edges)?;
-    declared.edges = Some(place);
+    let first = only(name, place, declared.edges, noted);
+    name_is(alloc, name, Entity::Edges, declared, noted)?;
+    declared.edges = first;
     Ok(())
 }
 
-/// Whether the edges are loaded from the first argument.
-fn loads(initial: &Initial) -> bool
-    ensures { result ≡ loads_edges (initial_tree initial.now) }
+/// Notes the fault where a constant edgeset is not loaded.
+fn want_loaded(at: usize, given: Given, noted: &mut Option<Fault>)
+    ensures { outcome noted.old (loads at (given_tree given)) ≡ (Broken, noted.new) }
 {
-    match initial {
-        Initial::Load(argument) => *argument == 1,
+    if given.is_sound() && !given.is_loaded() {
+        note(noted, at, Rule::WrongType);
+    }
+}
+
+/// The place of the edges' name: the first there is. The fault is noted where there was one.
+fn only(name: &Name, place: usize, edges: Option<usize>, noted: &mut Option<Fault>) -> Option<usize>
+    ensures { outcome noted.old (only_edges name.now place edges) ≡ (result, noted.new) }
+{
+    match edges {
+        None => Some(place),
+        Some(first) => {
+            note(noted, name.at(), Rule::Redeclared);
+            Some(first)
+        }
+    }
+}
+
+/// What a function is, by its name, its parameters and its result.
+fn kind_of(name: &[u8], parameters: &[Parameter], gives: &Option<Parameter>) -> Kind
+    ensures { kind_tree result ≡ kind_by name.now (map parameter_tree parameters.now) (option_map parameter_tree gives.now) }
+{
+    if name == b"main".as_slice() {
+        return Kind::Main(parameters.is_empty() && gives.is_none());
+    }
+    kind_by_signature(parameters, gives)
+}
+
+/// What a function is that is not the one that is run.
+fn kind_by_signature(parameters: &[Parameter], gives: &Option<Parameter>) -> Kind
+    ensures { kind_tree result ≡ kind_by_parameters (map parameter_tree parameters.now) (option_map parameter_tree gives.now) }
+{
+    let Some((first, others)) = parameters.split_first() else {
+        return Kind::Other;
+    };
+    let Some((second, more)) = others.split_first() else {
+        return kind_on_vertex(first.declared, gives);
+    };
+    if more.is_empty()
+        && gives.is_none()
+        && is_vertex(first.declared)
+        && is_vertex(second.declared)
+    {
+        Kind::Edge
+    } else {
+        Kind::Other
+    }
+}
+
+/// What a function of one parameter is.
+fn kind_on_vertex(parameter: DeclaredType, gives: &Option<Parameter>) -> Kind
+    ensures { (p : ParameterTree) → p.declared ≡ parameter → kind_tree result ≡ kind_by_parameters (p ∷ []) (option_map parameter_tree gives.now) }
+{
+    if !is_vertex(parameter) {
+        return Kind::Other;
+    }
+    match gives {
+        None => Kind::Vertex,
+        Some(gives) => {
+            if is_bool(gives.declared) {
+                Kind::Filter
+            } else {
+                Kind::Other
+            }
+        }
+    }
+}
+
+fn is_vertex(declared: DeclaredType) -> bool
+    ensures { result ≡ vertex_type declared }
+{
+    match declared {
+        DeclaredType::Vertex => true,
         _ => false,
     }
 }
 
-/// A function without result.
-fn function(
-    alloc: Global,
-    name: &Name,
-    parameters: &[Parameter],
-    body: &[syntax::Statement],
-    declared: &mut Declared,
-) -> Result<(), TypeError>
-    ensures { Answers (λ _. declared_of declared.new) result (declare_with (declared_of declared.old) name.now.bytes (map parameter_tree parameters.now) (source_block body.now)) }
+fn is_bool(declared: DeclaredType) -> bool
+    ensures { result ≡ bool_type declared }
 {
-    match parameters.first() {
-        None => {
-            if name.bytes() != b"main".as_slice() {
-                return Err(TypeError::Refused);
-            }
-            main_function(alloc, name, body, declared)
-        }
-        Some(parameter) => {
-            if parameters.len() != 1 {
-                return Err(TypeError::Refused);
-            }
-            function_on(alloc, name, parameter, body, declared)
+    match declared {
+        DeclaredType::Bool => true,
+        _ => false,
+    }
+}
+
+/// Where the statements of a function stand.
+fn inside(kind: Kind) -> Inside
+    ensures { result ≡ inside_of (kind_tree kind) }
+{
+    match kind {
+        Kind::Main(_) => Inside::Main,
+        Kind::Edge => Inside::EdgeFunction,
+        Kind::Vertex | Kind::Other => Inside::VertexFunction,
+        Kind::Filter => Inside::Filter,
+    }
+}
+
+/// Goes into a function: its parameters and its result become visible.
+fn open(
+    alloc: Global,
+    kind: Kind,
+    parameters: &[Parameter],
+    gives: &Option<Parameter>,
+    checker: &mut Checker,
+    noted: &mut Option<Fault>,
+) -> Result<(), AllocError>
+    ensures opened { Notes (λ _. checker_of checker.new) noted.old noted.new result (opened (checker_of checker.old) (kind_tree kind) (map parameter_tree parameters.now) (option_map parameter_tree gives.now)) }
+    ensures kept { OnOk result (Keeps checker.old.scope checker.new.scope) }
+{
+    checker.scope.enter(inside(kind));
+    checker.writes = Reductions::new(alloc);
+    declare_parameters(alloc, parameters, checker, noted)?;
+    declare_result(alloc, kind, gives, checker, noted)
+}
+
+fn declare_parameters(
+    alloc: Global,
+    parameters: &[Parameter],
+    checker: &mut Checker,
+    noted: &mut Option<Fault>,
+) -> Result<(), AllocError>
+    ensures declared { Notes (λ _. checker_of checker.new) noted.old noted.new result (parameters_declared (checker_of checker.old) Endpoint.Source (map parameter_tree parameters.now)) }
+    ensures kept { OnOk result (Keeps checker.old.scope checker.new.scope) }
+{
+    let mut endpoint = Endpoint::Source;
+    'parameters: for parameter in parameters {
+        let entity = parameter_entity(endpoint, parameter.declared);
+        declare(alloc, checker, &parameter.name, entity, noted)?;
+        endpoint = Endpoint::Destination;
+    }
+    Ok(())
+}
+
+fn parameter_entity(endpoint: Endpoint, declared: DeclaredType) -> Entity
+    ensures { result ≡ parameter endpoint declared }
+{
+    if is_vertex(declared) {
+        Entity::Parameter(endpoint)
+    } else {
+        Entity::Unclear
+    }
+}
+
+fn declare_result(
+    alloc: Global,
+    kind: Kind,
+    gives: &Option<Parameter>,
+    checker: &mut Checker,
+    noted: &mut Option<Fault>,
+) -> Result<(), AllocError>
+    ensures declared { Notes (λ _. checker_of checker.new) noted.old noted.new result (result_declared (checker_of checker.old) (kind_tree kind) (option_map parameter_tree gives.now)) }
+    ensures kept { OnOk result (Keeps checker.old.scope checker.new.scope) }
+{
+    match gives {
+        None => Ok(()),
+        Some(gives) => {
+            let entity = entity_of_result(checker, kind);
+            declare(alloc, checker, &gives.name, entity, noted)
         }
     }
 }
 
+fn entity_of_result(checker: &Checker, kind: Kind) -> Entity
+    ensures { result ≡ result_entity (checker_of checker.now) (kind_tree kind) }
+{
+    match kind {
+        Kind::Filter => Entity::ConditionVariable(checker.condition_slot()),
+        Kind::Main(_) | Kind::Edge | Kind::Vertex | Kind::Other => Entity::Unclear,
+    }
+}
+
+/// The function that is run.
 fn main_function(
     alloc: Global,
+    fits: bool,
     name: &Name,
+    parameters: &[Parameter],
+    gives: &Option<Parameter>,
     body: &[syntax::Statement],
     declared: &mut Declared,
-) -> Result<(), TypeError>
-    ensures { Answers (λ _. declared_of declared.new) result (declare_main (declared_of declared.old) name.now.bytes (source_block body.now)) }
+    noted: &mut Option<Fault>,
+) -> Result<(), AllocError>
+    ensures { Notes (λ _. declared_of declared.new) noted.old noted.new result (main_declared (declared_of declared.old) fits name.now (map parameter_tree parameters.now) (option_map parameter_tree gives.now) (source_block body.now)) }
 {
-    declared.checker.statements = 0;
-    let main = inner(alloc, body, &mut declared.checker)?;
-    declare(alloc, &mut declared.checker, name, Entity::Main)?;
-    declared.main = Some(main);
+    let checker = &mut declared.checker;
+    checker.statements = Vec::new(alloc);
+    let mark = checker.scope.mark();
+    open(alloc, Kind::Main(fits), parameters, gives, checker, noted)?;
+    let body = statements(alloc, body, checker, noted)?;
+    checker.scope.leave(mark);
+    name_is(alloc, name, Entity::Main, declared, noted)?;
+    keep_main(fits, body, declared);
     Ok(())
 }
 
-/// A function with one parameter.
-fn function_on(
-    alloc: Global,
-    name: &Name,
-    parameter: &Parameter,
-    body: &[syntax::Statement],
-    declared: &mut Declared,
-) -> Result<(), TypeError>
-    ensures { Answers (λ _. declared_of declared.new) result (declare_on parameter.now.declared (declared_of declared.old) name.now.bytes parameter.now.name.bytes (source_block body.now)) }
+/// Keeps the statements of the function that is run, where it has neither parameters nor a result.
+fn keep_main(fits: bool, body: Vec<Statement>, declared: &mut Declared)
+    ensures { declared_of declared.new ≡ with_main (declared_of declared.old) fits (block_tree body.items) }
 {
-    match parameter.declared {
-        DeclaredType::Vertex => vertex_function(alloc, name, &parameter.name, body, declared),
-        _ => Err(TypeError::Refused),
+    if fits {
+        declared.main = Some(body);
     }
 }
 
-fn vertex_function(
+/// A function of another kind, or of none.
+fn function(
     alloc: Global,
+    at: usize,
+    kind: Kind,
     name: &Name,
-    parameter: &Name,
+    parameters: &[Parameter],
+    gives: &Option<Parameter>,
     body: &[syntax::Statement],
     declared: &mut Declared,
-) -> Result<(), TypeError>
-    ensures { Answers (λ _. declared_of declared.new) result (declare_function (declared_of declared.old) name.now.bytes parameter.now.bytes (source_block body.now)) }
+    noted: &mut Option<Fault>,
+) -> Result<(), AllocError>
+    ensures { Notes (λ _. declared_of declared.new) noted.old noted.new result (steps_declared (declared_of declared.old) at (kind_tree kind) name.now (map parameter_tree parameters.now) (option_map parameter_tree gives.now) (source_block body.now)) }
 {
-    let steps = within(alloc, parameter, body, &mut declared.checker)?;
-    let place = declared.checker.names.len();
-    let entity = Entity::VertexFunction(declared.functions.len());
-    declare(alloc, &mut declared.checker, name, entity)?;
-    declared
-        .functions
-        .push(VertexFunction { name: place, steps })?;
-    Ok(())
+    want_kind(at, kind, noted);
+    let checker = &mut declared.checker;
+    let mark = checker.scope.mark();
+    open(alloc, kind, parameters, gives, checker, noted)?;
+    let steps = steps(alloc, body, checker, noted)?;
+    checker.scope.leave(mark);
+    function_is(alloc, kind, name, steps, declared, noted)
 }
 
-/// The statements of a function, in which its parameter is visible.
-fn within(
-    alloc: Global,
-    parameter: &Name,
-    body: &[syntax::Statement],
-    checker: &mut Checker,
-) -> Result<Vec<Step>, TypeError>
-    ensures { Answers (λ s. (map step_tree s.items, checker_of checker.new)) result (function_body (checker_of checker.old) parameter.now.bytes (source_block body.now)) }
+/// Notes the fault where a function is of no kind.
+fn want_kind(at: usize, kind: Kind, noted: &mut Option<Fault>)
+    ensures { (outcome noted.old (kind_fits at (kind_tree kind))).1 ≡ noted.new }
 {
-    let mark = checker.scope.mark();
-    checker.scope.enter_function();
-    checker.scope.declare(
-        alloc,
-        parameter.bytes(),
-        Entity::Parameter(Endpoint::Source),
-    )?;
-    let steps = steps(alloc, body, checker)?;
-    checker.scope.leave(mark);
-    Ok(steps)
+    match kind {
+        Kind::Other => note(noted, at, Rule::WrongType),
+        Kind::Main(_) | Kind::Edge | Kind::Vertex | Kind::Filter => {}
+    }
+}
+
+/// Makes a function visible behind its statements.
+fn function_is(
+    alloc: Global,
+    kind: Kind,
+    name: &Name,
+    steps: Vec<Step>,
+    declared: &mut Declared,
+    noted: &mut Option<Fault>,
+) -> Result<(), AllocError>
+    ensures { Notes (λ _. declared_of declared.new) noted.old noted.new result (function_declared (declared_of declared.old) (kind_tree kind) name.now (steps_tree steps.items)) }
+{
+    let function = Function {
+        name: declared.checker.names.len(),
+        steps,
+    };
+    match kind {
+        Kind::Edge => edge_function(alloc, name, function, declared, noted),
+        Kind::Vertex => {
+            let entity = Entity::VertexFunction(declared.vertex_functions.len());
+            name_is(alloc, name, entity, declared, noted)?;
+            declared.vertex_functions.push(function)?;
+            Ok(())
+        }
+        Kind::Filter => {
+            let entity = Entity::Filter(declared.filters.len());
+            name_is(alloc, name, entity, declared, noted)?;
+            declared.filters.push(function)?;
+            Ok(())
+        }
+        Kind::Main(_) | Kind::Other => name_is(alloc, name, Entity::Unclear, declared, noted),
+    }
+}
+
+/// Makes an edge function visible, and keeps what it writes.
+fn edge_function(
+    alloc: Global,
+    name: &Name,
+    function: Function,
+    declared: &mut Declared,
+    noted: &mut Option<Fault>,
+) -> Result<(), AllocError>
+    ensures { Notes (λ _. declared_of declared.new) noted.old noted.new result (edge_function_declared (declared_of declared.old) name.now (function_tree function)) }
+{
+    let entity = Entity::EdgeFunction(declared.edge_functions.len());
+    name_is(alloc, name, entity, declared, noted)?;
+    declared.edge_functions.push(function)?;
+    let writes = std::mem::replace(&mut declared.checker.writes, Reductions::new(alloc));
+    declared.checker.written.push(writes)?;
+    Ok(())
 }

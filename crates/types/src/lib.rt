@@ -1,34 +1,32 @@
-//! The checker: it makes of a source the program that it is, with all names resolved, or refuses it.
+//! From a source to a checked program.
 //!
-//! `specs/` says which program a source has: `Initial` what a variable may be set to, `Literal` what a
-//! constant may be, `Statement` and `Block` the statements of `main`, `Step` those of other functions,
-//! `Declaration` what is declared, and `Program` the whole (`program_of`). The definitions go through
-//! the source in the order of the text and carry what is met: the visible names, the table of all
-//! declared names, the labels, and how many statements of `main` came before
-//! (`specs/CheckerTree.antt`). Constants and functions are visible from the end of their declaration to
-//! the end of the text, a variable from the end of its declaration to the end of its block, the name of
-//! a `for` in its body, parameters in their function. No name is declared that is visible already, and
-//! each label of the source stands once.
+//! [`check`] resolves all names and gives each expression its type. `specs/Program.antt` says which program a
+//! source is and which faults it has: each definition gives a value and the list of the faults on the way to it
+//! (`Noted` of `expression_types`), and goes on behind a fault, with something harmless in the place of what is
+//! faulty. `check` answers with the program exactly where the list is empty, and else with the least fault of it:
+//! that with the least offset, and of several there that with the least number. The code keeps one fault, the
+//! least so far.
 //!
-//! [`check`] gives that program, and refuses exactly the sources that have none. For now these forms
-//! have no program: edge functions, filters and what belongs to them (`from`, `to`, `applyModified`,
-//! `filter`), `getOutDegrees`, and `var`, `if` and assigned variables in functions. The schedule is
-//! passed over. `statements_are_numbered_in_order` is a law of the definitions, that the statements of
-//! `main` are numbered from 1 in the order of the text; it does nothing when called.
-//!
-//! The compiler stands on this crate.
+//! One file has one kind of things: declarations, statements of `main` without blocks, their blocks, statements of
+//! functions without blocks, their blocks, initial values, literals, schedules.
 #![tactic(auto)]
 
 mod block;
 mod checker;
 mod declaration;
+mod error;
+mod function;
 mod initial;
 mod laws;
 mod literal;
 mod program;
+mod reductions;
+mod schedule;
 mod statement;
 mod step;
+mod text;
+mod wanted;
 
-pub use expression_types::TypeError;
-pub use laws::statements_are_numbered_in_order;
+pub use error::CheckError;
+pub use laws::edge_functions_only_reduce;
 pub use program::check;

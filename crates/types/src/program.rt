@@ -1,49 +1,89 @@
 //! Whole sources.
-ghost use Rattle.std.specs.Prelude.{◌≡◌, ◌+◌, List, ◌∷◌, Some, map};
+ghost use Rattle.std.specs.Prelude.{◌≡◌, ◌+◌, ◌≤◌, ◌^◌, List, ◌∷◌, None, map};
 ghost use Rattle.syntax.specs.SourceTrees.{DeclarationTree};
 ghost use Rattle.syntax.specs.SourceViews.{declaration_tree, source_tree};
+ghost use Rattle.typed_tree.specs.BlockTree.{block_tree};
 ghost use Rattle.typed_tree.specs.ProgramTree.{program_tree};
-ghost use Rattle.expression_types.specs.Outcome.{Answers};
+ghost use Rattle.expression_types.specs.Noted.{Notes, outcome};
 ghost use Rattle.types.specs.Declaration.{declared_of};
-ghost use Rattle.types.specs.Program.{opening, program_of, set_count, with_main};
+ghost use Rattle.types.specs.Program.{Answers, main_of, opening, program_of, set_count};
 
 use crate::checker::Checker;
 use crate::declaration::{Declared, declare_all};
-use expression_types::{Scope, TypeError};
-use std::alloc::Global;
+use crate::error::CheckError;
+use crate::reductions::Reductions;
+use crate::schedule::calls;
+use expression_types::{Fault, Names, Rule, Scope, note};
+use std::alloc::{AllocError, Global};
 use syntax::{Declaration, DeclaredType, Source};
-use typed_tree::Typed;
+use typed_tree::{Statement, Typed};
 
 /// The program that a source is, with all names resolved.
 ///
-/// The error is `Refused` where the source breaks a rule of types, or holds a form that programs do not
-/// have yet, and `NoMemory` where memory runs out. Each use of a name takes time in proportion to the
-/// number of names that are visible there.
-pub fn check(alloc: Global, source: &Source) -> Result<Typed, TypeError>
-    ensures { Answers program_tree result (program_of (source_tree source.now)) }
+/// The error is `Faulty` where the source breaks a rule of types: of all faults the one with the least offset,
+/// and of several there the one with the least number; and `NoMemory` where memory runs out. The time is in
+/// proportion to the source.
+pub fn check(alloc: Global, source: &Source) -> Result<Typed, CheckError>
+    ensures { Answers (source_tree source.now) source.now.length result }
 {
-    let sets = count_sets(&source.declarations)?;
-    let mut declared = empty(alloc, sets);
-    declare_all(alloc, &source.declarations, &mut declared)?;
-    finish(declared)
+    let mut noted = None;
+    let program = type_source(alloc, source, &mut noted)?;
+    match noted {
+        Some(fault) => Err(CheckError::Faulty(fault)),
+        None => Ok(program),
+    }
 }
 
-/// How many constant vertex sets there are, or `NoMemory` where there are too many.
-fn count_sets(declarations: &[Declaration]) -> Result<usize, TypeError>
-    ensures { Answers (λ n. n) result (Some (set_count (map declaration_tree declarations.now))) }
+/// The program that a source is. Its faults are noted.
+fn type_source(
+    alloc: Global,
+    source: &Source,
+    noted: &mut Option<Fault>,
+) -> Result<Typed, AllocError>
+    ensures { Notes program_tree noted.old noted.new result (program_of (source_tree source.now) source.now.length) }
+{
+    let mut declared = empty(alloc, count_sets(&source.declarations));
+    declare_all(alloc, &source.declarations, &mut declared, noted)?;
+    let schedule = calls(alloc, &source.schedule)?;
+    let main = main_in(alloc, source.length, &mut declared, noted);
+    Ok(declared.into_program(main, schedule))
+}
+
+/// The statements of `main`. The fault is noted where there is none.
+fn main_in(
+    alloc: Global,
+    length: usize,
+    declared: &mut Declared,
+    noted: &mut Option<Fault>,
+) -> Vec<Statement>
+    ensures main { outcome noted.old (main_of length (declared_of declared.old).main) ≡ (block_tree result.items, noted.new) }
+    ensures others { declared_of declared.new ≡ record (declared_of declared.old) { main = None } }
+{
+    match declared.main.take() {
+        Some(main) => main,
+        None => {
+            note(noted, length, Rule::NoMain);
+            Vec::new(alloc)
+        }
+    }
+}
+
+/// How many constant vertex sets there are.
+fn count_sets(declarations: &[Declaration]) -> usize
+    ensures count { result ≡ set_count (map declaration_tree declarations.now) }
+    ensures few { result ≤ 2 ^ 63 }
 {
     let mut count = 0usize;
     'declarations: for declaration in declarations {
-        count = count
-            .checked_add(sets_of(declaration))
-            .ok_or(TypeError::NoMemory)?;
+        count += sets_of(declaration);
     }
-    Ok(count)
+    count
 }
 
 /// 1 for a constant vertex set, 0 for all else.
 fn sets_of(declaration: &Declaration) -> usize
-    ensures { (others : List DeclarationTree) → set_count (declaration_tree declaration.now ∷ others) ≡ result + set_count others }
+    ensures sets { (others : List DeclarationTree) → set_count (declaration_tree declaration.now ∷ others) ≡ result + set_count others }
+    ensures few { result ≤ 1 }
 {
     match declaration {
         Declaration::Constant { constant, .. } => match constant.declared {
@@ -56,44 +96,25 @@ fn sets_of(declaration: &Declaration) -> usize
 
 /// Before the first declaration of a program with so many constant vertex sets.
 fn empty(alloc: Global, sets: usize) -> Declared
+    requires { sets ≤ 2 ^ 63 }
     ensures { declared_of result ≡ opening sets }
 {
     Declared {
         checker: Checker {
             scope: Scope::new(alloc, sets),
             names: Vec::new(alloc),
-            labels: Vec::new(alloc),
-            statements: 0,
+            labels: Names::new(alloc),
+            label_names: Vec::new(alloc),
+            statements: Vec::new(alloc),
+            writes: Reductions::new(alloc),
+            written: Vec::new(alloc),
         },
         edges: None,
         vectors: Vec::new(alloc),
         sets: Vec::new(alloc),
-        functions: Vec::new(alloc),
+        edge_functions: Vec::new(alloc),
+        vertex_functions: Vec::new(alloc),
+        filters: Vec::new(alloc),
         main: None,
-    }
-}
-
-/// The program of what was declared, which needs a function that is run.
-fn finish(declared: Declared) -> Result<Typed, TypeError>
-    ensures { Answers program_tree result (with_main (declared_of declared) (declared_of declared).main) }
-{
-    let Declared {
-        checker,
-        edges,
-        vectors,
-        sets,
-        functions,
-        main,
-    } = declared;
-    match main {
-        None => Err(TypeError::Refused),
-        Some(main) => Ok(Typed {
-            names: checker.names,
-            edges,
-            vectors,
-            sets,
-            vertex_functions: functions,
-            main,
-        }),
     }
 }

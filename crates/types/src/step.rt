@@ -1,80 +1,219 @@
-//! Statements of vertex functions.
-ghost use Rattle.std.specs.Prelude.{◌≡◌, map, OnOk};
+//! Statements of functions. Where one is faulty, or no function may hold it, a harmless one stands in its place.
+ghost use Rattle.std.specs.Prelude.{◌≡◌, OnOk};
 ghost use Rattle.syntax.specs.SourceViews.{action_tree as source_action, block_tree as source_block};
-ghost use Rattle.typed_tree.specs.StepTree.{step_tree};
-ghost use Rattle.expression_types.specs.Outcome.{Answers};
+ghost use Rattle.typed_tree.specs.StepTree.{NoStep, step_tree, steps_tree};
+ghost use Rattle.expression_types.specs.Noted.{Notes};
 ghost use Rattle.expression_types.specs.ScopeTree.{Keeps};
-ghost use Rattle.expression_types.specs.ValueTree.{value_tree};
-ghost use Rattle.types.specs.CheckerTree.{checker_of};
-ghost use Rattle.types.specs.Step.{own_entry, own_vertex, step_typed, steps_typed};
+ghost use Rattle.types.specs.Checker.{checker_of};
+ghost use Rattle.types.specs.Plain.{DeclaresNothing};
+ghost use Rattle.types.specs.Step.{labelled_step, no_for, step_typed, steps_inside, steps_typed};
 
-use crate::checker::{Checker, label};
-use crate::initial::integer;
-use crate::statement::{reduction, vector};
-use expression_types::{Scope, TypeError, Value, type_expression};
-use std::alloc::Global;
-use syntax::{Action, Expression, Name, Statement};
-use typed_tree::{Endpoint, Step};
+use crate::checker::{Checker, declare, label};
+use crate::function::{
+    add_vertex, apply, assign, declare_variable, print, reduce, reduce_entry, set_entry, wrong,
+};
+use crate::wanted::{condition, integer};
+use expression_types::{Entity, Fault};
+use std::alloc::{AllocError, Global};
+use syntax::{Action as Written, Expression, Name, Statement};
+use typed_tree::Step;
 
-/// The statements of a function, in order.
+/// Statements in order. What they declare stays visible behind them.
+#[cycle(steps)]
 pub(crate) fn steps(
     alloc: Global,
-    body: &[Statement],
+    block: &[Statement],
     checker: &mut Checker,
-) -> Result<Vec<Step>, TypeError>
-    ensures typed { Answers (λ s. (map step_tree s.items, checker_of checker.new)) result (steps_typed (checker_of checker.old) (source_block body.now)) }
+    noted: &mut Option<Fault>,
+) -> Result<Vec<Step>, AllocError>
+    ensures typed { Notes (λ b. (steps_tree b.items, checker_of checker.new)) noted.old noted.new result (steps_typed (checker_of checker.old) NoStep (source_block block.now)) }
     ensures kept { OnOk result (Keeps checker.old.scope checker.new.scope) }
 {
     let mut typed = Vec::new(alloc);
-    'steps: for statement in body {
-        let _place = label(alloc, checker, &statement.label)?;
-        let next = step(alloc, &statement.action, &checker.scope)?;
+    'statements: for statement in block {
+        let next = one(alloc, statement, checker, noted)?;
         typed.push(next)?;
     }
     Ok(typed)
 }
 
-fn step(alloc: Global, action: &Action, scope: &Scope) -> Result<Step, TypeError>
-    ensures { Answers step_tree result (step_typed scope.now (source_action action.now)) }
+/// One statement.
+#[cycle(steps)]
+fn one(
+    alloc: Global,
+    statement: &Statement,
+    checker: &mut Checker,
+    noted: &mut Option<Fault>,
+) -> Result<Step, AllocError>
+    ensures typed { Notes (λ s. (step_tree s, checker_of checker.new)) noted.old noted.new result (labelled_step (checker_of checker.old) statement.now.label (λ c. step_typed c (source_action statement.now.action))) }
+    ensures kept { OnOk result (Keeps checker.old.scope checker.new.scope) }
+{
+    let _place = label(alloc, checker, &statement.label, noted)?;
+    step(alloc, &statement.action, checker, noted)
+}
+
+/// A block of its own, behind which the names that it declares are forgotten.
+#[cycle(steps)]
+fn inner(
+    alloc: Global,
+    block: &[Statement],
+    checker: &mut Checker,
+    noted: &mut Option<Fault>,
+) -> Result<Vec<Step>, AllocError>
+    ensures typed { Notes (λ b. (steps_tree b.items, checker_of checker.new)) noted.old noted.new result (steps_inside (checker_of checker.old) (source_block block.now)) }
+    ensures kept { OnOk result (Keeps checker.old.scope checker.new.scope) }
+{
+    let mark = checker.scope.mark();
+    let typed = steps(alloc, block, checker, noted)?;
+    checker.scope.leave(mark);
+    Ok(typed)
+}
+
+/// What a statement does.
+#[cycle(steps)]
+fn step(
+    alloc: Global,
+    action: &Written,
+    checker: &mut Checker,
+    noted: &mut Option<Fault>,
+) -> Result<Step, AllocError>
+    ensures typed { Notes (λ s. (step_tree s, checker_of checker.new)) noted.old noted.new result (step_typed (checker_of checker.old) (source_action action.now)) }
+    ensures kept { OnOk result (Keeps checker.old.scope checker.new.scope) }
 {
     match action {
-        Action::SetEntry {
-            vector,
-            index,
-            value,
-        } => {
-            let vector = entry(alloc, scope, vector, index)?;
-            let value = integer(alloc, scope, value)?;
-            Ok(Step::SetEntry(vector, value))
+        Written::Declare {
+            at,
+            variable,
+            initial,
+        } => declare_variable(alloc, checker, *at, variable, initial, noted),
+        Written::While { at, test, body } => {
+            let step = wrong(*at, alloc, noted);
+            let _test = condition(alloc, &checker.scope, *at, test, noted)?;
+            let _body = inner(alloc, body, checker, noted)?;
+            Ok(step)
         }
-        Action::ReduceEntry {
-            vector,
-            index,
-            reduction: by,
-            value,
-        } => {
-            let vector = entry(alloc, scope, vector, index)?;
-            let value = integer(alloc, scope, value)?;
-            Ok(Step::ReduceEntry(vector, reduction(*by), value))
+        Written::For {
+            at,
+            name,
+            first,
+            limit,
+            body,
+        } => repeat(alloc, body, *at, name, first, limit, checker, noted),
+        Written::If { at, test, body } => {
+            let test = condition(alloc, &checker.scope, *at, test, noted)?;
+            let body = inner(alloc, body, checker, noted)?;
+            Ok(Step::If(test, body))
         }
-        _ => Err(TypeError::Refused),
+        Written::IfElse {
+            at,
+            test,
+            body,
+            otherwise,
+        } => {
+            let test = condition(alloc, &checker.scope, *at, test, noted)?;
+            let body = inner(alloc, body, checker, noted)?;
+            let other = inner(alloc, otherwise, checker, noted)?;
+            Ok(Step::IfElse(test, body, other))
+        }
+        plain => without_block(alloc, plain, checker, noted),
     }
 }
 
-/// The vector whose entry at the function's own vertex is named.
-fn entry(alloc: Global, scope: &Scope, name: &Name, index: &Expression) -> Result<usize, TypeError>
-    ensures { Answers (λ place. place) result (own_entry scope.now name.now index.now) }
+/// What a statement does that has no block and declares nothing.
+fn without_block(
+    alloc: Global,
+    action: &Written,
+    checker: &mut Checker,
+    noted: &mut Option<Fault>,
+) -> Result<Step, AllocError>
+    requires { DeclaresNothing action.now }
+    ensures typed { Notes (λ s. (step_tree s, checker_of checker.new)) noted.old noted.new result (step_typed (checker_of checker.old) (source_action action.now)) }
+    ensures kept { checker.new.scope ≡ checker.old.scope }
 {
-    let place = vector(scope, name)?;
-    let _at = own(type_expression(alloc, scope, index)?)?;
-    Ok(place)
+    match action {
+        Written::Print { at, .. } => Ok(print(*at, alloc, noted)),
+        Written::Assign { name, value } => { assign(alloc, checker, name.at(), name, value, noted) }
+        Written::Reduce {
+            name,
+            reduction,
+            value,
+        } => reduce(
+            alloc,
+            &checker.scope,
+            name.at(),
+            name,
+            *reduction,
+            value,
+            noted,
+        ),
+        Written::SetEntry {
+            vector,
+            index,
+            value,
+        } => set_entry(
+            alloc,
+            &checker.scope,
+            vector.at(),
+            vector,
+            index,
+            value,
+            noted,
+        ),
+        Written::ReduceEntry {
+            vector,
+            index,
+            reduction,
+            value,
+        } => {
+            let at = vector.at();
+            reduce_entry(alloc, checker, at, vector, index, *reduction, value, noted)
+        }
+        Written::AddVertex { set, vertex } => {
+            add_vertex(alloc, &checker.scope, set.at(), set, vertex, noted)
+        }
+        Written::Apply {
+            target,
+            ends,
+            function,
+        } => Ok(apply(
+            alloc,
+            &checker.scope,
+            target.at(),
+            target,
+            ends,
+            function,
+            noted,
+        )),
+        Written::Declare { .. }
+        | Written::While { .. }
+        | Written::For { .. }
+        | Written::If { .. }
+        | Written::IfElse { .. } => { unreachable!() }
+    }
 }
 
-fn own(value: Value) -> Result<Endpoint, TypeError>
-    ensures { Answers (λ at. at) result (own_vertex (value_tree value)) }
+/// A `for`, which no function may hold, and whose name is visible in its body.
+#[cycle(steps)]
+fn repeat(
+    alloc: Global,
+    body: &[Statement],
+    at: usize,
+    name: &Name,
+    first: &Expression,
+    limit: &Expression,
+    checker: &mut Checker,
+    noted: &mut Option<Fault>,
+) -> Result<Step, AllocError>
+    ensures typed { Notes (λ s. (step_tree s, checker_of checker.new)) noted.old noted.new result (no_for (checker_of checker.old) at name.now first.now limit.now (λ d. steps_typed d NoStep (source_block body.now))) }
+    ensures kept { OnOk result (Keeps checker.old.scope checker.new.scope) }
 {
-    match value {
-        Value::Vertex(Endpoint::Source) => Ok(Endpoint::Source),
-        _ => Err(TypeError::Refused),
-    }
+    let step = wrong(at, alloc, noted);
+    let _first = integer(alloc, &checker.scope, at, first, noted)?;
+    let _limit = integer(alloc, &checker.scope, at, limit, noted)?;
+    let mark = checker.scope.mark();
+    let slot = checker.integer_slot();
+    declare(alloc, checker, name, Entity::LoopVariable(slot), noted)?;
+    let _body = steps(alloc, body, checker, noted)?;
+    checker.scope.leave(mark);
+    Ok(step)
 }

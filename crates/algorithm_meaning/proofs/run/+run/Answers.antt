@@ -4,7 +4,11 @@ use Rattle.typed_tree.specs.ConditionTree.{condition_tree}
 use Rattle.typed_tree.specs.BlockTree.{action_tree, block_tree}
 use Rattle.typed_tree.specs.ProgramTree.{program_tree}
 use Rattle.typed_tree.proofs.Blocks.{action_tree-If, action_tree-IfElse, action_tree-While, action_tree-For}
+use Rattle.algorithm_meaning.specs.declared.state.Bounds.{Bounds}
+use Rattle.algorithm_meaning.specs.Loop.{for_test, for_body, next_of}
+use Rattle.algorithm_meaning.specs.Meaning.{after_all}
 use Rattle.algorithm_meaning.specs.Seen.{graph_of, state_of}
+use Rattle.algorithm_meaning.proofs.Loops.{again_over}
 use Rattle.algorithm_meaning.proofs.Blocks.{after-If_true, after-IfElse, after-For}
 use Rattle.algorithm_meaning.proofs.run.+run.Goals as goal
 
@@ -45,3 +49,10 @@ run_statement-returns-in-Some-clause-meaning t c =
     let bounds = sym c.bounds_of.ensures ∙ c.in-Some.is in
     let step = after-For (program_tree c.args.program.now) (graph_of c.args.graph.now) c.args.statement.now.number c.in-For.field-0 (integer_tree c.in-For.first) (integer_tree c.in-For.end) (block_tree c.in-For.body.items) (state_of c.args.state.now) c.in-Some.bounds bounds in
     rw (tree, step, ← c.deref-in-Some.ensures.value) c.run_for.ensures.meaning
+
+pub run_for-returns-then-is_some-clause-meaning : goal.run_for-returns-then-is_some-clause-meaning
+run_for-returns-then-is_some-clause-meaning t c =
+    let body = for_body (after_all (program_tree c.args.program.now) (graph_of c.args.graph.now) (block_tree c.args.body.now)) in
+    let below = ap (λ (b : Bool). Some b) (sym c.is_below.ensures ∙ c.if-not-is_below.false) in
+    again_over Bounds for_test body next_of c.args.number c.args.bounds (state_of c.args.state.now) c.turns.bounds (state_of c.turns.state) (state_of c.run_for_turn.new.state) c.in_ok-end.end
+    c.turns.invariant.0 below c.in_ok-end.ensures.meaning (sym c.is_some.ensures ∙ c.if-is_some.true)

@@ -1,5 +1,5 @@
 use Rattle.std.proofs.Common.{◌≡◌, ◌++◌, length}
-use Rattle.algorithm_meaning.specs.Change.{inserted}
+use Rattle.algorithm_meaning.specs.VertexSets.{inserted}
 use Rattle.algorithm_meaning.proofs.sets.with_vertex.Given as goal
 
 -- what is there, and what is left with the vertex, are all

@@ -1,200 +1,140 @@
-use Rattle.std.proofs.Common.{◌≡◌, ◌<◌, length, get_or, ap, sym, ◌∙◌}
-use Rattle.std.proofs.lemmas.Result.{err_from_is_err_and}
-use Rattle.syntax.specs.ExpressionViews.{unary_of, term_of, primary_of}
+use Rattle.std.proofs.Common.{◌≡◌, ◌==◌, ◌<◌, ap, sym, subst, ◌∙◌, length, get_or}
+use Rattle.syntax.specs.ExpressionViews.{unary_of, term_of, sum_of, primary_of, comparison_of, comparison_from, conjunction_of}
 use Rattle.typed_tree.specs.declared.expression.Connective.TheVariants as connective
-use Rattle.expression_types.specs.Expression.{alone, expression_value}
-use Rattle.expression_types.specs.Operators.{◌>>=◌, added, multiplied, arithmetic_value, connected_value, signs_value}
+use Rattle.expression_types.specs.declared.fault.Rule.TheVariants as rule
+use Rattle.expression_types.specs.Expression.{value_of, conjunction_value, comparison_value, sum_value, term_value, unary_value, primary_value, vector_place}
+use Rattle.expression_types.specs.Noted.{Notes, sure, outcome, ◌>>=◌}
+use Rattle.expression_types.specs.Operands.{conditions_of, integers_of}
+use Rattle.expression_types.specs.Operators.{added, multiplied, given, related_value, entry_value, first_integer, first_condition, beside_integer, beside_condition, grouped_integers, grouped_conditions}
+use Rattle.expression_types.specs.Signs.{signs_value}
 use Rattle.expression_types.specs.ValueTree.{value_tree}
-use Rattle.expression_types.proofs.Faults.{passed_on}
-use Rattle.expression_types.proofs.Levels.{joined, term_step, sum_step, conjunction_step, expression_step, joined_fails, joined_on, term_begins, term_lacks, sum_begins, sum_lacks, conjunction_begins, conjunction_lacks, expression_begins, expression_lacks}
-use Rattle.expression_types.proofs.Signs.{unary_value-behind}
+use Rattle.expression_types.proofs.Levels.{sum_step, sum_begins, term_step, term_begins, conjunction_step, conjunction_begins, expression_step, expression_begins}
+use Rattle.expression_types.proofs.SignLaws.{unary_value-behind}
+use Rattle.expression_types.proofs.Steps.{row, row_on, then_noted, notes_then}
 use Rattle.expression_types.proofs.expression.+types.Goals as goal
-
-pub unary-returns-in_err-value : goal.unary-returns-in_err-value
-unary-returns-in_err-value t c =
-    let p = err_from_is_err_and c.from_residual.result c.from_residual.ensures.1 in
-    rw (p.1, p.2) (passed_on c.in_err-value.field-0.0 _ _ c.in_err-value.ensures (λ none.
-    unary_value-behind c.args.scope.now c.args.unary.now.signs.items (primary_of c.args.unary.now.primary)
-    ∙ ap (λ o. o >>= signs_value c.args.unary.now.signs.items) none))
-
-pub unary-returns : goal.unary-returns
-unary-returns t c =
-    let e = unary_value-behind c.args.scope.now c.args.unary.now.signs.items (primary_of c.args.unary.now.primary)
-    ∙ ap (λ o. o >>= signs_value c.args.unary.now.signs.items) c.in_ok-value.ensures in
-    rw (e, ← c.deref.ensures.value) c.behind_signs.ensures
-
-pub term-returns-in_err-left : goal.term-returns-in_err-left
-term-returns-in_err-left t c =
-    let p = err_from_is_err_and c.from_residual.result c.from_residual.ensures.1 in
-    rw (p.1, p.2) (passed_on c.in_err-left.field-0.0 _ _ c.in_err-left.ensures (λ none.
-    term_lacks c.args.scope.now (unary_of c.args.term.now.first) c.args.term.now.more.items none))
-
-pub term-operands-init : goal.term-operands-init
-term-operands-init t c =
-    term_begins c.args.scope.now (unary_of c.args.term.now.first) c.args.term.now.more.items (value_tree c.in_ok-left.left) c.in_ok-left.ensures
-
-pub sum-returns-in_err-left : goal.sum-returns-in_err-left
-sum-returns-in_err-left t c =
-    let p = err_from_is_err_and c.from_residual.result c.from_residual.ensures.1 in
-    rw (p.1, p.2) (passed_on c.in_err-left.field-0.0 _ _ c.in_err-left.ensures (λ none.
-    sum_lacks c.args.scope.now (term_of c.args.sum.now.first) c.args.sum.now.more.items none))
 
 pub sum-operands-init : goal.sum-operands-init
 sum-operands-init t c =
-    sum_begins c.args.scope.now (term_of c.args.sum.now.first) c.args.sum.now.more.items (value_tree c.in_ok-left.left) c.in_ok-left.ensures
-
-pub sum-returns-in_err-left-2 : goal.sum-returns-in_err-left-2
-sum-returns-in_err-left-2 t c =
-    let p = err_from_is_err_and c.from_residual-in_err-left-2.result c.from_residual-in_err-left-2.ensures.1 in
-    let left = value_tree c.operands.left in
     let items = c.args.sum.now.more.items in
-    let m = c.operands-item.result in
-    let inside : c.operands.operator-index < length items = rw (← c.deref-operator-items.ensures.value) c.operands-test.true in
-    let is : m ≡ get_or items c.operands.operator-index m = rw (← c.deref-operator-items.ensures.value) c.operands-item.is in
-    rw (p.1, p.2) (passed_on c.in_err-left-2.field-0.0 _ _ c.in_err-left-2.ensures (λ none.
-    c.operands.invariant ∙ joined_fails (sum_step c.args.scope.now) left items c.operands.operator-index m inside is
-    (ap (λ o. o >>= arithmetic_value (added m.0) left) c.in_ok-right.ensures
-    ∙ ap (λ o. arithmetic_value o left (value_tree c.in_ok-right.right)) (sym c.addition.ensures) ∙ none)))
-
-pub conjunction-returns-in_err-left : goal.conjunction-returns-in_err-left
-conjunction-returns-in_err-left t c =
-    let p = err_from_is_err_and c.from_residual.result c.from_residual.ensures.1 in
-    rw (p.1, p.2) (passed_on c.in_err-left.field-0.0 _ _ c.in_err-left.ensures (λ none.
-    conjunction_lacks c.args.scope.now _ c.args.conjunction.now.more.items none))
-
-pub conjunction-operands-init : goal.conjunction-operands-init
-conjunction-operands-init t c =
-    conjunction_begins c.args.scope.now _ c.args.conjunction.now.more.items (value_tree c.in_ok-left.left) c.in_ok-left.ensures
-
-pub type_expression-returns-in_err-left : goal.type_expression-returns-in_err-left
-type_expression-returns-in_err-left t c =
-    let p = err_from_is_err_and c.from_residual.result c.from_residual.ensures.1 in
-    rw (p.1, p.2) (passed_on c.in_err-left.field-0.0 _ _ c.in_err-left.ensures (λ none.
-    sym (ap (λ e. expression_value c.args.scope.now e alone) c.expression.view_is)
-    ∙ expression_lacks c.args.scope.now _ c.expression.inside.more.items none))
-
-pub type_expression-operands-init : goal.type_expression-operands-init
-type_expression-operands-init t c =
-    sym (ap (λ e. expression_value c.args.scope.now e alone) c.expression.view_is)
-    ∙ expression_begins c.args.scope.now _ c.expression.inside.more.items (value_tree c.in_ok-left.left) c.in_ok-left.ensures
-    ∙ ap (joined (expression_step c.args.scope.now) (value_tree c.in_ok-left.left)) (sym c.deref-operand-items.ensures.value)
-
-pub term-returns-in_err-right : goal.term-returns-in_err-right
-term-returns-in_err-right t c =
-    let p = err_from_is_err_and c.from_residual-in_err-right.result c.from_residual-in_err-right.ensures.1 in
-    let left = value_tree c.operands.left in
-    let items = c.args.term.now.more.items in
-    let m = c.operands-item.result in
-    let inside : c.operands.operator-index < length items = rw (← c.deref-operator-items.ensures.value) c.operands-test.true in
-    let is : m ≡ get_or items c.operands.operator-index m = rw (← c.deref-operator-items.ensures.value) c.operands-item.is in
-    rw (p.1, p.2) (passed_on c.in_err-right.field-0.0 _ _ c.in_err-right.ensures (λ none.
-    c.operands.invariant ∙ joined_fails (term_step c.args.scope.now) left items c.operands.operator-index m inside is (ap (λ o. o >>= arithmetic_value (multiplied m.0) left) none)))
-
-pub term-returns-in_err-left-2 : goal.term-returns-in_err-left-2
-term-returns-in_err-left-2 t c =
-    let p = err_from_is_err_and c.from_residual-in_err-left-2.result c.from_residual-in_err-left-2.ensures.1 in
-    let left = value_tree c.operands.left in
-    let items = c.args.term.now.more.items in
-    let m = c.operands-item.result in
-    let inside : c.operands.operator-index < length items = rw (← c.deref-operator-items.ensures.value) c.operands-test.true in
-    let is : m ≡ get_or items c.operands.operator-index m = rw (← c.deref-operator-items.ensures.value) c.operands-item.is in
-    rw (p.1, p.2) (passed_on c.in_err-left-2.field-0.0 _ _ c.in_err-left-2.ensures (λ none.
-    c.operands.invariant ∙ joined_fails (term_step c.args.scope.now) left items c.operands.operator-index m inside is
-    (ap (λ o. o >>= arithmetic_value (multiplied m.0) left) c.in_ok-right.ensures ∙ ap (λ o. arithmetic_value o left (value_tree c.in_ok-right.right)) (sym c.multiplication.ensures) ∙ none)))
-
-pub term-operands-preserved : goal.term-operands-preserved
-term-operands-preserved t c =
-    let left = value_tree c.operands.left in
-    let items = c.args.term.now.more.items in
-    let m = c.operands-item.result in
-    let inside : c.operands.operator-index < length items = rw (← c.deref-operator-items.ensures.value) c.operands-test.true in
-    let is : m ≡ get_or items c.operands.operator-index m = rw (← c.deref-operator-items.ensures.value) c.operands-item.is in
-    c.operands.invariant ∙ joined_on (term_step c.args.scope.now) left items c.operands.operator-index m (value_tree c.in_ok-left-2.left) inside is
-    (ap (λ o. o >>= arithmetic_value (multiplied m.0) left) c.in_ok-right.ensures ∙ ap (λ o. arithmetic_value o left (value_tree c.in_ok-right.right)) (sym c.multiplication.ensures) ∙ c.in_ok-left-2.ensures)
-
-pub sum-returns-in_err-right : goal.sum-returns-in_err-right
-sum-returns-in_err-right t c =
-    let p = err_from_is_err_and c.from_residual-in_err-right.result c.from_residual-in_err-right.ensures.1 in
-    let left = value_tree c.operands.left in
-    let items = c.args.sum.now.more.items in
-    let m = c.operands-item.result in
-    let inside : c.operands.operator-index < length items = rw (← c.deref-operator-items.ensures.value) c.operands-test.true in
-    let is : m ≡ get_or items c.operands.operator-index m = rw (← c.deref-operator-items.ensures.value) c.operands-item.is in
-    rw (p.1, p.2) (passed_on c.in_err-right.field-0.0 _ _ c.in_err-right.ensures (λ none.
-    c.operands.invariant ∙ joined_fails (sum_step c.args.scope.now) left items c.operands.operator-index m inside is (ap (λ o. o >>= arithmetic_value (added m.0) left) none)))
+    sum_begins c.args.scope.now c.args.at (term_of c.args.sum.now.first) items c.args.noted.now c.term.new.noted (value_tree c.in_ok-first.first)
+    (ap (λ n. n == 0) (sym c.args.sum.now.more.ok.0) ∙ sym c.is_empty.ensures ∙ c.if-is_empty.false) c.in_ok-first.ensures
+    ∙ ap (λ s. outcome c.term.new.noted (row (sum_step c.args.scope.now c.args.at) s items >>= grouped_integers c.args.at)) (sym c.first-operands.ensures)
 
 pub sum-operands-preserved : goal.sum-operands-preserved
 sum-operands-preserved t c =
-    let left = value_tree c.operands.left in
     let items = c.args.sum.now.more.items in
     let m = c.operands-item.result in
+    let left = integers_of c.operands.operands in
+    let new = c.term-in-operands.new.noted in
     let inside : c.operands.operator-index < length items = rw (← c.deref-operator-items.ensures.value) c.operands-test.true in
     let is : m ≡ get_or items c.operands.operator-index m = rw (← c.deref-operator-items.ensures.value) c.operands-item.is in
-    c.operands.invariant ∙ joined_on (sum_step c.args.scope.now) left items c.operands.operator-index m (value_tree c.in_ok-left-2.left) inside is
-    (ap (λ o. o >>= arithmetic_value (added m.0) left) c.in_ok-right.ensures ∙ ap (λ o. arithmetic_value o left (value_tree c.in_ok-right.right)) (sym c.addition.ensures) ∙ c.in_ok-left-2.ensures)
+    c.operands.invariant ∙ row_on (sum_step c.args.scope.now c.args.at) left (integers_of c.in_ok-operands.operands) items c.operands.operator-index m c.operands.noted new
+    (grouped_integers c.args.at) inside is
+    (then_noted c.operands.noted new (term_value c.args.scope.now c.args.at (term_of m.1)) (value_tree c.in_ok-value.value)
+    (λ v. sure (beside_integer (added m.0) left (first_integer v))) c.in_ok-value.ensures
+    ∙ ap (λ s. (s, new)) (sym (c.in_ok-operands.ensures ∙ ap (λ o. beside_integer o left (first_integer (value_tree c.in_ok-value.value))) c.addition.ensures)))
 
-pub conjunction-returns-in_err-right : goal.conjunction-returns-in_err-right
-conjunction-returns-in_err-right t c =
-    let p = err_from_is_err_and c.from_residual-in_err-right.result c.from_residual-in_err-right.ensures.1 in
-    let left = value_tree c.operands.left in
-    let items = c.args.conjunction.now.more.items in
-    let m = c.operand-item.result in
-    let inside : c.operands.operand-index < length items = rw (← c.deref-operand-items.ensures.value) c.operands-test.true in
-    let is : m ≡ get_or items c.operands.operand-index m = rw (← c.deref-operand-items.ensures.value) c.operand-item.is in
-    rw (p.1, p.2) (passed_on c.in_err-right.field-0.0 _ _ c.in_err-right.ensures (λ none.
-    c.operands.invariant ∙ joined_fails (conjunction_step c.args.scope.now) left items c.operands.operand-index m inside is (ap (λ o. o >>= connected_value connective.And left) none)))
+pub term-operands-init : goal.term-operands-init
+term-operands-init t c =
+    let items = c.args.term.now.more.items in
+    term_begins c.args.scope.now c.args.at (unary_of c.args.term.now.first) items c.args.noted.now c.unary.new.noted (value_tree c.in_ok-first.first)
+    (ap (λ n. n == 0) (sym c.args.term.now.more.ok.0) ∙ sym c.is_empty.ensures ∙ c.if-is_empty.false) c.in_ok-first.ensures
+    ∙ ap (λ s. outcome c.unary.new.noted (row (term_step c.args.scope.now c.args.at) s items >>= grouped_integers c.args.at)) (sym c.first-operands.ensures)
 
-pub conjunction-returns-in_err-left-2 : goal.conjunction-returns-in_err-left-2
-conjunction-returns-in_err-left-2 t c =
-    let p = err_from_is_err_and c.from_residual-in_err-left-2.result c.from_residual-in_err-left-2.ensures.1 in
-    let left = value_tree c.operands.left in
+pub term-operands-preserved : goal.term-operands-preserved
+term-operands-preserved t c =
+    let items = c.args.term.now.more.items in
+    let m = c.operands-item.result in
+    let left = integers_of c.operands.operands in
+    let new = c.unary-in-operands.new.noted in
+    let inside : c.operands.operator-index < length items = rw (← c.deref-operator-items.ensures.value) c.operands-test.true in
+    let is : m ≡ get_or items c.operands.operator-index m = rw (← c.deref-operator-items.ensures.value) c.operands-item.is in
+    c.operands.invariant ∙ row_on (term_step c.args.scope.now c.args.at) left (integers_of c.in_ok-operands.operands) items c.operands.operator-index m c.operands.noted new
+    (grouped_integers c.args.at) inside is
+    (then_noted c.operands.noted new (unary_value c.args.scope.now c.args.at (unary_of m.1)) (value_tree c.in_ok-value.value)
+    (λ v. sure (beside_integer (multiplied m.0) left (first_integer v))) c.in_ok-value.ensures
+    ∙ ap (λ s. (s, new)) (sym (c.in_ok-operands.ensures ∙ ap (λ o. beside_integer o left (first_integer (value_tree c.in_ok-value.value))) c.multiplication.ensures)))
+
+pub conjunction-operands-init : goal.conjunction-operands-init
+conjunction-operands-init t c =
     let items = c.args.conjunction.now.more.items in
-    let m = c.operand-item.result in
-    let inside : c.operands.operand-index < length items = rw (← c.deref-operand-items.ensures.value) c.operands-test.true in
-    let is : m ≡ get_or items c.operands.operand-index m = rw (← c.deref-operand-items.ensures.value) c.operand-item.is in
-    rw (p.1, p.2) (passed_on c.in_err-left-2.field-0.0 _ _ c.in_err-left-2.ensures (λ none.
-    c.operands.invariant ∙ joined_fails (conjunction_step c.args.scope.now) left items c.operands.operand-index m inside is
-    (ap (λ o. o >>= connected_value connective.And left) c.in_ok-right.ensures ∙ none)))
+    conjunction_begins c.args.scope.now c.args.at (comparison_of c.args.conjunction.now.first) items c.args.noted.now c.comparison.new.noted (value_tree c.in_ok-first.first)
+    (ap (λ n. n == 0) (sym c.args.conjunction.now.more.ok.0) ∙ sym c.is_empty.ensures ∙ c.if-is_empty.false) c.in_ok-first.ensures
+    ∙ ap (λ s. outcome c.comparison.new.noted (row (conjunction_step c.args.scope.now c.args.at) s items >>= grouped_conditions c.args.at)) (sym (c.first-operands.ensures connective.And))
 
 pub conjunction-operands-preserved : goal.conjunction-operands-preserved
 conjunction-operands-preserved t c =
-    let left = value_tree c.operands.left in
     let items = c.args.conjunction.now.more.items in
     let m = c.operand-item.result in
+    let left = conditions_of connective.And c.operands.operands in
+    let new = c.comparison-in-operands.new.noted in
     let inside : c.operands.operand-index < length items = rw (← c.deref-operand-items.ensures.value) c.operands-test.true in
     let is : m ≡ get_or items c.operands.operand-index m = rw (← c.deref-operand-items.ensures.value) c.operand-item.is in
-    c.operands.invariant ∙ joined_on (conjunction_step c.args.scope.now) left items c.operands.operand-index m (value_tree c.in_ok-left-2.left) inside is
-    (ap (λ o. o >>= connected_value connective.And left) c.in_ok-right.ensures ∙ c.in_ok-left-2.ensures)
+    c.operands.invariant ∙ row_on (conjunction_step c.args.scope.now c.args.at) left (conditions_of connective.And c.in_ok-operands.operands) items c.operands.operand-index m c.operands.noted new
+    (grouped_conditions c.args.at) inside is
+    (then_noted c.operands.noted new (comparison_value c.args.scope.now c.args.at (comparison_of m)) (value_tree c.in_ok-value.value)
+    (λ v. sure (beside_condition connective.And left (first_condition v))) c.in_ok-value.ensures
+    ∙ ap (λ s. (s, new)) (sym (c.in_ok-operands.ensures connective.And)))
 
-pub type_expression-returns-in_err-right : goal.type_expression-returns-in_err-right
-type_expression-returns-in_err-right t c =
-    let p = err_from_is_err_and c.from_residual-in_err-right.result c.from_residual-in_err-right.ensures.1 in
-    let left = value_tree c.operands.left in
-    let items = c.deref-operand-items.result.now in
-    let m = c.operand-item.result in
-    let inside : c.operands.operand-index < length items = c.operands-test.true in
-    let is : m ≡ get_or items c.operands.operand-index m = c.operand-item.is in
-    rw (p.1, p.2) (passed_on c.in_err-right.field-0.0 _ _ c.in_err-right.ensures (λ none.
-    c.operands.invariant ∙ joined_fails (expression_step c.args.scope.now) left items c.operands.operand-index m inside is (ap (λ o. o >>= connected_value connective.Or left) none)))
-
-pub type_expression-returns-in_err-left-2 : goal.type_expression-returns-in_err-left-2
-type_expression-returns-in_err-left-2 t c =
-    let p = err_from_is_err_and c.from_residual-in_err-left-2.result c.from_residual-in_err-left-2.ensures.1 in
-    let left = value_tree c.operands.left in
-    let items = c.deref-operand-items.result.now in
-    let m = c.operand-item.result in
-    let inside : c.operands.operand-index < length items = c.operands-test.true in
-    let is : m ≡ get_or items c.operands.operand-index m = c.operand-item.is in
-    rw (p.1, p.2) (passed_on c.in_err-left-2.field-0.0 _ _ c.in_err-left-2.ensures (λ none.
-    c.operands.invariant ∙ joined_fails (expression_step c.args.scope.now) left items c.operands.operand-index m inside is
-    (ap (λ o. o >>= connected_value connective.Or left) c.in_ok-right.ensures ∙ none)))
+pub type_expression-operands-init : goal.type_expression-operands-init
+type_expression-operands-init t c =
+    let items = c.expression.inside.more.items in
+    sym (ap (λ e. outcome c.args.noted.now (value_of c.args.scope.now c.args.at e)) c.expression.view_is)
+    ∙ expression_begins c.args.scope.now c.args.at (conjunction_of c.expression.inside.first) items c.args.noted.now c.conjunction.new.noted (value_tree c.in_ok-first.first)
+    (ap (λ n. n == 0) (sym c.expression.inside.more.ok.0) ∙ sym c.is_empty.ensures ∙ c.if-is_empty.false) c.in_ok-first.ensures
+    ∙ ap (λ s. outcome c.conjunction.new.noted (row (expression_step c.args.scope.now c.args.at) s items >>= grouped_conditions c.args.at)) (sym (c.first-operands.ensures connective.Or))
+    ∙ ap (λ items. outcome c.conjunction.new.noted (row (expression_step c.args.scope.now c.args.at) (conditions_of connective.Or c.first-operands.result) items >>= grouped_conditions c.args.at)) (sym c.deref-operand-items.ensures.value)
 
 pub type_expression-operands-preserved : goal.type_expression-operands-preserved
 type_expression-operands-preserved t c =
-    let left = value_tree c.operands.left in
     let items = c.deref-operand-items.result.now in
     let m = c.operand-item.result in
+    let left = conditions_of connective.Or c.operands.operands in
+    let new = c.conjunction-in-operands.new.noted in
     let inside : c.operands.operand-index < length items = c.operands-test.true in
     let is : m ≡ get_or items c.operands.operand-index m = c.operand-item.is in
-    c.operands.invariant ∙ joined_on (expression_step c.args.scope.now) left items c.operands.operand-index m (value_tree c.in_ok-left-2.left) inside is
-    (ap (λ o. o >>= connected_value connective.Or left) c.in_ok-right.ensures ∙ c.in_ok-left-2.ensures)
+    c.operands.invariant ∙ row_on (expression_step c.args.scope.now c.args.at) left (conditions_of connective.Or c.in_ok-operands.operands) items c.operands.operand-index m c.operands.noted new
+    (grouped_conditions c.args.at) inside is
+    (then_noted c.operands.noted new (conjunction_value c.args.scope.now c.args.at (conjunction_of m)) (value_tree c.in_ok-value.value)
+    (λ v. sure (beside_condition connective.Or left (first_condition v))) c.in_ok-value.ensures
+    ∙ ap (λ s. (s, new)) (sym (c.in_ok-operands.ensures connective.Or)))
+
+pub comparison-returns-in_ok-right-in-Some : goal.comparison-returns-in_ok-right-in-Some
+comparison-returns-in_ok-right-in-Some t c =
+    let scope = c.args.scope.now in
+    let at = c.args.at in
+    let left = sum_of c.args.comparison.now.left in
+    let right = sum_of c.in-Some.operand.value in
+    let a = value_tree c.in_ok-left.left in
+    let b = value_tree c.in_ok-right-in-Some.right in
+    subst (λ r. Notes value_tree c.args.noted.now c.relate.new.noted c.relate.result (comparison_value scope at (comparison_from left r))) (sym c.in-Some.is)
+    (notes_then value_tree c.args.noted.now c.sum.new.noted c.relate.new.noted (sum_value scope at left) a
+    (λ a. sum_value scope at right >>= λ b. given at rule.WrongType (related_value c.in-Some.relation a b)) c.relate.result c.in_ok-left.ensures
+    (notes_then value_tree c.sum.new.noted c.sum-in-Some.new.noted c.relate.new.noted (sum_value scope at right) b
+    (λ b. given at rule.WrongType (related_value c.in-Some.relation a b)) c.relate.result
+    (subst (λ s. outcome c.sum.new.noted (sum_value scope at (sum_of s)) ≡ (b, c.sum-in-Some.new.noted)) c.deref.ensures c.in_ok-right-in-Some.ensures) c.relate.ensures))
+
+pub primary-returns-in_ok-index-in-Entry : goal.primary-returns-in_ok-index-in-Entry
+primary-returns-in_ok-index-in-Entry t c =
+    let scope = c.args.scope.now in
+    let at = c.args.at in
+    let vector = c.vector-vector.result in
+    let v = value_tree c.in_ok-index-in-Entry.index in
+    subst (λ p. Notes value_tree c.args.noted.now c.entry.new.noted c.entry.result (primary_value scope at (primary_of p))) (sym c.in-Entry.is)
+    (notes_then value_tree c.args.noted.now c.vector-vector.new.noted c.entry.new.noted (vector_place scope at c.in-Entry.name) vector
+    (λ vector. value_of scope at c.in-Entry.index.value >>= λ v. entry_value scope.inside at vector v) c.entry.result c.vector-vector.ensures
+    (notes_then value_tree c.vector-vector.new.noted c.type_expression.new.noted c.entry.new.noted (value_of scope at c.in-Entry.index.value) v
+    (λ v. entry_value scope.inside at vector v) c.entry.result
+    (subst (λ e. outcome c.vector-vector.new.noted (value_of scope at e) ≡ (v, c.type_expression.new.noted)) c.deref.ensures c.in_ok-index-in-Entry.ensures)
+    (subst (λ inside. Notes value_tree c.type_expression.new.noted c.entry.new.noted c.entry.result (entry_value inside at vector v)) c.inside.ensures c.entry.ensures)))
+
+pub unary-returns : goal.unary-returns
+unary-returns t c =
+    let scope = c.args.scope.now in
+    let at = c.args.at in
+    let signs = c.args.unary.now.signs.items in
+    let p = primary_of c.args.unary.now.primary in
+    let v = value_tree c.in_ok-value.value in
+    subst (λ m. Notes value_tree c.args.noted.now c.behind_signs.new.noted c.behind_signs.result m) (sym (unary_value-behind scope at signs p))
+    (notes_then value_tree c.args.noted.now c.primary.new.noted c.behind_signs.new.noted (primary_value scope at p) v (signs_value at signs) c.behind_signs.result c.in_ok-value.ensures
+    (subst (λ signs. Notes value_tree c.primary.new.noted c.behind_signs.new.noted c.behind_signs.result (signs_value at signs v)) c.deref.ensures.value c.behind_signs.ensures))

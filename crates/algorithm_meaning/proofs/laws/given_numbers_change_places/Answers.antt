@@ -1,0 +1,5 @@
+use Rattle.algorithm_meaning.proofs.Reductions.{neighbours_swapped}
+use Rattle.algorithm_meaning.proofs.laws.given_numbers_change_places.Goals as goal
+
+pub returns : goal.returns
+returns c = neighbours_swapped

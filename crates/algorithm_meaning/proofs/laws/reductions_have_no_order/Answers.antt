@@ -1,0 +1,5 @@
+use Rattle.algorithm_meaning.proofs.Reductions.{reductions}
+use Rattle.algorithm_meaning.proofs.laws.reductions_have_no_order.Goals as goal
+
+pub returns : goal.returns
+returns c = reductions

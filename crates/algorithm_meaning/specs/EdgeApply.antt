@@ -1,0 +1,66 @@
+-- `apply` of edge functions, and `applyModified`.
+use Rattle.std.specs.Prelude.{ℕ, ℤ, Bool, true, not, ◌&&◌, nat_lt, ◌==◌, List, [], ◌∷◌, ◌++◌, map, Option, Some, None, slice_get}
+use Rattle.std.specs.List.{filter, list_any, range_with_len}
+use Rattle.typed_tree.specs.declared.statement.Ends.{Ends}
+use Rattle.typed_tree.specs.declared.statement.EndFilter.{EndFilter}
+use Rattle.typed_tree.specs.declared.statement.EndFilter.TheVariants as end
+use Rattle.typed_tree.specs.StepTree.{StepsTree, FunctionTree}
+use Rattle.algorithm_meaning.specs.declared.function.Contribution.{Contribution}
+use Rattle.algorithm_meaning.specs.declared.function.Writing.TheVariants.{Collected}
+use Rattle.algorithm_meaning.specs.declared.state.VertexSet.{VertexSet}
+use Rattle.algorithm_meaning.specs.Arithmetic.{int_equal}
+use Rattle.algorithm_meaning.specs.State.{GraphValue, StateValue, edge_scope}
+use Rattle.algorithm_meaning.specs.Value.{entry, members_of, reduce_at}
+use Rattle.algorithm_meaning.specs.Function.{first_work, after_steps, steps_of}
+use Rattle.algorithm_meaning.specs.Filter.{lets_through}
+
+-- the vertex is a member
+abbrev pub is_member : ℕ → List ℕ → Bool
+is_member v members = list_any (λ m. m == v) members
+
+-- whether an end of an edge lets a vertex through, over the vectors before the apply; one that is not given lets all through
+abbrev pub passes : List FunctionTree → StateValue → Option EndFilter → ℕ → Bool
+passes filters s None v = true
+passes filters s (Some (end.Members slot)) v = is_member v (members_of (slice_get s.sets slot.place))
+passes filters s (Some (end.Function function)) v = lets_through filters function s.sets s.vectors v
+
+-- the same of a vertex of the graph
+abbrev pub is_end : List FunctionTree → GraphValue → StateValue → Option EndFilter → ℕ → Bool
+is_end filters g s end v = nat_lt v g.vertices && passes filters s end v
+
+-- the edges that an apply looks at, in their order
+abbrev pub matching : List FunctionTree → GraphValue → StateValue → Ends → List (ℕ × ℕ)
+matching filters g s ends = filter (λ e. is_end filters g s ends.from e.0 && is_end filters g s ends.to e.1) g.edges
+
+-- what an edge function gives the destination of an edge; it reads these vectors only
+abbrev pub gives : StepsTree → List VertexSet → List (List ℤ) → ℕ × ℕ → List Contribution
+gives steps sets before edge = (after_steps Collected sets steps (first_work before (edge_scope edge))).given
+
+-- what several functions give
+abbrev pub all_give : List StepsTree → List VertexSet → List (List ℤ) → ℕ × ℕ → List Contribution
+all_give [] sets before edge = []
+all_give (steps ∷ more) sets before edge = gives steps sets before edge ++ all_give more sets before edge
+
+-- the vectors after a vertex got this
+abbrev pub with_given : ℕ → List Contribution → List (List ℤ) → List (List ℤ)
+with_given v [] vectors = vectors
+with_given v (c ∷ cs) vectors = with_given v cs (reduce_at vectors c.vector v c.reduction c.number)
+
+-- the vectors after these edges; the functions read the vectors before the apply
+abbrev pub after_edges : List StepsTree → List VertexSet → (before : List (List ℤ)) → List (ℕ × ℕ) → List (List ℤ) → List (List ℤ)
+after_edges functions sets before [] vectors = vectors
+after_edges functions sets before (edge ∷ edges) vectors =
+    after_edges functions sets before edges (with_given edge.1 (all_give functions sets before edge) vectors)
+
+-- the vectors after the functions at these places were applied to the edges between the ends
+abbrev pub after_edge_apply : (filters functions : List FunctionTree) → GraphValue → Ends → List ℕ → StateValue → List (List ℤ)
+after_edge_apply filters functions g ends places s =
+    after_edges (map (λ place. steps_of (slice_get functions place)) places) s.sets s.vectors (matching filters g s ends) s.vectors
+
+-- the entry of a vector at a vertex differs
+abbrev pub is_modified : (vector : ℕ) → (before after : List (List ℤ)) → ℕ → Bool
+is_modified vector before after v = not (int_equal (entry before vector v) (entry after vector v))
+
+-- the vertices where it does, ascending
+abbrev pub modified : ℕ → (vector : ℕ) → (before after : List (List ℤ)) → List ℕ
+modified vertices vector before after = filter (is_modified vector before after) (range_with_len 0 vertices)

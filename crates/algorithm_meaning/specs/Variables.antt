@@ -1,0 +1,58 @@
+-- Variables, in functions and in main, and the statements of main on them.
+use Rattle.std.specs.Prelude.{ℕ, ℤ, pos, Bool, [], ◌∷◌, ◌++◌, take, length, slice_index_or, slice_set}
+use Rattle.syntax.specs.declared.statement.Reduction.{Reduction}
+use Rattle.typed_tree.specs.IntegerTree.{IntegerTree}
+use Rattle.typed_tree.specs.ConditionTree.{ConditionTree}
+use Rattle.algorithm_meaning.specs.Arithmetic.{reduced}
+use Rattle.algorithm_meaning.specs.State.{ScopeValue, StateValue}
+use Rattle.algorithm_meaning.specs.Stand.{Stand, Live, number_in, choice_in, with_value}
+
+-- the visible variables with one more
+abbrev pub new_integer : ScopeValue → ℤ → ScopeValue
+new_integer scope n = record scope { integers = scope.integers ++ n ∷ [] }
+
+abbrev pub new_condition : ScopeValue → Bool → ScopeValue
+new_condition scope b = record scope { conditions = scope.conditions ++ b ∷ [] }
+
+-- the visible variables with another value of one
+abbrev pub set_integer : ScopeValue → ℕ → ℤ → ScopeValue
+set_integer scope place n = record scope { integers = slice_set scope.integers place n }
+
+abbrev pub set_condition : ScopeValue → ℕ → Bool → ScopeValue
+set_condition scope place b = record scope { conditions = slice_set scope.conditions place b }
+
+-- the variable at a place reduced with a number
+abbrev pub reduce_integer : ScopeValue → ℕ → Reduction → ℤ → ScopeValue
+reduce_integer scope place reduction n = set_integer scope place (reduced reduction (slice_index_or scope.integers place (pos 0)) n)
+
+-- the variables of the second that were visible in the first already
+abbrev pub forget_new : ScopeValue → ScopeValue → ScopeValue
+forget_new old scope = record scope {
+  integers = take (length old.integers) scope.integers;
+  conditions = take (length old.conditions) scope.conditions;
+}
+
+abbrev pub with_scope : StateValue → ScopeValue → StateValue
+with_scope s scope = record s { scope = scope }
+
+abbrev pub with_new_integer : StateValue → ℤ → StateValue
+with_new_integer s n = with_scope s (new_integer s.scope n)
+
+abbrev pub after_declare_integer : (vertices number : ℕ) → IntegerTree → StateValue → Stand
+after_declare_integer vertices number e s = with_value (number_in vertices e s) number s (λ n. Live (with_new_integer s n))
+
+abbrev pub after_declare_condition : (vertices number : ℕ) → ConditionTree → StateValue → Stand
+after_declare_condition vertices number c s =
+    with_value (choice_in vertices c s) number s (λ b. Live (with_scope s (new_condition s.scope b)))
+
+abbrev pub after_set_integer : (vertices number place : ℕ) → IntegerTree → StateValue → Stand
+after_set_integer vertices number place e s =
+    with_value (number_in vertices e s) number s (λ n. Live (with_scope s (set_integer s.scope place n)))
+
+abbrev pub after_set_condition : (vertices number place : ℕ) → ConditionTree → StateValue → Stand
+after_set_condition vertices number place c s =
+    with_value (choice_in vertices c s) number s (λ b. Live (with_scope s (set_condition s.scope place b)))
+
+abbrev pub after_reduce_integer : (vertices number place : ℕ) → Reduction → IntegerTree → StateValue → Stand
+after_reduce_integer vertices number place reduction e s =
+    with_value (number_in vertices e s) number s (λ n. Live (with_scope s (reduce_integer s.scope place reduction n)))

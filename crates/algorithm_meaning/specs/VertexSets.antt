@@ -1,0 +1,64 @@
+-- The statements of main on vertex sets.
+use Rattle.std.specs.Prelude.{ℕ, zero, suc, ℤ, if◌then◌else◌, nat_lt, ◌==◌, List, [], ◌∷◌, ◌++◌, slice_get}
+use Rattle.std.specs.List.{range_with_len}
+use Rattle.typed_tree.specs.declared.statement.SetValue.{SetValue}
+use Rattle.typed_tree.specs.declared.statement.SetValue.TheVariants as set
+use Rattle.typed_tree.specs.IntegerTree.{IntegerTree}
+use Rattle.typed_tree.specs.ProgramTree.{ProgramTree}
+use Rattle.algorithm_meaning.specs.declared.state.VertexSet.{VertexSet}
+use Rattle.algorithm_meaning.specs.State.{GraphValue, StateValue}
+use Rattle.algorithm_meaning.specs.Value.{members_of}
+use Rattle.algorithm_meaning.specs.Stand.{Stand, Live, vertex_in, with_value}
+use Rattle.algorithm_meaning.specs.Entries.{with_vectors}
+use Rattle.algorithm_meaning.specs.Filter.{filtered}
+use Rattle.algorithm_meaning.specs.EdgeApply.{after_edge_apply, modified}
+
+-- the vertices of a graph
+abbrev pub all_below : ℕ → List ℕ
+all_below vertices = range_with_len 0 vertices
+
+-- the vectors after a set value was evaluated: `applyModified` changes them
+abbrev pub vectors_after : ProgramTree → GraphValue → SetValue → StateValue → List (List ℤ)
+vectors_after p g set.Empty s = s.vectors
+vectors_after p g set.All s = s.vectors
+vectors_after p g (set.Copy slot) s = s.vectors
+vectors_after p g (set.Filter slot function) s = s.vectors
+vectors_after p g (set.Modified ends function vector) s = after_edge_apply p.filters p.edge_functions g ends (function ∷ []) s
+
+-- what a set variable gets
+abbrev pub members_for : ProgramTree → GraphValue → SetValue → StateValue → List ℕ
+members_for p g set.Empty s = []
+members_for p g set.All s = all_below g.vertices
+members_for p g (set.Copy slot) s = members_of (slice_get s.sets slot.place)
+members_for p g (set.Filter slot function) s = filtered p.filters function s.sets s.vectors (members_of (slice_get s.sets slot.place))
+members_for p g (set.Modified ends function vector) s =
+    modified g.vertices vector s.vectors (after_edge_apply p.filters p.edge_functions g ends (function ∷ []) s)
+
+abbrev pub with_new_set : StateValue → ℕ → List ℕ → StateValue
+with_new_set s name members = record s { sets = s.sets ++ record { name = name; members = members } ∷ [] }
+
+-- the set at a place with other members
+abbrev pub set_members : List VertexSet → ℕ → List ℕ → List VertexSet
+set_members [] place members = []
+set_members (set ∷ sets) zero members = record { name = set.name; members = members } ∷ sets
+set_members (set ∷ sets) (suc place) members = set ∷ set_members sets place members
+
+abbrev pub with_members : StateValue → ℕ → List ℕ → StateValue
+with_members s place members = record s { sets = set_members s.sets place members }
+
+-- a new set variable, and one that is assigned
+abbrev pub after_declare_set : ProgramTree → GraphValue → (name : ℕ) → SetValue → StateValue → StateValue
+after_declare_set p g name set s = with_new_set (with_vectors s (vectors_after p g set s)) name (members_for p g set s)
+
+abbrev pub after_assign_set : ProgramTree → GraphValue → (place : ℕ) → SetValue → StateValue → StateValue
+after_assign_set p g place set s = with_members (with_vectors s (vectors_after p g set s)) place (members_for p g set s)
+
+-- an ascending list with one more number, once
+abbrev pub inserted : ℕ → List ℕ → List ℕ
+inserted v [] = v ∷ []
+inserted v (x ∷ xs) = if nat_lt v x then v ∷ x ∷ xs else (if v == x then x ∷ xs else x ∷ inserted v xs)
+
+-- a set gets a vertex, which must be one
+abbrev pub after_add_vertex : (vertices number place : ℕ) → IntegerTree → StateValue → Stand
+after_add_vertex vertices number place e s =
+    with_value (vertex_in vertices e s) number s (λ v. Live (with_members s place (inserted v (members_of (slice_get s.sets place)))))

@@ -1,0 +1,14 @@
+-- The fault that is told.
+use Rattle.std.proofs.Common.{◌≡◌, ◌≢◌, refl, ap, sym, ◌∙◌, Bool, true, false, true≢false, is_some, List, [], ◌∷◌, Option, None, Some}
+use Rattle.expression_types.specs.declared.fault.Fault.{Fault}
+use Rattle.expression_types.specs.Faults.{earlier, least_of}
+
+-- where one was noted one is noted in the end
+stays : (first : Fault) (faults : List Fault) → is_some (least_of (Some first) faults) ≡ true
+stays first [] = refl
+stays first (f ∷ faults) = stays (earlier (Some first) f) faults
+
+-- where none is noted in the end there was none
+pub none_noted : (faults : List Fault) → least_of None faults ≡ None → faults ≡ []
+none_noted [] none = refl
+none_noted (f ∷ faults) none = absurd (true≢false (sym (stays f faults) ∙ ap is_some none))

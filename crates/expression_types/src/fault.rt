@@ -1,0 +1,75 @@
+//! Faults: the rule that a source breaks, and where.
+ghost use Rattle.std.specs.Prelude.{◌≡◌};
+ghost use Rattle.expression_types.specs.Faults.{comes_before, earlier, number_of};
+
+/// A rule of types.
+#[derive(Clone, Copy, Debug, PartialEq, Eq)]
+pub enum Rule {
+    /// A used name is visible.
+    UnknownName,
+    /// A declared name is not visible already, and there is one edgeset at most.
+    Redeclared,
+    /// What is written has the type that its place wants.
+    WrongType,
+    /// An edge function writes no entry of a vector by `=`.
+    NotReduction,
+    /// An edge function writes a vector by one reduction only.
+    MixedReductions,
+    /// An entry of a vector stands at a vertex that the function works on, and an index of `main` reads no entry.
+    WrongIndex,
+    /// `print` stands in `main` only.
+    PrintOutsideMain,
+    /// A function `main` without parameters and result is there.
+    NoMain,
+    /// No label stands twice.
+    BadLabel,
+}
+
+/// A rule that a source breaks, and the offset at which it does, in bytes.
+#[derive(Clone, Copy, Debug, PartialEq, Eq)]
+pub struct Fault {
+    pub at: usize,
+    pub rule: Rule,
+}
+
+impl Rule {
+    /// The number by which users know the rule: 221 to 229.
+    pub fn number(self) -> u16
+        ensures { result ≡ number_of self }
+    {
+        match self {
+            Rule::UnknownName => 221,
+            Rule::Redeclared => 222,
+            Rule::WrongType => 223,
+            Rule::NotReduction => 224,
+            Rule::MixedReductions => 225,
+            Rule::WrongIndex => 226,
+            Rule::PrintOutsideMain => 227,
+            Rule::NoMain => 228,
+            Rule::BadLabel => 229,
+        }
+    }
+}
+
+/// Notes one more fault: of all that are noted the one with the least offset is kept, and of several at one
+/// offset the one with the least number.
+pub fn note(first: &mut Option<Fault>, at: usize, rule: Rule)
+    ensures { first.new ≡ Some (earlier first.old (record { at = at; rule = rule })) }
+{
+    let fault = Fault { at, rule };
+    match *first {
+        None => *first = Some(fault),
+        Some(noted) => {
+            if is_before(fault, noted) {
+                *first = Some(fault);
+            }
+        }
+    }
+}
+
+/// Whether a fault is told rather than another.
+fn is_before(fault: Fault, other: Fault) -> bool
+    ensures { result ≡ comes_before fault other }
+{
+    fault.at < other.at || (fault.at == other.at && fault.rule.number() < other.rule.number())
+}

@@ -1,0 +1,170 @@
+//! Operands of operators in a row.
+ghost use Rattle.std.specs.Prelude.{◌≡◌};
+ghost use Rattle.typed_tree.specs.ConditionTree.{conditions_tree, condition_tree};
+ghost use Rattle.typed_tree.specs.IntegerTree.{integer_tree, operands_tree};
+ghost use Rattle.std.specs.Prelude.{IfOk};
+ghost use Rattle.expression_types.specs.Operands.{conditions_of, integers_of};
+ghost use Rattle.expression_types.specs.Operators.{beside_condition, beside_integer, first_condition, first_integer, grouped_conditions, grouped_integers};
+ghost use Rattle.expression_types.specs.Noted.{Notes};
+ghost use Rattle.expression_types.specs.ValueTree.{value_tree};
+
+use crate::fault::{Fault, Rule, note};
+use crate::value::Value;
+use std::alloc::{AllocError, Global};
+use typed_tree::{Condition, Connective, Integer, Operand, Operator};
+
+/// The operands so far of operators that take integers.
+pub(crate) enum Integers {
+    /// The first and those behind it, each with its operator.
+    Typed(Integer, Vec<Operand>),
+    /// One is no integer.
+    Mixed,
+    /// One has a faulty part.
+    Faulty,
+}
+
+/// The operands so far of an operator that takes conditions.
+pub(crate) enum Conditions {
+    /// The first and those behind it.
+    Typed(Condition, Vec<Condition>),
+    /// One is no condition.
+    Mixed,
+    /// One has a faulty part.
+    Faulty,
+}
+
+impl Drop for Integers {
+    fn drop(self) {
+        match self {
+            Integers::Typed(_, _) => {}
+            Integers::Mixed | Integers::Faulty => {}
+        }
+    }
+}
+
+impl Drop for Conditions {
+    fn drop(self) {
+        match self {
+            Conditions::Typed(_, _) => {}
+            Conditions::Mixed | Conditions::Faulty => {}
+        }
+    }
+}
+
+impl Integers {
+    /// The first operand.
+    pub(crate) fn first(alloc: Global, value: Value) -> Integers
+        ensures { integers_of result ≡ first_integer (value_tree value) }
+    {
+        if value.is_faulty() {
+            return Integers::Faulty;
+        }
+        match value.into_integer() {
+            None => Integers::Mixed,
+            Some(e) => Integers::Typed(e, Vec::new(alloc)),
+        }
+    }
+
+    /// With one more operand behind its operator.
+    #[tactic(auto, using(typed_tree::proofs::Chains::operands_tree_push))]
+    pub(crate) fn beside(self, operator: Operator, value: Value) -> Result<Integers, AllocError>
+        ensures { IfOk result (λ all. integers_of all ≡ beside_integer operator (integers_of self) (first_integer (value_tree value))) }
+    {
+        if value.is_faulty() {
+            return Ok(Integers::Faulty);
+        }
+        match self {
+            Integers::Faulty => Ok(Integers::Faulty),
+            Integers::Mixed => Ok(Integers::Mixed),
+            Integers::Typed(first, more) => match value.into_integer() {
+                None => Ok(Integers::Mixed),
+                Some(integer) => {
+                    let mut more = more;
+                    more.push(Operand { operator, integer })?;
+                    Ok(Integers::Typed(first, more))
+                }
+            },
+        }
+    }
+
+    /// The value that all operands have together.
+    pub(crate) fn group(
+        self,
+        alloc: Global,
+        at: usize,
+        noted: &mut Option<Fault>,
+    ) -> Result<Value, AllocError>
+        ensures { Notes value_tree noted.old noted.new result (grouped_integers at (integers_of self)) }
+    {
+        match self {
+            Integers::Typed(first, more) => {
+                let first = Box::new(alloc, first)?;
+                Ok(Value::Integer(Integer::Arithmetic(first, more)))
+            }
+            Integers::Mixed => {
+                note(noted, at, Rule::WrongType);
+                Ok(Value::Faulty)
+            }
+            Integers::Faulty => Ok(Value::Faulty),
+        }
+    }
+}
+
+impl Conditions {
+    /// The first operand.
+    pub(crate) fn first(alloc: Global, value: Value) -> Conditions
+        ensures { (o : Connective) → conditions_of o result ≡ first_condition (value_tree value) }
+    {
+        if value.is_faulty() {
+            return Conditions::Faulty;
+        }
+        match value.into_condition() {
+            None => Conditions::Mixed,
+            Some(c) => Conditions::Typed(c, Vec::new(alloc)),
+        }
+    }
+
+    /// With one more operand.
+    pub(crate) fn beside(self, value: Value) -> Result<Conditions, AllocError>
+        ensures { IfOk result (λ all. (o : Connective) → conditions_of o all ≡ beside_condition o (conditions_of o self) (first_condition (value_tree value))) }
+    {
+        if value.is_faulty() {
+            return Ok(Conditions::Faulty);
+        }
+        match self {
+            Conditions::Faulty => Ok(Conditions::Faulty),
+            Conditions::Mixed => Ok(Conditions::Mixed),
+            Conditions::Typed(first, more) => match value.into_condition() {
+                None => Ok(Conditions::Mixed),
+                Some(c) => {
+                    let mut more = more;
+                    more.push(c)?;
+                    Ok(Conditions::Typed(first, more))
+                }
+            },
+        }
+    }
+
+    /// The value that all operands have together, with this operator between them.
+    pub(crate) fn group(
+        self,
+        alloc: Global,
+        connective: Connective,
+        at: usize,
+        noted: &mut Option<Fault>,
+    ) -> Result<Value, AllocError>
+        ensures { Notes value_tree noted.old noted.new result (grouped_conditions at (conditions_of connective self)) }
+    {
+        match self {
+            Conditions::Typed(first, more) => {
+                let first = Box::new(alloc, first)?;
+                Ok(Value::Condition(Condition::Connect(connective, first, more)))
+            }
+            Conditions::Mixed => {
+                note(noted, at, Rule::WrongType);
+                Ok(Value::Faulty)
+            }
+            Conditions::Faulty => Ok(Value::Faulty),
+        }
+    }
+}

@@ -1,0 +1,36 @@
+use Rattle.std.proofs.Common.{◌≡◌, ap, sym, subst, ◌∙◌, length, map, option_map}
+use Rattle.syntax.specs.SourceViews.{block_tree as source_block, parameter_tree}
+use Rattle.typed_tree.specs.BlockTree.{Empty, block_tree}
+use Rattle.expression_types.specs.declared.scope.Entity.TheVariants as entity
+use Rattle.expression_types.specs.Noted.{outcome, sure, ◌>>=◌}
+use Rattle.expression_types.specs.ScopeTree.{left}
+use Rattle.expression_types.proofs.Steps.{then_noted}
+use Rattle.types.specs.Block.{statements_typed}
+use Rattle.types.specs.Checker.{checker_of, restarted, with_scope}
+use Rattle.types.specs.Declaration.{MainKind, declare_name, declared_of, opened, with_main}
+use Rattle.types.proofs.Kept.{left_again, keeps_on}
+use Rattle.types.proofs.declaration.main_function.Goals as goal
+
+pub returns : goal.returns
+returns c =
+    let d = declared_of c.args.declared.now in
+    let scope = d.checker.scope in
+    let fits = c.args.fits in
+    let ps = map parameter_tree c.args.parameters.now in
+    let r = option_map parameter_tree c.args.gives.now in
+    let body = source_block c.args.body.now in
+    let name = c.args.name.now in
+    let inner = checker_of c.open.new.checker in
+    let last = checker_of c.statements.new.checker in
+    let b = block_tree c.in_ok-body.body.items in
+    let e = declared_of c.name_is.new.declared in
+    let kept = keeps_on scope c.open.new.checker.scope c.statements.new.checker.scope c.in_ok-open.ensures.kept c.in_ok-body.ensures.kept in
+    let again = c.leave.ensures ∙ ap (λ m. left m c.statements.new.checker.scope) c.mark-mark.ensures.mark ∙ left_again scope c.statements.new.checker.scope kept in
+    then_noted c.args.noted.now c.open.new.noted (opened (restarted d.checker) (MainKind fits) ps r) inner
+    (λ k. statements_typed k Empty body >>= λ b. declare_name (record d { checker = with_scope b.1 scope }) name entity.Main >>= λ e. sure (with_main e fits b.0))
+    (subst (λ n. outcome c.args.noted.now (opened (record d.checker { statements = n }) (MainKind fits) ps r) ≡ (inner, c.open.new.noted)) (ap length c.new.ensures.items) c.in_ok-open.ensures.opened)
+    ∙ then_noted c.open.new.noted c.statements.new.noted (statements_typed inner Empty body) (b, last)
+    (λ b. declare_name (record d { checker = with_scope b.1 scope }) name entity.Main >>= λ e. sure (with_main e fits b.0)) c.in_ok-body.ensures.typed
+    ∙ then_noted c.statements.new.noted c.name_is.new.noted (declare_name (record d { checker = with_scope last scope }) name entity.Main) e (λ e. sure (with_main e fits b))
+    (subst (λ s. outcome c.statements.new.noted (declare_name (record d { checker = with_scope last s }) name entity.Main) ≡ (e, c.name_is.new.noted)) again c.in_ok-name_is.ensures)
+    ∙ ap (λ e. (e, c.name_is.new.noted)) (sym c.keep_main.ensures)

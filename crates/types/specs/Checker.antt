@@ -1,0 +1,77 @@
+-- What is met on the way through a source.
+use Rattle.std.specs.Prelude.{ℕ, suc, List, [], ◌∷◌, ◌++◌, ◌-◌, length, take, drop, Option, Some, None}
+use Rattle.syntax.specs.Words.{Identifier}
+use Rattle.syntax.specs.declared.statement.Reduction.{Reduction}
+use Rattle.typed_tree.specs.declared.expression.Slot.{Slot}
+use Rattle.expression_types.specs.declared.fault.Rule.TheVariants as rule
+use Rattle.expression_types.specs.declared.scope.Entity.{Entity}
+use Rattle.expression_types.specs.Names.{found}
+use Rattle.expression_types.specs.Noted.{Noted, sure, fault_at, ◌>>=◌}
+use Rattle.expression_types.specs.ScopeTree.{ScopeTree, declared}
+use Rattle.types.specs.declared.checker.Checker.{Checker}
+
+-- What is visible; and what came before in the text: all names that were declared, the labels with their places, how many statements of
+-- main, which vectors the edge function around this point reduces and how, and which each edge function does.
+pub record CheckerTree : Type 0 where
+  pub scope : ScopeTree
+  pub names : List (List ℕ)
+  pub labels : List (List ℕ × ℕ)
+  pub label_names : List (List ℕ)
+  pub statements : ℕ
+  pub writes : List (ℕ × Reduction)
+  pub written : List (List (ℕ × Reduction))
+
+-- what contracts see
+abbrev pub checker_of : Checker → CheckerTree
+checker_of c = record {
+  scope = c.scope;
+  names = c.names.items;
+  labels = c.labels;
+  label_names = c.label_names.items;
+  statements = length c.statements.items;
+  writes = c.writes;
+  written = c.written.items;
+}
+
+-- the next place of a variable of each kind, for the next name
+abbrev pub integer_slot : CheckerTree → Slot
+integer_slot c = record { place = c.scope.integers; name = length c.names }
+
+abbrev pub condition_slot : CheckerTree → Slot
+condition_slot c = record { place = c.scope.conditions; name = length c.names }
+
+abbrev pub set_slot : CheckerTree → Slot
+set_slot c = record { place = c.scope.sets; name = length c.names }
+
+-- with another scope
+abbrev pub with_scope : CheckerTree → ScopeTree → CheckerTree
+with_scope c scope = record c { scope = scope }
+
+-- with one more name, which is visible in this scope
+abbrev pub with_name : CheckerTree → List ℕ → ScopeTree → CheckerTree
+with_name c name scope = record c { scope = scope; names = c.names ++ name ∷ [] }
+
+-- a name is declared
+abbrev pub declared_in : CheckerTree → Identifier → Entity → Noted CheckerTree
+declared_in c name entity = declared name entity c.scope >>= λ scope. sure (with_name c name.bytes scope)
+
+-- a text or a label without the bytes at its ends
+abbrev pub without_ends : List ℕ → List ℕ
+without_ends bytes = take (length bytes - 2) (drop 1 bytes)
+
+-- one more label, at its place among all, which must not stand already
+abbrev pub new_label : CheckerTree → Identifier → Option ℕ → Noted (Option ℕ × CheckerTree)
+new_label c label None = sure (Some (length c.labels), record c { labels = c.labels ++ (label.bytes, length c.labels) ∷ []; label_names = c.label_names ++ without_ends label.bytes ∷ [] })
+new_label c label (Some place) = fault_at label.at rule.BadLabel (Some place, c)
+
+abbrev pub labelled : CheckerTree → Option Identifier → Noted (Option ℕ × CheckerTree)
+labelled c None = sure (None, c)
+labelled c (Some label) = new_label c label (found label.bytes c.labels)
+
+-- one more statement of main
+abbrev pub counted : CheckerTree → CheckerTree
+counted c = record c { statements = suc c.statements }
+
+-- no statement of main came before
+abbrev pub restarted : CheckerTree → CheckerTree
+restarted c = record c { statements = 0 }

@@ -1,0 +1,12 @@
+-- For proofs only: statements without blocks.
+use Rattle.syntax.specs.declared.statement.Action.{Action}
+use Rattle.syntax.specs.declared.statement.Action.TheVariants as action
+
+-- it has no block and declares nothing
+abbrev pub DeclaresNothing : Action → Type 0
+DeclaresNothing (action.Declare at variable initial) = ⊥
+DeclaresNothing (action.While' at test m body) = ⊥
+DeclaresNothing (action.For' at name first limit m body) = ⊥
+DeclaresNothing (action.If' at test m body) = ⊥
+DeclaresNothing (action.IfElse' at test m body n otherwise) = ⊥
+DeclaresNothing other = Unit {0}
