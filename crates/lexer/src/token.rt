@@ -29,12 +29,13 @@ pub struct Span {
 }
 
 impl Span {
-    /// The bytes of the text at this span, or `None` where the text has no such bytes.
-    pub fn slice_of(self, text: &[u8]) -> Option<&[u8]>
-        ensures { MatchOption result (IsWithin text.now self → ⊥) (λ slice.
-            IsWithin text.now self × (slice.now ≡ slice_of text.now self)) }
+    /// The bytes of the text at this span, as many of them as the text has. They are not copied.
+    pub fn slice_of(self, text: &[u8]) -> &[u8]
+        ensures { result.now ≡ slice_of text.now self }
     {
-        text.get(self.start..self.end)
+        let tail = text.get(self.start..).unwrap_or(&[]);
+        let len = self.end.saturating_sub(self.start);
+        tail.get(..len).unwrap_or(tail)
     }
 }
 

@@ -29,7 +29,7 @@ fn words(alloc: Global, text: &[u8]) -> Result<Vec<u8>, Fail> {
                 let digits = format!(in alloc; "{number}")?;
                 words.extend_from_slice(digits.as_bytes())?;
             }
-            _ => words.extend_from_slice(token.span.slice_of(text).unwrap_or(&[]))?,
+            _ => words.extend_from_slice(token.span.slice_of(text))?,
         }
         words.push(b'\n')?;
     }

@@ -3,7 +3,6 @@ pub mod BlockLaws
 pub mod DeclarationLaws
 pub mod ExpressionAnswers
 pub mod Faults
-pub mod FrontLaws
 pub mod Fronts
 pub mod InitialLaws
 pub mod Lists

@@ -9,7 +9,6 @@ ghost use Rattle.parser.specs.Blocks.{action_at, block_in, declared_at, printed_
 ghost use Rattle.parser.specs.Views.{statements_tree};
 
 use crate::cursor::Cursor;
-use crate::front::{after_reserved, expect_mark, expect_reserved, expression, label, name};
 use crate::initial::assigned;
 use crate::statement::{ended, named};
 use crate::syntax_error::SyntaxError;
@@ -87,7 +86,7 @@ fn statement(
     ensures reads { Gives statement_of result (statement_by (action_at depth) (words cursor.entry)) }
     ensures shorter { IfOk result (λ x. length (words x.1) < length (words cursor.entry)) }
 {
-    let (label, rest) = label(alloc, cursor)?;
+    let (label, rest) = cursor.label(alloc)?;
     let (action, behind) = action(alloc, rest, depth)?;
     Ok((Statement { label, action }, behind))
 }
@@ -183,7 +182,7 @@ fn while_loop(
     ensures reads { Gives action_tree result (opened_by (block_in depth) Opening.While at (words cursor.entry)) }
     ensures shorter { IfOk result (λ x. length (words x.1) ≤ length (words cursor.entry)) }
 {
-    let (test, rest) = expression(alloc, cursor)?;
+    let (test, rest) = cursor.expression(alloc)?;
     let (body, behind) = to_end(alloc, rest, depth)?;
     Ok((while_action(at, test, body), behind))
 }
@@ -218,11 +217,11 @@ fn range(
     ensures reads { Gives (λ r. r) result (range_at (words cursor.entry)) }
     ensures shorter { IfOk result (λ x. length (words x.1) ≤ length (words cursor.entry)) }
 {
-    let (name, within) = name(alloc, cursor)?;
-    let bound = expect_reserved(within, Keyword::In)?;
-    let (first, colon) = expression(alloc, bound)?;
-    let bound = expect_mark(colon, Symbol::Colon)?;
-    let (limit, behind) = expression(alloc, bound)?;
+    let (name, within) = cursor.name(alloc)?;
+    let bound = within.expect_keyword(Keyword::In)?;
+    let (first, colon) = bound.expression(alloc)?;
+    let bound = colon.expect_symbol(Symbol::Colon)?;
+    let (limit, behind) = bound.expression(alloc)?;
     Ok(((name, first, limit), behind))
 }
 
@@ -255,7 +254,7 @@ fn choice(
     ensures reads { Gives action_tree result (opened_by (block_in depth) Opening.If at (words cursor.entry)) }
     ensures shorter { IfOk result (λ x. length (words x.1) ≤ length (words cursor.entry)) }
 {
-    let (test, rest) = expression(alloc, cursor)?;
+    let (test, rest) = cursor.expression(alloc)?;
     let (body, left) = inner(alloc, rest, depth)?;
     otherwise(alloc, at, test, body, left, depth)
 }
@@ -274,9 +273,9 @@ fn otherwise(
         (otherwise_by (block_in depth) at test (block_tree body.items, words cursor.entry) (after_word (Reserved Keyword.Else) (words cursor.entry))) }
     ensures shorter { IfOk result (λ x. length (words x.1) ≤ length (words cursor.entry)) }
 {
-    match after_reserved(cursor, Keyword::Else) {
+    match cursor.after_keyword(Keyword::Else) {
         None => {
-            let behind = expect_reserved(cursor, Keyword::End)?;
+            let behind = cursor.expect_keyword(Keyword::End)?;
             Ok((if_action(at, test, body), behind))
         }
         Some(after) => {
@@ -319,7 +318,7 @@ fn to_end(
     ensures shorter { IfOk result (λ x. length (words x.1) ≤ length (words cursor.entry)) }
 {
     let (body, end) = inner(alloc, cursor, depth)?;
-    let behind = expect_reserved(end, Keyword::End)?;
+    let behind = end.expect_keyword(Keyword::End)?;
     Ok((body, behind))
 }
 

@@ -1,15 +1,15 @@
 //! A place in the tokens of a text.
-ghost use Rattle.std.specs.Prelude.{◌≡◌, ◌-◌, ◌<◌, ◌≤◌, [], ◌∷◌, length, take, drop, MatchOption, IfSome, IfOk};
+ghost use Rattle.std.specs.Prelude.{◌≡◌, ◌<◌, ℕ, [], ◌∷◌, length, option_map, MatchOption, IfSome, IfOk};
 ghost use Rattle.lexer.specs.Tokens.{slice_of};
 ghost use Rattle.parser.specs.declared.syntax_error.SyntaxError.TheVariants.{Unexpected};
-ghost use Rattle.syntax.specs.Words.{Mark, Name as word_name, keyword_word, words_of};
-ghost use Rattle.parser.specs.Readers.{words, word_at, Finds, IsAfter, IsExpected, IsName, place};
+ghost use Rattle.syntax.specs.Words.{Mark, Reserved, keyword_word, words_of};
+ghost use Rattle.syntax.specs.SourceReading.{after_word};
+ghost use Rattle.parser.specs.Readers.{words, word_at, Finds, IsAfter, IsExpected, Passes, place};
 ghost use Rattle.syntax.specs.ExpressionReading.{addition, multiplication, relation, prefix};
 
 use crate::syntax_error::SyntaxError;
 use lexer::{Keyword, Span, Symbol, Token, TokenKind};
-use std::alloc::Global;
-use syntax::{Addition, Multiplication, Name, Prefix, Relation};
+use syntax::{Addition, Multiplication, Prefix, Relation};
 
 /// A text, and those of its tokens that are left to be read.
 #[derive(Clone, Copy)]
@@ -62,14 +62,14 @@ impl<'a> Cursor<'a> {
     pub fn bytes(self, span: Span) -> &'a [u8]
         ensures { result.now ≡ slice_of self.entry.text.now span }
     {
-        let tail = self.text.get(span.start..).unwrap_or(&[]);
-        let len = span.end.saturating_sub(span.start);
-        tail.get(..len).unwrap_or(tail)
+        span.slice_of(self.text)
     }
 
     /// The place behind a symbol, if it is the next token.
     pub fn after_symbol(self, symbol: Symbol) -> Option<Cursor<'a>>
-        ensures { IsAfter (Mark symbol) (words self.entry) result }
+        ensures is { IsAfter (Mark symbol) (words self.entry) result }
+        ensures behind { after_word (Mark symbol) (words self.entry) ≡ option_map words result }
+        ensures shorter { IfSome result (λ after. length (words after) < length (words self.entry)) }
     {
         let (token, after) = self.next()?;
         if token.kind == TokenKind::Symbol(symbol) {
@@ -79,9 +79,12 @@ impl<'a> Cursor<'a> {
         }
     }
 
-    /// The place behind a keyword, if it is the next token.
+    /// The place behind a keyword that opens nothing, if it is the next token.
     pub fn after_keyword(self, keyword: Keyword) -> Option<Cursor<'a>>
-        ensures { IsAfter (keyword_word keyword (place self.entry)) (words self.entry) result }
+        requires { (at : ℕ) → keyword_word keyword at ≡ Reserved keyword }
+        ensures is { IsAfter (Reserved keyword) (words self.entry) result }
+        ensures behind { after_word (Reserved keyword) (words self.entry) ≡ option_map words result }
+        ensures shorter { IfSome result (λ after. length (words after) < length (words self.entry)) }
     {
         let (token, after) = self.next()?;
         if token.kind == TokenKind::Keyword(keyword) {
@@ -93,7 +96,9 @@ impl<'a> Cursor<'a> {
 
     /// The place behind a symbol, or `Unexpected` at the next token, if that is another one.
     pub fn expect_symbol(self, symbol: Symbol) -> Result<Cursor<'a>, SyntaxError>
-        ensures { IsExpected (Mark symbol) (words self.entry) result }
+        ensures is { IsExpected (Mark symbol) (words self.entry) result }
+        ensures passes { Passes result (after_word (Mark symbol) (words self.entry)) }
+        ensures shorter { IfOk result (λ after. length (words after) < length (words self.entry)) }
     {
         match self.after_symbol(symbol) {
             Some(after) => Ok(after),
@@ -101,29 +106,17 @@ impl<'a> Cursor<'a> {
         }
     }
 
-    /// The place behind a keyword, or `Unexpected` at the next token, if that is another one.
+    /// The place behind a keyword that opens nothing, or `Unexpected` at the next token, if that is another one.
     pub fn expect_keyword(self, keyword: Keyword) -> Result<Cursor<'a>, SyntaxError>
-        ensures { IsExpected (keyword_word keyword (place self.entry)) (words self.entry) result }
+        requires { (at : ℕ) → keyword_word keyword at ≡ Reserved keyword }
+        ensures is { IsExpected (Reserved keyword) (words self.entry) result }
+        ensures passes { Passes result (after_word (Reserved keyword) (words self.entry)) }
+        ensures shorter { IfOk result (λ after. length (words after) < length (words self.entry)) }
     {
         match self.after_keyword(keyword) {
             Some(after) => Ok(after),
             None => Err(self.unexpected()),
         }
-    }
-
-    /// The name at the front, and the place behind it, or `Unexpected` at the next token, if that is
-    /// no name.
-    pub fn name(self, alloc: Global) -> Result<(Name, Cursor<'a>), SyntaxError>
-        ensures { IsName (words self.entry) result }
-    {
-        let Some((token, after)) = self.next() else {
-            return Err(self.unexpected());
-        };
-        if token.kind != TokenKind::Name {
-            return Err(self.unexpected());
-        }
-        let name = Name::of(alloc, self.bytes(token.span), token.span.start)?;
-        Ok((name, after))
     }
 
     /// The `+` or `-` at the front, and the place behind it.

@@ -9,7 +9,6 @@ ghost use Rattle.parser.specs.Views.{each, signature_tree, statements_tree};
 
 use crate::block::block;
 use crate::cursor::Cursor;
-use crate::front::{after_mark, expect_mark, expect_reserved, name};
 use crate::initial::assigned;
 use crate::syntax_error::SyntaxError;
 use crate::types::typed;
@@ -128,7 +127,7 @@ fn function(
 {
     let ((name, parameters, result), rest) = signature(alloc, cursor)?;
     let (body, end) = body(alloc, rest)?;
-    let behind = expect_reserved(end, Keyword::End)?;
+    let behind = end.expect_keyword(Keyword::End)?;
     let declaration = Declaration::Function {
         at,
         name,
@@ -147,7 +146,7 @@ fn signature(
     ensures reads { Gives signature_tree result (signature_at (words cursor.entry)) }
     ensures shorter { IfOk result (λ x. length (words x.1) ≤ length (words cursor.entry)) }
 {
-    let (name, open) = name(alloc, cursor)?;
+    let (name, open) = cursor.name(alloc)?;
     let (parameters, arrow) = parameters(alloc, open)?;
     let (result, behind) = result(alloc, arrow)?;
     Ok(((name, parameters, result), behind))
@@ -167,7 +166,7 @@ fn result(alloc: Global, cursor: Cursor<'_>) -> Result<(Option<Parameter>, Curso
         (result_by (words cursor.entry) (after_word (Mark Symbol.Arrow) (words cursor.entry))) }
     ensures shorter { IfOk result (λ x. length (words x.1) ≤ length (words cursor.entry)) }
 {
-    match after_mark(cursor, Symbol::Arrow) {
+    match cursor.after_symbol(Symbol::Arrow) {
         None => Ok((None, cursor)),
         Some(after) => {
             let (parameter, behind) = typed(alloc, after)?;
@@ -184,13 +183,13 @@ fn parameters(
     ensures reads { Gives (each parameter_tree) result (parameters_at (words cursor.entry)) }
     ensures shorter { IfOk result (λ x. length (words x.1) ≤ length (words cursor.entry)) }
 {
-    let open = expect_mark(cursor, Symbol::OpenParenthesis)?;
-    if let Some(after) = after_mark(open, Symbol::CloseParenthesis) {
+    let open = cursor.expect_symbol(Symbol::OpenParenthesis)?;
+    if let Some(after) = open.after_symbol(Symbol::CloseParenthesis) {
         return Ok((Vec::new(alloc), after));
     }
     let (first, rest) = typed(alloc, open)?;
     let (parameters, close) = more_parameters(alloc, first, rest)?;
-    let behind = expect_mark(close, Symbol::CloseParenthesis)?;
+    let behind = close.expect_symbol(Symbol::CloseParenthesis)?;
     Ok((parameters, behind))
 }
 
@@ -206,7 +205,7 @@ fn more_parameters(
     let mut parameters = Vec::new(alloc);
     parameters.push(first)?;
     let mut left = cursor;
-    'parameters: while let Some(after) = after_mark(left, Symbol::Comma) {
+    'parameters: while let Some(after) = left.after_symbol(Symbol::Comma) {
         let (parameter, behind) = typed(alloc, after)?;
         parameters.push(parameter)?;
         left = behind;

@@ -136,8 +136,7 @@ fn unary(alloc: Global, cursor: Cursor<'_>, depth: u32) -> Result<(Unary, Cursor
         left = after;
     }
     let (primary, behind) = primary(alloc, left, depth)?;
-    let at = cursor.at();
-    Ok((Unary { at, signs, primary }, behind))
+    Ok((Unary { signs, primary }, behind))
 }
 
 #[cycle(read)]

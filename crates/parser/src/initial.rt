@@ -7,10 +7,6 @@ ghost use Rattle.syntax.specs.SourceViews.{initial_tree, ends_tree};
 ghost use Rattle.parser.specs.Fronts.{begins_call as begins_call_at, is_called, called_word, name_pair_at, modified_by, filter_at, call_by, new_set_at, load_at};
 
 use crate::cursor::Cursor;
-use crate::front::{
-    after_mark, after_method, after_reserved, argument, expect_all, expect_mark, expression, name,
-    number,
-};
 use crate::syntax_error::SyntaxError;
 use lexer::{Keyword, Symbol, TokenKind};
 use std::alloc::Global;
@@ -58,9 +54,9 @@ pub(crate) fn assigned(
     ensures reads { Gives initial_tree result (assigned_at (words cursor.entry)) }
     ensures shorter { IfOk result (λ x. length (words x.1) ≤ length (words cursor.entry)) }
 {
-    let value = expect_mark(cursor, Symbol::Assign)?;
+    let value = cursor.expect_symbol(Symbol::Assign)?;
     let (initial, semicolon) = initial(alloc, value)?;
-    let behind = expect_mark(semicolon, Symbol::Semicolon)?;
+    let behind = semicolon.expect_symbol(Symbol::Semicolon)?;
     Ok((initial, behind))
 }
 
@@ -84,12 +80,12 @@ fn end(
     ensures reads { Gives (λ e. e) result (end_at (Reserved keyword) (words cursor.entry)) }
     ensures shorter { IfOk result (λ x. length (words x.1) ≤ length (words cursor.entry)) }
 {
-    match after_method(cursor, keyword) {
+    match cursor.after_method(keyword) {
         None => Ok((None, cursor)),
         Some(open) => {
-            let inside = expect_mark(open, Symbol::OpenParenthesis)?;
-            let (name, close) = name(alloc, inside)?;
-            let behind = expect_mark(close, Symbol::CloseParenthesis)?;
+            let inside = open.expect_symbol(Symbol::OpenParenthesis)?;
+            let (name, close) = inside.name(alloc)?;
+            let behind = close.expect_symbol(Symbol::CloseParenthesis)?;
             Ok((Some(name), behind))
         }
     }
@@ -100,14 +96,14 @@ fn initial(alloc: Global, cursor: Cursor<'_>) -> Result<(Initial, Cursor<'_>), S
     ensures reads { Gives initial_tree result (initial_at (words cursor.entry)) }
     ensures shorter { IfOk result (λ x. length (words x.1) ≤ length (words cursor.entry)) }
 {
-    if let Some(after) = after_reserved(cursor, Keyword::New) {
+    if let Some(after) = cursor.after_keyword(Keyword::New) {
         return new_set(after);
     }
-    if let Some(after) = after_reserved(cursor, Keyword::Load) {
+    if let Some(after) = cursor.after_keyword(Keyword::Load) {
         return load(after);
     }
     if begins_call(cursor) {
-        let (name, rest) = name(alloc, cursor)?;
+        let (name, rest) = cursor.name(alloc)?;
         return call(alloc, name, rest);
     }
     value(alloc, cursor)
@@ -118,7 +114,7 @@ fn value(alloc: Global, cursor: Cursor<'_>) -> Result<(Initial, Cursor<'_>), Syn
     ensures reads { Gives initial_tree result (value_at (words cursor.entry)) }
     ensures shorter { IfOk result (λ x. length (words x.1) ≤ length (words cursor.entry)) }
 {
-    let (value, behind) = expression(alloc, cursor)?;
+    let (value, behind) = cursor.expression(alloc)?;
     Ok((Initial::Value(value), behind))
 }
 
@@ -127,9 +123,9 @@ fn new_set(cursor: Cursor<'_>) -> Result<(Initial, Cursor<'_>), SyntaxError>
     ensures reads { Gives initial_tree result (new_set_at (words cursor.entry)) }
     ensures shorter { IfOk result (λ x. length (words x.1) ≤ length (words cursor.entry)) }
 {
-    let inside = expect_all(cursor, &OPEN_SET)?;
-    let (size, close) = number(inside)?;
-    let behind = expect_mark(close, Symbol::CloseParenthesis)?;
+    let inside = cursor.expect_all(&OPEN_SET)?;
+    let (size, close) = inside.number()?;
+    let behind = close.expect_symbol(Symbol::CloseParenthesis)?;
     Ok((Initial::NewSet(size), behind))
 }
 
@@ -138,9 +134,9 @@ fn load(cursor: Cursor<'_>) -> Result<(Initial, Cursor<'_>), SyntaxError>
     ensures reads { Gives initial_tree result (load_at (words cursor.entry)) }
     ensures shorter { IfOk result (λ x. length (words x.1) ≤ length (words cursor.entry)) }
 {
-    let inside = expect_all(cursor, &OPEN_ARGUMENT)?;
-    let (argument, close) = number(inside)?;
-    let behind = expect_all(close, &CLOSE_ARGUMENT)?;
+    let inside = cursor.expect_all(&OPEN_ARGUMENT)?;
+    let (argument, close) = inside.number()?;
+    let behind = close.expect_all(&CLOSE_ARGUMENT)?;
     Ok((Initial::Load(argument), behind))
 }
 
@@ -162,7 +158,7 @@ fn begins_call(cursor: Cursor<'_>) -> bool
 fn has_method(cursor: Cursor<'_>) -> bool
     ensures { result ≡ is_called (method_at (words cursor.entry)) }
 {
-    let Some(after) = after_mark(cursor, Symbol::Dot) else {
+    let Some(after) = cursor.after_symbol(Symbol::Dot) else {
         return false;
     };
     let Some((token, _)) = after.next() else {
@@ -194,13 +190,13 @@ fn call(alloc: Global, name: Name, cursor: Cursor<'_>) -> Result<(Initial, Curso
     ensures reads { Gives initial_tree result (call_by name (words cursor.entry) (method_at (words cursor.entry))) }
     ensures shorter { IfOk result (λ x. length (words x.1) ≤ length (words cursor.entry)) }
 {
-    if let Some(after) = after_method(cursor, Keyword::GetVertices) {
+    if let Some(after) = cursor.after_method(Keyword::GetVertices) {
         return without_arguments(Initial::Vertices(name), after);
     }
-    if let Some(after) = after_method(cursor, Keyword::GetOutDegrees) {
+    if let Some(after) = cursor.after_method(Keyword::GetOutDegrees) {
         return without_arguments(Initial::OutDegrees(name), after);
     }
-    if let Some(after) = after_method(cursor, Keyword::Filter) {
+    if let Some(after) = cursor.after_method(Keyword::Filter) {
         return filter(alloc, name, after);
     }
     modified(alloc, name, cursor)
@@ -214,7 +210,7 @@ fn without_arguments(
     ensures reads { Gives initial_tree result (closed (in_parentheses []) (initial_tree call, words cursor.entry)) }
     ensures shorter { IfOk result (λ x. length (words x.1) ≤ length (words cursor.entry)) }
 {
-    let behind = expect_all(cursor, &NO_ARGUMENTS)?;
+    let behind = cursor.expect_all(&NO_ARGUMENTS)?;
     Ok((call, behind))
 }
 
@@ -227,7 +223,7 @@ fn filter(
     ensures reads { Gives initial_tree result (filter_at set (words cursor.entry)) }
     ensures shorter { IfOk result (λ x. length (words x.1) ≤ length (words cursor.entry)) }
 {
-    let (test, behind) = argument(alloc, cursor)?;
+    let (test, behind) = cursor.argument(alloc)?;
     Ok((Initial::Filter { set, test }, behind))
 }
 
@@ -241,7 +237,7 @@ fn modified(
     ensures shorter { IfOk result (λ x. length (words x.1) ≤ length (words cursor.entry)) }
 {
     let (ends, dot) = ends(alloc, cursor)?;
-    let open = expect_all(dot, &APPLY_MODIFIED)?;
+    let open = dot.expect_all(&APPLY_MODIFIED)?;
     let ((function, vector), behind) = name_pair(alloc, open)?;
     let initial = Initial::ApplyModified {
         edges,
@@ -257,10 +253,10 @@ fn name_pair(alloc: Global, cursor: Cursor<'_>) -> Result<((Name, Name), Cursor<
     ensures reads { Gives (λ p. p) result (name_pair_at (words cursor.entry)) }
     ensures shorter { IfOk result (λ x. length (words x.1) ≤ length (words cursor.entry)) }
 {
-    let inside = expect_mark(cursor, Symbol::OpenParenthesis)?;
-    let (first, comma) = name(alloc, inside)?;
-    let rest = expect_mark(comma, Symbol::Comma)?;
-    let (second, close) = name(alloc, rest)?;
-    let behind = expect_mark(close, Symbol::CloseParenthesis)?;
+    let inside = cursor.expect_symbol(Symbol::OpenParenthesis)?;
+    let (first, comma) = inside.name(alloc)?;
+    let rest = comma.expect_symbol(Symbol::Comma)?;
+    let (second, close) = rest.name(alloc)?;
+    let behind = close.expect_symbol(Symbol::CloseParenthesis)?;
     Ok(((first, second), behind))
 }

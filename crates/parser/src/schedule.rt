@@ -8,7 +8,6 @@ ghost use Rattle.parser.specs.Fronts.{begun_setting};
 ghost use Rattle.parser.specs.Views.{each};
 
 use crate::cursor::Cursor;
-use crate::front::{after_mark, after_reserved, expect_mark, text};
 use crate::syntax_error::SyntaxError;
 use lexer::{Keyword, Symbol, TokenKind};
 use std::alloc::Global;
@@ -22,10 +21,10 @@ pub(crate) fn schedule(
     ensures { Gives (option_map (each chain_tree)) result
         (schedule_by (words cursor.entry) (after_word (Reserved Keyword.Schedule) (words cursor.entry))) }
 {
-    match after_reserved(cursor, Keyword::Schedule) {
+    match cursor.after_keyword(Keyword::Schedule) {
         None => Ok((None, cursor)),
         Some(colon) => {
-            let rest = expect_mark(colon, Symbol::Colon)?;
+            let rest = colon.expect_symbol(Symbol::Colon)?;
             let (chains, behind) = chains(alloc, rest)?;
             Ok((Some(chains), behind))
         }
@@ -38,7 +37,7 @@ fn chains(alloc: Global, cursor: Cursor<'_>) -> Result<(Vec<Chain>, Cursor<'_>),
 {
     let mut chains = Vec::new(alloc);
     let mut left = cursor;
-    'chains: while let Some(after) = after_reserved(left, Keyword::Program) {
+    'chains: while let Some(after) = left.after_keyword(Keyword::Program) {
         let (chain, behind) = chain(alloc, after)?;
         chains.push(chain)?;
         left = behind;
@@ -51,10 +50,10 @@ fn chain(alloc: Global, cursor: Cursor<'_>) -> Result<(Chain, Cursor<'_>), Synta
     ensures reads { Gives chain_tree result (chain_at (words cursor.entry)) }
     ensures shorter { IfOk result (λ x. length (words x.1) ≤ length (words cursor.entry)) }
 {
-    let rest = expect_mark(cursor, Symbol::Arrow)?;
+    let rest = cursor.expect_symbol(Symbol::Arrow)?;
     let (first, left) = call(alloc, rest)?;
     let (more, semicolon) = more_calls(alloc, left)?;
-    let behind = expect_mark(semicolon, Symbol::Semicolon)?;
+    let behind = semicolon.expect_symbol(Symbol::Semicolon)?;
     Ok((Chain { first, more }, behind))
 }
 
@@ -65,7 +64,7 @@ fn more_calls(alloc: Global, cursor: Cursor<'_>) -> Result<(Vec<Call>, Cursor<'_
 {
     let mut calls = Vec::new(alloc);
     let mut left = cursor;
-    'calls: while let Some(after) = after_mark(left, Symbol::Arrow) {
+    'calls: while let Some(after) = left.after_symbol(Symbol::Arrow) {
         let (call, behind) = call(alloc, after)?;
         calls.push(call)?;
         left = behind;
@@ -79,10 +78,10 @@ fn call(alloc: Global, cursor: Cursor<'_>) -> Result<(Call, Cursor<'_>), SyntaxE
     ensures shorter { IfOk result (λ x. length (words x.1) ≤ length (words cursor.entry)) }
 {
     let ((at, setting), open) = setting(cursor)?;
-    let inside = expect_mark(open, Symbol::OpenParenthesis)?;
-    let (first, left) = text(alloc, inside)?;
+    let inside = open.expect_symbol(Symbol::OpenParenthesis)?;
+    let (first, left) = inside.text(alloc)?;
     let (more, close) = more_texts(alloc, left)?;
-    let behind = expect_mark(close, Symbol::CloseParenthesis)?;
+    let behind = close.expect_symbol(Symbol::CloseParenthesis)?;
     let call = Call {
         at,
         setting,
@@ -99,8 +98,8 @@ fn more_texts(alloc: Global, cursor: Cursor<'_>) -> Result<(Vec<Text>, Cursor<'_
 {
     let mut texts = Vec::new(alloc);
     let mut left = cursor;
-    'texts: while let Some(after) = after_mark(left, Symbol::Comma) {
-        let (text, behind) = text(alloc, after)?;
+    'texts: while let Some(after) = left.after_symbol(Symbol::Comma) {
+        let (text, behind) = after.text(alloc)?;
         texts.push(text)?;
         left = behind;
     }

@@ -9,7 +9,6 @@ ghost use Rattle.parser.specs.Outcome.{Answers, Parses, GivesSource, tree_or_err
 use crate::cursor::Cursor;
 use crate::declaration::declarations;
 use crate::error::ParseError;
-use crate::front::expect_all;
 use crate::schedule::schedule;
 use crate::syntax_error::SyntaxError;
 use lexer::{Keyword, TokenKind, tokens};
@@ -61,7 +60,7 @@ fn whole(alloc: Global, cursor: Cursor<'_>, len: usize) -> Result<Source, Syntax
     ensures reads { GivesSource result (source_at (words cursor.entry)) }
     ensures length { IfOk result (λ source. source.length ≡ len) }
 {
-    let rest = expect_all(cursor, &ELEMENTS)?;
+    let rest = cursor.expect_all(&ELEMENTS)?;
     let (declarations, left) = declarations(alloc, rest)?;
     let (schedule, end) = schedule(alloc, left)?;
     match end.next() {

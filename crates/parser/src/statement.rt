@@ -6,7 +6,6 @@ ghost use Rattle.syntax.specs.SourceReading.{reduction_at, ended_at, entry_at, e
 ghost use Rattle.syntax.specs.SourceViews.{action_tree};
 
 use crate::cursor::Cursor;
-use crate::front::{after_mark, after_method, argument, expect_all, expect_mark, expression};
 use crate::initial::{assigned, ends};
 use crate::syntax_error::SyntaxError;
 use lexer::{Keyword, Symbol, TokenKind};
@@ -33,8 +32,8 @@ pub(crate) fn ended(
     ensures reads { Gives (λ e. e) result (ended_at (words cursor.entry)) }
     ensures shorter { IfOk result (λ x. length (words x.1) ≤ length (words cursor.entry)) }
 {
-    let (value, semicolon) = expression(alloc, cursor)?;
-    let behind = expect_mark(semicolon, Symbol::Semicolon)?;
+    let (value, semicolon) = cursor.expression(alloc)?;
+    let behind = semicolon.expect_symbol(Symbol::Semicolon)?;
     Ok((value, behind))
 }
 
@@ -63,14 +62,14 @@ pub(crate) fn named(
     ensures reads { Gives action_tree result (named_action name (words cursor.entry)) }
     ensures shorter { IfOk result (λ x. length (words x.1) ≤ length (words cursor.entry)) }
 {
-    if let Some(_) = after_mark(cursor, Symbol::Assign) {
+    if let Some(_) = cursor.after_symbol(Symbol::Assign) {
         let (value, behind) = assigned(alloc, cursor)?;
         return Ok((Action::Assign { name, value }, behind));
     }
-    if let Some(index) = after_mark(cursor, Symbol::OpenBracket) {
+    if let Some(index) = cursor.after_symbol(Symbol::OpenBracket) {
         return entry(alloc, name, index);
     }
-    if let Some(_) = after_mark(cursor, Symbol::Dot) {
+    if let Some(_) = cursor.after_symbol(Symbol::Dot) {
         return method(alloc, name, cursor);
     }
     reduced(alloc, name, cursor)
@@ -104,8 +103,8 @@ fn entry(
     ensures reads { Gives action_tree result (entry_at vector (words cursor.entry)) }
     ensures shorter { IfOk result (λ x. length (words x.1) ≤ length (words cursor.entry)) }
 {
-    let (index, close) = expression(alloc, cursor)?;
-    let rest = expect_mark(close, Symbol::CloseBracket)?;
+    let (index, close) = cursor.expression(alloc)?;
+    let rest = close.expect_symbol(Symbol::CloseBracket)?;
     entry_value(alloc, vector, index, rest)
 }
 
@@ -120,7 +119,7 @@ fn entry_value(
         (entry_by vector index (words cursor.entry) (after_word (Mark Symbol.Assign) (words cursor.entry))) }
     ensures shorter { IfOk result (λ x. length (words x.1) ≤ length (words cursor.entry)) }
 {
-    if let Some(after) = after_mark(cursor, Symbol::Assign) {
+    if let Some(after) = cursor.after_symbol(Symbol::Assign) {
         let (value, behind) = ended(alloc, after)?;
         let action = Action::SetEntry {
             vector,
@@ -150,7 +149,7 @@ fn method(
         (method_by name (words cursor.entry) (after_words (Mark Symbol.Dot ∷ Reserved Keyword.AddVertex ∷ []) (words cursor.entry))) }
     ensures shorter { IfOk result (λ x. length (words x.1) ≤ length (words cursor.entry)) }
 {
-    match after_method(cursor, Keyword::AddVertex) {
+    match cursor.after_method(Keyword::AddVertex) {
         Some(after) => added(alloc, name, after),
         None => applied(alloc, name, cursor),
     }
@@ -161,9 +160,9 @@ fn added(alloc: Global, set: Name, cursor: Cursor<'_>) -> Result<(Action, Cursor
     ensures reads { Gives action_tree result (added_at set (words cursor.entry)) }
     ensures shorter { IfOk result (λ x. length (words x.1) ≤ length (words cursor.entry)) }
 {
-    let inside = expect_mark(cursor, Symbol::OpenParenthesis)?;
-    let (vertex, close) = expression(alloc, inside)?;
-    let behind = expect_all(close, &CLOSE_CALL)?;
+    let inside = cursor.expect_symbol(Symbol::OpenParenthesis)?;
+    let (vertex, close) = inside.expression(alloc)?;
+    let behind = close.expect_all(&CLOSE_CALL)?;
     Ok((Action::AddVertex { set, vertex }, behind))
 }
 
@@ -177,9 +176,9 @@ fn applied(
     ensures shorter { IfOk result (λ x. length (words x.1) ≤ length (words cursor.entry)) }
 {
     let (ends, dot) = ends(alloc, cursor)?;
-    let open = expect_all(dot, &APPLY)?;
-    let (function, semicolon) = argument(alloc, open)?;
-    let behind = expect_mark(semicolon, Symbol::Semicolon)?;
+    let open = dot.expect_all(&APPLY)?;
+    let (function, semicolon) = open.argument(alloc)?;
+    let behind = semicolon.expect_symbol(Symbol::Semicolon)?;
     let action = Action::Apply {
         target,
         ends,

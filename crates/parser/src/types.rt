@@ -6,7 +6,6 @@ ghost use Rattle.syntax.specs.SourceViews.{parameter_tree};
 ghost use Rattle.parser.specs.Fronts.{begun_type, words_behind};
 
 use crate::cursor::Cursor;
-use crate::front::{expect_all, expect_mark, name};
 use crate::syntax_error::SyntaxError;
 use lexer::{Keyword, Symbol, TokenKind};
 use std::alloc::Global;
@@ -49,8 +48,8 @@ pub(crate) fn typed(
     ensures reads { Gives parameter_tree result (typed_at (words cursor.entry)) }
     ensures shorter { IfOk result (λ x. length (words x.1) ≤ length (words cursor.entry)) }
 {
-    let (name, colon) = name(alloc, cursor)?;
-    let rest = expect_mark(colon, Symbol::Colon)?;
+    let (name, colon) = cursor.name(alloc)?;
+    let rest = colon.expect_symbol(Symbol::Colon)?;
     let (declared, behind) = declared_type(rest)?;
     Ok((Parameter { name, declared }, behind))
 }
@@ -95,8 +94,8 @@ fn rest_of_type(declared: DeclaredType, cursor: Cursor<'_>) -> Result<Cursor<'_>
 {
     match declared {
         DeclaredType::Int | DeclaredType::Bool | DeclaredType::Vertex => Ok(cursor),
-        DeclaredType::VertexSet => expect_all(cursor, &OF_VERTICES),
-        DeclaredType::Vector => expect_all(cursor, &OF_VERTICES_AND_NUMBERS),
-        DeclaredType::EdgeSet => expect_all(cursor, &OF_EDGES_AND_VERTICES),
+        DeclaredType::VertexSet => cursor.expect_all(&OF_VERTICES),
+        DeclaredType::Vector => cursor.expect_all(&OF_VERTICES_AND_NUMBERS),
+        DeclaredType::EdgeSet => cursor.expect_all(&OF_EDGES_AND_VERTICES),
     }
 }

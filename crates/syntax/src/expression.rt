@@ -99,8 +99,6 @@ impl Drop for Term {
 /// A primary behind any number of `-` and `not`, in the order of the text.
 #[cycle(expression)]
 pub struct Unary {
-    /// The offset of its first token in the text, in bytes.
-    pub at: usize,
     pub signs: Vec<Prefix>,
     pub primary: Primary,
 }
@@ -109,7 +107,6 @@ impl Drop for Unary {
     #[cycle(drops)]
     fn drop(self) {
         let Unary {
-            at: _,
             signs: _,
             primary: _,
         } = self;
@@ -142,13 +139,5 @@ impl Drop for Primary {
             Primary::Entry(_, _) => {}
             Primary::Parentheses(_) => {}
         }
-    }
-}
-
-impl Expression {
-    /// The offset of its first token in the text, in bytes. Tests compare it.
-    pub fn at(&self) -> usize {
-        let expression = self;
-        expression.first.first.left.first.first.at
     }
 }

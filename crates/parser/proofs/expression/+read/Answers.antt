@@ -55,16 +55,16 @@ pub expression-returns-in_err-operand-clause-reads : goal.expression-returns-in_
 expression-returns-in_err-operand-clause-reads t c =
     let p = err_from_is_err_and c.from_residual-in_err-operand.result c.from_residual-in_err-operand.ensures.1 in
     rw (p.1, p.2) (passed_on conjunction_of (λ e. e) c.in_err-operand.field-0.0 _ _ c.in_err-operand.ensures.reads
-    (λ none. chain_fails expression_from c.more.invariant (behind_fails (conjunction_at c.args.depth) (words c.in-Some.after) (after_or (words c.more.left)) (ap after_or c.in-Some.ensures) none)))
+    (λ none. chain_fails expression_from c.more.invariant (behind_fails (conjunction_at c.args.depth) (words c.in-Some.after) (after_or (words c.more.left)) (ap after_or c.in-Some.ensures.is) none)))
 
 pub expression-more-preserved : goal.expression-more-preserved
 expression-more-preserved t c =
     chain_step conjunction_of c.more.more.items _ c.in_ok-operand.operand (words c.in_ok-operand.behind) c.in_ok-push.ensures.items c.more.invariant
-    (behind_found (conjunction_at c.args.depth) (words c.in-Some.after) (words c.in_ok-operand.behind) (conjunction_of c.in_ok-operand.operand) (after_or (words c.more.left)) (ap after_or c.in-Some.ensures) c.in_ok-operand.ensures.reads)
-    (below _ _ _ c.in_ok-operand.ensures.shorter (behind_word _ _ _ c.in-Some.ensures))
+    (behind_found (conjunction_at c.args.depth) (words c.in-Some.after) (words c.in_ok-operand.behind) (conjunction_of c.in_ok-operand.operand) (after_or (words c.more.left)) (ap after_or c.in-Some.ensures.is) c.in_ok-operand.ensures.reads)
+    (below _ _ _ c.in_ok-operand.ensures.shorter (behind_word _ _ _ c.in-Some.ensures.is))
 
 pub expression-returns-clause-reads : goal.expression-returns-clause-reads
-expression-returns-clause-reads t c = chain_end expression_from c.more.invariant (ap (behind_by (conjunction_at c.args.depth)) (none_or (words c.more.left) c.in_default.ensures))
+expression-returns-clause-reads t c = chain_end expression_from c.more.invariant (ap (behind_by (conjunction_at c.args.depth)) (none_or (words c.more.left) c.in_default.ensures.is))
 
 pub conjunction-more-init : goal.conjunction-more-init
 conjunction-more-init t c = chain_start comparison_of c.new-more.result.items _ c.new-more.ensures.items c.in_ok-first.ensures.reads c.in_ok-first.ensures.shorter
@@ -73,16 +73,16 @@ pub conjunction-returns-in_err-operand-clause-reads : goal.conjunction-returns-i
 conjunction-returns-in_err-operand-clause-reads t c =
     let p = err_from_is_err_and c.from_residual-in_err-operand.result c.from_residual-in_err-operand.ensures.1 in
     rw (p.1, p.2) (passed_on comparison_of conjunction_of c.in_err-operand.field-0.0 _ _ c.in_err-operand.ensures.reads
-    (λ none. chain_fails conjunction_from c.more.invariant (behind_fails (comparison_at c.args.depth) (words c.in-Some.after) (after_and (words c.more.left)) (ap after_and c.in-Some.ensures) none)))
+    (λ none. chain_fails conjunction_from c.more.invariant (behind_fails (comparison_at c.args.depth) (words c.in-Some.after) (after_and (words c.more.left)) (ap after_and c.in-Some.ensures.is) none)))
 
 pub conjunction-more-preserved : goal.conjunction-more-preserved
 conjunction-more-preserved t c =
     chain_step comparison_of c.more.more.items _ c.in_ok-operand.operand (words c.in_ok-operand.behind) c.in_ok-push.ensures.items c.more.invariant
-    (behind_found (comparison_at c.args.depth) (words c.in-Some.after) (words c.in_ok-operand.behind) (comparison_of c.in_ok-operand.operand) (after_and (words c.more.left)) (ap after_and c.in-Some.ensures) c.in_ok-operand.ensures.reads)
-    (below _ _ _ c.in_ok-operand.ensures.shorter (behind_word _ _ _ c.in-Some.ensures))
+    (behind_found (comparison_at c.args.depth) (words c.in-Some.after) (words c.in_ok-operand.behind) (comparison_of c.in_ok-operand.operand) (after_and (words c.more.left)) (ap after_and c.in-Some.ensures.is) c.in_ok-operand.ensures.reads)
+    (below _ _ _ c.in_ok-operand.ensures.shorter (behind_word _ _ _ c.in-Some.ensures.is))
 
 pub conjunction-returns-clause-reads : goal.conjunction-returns-clause-reads
-conjunction-returns-clause-reads t c = chain_end conjunction_from c.more.invariant (ap (behind_by (comparison_at c.args.depth)) (none_and (words c.more.left) c.in_default.ensures))
+conjunction-returns-clause-reads t c = chain_end conjunction_from c.more.invariant (ap (behind_by (comparison_at c.args.depth)) (none_and (words c.more.left) c.in_default.ensures.is))
 
 pub inner-returns-in-Some-clause-reads : goal.inner-returns-in-Some-clause-reads
 inner-returns-in-Some-clause-reads t c =
@@ -127,7 +127,7 @@ primary-returns-in_default-kind-clause-reads t c =
 pub named-returns-clause-reads : goal.named-returns-clause-reads
 named-returns-clause-reads t c =
     subst (Gives primary_of c.unindexed.result)
-    (sym (named_unindexed (expression_in c.args.depth) c.args.name (words c.args.rest) c.in_default.ensures))
+    (sym (named_unindexed (expression_in c.args.depth) c.args.name (words c.args.rest) c.in_default.ensures.is))
     c.unindexed.ensures.reads
 
 pub expression-more-init : goal.expression-more-init

@@ -1,5 +1,5 @@
 use Rattle.syntax.specs.SourceReading.{expression}
-use Rattle.parser.proofs.front.expression.Goals as goal
+use Rattle.parser.proofs.cursor.Cursor.expression.Goals as goal
 
 -- what may be open at once is what an expression may hold in itself
 pub returns-clause-reads : goal.returns-clause-reads
