@@ -10,7 +10,7 @@ use Rattle.decimal.proofs.NumberLaws.{value_of-longer, all_ascii_digits-append}
 use Rattle.lexer.specs.declared.symbol.Symbol.{Symbol}
 use Rattle.lexer.specs.declared.token.TokenKind.TheVariants as kind
 use Rattle.lexer.specs.Bytes.{Every, is_white, is_letter, is_word_byte, is_quotable, is_in_line}
-use Rattle.lexer.specs.Runs.{EndsRun, IsRun, Quote, Mark, class_of, IsFirst}
+use Rattle.lexer.specs.Runs.{EndsRun, IsRun, Quote, Punctuation, class_of, IsFirst}
 use Rattle.lexer.specs.Spelling.{symbol_spelling}
 use Rattle.lexer.specs.Tokens.{IsWord, IsName, PieceKind, White, Comment, Lexeme, IsPiece, IsLongest, IsSmall, BeginsBadByte, BeginsUnfinishedText, BeginsLargeNumber}
 use Rattle.lexer.proofs.RunLaws.{ends_at, ends_whole}
@@ -60,7 +60,7 @@ quote_fault inside front rest whole all ends none = (
 )
 
 -- a byte that is no symbol, alone or with the next, and begins no comment
-no_mark : (a : ℕ) (bytes front rest : List ℕ) → ((symbol : Symbol) → symbol_spelling symbol ≢ a ∷ []) → IsNoPair a bytes → a ∷ bytes ≡ front ++ rest → PieceShape Mark front → ⊥
+no_mark : (a : ℕ) (bytes front rest : List ℕ) → ((symbol : Symbol) → symbol_spelling symbol ≢ a ∷ []) → IsNoPair a bytes → a ∷ bytes ≡ front ++ rest → PieceShape Punctuation front → ⊥
 no_mark a bytes front rest no_single no_pair same (inl (inside, all, is)) =
     let whole : a ∷ bytes ≡ 47 ∷ 47 ∷ inside ++ rest = same ∙ ap (λ f. f ++ rest) is in
     (no_pair 47 (inside ++ rest) (cc (whole))).1 (cc (whole)) refl
@@ -73,12 +73,12 @@ no_mark a bytes (b ∷ c ∷ []) rest no_single no_pair same (inr (bound, symbol
     (no_pair c rest (cc (same))).0 symbol (sym is ∙ ap (λ d. d ∷ c ∷ []) head)
 no_mark a bytes (b ∷ c ∷ d ∷ front) rest no_single no_pair same (inr (bound, symbol, is)) = omega (arith, bound.1)
 
-mark_not_quote : (a : ℕ) → class_of a ≡ Mark → a ≢ 34
+mark_not_quote : (a : ℕ) → class_of a ≡ Punctuation → a ≢ 34
 mark_not_quote a mark same =
-    let quote : Quote ≡ Mark = ap class_of (sym same) ∙ mark in
+    let quote : Quote ≡ Punctuation = ap class_of (sym same) ∙ mark in
     cc
 
-pub mark_fault : (a : ℕ) (bytes : List ℕ) → class_of a ≡ Mark → ((symbol : Symbol) → symbol_spelling symbol ≢ a ∷ []) → IsNoPair a bytes → BeginsBadByte (a ∷ bytes)
+pub mark_fault : (a : ℕ) (bytes : List ℕ) → class_of a ≡ Punctuation → ((symbol : Symbol) → symbol_spelling symbol ≢ a ∷ []) → IsNoPair a bytes → BeginsBadByte (a ∷ bytes)
 mark_fault a bytes mark no_single no_pair = (
   mark_not_quote a mark,
   λ other front others same piece.

@@ -6,7 +6,7 @@ use Rattle.std.specs.Str.{all_ascii_digits}
 use Rattle.lexer.specs.declared.symbol.Symbol.{Symbol}
 use Rattle.lexer.specs.declared.symbol.Symbol.TheVariants as symbol
 use Rattle.lexer.specs.declared.token.TokenKind.TheVariants as kind
-use Rattle.lexer.specs.Runs.{Class, Blank, Letter, Digit, Hash, Quote, Mark, class_of}
+use Rattle.lexer.specs.Runs.{Class, Blank, Letter, Digit, Hash, Quote, Punctuation, class_of}
 use Rattle.lexer.specs.Spelling.{symbol_spelling}
 use Rattle.lexer.specs.Tokens.{IsWord, PieceKind, White, Comment, Lexeme, IsPiece}
 use Rattle.lexer.proofs.ShapeLaws.{class_of-white, class_of-letter, class_of-digit}
@@ -15,7 +15,7 @@ use Rattle.lexer.proofs.SpellingLaws.{keyword_spelling-IsWord, keyword_spelling-
 -- the class of the first byte of a piece of this kind
 abbrev kind_class : PieceKind → Class
 kind_class White = Blank
-kind_class Comment = Mark
+kind_class Comment = Punctuation
 kind_class (Lexeme kind.Name) = Letter
 kind_class (Lexeme (kind.Number n)) = Digit
 kind_class (Lexeme kind.Label) = Hash

@@ -8,7 +8,7 @@ use Rattle.lexer.specs.declared.symbol.Symbol.{Symbol}
 use Rattle.lexer.specs.declared.symbol.Symbol.TheVariants as symbol
 use Rattle.lexer.specs.declared.token.TokenKind.TheVariants as kind
 use Rattle.lexer.specs.Bytes.{Every, is_white, is_letter, is_word_byte, is_quotable, is_in_line}
-use Rattle.lexer.specs.Runs.{EndsRun, Class, Blank, Letter, Digit, Hash, Quote, Mark, class_of}
+use Rattle.lexer.specs.Runs.{EndsRun, Class, Blank, Letter, Digit, Hash, Quote, Punctuation, class_of}
 use Rattle.lexer.specs.Spelling.{symbol_spelling}
 use Rattle.lexer.specs.Tokens.{IsWord, IsName, PieceKind, White, Comment, Lexeme, IsPiece, IsLongest}
 use Rattle.lexer.proofs.ShapeLaws.{PieceShape, piece_shape, class_of-white, class_of-letter, class_of-digit}
@@ -76,7 +76,7 @@ nil_of_length [] none = refl
 nil_of_length (x ∷ xs) none = absurd (omega arith)
 
 -- a comment, up to the line feed
-comment_alone : (inside more others rest : List ℕ) → EndsRun is_in_line rest → rest ≡ more ++ others → PieceShape Mark (47 ∷ 47 ∷ inside ++ more) → more ≡ []
+comment_alone : (inside more others rest : List ℕ) → EndsRun is_in_line rest → rest ≡ more ++ others → PieceShape Punctuation (47 ∷ 47 ∷ inside ++ more) → more ≡ []
 comment_alone inside more others rest ends same (inl comment) =
     let tail : inside ++ more ≡ comment.0 = cc (comment.2) in
     run_longest is_in_line inside more others rest (subst (Every is_in_line) (sym tail) comment.1) ends same
@@ -87,7 +87,7 @@ pub comment_longest : (inside rest : List ℕ) → Every is_in_line inside → E
 comment_longest inside rest all ends = record {
   is = (inside, all, refl);
   longest = λ other more others same piece.
-      comment_alone inside more others rest ends same (longer_shape other 47 (47 ∷ inside) more Mark refl piece);
+      comment_alone inside more others rest ends same (longer_shape other 47 (47 ∷ inside) more Punctuation refl piece);
 }
 
 -- a word and the = behind it are no symbol
@@ -178,22 +178,22 @@ text_longest inside rest all = record {
 }
 
 -- symbols of two bytes and of one
-pair_alone : (a b : ℕ) (more : List ℕ) → (a ≡ 47 → b ≡ 47 → ⊥) → PieceShape Mark (a ∷ b ∷ more) → more ≡ []
+pair_alone : (a b : ℕ) (more : List ℕ) → (a ≡ 47 → b ≡ 47 → ⊥) → PieceShape Punctuation (a ∷ b ∷ more) → more ≡ []
 pair_alone a b more no_comment (inl comment) = absurd (no_comment (cc (comment.2)) (cc (comment.2)))
 pair_alone a b more no_comment (inr symbol) = nil_of_length more (omega (arith, symbol.0.1))
 
-pub pair_longest : (symbol : Symbol) (a b : ℕ) (rest : List ℕ) → class_of a ≡ Mark → symbol_spelling symbol ≡ a ∷ b ∷ [] → (a ≡ 47 → b ≡ 47 → ⊥) → IsLongest (record { kind = Lexeme (kind.Symbol symbol); text = a ∷ b ∷ [] }) rest
+pub pair_longest : (symbol : Symbol) (a b : ℕ) (rest : List ℕ) → class_of a ≡ Punctuation → symbol_spelling symbol ≡ a ∷ b ∷ [] → (a ≡ 47 → b ≡ 47 → ⊥) → IsLongest (record { kind = Lexeme (kind.Symbol symbol); text = a ∷ b ∷ [] }) rest
 pair_longest symbol a b rest mark spelled no_comment = record {
   is = sym spelled;
   longest = λ other more others same piece.
-      pair_alone a b more no_comment (longer_shape other a (b ∷ []) more Mark mark piece);
+      pair_alone a b more no_comment (longer_shape other a (b ∷ []) more Punctuation mark piece);
 }
 
 -- no piece of two bytes begins so
 abbrev pub IsNoPair : ℕ → List ℕ → Type 0
 IsNoPair a rest = (b : ℕ) (others : List ℕ) → rest ≡ b ∷ others → ((symbol : Symbol) → symbol_spelling symbol ≢ a ∷ b ∷ []) × (a ≡ 47 → b ≡ 47 → ⊥)
 
-single_alone : (a : ℕ) (more others rest : List ℕ) → IsNoPair a rest → rest ≡ more ++ others → PieceShape Mark (a ∷ more) → more ≡ []
+single_alone : (a : ℕ) (more others rest : List ℕ) → IsNoPair a rest → rest ≡ more ++ others → PieceShape Punctuation (a ∷ more) → more ≡ []
 single_alone a [] others rest none same shape = refl
 single_alone a (b ∷ more) others rest none same (inl comment) =
     absurd ((none b (more ++ others) same).1 (cc (comment.2)) (cc (comment.2)))
@@ -201,9 +201,9 @@ single_alone a (b ∷ more) others rest none same (inr (bound, symbol, is)) =
     let two : more ≡ [] = nil_of_length more (omega (arith, bound.1)) in
     absurd ((none b (more ++ others) same).0 symbol (sym is ∙ ap (λ m. a ∷ b ∷ m) two))
 
-pub single_longest : (symbol : Symbol) (a : ℕ) (rest : List ℕ) → class_of a ≡ Mark → symbol_spelling symbol ≡ a ∷ [] → IsNoPair a rest → IsLongest (record { kind = Lexeme (kind.Symbol symbol); text = a ∷ [] }) rest
+pub single_longest : (symbol : Symbol) (a : ℕ) (rest : List ℕ) → class_of a ≡ Punctuation → symbol_spelling symbol ≡ a ∷ [] → IsNoPair a rest → IsLongest (record { kind = Lexeme (kind.Symbol symbol); text = a ∷ [] }) rest
 single_longest symbol a rest mark spelled none = record {
   is = sym spelled;
   longest = λ other more others same piece.
-      single_alone a more others rest none same (longer_shape other a [] more Mark mark piece);
+      single_alone a more others rest none same (longer_shape other a [] more Punctuation mark piece);
 }

@@ -7,7 +7,7 @@ use Rattle.std.proofs.lemmas.Bool.Decides.{nat_tests}
 use Rattle.lexer.specs.declared.symbol.Symbol.{Symbol}
 use Rattle.lexer.specs.declared.token.TokenKind.TheVariants as kind
 use Rattle.lexer.specs.Bytes.{Every, is_white, is_letter}
-use Rattle.lexer.specs.Runs.{Class, Blank, Letter, Digit, Hash, Quote, Mark, class_of}
+use Rattle.lexer.specs.Runs.{Class, Blank, Letter, Digit, Hash, Quote, Punctuation, class_of}
 use Rattle.lexer.specs.Spelling.{symbol_spelling}
 use Rattle.lexer.specs.Tokens.{IsWord, PieceKind, White, Comment, Lexeme, IsPiece}
 use Rattle.lexer.proofs.SpellingLaws.{keyword_spelling-IsWord, SymbolShape, symbol_spelling-SymbolShape}
@@ -30,7 +30,7 @@ digit-not_letter b digit = grind (arith, nat_tests)
 pub class_of-digit : (b : ℕ) → is_ascii_digit b ≡ true → class_of b ≡ Digit
 class_of-digit b digit = rw (digit-not_white b digit, digit-not_letter b digit, digit) refl
 
-pub class_of-mark : (b : ℕ) → is_white b ≡ false → is_letter b ≡ false → is_ascii_digit b ≡ false → b ≢ 35 → b ≢ 34 → class_of b ≡ Mark
+pub class_of-mark : (b : ℕ) → is_white b ≡ false → is_letter b ≡ false → is_ascii_digit b ≡ false → b ≢ 35 → b ≢ 34 → class_of b ≡ Punctuation
 class_of-mark b white letter digit hash quote = grind (arith, nat_tests)
 
 -- what a piece is that begins with a byte of this class
@@ -40,7 +40,7 @@ PieceShape Letter text = IsWord text ⊎ SymbolShape Letter text
 PieceShape Digit text = all_ascii_digits text ≡ true
 PieceShape Hash text = IsPiece (Lexeme kind.Label) text
 PieceShape Quote text = IsPiece (Lexeme kind.Text) text
-PieceShape Mark text = IsPiece Comment text ⊎ (SymbolShape Mark text × (symbol : Symbol) × (text ≡ symbol_spelling symbol))
+PieceShape Punctuation text = IsPiece Comment text ⊎ (SymbolShape Punctuation text × (symbol : Symbol) × (text ≡ symbol_spelling symbol))
 
 word_shape : (text : List ℕ) → IsWord text → PieceShape (class_of (get_or text 0 0)) text
 word_shape [] word = absurd word
@@ -48,7 +48,7 @@ word_shape (b ∷ bytes) word = rw (class_of-letter b word.0) (inl word)
 
 symbol_shape : (symbol : Symbol) (class : Class) → SymbolShape class (symbol_spelling symbol) → PieceShape class (symbol_spelling symbol)
 symbol_shape symbol Letter shape = inr shape
-symbol_shape symbol Mark shape = inr (shape, symbol, refl)
+symbol_shape symbol Punctuation shape = inr (shape, symbol, refl)
 symbol_shape symbol Blank shape = absurd shape
 symbol_shape symbol Digit shape = absurd shape
 symbol_shape symbol Hash shape = absurd shape

@@ -7,7 +7,7 @@ use Rattle.lexer.specs.declared.keyword.Keyword.TheVariants as keyword
 use Rattle.lexer.specs.declared.symbol.Symbol.{Symbol}
 use Rattle.lexer.specs.declared.symbol.Symbol.TheVariants as symbol
 use Rattle.lexer.specs.Bytes.{Every, is_letter, is_word_byte}
-use Rattle.lexer.specs.Runs.{Class, Letter, Mark, class_of}
+use Rattle.lexer.specs.Runs.{Class, Letter, Punctuation, class_of}
 use Rattle.lexer.specs.declared.keyword.TheConstants.{KEYWORDS}
 use Rattle.lexer.specs.Spelling.{keyword_spelling, place_of, symbol_spelling}
 use Rattle.lexer.specs.Tokens.{IsWord}
@@ -121,7 +121,7 @@ keyword_spelling-IsWord word = is_word-IsWord (keyword_spelling word) (is_word-s
 -- what a symbol is that begins with a byte of this class
 abbrev pub SymbolShape : Class → List ℕ → Type 0
 SymbolShape Letter text = (text ≡ codes "min=") ⊎ (text ≡ codes "max=")
-SymbolShape Mark text = (0 < length text) × (length text ≤ 2)
+SymbolShape Punctuation text = (0 < length text) × (length text ≤ 2)
 SymbolShape _ text = ⊥
 
 pub symbol_spelling-SymbolShape : (s : Symbol) → SymbolShape (class_of (get_or (symbol_spelling s) 0 0)) (symbol_spelling s)

@@ -15,7 +15,7 @@ pub data Class : Type 0 where
   Digit : Class
   Hash : Class
   Quote : Class
-  Mark : Class
+  Punctuation : Class
 
 abbrev pub class_of : ℕ → Class
 class_of b =
@@ -24,7 +24,7 @@ class_of b =
     if is_ascii_digit b then Digit else
     if b == 35 then Hash else
     if b == 34 then Quote else
-    Mark
+    Punctuation
 
 -- a run of the test does not go on
 abbrev pub EndsRun : (ℕ → Bool) → List ℕ → Type 0

@@ -2,7 +2,7 @@
 ghost use Rattle.std.specs.Prelude.{◌≡◌, ◌≢◌, ◌+◌, ◌^◌, ◌<◌, ℕ, true, List, ◌∷◌, length, slice_index, MatchBool};
 ghost use Rattle.std.specs.Char.{is_ascii_digit};
 ghost use Rattle.lexer.specs.Bytes.{Every, is_letter, is_word_byte};
-ghost use Rattle.lexer.specs.Runs.{Mark, class_of, IsFront, IsReduction, IsPair};
+ghost use Rattle.lexer.specs.Runs.{Punctuation, class_of, IsFront, IsReduction, IsPair};
 ghost use Rattle.lexer.specs.Tokens.{IsWord, IsName};
 
 use crate::bytes::{begins_with, is_letter, is_white, line_len, quotable_len, white_len, word_len};
@@ -142,7 +142,7 @@ fn quoted(inside: &[u8]) -> Front
 /// A symbol, given its first byte and what stands behind that, which together begin no comment.
 #[inline]
 fn mark(first: u8, rest: &[u8]) -> Front
-    requires class { class_of first ≡ Mark }
+    requires class { class_of first ≡ Punctuation }
     requires no_comment { (others : List ℕ) → first ∷ rest.now ≢ 47 ∷ 47 ∷ others }
     ensures { IsFront (first ∷ rest.now) result }
 {

@@ -5,7 +5,7 @@ use Rattle.lexer.specs.declared.error.LexError.{LexError}
 use Rattle.lexer.specs.declared.error.LexError.TheVariants as lexer
 use Rattle.lexer.specs.Tokens.{HasTokens, slice_of}
 use Rattle.lexer.proofs.ReadingLaws.{reads_unique}
-use Rattle.syntax.specs.Words.{words_of, word_of}
+use Rattle.syntax.specs.Terminals.{terminals_of, terminal_of}
 use Rattle.syntax.specs.SourceTrees.{SourceTree}
 use Rattle.syntax.specs.Nesting.{limit, StaysWithin, PassesAt, nesting_behind}
 use Rattle.parser.specs.declared.error.ParseError.{ParseError}
@@ -13,11 +13,11 @@ use Rattle.parser.specs.declared.error.ParseError.TheVariants.{BadByte, NumberTo
 use Rattle.parser.specs.Outcome.{Parses, without_place}
 
 -- tokens that nest within the limit pass it nowhere
-stays_or_passes : (text : List ℕ) (n : ℕ) (tokens : List Token) (at : ℕ) → StaysWithin limit n (words_of text tokens) → PassesAt text n tokens at → ⊥
+stays_or_passes : (text : List ℕ) (n : ℕ) (tokens : List Token) (at : ℕ) → StaysWithin limit n (terminals_of text tokens) → PassesAt text n tokens at → ⊥
 stays_or_passes text n [] at stays passes = passes
 stays_or_passes text n (token ∷ tokens) at stays (inl passes) = let h = stays.0 in let k = passes.0 in absurd (omega arith)
 stays_or_passes text n (token ∷ tokens) at stays (inr passes) =
-    stays_or_passes text (nesting_behind (word_of token.kind (slice_of text token.span) token.span.start) n) tokens at stays.1 passes.1
+    stays_or_passes text (nesting_behind (terminal_of token.kind (slice_of text token.span) token.span.start) n) tokens at stays.1 passes.1
 
 -- they pass it first at one offset
 passes_once : (text : List ℕ) (n : ℕ) (tokens : List Token) (x y : ℕ) → PassesAt text n tokens x → PassesAt text n tokens y → x ≡ y
@@ -26,20 +26,20 @@ passes_once text n (token ∷ tokens) x y (inl a) (inl b) = a.1 ∙ sym b.1
 passes_once text n (token ∷ tokens) x y (inl a) (inr b) = let h = a.0 in let k = b.0 in absurd (omega arith)
 passes_once text n (token ∷ tokens) x y (inr a) (inl b) = let h = a.0 in let k = b.0 in absurd (omega arith)
 passes_once text n (token ∷ tokens) x y (inr a) (inr b) =
-    passes_once text (nesting_behind (word_of token.kind (slice_of text token.span) token.span.start) n) tokens x y a.1 b.1
+    passes_once text (nesting_behind (terminal_of token.kind (slice_of text token.span) token.span.start) n) tokens x y a.1 b.1
 
 same_tokens : (text : List ℕ) (tokens others : List Token) → HasTokens text tokens → HasTokens text others → tokens ≡ others
 same_tokens text tokens others a b = let e : ◌≡◌ {A = Result (List Token) LexError} (Ok tokens) (Ok others) = reads_unique text (Ok tokens) (Ok others) a b in cc
 
-same_words : (text : List ℕ) (tokens others : List Token) → HasTokens text tokens → HasTokens text others → words_of text tokens ≡ words_of text others
-same_words text tokens others a b = ap (words_of text) (same_tokens text tokens others a b)
+same_terminals : (text : List ℕ) (tokens others : List Token) → HasTokens text tokens → HasTokens text others → terminals_of text tokens ≡ terminals_of text others
+same_terminals text tokens others a b = ap (terminals_of text) (same_tokens text tokens others a b)
 
 pub one_answer : (text : List ℕ) (answer other : Result SourceTree ParseError) → Parses text answer → Parses text other → without_place answer ≡ without_place other
-one_answer text (Ok sx) (Ok sy) a b = ap Ok (sym (a.only sy (same_words text a.tokens b.tokens a.reads b.reads ∙ b.spelled)))
+one_answer text (Ok sx) (Ok sy) a b = ap Ok (sym (a.only sy (same_terminals text a.tokens b.tokens a.reads b.reads ∙ b.spelled)))
 one_answer text (Ok sx) (Err (BadByte y)) a b = let e : ◌≡◌ {A = Result (List Token) LexError} (Ok a.tokens) (Err (lexer.BadByte y)) = reads_unique text (Ok a.tokens) (Err (lexer.BadByte y)) a.reads b in cc
 one_answer text (Ok sx) (Err (NumberTooLarge y)) a b = let e : ◌≡◌ {A = Result (List Token) LexError} (Ok a.tokens) (Err (lexer.NumberTooLarge y)) = reads_unique text (Ok a.tokens) (Err (lexer.NumberTooLarge y)) a.reads b in cc
 one_answer text (Ok sx) (Err (UnfinishedText y)) a b = let e : ◌≡◌ {A = Result (List Token) LexError} (Ok a.tokens) (Err (lexer.UnfinishedText y)) = reads_unique text (Ok a.tokens) (Err (lexer.UnfinishedText y)) a.reads b in cc
-one_answer text (Ok sx) (Err (Unexpected y)) a b = absurd (b.none sx (sym (same_words text a.tokens b.tokens a.reads b.reads) ∙ a.spelled))
+one_answer text (Ok sx) (Err (Unexpected y)) a b = absurd (b.none sx (sym (same_terminals text a.tokens b.tokens a.reads b.reads) ∙ a.spelled))
 one_answer text (Ok sx) (Err (TooDeep y)) a b = absurd (stays_or_passes text 0 a.tokens y a.within (subst (λ tokens. PassesAt text 0 tokens y) (sym (same_tokens text a.tokens b.tokens a.reads b.reads)) b.passes))
 one_answer text (Ok sx) (Err NoMemory) a b = absurd b
 one_answer text (Err (BadByte x)) (Ok sy) a b = let e : ◌≡◌ {A = Result (List Token) LexError} (Err (lexer.BadByte x)) (Ok b.tokens) = reads_unique text (Err (lexer.BadByte x)) (Ok b.tokens) a b.reads in cc
@@ -63,7 +63,7 @@ one_answer text (Err (UnfinishedText x)) (Err (UnfinishedText y)) a b = let e : 
 one_answer text (Err (UnfinishedText x)) (Err (Unexpected y)) a b = let e : ◌≡◌ {A = Result (List Token) LexError} (Err (lexer.UnfinishedText x)) (Ok b.tokens) = reads_unique text (Err (lexer.UnfinishedText x)) (Ok b.tokens) a b.reads in cc
 one_answer text (Err (UnfinishedText x)) (Err (TooDeep y)) a b = let e : ◌≡◌ {A = Result (List Token) LexError} (Err (lexer.UnfinishedText x)) (Ok b.tokens) = reads_unique text (Err (lexer.UnfinishedText x)) (Ok b.tokens) a b.reads in cc
 one_answer text (Err (UnfinishedText x)) (Err NoMemory) a b = absurd b
-one_answer text (Err (Unexpected x)) (Ok sy) a b = absurd (a.none sy (same_words text a.tokens b.tokens a.reads b.reads ∙ b.spelled))
+one_answer text (Err (Unexpected x)) (Ok sy) a b = absurd (a.none sy (same_terminals text a.tokens b.tokens a.reads b.reads ∙ b.spelled))
 one_answer text (Err (Unexpected x)) (Err (BadByte y)) a b = let e : ◌≡◌ {A = Result (List Token) LexError} (Ok a.tokens) (Err (lexer.BadByte y)) = reads_unique text (Ok a.tokens) (Err (lexer.BadByte y)) a.reads b in cc
 one_answer text (Err (Unexpected x)) (Err (NumberTooLarge y)) a b = let e : ◌≡◌ {A = Result (List Token) LexError} (Ok a.tokens) (Err (lexer.NumberTooLarge y)) = reads_unique text (Ok a.tokens) (Err (lexer.NumberTooLarge y)) a.reads b in cc
 one_answer text (Err (Unexpected x)) (Err (UnfinishedText y)) a b = let e : ◌≡◌ {A = Result (List Token) LexError} (Ok a.tokens) (Err (lexer.UnfinishedText y)) = reads_unique text (Ok a.tokens) (Err (lexer.UnfinishedText y)) a.reads b in cc

@@ -1,4 +1,4 @@
--- The trees of statements that hold blocks, and what reading statements comes to by their first word.
+-- The trees of statements that hold blocks, and what reading statements comes to by their first terminal.
 use Rattle.std.proofs.Common.{◌≡◌, sym, ◌∙◌, ℕ, zero, suc, true, false, List, [], ◌∷◌, map, Option, Some, None, ap, refl, rules}
 use Rattle.std.specs.Global.{Vec}
 use Rattle.std.proofs.lemmas.Bool.{false≢true}
@@ -6,7 +6,7 @@ use Rattle.std.specs.Option.{is_some}
 use Rattle.lexer.specs.declared.keyword.Keyword.{Keyword}
 use Rattle.lexer.specs.declared.keyword.Keyword.TheVariants as keyword
 use Rattle.lexer.specs.declared.symbol.Symbol.TheVariants as symbol
-use Rattle.syntax.specs.Words.{Word, Identifier, Opening, Reserved, Mark, keyword_word}
+use Rattle.syntax.specs.Terminals.{Terminal, Identifier, Opening, OfKeyword, OfSymbol, keyword_terminal}
 use Rattle.syntax.specs.ExpressionReading.{Reader, ◌>>=◌}
 use Rattle.syntax.specs.ExpressionTrees.{ExpressionTree}
 use Rattle.syntax.specs.declared.statement.Statement.{Statement}
@@ -16,7 +16,7 @@ use Rattle.syntax.specs.declared.statement.Action.TheViews.{the_lemmas}
 use Rattle.syntax.proofs.Loops.{Goes, goes_end, goes_fails}
 use Rattle.syntax.specs.SourceTrees.{BlockTree, ActionTree, While, For, If, IfElse, Then}
 use Rattle.syntax.specs.SourceViews.{action_tree, rows_tree, block_tree, statement_of}
-use Rattle.syntax.specs.SourceReading.{expression, name_at, after_word, after_words, closed, else_by, action_by, block_by, block_at, block_from, next_statement, statement_by, begins_statement, where_begins}
+use Rattle.syntax.specs.SourceReading.{expression, name_at, after_terminal, after_terminals, closed, else_by, action_by, block_by, block_at, block_from, next_statement, statement_by, begins_statement, where_begins}
 use Rattle.parser.proofs.Steps.{bind_bind, bind_same}
 use Rattle.parser.specs.declared.block.Opening.{Opening as Begun}
 use Rattle.parser.specs.declared.block.Opening.TheVariants as opening
@@ -45,11 +45,11 @@ pub block_from-map : (items : List Statement) → block_from (map statement_of i
 block_from-map [] = refl
 block_from-map (s ∷ items) = ap (Then s.label (action_tree s.action)) (block_from-map items)
 
-pub block_at-is : (depth : ℕ) (ws : List Word) → block_at depth ws ≡ block_by (action_at depth) ws
+pub block_at-is : (depth : ℕ) (ws : List Terminal) → block_at depth ws ≡ block_by (action_at depth) ws
 block_at-is zero ws = refl
 block_at-is (suc depth) ws = refl
 
-module _ (depth : ℕ) {start : List Word} {front : List (Option Identifier × ActionTree)} {left : List Word} where
+module _ (depth : ℕ) {start : List Terminal} {front : List (Option Identifier × ActionTree)} {left : List Terminal} where
   pub block_ends : Goes (next_statement (action_at depth)) start front left → begins_statement left ≡ false → block_at depth start ≡ Some (block_from front, left)
   block_ends goes begins =
       block_at-is depth start
@@ -59,41 +59,41 @@ module _ (depth : ℕ) {start : List Word} {front : List (Option Identifier × A
   block_fails goes begins none =
       block_at-is depth start
       ∙ ap (λ r. r >>= λ b. Some (block_from b.0, b.1))
-      (goes_fails goes (ap (λ b. where_begins b (statement_by (action_at depth) left)) begins ∙ ap (λ (r : Option ((Option Identifier × ActionTree) × List Word)). Some r) none))
+      (goes_fails goes (ap (λ b. where_begins b (statement_by (action_at depth) left)) begins ∙ ap (λ (r : Option ((Option Identifier × ActionTree) × List Terminal)). Some r) none))
 
 -- `end` behind a block, and the statement of the block
-closed_is : (block : Reader BlockTree) (ws : List Word) (action : BlockTree → ActionTree)
-    → (to_end_by block ws >>= λ b. Some (action b.0, b.1)) ≡ (block ws >>= λ b. closed (Reserved keyword.End ∷ []) (action b.0, b.1))
+closed_is : (block : Reader BlockTree) (ws : List Terminal) (action : BlockTree → ActionTree)
+    → (to_end_by block ws >>= λ b. Some (action b.0, b.1)) ≡ (block ws >>= λ b. closed (OfKeyword keyword.End ∷ []) (action b.0, b.1))
 closed_is block ws action =
-    bind_bind (block ws) _ _ _ (λ b. bind_bind (after_words (Reserved keyword.End ∷ []) b.1) _ _ _ (λ rest. refl))
+    bind_bind (block ws) _ _ _ (λ b. bind_bind (after_terminals (OfKeyword keyword.End ∷ []) b.1) _ _ _ (λ rest. refl))
 
-while_is : (block : Reader BlockTree) (at : ℕ) (ws : List Word) → action_by block (Opening keyword.While at ∷ ws) ≡ opened_by block opening.While at ws
+while_is : (block : Reader BlockTree) (at : ℕ) (ws : List Terminal) → action_by block (Opening keyword.While at ∷ ws) ≡ opened_by block opening.While at ws
 while_is block at ws = bind_same (expression ws) _ _ (λ e. sym (closed_is block e.1 (While at e.0)))
 
-else_is : (block : Reader BlockTree) (at : ℕ) (test : ExpressionTree) (body : BlockTree × List Word) (after : Option (List Word))
+else_is : (block : Reader BlockTree) (at : ℕ) (test : ExpressionTree) (body : BlockTree × List Terminal) (after : Option (List Terminal))
     → else_by block at test body after ≡ otherwise_by block at test body after
 else_is block at test body None = refl
 else_is block at test body (Some after) = sym (closed_is block after (IfElse at test body.0))
 
-if_is : (block : Reader BlockTree) (at : ℕ) (ws : List Word) → action_by block (Opening keyword.If at ∷ ws) ≡ opened_by block opening.If at ws
+if_is : (block : Reader BlockTree) (at : ℕ) (ws : List Terminal) → action_by block (Opening keyword.If at ∷ ws) ≡ opened_by block opening.If at ws
 if_is block at ws =
     bind_same (expression ws) _ _ (λ e.
-    bind_same (block e.1) _ _ (λ b. else_is block at e.0 b (after_word (Reserved keyword.Else) b.1)))
+    bind_same (block e.1) _ _ (λ b. else_is block at e.0 b (after_terminal (OfKeyword keyword.Else) b.1)))
 
-for_is : (block : Reader BlockTree) (at : ℕ) (ws : List Word) → action_by block (Opening keyword.For at ∷ ws) ≡ opened_by block opening.For at ws
+for_is : (block : Reader BlockTree) (at : ℕ) (ws : List Terminal) → action_by block (Opening keyword.For at ∷ ws) ≡ opened_by block opening.For at ws
 for_is block at ws =
     sym (bind_bind (name_at ws) _ _ _ (λ n.
-    bind_bind (after_word (Reserved keyword.In) n.1) _ _ _ (λ a.
+    bind_bind (after_terminal (OfKeyword keyword.In) n.1) _ _ _ (λ a.
     bind_bind (expression a) _ _ _ (λ e.
-    bind_bind (after_word (Mark symbol.Colon) e.1) _ _ _ (λ c.
+    bind_bind (after_terminal (OfSymbol symbol.Colon) e.1) _ _ _ (λ c.
     bind_bind (expression c) _ _ _ (λ f. closed_is block f.1 (For at n.0 e.0 f.0)))))))
 
 same_opening : (o p : Begun) → Some o ≡ Some p → o ≡ p
 same_opening o p is = cc is
 
 -- what a statement does that begins with such a keyword
-pub opened_is : (block : Reader BlockTree) (word : Keyword) (at : ℕ) (opening : Begun) (ws : List Word) → opening_of word ≡ Some opening
-    → action_by block (keyword_word word at ∷ ws) ≡ opened_by block opening at ws
+pub opened_is : (block : Reader BlockTree) (terminal : Keyword) (at : ℕ) (opening : Begun) (ws : List Terminal) → opening_of terminal ≡ Some opening
+    → action_by block (keyword_terminal terminal at ∷ ws) ≡ opened_by block opening at ws
 opened_is block keyword.Var at o ws is = ap (λ o. opened_by block o at ws) (same_opening opening.Var o is)
 opened_is block keyword.While at o ws is = while_is block at ws ∙ ap (λ o. opened_by block o at ws) (same_opening opening.While o is)
 opened_is block keyword.For at o ws is = for_is block at ws ∙ ap (λ o. opened_by block o at ws) (same_opening opening.For o is)
@@ -101,7 +101,7 @@ opened_is block keyword.If at o ws is = if_is block at ws ∙ ap (λ o. opened_b
 opened_is block keyword.Print at o ws is = ap (λ o. opened_by block o at ws) (same_opening opening.Print o is)
 opened_is block _ at o ws is = absurd (false≢true (ap is_some is))
 
-pub next_is : (depth : ℕ) (left rest : List Word) (s : Option Identifier × ActionTree) → begins_statement left ≡ true → statement_by (action_at depth) left ≡ Some (s, rest)
+pub next_is : (depth : ℕ) (left rest : List Terminal) (s : Option Identifier × ActionTree) → begins_statement left ≡ true → statement_by (action_at depth) left ≡ Some (s, rest)
     → next_statement (action_at depth) left ≡ Some (Some (s, rest))
 next_is depth left rest s begins is =
-    ap (λ b. where_begins b (statement_by (action_at depth) left)) begins ∙ ap (λ (r : Option ((Option Identifier × ActionTree) × List Word)). Some r) is
+    ap (λ b. where_begins b (statement_by (action_at depth) left)) begins ∙ ap (λ (r : Option ((Option Identifier × ActionTree) × List Terminal)). Some r) is

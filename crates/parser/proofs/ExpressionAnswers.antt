@@ -1,6 +1,6 @@
 -- What reading gives is what the grammar says.
 use Rattle.std.proofs.Common.{◌≡◌, sym, ◌∙◌, subst, ℕ, List, Option, Some, None, Ok, Err, Result}
-use Rattle.syntax.specs.Words.{Word}
+use Rattle.syntax.specs.Terminals.{Terminal}
 use Rattle.syntax.specs.ExpressionTrees.{ExpressionTree}
 use Rattle.syntax.specs.ExpressionBeginnings.{Begins}
 use Rattle.syntax.specs.ExpressionReading.{expression_at}
@@ -11,10 +11,10 @@ use Rattle.parser.specs.declared.syntax_error.SyntaxError.{SyntaxError}
 use Rattle.parser.specs.declared.syntax_error.SyntaxError.TheVariants.{Unexpected, NoMemory}
 use Rattle.parser.specs.Readers.{Gives, AnswersBegins}
 
-pub answers : (depth : ℕ) (ws : List Word) (answer : Result (ExpressionTree × Cursor) SyntaxError)
+pub answers : (depth : ℕ) (ws : List Terminal) (answer : Result (ExpressionTree × Cursor) SyntaxError)
     → Gives (λ (e : ExpressionTree). e) answer (expression_at depth ws) → AnswersBegins depth ws answer
 answers depth ws (Ok x) gives = subst (At (Begins depth) ws) gives (expressions_sound depth ws)
 answers depth ws (Err (Unexpected at)) gives = λ tree rest begins.
-    let found : ◌≡◌ {A = Option (ExpressionTree × List Word)} None (Some (tree, rest)) = sym gives ∙ expressions_complete depth ws tree rest begins in
+    let found : ◌≡◌ {A = Option (ExpressionTree × List Terminal)} None (Some (tree, rest)) = sym gives ∙ expressions_complete depth ws tree rest begins in
     cc
 answers depth ws (Err NoMemory) gives = tt

@@ -1,4 +1,4 @@
--- What reading a primary comes to, by its first word.
+-- What reading a primary comes to, by its first terminal.
 use Rattle.std.proofs.Common.{◌≡◌, ◌≢◌, refl, sym, ap, ◌∙◌, ℕ, zero, suc, List, ◌∷◌, Option, Some, None}
 use Rattle.lexer.specs.declared.keyword.Keyword.{Keyword}
 use Rattle.lexer.specs.declared.keyword.Keyword.TheVariants as keyword
@@ -6,56 +6,56 @@ use Rattle.lexer.specs.declared.symbol.Symbol.{Symbol}
 use Rattle.lexer.specs.declared.symbol.Symbol.TheVariants as symbol
 use Rattle.lexer.specs.declared.token.TokenKind.{TokenKind}
 use Rattle.lexer.specs.declared.token.TokenKind.TheVariants as kind
-use Rattle.syntax.specs.Words.{Word, Name, Mark, Identifier, keyword_word, word_of}
+use Rattle.syntax.specs.Terminals.{Terminal, Name, OfSymbol, Identifier, keyword_terminal, terminal_of}
 use Rattle.syntax.specs.ExpressionTrees.{ExpressionTree}
 use Rattle.parser.specs.Literals.{literal_at}
 use Rattle.parser.proofs.Fronts.{none_open_bracket}
 use Rattle.syntax.specs.ExpressionReading.{Reader, no_expression, primary_at, primary_by, expression_in, expression_at, named_by, after_open_bracket, after_dot}
 
-pub primary_at-is : (depth : ℕ) (ws : List Word) → primary_at depth ws ≡ primary_by (expression_in depth) ws
+pub primary_at-is : (depth : ℕ) (ws : List Terminal) → primary_at depth ws ≡ primary_by (expression_in depth) ws
 primary_at-is zero ws = refl
 primary_at-is (suc depth) ws = refl
 
-pub in_deeper : (depth inside : ℕ) (ws : List Word) → depth ≡ suc inside → expression_in depth ws ≡ expression_at inside ws
+pub in_deeper : (depth inside : ℕ) (ws : List Terminal) → depth ≡ suc inside → expression_in depth ws ≡ expression_at inside ws
 in_deeper depth inside ws is = ap (λ d. expression_in d ws) is
 
-pub primary_name : (depth : ℕ) (ws : List Word) (name : Identifier) (rest : List Word) → ws ≡ Name name ∷ rest
+pub primary_name : (depth : ℕ) (ws : List Terminal) (name : Identifier) (rest : List Terminal) → ws ≡ Name name ∷ rest
     → primary_at depth ws ≡ named_by (expression_in depth) name rest (after_open_bracket rest) (after_dot rest)
 primary_name depth ws name rest is = primary_at-is depth ws ∙ ap (primary_by (expression_in depth)) is
 
-no_symbol : (e : Reader ExpressionTree) (mark : Symbol) (rest : List Word) → mark ≢ symbol.OpenParenthesis → primary_by e (Mark mark ∷ rest) ≡ None
+no_symbol : (e : Reader ExpressionTree) (mark : Symbol) (rest : List Terminal) → mark ≢ symbol.OpenParenthesis → primary_by e (OfSymbol mark ∷ rest) ≡ None
 no_symbol e symbol.OpenParenthesis rest other = absurd (other refl)
 no_symbol e _ rest other = refl
 
-pub primary_symbol : (depth : ℕ) (ws : List Word) (mark : Symbol) (rest : List Word) → ws ≡ Mark mark ∷ rest → mark ≢ symbol.OpenParenthesis
+pub primary_symbol : (depth : ℕ) (ws : List Terminal) (mark : Symbol) (rest : List Terminal) → ws ≡ OfSymbol mark ∷ rest → mark ≢ symbol.OpenParenthesis
     → primary_at depth ws ≡ None
 primary_symbol depth ws mark rest is other = primary_at-is depth ws ∙ ap (primary_by (expression_in depth)) is ∙ no_symbol (expression_in depth) mark rest other
 
 -- a primary that begins neither with a name nor with a symbol
-literal_is : (e : Reader ExpressionTree) (k : TokenKind) (bytes : List ℕ) (at : ℕ) (rest : List Word) → k ≢ kind.Name → ((mark : Symbol) → k ≢ kind.Symbol mark)
-    → primary_by e (word_of k bytes at ∷ rest) ≡ literal_at (word_of k bytes at ∷ rest)
-literal_is e kind.Name bytes at rest no_name no_mark = absurd (no_name refl)
-literal_is e (kind.Number n) bytes at rest no_name no_mark = refl
-literal_is e kind.Label bytes at rest no_name no_mark = refl
-literal_is e kind.Text bytes at rest no_name no_mark = refl
-literal_is e (kind.Keyword word) bytes at rest no_name no_mark = go word
+literal_is : (e : Reader ExpressionTree) (k : TokenKind) (bytes : List ℕ) (at : ℕ) (rest : List Terminal) → k ≢ kind.Name → ((mark : Symbol) → k ≢ kind.Symbol mark)
+    → primary_by e (terminal_of k bytes at ∷ rest) ≡ literal_at (terminal_of k bytes at ∷ rest)
+literal_is e kind.Name bytes at rest no_name no_symbol = absurd (no_name refl)
+literal_is e (kind.Number n) bytes at rest no_name no_symbol = refl
+literal_is e kind.Label bytes at rest no_name no_symbol = refl
+literal_is e kind.Text bytes at rest no_name no_symbol = refl
+literal_is e (kind.Keyword terminal) bytes at rest no_name no_symbol = go terminal
   where
-    go : (word : Keyword) → primary_by e (keyword_word word at ∷ rest) ≡ literal_at (keyword_word word at ∷ rest)
+    go : (terminal : Keyword) → primary_by e (keyword_terminal terminal at ∷ rest) ≡ literal_at (keyword_terminal terminal at ∷ rest)
     go keyword.Const = refl
     go _ = refl
-literal_is e (kind.Symbol mark) bytes at rest no_name no_mark = absurd (no_mark mark refl)
+literal_is e (kind.Symbol mark) bytes at rest no_name no_symbol = absurd (no_symbol mark refl)
 
-pub primary_literal : (depth : ℕ) (ws : List Word) (k : TokenKind) (bytes : List ℕ) (at : ℕ) (rest : List Word) → ws ≡ word_of k bytes at ∷ rest
+pub primary_literal : (depth : ℕ) (ws : List Terminal) (k : TokenKind) (bytes : List ℕ) (at : ℕ) (rest : List Terminal) → ws ≡ terminal_of k bytes at ∷ rest
     → k ≢ kind.Name → ((mark : Symbol) → k ≢ kind.Symbol mark) → primary_at depth ws ≡ literal_at ws
-primary_literal depth ws k bytes at rest is no_name no_mark =
-    primary_at-is depth ws ∙ ap (primary_by (expression_in depth)) is ∙ literal_is (expression_in depth) k bytes at rest no_name no_mark ∙ sym (ap literal_at is)
+primary_literal depth ws k bytes at rest is no_name no_symbol =
+    primary_at-is depth ws ∙ ap (primary_by (expression_in depth)) is ∙ literal_is (expression_in depth) k bytes at rest no_name no_symbol ∙ sym (ap literal_at is)
 
-unindexed_is : (e : Reader ExpressionTree) (name : Identifier) (ws : List Word) (dot : Option (List Word)) → named_by e name ws None dot ≡ named_by no_expression name ws None dot
+unindexed_is : (e : Reader ExpressionTree) (name : Identifier) (ws : List Terminal) (dot : Option (List Terminal)) → named_by e name ws None dot ≡ named_by no_expression name ws None dot
 unindexed_is e name ws None = refl
 unindexed_is e name ws (Some after) = refl
 
 -- a name behind which no bracket is opened
-pub named_unindexed : (e : Reader ExpressionTree) (name : Identifier) (ws : List Word) → ((rest : List Word) → ws ≢ Mark symbol.OpenBracket ∷ rest)
+pub named_unindexed : (e : Reader ExpressionTree) (name : Identifier) (ws : List Terminal) → ((rest : List Terminal) → ws ≢ OfSymbol symbol.OpenBracket ∷ rest)
     → named_by e name ws (after_open_bracket ws) (after_dot ws) ≡ named_by no_expression name ws None (after_dot ws)
 named_unindexed e name ws other =
     ap (λ bracket. named_by e name ws bracket (after_dot ws)) (none_open_bracket ws other) ∙ unindexed_is e name ws (after_dot ws)

@@ -1,16 +1,16 @@
--- For proofs only: what the first words of a piece of a source decide.
+-- For proofs only: what the first terminals of a piece of a source decide.
 use Rattle.std.specs.Prelude.{Bool, true, false, List, [], ◌∷◌, ◌++◌, Option, Some, None}
 use Rattle.lexer.specs.declared.keyword.Keyword.{Keyword}
 use Rattle.lexer.specs.declared.keyword.Keyword.TheVariants as keyword
 use Rattle.lexer.specs.declared.symbol.Symbol.TheVariants as symbol
-use Rattle.syntax.specs.Words.{Word, Identifier, Name, Reserved, Mark}
+use Rattle.syntax.specs.Terminals.{Terminal, Identifier, Name, OfKeyword, OfSymbol}
 use Rattle.syntax.specs.ExpressionReading.{Reader, ◌>>=◌}
 use Rattle.syntax.specs.declared.declaration.DeclaredType.{DeclaredType}
 use Rattle.syntax.specs.declared.declaration.DeclaredType.TheVariants as type
 use Rattle.syntax.specs.declared.schedule.Setting.{Setting}
 use Rattle.syntax.specs.declared.schedule.Setting.TheVariants as setting
 use Rattle.syntax.specs.SourceTrees.{InitialTree, NewSet, Load, Vertices, OutDegrees, Filter, ApplyModified}
-use Rattle.syntax.specs.SourceReading.{in_braces, in_parentheses, after_word, after_words, closed, name_at, number_at, argument_at, method_at, ends_at}
+use Rattle.syntax.specs.SourceReading.{in_braces, in_parentheses, after_terminal, after_terminals, closed, name_at, number_at, argument_at, method_at, ends_at}
 
 -- the type that begins with a keyword
 abbrev pub begun_type : Keyword → Option DeclaredType
@@ -22,16 +22,16 @@ begun_type keyword.Vector = Some type.Vector
 begun_type keyword.EdgeSet = Some type.EdgeSet
 begun_type _ = None
 
--- the words of a type behind its first
-abbrev pub words_behind : DeclaredType → List Word
-words_behind type.Int = []
-words_behind type.Bool = []
-words_behind type.Vertex = []
-words_behind type.VertexSet = in_braces (Reserved keyword.Vertex)
-words_behind type.Vector = in_braces (Reserved keyword.Vertex) ++ in_parentheses (Reserved keyword.Int ∷ [])
-words_behind type.EdgeSet =
-    in_braces (Reserved keyword.Edge)
-    ++ in_parentheses (Reserved keyword.Vertex ∷ Mark symbol.Comma ∷ Reserved keyword.Vertex ∷ [])
+-- the terminals of a type behind its first
+abbrev pub terminals_behind : DeclaredType → List Terminal
+terminals_behind type.Int = []
+terminals_behind type.Bool = []
+terminals_behind type.Vertex = []
+terminals_behind type.VertexSet = in_braces (OfKeyword keyword.Vertex)
+terminals_behind type.Vector = in_braces (OfKeyword keyword.Vertex) ++ in_parentheses (OfKeyword keyword.Int ∷ [])
+terminals_behind type.EdgeSet =
+    in_braces (OfKeyword keyword.Edge)
+    ++ in_parentheses (OfKeyword keyword.Vertex ∷ OfSymbol symbol.Comma ∷ OfKeyword keyword.Vertex ∷ [])
 
 -- whether the method is one of an initial value that is no expression, or begins one of its ends
 abbrev pub is_called : Option Keyword → Bool
@@ -43,26 +43,26 @@ is_called (Some keyword.To) = true
 is_called (Some keyword.ApplyModified) = true
 is_called _ = false
 
--- whether such a method is the first word
-abbrev pub called_word : List Word → Bool
-called_word (Reserved word ∷ rest) = is_called (Some word)
-called_word _ = false
+-- whether such a method is the first terminal
+abbrev pub called_terminal : List Terminal → Bool
+called_terminal (OfKeyword terminal ∷ rest) = is_called (Some terminal)
+called_terminal _ = false
 
--- whether a name is the first word, and then a dot and such a method
-abbrev pub begins_call : List Word → Bool
+-- whether a name is the first terminal, and then a dot and such a method
+abbrev pub begins_call : List Terminal → Bool
 begins_call (Name name ∷ rest) = is_called (method_at rest)
 begins_call _ = false
 
 -- two names in parentheses
 abbrev pub name_pair_at : Reader (Identifier × Identifier)
 name_pair_at ws =
-    after_word (Mark symbol.OpenParenthesis) ws >>= λ a. name_at a >>= λ f. after_word (Mark symbol.Comma) f.1 >>= λ b.
-    name_at b >>= λ s. after_word (Mark symbol.CloseParenthesis) s.1 >>= λ c. Some ((f.0, s.0), c)
+    after_terminal (OfSymbol symbol.OpenParenthesis) ws >>= λ a. name_at a >>= λ f. after_terminal (OfSymbol symbol.Comma) f.1 >>= λ b.
+    name_at b >>= λ s. after_terminal (OfSymbol symbol.CloseParenthesis) s.1 >>= λ c. Some ((f.0, s.0), c)
 
 -- what `applyModified` and its ends give
 abbrev pub modified_by : Identifier → Reader InitialTree
 modified_by name ws =
-    ends_at ws >>= λ e. after_words (Mark symbol.Dot ∷ Reserved keyword.ApplyModified ∷ []) e.1 >>= λ a.
+    ends_at ws >>= λ e. after_terminals (OfSymbol symbol.Dot ∷ OfKeyword keyword.ApplyModified ∷ []) e.1 >>= λ a.
     name_pair_at a >>= λ p. Some (ApplyModified name e.0 p.0.0 p.0.1, p.1)
 
 -- what stands behind `filter`
@@ -70,26 +70,26 @@ abbrev pub filter_at : Identifier → Reader InitialTree
 filter_at set ws = argument_at ws >>= λ n. Some (Filter set n.0, n.1)
 
 -- an initial value that is no expression, behind its name
-abbrev pub call_by : Identifier → List Word → Option Keyword → Option (InitialTree × List Word)
+abbrev pub call_by : Identifier → List Terminal → Option Keyword → Option (InitialTree × List Terminal)
 call_by name ws (Some keyword.GetVertices) =
-    closed (Mark symbol.Dot ∷ Reserved keyword.GetVertices ∷ in_parentheses []) (Vertices name, ws)
+    closed (OfSymbol symbol.Dot ∷ OfKeyword keyword.GetVertices ∷ in_parentheses []) (Vertices name, ws)
 call_by name ws (Some keyword.GetOutDegrees) =
-    closed (Mark symbol.Dot ∷ Reserved keyword.GetOutDegrees ∷ in_parentheses []) (OutDegrees name, ws)
+    closed (OfSymbol symbol.Dot ∷ OfKeyword keyword.GetOutDegrees ∷ in_parentheses []) (OutDegrees name, ws)
 call_by name ws (Some keyword.Filter) =
-    after_words (Mark symbol.Dot ∷ Reserved keyword.Filter ∷ []) ws >>= filter_at name
+    after_terminals (OfSymbol symbol.Dot ∷ OfKeyword keyword.Filter ∷ []) ws >>= filter_at name
 call_by name ws _ = modified_by name ws
 
 -- what stands behind `new`
 abbrev pub new_set_at : Reader InitialTree
 new_set_at ws =
-    after_words (Reserved keyword.VertexSet ∷ (in_braces (Reserved keyword.Vertex) ++ Mark symbol.OpenParenthesis ∷ [])) ws >>= λ a.
-    number_at a >>= λ n. closed (Mark symbol.CloseParenthesis ∷ []) (NewSet n.0, n.1)
+    after_terminals (OfKeyword keyword.VertexSet ∷ (in_braces (OfKeyword keyword.Vertex) ++ OfSymbol symbol.OpenParenthesis ∷ [])) ws >>= λ a.
+    number_at a >>= λ n. closed (OfSymbol symbol.CloseParenthesis ∷ []) (NewSet n.0, n.1)
 
 -- what stands behind `load`
 abbrev pub load_at : Reader InitialTree
 load_at ws =
-    after_words (Mark symbol.OpenParenthesis ∷ Reserved keyword.Argv ∷ Mark symbol.OpenBracket ∷ []) ws >>= λ a.
-    number_at a >>= λ n. closed (Mark symbol.CloseBracket ∷ Mark symbol.CloseParenthesis ∷ []) (Load n.0, n.1)
+    after_terminals (OfSymbol symbol.OpenParenthesis ∷ OfKeyword keyword.Argv ∷ OfSymbol symbol.OpenBracket ∷ []) ws >>= λ a.
+    number_at a >>= λ n. closed (OfSymbol symbol.CloseBracket ∷ OfSymbol symbol.CloseParenthesis ∷ []) (Load n.0, n.1)
 
 -- the schedule call whose name is a keyword
 abbrev pub begun_setting : Keyword → Option Setting

@@ -5,11 +5,11 @@ use Rattle.lexer.specs.declared.error.LexError.TheVariants as lexer
 use Rattle.lexer.specs.Tokens.{HasTokens, Reads}
 use Rattle.parser.specs.declared.syntax_error.SyntaxError.{SyntaxError}
 use Rattle.parser.specs.declared.syntax_error.SyntaxError.TheVariants as syntax
-use Rattle.syntax.specs.Words.{words_of}
+use Rattle.syntax.specs.Terminals.{terminals_of}
 use Rattle.syntax.specs.declared.declaration.Source.{Source}
 use Rattle.syntax.specs.SourceTrees.{SourceTree}
 use Rattle.syntax.specs.SourceViews.{source_tree}
-use Rattle.syntax.specs.SourceSpelling.{source_words}
+use Rattle.syntax.specs.SourceSpelling.{source_terminals}
 use Rattle.syntax.specs.Nesting.{limit, StaysWithin, PassesAt}
 use Rattle.parser.specs.declared.error.ParseError.{ParseError}
 use Rattle.parser.specs.declared.error.ParseError.TheVariants.{BadByte, NumberTooLarge, UnfinishedText, Unexpected, TooDeep, NoMemory}
@@ -18,16 +18,16 @@ use Rattle.parser.specs.declared.error.ParseError.TheVariants.{BadByte, NumberTo
 pub record IsSource (text : List ℕ) (source : SourceTree) : Type 0 where
   pub tokens : List Token
   pub reads : HasTokens text tokens
-  pub within : StaysWithin limit 0 (words_of text tokens)
-  pub spelled : words_of text tokens ≡ source_words source
-  pub only : (other : SourceTree) → words_of text tokens ≡ source_words other → other ≡ source
+  pub within : StaysWithin limit 0 (terminals_of text tokens)
+  pub spelled : terminals_of text tokens ≡ source_terminals source
+  pub only : (other : SourceTree) → terminals_of text tokens ≡ source_terminals other → other ≡ source
 
 -- the text has tokens, which nest within the limit and are those of no tree
 pub record IsNoSource (text : List ℕ) : Type 0 where
   pub tokens : List Token
   pub reads : HasTokens text tokens
-  pub within : StaysWithin limit 0 (words_of text tokens)
-  pub none : (source : SourceTree) → words_of text tokens ≢ source_words source
+  pub within : StaysWithin limit 0 (terminals_of text tokens)
+  pub none : (source : SourceTree) → terminals_of text tokens ≢ source_terminals source
 
 -- the text has tokens, and at this offset stands the first at which they nest deeper than the limit
 pub record IsTooDeep (text : List ℕ) (at : ℕ) : Type 0 where

@@ -2,18 +2,18 @@
 use Rattle.std.specs.Prelude.{Bool, true, false, []}
 use Rattle.lexer.specs.declared.token.TokenKind.{TokenKind}
 use Rattle.lexer.specs.declared.token.TokenKind.TheVariants as kind
-use Rattle.syntax.specs.Words.{Word, Reserved, word_of}
+use Rattle.syntax.specs.Terminals.{Terminal, OfKeyword, terminal_of}
 
--- a word that has neither
-abbrev is_plain_word : Word → Bool
-is_plain_word (Reserved word) = true
-is_plain_word _ = false
+-- a terminal that has neither
+abbrev is_plain_terminal : Terminal → Bool
+is_plain_terminal (OfKeyword terminal) = true
+is_plain_terminal _ = false
 
 abbrev pub is_plain : TokenKind → Bool
-is_plain (kind.Keyword word) = is_plain_word (word_of (kind.Keyword word) [] 0)
+is_plain (kind.Keyword terminal) = is_plain_terminal (terminal_of (kind.Keyword terminal) [] 0)
 is_plain (kind.Symbol symbol) = true
 is_plain _ = false
 
--- the word that such a token is
-abbrev pub plain_word : TokenKind → Word
-plain_word token = word_of token [] 0
+-- the terminal that such a token is
+abbrev pub plain_terminal : TokenKind → Terminal
+plain_terminal token = terminal_of token [] 0

@@ -7,29 +7,29 @@ use Rattle.parser.specs.declared.syntax_error.SyntaxError.{SyntaxError}
 use Rattle.parser.specs.declared.syntax_error.SyntaxError.TheVariants.{Unexpected, NoMemory}
 use Rattle.syntax.specs.ExpressionTrees.{ExpressionTree}
 use Rattle.syntax.specs.ExpressionBeginnings.{Begins}
-use Rattle.syntax.specs.Words.{Word, Name, Identifier, word_of, words_of}
+use Rattle.syntax.specs.Terminals.{Terminal, Name, Identifier, terminal_of, terminals_of}
 
--- the words that are left
-abbrev pub words : Cursor → List Word
-words cursor = words_of cursor.text.now cursor.tokens.now
+-- the terminals that are left
+abbrev pub terminals : Cursor → List Terminal
+terminals cursor = terminals_of cursor.text.now cursor.tokens.now
 
--- the word that a token is where the cursor stands
-abbrev pub word_at : Cursor → Token → Word
-word_at cursor token = word_of token.kind (slice_of cursor.text.now token.span) token.span.start
+-- the terminal that a token is where the cursor stands
+abbrev pub terminal_at : Cursor → Token → Terminal
+terminal_at cursor token = terminal_of token.kind (slice_of cursor.text.now token.span) token.span.start
 
--- the value found at the front and the words behind it
-abbrev pub Finds : {A : Type 0} → Option (A × Cursor) → Option (A × List Word) → Type 0
-Finds found wanted = option_map (λ x. (x.0, words x.1)) found ≡ wanted
+-- the value found at the front and the terminals behind it
+abbrev pub Finds : {A : Type 0} → Option (A × Cursor) → Option (A × List Terminal) → Type 0
+Finds found wanted = option_map (λ x. (x.0, terminals x.1)) found ≡ wanted
 
--- the words behind this one, if it is the first
-abbrev pub IsAfter : Word → List Word → Option Cursor → Type 0
-IsAfter word ws found = MatchOption found
-    ((rest : List Word) → ws ≢ word ∷ rest)
-    (λ after. ws ≡ word ∷ words after)
+-- the terminals behind this one, if it is the first
+abbrev pub IsAfter : Terminal → List Terminal → Option Cursor → Type 0
+IsAfter terminal ws found = MatchOption found
+    ((rest : List Terminal) → ws ≢ terminal ∷ rest)
+    (λ after. ws ≡ terminal ∷ terminals after)
 
--- what reading gives: a tree, as view sees it, and the words behind it, or none; nothing is said where memory runs out
-abbrev pub Gives : {T A : Type 0} → (T → A) → Result (T × Cursor) SyntaxError → Option (A × List Word) → Type 0
-Gives view (Ok x) read = read ≡ Some (view x.0, words x.1)
+-- what reading gives: a tree, as view sees it, and the terminals behind it, or none; nothing is said where memory runs out
+abbrev pub Gives : {T A : Type 0} → (T → A) → Result (T × Cursor) SyntaxError → Option (A × List Terminal) → Type 0
+Gives view (Ok x) read = read ≡ Some (view x.0, terminals x.1)
 Gives view (Err (Unexpected at)) read = read ≡ None
 Gives view (Err NoMemory) read = Unit {0}
 
@@ -41,27 +41,27 @@ place_in len (token ∷ tokens) = token.span.start
 abbrev pub place : Cursor → ℕ
 place cursor = place_in (length cursor.text.now) cursor.tokens.now
 
--- the words behind this one, or that it is not the first
-abbrev pub IsExpected : Word → List Word → Result Cursor SyntaxError → Type 0
-IsExpected word ws (Ok after) = ws ≡ word ∷ words after
-IsExpected word ws (Err (Unexpected at)) = (rest : List Word) → ws ≢ word ∷ rest
-IsExpected word ws (Err NoMemory) = ⊥
+-- the terminals behind this one, or that it is not the first
+abbrev pub IsExpected : Terminal → List Terminal → Result Cursor SyntaxError → Type 0
+IsExpected terminal ws (Ok after) = ws ≡ terminal ∷ terminals after
+IsExpected terminal ws (Err (Unexpected at)) = (rest : List Terminal) → ws ≢ terminal ∷ rest
+IsExpected terminal ws (Err NoMemory) = ⊥
 
--- the name at the front, and the words behind it, or that there is none; nothing is said where memory runs out
-abbrev pub IsName : List Word → Result (Identifier × Cursor) SyntaxError → Type 0
-IsName ws (Ok x) = ws ≡ Name x.0 ∷ words x.1
-IsName ws (Err (Unexpected at)) = (name : Identifier) (rest : List Word) → ws ≢ Name name ∷ rest
+-- the name at the front, and the terminals behind it, or that there is none; nothing is said where memory runs out
+abbrev pub IsName : List Terminal → Result (Identifier × Cursor) SyntaxError → Type 0
+IsName ws (Ok x) = ws ≡ Name x.0 ∷ terminals x.1
+IsName ws (Err (Unexpected at)) = (name : Identifier) (rest : List Terminal) → ws ≢ Name name ∷ rest
 IsName ws (Err NoMemory) = Unit {0}
 
--- the words behind a piece of the text, or that it is not there
-abbrev pub Passes : Result Cursor SyntaxError → Option (List Word) → Type 0
-Passes (Ok behind) read = read ≡ Some (words behind)
+-- the terminals behind a piece of the text, or that it is not there
+abbrev pub Passes : Result Cursor SyntaxError → Option (List Terminal) → Type 0
+Passes (Ok behind) read = read ≡ Some (terminals behind)
 Passes (Err (Unexpected at)) read = read ≡ None
 Passes (Err NoMemory) read = ⊥
 
--- the answer is the expression with which the words begin, and the words behind it, or that they begin with none so deep;
+-- the answer is the expression with which the terminals begin, and the terminals behind it, or that they begin with none so deep;
 -- nothing is said where memory runs out
-abbrev pub AnswersBegins : ℕ → List Word → Result (ExpressionTree × Cursor) SyntaxError → Type 0
-AnswersBegins depth ws (Ok x) = Begins depth ws x.0 (words x.1)
-AnswersBegins depth ws (Err (Unexpected at)) = (tree : ExpressionTree) (rest : List Word) → Begins depth ws tree rest → ⊥
+abbrev pub AnswersBegins : ℕ → List Terminal → Result (ExpressionTree × Cursor) SyntaxError → Type 0
+AnswersBegins depth ws (Ok x) = Begins depth ws x.0 (terminals x.1)
+AnswersBegins depth ws (Err (Unexpected at)) = (tree : ExpressionTree) (rest : List Terminal) → Begins depth ws tree rest → ⊥
 AnswersBegins depth ws (Err NoMemory) = Unit {0}

@@ -1,7 +1,7 @@
 -- For proofs only: what vectors are seen as.
 use Rattle.std.specs.Prelude.{List, Option, map, option_map}
 use Rattle.std.specs.Global.{Vec}
-use Rattle.syntax.specs.Words.{Identifier}
+use Rattle.syntax.specs.Terminals.{Identifier}
 use Rattle.syntax.specs.declared.declaration.Parameter.{Parameter}
 use Rattle.syntax.specs.declared.statement.Statement.{Statement}
 use Rattle.syntax.specs.SourceTrees.{BlockTree, ParameterTree}

@@ -1,9 +1,9 @@
 //! Blocks, and the statements that hold blocks.
 ghost use Rattle.std.specs.Prelude.{◌≡◌, ◌<◌, ◌≤◌, length, IfOk};
-ghost use Rattle.syntax.specs.Words.{Reserved};
-ghost use Rattle.parser.specs.Readers.{words, Gives};
+ghost use Rattle.syntax.specs.Terminals.{OfKeyword};
+ghost use Rattle.parser.specs.Readers.{terminals, Gives};
 ghost use Rattle.syntax.specs.SourceTrees.{While, For, If, IfElse};
-ghost use Rattle.syntax.specs.SourceReading.{block_at, statement_by, begins_statement as begins_statement_at, after_word};
+ghost use Rattle.syntax.specs.SourceReading.{block_at, statement_by, begins_statement as begins_statement_at, after_terminal};
 ghost use Rattle.syntax.specs.SourceViews.{action_tree, statement_of, block_tree};
 ghost use Rattle.parser.specs.Blocks.{action_at, block_in, declared_at, printed_at, range_at, to_end_by, otherwise_by, opening_of, opened_by};
 ghost use Rattle.parser.specs.Views.{statements_tree};
@@ -35,8 +35,8 @@ pub(crate) fn block(
     cursor: Cursor<'_>,
     depth: u32,
 ) -> Result<(Vec<Statement>, Cursor<'_>), SyntaxError>
-    ensures reads { Gives statements_tree result (block_at depth (words cursor.entry)) }
-    ensures shorter { IfOk result (λ x. length (words x.1) ≤ length (words cursor.entry)) }
+    ensures reads { Gives statements_tree result (block_at depth (terminals cursor.entry)) }
+    ensures shorter { IfOk result (λ x. length (terminals x.1) ≤ length (terminals cursor.entry)) }
 {
     let mut statements = Vec::new(alloc);
     let mut left = cursor;
@@ -50,7 +50,7 @@ pub(crate) fn block(
 
 /// Whether a statement begins at the front.
 fn begins_statement(cursor: Cursor<'_>) -> bool
-    ensures { result ≡ begins_statement_at (words cursor.entry) }
+    ensures { result ≡ begins_statement_at (terminals cursor.entry) }
 {
     let Some((token, _)) = cursor.next() else {
         return false;
@@ -83,8 +83,8 @@ fn statement(
     cursor: Cursor<'_>,
     depth: u32,
 ) -> Result<(Statement, Cursor<'_>), SyntaxError>
-    ensures reads { Gives statement_of result (statement_by (action_at depth) (words cursor.entry)) }
-    ensures shorter { IfOk result (λ x. length (words x.1) < length (words cursor.entry)) }
+    ensures reads { Gives statement_of result (statement_by (action_at depth) (terminals cursor.entry)) }
+    ensures shorter { IfOk result (λ x. length (terminals x.1) < length (terminals cursor.entry)) }
 {
     let (label, rest) = cursor.label(alloc)?;
     let (action, behind) = action(alloc, rest, depth)?;
@@ -98,8 +98,8 @@ fn action(
     cursor: Cursor<'_>,
     depth: u32,
 ) -> Result<(Action, Cursor<'_>), SyntaxError>
-    ensures reads { Gives action_tree result (action_at depth (words cursor.entry)) }
-    ensures shorter { IfOk result (λ x. length (words x.1) < length (words cursor.entry)) }
+    ensures reads { Gives action_tree result (action_at depth (terminals cursor.entry)) }
+    ensures shorter { IfOk result (λ x. length (terminals x.1) < length (terminals cursor.entry)) }
 {
     let Some((token, after)) = cursor.next() else {
         return Err(cursor.unexpected());
@@ -127,8 +127,8 @@ fn opened(
     cursor: Cursor<'_>,
     depth: u32,
 ) -> Result<(Action, Cursor<'_>), SyntaxError>
-    ensures reads { Gives action_tree result (opened_by (block_in depth) opening at (words cursor.entry)) }
-    ensures shorter { IfOk result (λ x. length (words x.1) ≤ length (words cursor.entry)) }
+    ensures reads { Gives action_tree result (opened_by (block_in depth) opening at (terminals cursor.entry)) }
+    ensures shorter { IfOk result (λ x. length (terminals x.1) ≤ length (terminals cursor.entry)) }
 {
     match opening {
         Opening::Var => declared(alloc, at, cursor),
@@ -145,8 +145,8 @@ fn declared(
     at: usize,
     cursor: Cursor<'_>,
 ) -> Result<(Action, Cursor<'_>), SyntaxError>
-    ensures reads { Gives action_tree result (declared_at at (words cursor.entry)) }
-    ensures shorter { IfOk result (λ x. length (words x.1) ≤ length (words cursor.entry)) }
+    ensures reads { Gives action_tree result (declared_at at (terminals cursor.entry)) }
+    ensures shorter { IfOk result (λ x. length (terminals x.1) ≤ length (terminals cursor.entry)) }
 {
     let (variable, assign) = typed(alloc, cursor)?;
     let (initial, behind) = assigned(alloc, assign)?;
@@ -164,8 +164,8 @@ fn printed(
     at: usize,
     cursor: Cursor<'_>,
 ) -> Result<(Action, Cursor<'_>), SyntaxError>
-    ensures reads { Gives action_tree result (printed_at at (words cursor.entry)) }
-    ensures shorter { IfOk result (λ x. length (words x.1) ≤ length (words cursor.entry)) }
+    ensures reads { Gives action_tree result (printed_at at (terminals cursor.entry)) }
+    ensures shorter { IfOk result (λ x. length (terminals x.1) ≤ length (terminals cursor.entry)) }
 {
     let (value, behind) = ended(alloc, cursor)?;
     Ok((Action::Print { at, value }, behind))
@@ -179,8 +179,8 @@ fn while_loop(
     cursor: Cursor<'_>,
     depth: u32,
 ) -> Result<(Action, Cursor<'_>), SyntaxError>
-    ensures reads { Gives action_tree result (opened_by (block_in depth) Opening.While at (words cursor.entry)) }
-    ensures shorter { IfOk result (λ x. length (words x.1) ≤ length (words cursor.entry)) }
+    ensures reads { Gives action_tree result (opened_by (block_in depth) Opening.While at (terminals cursor.entry)) }
+    ensures shorter { IfOk result (λ x. length (terminals x.1) ≤ length (terminals cursor.entry)) }
 {
     let (test, rest) = cursor.expression(alloc)?;
     let (body, behind) = to_end(alloc, rest, depth)?;
@@ -201,8 +201,8 @@ fn for_loop(
     cursor: Cursor<'_>,
     depth: u32,
 ) -> Result<(Action, Cursor<'_>), SyntaxError>
-    ensures reads { Gives action_tree result (opened_by (block_in depth) Opening.For at (words cursor.entry)) }
-    ensures shorter { IfOk result (λ x. length (words x.1) ≤ length (words cursor.entry)) }
+    ensures reads { Gives action_tree result (opened_by (block_in depth) Opening.For at (terminals cursor.entry)) }
+    ensures shorter { IfOk result (λ x. length (terminals x.1) ≤ length (terminals cursor.entry)) }
 {
     let ((name, first, limit), rest) = range(alloc, cursor)?;
     let (body, behind) = to_end(alloc, rest, depth)?;
@@ -214,8 +214,8 @@ fn range(
     alloc: Global,
     cursor: Cursor<'_>,
 ) -> Result<((Name, Expression, Expression), Cursor<'_>), SyntaxError>
-    ensures reads { Gives (λ r. r) result (range_at (words cursor.entry)) }
-    ensures shorter { IfOk result (λ x. length (words x.1) ≤ length (words cursor.entry)) }
+    ensures reads { Gives (λ r. r) result (range_at (terminals cursor.entry)) }
+    ensures shorter { IfOk result (λ x. length (terminals x.1) ≤ length (terminals cursor.entry)) }
 {
     let (name, within) = cursor.name(alloc)?;
     let bound = within.expect_keyword(Keyword::In)?;
@@ -251,8 +251,8 @@ fn choice(
     cursor: Cursor<'_>,
     depth: u32,
 ) -> Result<(Action, Cursor<'_>), SyntaxError>
-    ensures reads { Gives action_tree result (opened_by (block_in depth) Opening.If at (words cursor.entry)) }
-    ensures shorter { IfOk result (λ x. length (words x.1) ≤ length (words cursor.entry)) }
+    ensures reads { Gives action_tree result (opened_by (block_in depth) Opening.If at (terminals cursor.entry)) }
+    ensures shorter { IfOk result (λ x. length (terminals x.1) ≤ length (terminals cursor.entry)) }
 {
     let (test, rest) = cursor.expression(alloc)?;
     let (body, left) = inner(alloc, rest, depth)?;
@@ -270,8 +270,8 @@ fn otherwise(
     depth: u32,
 ) -> Result<(Action, Cursor<'_>), SyntaxError>
     ensures reads { Gives action_tree result
-        (otherwise_by (block_in depth) at test (block_tree body.items, words cursor.entry) (after_word (Reserved Keyword.Else) (words cursor.entry))) }
-    ensures shorter { IfOk result (λ x. length (words x.1) ≤ length (words cursor.entry)) }
+        (otherwise_by (block_in depth) at test (block_tree body.items, terminals cursor.entry) (after_terminal (OfKeyword Keyword.Else) (terminals cursor.entry))) }
+    ensures shorter { IfOk result (λ x. length (terminals x.1) ≤ length (terminals cursor.entry)) }
 {
     match cursor.after_keyword(Keyword::Else) {
         None => {
@@ -314,8 +314,8 @@ fn to_end(
     cursor: Cursor<'_>,
     depth: u32,
 ) -> Result<(Vec<Statement>, Cursor<'_>), SyntaxError>
-    ensures reads { Gives statements_tree result (to_end_by (block_in depth) (words cursor.entry)) }
-    ensures shorter { IfOk result (λ x. length (words x.1) ≤ length (words cursor.entry)) }
+    ensures reads { Gives statements_tree result (to_end_by (block_in depth) (terminals cursor.entry)) }
+    ensures shorter { IfOk result (λ x. length (terminals x.1) ≤ length (terminals cursor.entry)) }
 {
     let (body, end) = inner(alloc, cursor, depth)?;
     let behind = end.expect_keyword(Keyword::End)?;
@@ -329,8 +329,8 @@ fn inner(
     cursor: Cursor<'_>,
     depth: u32,
 ) -> Result<(Vec<Statement>, Cursor<'_>), SyntaxError>
-    ensures reads { Gives statements_tree result (block_in depth (words cursor.entry)) }
-    ensures shorter { IfOk result (λ x. length (words x.1) ≤ length (words cursor.entry)) }
+    ensures reads { Gives statements_tree result (block_in depth (terminals cursor.entry)) }
+    ensures shorter { IfOk result (λ x. length (terminals x.1) ≤ length (terminals cursor.entry)) }
 {
     match depth.checked_sub(1) {
         None => Err(cursor.unexpected()),

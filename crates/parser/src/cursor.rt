@@ -2,9 +2,9 @@
 ghost use Rattle.std.specs.Prelude.{◌≡◌, ◌<◌, ℕ, [], ◌∷◌, length, option_map, MatchOption, IfSome, IfOk};
 ghost use Rattle.lexer.specs.Tokens.{slice_of};
 ghost use Rattle.parser.specs.declared.syntax_error.SyntaxError.TheVariants.{Unexpected};
-ghost use Rattle.syntax.specs.Words.{Mark, Reserved, keyword_word, words_of};
-ghost use Rattle.syntax.specs.SourceReading.{after_word};
-ghost use Rattle.parser.specs.Readers.{words, word_at, Finds, IsAfter, IsExpected, Passes, place};
+ghost use Rattle.syntax.specs.Terminals.{OfSymbol, OfKeyword, keyword_terminal, terminals_of};
+ghost use Rattle.syntax.specs.SourceReading.{after_terminal};
+ghost use Rattle.parser.specs.Readers.{terminals, terminal_at, Finds, IsAfter, IsExpected, Passes, place};
 ghost use Rattle.syntax.specs.ExpressionReading.{addition, multiplication, relation, prefix};
 
 use crate::syntax_error::SyntaxError;
@@ -21,7 +21,7 @@ pub struct Cursor<'a> {
 impl<'a> Cursor<'a> {
     /// At the first of these tokens of a text.
     pub fn new(text: &'a [u8], tokens: &'a [Token]) -> Cursor<'a>
-        ensures left { words result ≡ words_of text.now tokens.now }
+        ensures left { terminals result ≡ terminals_of text.now tokens.now }
         ensures parts { (result.text.now ≡ text.now) × (result.tokens.now ≡ tokens.now) }
     {
         Cursor { text, tokens }
@@ -29,7 +29,7 @@ impl<'a> Cursor<'a> {
 
     /// The next token, and the place behind it; `None` at the end.
     pub fn next(self) -> Option<(Token, Cursor<'a>)>
-        ensures word { MatchOption result (words self.entry ≡ []) (λ x. words self.entry ≡ word_at self.entry x.0 ∷ words x.1) }
+        ensures terminal { MatchOption result (terminals self.entry ≡ []) (λ x. terminals self.entry ≡ terminal_at self.entry x.0 ∷ terminals x.1) }
         ensures starts { IfSome result (λ x. place self.entry ≡ x.0.span.start) }
         ensures tokens { IfSome result (λ x. (x.1.text.now ≡ self.entry.text.now) × (self.entry.tokens.now ≡ x.0 ∷ x.1.tokens.now)) }
     {
@@ -67,9 +67,9 @@ impl<'a> Cursor<'a> {
 
     /// The place behind a symbol, if it is the next token.
     pub fn after_symbol(self, symbol: Symbol) -> Option<Cursor<'a>>
-        ensures is { IsAfter (Mark symbol) (words self.entry) result }
-        ensures behind { after_word (Mark symbol) (words self.entry) ≡ option_map words result }
-        ensures shorter { IfSome result (λ after. length (words after) < length (words self.entry)) }
+        ensures is { IsAfter (OfSymbol symbol) (terminals self.entry) result }
+        ensures behind { after_terminal (OfSymbol symbol) (terminals self.entry) ≡ option_map terminals result }
+        ensures shorter { IfSome result (λ after. length (terminals after) < length (terminals self.entry)) }
     {
         let (token, after) = self.next()?;
         if token.kind == TokenKind::Symbol(symbol) {
@@ -81,10 +81,10 @@ impl<'a> Cursor<'a> {
 
     /// The place behind a keyword that opens nothing, if it is the next token.
     pub fn after_keyword(self, keyword: Keyword) -> Option<Cursor<'a>>
-        requires { (at : ℕ) → keyword_word keyword at ≡ Reserved keyword }
-        ensures is { IsAfter (Reserved keyword) (words self.entry) result }
-        ensures behind { after_word (Reserved keyword) (words self.entry) ≡ option_map words result }
-        ensures shorter { IfSome result (λ after. length (words after) < length (words self.entry)) }
+        requires { (at : ℕ) → keyword_terminal keyword at ≡ OfKeyword keyword }
+        ensures is { IsAfter (OfKeyword keyword) (terminals self.entry) result }
+        ensures behind { after_terminal (OfKeyword keyword) (terminals self.entry) ≡ option_map terminals result }
+        ensures shorter { IfSome result (λ after. length (terminals after) < length (terminals self.entry)) }
     {
         let (token, after) = self.next()?;
         if token.kind == TokenKind::Keyword(keyword) {
@@ -96,9 +96,9 @@ impl<'a> Cursor<'a> {
 
     /// The place behind a symbol, or `Unexpected` at the next token, if that is another one.
     pub fn expect_symbol(self, symbol: Symbol) -> Result<Cursor<'a>, SyntaxError>
-        ensures is { IsExpected (Mark symbol) (words self.entry) result }
-        ensures passes { Passes result (after_word (Mark symbol) (words self.entry)) }
-        ensures shorter { IfOk result (λ after. length (words after) < length (words self.entry)) }
+        ensures is { IsExpected (OfSymbol symbol) (terminals self.entry) result }
+        ensures passes { Passes result (after_terminal (OfSymbol symbol) (terminals self.entry)) }
+        ensures shorter { IfOk result (λ after. length (terminals after) < length (terminals self.entry)) }
     {
         match self.after_symbol(symbol) {
             Some(after) => Ok(after),
@@ -108,10 +108,10 @@ impl<'a> Cursor<'a> {
 
     /// The place behind a keyword that opens nothing, or `Unexpected` at the next token, if that is another one.
     pub fn expect_keyword(self, keyword: Keyword) -> Result<Cursor<'a>, SyntaxError>
-        requires { (at : ℕ) → keyword_word keyword at ≡ Reserved keyword }
-        ensures is { IsExpected (Reserved keyword) (words self.entry) result }
-        ensures passes { Passes result (after_word (Reserved keyword) (words self.entry)) }
-        ensures shorter { IfOk result (λ after. length (words after) < length (words self.entry)) }
+        requires { (at : ℕ) → keyword_terminal keyword at ≡ OfKeyword keyword }
+        ensures is { IsExpected (OfKeyword keyword) (terminals self.entry) result }
+        ensures passes { Passes result (after_terminal (OfKeyword keyword) (terminals self.entry)) }
+        ensures shorter { IfOk result (λ after. length (terminals after) < length (terminals self.entry)) }
     {
         match self.after_keyword(keyword) {
             Some(after) => Ok(after),
@@ -121,8 +121,8 @@ impl<'a> Cursor<'a> {
 
     /// The `+` or `-` at the front, and the place behind it.
     pub fn addition(self) -> Option<(Addition, Cursor<'a>)>
-        ensures found { Finds result (addition (words self.entry)) }
-        ensures shorter { IfSome result (λ x. length (words x.1) < length (words self.entry)) }
+        ensures found { Finds result (addition (terminals self.entry)) }
+        ensures shorter { IfSome result (λ x. length (terminals x.1) < length (terminals self.entry)) }
     {
         let (token, after) = self.next()?;
         match token.kind {
@@ -134,8 +134,8 @@ impl<'a> Cursor<'a> {
 
     /// The `*`, `/` or `%` at the front, and the place behind it.
     pub fn multiplication(self) -> Option<(Multiplication, Cursor<'a>)>
-        ensures found { Finds result (multiplication (words self.entry)) }
-        ensures shorter { IfSome result (λ x. length (words x.1) < length (words self.entry)) }
+        ensures found { Finds result (multiplication (terminals self.entry)) }
+        ensures shorter { IfSome result (λ x. length (terminals x.1) < length (terminals self.entry)) }
     {
         let (token, after) = self.next()?;
         match token.kind {
@@ -148,8 +148,8 @@ impl<'a> Cursor<'a> {
 
     /// The relation at the front, and the place behind it.
     pub fn relation(self) -> Option<(Relation, Cursor<'a>)>
-        ensures found { Finds result (relation (words self.entry)) }
-        ensures shorter { IfSome result (λ x. length (words x.1) < length (words self.entry)) }
+        ensures found { Finds result (relation (terminals self.entry)) }
+        ensures shorter { IfSome result (λ x. length (terminals x.1) < length (terminals self.entry)) }
     {
         let (token, after) = self.next()?;
         let relation = match token.kind {
@@ -166,8 +166,8 @@ impl<'a> Cursor<'a> {
 
     /// The `-` or `not` at the front, and the place behind it.
     pub fn prefix(self) -> Option<(Prefix, Cursor<'a>)>
-        ensures found { Finds result (prefix (words self.entry)) }
-        ensures shorter { IfSome result (λ x. length (words x.1) < length (words self.entry)) }
+        ensures found { Finds result (prefix (terminals self.entry)) }
+        ensures shorter { IfSome result (λ x. length (terminals x.1) < length (terminals self.entry)) }
     {
         let (token, after) = self.next()?;
         match token.kind {

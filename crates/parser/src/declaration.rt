@@ -1,8 +1,8 @@
 //! Declarations.
 ghost use Rattle.std.specs.Prelude.{◌≡◌, ◌<◌, ◌≤◌, length, option_map, IfOk};
-ghost use Rattle.syntax.specs.Words.{Mark};
-ghost use Rattle.parser.specs.Readers.{words, Gives};
-ghost use Rattle.syntax.specs.SourceReading.{after_word, each_at, parameters_at, result_by, begins_declaration as begins_declaration_at, next_declaration, declaration_by, block as block_at_limit};
+ghost use Rattle.syntax.specs.Terminals.{OfSymbol};
+ghost use Rattle.parser.specs.Readers.{terminals, Gives};
+ghost use Rattle.syntax.specs.SourceReading.{after_terminal, each_at, parameters_at, result_by, begins_declaration as begins_declaration_at, next_declaration, declaration_by, block as block_at_limit};
 ghost use Rattle.syntax.specs.SourceViews.{parameter_tree, declaration_tree};
 ghost use Rattle.parser.specs.Declarations.{beginning_of, declared_by, constant_at, signature_at, function_at, parameters_from};
 ghost use Rattle.parser.specs.Views.{each, signature_tree, statements_tree};
@@ -28,7 +28,7 @@ pub(crate) fn declarations(
     alloc: Global,
     cursor: Cursor<'_>,
 ) -> Result<(Vec<Declaration>, Cursor<'_>), SyntaxError>
-    ensures { Gives (each declaration_tree) result (each_at next_declaration (words cursor.entry)) }
+    ensures { Gives (each declaration_tree) result (each_at next_declaration (terminals cursor.entry)) }
 {
     let mut declarations = Vec::new(alloc);
     let mut left = cursor;
@@ -42,7 +42,7 @@ pub(crate) fn declarations(
 
 /// Whether a declaration begins at the front.
 fn begins_declaration(cursor: Cursor<'_>) -> bool
-    ensures { result ≡ begins_declaration_at (words cursor.entry) }
+    ensures { result ≡ begins_declaration_at (terminals cursor.entry) }
 {
     let Some((token, _)) = cursor.next() else {
         return false;
@@ -66,8 +66,8 @@ fn begun_by(keyword: Keyword) -> Option<Beginning>
 
 /// A declaration.
 fn declaration(alloc: Global, cursor: Cursor<'_>) -> Result<(Declaration, Cursor<'_>), SyntaxError>
-    ensures reads { Gives declaration_tree result (declaration_by (words cursor.entry)) }
-    ensures shorter { IfOk result (λ x. length (words x.1) < length (words cursor.entry)) }
+    ensures reads { Gives declaration_tree result (declaration_by (terminals cursor.entry)) }
+    ensures shorter { IfOk result (λ x. length (terminals x.1) < length (terminals cursor.entry)) }
 {
     let Some((token, after)) = cursor.next() else {
         return Err(cursor.unexpected());
@@ -88,8 +88,8 @@ fn begun(
     at: usize,
     cursor: Cursor<'_>,
 ) -> Result<(Declaration, Cursor<'_>), SyntaxError>
-    ensures reads { Gives declaration_tree result (declared_by beginning at (words cursor.entry)) }
-    ensures shorter { IfOk result (λ x. length (words x.1) ≤ length (words cursor.entry)) }
+    ensures reads { Gives declaration_tree result (declared_by beginning at (terminals cursor.entry)) }
+    ensures shorter { IfOk result (λ x. length (terminals x.1) ≤ length (terminals cursor.entry)) }
 {
     match beginning {
         Beginning::Constant => constant(alloc, at, cursor),
@@ -103,8 +103,8 @@ fn constant(
     at: usize,
     cursor: Cursor<'_>,
 ) -> Result<(Declaration, Cursor<'_>), SyntaxError>
-    ensures reads { Gives declaration_tree result (constant_at at (words cursor.entry)) }
-    ensures shorter { IfOk result (λ x. length (words x.1) ≤ length (words cursor.entry)) }
+    ensures reads { Gives declaration_tree result (constant_at at (terminals cursor.entry)) }
+    ensures shorter { IfOk result (λ x. length (terminals x.1) ≤ length (terminals cursor.entry)) }
 {
     let (constant, assign) = typed(alloc, cursor)?;
     let (initial, behind) = assigned(alloc, assign)?;
@@ -122,8 +122,8 @@ fn function(
     at: usize,
     cursor: Cursor<'_>,
 ) -> Result<(Declaration, Cursor<'_>), SyntaxError>
-    ensures reads { Gives declaration_tree result (function_at at (words cursor.entry)) }
-    ensures shorter { IfOk result (λ x. length (words x.1) ≤ length (words cursor.entry)) }
+    ensures reads { Gives declaration_tree result (function_at at (terminals cursor.entry)) }
+    ensures shorter { IfOk result (λ x. length (terminals x.1) ≤ length (terminals cursor.entry)) }
 {
     let ((name, parameters, result), rest) = signature(alloc, cursor)?;
     let (body, end) = body(alloc, rest)?;
@@ -143,8 +143,8 @@ fn signature(
     alloc: Global,
     cursor: Cursor<'_>,
 ) -> Result<((Name, Vec<Parameter>, Option<Parameter>), Cursor<'_>), SyntaxError>
-    ensures reads { Gives signature_tree result (signature_at (words cursor.entry)) }
-    ensures shorter { IfOk result (λ x. length (words x.1) ≤ length (words cursor.entry)) }
+    ensures reads { Gives signature_tree result (signature_at (terminals cursor.entry)) }
+    ensures shorter { IfOk result (λ x. length (terminals x.1) ≤ length (terminals cursor.entry)) }
 {
     let (name, open) = cursor.name(alloc)?;
     let (parameters, arrow) = parameters(alloc, open)?;
@@ -154,8 +154,8 @@ fn signature(
 
 /// The statements of a function. Within them no more stands in each other than may be open at once.
 fn body(alloc: Global, cursor: Cursor<'_>) -> Result<(Vec<Statement>, Cursor<'_>), SyntaxError>
-    ensures reads { Gives statements_tree result (block_at_limit (words cursor.entry)) }
-    ensures shorter { IfOk result (λ x. length (words x.1) ≤ length (words cursor.entry)) }
+    ensures reads { Gives statements_tree result (block_at_limit (terminals cursor.entry)) }
+    ensures shorter { IfOk result (λ x. length (terminals x.1) ≤ length (terminals cursor.entry)) }
 {
     block(alloc, cursor, NESTING_LIMIT)
 }
@@ -163,8 +163,8 @@ fn body(alloc: Global, cursor: Cursor<'_>) -> Result<(Vec<Statement>, Cursor<'_>
 /// The result of a function, where it has one.
 fn result(alloc: Global, cursor: Cursor<'_>) -> Result<(Option<Parameter>, Cursor<'_>), SyntaxError>
     ensures reads { Gives (option_map parameter_tree) result
-        (result_by (words cursor.entry) (after_word (Mark Symbol.Arrow) (words cursor.entry))) }
-    ensures shorter { IfOk result (λ x. length (words x.1) ≤ length (words cursor.entry)) }
+        (result_by (terminals cursor.entry) (after_terminal (OfSymbol Symbol.Arrow) (terminals cursor.entry))) }
+    ensures shorter { IfOk result (λ x. length (terminals x.1) ≤ length (terminals cursor.entry)) }
 {
     match cursor.after_symbol(Symbol::Arrow) {
         None => Ok((None, cursor)),
@@ -180,8 +180,8 @@ fn parameters(
     alloc: Global,
     cursor: Cursor<'_>,
 ) -> Result<(Vec<Parameter>, Cursor<'_>), SyntaxError>
-    ensures reads { Gives (each parameter_tree) result (parameters_at (words cursor.entry)) }
-    ensures shorter { IfOk result (λ x. length (words x.1) ≤ length (words cursor.entry)) }
+    ensures reads { Gives (each parameter_tree) result (parameters_at (terminals cursor.entry)) }
+    ensures shorter { IfOk result (λ x. length (terminals x.1) ≤ length (terminals cursor.entry)) }
 {
     let open = cursor.expect_symbol(Symbol::OpenParenthesis)?;
     if let Some(after) = open.after_symbol(Symbol::CloseParenthesis) {
@@ -199,8 +199,8 @@ fn more_parameters(
     first: Parameter,
     cursor: Cursor<'_>,
 ) -> Result<(Vec<Parameter>, Cursor<'_>), SyntaxError>
-    ensures reads { Gives (each parameter_tree) result (parameters_from (parameter_tree first) (words cursor.entry)) }
-    ensures shorter { IfOk result (λ x. length (words x.1) ≤ length (words cursor.entry)) }
+    ensures reads { Gives (each parameter_tree) result (parameters_from (parameter_tree first) (terminals cursor.entry)) }
+    ensures shorter { IfOk result (λ x. length (terminals x.1) ≤ length (terminals cursor.entry)) }
 {
     let mut parameters = Vec::new(alloc);
     parameters.push(first)?;

@@ -1,9 +1,9 @@
 //! The reader of expressions: one function for each level of the grammar.
 ghost use Rattle.std.specs.Prelude.{◌≡◌, ◌≤◌, length, None, IfOk};
-ghost use Rattle.parser.specs.Readers.{words, Gives, Passes, AnswersBegins};
+ghost use Rattle.parser.specs.Readers.{terminals, Gives, Passes, AnswersBegins};
 ghost use Rattle.syntax.specs.ExpressionViews.{primary_of, unary_of, term_of, sum_of, comparison_of, conjunction_of};
 ghost use Rattle.parser.specs.Literals.{literal_at};
-ghost use Rattle.syntax.specs.ExpressionReading.{no_expression, expression_in, primary_at, named_by, after_open_bracket, after_dot, after_size_call, truth_of as truth_of_word, unary_at, term_at, sum_at, comparison_at, conjunction_at, expression_at};
+ghost use Rattle.syntax.specs.ExpressionReading.{no_expression, expression_in, primary_at, named_by, after_open_bracket, after_dot, after_size_call, truth_of as truth_of_terminal, unary_at, term_at, sum_at, comparison_at, conjunction_at, expression_at};
 
 use crate::cursor::Cursor;
 use crate::syntax_error::SyntaxError;
@@ -25,9 +25,9 @@ pub fn read_expression(
     cursor: Cursor<'_>,
     depth: u32,
 ) -> Result<(Expression, Cursor<'_>), SyntaxError>
-    ensures begins { AnswersBegins depth (words cursor.entry) result }
-    ensures reads { Gives (λ e. e) result (expression_at depth (words cursor.entry)) }
-    ensures shorter { IfOk result (λ x. length (words x.1) ≤ length (words cursor.entry)) }
+    ensures begins { AnswersBegins depth (terminals cursor.entry) result }
+    ensures reads { Gives (λ e. e) result (expression_at depth (terminals cursor.entry)) }
+    ensures shorter { IfOk result (λ x. length (terminals x.1) ≤ length (terminals cursor.entry)) }
 {
     expression(alloc, cursor, depth)
 }
@@ -38,8 +38,8 @@ fn expression(
     cursor: Cursor<'_>,
     depth: u32,
 ) -> Result<(Expression, Cursor<'_>), SyntaxError>
-    ensures reads { Gives (λ e. e) result (expression_at depth (words cursor.entry)) }
-    ensures shorter { IfOk result (λ x. length (words x.1) ≤ length (words cursor.entry)) }
+    ensures reads { Gives (λ e. e) result (expression_at depth (terminals cursor.entry)) }
+    ensures shorter { IfOk result (λ x. length (terminals x.1) ≤ length (terminals cursor.entry)) }
 {
     let (first, rest) = conjunction(alloc, cursor, depth)?;
     let mut more = Vec::new(alloc);
@@ -58,8 +58,8 @@ fn conjunction(
     cursor: Cursor<'_>,
     depth: u32,
 ) -> Result<(Conjunction, Cursor<'_>), SyntaxError>
-    ensures reads { Gives conjunction_of result (conjunction_at depth (words cursor.entry)) }
-    ensures shorter { IfOk result (λ x. length (words x.1) ≤ length (words cursor.entry)) }
+    ensures reads { Gives conjunction_of result (conjunction_at depth (terminals cursor.entry)) }
+    ensures shorter { IfOk result (λ x. length (terminals x.1) ≤ length (terminals cursor.entry)) }
 {
     let (first, rest) = comparison(alloc, cursor, depth)?;
     let mut more = Vec::new(alloc);
@@ -78,8 +78,8 @@ fn comparison(
     cursor: Cursor<'_>,
     depth: u32,
 ) -> Result<(Comparison, Cursor<'_>), SyntaxError>
-    ensures reads { Gives comparison_of result (comparison_at depth (words cursor.entry)) }
-    ensures shorter { IfOk result (λ x. length (words x.1) ≤ length (words cursor.entry)) }
+    ensures reads { Gives comparison_of result (comparison_at depth (terminals cursor.entry)) }
+    ensures shorter { IfOk result (λ x. length (terminals x.1) ≤ length (terminals cursor.entry)) }
 {
     let (left, rest) = sum(alloc, cursor, depth)?;
     match rest.relation() {
@@ -94,8 +94,8 @@ fn comparison(
 
 #[cycle(read)]
 fn sum(alloc: Global, cursor: Cursor<'_>, depth: u32) -> Result<(Sum, Cursor<'_>), SyntaxError>
-    ensures reads { Gives sum_of result (sum_at depth (words cursor.entry)) }
-    ensures shorter { IfOk result (λ x. length (words x.1) ≤ length (words cursor.entry)) }
+    ensures reads { Gives sum_of result (sum_at depth (terminals cursor.entry)) }
+    ensures shorter { IfOk result (λ x. length (terminals x.1) ≤ length (terminals cursor.entry)) }
 {
     let (first, rest) = term(alloc, cursor, depth)?;
     let mut more = Vec::new(alloc);
@@ -110,8 +110,8 @@ fn sum(alloc: Global, cursor: Cursor<'_>, depth: u32) -> Result<(Sum, Cursor<'_>
 
 #[cycle(read)]
 fn term(alloc: Global, cursor: Cursor<'_>, depth: u32) -> Result<(Term, Cursor<'_>), SyntaxError>
-    ensures reads { Gives term_of result (term_at depth (words cursor.entry)) }
-    ensures shorter { IfOk result (λ x. length (words x.1) ≤ length (words cursor.entry)) }
+    ensures reads { Gives term_of result (term_at depth (terminals cursor.entry)) }
+    ensures shorter { IfOk result (λ x. length (terminals x.1) ≤ length (terminals cursor.entry)) }
 {
     let (first, rest) = unary(alloc, cursor, depth)?;
     let mut more = Vec::new(alloc);
@@ -126,8 +126,8 @@ fn term(alloc: Global, cursor: Cursor<'_>, depth: u32) -> Result<(Term, Cursor<'
 
 #[cycle(read)]
 fn unary(alloc: Global, cursor: Cursor<'_>, depth: u32) -> Result<(Unary, Cursor<'_>), SyntaxError>
-    ensures reads { Gives unary_of result (unary_at depth (words cursor.entry)) }
-    ensures shorter { IfOk result (λ x. length (words x.1) ≤ length (words cursor.entry)) }
+    ensures reads { Gives unary_of result (unary_at depth (terminals cursor.entry)) }
+    ensures shorter { IfOk result (λ x. length (terminals x.1) ≤ length (terminals cursor.entry)) }
 {
     let mut signs = Vec::new(alloc);
     let mut left = cursor;
@@ -145,8 +145,8 @@ fn primary(
     cursor: Cursor<'_>,
     depth: u32,
 ) -> Result<(Primary, Cursor<'_>), SyntaxError>
-    ensures reads { Gives primary_of result (primary_at depth (words cursor.entry)) }
-    ensures shorter { IfOk result (λ x. length (words x.1) ≤ length (words cursor.entry)) }
+    ensures reads { Gives primary_of result (primary_at depth (terminals cursor.entry)) }
+    ensures shorter { IfOk result (λ x. length (terminals x.1) ≤ length (terminals cursor.entry)) }
 {
     let Some((token, after)) = cursor.next() else {
         return Err(cursor.unexpected());
@@ -170,8 +170,8 @@ fn primary(
 
 /// The number or the truth value at the front, and the place behind it.
 fn literal(cursor: Cursor<'_>) -> Result<(Primary, Cursor<'_>), SyntaxError>
-    ensures reads { Gives primary_of result (literal_at (words cursor.entry)) }
-    ensures shorter { IfOk result (λ x. length (words x.1) ≤ length (words cursor.entry)) }
+    ensures reads { Gives primary_of result (literal_at (terminals cursor.entry)) }
+    ensures shorter { IfOk result (λ x. length (terminals x.1) ≤ length (terminals cursor.entry)) }
 {
     let Some((token, after)) = cursor.next() else {
         return Err(cursor.unexpected());
@@ -188,7 +188,7 @@ fn literal(cursor: Cursor<'_>) -> Result<(Primary, Cursor<'_>), SyntaxError>
 
 /// The truth value that a keyword stands for.
 fn truth_of(keyword: Keyword) -> Option<bool>
-    ensures { result ≡ truth_of_word keyword }
+    ensures { result ≡ truth_of_terminal keyword }
 {
     match keyword {
         Keyword::True => Some(true),
@@ -206,8 +206,8 @@ fn named(
     depth: u32,
 ) -> Result<(Primary, Cursor<'_>), SyntaxError>
     ensures reads { Gives primary_of result
-        (named_by (expression_in depth) name (words rest.entry) (after_open_bracket (words rest.entry)) (after_dot (words rest.entry))) }
-    ensures shorter { IfOk result (λ x. length (words x.1) ≤ length (words rest.entry)) }
+        (named_by (expression_in depth) name (terminals rest.entry) (after_open_bracket (terminals rest.entry)) (after_dot (terminals rest.entry))) }
+    ensures shorter { IfOk result (λ x. length (terminals x.1) ≤ length (terminals rest.entry)) }
 {
     if let Some(after) = rest.after_symbol(Symbol::OpenBracket) {
         let (index, left) = inner(alloc, after, depth)?;
@@ -219,8 +219,8 @@ fn named(
 
 /// What begins with a name behind which no bracket is opened, from behind the name.
 fn unindexed(name: Name, rest: Cursor<'_>) -> Result<(Primary, Cursor<'_>), SyntaxError>
-    ensures reads { Gives primary_of result (named_by no_expression name (words rest.entry) None (after_dot (words rest.entry))) }
-    ensures shorter { IfOk result (λ x. length (words x.1) ≤ length (words rest.entry)) }
+    ensures reads { Gives primary_of result (named_by no_expression name (terminals rest.entry) None (after_dot (terminals rest.entry))) }
+    ensures shorter { IfOk result (λ x. length (terminals x.1) ≤ length (terminals rest.entry)) }
 {
     if let Some(after) = rest.after_symbol(Symbol::Dot) {
         let behind = size_call(after)?;
@@ -231,7 +231,7 @@ fn unindexed(name: Name, rest: Cursor<'_>) -> Result<(Primary, Cursor<'_>), Synt
 
 /// The place behind `getVertexSetSize()`.
 fn size_call(cursor: Cursor<'_>) -> Result<Cursor<'_>, SyntaxError>
-    ensures { Passes result (after_size_call (words cursor.entry)) }
+    ensures { Passes result (after_size_call (terminals cursor.entry)) }
 {
     let open = cursor.expect_keyword(Keyword::GetVertexSetSize)?;
     let close = open.expect_symbol(Symbol::OpenParenthesis)?;
@@ -245,8 +245,8 @@ fn inner(
     cursor: Cursor<'_>,
     depth: u32,
 ) -> Result<(Expression, Cursor<'_>), SyntaxError>
-    ensures reads { Gives (λ e. e) result (expression_in depth (words cursor.entry)) }
-    ensures shorter { IfOk result (λ x. length (words x.1) ≤ length (words cursor.entry)) }
+    ensures reads { Gives (λ e. e) result (expression_in depth (terminals cursor.entry)) }
+    ensures shorter { IfOk result (λ x. length (terminals x.1) ≤ length (terminals cursor.entry)) }
 {
     match depth.checked_sub(1) {
         None => Err(cursor.unexpected()),

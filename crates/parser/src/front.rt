@@ -1,11 +1,11 @@
 //! What stands at the front of the tokens that are left.
 ghost use Rattle.std.specs.Prelude.{◌≡◌, ◌<◌, ◌≤◌, ℕ, ◌∷◌, [], length, map, Some, option_map, IsTrue, IfSome, IfOk};
 ghost use Rattle.std.specs.List.{list_all};
-ghost use Rattle.syntax.specs.Words.{Reserved, Mark, keyword_word};
-ghost use Rattle.parser.specs.Readers.{words, Gives, Passes};
-ghost use Rattle.syntax.specs.SourceReading.{after_words, name_at, number_at, text_at, label_at, argument_at, after_word, expression as expression_at_limit};
+ghost use Rattle.syntax.specs.Terminals.{OfKeyword, OfSymbol, keyword_terminal};
+ghost use Rattle.parser.specs.Readers.{terminals, Gives, Passes};
+ghost use Rattle.syntax.specs.SourceReading.{after_terminals, name_at, number_at, text_at, label_at, argument_at, after_terminal, expression as expression_at_limit};
 ghost use Rattle.syntax.specs.SourceViews.{text_of};
-ghost use Rattle.parser.specs.Plain.{is_plain, plain_word};
+ghost use Rattle.parser.specs.Plain.{is_plain, plain_terminal};
 
 use crate::cursor::Cursor;
 use crate::expression::read_expression;
@@ -17,9 +17,9 @@ use syntax::{Expression, NESTING_LIMIT, Name, Text};
 impl<'a> Cursor<'a> {
     /// The place behind a dot and a keyword that opens nothing, if these are the next two tokens.
     pub(crate) fn after_method(self, keyword: Keyword) -> Option<Cursor<'a>>
-        requires { (at : ℕ) → keyword_word keyword at ≡ Reserved keyword }
-        ensures behind { after_words (Mark Symbol.Dot ∷ Reserved keyword ∷ []) (words self.entry) ≡ option_map words result }
-        ensures shorter { IfSome result (λ after. length (words after) < length (words self.entry)) }
+        requires { (at : ℕ) → keyword_terminal keyword at ≡ OfKeyword keyword }
+        ensures behind { after_terminals (OfSymbol Symbol.Dot ∷ OfKeyword keyword ∷ []) (terminals self.entry) ≡ option_map terminals result }
+        ensures shorter { IfSome result (λ after. length (terminals after) < length (terminals self.entry)) }
     {
         let method = self.after_symbol(Symbol::Dot)?;
         method.after_keyword(keyword)
@@ -29,8 +29,8 @@ impl<'a> Cursor<'a> {
     /// keyword that opens nothing.
     pub(crate) fn expect_all(self, tokens: &[TokenKind]) -> Result<Cursor<'a>, SyntaxError>
         requires { IsTrue (list_all is_plain tokens.now) }
-        ensures passes { Passes result (after_words (map plain_word tokens.now) (words self.entry)) }
-        ensures shorter { IfOk result (λ after. length (words after) ≤ length (words self.entry)) }
+        ensures passes { Passes result (after_terminals (map plain_terminal tokens.now) (terminals self.entry)) }
+        ensures shorter { IfOk result (λ after. length (terminals after) ≤ length (terminals self.entry)) }
     {
         let Some((token, others)) = tokens.split_first() else {
             return Ok(self);
@@ -42,8 +42,8 @@ impl<'a> Cursor<'a> {
     /// The place behind a token, or `Unexpected` at the next one, if that is another one.
     fn expect(self, token: TokenKind) -> Result<Cursor<'a>, SyntaxError>
         requires { IsTrue (is_plain token) }
-        ensures passes { Passes result (after_word (plain_word token) (words self.entry)) }
-        ensures shorter { IfOk result (λ after. length (words after) < length (words self.entry)) }
+        ensures passes { Passes result (after_terminal (plain_terminal token) (terminals self.entry)) }
+        ensures shorter { IfOk result (λ after. length (terminals after) < length (terminals self.entry)) }
     {
         match token {
             TokenKind::Keyword(keyword) => self.expect_keyword(keyword),
@@ -54,8 +54,8 @@ impl<'a> Cursor<'a> {
 
     /// The name at the front, and the place behind it, or `Unexpected` at the next token, if that is no name.
     pub(crate) fn name(self, alloc: Global) -> Result<(Name, Cursor<'a>), SyntaxError>
-        ensures reads { Gives (λ n. n) result (name_at (words self.entry)) }
-        ensures shorter { IfOk result (λ x. length (words x.1) < length (words self.entry)) }
+        ensures reads { Gives (λ n. n) result (name_at (terminals self.entry)) }
+        ensures shorter { IfOk result (λ x. length (terminals x.1) < length (terminals self.entry)) }
     {
         let Some((token, after)) = self.next() else {
             return Err(self.unexpected());
@@ -71,8 +71,8 @@ impl<'a> Cursor<'a> {
 
     /// The number at the front, and the place behind it.
     pub(crate) fn number(self) -> Result<(i64, Cursor<'a>), SyntaxError>
-        ensures reads { Gives (λ n. n) result (number_at (words self.entry)) }
-        ensures shorter { IfOk result (λ x. length (words x.1) < length (words self.entry)) }
+        ensures reads { Gives (λ n. n) result (number_at (terminals self.entry)) }
+        ensures shorter { IfOk result (λ x. length (terminals x.1) < length (terminals self.entry)) }
     {
         let Some((token, after)) = self.next() else {
             return Err(self.unexpected());
@@ -85,8 +85,8 @@ impl<'a> Cursor<'a> {
 
     /// The text in quotes at the front, and the place behind it.
     pub(crate) fn text(self, alloc: Global) -> Result<(Text, Cursor<'a>), SyntaxError>
-        ensures reads { Gives text_of result (text_at (words self.entry)) }
-        ensures shorter { IfOk result (λ x. length (words x.1) < length (words self.entry)) }
+        ensures reads { Gives text_of result (text_at (terminals self.entry)) }
+        ensures shorter { IfOk result (λ x. length (terminals x.1) < length (terminals self.entry)) }
     {
         let Some((token, after)) = self.next() else {
             return Err(self.unexpected());
@@ -102,8 +102,8 @@ impl<'a> Cursor<'a> {
 
     /// The label at the front, where there is one, and the place behind it.
     pub(crate) fn label(self, alloc: Global) -> Result<(Option<Name>, Cursor<'a>), SyntaxError>
-        ensures reads { Gives (λ l. l) result (Some (label_at (words self.entry))) }
-        ensures shorter { IfOk result (λ x. length (words x.1) ≤ length (words self.entry)) }
+        ensures reads { Gives (λ l. l) result (Some (label_at (terminals self.entry))) }
+        ensures shorter { IfOk result (λ x. length (terminals x.1) ≤ length (terminals self.entry)) }
     {
         let Some((token, after)) = self.next() else {
             return Ok((None, self));
@@ -119,8 +119,8 @@ impl<'a> Cursor<'a> {
 
     /// The name in parentheses, and the place behind it.
     pub(crate) fn argument(self, alloc: Global) -> Result<(Name, Cursor<'a>), SyntaxError>
-        ensures reads { Gives (λ n. n) result (argument_at (words self.entry)) }
-        ensures shorter { IfOk result (λ x. length (words x.1) ≤ length (words self.entry)) }
+        ensures reads { Gives (λ n. n) result (argument_at (terminals self.entry)) }
+        ensures shorter { IfOk result (λ x. length (terminals x.1) ≤ length (terminals self.entry)) }
     {
         let inside = self.expect_symbol(Symbol::OpenParenthesis)?;
         let (name, close) = inside.name(alloc)?;
@@ -131,8 +131,8 @@ impl<'a> Cursor<'a> {
     /// The expression at the front, and the place behind it. Within it no more stands in each other than may
     /// be open at once.
     pub(crate) fn expression(self, alloc: Global) -> Result<(Expression, Cursor<'a>), SyntaxError>
-        ensures reads { Gives (λ e. e) result (expression_at_limit (words self.entry)) }
-        ensures shorter { IfOk result (λ x. length (words x.1) ≤ length (words self.entry)) }
+        ensures reads { Gives (λ e. e) result (expression_at_limit (terminals self.entry)) }
+        ensures shorter { IfOk result (λ x. length (terminals x.1) ≤ length (terminals self.entry)) }
     {
         read_expression(alloc, self, NESTING_LIMIT)
     }

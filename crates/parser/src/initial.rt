@@ -1,10 +1,10 @@
 //! Initial and assigned values.
 ghost use Rattle.std.specs.Prelude.{◌≡◌, ◌≤◌, ℕ, List, [], ◌∷◌, length, IfOk};
-ghost use Rattle.syntax.specs.Words.{Word, Reserved, keyword_word};
-ghost use Rattle.parser.specs.Readers.{words, Gives};
+ghost use Rattle.syntax.specs.Terminals.{Terminal, OfKeyword, keyword_terminal};
+ghost use Rattle.parser.specs.Readers.{terminals, Gives};
 ghost use Rattle.syntax.specs.SourceReading.{in_parentheses, closed, end_at, ends_at, method_at, initial_at, value_at, assigned_at};
 ghost use Rattle.syntax.specs.SourceViews.{initial_tree, ends_tree};
-ghost use Rattle.parser.specs.Fronts.{begins_call as begins_call_at, is_called, called_word, name_pair_at, modified_by, filter_at, call_by, new_set_at, load_at};
+ghost use Rattle.parser.specs.Fronts.{begins_call as begins_call_at, is_called, called_terminal, name_pair_at, modified_by, filter_at, call_by, new_set_at, load_at};
 
 use crate::cursor::Cursor;
 use crate::syntax_error::SyntaxError;
@@ -51,8 +51,8 @@ pub(crate) fn assigned(
     alloc: Global,
     cursor: Cursor<'_>,
 ) -> Result<(Initial, Cursor<'_>), SyntaxError>
-    ensures reads { Gives initial_tree result (assigned_at (words cursor.entry)) }
-    ensures shorter { IfOk result (λ x. length (words x.1) ≤ length (words cursor.entry)) }
+    ensures reads { Gives initial_tree result (assigned_at (terminals cursor.entry)) }
+    ensures shorter { IfOk result (λ x. length (terminals x.1) ≤ length (terminals cursor.entry)) }
 {
     let value = cursor.expect_symbol(Symbol::Assign)?;
     let (initial, semicolon) = initial(alloc, value)?;
@@ -62,8 +62,8 @@ pub(crate) fn assigned(
 
 /// The ends of an apply, where they are given, and the place behind them.
 pub(crate) fn ends(alloc: Global, cursor: Cursor<'_>) -> Result<(Ends, Cursor<'_>), SyntaxError>
-    ensures reads { Gives ends_tree result (ends_at (words cursor.entry)) }
-    ensures shorter { IfOk result (λ x. length (words x.1) ≤ length (words cursor.entry)) }
+    ensures reads { Gives ends_tree result (ends_at (terminals cursor.entry)) }
+    ensures shorter { IfOk result (λ x. length (terminals x.1) ≤ length (terminals cursor.entry)) }
 {
     let (from, left) = end(alloc, cursor, Keyword::From)?;
     let (to, behind) = end(alloc, left, Keyword::To)?;
@@ -76,9 +76,9 @@ fn end(
     cursor: Cursor<'_>,
     keyword: Keyword,
 ) -> Result<(Option<Name>, Cursor<'_>), SyntaxError>
-    requires { (at : ℕ) → keyword_word keyword at ≡ Reserved keyword }
-    ensures reads { Gives (λ e. e) result (end_at (Reserved keyword) (words cursor.entry)) }
-    ensures shorter { IfOk result (λ x. length (words x.1) ≤ length (words cursor.entry)) }
+    requires { (at : ℕ) → keyword_terminal keyword at ≡ OfKeyword keyword }
+    ensures reads { Gives (λ e. e) result (end_at (OfKeyword keyword) (terminals cursor.entry)) }
+    ensures shorter { IfOk result (λ x. length (terminals x.1) ≤ length (terminals cursor.entry)) }
 {
     match cursor.after_method(keyword) {
         None => Ok((None, cursor)),
@@ -93,8 +93,8 @@ fn end(
 
 /// The initial value at the front, and the place behind it.
 fn initial(alloc: Global, cursor: Cursor<'_>) -> Result<(Initial, Cursor<'_>), SyntaxError>
-    ensures reads { Gives initial_tree result (initial_at (words cursor.entry)) }
-    ensures shorter { IfOk result (λ x. length (words x.1) ≤ length (words cursor.entry)) }
+    ensures reads { Gives initial_tree result (initial_at (terminals cursor.entry)) }
+    ensures shorter { IfOk result (λ x. length (terminals x.1) ≤ length (terminals cursor.entry)) }
 {
     if let Some(after) = cursor.after_keyword(Keyword::New) {
         return new_set(after);
@@ -111,8 +111,8 @@ fn initial(alloc: Global, cursor: Cursor<'_>) -> Result<(Initial, Cursor<'_>), S
 
 /// An expression as an initial value.
 fn value(alloc: Global, cursor: Cursor<'_>) -> Result<(Initial, Cursor<'_>), SyntaxError>
-    ensures reads { Gives initial_tree result (value_at (words cursor.entry)) }
-    ensures shorter { IfOk result (λ x. length (words x.1) ≤ length (words cursor.entry)) }
+    ensures reads { Gives initial_tree result (value_at (terminals cursor.entry)) }
+    ensures shorter { IfOk result (λ x. length (terminals x.1) ≤ length (terminals cursor.entry)) }
 {
     let (value, behind) = cursor.expression(alloc)?;
     Ok((Initial::Value(value), behind))
@@ -120,8 +120,8 @@ fn value(alloc: Global, cursor: Cursor<'_>) -> Result<(Initial, Cursor<'_>), Syn
 
 /// What stands behind `new`.
 fn new_set(cursor: Cursor<'_>) -> Result<(Initial, Cursor<'_>), SyntaxError>
-    ensures reads { Gives initial_tree result (new_set_at (words cursor.entry)) }
-    ensures shorter { IfOk result (λ x. length (words x.1) ≤ length (words cursor.entry)) }
+    ensures reads { Gives initial_tree result (new_set_at (terminals cursor.entry)) }
+    ensures shorter { IfOk result (λ x. length (terminals x.1) ≤ length (terminals cursor.entry)) }
 {
     let inside = cursor.expect_all(&OPEN_SET)?;
     let (size, close) = inside.number()?;
@@ -131,8 +131,8 @@ fn new_set(cursor: Cursor<'_>) -> Result<(Initial, Cursor<'_>), SyntaxError>
 
 /// What stands behind `load`.
 fn load(cursor: Cursor<'_>) -> Result<(Initial, Cursor<'_>), SyntaxError>
-    ensures reads { Gives initial_tree result (load_at (words cursor.entry)) }
-    ensures shorter { IfOk result (λ x. length (words x.1) ≤ length (words cursor.entry)) }
+    ensures reads { Gives initial_tree result (load_at (terminals cursor.entry)) }
+    ensures shorter { IfOk result (λ x. length (terminals x.1) ≤ length (terminals cursor.entry)) }
 {
     let inside = cursor.expect_all(&OPEN_ARGUMENT)?;
     let (argument, close) = inside.number()?;
@@ -143,7 +143,7 @@ fn load(cursor: Cursor<'_>) -> Result<(Initial, Cursor<'_>), SyntaxError>
 /// Whether a name stands at the front, and behind it a dot and the method of an initial value that is no
 /// expression.
 fn begins_call(cursor: Cursor<'_>) -> bool
-    ensures { result ≡ begins_call_at (words cursor.entry) }
+    ensures { result ≡ begins_call_at (terminals cursor.entry) }
 {
     let Some((token, after)) = cursor.next() else {
         return false;
@@ -156,7 +156,7 @@ fn begins_call(cursor: Cursor<'_>) -> bool
 
 /// Whether a dot and the method of an initial value that is no expression stand at the front.
 fn has_method(cursor: Cursor<'_>) -> bool
-    ensures { result ≡ is_called (method_at (words cursor.entry)) }
+    ensures { result ≡ is_called (method_at (terminals cursor.entry)) }
 {
     let Some(after) = cursor.after_symbol(Symbol::Dot) else {
         return false;
@@ -172,7 +172,7 @@ fn has_method(cursor: Cursor<'_>) -> bool
 
 /// Whether a keyword is a method of an initial value that is no expression, or begins one of its ends.
 fn is_method(keyword: Keyword) -> bool
-    ensures { (at : ℕ) (rest : List Word) → result ≡ called_word (keyword_word keyword at ∷ rest) }
+    ensures { (at : ℕ) (rest : List Terminal) → result ≡ called_terminal (keyword_terminal keyword at ∷ rest) }
 {
     matches!(
         keyword,
@@ -187,8 +187,8 @@ fn is_method(keyword: Keyword) -> bool
 
 /// What stands behind the name with which an initial value begins that is no expression.
 fn call(alloc: Global, name: Name, cursor: Cursor<'_>) -> Result<(Initial, Cursor<'_>), SyntaxError>
-    ensures reads { Gives initial_tree result (call_by name (words cursor.entry) (method_at (words cursor.entry))) }
-    ensures shorter { IfOk result (λ x. length (words x.1) ≤ length (words cursor.entry)) }
+    ensures reads { Gives initial_tree result (call_by name (terminals cursor.entry) (method_at (terminals cursor.entry))) }
+    ensures shorter { IfOk result (λ x. length (terminals x.1) ≤ length (terminals cursor.entry)) }
 {
     if let Some(after) = cursor.after_method(Keyword::GetVertices) {
         return without_arguments(Initial::Vertices(name), after);
@@ -207,8 +207,8 @@ fn without_arguments(
     call: Initial,
     cursor: Cursor<'_>,
 ) -> Result<(Initial, Cursor<'_>), SyntaxError>
-    ensures reads { Gives initial_tree result (closed (in_parentheses []) (initial_tree call, words cursor.entry)) }
-    ensures shorter { IfOk result (λ x. length (words x.1) ≤ length (words cursor.entry)) }
+    ensures reads { Gives initial_tree result (closed (in_parentheses []) (initial_tree call, terminals cursor.entry)) }
+    ensures shorter { IfOk result (λ x. length (terminals x.1) ≤ length (terminals cursor.entry)) }
 {
     let behind = cursor.expect_all(&NO_ARGUMENTS)?;
     Ok((call, behind))
@@ -220,8 +220,8 @@ fn filter(
     set: Name,
     cursor: Cursor<'_>,
 ) -> Result<(Initial, Cursor<'_>), SyntaxError>
-    ensures reads { Gives initial_tree result (filter_at set (words cursor.entry)) }
-    ensures shorter { IfOk result (λ x. length (words x.1) ≤ length (words cursor.entry)) }
+    ensures reads { Gives initial_tree result (filter_at set (terminals cursor.entry)) }
+    ensures shorter { IfOk result (λ x. length (terminals x.1) ≤ length (terminals cursor.entry)) }
 {
     let (test, behind) = cursor.argument(alloc)?;
     Ok((Initial::Filter { set, test }, behind))
@@ -233,8 +233,8 @@ fn modified(
     edges: Name,
     cursor: Cursor<'_>,
 ) -> Result<(Initial, Cursor<'_>), SyntaxError>
-    ensures reads { Gives initial_tree result (modified_by edges (words cursor.entry)) }
-    ensures shorter { IfOk result (λ x. length (words x.1) ≤ length (words cursor.entry)) }
+    ensures reads { Gives initial_tree result (modified_by edges (terminals cursor.entry)) }
+    ensures shorter { IfOk result (λ x. length (terminals x.1) ≤ length (terminals cursor.entry)) }
 {
     let (ends, dot) = ends(alloc, cursor)?;
     let open = dot.expect_all(&APPLY_MODIFIED)?;
@@ -250,8 +250,8 @@ fn modified(
 
 /// Two names in parentheses, and the place behind them.
 fn name_pair(alloc: Global, cursor: Cursor<'_>) -> Result<((Name, Name), Cursor<'_>), SyntaxError>
-    ensures reads { Gives (λ p. p) result (name_pair_at (words cursor.entry)) }
-    ensures shorter { IfOk result (λ x. length (words x.1) ≤ length (words cursor.entry)) }
+    ensures reads { Gives (λ p. p) result (name_pair_at (terminals cursor.entry)) }
+    ensures shorter { IfOk result (λ x. length (terminals x.1) ≤ length (terminals cursor.entry)) }
 {
     let inside = cursor.expect_symbol(Symbol::OpenParenthesis)?;
     let (first, comma) = inside.name(alloc)?;

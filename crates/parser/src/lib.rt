@@ -1,9 +1,9 @@
 //! The parser of the algorithm language: it takes exactly the texts that are in the grammar
 //! (`docs/LANGUAGE.md` has it).
 //!
-//! In the contracts a source is its tree (`specs/Trees.antt` of the grammar), and a text is the words of
-//! its tokens. [`parse`] answers with a source only where the text has its words, nests within the limit,
-//! and has the words of no other tree; each refusal names its cause and comes only where that holds
+//! In the contracts a source is its tree (`specs/Trees.antt` of the grammar), and a text is the terminals of
+//! its tokens. [`parse`] answers with a source only where the text has its terminals, nests within the limit,
+//! and has the terminals of no other tree; each refusal names its cause and comes only where that holds
 //! (`specs/Outcome.antt`). [`one_answer`] is the law that a text has one answer; it does nothing when
 //! called. There is one reader for each rule, in the file of what it reads, and each
 //! contract says that it does what the grammar's reading function of that rule does. The offset of a text

@@ -1,8 +1,8 @@
 //! The schedule's part of a source.
 ghost use Rattle.std.specs.Prelude.{◌≡◌, ◌<◌, ◌≤◌, length, option_map, IfOk};
-ghost use Rattle.syntax.specs.Words.{Reserved, Mark};
-ghost use Rattle.parser.specs.Readers.{words, Gives};
-ghost use Rattle.syntax.specs.SourceReading.{after_word, each_at, next_text, next_call, next_chain, call_at, chain_at, setting_at, schedule_by};
+ghost use Rattle.syntax.specs.Terminals.{OfKeyword, OfSymbol};
+ghost use Rattle.parser.specs.Readers.{terminals, Gives};
+ghost use Rattle.syntax.specs.SourceReading.{after_terminal, each_at, next_text, next_call, next_chain, call_at, chain_at, setting_at, schedule_by};
 ghost use Rattle.syntax.specs.SourceViews.{text_of, call_tree, chain_tree};
 ghost use Rattle.parser.specs.Fronts.{begun_setting};
 ghost use Rattle.parser.specs.Views.{each};
@@ -19,7 +19,7 @@ pub(crate) fn schedule(
     cursor: Cursor<'_>,
 ) -> Result<(Option<Vec<Chain>>, Cursor<'_>), SyntaxError>
     ensures { Gives (option_map (each chain_tree)) result
-        (schedule_by (words cursor.entry) (after_word (Reserved Keyword.Schedule) (words cursor.entry))) }
+        (schedule_by (terminals cursor.entry) (after_terminal (OfKeyword Keyword.Schedule) (terminals cursor.entry))) }
 {
     match cursor.after_keyword(Keyword::Schedule) {
         None => Ok((None, cursor)),
@@ -33,7 +33,7 @@ pub(crate) fn schedule(
 
 /// The chains of calls at the front, as many as follow one another.
 fn chains(alloc: Global, cursor: Cursor<'_>) -> Result<(Vec<Chain>, Cursor<'_>), SyntaxError>
-    ensures { Gives (each chain_tree) result (each_at next_chain (words cursor.entry)) }
+    ensures { Gives (each chain_tree) result (each_at next_chain (terminals cursor.entry)) }
 {
     let mut chains = Vec::new(alloc);
     let mut left = cursor;
@@ -47,8 +47,8 @@ fn chains(alloc: Global, cursor: Cursor<'_>) -> Result<(Vec<Chain>, Cursor<'_>),
 
 /// What stands behind `program`.
 fn chain(alloc: Global, cursor: Cursor<'_>) -> Result<(Chain, Cursor<'_>), SyntaxError>
-    ensures reads { Gives chain_tree result (chain_at (words cursor.entry)) }
-    ensures shorter { IfOk result (λ x. length (words x.1) ≤ length (words cursor.entry)) }
+    ensures reads { Gives chain_tree result (chain_at (terminals cursor.entry)) }
+    ensures shorter { IfOk result (λ x. length (terminals x.1) ≤ length (terminals cursor.entry)) }
 {
     let rest = cursor.expect_symbol(Symbol::Arrow)?;
     let (first, left) = call(alloc, rest)?;
@@ -59,8 +59,8 @@ fn chain(alloc: Global, cursor: Cursor<'_>) -> Result<(Chain, Cursor<'_>), Synta
 
 /// The calls behind the first, each behind an arrow.
 fn more_calls(alloc: Global, cursor: Cursor<'_>) -> Result<(Vec<Call>, Cursor<'_>), SyntaxError>
-    ensures reads { Gives (each call_tree) result (each_at next_call (words cursor.entry)) }
-    ensures shorter { IfOk result (λ x. length (words x.1) ≤ length (words cursor.entry)) }
+    ensures reads { Gives (each call_tree) result (each_at next_call (terminals cursor.entry)) }
+    ensures shorter { IfOk result (λ x. length (terminals x.1) ≤ length (terminals cursor.entry)) }
 {
     let mut calls = Vec::new(alloc);
     let mut left = cursor;
@@ -74,8 +74,8 @@ fn more_calls(alloc: Global, cursor: Cursor<'_>) -> Result<(Vec<Call>, Cursor<'_
 
 /// A call with its arguments.
 fn call(alloc: Global, cursor: Cursor<'_>) -> Result<(Call, Cursor<'_>), SyntaxError>
-    ensures reads { Gives call_tree result (call_at (words cursor.entry)) }
-    ensures shorter { IfOk result (λ x. length (words x.1) ≤ length (words cursor.entry)) }
+    ensures reads { Gives call_tree result (call_at (terminals cursor.entry)) }
+    ensures shorter { IfOk result (λ x. length (terminals x.1) ≤ length (terminals cursor.entry)) }
 {
     let ((at, setting), open) = setting(cursor)?;
     let inside = open.expect_symbol(Symbol::OpenParenthesis)?;
@@ -93,8 +93,8 @@ fn call(alloc: Global, cursor: Cursor<'_>) -> Result<(Call, Cursor<'_>), SyntaxE
 
 /// The texts behind the first, each behind a comma.
 fn more_texts(alloc: Global, cursor: Cursor<'_>) -> Result<(Vec<Text>, Cursor<'_>), SyntaxError>
-    ensures reads { Gives (each text_of) result (each_at next_text (words cursor.entry)) }
-    ensures shorter { IfOk result (λ x. length (words x.1) ≤ length (words cursor.entry)) }
+    ensures reads { Gives (each text_of) result (each_at next_text (terminals cursor.entry)) }
+    ensures shorter { IfOk result (λ x. length (terminals x.1) ≤ length (terminals cursor.entry)) }
 {
     let mut texts = Vec::new(alloc);
     let mut left = cursor;
@@ -108,8 +108,8 @@ fn more_texts(alloc: Global, cursor: Cursor<'_>) -> Result<(Vec<Text>, Cursor<'_
 
 /// The name of the call at the front with its offset, and the place behind it.
 fn setting(cursor: Cursor<'_>) -> Result<((usize, Setting), Cursor<'_>), SyntaxError>
-    ensures reads { Gives (λ s. s) result (setting_at (words cursor.entry)) }
-    ensures shorter { IfOk result (λ x. length (words x.1) ≤ length (words cursor.entry)) }
+    ensures reads { Gives (λ s. s) result (setting_at (terminals cursor.entry)) }
+    ensures shorter { IfOk result (λ x. length (terminals x.1) ≤ length (terminals cursor.entry)) }
 {
     let Some((token, after)) = cursor.next() else {
         return Err(cursor.unexpected());

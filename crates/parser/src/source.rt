@@ -1,6 +1,6 @@
 //! A whole source.
 ghost use Rattle.std.specs.Prelude.{◌≡◌, ℕ, List, Result, length, IfOk};
-ghost use Rattle.parser.specs.Readers.{words};
+ghost use Rattle.parser.specs.Readers.{terminals};
 ghost use Rattle.syntax.specs.SourceReading.{source_at};
 ghost use Rattle.syntax.specs.SourceTrees.{SourceTree};
 ghost use Rattle.parser.specs.declared.error.ParseError.{ParseError};
@@ -57,7 +57,7 @@ static ELEMENTS: [TokenKind; 6] = [
 
 /// The source that all tokens are, of a text of this length.
 fn whole(alloc: Global, cursor: Cursor<'_>, len: usize) -> Result<Source, SyntaxError>
-    ensures reads { GivesSource result (source_at (words cursor.entry)) }
+    ensures reads { GivesSource result (source_at (terminals cursor.entry)) }
     ensures length { IfOk result (λ source. source.length ≡ len) }
 {
     let rest = cursor.expect_all(&ELEMENTS)?;

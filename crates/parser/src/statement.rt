@@ -1,8 +1,8 @@
 //! Statements.
 ghost use Rattle.std.specs.Prelude.{◌≤◌, [], ◌∷◌, length, IfOk};
-ghost use Rattle.syntax.specs.Words.{Reserved, Mark};
-ghost use Rattle.parser.specs.Readers.{words, Gives};
-ghost use Rattle.syntax.specs.SourceReading.{reduction_at, ended_at, entry_at, entry_by, after_word, after_words, method_by, added_at, applied_at, reduced_at, named_action};
+ghost use Rattle.syntax.specs.Terminals.{OfKeyword, OfSymbol};
+ghost use Rattle.parser.specs.Readers.{terminals, Gives};
+ghost use Rattle.syntax.specs.SourceReading.{reduction_at, ended_at, entry_at, entry_by, after_terminal, after_terminals, method_by, added_at, applied_at, reduced_at, named_action};
 ghost use Rattle.syntax.specs.SourceViews.{action_tree};
 
 use crate::cursor::Cursor;
@@ -29,8 +29,8 @@ pub(crate) fn ended(
     alloc: Global,
     cursor: Cursor<'_>,
 ) -> Result<(Expression, Cursor<'_>), SyntaxError>
-    ensures reads { Gives (λ e. e) result (ended_at (words cursor.entry)) }
-    ensures shorter { IfOk result (λ x. length (words x.1) ≤ length (words cursor.entry)) }
+    ensures reads { Gives (λ e. e) result (ended_at (terminals cursor.entry)) }
+    ensures shorter { IfOk result (λ x. length (terminals x.1) ≤ length (terminals cursor.entry)) }
 {
     let (value, semicolon) = cursor.expression(alloc)?;
     let behind = semicolon.expect_symbol(Symbol::Semicolon)?;
@@ -39,8 +39,8 @@ pub(crate) fn ended(
 
 /// The reduction at the front, and the place behind it.
 fn reduction(cursor: Cursor<'_>) -> Result<(Reduction, Cursor<'_>), SyntaxError>
-    ensures reads { Gives (λ r. r) result (reduction_at (words cursor.entry)) }
-    ensures shorter { IfOk result (λ x. length (words x.1) ≤ length (words cursor.entry)) }
+    ensures reads { Gives (λ r. r) result (reduction_at (terminals cursor.entry)) }
+    ensures shorter { IfOk result (λ x. length (terminals x.1) ≤ length (terminals cursor.entry)) }
 {
     let Some((token, after)) = cursor.next() else {
         return Err(cursor.unexpected());
@@ -59,8 +59,8 @@ pub(crate) fn named(
     name: Name,
     cursor: Cursor<'_>,
 ) -> Result<(Action, Cursor<'_>), SyntaxError>
-    ensures reads { Gives action_tree result (named_action name (words cursor.entry)) }
-    ensures shorter { IfOk result (λ x. length (words x.1) ≤ length (words cursor.entry)) }
+    ensures reads { Gives action_tree result (named_action name (terminals cursor.entry)) }
+    ensures shorter { IfOk result (λ x. length (terminals x.1) ≤ length (terminals cursor.entry)) }
 {
     if let Some(_) = cursor.after_symbol(Symbol::Assign) {
         let (value, behind) = assigned(alloc, cursor)?;
@@ -81,8 +81,8 @@ fn reduced(
     name: Name,
     cursor: Cursor<'_>,
 ) -> Result<(Action, Cursor<'_>), SyntaxError>
-    ensures reads { Gives action_tree result (reduced_at name (words cursor.entry)) }
-    ensures shorter { IfOk result (λ x. length (words x.1) ≤ length (words cursor.entry)) }
+    ensures reads { Gives action_tree result (reduced_at name (terminals cursor.entry)) }
+    ensures shorter { IfOk result (λ x. length (terminals x.1) ≤ length (terminals cursor.entry)) }
 {
     let (reduction, rest) = reduction(cursor)?;
     let (value, behind) = ended(alloc, rest)?;
@@ -100,8 +100,8 @@ fn entry(
     vector: Name,
     cursor: Cursor<'_>,
 ) -> Result<(Action, Cursor<'_>), SyntaxError>
-    ensures reads { Gives action_tree result (entry_at vector (words cursor.entry)) }
-    ensures shorter { IfOk result (λ x. length (words x.1) ≤ length (words cursor.entry)) }
+    ensures reads { Gives action_tree result (entry_at vector (terminals cursor.entry)) }
+    ensures shorter { IfOk result (λ x. length (terminals x.1) ≤ length (terminals cursor.entry)) }
 {
     let (index, close) = cursor.expression(alloc)?;
     let rest = close.expect_symbol(Symbol::CloseBracket)?;
@@ -116,8 +116,8 @@ fn entry_value(
     cursor: Cursor<'_>,
 ) -> Result<(Action, Cursor<'_>), SyntaxError>
     ensures reads { Gives action_tree result
-        (entry_by vector index (words cursor.entry) (after_word (Mark Symbol.Assign) (words cursor.entry))) }
-    ensures shorter { IfOk result (λ x. length (words x.1) ≤ length (words cursor.entry)) }
+        (entry_by vector index (terminals cursor.entry) (after_terminal (OfSymbol Symbol.Assign) (terminals cursor.entry))) }
+    ensures shorter { IfOk result (λ x. length (terminals x.1) ≤ length (terminals cursor.entry)) }
 {
     if let Some(after) = cursor.after_symbol(Symbol::Assign) {
         let (value, behind) = ended(alloc, after)?;
@@ -146,8 +146,8 @@ fn method(
     cursor: Cursor<'_>,
 ) -> Result<(Action, Cursor<'_>), SyntaxError>
     ensures reads { Gives action_tree result
-        (method_by name (words cursor.entry) (after_words (Mark Symbol.Dot ∷ Reserved Keyword.AddVertex ∷ []) (words cursor.entry))) }
-    ensures shorter { IfOk result (λ x. length (words x.1) ≤ length (words cursor.entry)) }
+        (method_by name (terminals cursor.entry) (after_terminals (OfSymbol Symbol.Dot ∷ OfKeyword Keyword.AddVertex ∷ []) (terminals cursor.entry))) }
+    ensures shorter { IfOk result (λ x. length (terminals x.1) ≤ length (terminals cursor.entry)) }
 {
     match cursor.after_method(Keyword::AddVertex) {
         Some(after) => added(alloc, name, after),
@@ -157,8 +157,8 @@ fn method(
 
 /// The vertex that is added to a set, and what stands around it, from behind `addVertex`.
 fn added(alloc: Global, set: Name, cursor: Cursor<'_>) -> Result<(Action, Cursor<'_>), SyntaxError>
-    ensures reads { Gives action_tree result (added_at set (words cursor.entry)) }
-    ensures shorter { IfOk result (λ x. length (words x.1) ≤ length (words cursor.entry)) }
+    ensures reads { Gives action_tree result (added_at set (terminals cursor.entry)) }
+    ensures shorter { IfOk result (λ x. length (terminals x.1) ≤ length (terminals cursor.entry)) }
 {
     let inside = cursor.expect_symbol(Symbol::OpenParenthesis)?;
     let (vertex, close) = inside.expression(alloc)?;
@@ -172,8 +172,8 @@ fn applied(
     target: Name,
     cursor: Cursor<'_>,
 ) -> Result<(Action, Cursor<'_>), SyntaxError>
-    ensures reads { Gives action_tree result (applied_at target (words cursor.entry)) }
-    ensures shorter { IfOk result (λ x. length (words x.1) ≤ length (words cursor.entry)) }
+    ensures reads { Gives action_tree result (applied_at target (terminals cursor.entry)) }
+    ensures shorter { IfOk result (λ x. length (terminals x.1) ≤ length (terminals cursor.entry)) }
 {
     let (ends, dot) = ends(alloc, cursor)?;
     let open = dot.expect_all(&APPLY)?;

@@ -5,7 +5,7 @@ ghost use Rattle.parser.specs.SyntaxRefusal.{number_of, offset_of};
 use std::alloc::{AllocError, AllocFailed};
 use thiserror::Error;
 
-/// Why words are not in the grammar.
+/// Why terminals are not in the grammar.
 #[derive(Clone, Copy, Debug, PartialEq, Eq, Error)]
 pub enum SyntaxError {
     /// At the first token after which no text is in the grammar, or at the length of the text.

@@ -1,9 +1,9 @@
 //! Types, and names with their types.
 ghost use Rattle.std.specs.Prelude.{◌≡◌, ◌<◌, ◌≤◌, ℕ, length, IfOk};
-ghost use Rattle.parser.specs.Readers.{words, Gives, Passes};
-ghost use Rattle.syntax.specs.SourceReading.{after_words, type_at, typed_at};
+ghost use Rattle.parser.specs.Readers.{terminals, Gives, Passes};
+ghost use Rattle.syntax.specs.SourceReading.{after_terminals, type_at, typed_at};
 ghost use Rattle.syntax.specs.SourceViews.{parameter_tree};
-ghost use Rattle.parser.specs.Fronts.{begun_type, words_behind};
+ghost use Rattle.parser.specs.Fronts.{begun_type, terminals_behind};
 
 use crate::cursor::Cursor;
 use crate::syntax_error::SyntaxError;
@@ -45,8 +45,8 @@ pub(crate) fn typed(
     alloc: Global,
     cursor: Cursor<'_>,
 ) -> Result<(Parameter, Cursor<'_>), SyntaxError>
-    ensures reads { Gives parameter_tree result (typed_at (words cursor.entry)) }
-    ensures shorter { IfOk result (λ x. length (words x.1) ≤ length (words cursor.entry)) }
+    ensures reads { Gives parameter_tree result (typed_at (terminals cursor.entry)) }
+    ensures shorter { IfOk result (λ x. length (terminals x.1) ≤ length (terminals cursor.entry)) }
 {
     let (name, colon) = cursor.name(alloc)?;
     let rest = colon.expect_symbol(Symbol::Colon)?;
@@ -56,8 +56,8 @@ pub(crate) fn typed(
 
 /// The type at the front, and the place behind it.
 fn declared_type(cursor: Cursor<'_>) -> Result<(DeclaredType, Cursor<'_>), SyntaxError>
-    ensures reads { Gives (λ t. t) result (type_at (words cursor.entry)) }
-    ensures shorter { IfOk result (λ x. length (words x.1) ≤ length (words cursor.entry)) }
+    ensures reads { Gives (λ t. t) result (type_at (terminals cursor.entry)) }
+    ensures shorter { IfOk result (λ x. length (terminals x.1) ≤ length (terminals cursor.entry)) }
 {
     let Some((token, after)) = cursor.next() else {
         return Err(cursor.unexpected());
@@ -89,8 +89,8 @@ fn type_begun_by(keyword: Keyword) -> Option<DeclaredType>
 
 /// The place behind what stands in a type behind its first keyword.
 fn rest_of_type(declared: DeclaredType, cursor: Cursor<'_>) -> Result<Cursor<'_>, SyntaxError>
-    ensures passes { Passes result (after_words (words_behind declared) (words cursor.entry)) }
-    ensures shorter { IfOk result (λ after. length (words after) ≤ length (words cursor.entry)) }
+    ensures passes { Passes result (after_terminals (terminals_behind declared) (terminals cursor.entry)) }
+    ensures shorter { IfOk result (λ after. length (terminals after) ≤ length (terminals cursor.entry)) }
 {
     match declared {
         DeclaredType::Int | DeclaredType::Bool | DeclaredType::Vertex => Ok(cursor),

@@ -1,4 +1,4 @@
--- A word before a white byte is the longest token at its place.
+-- A terminal before a white byte is the longest token at its place.
 use Rattle.std.proofs.Common.{◌≡◌, ℕ, pos, ◌<◌, ◌≤◌, true, false, List, [], ◌∷◌, ◌++◌, length, get_or, codes, decimal, refl, sym, ◌∙◌, ap, subst, arith}
 use Rattle.std.specs.Char.{is_ascii_digit}
 use Rattle.std.specs.Str.{all_ascii_digits}
@@ -17,21 +17,21 @@ use Rattle.lexer.specs.Tokens.{IsWord, Lexeme, IsLongest}
 use Rattle.lexer.proofs.LongestLaws.{IsNoReduction, IsNoPair, word_longest, number_longest, label_longest, text_longest, reduction_longest, pair_longest, single_longest}
 use Rattle.lexer.proofs.ShapeLaws.{digit-not_white, letter-not_white}
 use Rattle.lexer.proofs.SpellingLaws.{keyword_spelling-IsWord}
-use Rattle.syntax.specs.Words.{Word, Name, Number, Label, Text, Opening, Reserved, Mark}
-use Rattle.source_text.specs.Text.{word_bytes, IsSpelled}
+use Rattle.syntax.specs.Terminals.{Terminal, Name, Number, Label, Text, Opening, OfKeyword, OfSymbol}
+use Rattle.source_text.specs.Text.{terminal_bytes, IsSpelled}
 
--- the kind of token that a word is
-abbrev pub kind_of : Word → TokenKind
+-- the kind of token that a terminal is
+abbrev pub kind_of : Terminal → TokenKind
 kind_of (Name name) = kind.Name
 kind_of (Number n) = kind.Number n
 kind_of (Label label) = kind.Label
 kind_of (Text bytes) = kind.Text
-kind_of (Opening word at) = kind.Keyword word
-kind_of (Reserved word) = kind.Keyword word
-kind_of (Mark symbol) = kind.Symbol symbol
+kind_of (Opening terminal at) = kind.Keyword terminal
+kind_of (OfKeyword terminal) = kind.Keyword terminal
+kind_of (OfSymbol symbol) = kind.Symbol symbol
 
-white-not_word : (b : ℕ) → is_white b ≡ true → is_word_byte b ≡ false
-white-not_word b white = grind (arith, nat_tests)
+white-not_terminal : (b : ℕ) → is_white b ≡ true → is_word_byte b ≡ false
+white-not_terminal b white = grind (arith, nat_tests)
 
 white-not_digit : (b : ℕ) → is_white b ≡ true → is_ascii_digit b ≡ false
 white-not_digit b white = grind (arith, nat_tests)
@@ -95,22 +95,22 @@ number_before m b small white rest =
     subst (λ n. IsLongest (record { kind = Lexeme (kind.Number (pos n)); text = decimal m }) (b ∷ rest)) (digits_value-decimal digits_model m (below m small))
     (number_longest (decimal m) (b ∷ rest) (decimal_nonempty m (below m small)) (digits_decimal digits_model m (below m small)) (white-not_digit b white))
 
-pub word_before : (w : Word) (b : ℕ) → IsSpelled w → is_white b ≡ true → IsLongestBefore b (kind_of w) (word_bytes w)
-word_before (Name name) b is white rest =
-    word_longest (Lexeme kind.Name) name.bytes (b ∷ rest) is.0 is (white-not_word b white) (no_reduction name.bytes rest b white)
-word_before (Number n) b is white rest = rw (is.2) (number_before is.0 b is.1 white rest)
-word_before (Label label) b is white rest = rw (is.2) (label_longest is.0 (b ∷ rest) is.1)
-word_before (Text bytes) b is white rest = rw (is.2) (text_longest is.0 (b ∷ rest) is.1)
-word_before (Opening word at) b is white rest =
-    word_longest (Lexeme (kind.Keyword word)) (keyword_spelling word) (b ∷ rest) (keyword_spelling-IsWord word) refl (white-not_word b white) (no_reduction (keyword_spelling word) rest b white)
-word_before (Reserved word) b is white rest =
-    word_longest (Lexeme (kind.Keyword word)) (keyword_spelling word) (b ∷ rest) (keyword_spelling-IsWord word) refl (white-not_word b white) (no_reduction (keyword_spelling word) rest b white)
-word_before (Mark symbol) b is white rest = symbol_before symbol b white rest
+pub terminal_before : (w : Terminal) (b : ℕ) → IsSpelled w → is_white b ≡ true → IsLongestBefore b (kind_of w) (terminal_bytes w)
+terminal_before (Name name) b is white rest =
+    word_longest (Lexeme kind.Name) name.bytes (b ∷ rest) is.0 is (white-not_terminal b white) (no_reduction name.bytes rest b white)
+terminal_before (Number n) b is white rest = rw (is.2) (number_before is.0 b is.1 white rest)
+terminal_before (Label label) b is white rest = rw (is.2) (label_longest is.0 (b ∷ rest) is.1)
+terminal_before (Text bytes) b is white rest = rw (is.2) (text_longest is.0 (b ∷ rest) is.1)
+terminal_before (Opening terminal at) b is white rest =
+    word_longest (Lexeme (kind.Keyword terminal)) (keyword_spelling terminal) (b ∷ rest) (keyword_spelling-IsWord terminal) refl (white-not_terminal b white) (no_reduction (keyword_spelling terminal) rest b white)
+terminal_before (OfKeyword terminal) b is white rest =
+    word_longest (Lexeme (kind.Keyword terminal)) (keyword_spelling terminal) (b ∷ rest) (keyword_spelling-IsWord terminal) refl (white-not_terminal b white) (no_reduction (keyword_spelling terminal) rest b white)
+terminal_before (OfSymbol symbol) b is white rest = symbol_before symbol b white rest
 
--- a word does not begin with a white byte
-word_first : (text more : List ℕ) → IsWord text → EndsRun is_white (text ++ more)
-word_first [] more word = absurd word
-word_first (b ∷ text) more word = letter-not_white b word.0
+-- a terminal does not begin with a white byte
+terminal_first : (text more : List ℕ) → IsWord text → EndsRun is_white (text ++ more)
+terminal_first [] more terminal = absurd terminal
+terminal_first (b ∷ text) more terminal = letter-not_white b terminal.0
 
 digits_first : (text more : List ℕ) → 0 < length text → all_ascii_digits text ≡ true → EndsRun is_white (text ++ more)
 digits_first [] more some digits = absurd (omega arith)
@@ -120,11 +120,11 @@ symbol_first : (s : Symbol) (more : List ℕ) → EndsRun is_white (symbol_spell
 symbol_first symbol.Slash more = refl
 symbol_first _ more = refl
 
-pub first_not_white : (w : Word) (more : List ℕ) → IsSpelled w → EndsRun is_white (word_bytes w ++ more)
-first_not_white (Name name) more is = word_first name.bytes more is.0
+pub first_not_white : (w : Terminal) (more : List ℕ) → IsSpelled w → EndsRun is_white (terminal_bytes w ++ more)
+first_not_white (Name name) more is = terminal_first name.bytes more is.0
 first_not_white (Number n) more is = rw (is.2) (digits_first (decimal is.0) more (decimal_nonempty is.0 (below is.0 is.1)) (digits_decimal digits_model is.0 (below is.0 is.1)))
 first_not_white (Label label) more is = rw (is.2) refl
 first_not_white (Text bytes) more is = rw (is.2) refl
-first_not_white (Opening word at) more is = word_first (keyword_spelling word) more (keyword_spelling-IsWord word)
-first_not_white (Reserved word) more is = word_first (keyword_spelling word) more (keyword_spelling-IsWord word)
-first_not_white (Mark symbol) more is = symbol_first symbol more
+first_not_white (Opening terminal at) more is = terminal_first (keyword_spelling terminal) more (keyword_spelling-IsWord terminal)
+first_not_white (OfKeyword terminal) more is = terminal_first (keyword_spelling terminal) more (keyword_spelling-IsWord terminal)
+first_not_white (OfSymbol symbol) more is = symbol_first symbol more

@@ -1,4 +1,4 @@
--- The words of the tokens of a text are spelled.
+-- The terminals of the tokens of a text are spelled.
 use Rattle.std.proofs.Common.{ℕ, pos, ◌+◌, ◌≤◌, ◌≤ℤ◌, List, [], ◌∷◌, ◌++◌, length, refl, sym, subst, arith}
 use Rattle.std.proofs.lemmas.Int.{ints}
 use Rattle.std.specs.List.{AllByRecursion}
@@ -10,23 +10,23 @@ use Rattle.lexer.specs.declared.token.TokenKind.{TokenKind}
 use Rattle.lexer.specs.declared.token.TokenKind.TheVariants as kind
 use Rattle.lexer.specs.Tokens.{PieceKind, White, Comment, Lexeme, Piece, IsToken, IsSmall, AreSmall, token_of, tokens_from, HasTokens, slice_of, AreInOrder}
 use Rattle.lexer.proofs.OrderLaws.{HasTokens-AreInOrder}
-use Rattle.syntax.specs.Words.{keyword_word, word_of, words_of}
+use Rattle.syntax.specs.Terminals.{keyword_terminal, terminal_of, terminals_of}
 use Rattle.source_text.specs.Text.{IsSpelled, AreSpelled}
 
-spelled_keyword : (k : Keyword) (at : ℕ) → IsSpelled (keyword_word k at)
+spelled_keyword : (k : Keyword) (at : ℕ) → IsSpelled (keyword_terminal k at)
 spelled_keyword keyword.Element at = refl
 spelled_keyword _ at = refl
 
 small_value : (n : ℕ) → pos n ≤ℤ pos 9223372036854775807 → n ≤ 9223372036854775807
 small_value n small = omega (arith, ints)
 
-spelled_token : (kind : TokenKind) (bytes : List ℕ) (at : ℕ) → IsToken kind bytes → IsSmall (Lexeme kind) → IsSpelled (word_of kind bytes at)
+spelled_token : (kind : TokenKind) (bytes : List ℕ) (at : ℕ) → IsToken kind bytes → IsSmall (Lexeme kind) → IsSpelled (terminal_of kind bytes at)
 spelled_token kind.Name bytes at is small = is
 spelled_token (kind.Number n) bytes at is small =
     (value_of bytes, small_value (value_of bytes) (subst (λ z. z ≤ℤ pos 9223372036854775807) (is.2) small), is.2)
 spelled_token kind.Label bytes at is small = is
 spelled_token kind.Text bytes at is small = is
-spelled_token (kind.Keyword word) bytes at is small = spelled_keyword word at
+spelled_token (kind.Keyword terminal) bytes at is small = spelled_keyword terminal at
 spelled_token (kind.Symbol symbol) bytes at is small = tt
 
 -- numbers among tokens are small
@@ -42,11 +42,11 @@ small_pieces : (at : ℕ) (pieces : List Piece) → AreSmall pieces → HaveSmal
 small_pieces at [] small = tt
 small_pieces at (piece ∷ pieces) small = small_piece piece.kind at (at + length piece.text) (tokens_from (at + length piece.text) pieces) small.0 (small_pieces (at + length piece.text) pieces small.1)
 
-spelled_words : (text : List ℕ) (from : ℕ) (tokens : List Token) → AreInOrder text from tokens → HaveSmall tokens → AreSpelled (words_of text tokens)
-spelled_words text from [] order small = tt
-spelled_words text from (token ∷ tokens) order small =
-    (spelled_token token.kind (slice_of text token.span) token.span.start order.3 small.0, spelled_words text token.span.end tokens order.4 small.1)
+spelled_terminals : (text : List ℕ) (from : ℕ) (tokens : List Token) → AreInOrder text from tokens → HaveSmall tokens → AreSpelled (terminals_of text tokens)
+spelled_terminals text from [] order small = tt
+spelled_terminals text from (token ∷ tokens) order small =
+    (spelled_token token.kind (slice_of text token.span) token.span.start order.3 small.0, spelled_terminals text token.span.end tokens order.4 small.1)
 
-pub words_of-AreSpelled : (text : List ℕ) (tokens : List Token) → HasTokens text tokens → AreSpelled (words_of text tokens)
-words_of-AreSpelled text tokens reads =
-    spelled_words text 0 tokens (HasTokens-AreInOrder text tokens reads) (subst HaveSmall (sym (reads.2)) (small_pieces 0 reads.0 reads.1.small))
+pub terminals_of-AreSpelled : (text : List ℕ) (tokens : List Token) → HasTokens text tokens → AreSpelled (terminals_of text tokens)
+terminals_of-AreSpelled text tokens reads =
+    spelled_terminals text 0 tokens (HasTokens-AreInOrder text tokens reads) (subst HaveSmall (sym (reads.2)) (small_pieces 0 reads.0 reads.1.small))

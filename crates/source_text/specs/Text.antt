@@ -1,4 +1,4 @@
--- The text of words.
+-- The text of terminals.
 use Rattle.std.specs.Prelude.{◌≡◌, ℕ, pos, ◌≤◌, List, [], ◌∷◌, ◌++◌, map}
 use Rattle.std.specs.Fmt.{signed_decimal}
 use Rattle.std.specs.List.{AllByRecursion}
@@ -10,19 +10,19 @@ use Rattle.lexer.specs.declared.token.Token.{Token}
 use Rattle.lexer.specs.declared.token.TokenKind.TheVariants as kind
 use Rattle.lexer.specs.Spelling.{keyword_spelling, symbol_spelling}
 use Rattle.lexer.specs.Tokens.{IsName, IsToken, HasTokens}
-use Rattle.syntax.specs.Words.{Word, Name, Number, Label, Text, Opening, Reserved, Mark, keyword_word, words_of}
+use Rattle.syntax.specs.Terminals.{Terminal, Name, Number, Label, Text, Opening, OfKeyword, OfSymbol, keyword_terminal, terminals_of}
 
--- the bytes of a word
-abbrev pub word_bytes : Word → List ℕ
-word_bytes (Name name) = name.bytes
-word_bytes (Number n) = signed_decimal n
-word_bytes (Label label) = label.bytes
-word_bytes (Text bytes) = bytes
-word_bytes (Opening word at) = keyword_spelling word
-word_bytes (Reserved word) = keyword_spelling word
-word_bytes (Mark symbol) = symbol_spelling symbol
+-- the bytes of a terminal
+abbrev pub terminal_bytes : Terminal → List ℕ
+terminal_bytes (Name name) = name.bytes
+terminal_bytes (Number n) = signed_decimal n
+terminal_bytes (Label label) = label.bytes
+terminal_bytes (Text bytes) = bytes
+terminal_bytes (Opening terminal at) = keyword_spelling terminal
+terminal_bytes (OfKeyword terminal) = keyword_spelling terminal
+terminal_bytes (OfSymbol symbol) = symbol_spelling symbol
 
--- the white byte behind a word: a line feed where a statement or a block ends, else a space
+-- the white byte behind a terminal: a line feed where a statement or a block ends, else a space
 abbrev pub keyword_gap : Keyword → ℕ
 keyword_gap keyword.End = 10
 keyword_gap _ = 32
@@ -31,47 +31,47 @@ abbrev pub symbol_gap : Symbol → ℕ
 symbol_gap symbol.Semicolon = 10
 symbol_gap _ = 32
 
-abbrev pub gap_behind : Word → ℕ
-gap_behind (Opening word at) = keyword_gap word
-gap_behind (Reserved word) = keyword_gap word
-gap_behind (Mark symbol) = symbol_gap symbol
+abbrev pub gap_behind : Terminal → ℕ
+gap_behind (Opening terminal at) = keyword_gap terminal
+gap_behind (OfKeyword terminal) = keyword_gap terminal
+gap_behind (OfSymbol symbol) = symbol_gap symbol
 gap_behind _ = 32
 
--- each word, and a white byte behind it
-abbrev pub text_of : List Word → List ℕ
+-- each terminal, and a white byte behind it
+abbrev pub text_of : List Terminal → List ℕ
 text_of [] = []
-text_of (word ∷ words) = word_bytes word ++ gap_behind word ∷ text_of words
+text_of (terminal ∷ terminals) = terminal_bytes terminal ++ gap_behind terminal ∷ text_of terminals
 
--- The word is one that some token is: names are no keywords, numbers have no sign and are at most 9223372036854775807, labels and
+-- The terminal is one that some token is: names are no keywords, numbers have no sign and are at most 9223372036854775807, labels and
 -- texts are whole, and of a keyword it is known whether its offset is kept.
-abbrev pub IsSpelled : Word → Type 0
+abbrev pub IsSpelled : Terminal → Type 0
 IsSpelled (Name name) = IsName name.bytes
 IsSpelled (Number n) = (m : ℕ) × (m ≤ 9223372036854775807) × (n ≡ pos m)
 IsSpelled (Label label) = IsToken kind.Label label.bytes
 IsSpelled (Text bytes) = IsToken kind.Text bytes
-IsSpelled (Opening word at) = keyword_word word 0 ≡ Opening word 0
-IsSpelled (Reserved word) = keyword_word word 0 ≡ Reserved word
-IsSpelled (Mark symbol) = Unit {0}
+IsSpelled (Opening terminal at) = keyword_terminal terminal 0 ≡ Opening terminal 0
+IsSpelled (OfKeyword terminal) = keyword_terminal terminal 0 ≡ OfKeyword terminal
+IsSpelled (OfSymbol symbol) = Unit {0}
 
-abbrev pub AreSpelled : List Word → Type 0
-AreSpelled words = AllByRecursion IsSpelled words
+abbrev pub AreSpelled : List Terminal → Type 0
+AreSpelled terminals = AllByRecursion IsSpelled terminals
 
--- a word without its offset
-abbrev pub bare : Word → Word
+-- a terminal without its offset
+abbrev pub bare : Terminal → Terminal
 bare (Name name) = Name (record { bytes = name.bytes; at = 0 })
 bare (Number n) = Number n
 bare (Label label) = Label (record { bytes = label.bytes; at = 0 })
 bare (Text bytes) = Text bytes
-bare (Opening word at) = Opening word 0
-bare (Reserved word) = Reserved word
-bare (Mark symbol) = Mark symbol
+bare (Opening terminal at) = Opening terminal 0
+bare (OfKeyword terminal) = OfKeyword terminal
+bare (OfSymbol symbol) = OfSymbol symbol
 
--- the words are the same, but for their offsets
-abbrev pub AreAlike : List Word → List Word → Type 0
-AreAlike words others = map bare words ≡ map bare others
+-- the terminals are the same, but for their offsets
+abbrev pub AreAlike : List Terminal → List Terminal → Type 0
+AreAlike terminals others = map bare terminals ≡ map bare others
 
--- the text has tokens, and they are these words but for the offsets
-pub record HasWords (text : List ℕ) (words : List Word) : Type 0 where
+-- the text has tokens, and they are these terminals but for the offsets
+pub record HasTerminals (text : List ℕ) (terminals : List Terminal) : Type 0 where
   pub tokens : List Token
   pub reads : HasTokens text tokens
-  pub alike : AreAlike (words_of text tokens) words
+  pub alike : AreAlike (terminals_of text tokens) terminals

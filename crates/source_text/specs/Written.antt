@@ -3,30 +3,30 @@ use Rattle.std.specs.Prelude.{◌≡◌, ℕ, List, ◌∷◌, ◌++◌, drop, m
 use Rattle.std.specs.Global.{Vec}
 use Rattle.lexer.specs.declared.keyword.Keyword.TheVariants as keyword
 use Rattle.syntax.specs.declared.operators.Prefix.{Prefix}
-use Rattle.syntax.specs.Words.{Word, Reserved}
-use Rattle.syntax.specs.ExpressionSpelling.{prefix_word}
+use Rattle.syntax.specs.Terminals.{Terminal, OfKeyword}
+use Rattle.syntax.specs.ExpressionSpelling.{prefix_terminal}
 use Rattle.syntax.specs.declared.schedule.Chain.{Chain}
 use Rattle.syntax.specs.SourceSpelling.{each_before}
 use Rattle.syntax.specs.SourceTrees.{ActionTree, While, For, If, IfElse, ChainTree}
 use Rattle.syntax.specs.SourceViews.{chain_tree}
 use Rattle.source_text.specs.Text.{text_of}
 
--- the bytes and then the text of the words are the whole
-unfoldable pub Completes : List ℕ → List Word → List ℕ → Type 0
-Completes bytes words whole = bytes ++ text_of words ≡ whole
+-- the bytes and then the text of the terminals are the whole
+unfoldable pub Completes : List ℕ → List Terminal → List ℕ → Type 0
+Completes bytes terminals whole = bytes ++ text_of terminals ≡ whole
 
 -- The step from the old bytes to the new ones has written what stands before the rest, whatever the rest is.
-abbrev pub Puts : (List Word → List Word) → List ℕ → List ℕ → Type 0
-Puts before old new = (rest : List Word) (whole : List ℕ) → Completes old (before rest) whole → Completes new rest whole
+abbrev pub Puts : (List Terminal → List Terminal) → List ℕ → List ℕ → Type 0
+Puts before old new = (rest : List Terminal) (whole : List ℕ) → Completes old (before rest) whole → Completes new rest whole
 
 -- signs in their order, and then the rest
-abbrev pub signs_before : List Prefix → List Word → List Word
-signs_before signs rest = each_before (λ sign others. prefix_word sign ∷ others) signs rest
+abbrev pub signs_before : List Prefix → List Terminal → List Terminal
+signs_before signs rest = each_before (λ sign others. prefix_terminal sign ∷ others) signs rest
 
 -- From the old bytes to these it has written what stands before the rest, but for the items from this one on.
-unfoldable pub PutsUpTo : {A : Type 0} → (List Word → List Word) → (A → List Word → List Word) → List A → ℕ → List ℕ → List ℕ → Type 0
+unfoldable pub PutsUpTo : {A : Type 0} → (List Terminal → List Terminal) → (A → List Terminal → List Terminal) → List A → ℕ → List ℕ → List ℕ → Type 0
 PutsUpTo before step items i old new =
-    (rest : List Word) (whole : List ℕ) → Completes old (before rest) whole → Completes new (each_before step (drop i items) rest) whole
+    (rest : List Terminal) (whole : List ℕ) → Completes old (before rest) whole → Completes new (each_before step (drop i items) rest) whole
 
 -- the statement holds no block
 abbrev pub IsSimple : ActionTree → Type 0
@@ -41,7 +41,7 @@ abbrev pub chains_tree : Vec Chain → List ChainTree
 chains_tree chains = map chain_tree chains.items
 
 -- "element" "Vertex" "end" "element" "Edge" "end"
-abbrev pub elements_before : List Word → List Word
+abbrev pub elements_before : List Terminal → List Terminal
 elements_before rest =
-    Reserved keyword.Element ∷ Reserved keyword.Vertex ∷ Reserved keyword.End
-    ∷ Reserved keyword.Element ∷ Reserved keyword.Edge ∷ Reserved keyword.End ∷ rest
+    OfKeyword keyword.Element ∷ OfKeyword keyword.Vertex ∷ OfKeyword keyword.End
+    ∷ OfKeyword keyword.Element ∷ OfKeyword keyword.Edge ∷ OfKeyword keyword.End ∷ rest

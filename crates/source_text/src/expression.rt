@@ -1,7 +1,7 @@
 //! Expressions, one function for each level of the grammar.
 ghost use Rattle.std.specs.Prelude.{◌++◌, ◌∷◌, OnOk};
 ghost use Rattle.syntax.specs.ExpressionViews.{comparison_of, conjunction_of, primary_of, sum_of, term_of, unary_of};
-ghost use Rattle.syntax.specs.ExpressionSpelling.{addition_word, comparison_words, conjunction_words, expression_words, multiplication_word, prefix_word, primary_words, relation_word, sum_words, term_words, unary_words};
+ghost use Rattle.syntax.specs.ExpressionSpelling.{addition_terminal, comparison_terminals, conjunction_terminals, expression_terminals, multiplication_terminal, prefix_terminal, primary_terminals, relation_terminal, sum_terminals, term_terminals, unary_terminals};
 ghost use Rattle.source_text.specs.Written.{Puts, signs_before};
 
 use crate::text::{put_keyword, put_name, put_number, put_symbol};
@@ -15,7 +15,7 @@ use syntax::{
 /// Puts an expression down.
 #[cycle(expressions)]
 pub(crate) fn put_expression(out: &mut Vec<u8>, expression: &Expression) -> Result<(), AllocError>
-    ensures { OnOk result (Puts (λ rest. expression_words expression.now ++ rest) out.old.items out.new.items) }
+    ensures { OnOk result (Puts (λ rest. expression_terminals expression.now ++ rest) out.old.items out.new.items) }
 {
     put_conjunction(out, &expression.first)?;
     'others: for conjunction in &expression.more {
@@ -27,7 +27,7 @@ pub(crate) fn put_expression(out: &mut Vec<u8>, expression: &Expression) -> Resu
 
 #[cycle(expressions)]
 fn put_conjunction(out: &mut Vec<u8>, conjunction: &Conjunction) -> Result<(), AllocError>
-    ensures { OnOk result (Puts (λ rest. conjunction_words (conjunction_of conjunction.now) ++ rest) out.old.items out.new.items) }
+    ensures { OnOk result (Puts (λ rest. conjunction_terminals (conjunction_of conjunction.now) ++ rest) out.old.items out.new.items) }
 {
     put_comparison(out, &conjunction.first)?;
     'others: for comparison in &conjunction.more {
@@ -39,7 +39,7 @@ fn put_conjunction(out: &mut Vec<u8>, conjunction: &Conjunction) -> Result<(), A
 
 #[cycle(expressions)]
 fn put_comparison(out: &mut Vec<u8>, comparison: &Comparison) -> Result<(), AllocError>
-    ensures { OnOk result (Puts (λ rest. comparison_words (comparison_of comparison.now) ++ rest) out.old.items out.new.items) }
+    ensures { OnOk result (Puts (λ rest. comparison_terminals (comparison_of comparison.now) ++ rest) out.old.items out.new.items) }
 {
     put_sum(out, &comparison.left)?;
     match &comparison.right {
@@ -53,7 +53,7 @@ fn put_comparison(out: &mut Vec<u8>, comparison: &Comparison) -> Result<(), Allo
 
 #[cycle(expressions)]
 fn put_sum(out: &mut Vec<u8>, sum: &Sum) -> Result<(), AllocError>
-    ensures { OnOk result (Puts (λ rest. sum_words (sum_of sum.now) ++ rest) out.old.items out.new.items) }
+    ensures { OnOk result (Puts (λ rest. sum_terminals (sum_of sum.now) ++ rest) out.old.items out.new.items) }
 {
     put_term(out, &sum.first)?;
     'others: for (operator, term) in &sum.more {
@@ -65,7 +65,7 @@ fn put_sum(out: &mut Vec<u8>, sum: &Sum) -> Result<(), AllocError>
 
 #[cycle(expressions)]
 fn put_term(out: &mut Vec<u8>, term: &Term) -> Result<(), AllocError>
-    ensures { OnOk result (Puts (λ rest. term_words (term_of term.now) ++ rest) out.old.items out.new.items) }
+    ensures { OnOk result (Puts (λ rest. term_terminals (term_of term.now) ++ rest) out.old.items out.new.items) }
 {
     put_unary(out, &term.first)?;
     'others: for (operator, unary) in &term.more {
@@ -77,7 +77,7 @@ fn put_term(out: &mut Vec<u8>, term: &Term) -> Result<(), AllocError>
 
 #[cycle(expressions)]
 fn put_unary(out: &mut Vec<u8>, unary: &Unary) -> Result<(), AllocError>
-    ensures { OnOk result (Puts (λ rest. unary_words (unary_of unary.now) ++ rest) out.old.items out.new.items) }
+    ensures { OnOk result (Puts (λ rest. unary_terminals (unary_of unary.now) ++ rest) out.old.items out.new.items) }
 {
     put_signs(out, &unary.signs)?;
     put_primary(out, &unary.primary)
@@ -85,7 +85,7 @@ fn put_unary(out: &mut Vec<u8>, unary: &Unary) -> Result<(), AllocError>
 
 #[cycle(expressions)]
 fn put_primary(out: &mut Vec<u8>, primary: &Primary) -> Result<(), AllocError>
-    ensures { OnOk result (Puts (λ rest. primary_words (primary_of primary.now) ++ rest) out.old.items out.new.items) }
+    ensures { OnOk result (Puts (λ rest. primary_terminals (primary_of primary.now) ++ rest) out.old.items out.new.items) }
 {
     match primary {
         Primary::Number(n) => put_number(out, n),
@@ -124,7 +124,7 @@ fn put_signs(out: &mut Vec<u8>, signs: &[Prefix]) -> Result<(), AllocError>
 }
 
 fn put_prefix(out: &mut Vec<u8>, sign: Prefix) -> Result<(), AllocError>
-    ensures { OnOk result (Puts (λ rest. prefix_word sign ∷ rest) out.old.items out.new.items) }
+    ensures { OnOk result (Puts (λ rest. prefix_terminal sign ∷ rest) out.old.items out.new.items) }
 {
     match sign {
         Prefix::Minus => put_symbol(out, Symbol::Minus),
@@ -133,7 +133,7 @@ fn put_prefix(out: &mut Vec<u8>, sign: Prefix) -> Result<(), AllocError>
 }
 
 fn put_multiplication(out: &mut Vec<u8>, operator: Multiplication) -> Result<(), AllocError>
-    ensures { OnOk result (Puts (λ rest. multiplication_word operator ∷ rest) out.old.items out.new.items) }
+    ensures { OnOk result (Puts (λ rest. multiplication_terminal operator ∷ rest) out.old.items out.new.items) }
 {
     match operator {
         Multiplication::Times => put_symbol(out, Symbol::Star),
@@ -143,7 +143,7 @@ fn put_multiplication(out: &mut Vec<u8>, operator: Multiplication) -> Result<(),
 }
 
 fn put_addition(out: &mut Vec<u8>, operator: Addition) -> Result<(), AllocError>
-    ensures { OnOk result (Puts (λ rest. addition_word operator ∷ rest) out.old.items out.new.items) }
+    ensures { OnOk result (Puts (λ rest. addition_terminal operator ∷ rest) out.old.items out.new.items) }
 {
     match operator {
         Addition::Plus => put_symbol(out, Symbol::Plus),
@@ -152,7 +152,7 @@ fn put_addition(out: &mut Vec<u8>, operator: Addition) -> Result<(), AllocError>
 }
 
 fn put_relation(out: &mut Vec<u8>, relation: Relation) -> Result<(), AllocError>
-    ensures { OnOk result (Puts (λ rest. relation_word relation ∷ rest) out.old.items out.new.items) }
+    ensures { OnOk result (Puts (λ rest. relation_terminal relation ∷ rest) out.old.items out.new.items) }
 {
     match relation {
         Relation::Equal => put_symbol(out, Symbol::Equal),

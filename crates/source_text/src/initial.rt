@@ -1,10 +1,10 @@
 //! Types, and what a name is declared or assigned to be.
 ghost use Rattle.std.specs.Prelude.{◌++◌, ◌∷◌, OnOk};
-ghost use Rattle.lexer.specs.declared.keyword.Keyword.TheVariants as keyword_word;
+ghost use Rattle.lexer.specs.declared.keyword.Keyword.TheVariants as keyword_terminal;
 ghost use Rattle.lexer.specs.declared.symbol.Symbol.TheVariants as symbol;
-ghost use Rattle.syntax.specs.Words.{Mark, Name as word_name, Reserved};
+ghost use Rattle.syntax.specs.Terminals.{OfSymbol, Name as terminal_name, OfKeyword};
 ghost use Rattle.syntax.specs.SourceTrees.{ApplyModified, Filter, Load, NewSet};
-ghost use Rattle.syntax.specs.SourceSpelling.{argument_words, assigned_before, end_words, ends_before, ended_before, initial_before, type_words, typed_before};
+ghost use Rattle.syntax.specs.SourceSpelling.{argument_terminals, assigned_before, end_terminals, ends_before, ended_before, initial_before, type_terminals, typed_before};
 ghost use Rattle.syntax.specs.SourceViews.{ends_tree, initial_tree, parameter_tree};
 ghost use Rattle.source_text.specs.Written.{Puts};
 
@@ -25,7 +25,7 @@ pub(crate) fn put_parameter(out: &mut Vec<u8>, parameter: &Parameter) -> Result<
 
 /// Puts a type down.
 fn put_type(out: &mut Vec<u8>, declared: DeclaredType) -> Result<(), AllocError>
-    ensures { OnOk result (Puts (λ rest. type_words declared ++ rest) out.old.items out.new.items) }
+    ensures { OnOk result (Puts (λ rest. type_terminals declared ++ rest) out.old.items out.new.items) }
 {
     match declared {
         DeclaredType::Int => put_keyword(out, Keyword::Int),
@@ -52,7 +52,7 @@ fn put_type(out: &mut Vec<u8>, declared: DeclaredType) -> Result<(), AllocError>
 
 /// Puts `(Vertex, Vertex)` down.
 fn put_vertex_pair(out: &mut Vec<u8>) -> Result<(), AllocError>
-    ensures { OnOk result (Puts (λ rest. Mark symbol.OpenParenthesis ∷ Reserved keyword_word.Vertex ∷ Mark symbol.Comma ∷ Reserved keyword_word.Vertex ∷ Mark symbol.CloseParenthesis ∷ rest) out.old.items out.new.items) }
+    ensures { OnOk result (Puts (λ rest. OfSymbol symbol.OpenParenthesis ∷ OfKeyword keyword_terminal.Vertex ∷ OfSymbol symbol.Comma ∷ OfKeyword keyword_terminal.Vertex ∷ OfSymbol symbol.CloseParenthesis ∷ rest) out.old.items out.new.items) }
 {
     put_symbol(out, Symbol::OpenParenthesis)?;
     put_keyword(out, Keyword::Vertex)?;
@@ -63,7 +63,7 @@ fn put_vertex_pair(out: &mut Vec<u8>) -> Result<(), AllocError>
 
 /// Puts a keyword in braces down.
 fn put_in_braces(out: &mut Vec<u8>, keyword: Keyword) -> Result<(), AllocError>
-    ensures { OnOk result (Puts (λ rest. Mark symbol.OpenBrace ∷ Reserved keyword ∷ Mark symbol.CloseBrace ∷ rest) out.old.items out.new.items) }
+    ensures { OnOk result (Puts (λ rest. OfSymbol symbol.OpenBrace ∷ OfKeyword keyword ∷ OfSymbol symbol.CloseBrace ∷ rest) out.old.items out.new.items) }
 {
     put_symbol(out, Symbol::OpenBrace)?;
     put_keyword(out, keyword)?;
@@ -72,7 +72,7 @@ fn put_in_braces(out: &mut Vec<u8>, keyword: Keyword) -> Result<(), AllocError>
 
 /// Puts a dot and the name of a method down.
 pub(crate) fn put_method(out: &mut Vec<u8>, keyword: Keyword) -> Result<(), AllocError>
-    ensures { OnOk result (Puts (λ rest. Mark symbol.Dot ∷ Reserved keyword ∷ rest) out.old.items out.new.items) }
+    ensures { OnOk result (Puts (λ rest. OfSymbol symbol.Dot ∷ OfKeyword keyword ∷ rest) out.old.items out.new.items) }
 {
     put_symbol(out, Symbol::Dot)?;
     put_keyword(out, keyword)
@@ -80,7 +80,7 @@ pub(crate) fn put_method(out: &mut Vec<u8>, keyword: Keyword) -> Result<(), Allo
 
 /// Puts `()` down.
 fn put_no_arguments(out: &mut Vec<u8>) -> Result<(), AllocError>
-    ensures { OnOk result (Puts (λ rest. Mark symbol.OpenParenthesis ∷ Mark symbol.CloseParenthesis ∷ rest) out.old.items out.new.items) }
+    ensures { OnOk result (Puts (λ rest. OfSymbol symbol.OpenParenthesis ∷ OfSymbol symbol.CloseParenthesis ∷ rest) out.old.items out.new.items) }
 {
     put_symbol(out, Symbol::OpenParenthesis)?;
     put_symbol(out, Symbol::CloseParenthesis)
@@ -88,7 +88,7 @@ fn put_no_arguments(out: &mut Vec<u8>) -> Result<(), AllocError>
 
 /// Puts a name in parentheses down.
 pub(crate) fn put_argument(out: &mut Vec<u8>, name: &Name) -> Result<(), AllocError>
-    ensures { OnOk result (Puts (λ rest. argument_words name.now ++ rest) out.old.items out.new.items) }
+    ensures { OnOk result (Puts (λ rest. argument_terminals name.now ++ rest) out.old.items out.new.items) }
 {
     put_symbol(out, Symbol::OpenParenthesis)?;
     put_name(out, name)?;
@@ -105,7 +105,7 @@ pub(crate) fn put_ends(out: &mut Vec<u8>, ends: &Ends) -> Result<(), AllocError>
 
 /// Puts an end of an apply down, where it is given.
 fn put_end(out: &mut Vec<u8>, keyword: Keyword, name: &Option<Name>) -> Result<(), AllocError>
-    ensures { OnOk result (Puts (λ rest. end_words (Reserved keyword) name.now ++ rest) out.old.items out.new.items) }
+    ensures { OnOk result (Puts (λ rest. end_terminals (OfKeyword keyword) name.now ++ rest) out.old.items out.new.items) }
 {
     match name {
         None => Ok(()),
@@ -180,7 +180,7 @@ fn put_load(out: &mut Vec<u8>, number: &i64) -> Result<(), AllocError>
 
 /// Puts a call on the edges down that takes no arguments.
 fn put_query(out: &mut Vec<u8>, edges: &Name, keyword: Keyword) -> Result<(), AllocError>
-    ensures { OnOk result (Puts (λ rest. word_name edges.now ∷ Mark symbol.Dot ∷ Reserved keyword ∷ Mark symbol.OpenParenthesis ∷ Mark symbol.CloseParenthesis ∷ rest) out.old.items out.new.items) }
+    ensures { OnOk result (Puts (λ rest. terminal_name edges.now ∷ OfSymbol symbol.Dot ∷ OfKeyword keyword ∷ OfSymbol symbol.OpenParenthesis ∷ OfSymbol symbol.CloseParenthesis ∷ rest) out.old.items out.new.items) }
 {
     put_name(out, edges)?;
     put_method(out, keyword)?;
@@ -212,7 +212,7 @@ fn put_apply_modified(
 
 /// Puts two names in parentheses down.
 fn put_name_pair(out: &mut Vec<u8>, first: &Name, second: &Name) -> Result<(), AllocError>
-    ensures { OnOk result (Puts (λ rest. Mark symbol.OpenParenthesis ∷ word_name first.now ∷ Mark symbol.Comma ∷ word_name second.now ∷ Mark symbol.CloseParenthesis ∷ rest) out.old.items out.new.items) }
+    ensures { OnOk result (Puts (λ rest. OfSymbol symbol.OpenParenthesis ∷ terminal_name first.now ∷ OfSymbol symbol.Comma ∷ terminal_name second.now ∷ OfSymbol symbol.CloseParenthesis ∷ rest) out.old.items out.new.items) }
 {
     put_symbol(out, Symbol::OpenParenthesis)?;
     put_name(out, first)?;

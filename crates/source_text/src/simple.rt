@@ -1,9 +1,9 @@
 //! Simple statements: those that hold no block.
 ghost use Rattle.std.specs.Prelude.{ℕ, ◌++◌, ◌∷◌, OnOk};
 ghost use Rattle.lexer.specs.declared.symbol.Symbol.TheVariants as symbol;
-ghost use Rattle.syntax.specs.Words.{Mark, Name as word_name};
-ghost use Rattle.syntax.specs.ExpressionSpelling.{expression_words};
-ghost use Rattle.syntax.specs.SourceSpelling.{action_before, reduction_word};
+ghost use Rattle.syntax.specs.Terminals.{OfSymbol, Name as terminal_name};
+ghost use Rattle.syntax.specs.ExpressionSpelling.{expression_terminals};
+ghost use Rattle.syntax.specs.SourceSpelling.{action_before, reduction_terminal};
 ghost use Rattle.syntax.specs.SourceTrees.{AddVertex, Apply, Assign, Declare, Print, Reduce, ReduceEntry, SetEntry};
 ghost use Rattle.syntax.specs.SourceViews.{action_tree, ends_tree, initial_tree, parameter_tree};
 ghost use Rattle.source_text.specs.Written.{IsSimple, Puts};
@@ -144,7 +144,7 @@ fn put_apply(
 
 /// Puts `vector[index]` down.
 fn put_entry(out: &mut Vec<u8>, vector: &Name, index: &Expression) -> Result<(), AllocError>
-    ensures { OnOk result (Puts (λ rest. word_name vector.now ∷ Mark symbol.OpenBracket ∷ (expression_words index.now ++ Mark symbol.CloseBracket ∷ rest)) out.old.items out.new.items) }
+    ensures { OnOk result (Puts (λ rest. terminal_name vector.now ∷ OfSymbol symbol.OpenBracket ∷ (expression_terminals index.now ++ OfSymbol symbol.CloseBracket ∷ rest)) out.old.items out.new.items) }
 {
     put_name(out, vector)?;
     put_symbol(out, Symbol::OpenBracket)?;
@@ -153,7 +153,7 @@ fn put_entry(out: &mut Vec<u8>, vector: &Name, index: &Expression) -> Result<(),
 }
 
 fn put_reduction(out: &mut Vec<u8>, reduction: Reduction) -> Result<(), AllocError>
-    ensures { OnOk result (Puts (λ rest. reduction_word reduction ∷ rest) out.old.items out.new.items) }
+    ensures { OnOk result (Puts (λ rest. reduction_terminal reduction ∷ rest) out.old.items out.new.items) }
 {
     match reduction {
         Reduction::Min => put_symbol(out, Symbol::MinAssign),

@@ -2,9 +2,9 @@
 ghost use Rattle.std.specs.Prelude.{ℕ, ◌++◌, ◌∷◌, OnOk};
 ghost use Rattle.lexer.specs.declared.keyword.Keyword.TheVariants as keyword;
 ghost use Rattle.lexer.specs.declared.symbol.Symbol.TheVariants as symbol;
-ghost use Rattle.syntax.specs.Words.{Mark, Name as word_name, Opening, Reserved};
-ghost use Rattle.syntax.specs.ExpressionSpelling.{expression_words};
-ghost use Rattle.syntax.specs.SourceSpelling.{action_before, block_before, label_words};
+ghost use Rattle.syntax.specs.Terminals.{OfSymbol, Name as terminal_name, Opening, OfKeyword};
+ghost use Rattle.syntax.specs.ExpressionSpelling.{expression_terminals};
+ghost use Rattle.syntax.specs.SourceSpelling.{action_before, block_before, label_terminals};
 ghost use Rattle.syntax.specs.SourceViews.{action_tree, block_tree};
 ghost use Rattle.source_text.specs.Written.{Puts};
 
@@ -28,7 +28,7 @@ pub(crate) fn put_block(out: &mut Vec<u8>, block: &[Statement]) -> Result<(), Al
 
 #[cycle(statements)]
 fn put_statement(out: &mut Vec<u8>, statement: &Statement) -> Result<(), AllocError>
-    ensures { OnOk result (Puts (λ rest. label_words statement.now.label ++ action_before (action_tree statement.now.action) rest) out.old.items out.new.items) }
+    ensures { OnOk result (Puts (λ rest. label_terminals statement.now.label ++ action_before (action_tree statement.now.action) rest) out.old.items out.new.items) }
 {
     put_label_given(out, &statement.label)?;
     put_action(out, &statement.action)
@@ -75,7 +75,7 @@ fn put_action(out: &mut Vec<u8>, action: &Action) -> Result<(), AllocError>
 /// Puts a block and `end` down.
 #[cycle(statements)]
 fn put_to_end(out: &mut Vec<u8>, block: &[Statement]) -> Result<(), AllocError>
-    ensures { OnOk result (Puts (λ rest. block_before (block_tree block.now) (Reserved keyword.End ∷ rest)) out.old.items out.new.items) }
+    ensures { OnOk result (Puts (λ rest. block_before (block_tree block.now) (OfKeyword keyword.End ∷ rest)) out.old.items out.new.items) }
 {
     put_block(out, block)?;
     put_keyword(out, Keyword::End)
@@ -83,7 +83,7 @@ fn put_to_end(out: &mut Vec<u8>, block: &[Statement]) -> Result<(), AllocError>
 
 /// Puts the keyword of a loop or a choice and its test down.
 fn put_test(out: &mut Vec<u8>, keyword: Keyword, test: &Expression) -> Result<(), AllocError>
-    ensures { OnOk result ((at : ℕ) → Puts (λ rest. Opening keyword at ∷ (expression_words test.now ++ rest)) out.old.items out.new.items) }
+    ensures { OnOk result ((at : ℕ) → Puts (λ rest. Opening keyword at ∷ (expression_terminals test.now ++ rest)) out.old.items out.new.items) }
 {
     put_keyword(out, keyword)?;
     put_expression(out, test)
@@ -96,7 +96,7 @@ fn put_range(
     first: &Expression,
     limit: &Expression,
 ) -> Result<(), AllocError>
-    ensures { OnOk result ((at : ℕ) → Puts (λ rest. Opening keyword.For at ∷ word_name name.now ∷ Reserved keyword.In ∷ (expression_words first.now ++ Mark symbol.Colon ∷ (expression_words limit.now ++ rest))) out.old.items out.new.items) }
+    ensures { OnOk result ((at : ℕ) → Puts (λ rest. Opening keyword.For at ∷ terminal_name name.now ∷ OfKeyword keyword.In ∷ (expression_terminals first.now ++ OfSymbol symbol.Colon ∷ (expression_terminals limit.now ++ rest))) out.old.items out.new.items) }
 {
     put_keyword(out, Keyword::For)?;
     put_name(out, name)?;
@@ -108,7 +108,7 @@ fn put_range(
 
 /// Puts a label down, where one is given.
 fn put_label_given(out: &mut Vec<u8>, label: &Option<Name>) -> Result<(), AllocError>
-    ensures { OnOk result (Puts (λ rest. label_words label.now ++ rest) out.old.items out.new.items) }
+    ensures { OnOk result (Puts (λ rest. label_terminals label.now ++ rest) out.old.items out.new.items) }
 {
     match label {
         None => Ok(()),

@@ -1,8 +1,8 @@
-//! Words as text.
+//! Terminals as text.
 ghost use Rattle.std.specs.Prelude.{◌≡◌, ◌++◌, ℕ, List, [], ◌∷◌, OnOk};
 ghost use Rattle.lexer.specs.Spelling.{symbol_spelling};
-ghost use Rattle.syntax.specs.Words.{Word, Label as label_word, Mark, Name as name_word, Number, Opening, Reserved, Text as text_word};
-ghost use Rattle.source_text.specs.Text.{text_of, keyword_gap, symbol_gap, AreSpelled, HasWords};
+ghost use Rattle.syntax.specs.Terminals.{Terminal, Label as label_terminal, OfSymbol, Name as name_terminal, Number, Opening, OfKeyword, Text as text_terminal};
+ghost use Rattle.source_text.specs.Text.{text_of, keyword_gap, symbol_gap, AreSpelled, HasTerminals};
 ghost use Rattle.source_text.specs.Written.{Puts};
 
 use decimal::push_integer;
@@ -10,29 +10,29 @@ use lexer::{Keyword, Symbol};
 use std::alloc::AllocError;
 use syntax::{Name, Text};
 
-/// The law that the text of words has tokens, and that they are these words but for their offsets, where each
-/// word is one that some token is. The call does nothing.
-pub fn words_are_read_back()
-    ensures { (words : List Word) → AreSpelled words → HasWords (text_of words) words }
+/// The law that the text of terminals has tokens, and that they are these terminals but for their offsets, where each
+/// terminal is one that some token is. The call does nothing.
+pub fn terminals_are_read_back()
+    ensures { (terminals : List Terminal) → AreSpelled terminals → HasTerminals (text_of terminals) terminals }
 {}
 
 /// Puts a name down.
 pub(crate) fn put_name(out: &mut Vec<u8>, name: &Name) -> Result<(), AllocError>
-    ensures { OnOk result (Puts (λ rest. name_word name.now ∷ rest) out.old.items out.new.items) }
+    ensures { OnOk result (Puts (λ rest. name_terminal name.now ∷ rest) out.old.items out.new.items) }
 {
     put(out, name.bytes(), b' ')
 }
 
 /// Puts a label down, which has its marks.
 pub(crate) fn put_label(out: &mut Vec<u8>, label: &Name) -> Result<(), AllocError>
-    ensures { OnOk result (Puts (λ rest. label_word label.now ∷ rest) out.old.items out.new.items) }
+    ensures { OnOk result (Puts (λ rest. label_terminal label.now ∷ rest) out.old.items out.new.items) }
 {
     put(out, label.bytes(), b' ')
 }
 
 /// Puts a text down, which has its quotes.
 pub(crate) fn put_text(out: &mut Vec<u8>, text: &Text) -> Result<(), AllocError>
-    ensures { OnOk result (Puts (λ rest. text_word text.now.bytes.items ∷ rest) out.old.items out.new.items) }
+    ensures { OnOk result (Puts (λ rest. text_terminal text.now.bytes.items ∷ rest) out.old.items out.new.items) }
 {
     put(out, text.bytes(), b' ')
 }
@@ -49,19 +49,19 @@ pub(crate) fn put_number(out: &mut Vec<u8>, number: &i64) -> Result<(), AllocErr
 /// Puts a keyword down.
 pub(crate) fn put_keyword(out: &mut Vec<u8>, keyword: Keyword) -> Result<(), AllocError>
     ensures opening { OnOk result ((at : ℕ) → Puts (λ rest. Opening keyword at ∷ rest) out.old.items out.new.items) }
-    ensures reserved { OnOk result (Puts (λ rest. Reserved keyword ∷ rest) out.old.items out.new.items) }
+    ensures reserved { OnOk result (Puts (λ rest. OfKeyword keyword ∷ rest) out.old.items out.new.items) }
 {
     put(out, keyword.spelling(), gap_behind_keyword(keyword))
 }
 
 /// Puts a symbol down.
 pub(crate) fn put_symbol(out: &mut Vec<u8>, symbol: Symbol) -> Result<(), AllocError>
-    ensures { OnOk result (Puts (λ rest. Mark symbol ∷ rest) out.old.items out.new.items) }
+    ensures { OnOk result (Puts (λ rest. OfSymbol symbol ∷ rest) out.old.items out.new.items) }
 {
     put(out, spelling(symbol), gap_behind_symbol(symbol))
 }
 
-/// Puts the bytes of a word down, and a byte behind them.
+/// Puts the bytes of a terminal down, and a byte behind them.
 fn put(out: &mut Vec<u8>, bytes: &[u8], gap: u8) -> Result<(), AllocError>
     ensures { OnOk result (out.new.items ≡ out.old.items ++ (bytes.now ++ gap ∷ [])) }
 {

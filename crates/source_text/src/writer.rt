@@ -1,6 +1,6 @@
 //! A whole source.
 ghost use Rattle.std.specs.Prelude.{◌≡◌, ℕ, List, Ok, IfOk, OnOk};
-ghost use Rattle.syntax.specs.SourceSpelling.{source_words};
+ghost use Rattle.syntax.specs.SourceSpelling.{source_terminals};
 ghost use Rattle.syntax.specs.SourceViews.{source_tree};
 ghost use Rattle.syntax.specs.SourceTrees.{SourceTree};
 ghost use Rattle.parser.specs.Outcome.{Parses};
@@ -15,7 +15,7 @@ use lexer::Keyword;
 use std::alloc::{AllocError, Global};
 use syntax::Source;
 
-/// The text of a source: one statement a line, a space behind each other word. `parse` reads it back to the
+/// The text of a source: one statement a line, a space behind each other terminal. `parse` reads it back to the
 /// same source, but for the offsets, where the source is one that a text can have; each that `parse` answers
 /// with is. A source that is built by hand may hold what no text has, such as a keyword for a name: it is
 /// written as it is.
@@ -23,7 +23,7 @@ use syntax::Source;
 /// The one error is that memory runs out. The time is in proportion to the length of the text; no call goes deeper
 /// than the source nests, and only the text itself takes memory.
 pub fn write(alloc: Global, source: &Source) -> Result<Vec<u8>, AllocError>
-    ensures text { IfOk result (λ text. text.items ≡ text_of (source_words (source_tree source.now))) }
+    ensures text { IfOk result (λ text. text.items ≡ text_of (source_terminals (source_tree source.now))) }
     ensures read_back { IfOk result (λ text. IsWritable (source_tree source.now) → IsReadBack text.items (source_tree source.now)) }
 {
     let mut out = Vec::new(alloc);

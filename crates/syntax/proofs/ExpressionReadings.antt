@@ -2,15 +2,15 @@
 use Rattle.std.proofs.Common.{◌≡◌, refl, sym, ◌∙◌, ℕ, zero, suc, ◌≤◌, max, arith, List, [], ◌++◌, Option, Some, None}
 use Rattle.std.proofs.lemmas.List.{append-nil}
 use Rattle.std.proofs.lemmas.Option.{some_pair_parts}
-use Rattle.syntax.specs.Words.{Word}
+use Rattle.syntax.specs.Terminals.{Terminal}
 use Rattle.syntax.specs.ExpressionTrees.{ExpressionTree}
-use Rattle.syntax.specs.ExpressionSpelling.{expression_words}
+use Rattle.syntax.specs.ExpressionSpelling.{expression_terminals}
 use Rattle.syntax.specs.ExpressionDepth.{expression_depth}
 use Rattle.syntax.specs.ExpressionEnds.{EndsExpression}
 use Rattle.syntax.specs.ExpressionBeginnings.{Begins}
 use Rattle.syntax.specs.ExpressionReading.{no_expression, primary_at, unary_at, term_at, sum_at, comparison_at, conjunction_at, expression_at}
 use Rattle.syntax.proofs.ExpressionsExact.{At, Sound, Complete}
-use Rattle.syntax.proofs.FirstWords.{ends_expression}
+use Rattle.syntax.proofs.FirstTerminals.{ends_expression}
 use Rattle.syntax.proofs.Levels.{ExpressionIs, term_sound, term_complete, sum_sound, sum_complete, comparison_sound, comparison_complete, conjunction_sound, conjunction_complete, expression_sound, expression_complete}
 use Rattle.syntax.proofs.Operands.{PrimaryIs, InnerIs, primary_sound, primary_complete, unary_sound, unary_complete}
 
@@ -24,7 +24,7 @@ complete_above depth complete =
     expression_complete depth (conjunction_at depth) (conjunction_complete depth (comparison_at depth) (comparison_complete depth (sum_at depth)
     (sum_complete depth (term_at depth) (term_complete depth (unary_at depth) (unary_complete depth (primary_at depth) complete)))))
 
-deeper_at : (depth : ℕ) (ws : List Word) (o : Option (ExpressionTree × List Word)) → At (ExpressionIs depth) ws o → At (InnerIs (suc depth)) ws o
+deeper_at : (depth : ℕ) (ws : List Terminal) (o : Option (ExpressionTree × List Terminal)) → At (ExpressionIs depth) ws o → At (InnerIs (suc depth)) ws o
 deeper_at depth ws None is = tt
 deeper_at depth ws (Some x) is = record { whole = is.whole; within = let h : expression_depth x.0 ≤ depth = is.within in omega arith; ends = is.ends }
 
@@ -52,11 +52,11 @@ expressions_sound depth = sound_above depth (primaries_sound depth)
 pub expressions_complete : (depth : ℕ) → Complete (Begins depth) (expression_at depth)
 expressions_complete depth = complete_above depth (primaries_complete depth)
 
-deepen : (depth more : ℕ) (ws : List Word) (e : ExpressionTree) (rest : List Word) → depth ≤ more → Begins depth ws e rest → Begins more ws e rest
+deepen : (depth more : ℕ) (ws : List Terminal) (e : ExpressionTree) (rest : List Terminal) → depth ≤ more → Begins depth ws e rest → Begins more ws e rest
 deepen depth more ws e rest less is = record { whole = is.whole; within = let h : expression_depth e ≤ depth = is.within in omega arith; ends = is.ends }
 
--- words begin with one expression
-pub one_reading : (depth depth' : ℕ) (ws : List Word) (d e : ExpressionTree) (rest rest' : List Word)
+-- terminals begin with one expression
+pub one_reading : (depth depth' : ℕ) (ws : List Terminal) (d e : ExpressionTree) (rest rest' : List Terminal)
     → Begins depth ws d rest → Begins depth' ws e rest' → (d ≡ e) × (rest ≡ rest')
 one_reading depth depth' ws d e rest rest' is is' =
     let most = max depth depth' in
@@ -67,17 +67,17 @@ one_reading depth depth' ws d e rest rest' is is' =
 pub nothing_follows : (e : ExpressionTree) → EndsExpression e []
 nothing_follows e = ends_expression e [] (record { bracket = refl; dot = refl; multiplies = refl; adds = refl; relates = refl; conjoins = refl; disjoins = refl })
 
-all_of : (e : ExpressionTree) → Begins (expression_depth e) (expression_words e) e []
-all_of e = record { whole = sym (append-nil (expression_words e)); within = omega arith; ends = nothing_follows e }
+all_of : (e : ExpressionTree) → Begins (expression_depth e) (expression_terminals e) e []
+all_of e = record { whole = sym (append-nil (expression_terminals e)); within = omega arith; ends = nothing_follows e }
 
--- no two trees have the same words
-pub one_tree : (d e : ExpressionTree) → expression_words d ≡ expression_words e → d ≡ e
+-- no two trees have the same terminals
+pub one_tree : (d e : ExpressionTree) → expression_terminals d ≡ expression_terminals e → d ≡ e
 one_tree d e same =
-    (one_reading (expression_depth d) (expression_depth e) (expression_words d) d e [] [] (all_of d)
-    (record { whole = same ∙ sym (append-nil (expression_words e)); within = omega arith; ends = nothing_follows e })).0
+    (one_reading (expression_depth d) (expression_depth e) (expression_terminals d) d e [] [] (all_of d)
+    (record { whole = same ∙ sym (append-nil (expression_terminals e)); within = omega arith; ends = nothing_follows e })).0
 
 -- no expression goes on behind another that ends
-pub none_longer : (e longer : ExpressionTree) (rest : List Word) → EndsExpression e rest → expression_words longer ≡ expression_words e ++ rest → rest ≡ []
+pub none_longer : (e longer : ExpressionTree) (rest : List Terminal) → EndsExpression e rest → expression_terminals longer ≡ expression_terminals e ++ rest → rest ≡ []
 none_longer e longer rest ends same =
-    (one_reading (expression_depth e) (expression_depth longer) (expression_words longer) e longer rest []
+    (one_reading (expression_depth e) (expression_depth longer) (expression_terminals longer) e longer rest []
     (record { whole = same; within = omega arith; ends = ends }) (all_of longer)).1

@@ -2,7 +2,7 @@ pub mod Actions
 pub mod Complete
 pub mod ExpressionReadings
 pub mod ExpressionsExact
-pub mod FirstWords
+pub mod FirstTerminals
 pub mod Further
 pub mod Levels
 pub mod Loops
@@ -13,4 +13,4 @@ pub mod Sound
 pub mod SoundActions
 pub mod Sources
 pub mod SourcesExact
-pub mod WordLaws
+pub mod TerminalLaws

@@ -1,41 +1,41 @@
 -- Where an expression may end.
 use Rattle.std.specs.Prelude.{◌≡◌, List, None}
-use Rattle.syntax.specs.Words.{Word}
+use Rattle.syntax.specs.Terminals.{Terminal}
 use Rattle.syntax.specs.ExpressionTrees.{ExpressionTree, ConjunctionTree, ComparisonTree, SumTree, TermTree, UnaryTree, PrimaryTree, LastConjunction, ConjunctionThen, LastComparison, ComparisonThen, OneSum, TwoSums, LastTerm, TermThen, LastUnary, UnaryThen, Bare, Signed, Variable}
 use Rattle.syntax.specs.ExpressionReading.{multiplication, addition, relation, after_and, after_or, after_open_bracket, after_dot}
 
--- The words behind a tree do not go on with it: none of the operators of a level that could stand behind it is the first of
+-- The terminals behind a tree do not go on with it: none of the operators of a level that could stand behind it is the first of
 -- them, nor a bracket or a dot behind a name. A comparison that has its relation takes no other.
-abbrev pub EndsPrimary : PrimaryTree → List Word → Type 0
+abbrev pub EndsPrimary : PrimaryTree → List Terminal → Type 0
 EndsPrimary (Variable name) rest = (after_open_bracket rest ≡ None) × (after_dot rest ≡ None)
 EndsPrimary _ rest = Unit {0}
 
-abbrev pub EndsUnary : UnaryTree → List Word → Type 0
+abbrev pub EndsUnary : UnaryTree → List Terminal → Type 0
 EndsUnary (Bare p) rest = EndsPrimary p rest
 EndsUnary (Signed sign u) rest = EndsUnary u rest
 
-abbrev pub EndsTerm : TermTree → List Word → Type 0
+abbrev pub EndsTerm : TermTree → List Terminal → Type 0
 EndsTerm (LastUnary u) rest = EndsUnary u rest × (multiplication rest ≡ None)
 EndsTerm (UnaryThen u operator others) rest = EndsTerm others rest
 
-abbrev pub EndsSum : SumTree → List Word → Type 0
+abbrev pub EndsSum : SumTree → List Terminal → Type 0
 EndsSum (LastTerm t) rest = EndsTerm t rest × (addition rest ≡ None)
 EndsSum (TermThen t operator others) rest = EndsSum others rest
 
-abbrev pub EndsComparison : ComparisonTree → List Word → Type 0
+abbrev pub EndsComparison : ComparisonTree → List Terminal → Type 0
 EndsComparison (OneSum s) rest = EndsSum s rest × (relation rest ≡ None)
 EndsComparison (TwoSums left operator right) rest = EndsSum right rest
 
-abbrev pub EndsConjunction : ConjunctionTree → List Word → Type 0
+abbrev pub EndsConjunction : ConjunctionTree → List Terminal → Type 0
 EndsConjunction (LastComparison c) rest = EndsComparison c rest × (after_and rest ≡ None)
 EndsConjunction (ComparisonThen c others) rest = EndsConjunction others rest
 
-abbrev pub EndsExpression : ExpressionTree → List Word → Type 0
+abbrev pub EndsExpression : ExpressionTree → List Terminal → Type 0
 EndsExpression (LastConjunction c) rest = EndsConjunction c rest × (after_or rest ≡ None)
 EndsExpression (ConjunctionThen c others) rest = EndsExpression others rest
 
--- no operator, bracket or dot is the first of the words, so that no expression goes on with them
-pub record IsEnd (rest : List Word) : Type 0 where
+-- no operator, bracket or dot is the first of the terminals, so that no expression goes on with them
+pub record IsEnd (rest : List Terminal) : Type 0 where
   pub bracket : after_open_bracket rest ≡ None
   pub dot : after_dot rest ≡ None
   pub multiplies : multiplication rest ≡ None

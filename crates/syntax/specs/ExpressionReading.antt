@@ -1,4 +1,4 @@
--- Reading words from the left: a reader answers with a tree and the words behind it. Depth is how many parentheses and brackets
+-- Reading terminals from the left: a reader answers with a tree and the terminals behind it. Depth is how many parentheses and brackets
 -- may stand in each other. The laws of `laws` say what reading gives in terms of the grammar.
 use Rattle.std.specs.Prelude.{ℕ, zero, suc, Bool, true, false, List, [], ◌∷◌, length, Option, Some, None}
 use Rattle.lexer.specs.declared.keyword.Keyword.{Keyword}
@@ -12,7 +12,7 @@ use Rattle.syntax.specs.declared.operators.Prefix.{Prefix}
 use Rattle.syntax.specs.declared.operators.Prefix.TheVariants as prefixs
 use Rattle.syntax.specs.declared.operators.Relation.{Relation}
 use Rattle.syntax.specs.declared.operators.Relation.TheVariants as relations
-use Rattle.syntax.specs.Words.{Word, Name, Number, Reserved, Mark, Identifier}
+use Rattle.syntax.specs.Terminals.{Terminal, Name, Number, OfKeyword, OfSymbol, Identifier}
 use Rattle.syntax.specs.ExpressionTrees.{ExpressionTree, ConjunctionTree, ComparisonTree, SumTree, TermTree, UnaryTree, PrimaryTree, OneSum, TwoSums, Bare, Signed, Literal, Truth, Variable, Entry, Size, Parentheses}
 use Rattle.syntax.specs.ExpressionViews.{expression_from, conjunction_from, sum_from, term_from}
 
@@ -22,32 +22,32 @@ None >>= f = None
 (Some x) >>= f = f x
 
 abbrev pub Reader : Type 0 → Type 0
-Reader A = List Word → Option (A × List Word)
+Reader A = List Terminal → Option (A × List Terminal)
 
--- the operator of a level at the front, and the words behind it
-abbrev pub addition : List Word → Option (Addition × List Word)
-addition (Mark symbol.Plus ∷ rest) = Some (additions.Plus, rest)
-addition (Mark symbol.Minus ∷ rest) = Some (additions.Minus, rest)
+-- the operator of a level at the front, and the terminals behind it
+abbrev pub addition : List Terminal → Option (Addition × List Terminal)
+addition (OfSymbol symbol.Plus ∷ rest) = Some (additions.Plus, rest)
+addition (OfSymbol symbol.Minus ∷ rest) = Some (additions.Minus, rest)
 addition _ = None
 
-abbrev pub multiplication : List Word → Option (Multiplication × List Word)
-multiplication (Mark symbol.Star ∷ rest) = Some (multiplications.Times, rest)
-multiplication (Mark symbol.Slash ∷ rest) = Some (multiplications.Divide, rest)
-multiplication (Mark symbol.Percent ∷ rest) = Some (multiplications.Remainder, rest)
+abbrev pub multiplication : List Terminal → Option (Multiplication × List Terminal)
+multiplication (OfSymbol symbol.Star ∷ rest) = Some (multiplications.Times, rest)
+multiplication (OfSymbol symbol.Slash ∷ rest) = Some (multiplications.Divide, rest)
+multiplication (OfSymbol symbol.Percent ∷ rest) = Some (multiplications.Remainder, rest)
 multiplication _ = None
 
-abbrev pub relation : List Word → Option (Relation × List Word)
-relation (Mark symbol.Equal ∷ rest) = Some (relations.Equal, rest)
-relation (Mark symbol.NotEqual ∷ rest) = Some (relations.NotEqual, rest)
-relation (Mark symbol.Less ∷ rest) = Some (relations.Less, rest)
-relation (Mark symbol.LessOrEqual ∷ rest) = Some (relations.LessOrEqual, rest)
-relation (Mark symbol.Greater ∷ rest) = Some (relations.Greater, rest)
-relation (Mark symbol.GreaterOrEqual ∷ rest) = Some (relations.GreaterOrEqual, rest)
+abbrev pub relation : List Terminal → Option (Relation × List Terminal)
+relation (OfSymbol symbol.Equal ∷ rest) = Some (relations.Equal, rest)
+relation (OfSymbol symbol.NotEqual ∷ rest) = Some (relations.NotEqual, rest)
+relation (OfSymbol symbol.Less ∷ rest) = Some (relations.Less, rest)
+relation (OfSymbol symbol.LessOrEqual ∷ rest) = Some (relations.LessOrEqual, rest)
+relation (OfSymbol symbol.Greater ∷ rest) = Some (relations.Greater, rest)
+relation (OfSymbol symbol.GreaterOrEqual ∷ rest) = Some (relations.GreaterOrEqual, rest)
 relation _ = None
 
-abbrev pub prefix : List Word → Option (Prefix × List Word)
-prefix (Mark symbol.Minus ∷ rest) = Some (prefixs.Minus, rest)
-prefix (Reserved keyword.Not ∷ rest) = Some (prefixs.Not, rest)
+abbrev pub prefix : List Terminal → Option (Prefix × List Terminal)
+prefix (OfSymbol symbol.Minus ∷ rest) = Some (prefixs.Minus, rest)
+prefix (OfKeyword keyword.Not ∷ rest) = Some (prefixs.Not, rest)
 prefix _ = None
 
 abbrev pub truth_of : Keyword → Option Bool
@@ -55,43 +55,43 @@ truth_of keyword.True = Some true
 truth_of keyword.False = Some false
 truth_of _ = None
 
--- the words behind one word
-abbrev pub after_or : List Word → Option (List Word)
-after_or (Reserved keyword.Or ∷ rest) = Some rest
+-- the terminals behind one terminal
+abbrev pub after_or : List Terminal → Option (List Terminal)
+after_or (OfKeyword keyword.Or ∷ rest) = Some rest
 after_or _ = None
 
-abbrev pub after_and : List Word → Option (List Word)
-after_and (Reserved keyword.And ∷ rest) = Some rest
+abbrev pub after_and : List Terminal → Option (List Terminal)
+after_and (OfKeyword keyword.And ∷ rest) = Some rest
 after_and _ = None
 
-abbrev pub after_open_bracket : List Word → Option (List Word)
-after_open_bracket (Mark symbol.OpenBracket ∷ rest) = Some rest
+abbrev pub after_open_bracket : List Terminal → Option (List Terminal)
+after_open_bracket (OfSymbol symbol.OpenBracket ∷ rest) = Some rest
 after_open_bracket _ = None
 
-abbrev pub after_close_bracket : List Word → Option (List Word)
-after_close_bracket (Mark symbol.CloseBracket ∷ rest) = Some rest
+abbrev pub after_close_bracket : List Terminal → Option (List Terminal)
+after_close_bracket (OfSymbol symbol.CloseBracket ∷ rest) = Some rest
 after_close_bracket _ = None
 
-abbrev pub after_open_parenthesis : List Word → Option (List Word)
-after_open_parenthesis (Mark symbol.OpenParenthesis ∷ rest) = Some rest
+abbrev pub after_open_parenthesis : List Terminal → Option (List Terminal)
+after_open_parenthesis (OfSymbol symbol.OpenParenthesis ∷ rest) = Some rest
 after_open_parenthesis _ = None
 
-abbrev pub after_close_parenthesis : List Word → Option (List Word)
-after_close_parenthesis (Mark symbol.CloseParenthesis ∷ rest) = Some rest
+abbrev pub after_close_parenthesis : List Terminal → Option (List Terminal)
+after_close_parenthesis (OfSymbol symbol.CloseParenthesis ∷ rest) = Some rest
 after_close_parenthesis _ = None
 
-abbrev pub after_dot : List Word → Option (List Word)
-after_dot (Mark symbol.Dot ∷ rest) = Some rest
+abbrev pub after_dot : List Terminal → Option (List Terminal)
+after_dot (OfSymbol symbol.Dot ∷ rest) = Some rest
 after_dot _ = None
 
-abbrev pub after_size : List Word → Option (List Word)
-after_size (Reserved keyword.GetVertexSetSize ∷ rest) = Some rest
+abbrev pub after_size : List Terminal → Option (List Terminal)
+after_size (OfKeyword keyword.GetVertexSetSize ∷ rest) = Some rest
 after_size _ = None
 
 -- As many links as there are, one after the other. A link is none where nothing at the front begins one. The fuel bounds how
 -- many there are.
-module _ {L : Type 0} (link : List Word → Option (Option (L × List Word))) where
-  abbrev pub linked : Reader (List L) → List Word → Option (Option (L × List Word)) → Option (List L × List Word)
+module _ {L : Type 0} (link : List Terminal → Option (Option (L × List Terminal))) where
+  abbrev pub linked : Reader (List L) → List Terminal → Option (Option (L × List Terminal)) → Option (List L × List Terminal)
   linked others ws None = Some ([], ws)
   linked others ws (Some None) = None
   linked others ws (Some (Some x)) = others x.1 >>= λ y. Some (x.0 ∷ y.0, y.1)
@@ -101,21 +101,21 @@ module _ {L : Type 0} (link : List Word → Option (Option (L × List Word))) wh
   links_by (suc fuel) ws = linked (links_by fuel) ws (link ws)
 
 -- an item and the links behind it
-abbrev pub chain_by : {A L C : Type 0} → Reader A → (List Word → Option (Option (L × List Word))) → (A → List L → C) → Reader C
+abbrev pub chain_by : {A L C : Type 0} → Reader A → (List Terminal → Option (Option (L × List Terminal))) → (A → List L → C) → Reader C
 chain_by item link make ws = item ws >>= λ x. links_by link (suc (length x.1)) x.1 >>= λ y. Some (make x.0 y.0, y.1)
 
 -- an operator and the operand behind it
-abbrev pub operand_by : {A O : Type 0} → Reader A → Option (O × List Word) → Option (Option ((O × A) × List Word))
+abbrev pub operand_by : {A O : Type 0} → Reader A → Option (O × List Terminal) → Option (Option ((O × A) × List Terminal))
 operand_by item None = None
 operand_by item (Some o) = Some (item o.1 >>= λ x. Some ((o.0, x.0), x.1))
 
--- the operand behind a word
-abbrev pub behind_by : {A : Type 0} → Reader A → Option (List Word) → Option (Option (A × List Word))
+-- the operand behind a terminal
+abbrev pub behind_by : {A : Type 0} → Reader A → Option (List Terminal) → Option (Option (A × List Terminal))
 behind_by item None = None
 behind_by item (Some after) = Some (item after)
 
 -- signs and then a primary; the fuel bounds how many signs there are
-abbrev pub signed_by : Reader PrimaryTree → Reader UnaryTree → List Word → Option (Prefix × List Word) → Option (UnaryTree × List Word)
+abbrev pub signed_by : Reader PrimaryTree → Reader UnaryTree → List Terminal → Option (Prefix × List Terminal) → Option (UnaryTree × List Terminal)
 signed_by p others ws None = p ws >>= λ x. Some (Bare x.0, x.1)
 signed_by p others ws (Some sign) = others sign.1 >>= λ x. Some (Signed sign.0 x.0, x.1)
 
@@ -132,7 +132,7 @@ term_by u = chain_by u (λ ws. operand_by u (multiplication ws)) term_from
 abbrev pub sum_by : Reader TermTree → Reader SumTree
 sum_by t = chain_by t (λ ws. operand_by t (addition ws)) sum_from
 
-abbrev pub compared_by : Reader SumTree → SumTree → List Word → Option (Relation × List Word) → Option (ComparisonTree × List Word)
+abbrev pub compared_by : Reader SumTree → SumTree → List Terminal → Option (Relation × List Terminal) → Option (ComparisonTree × List Terminal)
 compared_by s left rest None = Some (OneSum left, rest)
 compared_by s left rest (Some o) = s o.1 >>= λ x. Some (TwoSums left o.0 x.0, x.1)
 
@@ -145,12 +145,12 @@ conjunction_by c = chain_by c (λ ws. behind_by c (after_and ws)) conjunction_fr
 abbrev pub expression_by : Reader ConjunctionTree → Reader ExpressionTree
 expression_by c = chain_by c (λ ws. behind_by c (after_or ws)) expression_from
 
--- the words behind the call of a size
-abbrev pub after_size_call : List Word → Option (List Word)
+-- the terminals behind the call of a size
+abbrev pub after_size_call : List Terminal → Option (List Terminal)
 after_size_call ws = after_size ws >>= λ call. after_open_parenthesis call >>= after_close_parenthesis
 
 -- what a name begins: a bracket or a dot behind it decides
-abbrev pub named_by : Reader ExpressionTree → Identifier → List Word → Option (List Word) → Option (List Word) → Option (PrimaryTree × List Word)
+abbrev pub named_by : Reader ExpressionTree → Identifier → List Terminal → Option (List Terminal) → Option (List Terminal) → Option (PrimaryTree × List Terminal)
 named_by e name rest (Some after) dot = e after >>= λ x. after_close_bracket x.1 >>= λ behind. Some (Entry name x.0, behind)
 named_by e name rest None (Some after) = after_size_call after >>= λ behind. Some (Size name, behind)
 named_by e name rest None None = Some (Variable name, rest)
@@ -158,8 +158,8 @@ named_by e name rest None None = Some (Variable name, rest)
 abbrev pub primary_by : Reader ExpressionTree → Reader PrimaryTree
 primary_by e (Number n ∷ rest) = Some (Literal n, rest)
 primary_by e (Name name ∷ rest) = named_by e name rest (after_open_bracket rest) (after_dot rest)
-primary_by e (Reserved word ∷ rest) = truth_of word >>= λ b. Some (Truth b, rest)
-primary_by e (Mark symbol.OpenParenthesis ∷ rest) = e rest >>= λ x. after_close_parenthesis x.1 >>= λ behind. Some (Parentheses x.0, behind)
+primary_by e (OfKeyword terminal ∷ rest) = truth_of terminal >>= λ b. Some (Truth b, rest)
+primary_by e (OfSymbol symbol.OpenParenthesis ∷ rest) = e rest >>= λ x. after_close_parenthesis x.1 >>= λ behind. Some (Parentheses x.0, behind)
 primary_by e _ = None
 
 -- no expression, where no more may be opened

@@ -13,4 +13,4 @@ pub mod SourceReading
 pub mod SourceSpelling
 pub mod SourceTrees
 pub mod SourceViews
-pub mod Words
+pub mod Terminals

@@ -1,4 +1,4 @@
--- How deep words stand in what is opened and not closed yet.
+-- How deep terminals stand in what is opened and not closed yet.
 use Rattle.std.specs.Prelude.{◌≡◌, ℕ, zero, suc, ◌<◌, ◌≤◌, List, [], ◌∷◌, ◌⊎◌}
 use Rattle.lexer.specs.declared.keyword.Keyword.{Keyword}
 use Rattle.lexer.specs.declared.keyword.Keyword.TheVariants as keyword
@@ -6,7 +6,7 @@ use Rattle.lexer.specs.declared.symbol.Symbol.{Symbol}
 use Rattle.lexer.specs.declared.symbol.Symbol.TheVariants as symbol
 use Rattle.lexer.specs.declared.token.Token.{Token}
 use Rattle.lexer.specs.Tokens.{slice_of}
-use Rattle.syntax.specs.Words.{Word, Opening, Reserved, Mark, word_of}
+use Rattle.syntax.specs.Terminals.{Terminal, Opening, OfKeyword, OfSymbol, terminal_of}
 use Rattle.syntax.specs.declared.nesting.Change.{Change}
 use Rattle.syntax.specs.declared.nesting.Change.TheVariants.{Opens, Closes, Keeps}
 
@@ -30,11 +30,11 @@ symbol_change symbol.CloseParenthesis = Closes
 symbol_change symbol.CloseBracket = Closes
 symbol_change _ = Keeps
 
-abbrev pub word_change : Word → Change
-word_change (Opening word at) = keyword_change word
-word_change (Reserved word) = keyword_change word
-word_change (Mark symbol) = symbol_change symbol
-word_change _ = Keeps
+abbrev pub terminal_change : Terminal → Change
+terminal_change (Opening terminal at) = keyword_change terminal
+terminal_change (OfKeyword terminal) = keyword_change terminal
+terminal_change (OfSymbol symbol) = symbol_change symbol
+terminal_change _ = Keeps
 
 abbrev one_less : ℕ → ℕ
 one_less zero = zero
@@ -45,23 +45,23 @@ changed Opens n = suc n
 changed Closes n = one_less n
 changed Keeps n = n
 
--- how much is open behind a word
-abbrev pub nesting_behind : Word → ℕ → ℕ
-nesting_behind word n = changed (word_change word) n
+-- how much is open behind a terminal
+abbrev pub nesting_behind : Terminal → ℕ → ℕ
+nesting_behind terminal n = changed (terminal_change terminal) n
 
--- how much is open behind words, where so much is open before them
-abbrev pub nesting : ℕ → List Word → ℕ
+-- how much is open behind terminals, where so much is open before them
+abbrev pub nesting : ℕ → List Terminal → ℕ
 nesting n [] = n
-nesting n (word ∷ words) = nesting (nesting_behind word n) words
+nesting n (terminal ∷ terminals) = nesting (nesting_behind terminal n) terminals
 
--- behind no word is more open than this
-abbrev pub StaysWithin : ℕ → ℕ → List Word → Type 0
+-- behind no terminal is more open than this
+abbrev pub StaysWithin : ℕ → ℕ → List Terminal → Type 0
 StaysWithin most n [] = Unit {0}
-StaysWithin most n (word ∷ words) = (nesting_behind word n ≤ most) × StaysWithin most (nesting_behind word n) words
+StaysWithin most n (terminal ∷ terminals) = (nesting_behind terminal n ≤ most) × StaysWithin most (nesting_behind terminal n) terminals
 
 -- The first of these tokens of a text behind which more is open than the limit stands at this offset; n are open before them.
 abbrev pub PassesAt : List ℕ → ℕ → List Token → ℕ → Type 0
 PassesAt text n [] at = ⊥
 PassesAt text n (token ∷ tokens) at =
-    let behind = nesting_behind (word_of token.kind (slice_of text token.span) token.span.start) n in
+    let behind = nesting_behind (terminal_of token.kind (slice_of text token.span) token.span.start) n in
     ((limit < behind) × (at ≡ token.span.start)) ⊎ ((behind ≤ limit) × PassesAt text behind tokens at)

@@ -1,11 +1,11 @@
--- Reading words from the left: a reader answers with a tree and the words behind it.
+-- Reading terminals from the left: a reader answers with a tree and the terminals behind it.
 use Rattle.std.specs.Prelude.{ℕ, zero, suc, ℤ, Bool, true, false, List, [], ◌∷◌, ◌++◌, length, Option, Some, None, if◌then◌else◌}
 use Rattle.std.specs.Str.{bytes_eq}
 use Rattle.lexer.specs.declared.keyword.Keyword.{Keyword}
 use Rattle.lexer.specs.declared.keyword.Keyword.TheVariants as keyword
 use Rattle.lexer.specs.declared.symbol.Symbol.TheVariants as symbol
 use Rattle.lexer.specs.Spelling.{keyword_spelling, symbol_spelling}
-use Rattle.syntax.specs.Words.{Word, Identifier, Name, Number, Label, Text, Opening, Reserved, Mark}
+use Rattle.syntax.specs.Terminals.{Terminal, Identifier, Name, Number, Label, Text, Opening, OfKeyword, OfSymbol}
 use Rattle.syntax.specs.ExpressionTrees.{ExpressionTree}
 use Rattle.syntax.specs.ExpressionReading.{Reader, ◌>>=◌, links_by, behind_by, expression_at}
 use Rattle.syntax.specs.declared.declaration.DeclaredType.{DeclaredType}
@@ -17,33 +17,33 @@ use Rattle.syntax.specs.declared.statement.Reduction.TheVariants as reduction
 use Rattle.syntax.specs.Nesting.{limit}
 use Rattle.syntax.specs.SourceTrees.{EndsTree, InitialTree, NewSet, Load, Vertices, OutDegrees, Filter, ApplyModified, Value, ActionTree, Declare, While, For, If, IfElse, Print, Assign, Reduce, SetEntry, ReduceEntry, AddVertex, Apply, BlockTree, Empty, Then, ParameterTree, DeclarationTree, Constant, Function, CallTree, ChainTree, SourceTree}
 
--- `{` word `}`
-abbrev pub in_braces : Word → List Word
-in_braces word = Mark symbol.OpenBrace ∷ word ∷ Mark symbol.CloseBrace ∷ []
+-- `{` terminal `}`
+abbrev pub in_braces : Terminal → List Terminal
+in_braces terminal = OfSymbol symbol.OpenBrace ∷ terminal ∷ OfSymbol symbol.CloseBrace ∷ []
 
--- `(` words `)`
-abbrev pub in_parentheses : List Word → List Word
-in_parentheses words = Mark symbol.OpenParenthesis ∷ (words ++ Mark symbol.CloseParenthesis ∷ [])
+-- `(` terminals `)`
+abbrev pub in_parentheses : List Terminal → List Terminal
+in_parentheses terminals = OfSymbol symbol.OpenParenthesis ∷ (terminals ++ OfSymbol symbol.CloseParenthesis ∷ [])
 
--- two words that have no text and no place
-abbrev pub same_word : Word → Word → Bool
-same_word (Reserved a) (Reserved b) = bytes_eq (keyword_spelling a) (keyword_spelling b)
-same_word (Mark a) (Mark b) = bytes_eq (symbol_spelling a) (symbol_spelling b)
-same_word _ _ = false
+-- two terminals that have no text and no place
+abbrev pub same_terminal : Terminal → Terminal → Bool
+same_terminal (OfKeyword a) (OfKeyword b) = bytes_eq (keyword_spelling a) (keyword_spelling b)
+same_terminal (OfSymbol a) (OfSymbol b) = bytes_eq (symbol_spelling a) (symbol_spelling b)
+same_terminal _ _ = false
 
--- the words behind this one, if it is the first
-abbrev pub after_word : Word → List Word → Option (List Word)
-after_word word [] = None
-after_word word (w ∷ rest) = if same_word word w then Some rest else None
+-- the terminals behind this one, if it is the first
+abbrev pub after_terminal : Terminal → List Terminal → Option (List Terminal)
+after_terminal terminal [] = None
+after_terminal terminal (w ∷ rest) = if same_terminal terminal w then Some rest else None
 
--- the words behind these, if they are the first
-abbrev pub after_words : List Word → List Word → Option (List Word)
-after_words [] ws = Some ws
-after_words (word ∷ words) ws = after_word word ws >>= after_words words
+-- the terminals behind these, if they are the first
+abbrev pub after_terminals : List Terminal → List Terminal → Option (List Terminal)
+after_terminals [] ws = Some ws
+after_terminals (terminal ∷ terminals) ws = after_terminal terminal ws >>= after_terminals terminals
 
--- a tree, where the word behind it is this one
-abbrev pub closed : {A : Type 0} → List Word → A × List Word → Option (A × List Word)
-closed words x = after_words words x.1 >>= λ rest. Some (x.0, rest)
+-- a tree, where the terminal behind it is this one
+abbrev pub closed : {A : Type 0} → List Terminal → A × List Terminal → Option (A × List Terminal)
+closed terminals x = after_terminals terminals x.1 >>= λ rest. Some (x.0, rest)
 
 abbrev pub name_at : Reader Identifier
 name_at (Name name ∷ rest) = Some (name, rest)
@@ -62,118 +62,118 @@ unfoldable pub expression : Reader ExpressionTree
 expression = expression_at limit
 
 abbrev pub type_at : Reader DeclaredType
-type_at (Reserved keyword.Int ∷ rest) = Some (type.Int, rest)
-type_at (Reserved keyword.Bool ∷ rest) = Some (type.Bool, rest)
-type_at (Reserved keyword.Vertex ∷ rest) = Some (type.Vertex, rest)
-type_at (Reserved keyword.VertexSet ∷ rest) = closed (in_braces (Reserved keyword.Vertex)) (type.VertexSet, rest)
-type_at (Reserved keyword.Vector ∷ rest) =
-    closed (in_braces (Reserved keyword.Vertex) ++ in_parentheses (Reserved keyword.Int ∷ [])) (type.Vector, rest)
-type_at (Reserved keyword.EdgeSet ∷ rest) =
-    closed (in_braces (Reserved keyword.Edge)
-    ++ in_parentheses (Reserved keyword.Vertex ∷ Mark symbol.Comma ∷ Reserved keyword.Vertex ∷ [])) (type.EdgeSet, rest)
+type_at (OfKeyword keyword.Int ∷ rest) = Some (type.Int, rest)
+type_at (OfKeyword keyword.Bool ∷ rest) = Some (type.Bool, rest)
+type_at (OfKeyword keyword.Vertex ∷ rest) = Some (type.Vertex, rest)
+type_at (OfKeyword keyword.VertexSet ∷ rest) = closed (in_braces (OfKeyword keyword.Vertex)) (type.VertexSet, rest)
+type_at (OfKeyword keyword.Vector ∷ rest) =
+    closed (in_braces (OfKeyword keyword.Vertex) ++ in_parentheses (OfKeyword keyword.Int ∷ [])) (type.Vector, rest)
+type_at (OfKeyword keyword.EdgeSet ∷ rest) =
+    closed (in_braces (OfKeyword keyword.Edge)
+    ++ in_parentheses (OfKeyword keyword.Vertex ∷ OfSymbol symbol.Comma ∷ OfKeyword keyword.Vertex ∷ [])) (type.EdgeSet, rest)
 type_at _ = None
 
 -- a name and its type
 abbrev pub typed_at : Reader ParameterTree
 typed_at ws =
-    name_at ws >>= λ n. after_word (Mark symbol.Colon) n.1 >>= λ rest. type_at rest >>= λ t.
+    name_at ws >>= λ n. after_terminal (OfSymbol symbol.Colon) n.1 >>= λ rest. type_at rest >>= λ t.
     Some (record { name = n.0; declared = t.0 }, t.1)
 
--- the name in parentheses behind the words that begin an end
-abbrev pub end_by : List Word → Option (List Word) → Option (Option Identifier × List Word)
+-- the name in parentheses behind the terminals that begin an end
+abbrev pub end_by : List Terminal → Option (List Terminal) → Option (Option Identifier × List Terminal)
 end_by ws None = Some (None, ws)
 end_by ws (Some after) =
-    after_word (Mark symbol.OpenParenthesis) after >>= λ a. name_at a >>= λ n.
-    after_word (Mark symbol.CloseParenthesis) n.1 >>= λ b. Some (Some n.0, b)
+    after_terminal (OfSymbol symbol.OpenParenthesis) after >>= λ a. name_at a >>= λ n.
+    after_terminal (OfSymbol symbol.CloseParenthesis) n.1 >>= λ b. Some (Some n.0, b)
 
-abbrev pub end_at : Word → Reader (Option Identifier)
-end_at word ws = end_by ws (after_words (Mark symbol.Dot ∷ word ∷ []) ws)
+abbrev pub end_at : Terminal → Reader (Option Identifier)
+end_at terminal ws = end_by ws (after_terminals (OfSymbol symbol.Dot ∷ terminal ∷ []) ws)
 
 abbrev pub ends_at : Reader EndsTree
 ends_at ws =
-    end_at (Reserved keyword.From) ws >>= λ f. end_at (Reserved keyword.To) f.1 >>= λ t.
+    end_at (OfKeyword keyword.From) ws >>= λ f. end_at (OfKeyword keyword.To) f.1 >>= λ t.
     Some (record { from = f.0; to = t.0 }, t.1)
 
 -- the keyword behind a dot
-abbrev pub method_at : List Word → Option Keyword
-method_at (Mark symbol.Dot ∷ Reserved method ∷ rest) = Some method
+abbrev pub method_at : List Terminal → Option Keyword
+method_at (OfSymbol symbol.Dot ∷ OfKeyword method ∷ rest) = Some method
 method_at _ = None
 
 -- the name in parentheses
 abbrev pub argument_at : Reader Identifier
 argument_at ws =
-    after_word (Mark symbol.OpenParenthesis) ws >>= λ a. name_at a >>= closed (Mark symbol.CloseParenthesis ∷ [])
+    after_terminal (OfSymbol symbol.OpenParenthesis) ws >>= λ a. name_at a >>= closed (OfSymbol symbol.CloseParenthesis ∷ [])
 
 -- what `applyModified` and its ends give
 abbrev pub modified_at : Identifier → Reader InitialTree
 modified_at name ws =
-    ends_at ws >>= λ e. after_words (Mark symbol.Dot ∷ Reserved keyword.ApplyModified ∷ Mark symbol.OpenParenthesis ∷ []) e.1 >>= λ a.
-    name_at a >>= λ f. after_word (Mark symbol.Comma) f.1 >>= λ b. name_at b >>= λ v.
-    closed (Mark symbol.CloseParenthesis ∷ []) (ApplyModified name e.0 f.0 v.0, v.1)
+    ends_at ws >>= λ e. after_terminals (OfSymbol symbol.Dot ∷ OfKeyword keyword.ApplyModified ∷ OfSymbol symbol.OpenParenthesis ∷ []) e.1 >>= λ a.
+    name_at a >>= λ f. after_terminal (OfSymbol symbol.Comma) f.1 >>= λ b. name_at b >>= λ v.
+    closed (OfSymbol symbol.CloseParenthesis ∷ []) (ApplyModified name e.0 f.0 v.0, v.1)
 
 abbrev pub value_at : Reader InitialTree
 value_at ws = expression ws >>= λ e. Some (Value e.0, e.1)
 
 -- an initial value that begins with a name: the method that is called on it decides
-abbrev pub named_initial : Identifier → List Word → Option Keyword → Option (InitialTree × List Word)
+abbrev pub named_initial : Identifier → List Terminal → Option Keyword → Option (InitialTree × List Terminal)
 named_initial name ws (Some keyword.GetVertices) =
-    closed (Mark symbol.Dot ∷ Reserved keyword.GetVertices ∷ in_parentheses []) (Vertices name, ws)
+    closed (OfSymbol symbol.Dot ∷ OfKeyword keyword.GetVertices ∷ in_parentheses []) (Vertices name, ws)
 named_initial name ws (Some keyword.GetOutDegrees) =
-    closed (Mark symbol.Dot ∷ Reserved keyword.GetOutDegrees ∷ in_parentheses []) (OutDegrees name, ws)
+    closed (OfSymbol symbol.Dot ∷ OfKeyword keyword.GetOutDegrees ∷ in_parentheses []) (OutDegrees name, ws)
 named_initial name ws (Some keyword.Filter) =
-    after_words (Mark symbol.Dot ∷ Reserved keyword.Filter ∷ []) ws >>= λ a. argument_at a >>= λ n. Some (Filter name n.0, n.1)
+    after_terminals (OfSymbol symbol.Dot ∷ OfKeyword keyword.Filter ∷ []) ws >>= λ a. argument_at a >>= λ n. Some (Filter name n.0, n.1)
 named_initial name ws (Some keyword.From) = modified_at name ws
 named_initial name ws (Some keyword.To) = modified_at name ws
 named_initial name ws (Some keyword.ApplyModified) = modified_at name ws
 named_initial name ws _ = value_at (Name name ∷ ws)
 
 abbrev pub initial_at : Reader InitialTree
-initial_at (Reserved keyword.New ∷ rest) =
-    after_words (Reserved keyword.VertexSet ∷ (in_braces (Reserved keyword.Vertex) ++ Mark symbol.OpenParenthesis ∷ [])) rest >>= λ a.
-    number_at a >>= λ n. closed (Mark symbol.CloseParenthesis ∷ []) (NewSet n.0, n.1)
-initial_at (Reserved keyword.Load ∷ rest) =
-    after_words (Mark symbol.OpenParenthesis ∷ Reserved keyword.Argv ∷ Mark symbol.OpenBracket ∷ []) rest >>= λ a.
-    number_at a >>= λ n. closed (Mark symbol.CloseBracket ∷ Mark symbol.CloseParenthesis ∷ []) (Load n.0, n.1)
+initial_at (OfKeyword keyword.New ∷ rest) =
+    after_terminals (OfKeyword keyword.VertexSet ∷ (in_braces (OfKeyword keyword.Vertex) ++ OfSymbol symbol.OpenParenthesis ∷ [])) rest >>= λ a.
+    number_at a >>= λ n. closed (OfSymbol symbol.CloseParenthesis ∷ []) (NewSet n.0, n.1)
+initial_at (OfKeyword keyword.Load ∷ rest) =
+    after_terminals (OfSymbol symbol.OpenParenthesis ∷ OfKeyword keyword.Argv ∷ OfSymbol symbol.OpenBracket ∷ []) rest >>= λ a.
+    number_at a >>= λ n. closed (OfSymbol symbol.CloseBracket ∷ OfSymbol symbol.CloseParenthesis ∷ []) (Load n.0, n.1)
 initial_at (Name name ∷ rest) = named_initial name rest (method_at rest)
 initial_at ws = value_at ws
 
 -- `=`, the value and `;`
 abbrev pub assigned_at : Reader InitialTree
-assigned_at ws = after_word (Mark symbol.Assign) ws >>= λ a. initial_at a >>= closed (Mark symbol.Semicolon ∷ [])
+assigned_at ws = after_terminal (OfSymbol symbol.Assign) ws >>= λ a. initial_at a >>= closed (OfSymbol symbol.Semicolon ∷ [])
 
 -- an expression and `;`
 abbrev pub ended_at : Reader ExpressionTree
-ended_at ws = expression ws >>= closed (Mark symbol.Semicolon ∷ [])
+ended_at ws = expression ws >>= closed (OfSymbol symbol.Semicolon ∷ [])
 
 abbrev pub reduction_at : Reader Reduction
-reduction_at (Mark symbol.MinAssign ∷ rest) = Some (reduction.Min, rest)
-reduction_at (Mark symbol.MaxAssign ∷ rest) = Some (reduction.Max, rest)
-reduction_at (Mark symbol.PlusAssign ∷ rest) = Some (reduction.Plus, rest)
+reduction_at (OfSymbol symbol.MinAssign ∷ rest) = Some (reduction.Min, rest)
+reduction_at (OfSymbol symbol.MaxAssign ∷ rest) = Some (reduction.Max, rest)
+reduction_at (OfSymbol symbol.PlusAssign ∷ rest) = Some (reduction.Plus, rest)
 reduction_at _ = None
 
 -- what stands behind `name [ index ]`
-abbrev pub entry_by : Identifier → ExpressionTree → List Word → Option (List Word) → Option (ActionTree × List Word)
+abbrev pub entry_by : Identifier → ExpressionTree → List Terminal → Option (List Terminal) → Option (ActionTree × List Terminal)
 entry_by vector index ws (Some after) = ended_at after >>= λ e. Some (SetEntry vector index e.0, e.1)
 entry_by vector index ws None = reduction_at ws >>= λ r. ended_at r.1 >>= λ e. Some (ReduceEntry vector index r.0 e.0, e.1)
 
 abbrev pub entry_at : Identifier → Reader ActionTree
 entry_at vector ws =
-    expression ws >>= λ i. after_word (Mark symbol.CloseBracket) i.1 >>= λ rest.
-    entry_by vector i.0 rest (after_word (Mark symbol.Assign) rest)
+    expression ws >>= λ i. after_terminal (OfSymbol symbol.CloseBracket) i.1 >>= λ rest.
+    entry_by vector i.0 rest (after_terminal (OfSymbol symbol.Assign) rest)
 
 -- `(`, the vertex, `)` and `;`
 abbrev pub added_at : Identifier → Reader ActionTree
 added_at set ws =
-    after_word (Mark symbol.OpenParenthesis) ws >>= λ a. expression a >>= λ e.
-    closed (Mark symbol.CloseParenthesis ∷ Mark symbol.Semicolon ∷ []) (AddVertex set e.0, e.1)
+    after_terminal (OfSymbol symbol.OpenParenthesis) ws >>= λ a. expression a >>= λ e.
+    closed (OfSymbol symbol.CloseParenthesis ∷ OfSymbol symbol.Semicolon ∷ []) (AddVertex set e.0, e.1)
 
 -- the ends and the function of an apply
 abbrev pub applied_at : Identifier → Reader ActionTree
 applied_at target ws =
-    ends_at ws >>= λ e. after_words (Mark symbol.Dot ∷ Reserved keyword.Apply ∷ []) e.1 >>= λ a. argument_at a >>= λ f.
-    closed (Mark symbol.Semicolon ∷ []) (Apply target e.0 f.0, f.1)
+    ends_at ws >>= λ e. after_terminals (OfSymbol symbol.Dot ∷ OfKeyword keyword.Apply ∷ []) e.1 >>= λ a. argument_at a >>= λ f.
+    closed (OfSymbol symbol.Semicolon ∷ []) (Apply target e.0 f.0, f.1)
 
-abbrev pub method_by : Identifier → List Word → Option (List Word) → Option (ActionTree × List Word)
+abbrev pub method_by : Identifier → List Terminal → Option (List Terminal) → Option (ActionTree × List Terminal)
 method_by name ws (Some after) = added_at name after
 method_by name ws None = applied_at name ws
 
@@ -181,41 +181,41 @@ method_by name ws None = applied_at name ws
 abbrev pub reduced_at : Identifier → Reader ActionTree
 reduced_at name ws = reduction_at ws >>= λ r. ended_at r.1 >>= λ e. Some (Reduce name r.0 e.0, e.1)
 
--- what a statement does that begins with a name: the next word decides
+-- what a statement does that begins with a name: the next terminal decides
 abbrev pub named_action : Identifier → Reader ActionTree
-named_action name (Mark symbol.Assign ∷ rest) = assigned_at (Mark symbol.Assign ∷ rest) >>= λ i. Some (Assign name i.0, i.1)
-named_action name (Mark symbol.OpenBracket ∷ rest) = entry_at name rest
-named_action name (Mark symbol.Dot ∷ rest) =
-    method_by name (Mark symbol.Dot ∷ rest) (after_words (Mark symbol.Dot ∷ Reserved keyword.AddVertex ∷ []) (Mark symbol.Dot ∷ rest))
+named_action name (OfSymbol symbol.Assign ∷ rest) = assigned_at (OfSymbol symbol.Assign ∷ rest) >>= λ i. Some (Assign name i.0, i.1)
+named_action name (OfSymbol symbol.OpenBracket ∷ rest) = entry_at name rest
+named_action name (OfSymbol symbol.Dot ∷ rest) =
+    method_by name (OfSymbol symbol.Dot ∷ rest) (after_terminals (OfSymbol symbol.Dot ∷ OfKeyword keyword.AddVertex ∷ []) (OfSymbol symbol.Dot ∷ rest))
 named_action name ws = reduced_at name ws
 
 -- what stands behind the test and the body of an `if`
-abbrev pub else_by : Reader BlockTree → ℕ → ExpressionTree → BlockTree × List Word → Option (List Word) → Option (ActionTree × List Word)
-else_by block at test body None = closed (Reserved keyword.End ∷ []) (If at test body.0, body.1)
-else_by block at test body (Some after) = block after >>= λ b. closed (Reserved keyword.End ∷ []) (IfElse at test body.0 b.0, b.1)
+abbrev pub else_by : Reader BlockTree → ℕ → ExpressionTree → BlockTree × List Terminal → Option (List Terminal) → Option (ActionTree × List Terminal)
+else_by block at test body None = closed (OfKeyword keyword.End ∷ []) (If at test body.0, body.1)
+else_by block at test body (Some after) = block after >>= λ b. closed (OfKeyword keyword.End ∷ []) (IfElse at test body.0 b.0, b.1)
 
 abbrev pub action_by : Reader BlockTree → Reader ActionTree
 action_by block (Opening keyword.Var at ∷ rest) =
     typed_at rest >>= λ n. assigned_at n.1 >>= λ i. Some (Declare at n.0 i.0, i.1)
 action_by block (Opening keyword.While at ∷ rest) =
-    expression rest >>= λ e. block e.1 >>= λ b. closed (Reserved keyword.End ∷ []) (While at e.0 b.0, b.1)
+    expression rest >>= λ e. block e.1 >>= λ b. closed (OfKeyword keyword.End ∷ []) (While at e.0 b.0, b.1)
 action_by block (Opening keyword.For at ∷ rest) =
-    name_at rest >>= λ n. after_word (Reserved keyword.In) n.1 >>= λ a. expression a >>= λ e.
-    after_word (Mark symbol.Colon) e.1 >>= λ c. expression c >>= λ f. block f.1 >>= λ b.
-    closed (Reserved keyword.End ∷ []) (For at n.0 e.0 f.0 b.0, b.1)
+    name_at rest >>= λ n. after_terminal (OfKeyword keyword.In) n.1 >>= λ a. expression a >>= λ e.
+    after_terminal (OfSymbol symbol.Colon) e.1 >>= λ c. expression c >>= λ f. block f.1 >>= λ b.
+    closed (OfKeyword keyword.End ∷ []) (For at n.0 e.0 f.0 b.0, b.1)
 action_by block (Opening keyword.If at ∷ rest) =
-    expression rest >>= λ e. block e.1 >>= λ b. else_by block at e.0 b (after_word (Reserved keyword.Else) b.1)
+    expression rest >>= λ e. block e.1 >>= λ b. else_by block at e.0 b (after_terminal (OfKeyword keyword.Else) b.1)
 action_by block (Opening keyword.Print at ∷ rest) = ended_at rest >>= λ e. Some (Print at e.0, e.1)
 action_by block (Name name ∷ rest) = named_action name rest
 action_by block _ = None
 
 -- a label, where one stands at the front
-abbrev pub label_at : List Word → Option Identifier × List Word
+abbrev pub label_at : List Terminal → Option Identifier × List Terminal
 label_at (Label label ∷ rest) = (Some label, rest)
 label_at ws = (None, ws)
 
 -- whether a statement begins here
-abbrev pub begins_statement : List Word → Bool
+abbrev pub begins_statement : List Terminal → Bool
 begins_statement (Label label ∷ rest) = true
 begins_statement (Opening keyword.Var at ∷ rest) = true
 begins_statement (Opening keyword.While at ∷ rest) = true
@@ -226,7 +226,7 @@ begins_statement (Name name ∷ rest) = true
 begins_statement _ = false
 
 -- a tree, where one begins
-abbrev pub where_begins : {A : Type 0} → Bool → Option (A × List Word) → Option (Option (A × List Word))
+abbrev pub where_begins : {A : Type 0} → Bool → Option (A × List Terminal) → Option (Option (A × List Terminal))
 where_begins false read = None
 where_begins true read = Some read
 
@@ -234,11 +234,11 @@ abbrev pub statement_by : Reader ActionTree → Reader (Option Identifier × Act
 statement_by action ws = let l = label_at ws in action l.1 >>= λ a. Some ((l.0, a.0), a.1)
 
 -- a statement, where one begins
-abbrev pub next_statement : Reader ActionTree → List Word → Option (Option ((Option Identifier × ActionTree) × List Word))
+abbrev pub next_statement : Reader ActionTree → List Terminal → Option (Option ((Option Identifier × ActionTree) × List Terminal))
 next_statement action ws = where_begins (begins_statement ws) (statement_by action ws)
 
 -- as many trees as follow one another
-abbrev pub each_at : {A : Type 0} → (List Word → Option (Option (A × List Word))) → Reader (List A)
+abbrev pub each_at : {A : Type 0} → (List Terminal → Option (Option (A × List Terminal))) → Reader (List A)
 each_at next ws = links_by next (suc (length ws)) ws
 
 -- statements in order, as a block
@@ -263,36 +263,36 @@ unfoldable pub block : Reader BlockTree
 block = block_at limit
 
 -- the parameter behind a comma
-abbrev pub next_parameter : List Word → Option (Option (ParameterTree × List Word))
-next_parameter ws = behind_by typed_at (after_word (Mark symbol.Comma) ws)
+abbrev pub next_parameter : List Terminal → Option (Option (ParameterTree × List Terminal))
+next_parameter ws = behind_by typed_at (after_terminal (OfSymbol symbol.Comma) ws)
 
-abbrev pub parameters_by : List Word → Option (List Word) → Option (List ParameterTree × List Word)
+abbrev pub parameters_by : List Terminal → Option (List Terminal) → Option (List ParameterTree × List Terminal)
 parameters_by ws (Some after) = Some ([], after)
-parameters_by ws None = typed_at ws >>= λ p. each_at next_parameter p.1 >>= λ others. closed (Mark symbol.CloseParenthesis ∷ []) (p.0 ∷ others.0, others.1)
+parameters_by ws None = typed_at ws >>= λ p. each_at next_parameter p.1 >>= λ others. closed (OfSymbol symbol.CloseParenthesis ∷ []) (p.0 ∷ others.0, others.1)
 
 -- the parameters in parentheses
 abbrev pub parameters_at : Reader (List ParameterTree)
-parameters_at ws = after_word (Mark symbol.OpenParenthesis) ws >>= λ a. parameters_by a (after_word (Mark symbol.CloseParenthesis) a)
+parameters_at ws = after_terminal (OfSymbol symbol.OpenParenthesis) ws >>= λ a. parameters_by a (after_terminal (OfSymbol symbol.CloseParenthesis) a)
 
-abbrev pub result_by : List Word → Option (List Word) → Option (Option ParameterTree × List Word)
+abbrev pub result_by : List Terminal → Option (List Terminal) → Option (Option ParameterTree × List Terminal)
 result_by ws None = Some (None, ws)
 result_by ws (Some after) = typed_at after >>= λ p. Some (Some p.0, p.1)
 
-abbrev pub declaration_by : List Word → Option (DeclarationTree × List Word)
+abbrev pub declaration_by : List Terminal → Option (DeclarationTree × List Terminal)
 declaration_by (Opening keyword.Const at ∷ rest) =
     typed_at rest >>= λ n. assigned_at n.1 >>= λ i. Some (Constant at n.0 i.0, i.1)
 declaration_by (Opening keyword.Func at ∷ rest) =
-    name_at rest >>= λ n. parameters_at n.1 >>= λ p. result_by p.1 (after_word (Mark symbol.Arrow) p.1) >>= λ r.
-    block r.1 >>= λ b. closed (Reserved keyword.End ∷ []) (Function at n.0 p.0 r.0 b.0, b.1)
+    name_at rest >>= λ n. parameters_at n.1 >>= λ p. result_by p.1 (after_terminal (OfSymbol symbol.Arrow) p.1) >>= λ r.
+    block r.1 >>= λ b. closed (OfKeyword keyword.End ∷ []) (Function at n.0 p.0 r.0 b.0, b.1)
 declaration_by _ = None
 
-abbrev pub begins_declaration : List Word → Bool
+abbrev pub begins_declaration : List Terminal → Bool
 begins_declaration (Opening keyword.Const at ∷ rest) = true
 begins_declaration (Opening keyword.Func at ∷ rest) = true
 begins_declaration _ = false
 
 -- a declaration, where one begins
-abbrev pub next_declaration : List Word → Option (Option (DeclarationTree × List Word))
+abbrev pub next_declaration : List Terminal → Option (Option (DeclarationTree × List Terminal))
 next_declaration ws = where_begins (begins_declaration ws) (declaration_by ws)
 
 abbrev pub setting_at : Reader (ℕ × Setting)
@@ -304,44 +304,44 @@ setting_at (Opening keyword.FuseFields at ∷ rest) = Some ((at, setting.FuseFie
 setting_at _ = None
 
 -- the text behind a comma
-abbrev pub next_text : List Word → Option (Option (List ℕ × List Word))
-next_text ws = behind_by text_at (after_word (Mark symbol.Comma) ws)
+abbrev pub next_text : List Terminal → Option (Option (List ℕ × List Terminal))
+next_text ws = behind_by text_at (after_terminal (OfSymbol symbol.Comma) ws)
 
 abbrev pub call_at : Reader CallTree
 call_at ws =
-    setting_at ws >>= λ s. after_word (Mark symbol.OpenParenthesis) s.1 >>= λ a. text_at a >>= λ t. each_at next_text t.1 >>= λ more.
-    closed (Mark symbol.CloseParenthesis ∷ []) (record { at = s.0.0; setting = s.0.1; first = t.0; more = more.0 }, more.1)
+    setting_at ws >>= λ s. after_terminal (OfSymbol symbol.OpenParenthesis) s.1 >>= λ a. text_at a >>= λ t. each_at next_text t.1 >>= λ more.
+    closed (OfSymbol symbol.CloseParenthesis ∷ []) (record { at = s.0.0; setting = s.0.1; first = t.0; more = more.0 }, more.1)
 
 -- the call behind an arrow
-abbrev pub next_call : List Word → Option (Option (CallTree × List Word))
-next_call ws = behind_by call_at (after_word (Mark symbol.Arrow) ws)
+abbrev pub next_call : List Terminal → Option (Option (CallTree × List Terminal))
+next_call ws = behind_by call_at (after_terminal (OfSymbol symbol.Arrow) ws)
 
 -- the calls behind `program`
 abbrev pub chain_at : Reader ChainTree
 chain_at ws =
-    after_word (Mark symbol.Arrow) ws >>= λ a. call_at a >>= λ c. each_at next_call c.1 >>= λ more.
-    closed (Mark symbol.Semicolon ∷ []) (record { first = c.0; more = more.0 }, more.1)
+    after_terminal (OfSymbol symbol.Arrow) ws >>= λ a. call_at a >>= λ c. each_at next_call c.1 >>= λ more.
+    closed (OfSymbol symbol.Semicolon ∷ []) (record { first = c.0; more = more.0 }, more.1)
 
 -- the chain that begins with `program`
-abbrev pub next_chain : List Word → Option (Option (ChainTree × List Word))
-next_chain ws = behind_by chain_at (after_word (Reserved keyword.Program) ws)
+abbrev pub next_chain : List Terminal → Option (Option (ChainTree × List Terminal))
+next_chain ws = behind_by chain_at (after_terminal (OfKeyword keyword.Program) ws)
 
-abbrev pub schedule_by : List Word → Option (List Word) → Option (Option (List ChainTree) × List Word)
+abbrev pub schedule_by : List Terminal → Option (List Terminal) → Option (Option (List ChainTree) × List Terminal)
 schedule_by ws None = Some (None, ws)
-schedule_by ws (Some after) = after_word (Mark symbol.Colon) after >>= λ a. each_at next_chain a >>= λ c. Some (Some c.0, c.1)
+schedule_by ws (Some after) = after_terminal (OfSymbol symbol.Colon) after >>= λ a. each_at next_chain a >>= λ c. Some (Some c.0, c.1)
 
--- the tree, where no word is left
-abbrev pub whole : {A : Type 0} → A × List Word → Option A
+-- the tree, where no terminal is left
+abbrev pub whole : {A : Type 0} → A × List Terminal → Option A
 whole (tree, []) = Some tree
-whole (tree, word ∷ rest) = None
+whole (tree, terminal ∷ rest) = None
 
 -- `element Vertex end element Edge end`
-abbrev pub elements : List Word
+abbrev pub elements : List Terminal
 elements =
-    Reserved keyword.Element ∷ Reserved keyword.Vertex ∷ Reserved keyword.End
-    ∷ Reserved keyword.Element ∷ Reserved keyword.Edge ∷ Reserved keyword.End ∷ []
+    OfKeyword keyword.Element ∷ OfKeyword keyword.Vertex ∷ OfKeyword keyword.End
+    ∷ OfKeyword keyword.Element ∷ OfKeyword keyword.Edge ∷ OfKeyword keyword.End ∷ []
 
-abbrev pub source_at : List Word → Option SourceTree
+abbrev pub source_at : List Terminal → Option SourceTree
 source_at ws =
-    after_words elements ws >>= λ a. each_at next_declaration a >>= λ d. schedule_by d.1 (after_word (Reserved keyword.Schedule) d.1) >>= λ s.
+    after_terminals elements ws >>= λ a. each_at next_declaration a >>= λ d. schedule_by d.1 (after_terminal (OfKeyword keyword.Schedule) d.1) >>= λ s.
     whole (record { declarations = d.0; schedule = s.0 }, s.1)

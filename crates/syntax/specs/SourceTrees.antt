@@ -1,6 +1,6 @@
 -- The trees of a source, one constructor for each rule of the grammar. Offsets of first tokens stand where no name tells them.
 use Rattle.std.specs.Prelude.{ℕ, ℤ, List, Option}
-use Rattle.syntax.specs.Words.{Identifier}
+use Rattle.syntax.specs.Terminals.{Identifier}
 use Rattle.syntax.specs.ExpressionTrees.{ExpressionTree}
 use Rattle.syntax.specs.declared.declaration.DeclaredType.{DeclaredType}
 use Rattle.syntax.specs.declared.schedule.Setting.{Setting}

@@ -1,6 +1,6 @@
 -- The trees that the structs are.
 use Rattle.std.specs.Prelude.{ℕ, List, [], ◌∷◌, map, Option, option_map}
-use Rattle.syntax.specs.Words.{Identifier}
+use Rattle.syntax.specs.Terminals.{Identifier}
 use Rattle.syntax.specs.declared.declaration.Declaration.{Declaration}
 use Rattle.syntax.specs.declared.declaration.Declaration.TheVariants as declaration
 use Rattle.syntax.specs.declared.declaration.Parameter.{Parameter}

@@ -1,20 +1,20 @@
-//! The syntax of the algorithm language: the trees of a source, the words that they are spelled with, and how
+//! The syntax of the algorithm language: the trees of a source, the terminals that they are spelled with, and how
 //! deep a source may nest (`docs/LANGUAGE.md` has the grammar).
 //!
-//! A word is a token as the grammar sees it: its bytes or its value, without its place. Names, labels, and
+//! A terminal is a token as the grammar sees it: its bytes or its value, without its place. Names, labels, and
 //! keywords that open a declaration, a statement or a call of the schedule keep their offsets
-//! (`specs/Words.antt`). A contract sees an [`Expression`] as an `ExpressionTree`, one type for each level of
+//! (`specs/Terminals.antt`). A contract sees an [`Expression`] as an `ExpressionTree`, one type for each level of
 //! the grammar, and a [`Source`] as a `SourceTree`; both have no pointers. `specs/ExpressionSpelling.antt` and
-//! `specs/SourceSpelling.antt` give the words of each tree, with one equation for each rule of the grammar,
-//! and `specs/Nesting.antt` counts what is open. `Begins` says that words are those of an expression, at most
+//! `specs/SourceSpelling.antt` give the terminals of each tree, with one equation for each rule of the grammar,
+//! and `specs/Nesting.antt` counts what is open. `Begins` says that terminals are those of an expression, at most
 //! so deep, and then a rest that does not go on with it (`specs/ExpressionBeginnings.antt`).
 //!
-//! `words_have_one_source` is the law that no two sources have the same words, and `sources_are_read_exactly`
+//! `terminals_have_one_source` is the law that no two sources have the same terminals, and `sources_are_read_exactly`
 //! the law of the reading function, by which a parser is proved to accept exactly the grammar;
-//! `words_have_one_tree`, `beginnings_are_one`, `reading_is_exact` and `what_ends_goes_no_further` are those of
+//! `terminals_have_one_tree`, `beginnings_are_one`, `reading_is_exact` and `what_ends_goes_no_further` are those of
 //! expressions. They do nothing when called. [`first_too_deep`] finds where a text nests deeper than the limit.
 //!
-//! A tree keeps what makes its words its own: parentheses, labels, an absent `else` apart from an empty
+//! A tree keeps what makes its terminals its own: parentheses, labels, an absent `else` apart from an empty
 //! one, the operators of one level as one list.
 //!
 //! The parser, the writer of sources, the checker of types and the schedule stand on this crate. The language is
@@ -36,7 +36,7 @@ pub use expression::{Comparison, Conjunction, Expression, Primary, Sum, Term, Un
 pub use initial::{Ends, Initial};
 pub use laws::{
     beginnings_are_one, reading_is_exact, sources_are_read_exactly, what_ends_goes_no_further,
-    words_have_one_source, words_have_one_tree,
+    terminals_have_one_source, terminals_have_one_tree,
 };
 pub use name::Name;
 pub use nesting::{NESTING_LIMIT, first_too_deep};

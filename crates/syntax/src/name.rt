@@ -12,7 +12,7 @@ pub struct Name {
 }
 
 impl Model for Name {
-    ghost use Rattle.syntax.specs.Words.{Identifier};
+    ghost use Rattle.syntax.specs.Terminals.{Identifier};
 
     ghost Value = { Identifier };
 

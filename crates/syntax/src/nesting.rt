@@ -1,7 +1,7 @@
 //! How deep the tokens of a text stand in what is opened and not closed yet.
 ghost use Rattle.std.specs.Prelude.{◌≡◌, ◌≤◌, ℕ, List, MatchOption};
-ghost use Rattle.syntax.specs.Nesting.{keyword_change as change_of_keyword, symbol_change as change_of_symbol, nesting_behind as behind, word_change, limit, StaysWithin, PassesAt};
-ghost use Rattle.syntax.specs.Words.{word_of, words_of};
+ghost use Rattle.syntax.specs.Nesting.{keyword_change as change_of_keyword, symbol_change as change_of_symbol, nesting_behind as behind, terminal_change, limit, StaysWithin, PassesAt};
+ghost use Rattle.syntax.specs.Terminals.{terminal_of, terminals_of};
 
 use lexer::{Keyword, Symbol, Token, TokenKind};
 
@@ -24,7 +24,7 @@ pub const NESTING_LIMIT: u32 = 64;
 /// and `]` close, and where nothing is open they close nothing. Takes no memory, and time in proportion to
 /// the tokens.
 pub fn first_too_deep(tokens: &[Token]) -> Option<usize>
-    ensures { (text : List ℕ) → MatchOption result (StaysWithin limit 0 (words_of text tokens.now)) (λ at. PassesAt text 0 tokens.now at) }
+    ensures { (text : List ℕ) → MatchOption result (StaysWithin limit 0 (terminals_of text tokens.now)) (λ at. PassesAt text 0 tokens.now at) }
 {
     let mut left = tokens;
     let mut depth = 0;
@@ -41,7 +41,7 @@ pub fn first_too_deep(tokens: &[Token]) -> Option<usize>
 /// How much is open behind a token, where so much is open before it.
 fn nesting_behind(kind: TokenKind, depth: u32) -> u32
     requires { depth ≤ limit }
-    ensures { (bytes : List ℕ) (at : ℕ) → result ≡ behind (word_of kind bytes at) depth }
+    ensures { (bytes : List ℕ) (at : ℕ) → result ≡ behind (terminal_of kind bytes at) depth }
 {
     match change_of(kind) {
         Change::Opens => depth + 1,
@@ -52,7 +52,7 @@ fn nesting_behind(kind: TokenKind, depth: u32) -> u32
 
 /// What a token of this kind does to the nesting.
 fn change_of(kind: TokenKind) -> Change
-    ensures { (bytes : List ℕ) (at : ℕ) → result ≡ word_change (word_of kind bytes at) }
+    ensures { (bytes : List ℕ) (at : ℕ) → result ≡ terminal_change (terminal_of kind bytes at) }
 {
     match kind {
         TokenKind::Keyword(keyword) => keyword_change(keyword),

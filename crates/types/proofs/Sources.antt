@@ -1,7 +1,7 @@
 -- The trees of statements of a source that hold blocks.
 use Rattle.std.proofs.Common.{◌≡◌, ℕ, ap, refl, rules}
 use Rattle.std.specs.Global.{Vec}
-use Rattle.syntax.specs.Words.{Identifier}
+use Rattle.syntax.specs.Terminals.{Identifier}
 use Rattle.syntax.specs.ExpressionTrees.{ExpressionTree}
 use Rattle.syntax.specs.declared.statement.Statement.{Statement}
 use Rattle.syntax.specs.declared.statement.Action.{Row_of-Statement, end_of-Statement, more_of-Statement, items-the_row-Statement}

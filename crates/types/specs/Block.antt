@@ -1,6 +1,6 @@
 -- Statements of main, in the order of the text.
 use Rattle.std.specs.Prelude.{ℕ, suc, length, Option}
-use Rattle.syntax.specs.Words.{Identifier}
+use Rattle.syntax.specs.Terminals.{Identifier}
 use Rattle.syntax.specs.ExpressionTrees.{ExpressionTree}
 use Rattle.syntax.specs.SourceTrees as source
 use Rattle.typed_tree.specs.declared.statement.Statement.{Statement}

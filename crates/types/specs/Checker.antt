@@ -1,6 +1,6 @@
 -- What is met on the way through a source.
 use Rattle.std.specs.Prelude.{ℕ, suc, List, [], ◌∷◌, ◌++◌, ◌-◌, length, take, drop, Option, Some, None}
-use Rattle.syntax.specs.Words.{Identifier}
+use Rattle.syntax.specs.Terminals.{Identifier}
 use Rattle.syntax.specs.declared.statement.Reduction.{Reduction}
 use Rattle.typed_tree.specs.declared.expression.Slot.{Slot}
 use Rattle.expression_types.specs.declared.fault.Rule.TheVariants as rule

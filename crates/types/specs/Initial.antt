@@ -2,7 +2,7 @@
 use Rattle.std.specs.Prelude.{ℕ, zero, suc, ℤ, pos, negsuc, Bool, true, false, not, ◌||◌, if◌then◌else◌, nat_eq, List, [], slice_index_or, is_some, Option, Some, None}
 use Rattle.std.specs.Map.{lookup}
 use Rattle.syntax.specs.declared.statement.Reduction.{Reduction}
-use Rattle.syntax.specs.Words.{Identifier}
+use Rattle.syntax.specs.Terminals.{Identifier}
 use Rattle.syntax.specs.SourceTrees.{InitialTree, NewSet, Load, Vertices, OutDegrees, Filter, ApplyModified, Value}
 use Rattle.typed_tree.specs.declared.expression.Slot.{Slot}
 use Rattle.typed_tree.specs.declared.statement.EndFilter.{EndFilter}

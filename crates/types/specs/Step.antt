@@ -1,7 +1,7 @@
 -- Statements of functions, in the order of the text. Where one is faulty, or no function may hold it, a harmless one stands in its place.
 use Rattle.std.specs.Prelude.{ℕ, Bool, true, false, nat_eq, List, [], ◌∷◌, ◌++◌, length, Option, Some, None}
 use Rattle.std.specs.Map.{lookup}
-use Rattle.syntax.specs.Words.{Identifier}
+use Rattle.syntax.specs.Terminals.{Identifier}
 use Rattle.syntax.specs.ExpressionTrees.{ExpressionTree}
 use Rattle.syntax.specs.declared.declaration.DeclaredType.{DeclaredType}
 use Rattle.syntax.specs.declared.declaration.DeclaredType.TheVariants as declared

@@ -1,8 +1,8 @@
 use Rattle.std.proofs.Common.{sym, ◌∙◌, ap, subst, Some, ◌≡◌, false, ◌∷◌}
 use Rattle.std.proofs.lemmas.Result.{err_from_is_err_and}
 use Rattle.lexer.specs.Tokens.{slice_of}
-use Rattle.syntax.specs.Words.{keyword_word, word_of}
-use Rattle.parser.specs.Readers.{words, Gives}
+use Rattle.syntax.specs.Terminals.{keyword_terminal, terminal_of}
+use Rattle.parser.specs.Readers.{terminals, Gives}
 use Rattle.parser.proofs.Faults.{passed_on}
 use Rattle.syntax.specs.SourceViews.{statement_of, action_tree}
 use Rattle.syntax.specs.SourceReading.{begins_statement}
@@ -13,12 +13,12 @@ use Rattle.parser.proofs.Lists.{list_start, list_step}
 use Rattle.parser.proofs.block.+read.Goals as goal
 
 pub block-statements-init : goal.block-statements-init
-block-statements-init t c = list_start statement_of c.new-statements.result.items (words c.args.cursor) c.new-statements.ensures.items
+block-statements-init t c = list_start statement_of c.new-statements.result.items (terminals c.args.cursor) c.new-statements.ensures.items
 
 pub block-statements-preserved : goal.block-statements-preserved
 block-statements-preserved t c =
-    list_step statement_of c.statements.statements.items _ c.in_ok-statement.statement (words c.in_ok-statement.behind) c.in_ok-push.ensures.items c.statements.invariant
-    (next_is c.args.depth (words c.statements.left) (words c.in_ok-statement.behind) (statement_of c.in_ok-statement.statement)
+    list_step statement_of c.statements.statements.items _ c.in_ok-statement.statement (terminals c.in_ok-statement.behind) c.in_ok-push.ensures.items c.statements.invariant
+    (next_is c.args.depth (terminals c.statements.left) (terminals c.in_ok-statement.behind) (statement_of c.in_ok-statement.statement)
     (sym c.begins_statement.ensures ∙ c.statements-test.true) c.in_ok-statement.ensures.reads)
     c.in_ok-statement.ensures.shorter
 
@@ -30,17 +30,17 @@ block-returns-in_err-statement-clause-reads t c =
 
 pub block-returns-clause-reads : goal.block-returns-clause-reads
 block-returns-clause-reads t c =
-    let begins : begins_statement (words c.statements.left) ≡ false = sym c.begins_statement.ensures ∙ c.statements-test.false in
-    block_ends c.args.depth c.statements.invariant begins ∙ ap (λ b. Some (b, words c.statements.left)) (block_from-map c.statements.statements.items)
+    let begins : begins_statement (terminals c.statements.left) ≡ false = sym c.begins_statement.ensures ∙ c.statements-test.false in
+    block_ends c.args.depth c.statements.invariant begins ∙ ap (λ b. Some (b, terminals c.statements.left)) (block_from-map c.statements.statements.items)
 
 pub action-returns-in-Some-begun_by-clause-reads : goal.action-returns-in-Some-begun_by-clause-reads
 action-returns-in-Some-begun_by-clause-reads t c =
-    let is : words c.args.cursor ≡ keyword_word c.in-Keyword.keyword c.in-Some.token.span.start ∷ words c.in-Some.after =
-    c.in-Some.ensures.word
-    ∙ ap (λ kind. word_of kind (slice_of c.args.cursor.text.now c.in-Some.token.span) c.in-Some.token.span.start ∷ words c.in-Some.after) c.in-Keyword.is
+    let is : terminals c.args.cursor ≡ keyword_terminal c.in-Keyword.keyword c.in-Some.token.span.start ∷ terminals c.in-Some.after =
+    c.in-Some.ensures.terminal
+    ∙ ap (λ kind. terminal_of kind (slice_of c.args.cursor.text.now c.in-Some.token.span) c.in-Some.token.span.start ∷ terminals c.in-Some.after) c.in-Keyword.is
     in
     let opening : opening_of c.in-Keyword.keyword ≡ Some c.in-Some-begun_by.opening = sym c.in-Some-begun_by.ensures in
     subst (Gives action_tree c.opened.result)
     (sym (ap (action_at c.args.depth) is
-    ∙ opened_is (block_in c.args.depth) c.in-Keyword.keyword c.in-Some.token.span.start c.in-Some-begun_by.opening (words c.in-Some.after) opening))
+    ∙ opened_is (block_in c.args.depth) c.in-Keyword.keyword c.in-Some.token.span.start c.in-Some-begun_by.opening (terminals c.in-Some.after) opening))
     c.opened.ensures.reads

@@ -1,5 +1,5 @@
 use Rattle.std.proofs.Common.{◌+◌, ◌*◌, length, map}
-use Rattle.parser.specs.Readers.{words}
+use Rattle.parser.specs.Readers.{terminals}
 use Rattle.syntax.proofs.Loops.{Goes}
 use Rattle.syntax.specs.SourceReading.{next_statement}
 use Rattle.syntax.specs.SourceViews.{statement_of}
@@ -37,7 +37,7 @@ abbrev pub decreases-block : goal.decreases-block
 decreases-block l = 8 * l.depth + 7
 
 abbrev pub invariant-block-statements : goal.invariant-block-statements
-invariant-block-statements l = Goes (next_statement (action_at l.depth)) (words l.cursor) (map statement_of l.statements.items) (words l.left)
+invariant-block-statements l = Goes (next_statement (action_at l.depth)) (terminals l.cursor) (map statement_of l.statements.items) (terminals l.left)
 
 abbrev pub decreases-block-statements : goal.decreases-block-statements
-decreases-block-statements l = length (words l.left)
+decreases-block-statements l = length (terminals l.left)

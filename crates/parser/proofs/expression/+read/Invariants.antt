@@ -1,5 +1,5 @@
 use Rattle.std.proofs.Common.{◌+◌, ◌*◌, length, map}
-use Rattle.parser.specs.Readers.{words}
+use Rattle.parser.specs.Readers.{terminals}
 use Rattle.syntax.specs.ExpressionViews.{unary_of, term_of, comparison_of, conjunction_of}
 use Rattle.syntax.specs.ExpressionReading.{operand_by, behind_by, multiplication, addition, after_and, after_or, primary_at, unary_at, term_at, comparison_at, conjunction_at}
 use Rattle.syntax.proofs.Loops.{Chain, Signs}
@@ -34,34 +34,34 @@ decreases-expression l = 9 * l.depth + 8
 
 abbrev pub invariant-expression-more : goal.invariant-expression-more
 invariant-expression-more l =
-    Chain (conjunction_at l.depth) (λ ws. behind_by (conjunction_at l.depth) (after_or ws)) (words l.cursor) (conjunction_of l.first) (map conjunction_of l.more.items) (words l.left)
+    Chain (conjunction_at l.depth) (λ ws. behind_by (conjunction_at l.depth) (after_or ws)) (terminals l.cursor) (conjunction_of l.first) (map conjunction_of l.more.items) (terminals l.left)
 
 abbrev pub decreases-expression-more : goal.decreases-expression-more
-decreases-expression-more l = length (words l.left)
+decreases-expression-more l = length (terminals l.left)
 
 abbrev pub invariant-conjunction-more : goal.invariant-conjunction-more
 invariant-conjunction-more l =
-    Chain (comparison_at l.depth) (λ ws. behind_by (comparison_at l.depth) (after_and ws)) (words l.cursor) (comparison_of l.first) (map comparison_of l.more.items) (words l.left)
+    Chain (comparison_at l.depth) (λ ws. behind_by (comparison_at l.depth) (after_and ws)) (terminals l.cursor) (comparison_of l.first) (map comparison_of l.more.items) (terminals l.left)
 
 abbrev pub decreases-conjunction-more : goal.decreases-conjunction-more
-decreases-conjunction-more l = length (words l.left)
+decreases-conjunction-more l = length (terminals l.left)
 
 abbrev pub invariant-sum-more : goal.invariant-sum-more
 invariant-sum-more l =
-    Chain (term_at l.depth) (λ ws. operand_by (term_at l.depth) (addition ws)) (words l.cursor) (term_of l.first) (map (λ m. (m.0, term_of m.1)) l.more.items) (words l.left)
+    Chain (term_at l.depth) (λ ws. operand_by (term_at l.depth) (addition ws)) (terminals l.cursor) (term_of l.first) (map (λ m. (m.0, term_of m.1)) l.more.items) (terminals l.left)
 
 abbrev pub decreases-sum-more : goal.decreases-sum-more
-decreases-sum-more l = length (words l.left)
+decreases-sum-more l = length (terminals l.left)
 
 abbrev pub invariant-term-more : goal.invariant-term-more
 invariant-term-more l =
-    Chain (unary_at l.depth) (λ ws. operand_by (unary_at l.depth) (multiplication ws)) (words l.cursor) (unary_of l.first) (map (λ m. (m.0, unary_of m.1)) l.more.items) (words l.left)
+    Chain (unary_at l.depth) (λ ws. operand_by (unary_at l.depth) (multiplication ws)) (terminals l.cursor) (unary_of l.first) (map (λ m. (m.0, unary_of m.1)) l.more.items) (terminals l.left)
 
 abbrev pub decreases-term-more : goal.decreases-term-more
-decreases-term-more l = length (words l.left)
+decreases-term-more l = length (terminals l.left)
 
 abbrev pub invariant-unary-signs : goal.invariant-unary-signs
-invariant-unary-signs l = Signs (primary_at l.depth) (words l.cursor) l.signs.items (words l.left)
+invariant-unary-signs l = Signs (primary_at l.depth) (terminals l.cursor) l.signs.items (terminals l.left)
 
 abbrev pub decreases-unary-signs : goal.decreases-unary-signs
-decreases-unary-signs l = length (words l.left)
+decreases-unary-signs l = length (terminals l.left)

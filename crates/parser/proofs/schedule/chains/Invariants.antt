@@ -1,12 +1,12 @@
 use Rattle.std.proofs.Common.{length, map}
-use Rattle.parser.specs.Readers.{words}
+use Rattle.parser.specs.Readers.{terminals}
 use Rattle.syntax.proofs.Loops.{Goes}
 use Rattle.syntax.specs.SourceReading.{next_chain}
 use Rattle.syntax.specs.SourceViews.{chain_tree}
 use Rattle.parser.proofs.schedule.chains.Given as goal
 
 abbrev pub invariant-chains : goal.invariant-chains
-invariant-chains l = Goes next_chain (words l.cursor) (map chain_tree l.chains.items) (words l.left)
+invariant-chains l = Goes next_chain (terminals l.cursor) (map chain_tree l.chains.items) (terminals l.left)
 
 abbrev pub decreases-chains : goal.decreases-chains
-decreases-chains l = length (words l.left)
+decreases-chains l = length (terminals l.left)

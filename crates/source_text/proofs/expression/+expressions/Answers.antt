@@ -1,7 +1,7 @@
 use Rattle.std.proofs.Common.{◌++◌, ◌≡◌, ◌<◌, ◌≤◌, sym, ◌∙◌, ap, length, get_or}
 use Rattle.std.proofs.lemmas.Result.{on_ok_weaker}
 use Rattle.syntax.specs.ExpressionViews.{comparison_of, conjunction_of, primary_of, term_of, unary_of}
-use Rattle.syntax.specs.ExpressionSpelling.{comparison_words, conjunction_words, expression_words, primary_words, term_words, unary_words}
+use Rattle.syntax.specs.ExpressionSpelling.{comparison_terminals, conjunction_terminals, expression_terminals, primary_terminals, term_terminals, unary_terminals}
 use Rattle.syntax.specs.SourceSpelling.{each_before}
 use Rattle.source_text.specs.Written.{signs_before}
 use Rattle.source_text.proofs.Levels.{or_before, and_before, added_before, multiplied_before, expression_split, conjunction_split, sum_split, term_split, unary_split}
@@ -10,7 +10,7 @@ use Rattle.source_text.proofs.expression.+expressions.Goals as goal
 
 pub put_conjunction-others-init : goal.put_conjunction-others-init
 put_conjunction-others-init t c =
-    up_to_first _ (λ rest. comparison_words (comparison_of c.args.conjunction.now.first) ++ rest) and_before c.args.conjunction.now.more.items c.args.out.now.items c.put_comparison.new.out.items
+    up_to_first _ (λ rest. comparison_terminals (comparison_of c.args.conjunction.now.first) ++ rest) and_before c.args.conjunction.now.more.items c.args.out.now.items c.put_comparison.new.out.items
     (conjunction_split (comparison_of c.args.conjunction.now.first) c.args.conjunction.now.more.items) c.in_ok-put_comparison.ensures
 
 pub put_conjunction-others-preserved : goal.put_conjunction-others-preserved
@@ -20,7 +20,7 @@ put_conjunction-others-preserved t c =
     let is : c.comparison-item.result ≡ get_or items c.others.comparison-index c.comparison-item.result = rw (← c.deref-comparison-items.ensures.value) c.comparison-item.is in
     up_to_more _ and_before items c.others.comparison-index c.comparison-item.result c.comparison-item.result c.args.out.now.items c.others.out.items c.put_comparison-in-others.new.out.items
     c.others.invariant inside is
-    (λ rest whole h. c.in_ok-put_comparison-2.ensures rest whole (c.in_ok-put_keyword.ensures.reserved (comparison_words (comparison_of c.comparison-item.result) ++ rest) whole h))
+    (λ rest whole h. c.in_ok-put_comparison-2.ensures rest whole (c.in_ok-put_keyword.ensures.reserved (comparison_terminals (comparison_of c.comparison-item.result) ++ rest) whole h))
 
 pub put_conjunction-returns : goal.put_conjunction-returns
 put_conjunction-returns t c =
@@ -29,7 +29,7 @@ put_conjunction-returns t c =
 
 pub put_sum-others-init : goal.put_sum-others-init
 put_sum-others-init t c =
-    up_to_first _ (λ rest. term_words (term_of c.args.sum.now.first) ++ rest) added_before c.args.sum.now.more.items c.args.out.now.items c.put_term.new.out.items
+    up_to_first _ (λ rest. term_terminals (term_of c.args.sum.now.first) ++ rest) added_before c.args.sum.now.more.items c.args.out.now.items c.put_term.new.out.items
     (sum_split (term_of c.args.sum.now.first) c.args.sum.now.more.items) c.in_ok-put_term.ensures
 
 pub put_sum-others-preserved : goal.put_sum-others-preserved
@@ -39,7 +39,7 @@ put_sum-others-preserved t c =
     let is : c.others-item.result ≡ get_or items c.others.operator-index c.others-item.result = rw (← c.deref-operator-items.ensures.value) c.others-item.is in
     up_to_more _ added_before items c.others.operator-index c.others-item.result c.others-item.result c.args.out.now.items c.others.out.items c.put_term-in-others.new.out.items
     c.others.invariant inside is
-    (λ rest whole h. c.in_ok-put_term-2.ensures rest whole (c.in_ok-put_addition.ensures (term_words (term_of c.others-item.result.1) ++ rest) whole h))
+    (λ rest whole h. c.in_ok-put_term-2.ensures rest whole (c.in_ok-put_addition.ensures (term_terminals (term_of c.others-item.result.1) ++ rest) whole h))
 
 pub put_sum-returns : goal.put_sum-returns
 put_sum-returns t c =
@@ -48,7 +48,7 @@ put_sum-returns t c =
 
 pub put_term-others-init : goal.put_term-others-init
 put_term-others-init t c =
-    up_to_first _ (λ rest. unary_words (unary_of c.args.term.now.first) ++ rest) multiplied_before c.args.term.now.more.items c.args.out.now.items c.put_unary.new.out.items
+    up_to_first _ (λ rest. unary_terminals (unary_of c.args.term.now.first) ++ rest) multiplied_before c.args.term.now.more.items c.args.out.now.items c.put_unary.new.out.items
     (term_split (unary_of c.args.term.now.first) c.args.term.now.more.items) c.in_ok-put_unary.ensures
 
 pub put_term-others-preserved : goal.put_term-others-preserved
@@ -58,7 +58,7 @@ put_term-others-preserved t c =
     let is : c.others-item.result ≡ get_or items c.others.operator-index c.others-item.result = rw (← c.deref-operator-items.ensures.value) c.others-item.is in
     up_to_more _ multiplied_before items c.others.operator-index c.others-item.result c.others-item.result c.args.out.now.items c.others.out.items c.put_unary-in-others.new.out.items
     c.others.invariant inside is
-    (λ rest whole h. c.in_ok-put_unary-2.ensures rest whole (c.in_ok-put_multiplication.ensures (unary_words (unary_of c.others-item.result.1) ++ rest) whole h))
+    (λ rest whole h. c.in_ok-put_unary-2.ensures rest whole (c.in_ok-put_multiplication.ensures (unary_terminals (unary_of c.others-item.result.1) ++ rest) whole h))
 
 pub put_term-returns : goal.put_term-returns
 put_term-returns t c =
@@ -67,17 +67,17 @@ put_term-returns t c =
 
 pub put_expression-others-init : goal.put_expression-others-init
 put_expression-others-init t c =
-    up_to_first _ (λ rest. conjunction_words (conjunction_of c.expression.inside.first) ++ rest) or_before c.deref-conjunction-items.result.now c.args.out.now.items c.put_conjunction.new.out.items
-    (λ rest. ap (λ e. expression_words e ++ rest) (sym c.expression.view_is)
+    up_to_first _ (λ rest. conjunction_terminals (conjunction_of c.expression.inside.first) ++ rest) or_before c.deref-conjunction-items.result.now c.args.out.now.items c.put_conjunction.new.out.items
+    (λ rest. ap (λ e. expression_terminals e ++ rest) (sym c.expression.view_is)
     ∙ expression_split (conjunction_of c.expression.inside.first) c.expression.inside.more.items rest
-    ∙ ap (λ xs. conjunction_words (conjunction_of c.expression.inside.first) ++ each_before or_before xs rest) (sym c.deref-conjunction-items.ensures.value))
+    ∙ ap (λ xs. conjunction_terminals (conjunction_of c.expression.inside.first) ++ each_before or_before xs rest) (sym c.deref-conjunction-items.ensures.value))
     c.in_ok-put_conjunction.ensures
 
 pub put_expression-others-preserved : goal.put_expression-others-preserved
 put_expression-others-preserved t c =
     up_to_more _ or_before c.deref-conjunction-items.result.now c.others.conjunction-index c.conjunction-item.result c.conjunction-item.result c.args.out.now.items c.others.out.items c.put_conjunction-in-others.new.out.items
     c.others.invariant c.others-test.true c.conjunction-item.is
-    (λ rest whole h. c.in_ok-put_conjunction-2.ensures rest whole (c.in_ok-put_keyword.ensures.reserved (conjunction_words (conjunction_of c.conjunction-item.result) ++ rest) whole h))
+    (λ rest whole h. c.in_ok-put_conjunction-2.ensures rest whole (c.in_ok-put_keyword.ensures.reserved (conjunction_terminals (conjunction_of c.conjunction-item.result) ++ rest) whole h))
 
 pub put_expression-returns : goal.put_expression-returns
 put_expression-returns t c =
@@ -88,6 +88,6 @@ put_unary-returns t c =
     let signs = c.args.unary.now.signs.items in
     let p = primary_of c.args.unary.now.primary in
     on_ok_weaker c.put_primary.result (λ puts rest whole h.
-    puts rest whole (c.in_ok-put_signs.ensures (primary_words p ++ rest) whole
-    (completes_same c.args.out.now.items whole _ _ (unary_split signs p rest ∙ ap (λ s. signs_before s (primary_words p ++ rest)) (sym c.deref.ensures.value)) h)))
+    puts rest whole (c.in_ok-put_signs.ensures (primary_terminals p ++ rest) whole
+    (completes_same c.args.out.now.items whole _ _ (unary_split signs p rest ∙ ap (λ s. signs_before s (primary_terminals p ++ rest)) (sym c.deref.ensures.value)) h)))
     c.put_primary.ensures

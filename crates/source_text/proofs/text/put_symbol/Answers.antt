@@ -1,8 +1,8 @@
 use Rattle.std.proofs.lemmas.Result.{on_ok_weaker}
-use Rattle.syntax.specs.Words.{Mark}
-use Rattle.source_text.proofs.Puts.{put_word}
+use Rattle.syntax.specs.Terminals.{OfSymbol}
+use Rattle.source_text.proofs.Puts.{put_terminal}
 use Rattle.source_text.proofs.text.put_symbol.Goals as goal
 
 pub returns : goal.returns
 returns c =
-    on_ok_weaker c.put.result (put_word (Mark c.args.symbol) c.spelling.result.now c.gap_behind_symbol.result c.args.out.now.items c.put.new.out.items c.spelling.ensures c.gap_behind_symbol.ensures) c.put.ensures
+    on_ok_weaker c.put.result (put_terminal (OfSymbol c.args.symbol) c.spelling.result.now c.gap_behind_symbol.result c.args.out.now.items c.put.new.out.items c.spelling.ensures c.gap_behind_symbol.ensures) c.put.ensures

@@ -1,4 +1,4 @@
-use Rattle.syntax.proofs.FirstWords.{ends_expression}
+use Rattle.syntax.proofs.FirstTerminals.{ends_expression}
 use Rattle.syntax.proofs.Further.{some_longer}
 use Rattle.syntax.proofs.ExpressionReadings.{nothing_follows, none_longer}
 use Rattle.syntax.proofs.laws.what_ends_goes_no_further.Goals as goal

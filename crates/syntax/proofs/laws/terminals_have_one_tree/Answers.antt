@@ -1,5 +1,5 @@
 use Rattle.syntax.proofs.ExpressionReadings.{one_tree}
-use Rattle.syntax.proofs.laws.words_have_one_tree.Goals as goal
+use Rattle.syntax.proofs.laws.terminals_have_one_tree.Goals as goal
 
 pub returns : goal.returns
 returns c = one_tree
