@@ -43,7 +43,7 @@ pub(crate) fn read_front(bytes: &[u8]) -> Front
     } else if first == b'/' && begins_with(rest, b'/') {
         Front::Gap(line_len(bytes))
     } else {
-        mark(first, rest)
+        symbol(first, rest)
     }
 }
 
@@ -141,7 +141,7 @@ fn quoted(inside: &[u8]) -> Front
 
 /// A symbol, given its first byte and what stands behind that, which together begin no comment.
 #[inline]
-fn mark(first: u8, rest: &[u8]) -> Front
+fn symbol(first: u8, rest: &[u8]) -> Front
     requires class { class_of first ≡ Punctuation }
     requires no_comment { (others : List ℕ) → first ∷ rest.now ≢ 47 ∷ 47 ∷ others }
     ensures { IsFront (first ∷ rest.now) result }

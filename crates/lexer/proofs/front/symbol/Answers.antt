@@ -1,5 +1,5 @@
 use Rattle.lexer.proofs.FrontLaws.{mark_fault}
-use Rattle.lexer.proofs.front.mark.Goals as goal
+use Rattle.lexer.proofs.front.symbol.Goals as goal
 
 pub returns-in-None : goal.returns-in-None
 returns-in-None c =
