@@ -35,8 +35,8 @@ pub use declaration::{Declaration, DeclaredType, Parameter, Source};
 pub use expression::{Comparison, Conjunction, Expression, Primary, Sum, Term, Unary};
 pub use initial::{Ends, Initial};
 pub use laws::{
-    beginnings_are_one, reading_is_exact, sources_are_read_exactly, what_ends_goes_no_further,
-    terminals_have_one_source, terminals_have_one_tree,
+    beginnings_are_one, reading_is_exact, sources_are_read_exactly, terminals_have_one_source,
+    terminals_have_one_tree, what_ends_goes_no_further,
 };
 pub use name::Name;
 pub use nesting::{NESTING_LIMIT, first_too_deep};

@@ -1,4 +1,4 @@
-use Rattle.std.proofs.Common.{◌≡◌, ◌≤◌, ℕ, List, length}
+use Rattle.std.proofs.Common.{◌≤◌, ℕ, List, length}
 use Rattle.syntax.specs.Terminals.{terminals_of}
 use Rattle.syntax.specs.Nesting.{limit, StaysWithin, PassesAt}
 use Rattle.syntax.proofs.nesting.first_too_deep.Given as goal
