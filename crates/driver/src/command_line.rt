@@ -23,7 +23,8 @@ const HELP: &str =
     Example: gsnap script examples/squares.script examples/squares.program\n\
     docs/SCRIPTS.md lists the lines of scripts, and docs/LANGUAGE.md describes programs.";
 
-const CHECK_HELP: &str = "Where the text is refused, the number and the place of the first fault are told.\n\
+const CHECK_HELP: &str =
+    "Where the text is refused, the number and the place of the first fault are told.\n\
     Example: gsnap check examples/squares.program";
 
 const SCRIPT_HELP: &str =

@@ -16,7 +16,9 @@ pub enum Request<'a> {
     /// To run the standard input as a script.
     Input,
     /// To compile the program in the file of this name.
-    Check { file: &'a str },
+    Check {
+        file: &'a str,
+    },
     /// To run the file of this name as a script, with the programs in the other files, in order.
     Script {
         script: &'a str,

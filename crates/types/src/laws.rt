@@ -3,7 +3,14 @@ ghost use Rattle.std.specs.Prelude.{ℕ};
 ghost use Rattle.std.specs.List.{AllByRecursion};
 ghost use Rattle.syntax.specs.SourceTrees.{SourceTree};
 ghost use Rattle.types.specs.EdgeWrites.{ReducesInOneWay, SetsNoEntry};
+ghost use Rattle.types.specs.Numbers.{InOrder, numbers};
 ghost use Rattle.types.specs.Program.{program_of};
+
+/// The law that the statements of `main` are numbered from 1 in the order of the text, without a gap, a block before
+/// its body.
+pub fn statements_are_numbered_in_order()
+    ensures { (source : SourceTree) (length : ℕ) → InOrder 1 (numbers (program_of source length).value.main) }
+{}
 
 /// The law that an edge function reduces a vector in one way only, and writes no entry by `=`.
 pub fn edge_functions_only_reduce()

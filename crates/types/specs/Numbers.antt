@@ -1,0 +1,35 @@
+-- The numbers of the statements of main.
+use Rattle.std.specs.Prelude.{◌≡◌, ℕ, suc, List, [], ◌∷◌, ◌++◌}
+use Rattle.typed_tree.specs.BlockTree.{ActionTree, DeclareInteger, DeclareCondition, SetInteger, SetCondition, ReduceInteger, SetEntry, ReduceEntry, DeclareSet, AssignSet, AddVertex, PrintInteger, PrintCondition, ApplyVertex, ApplyEdges, If, IfElse, While, For, BlockTree, Empty, Then}
+
+abbrev mutual
+  -- those in what a statement does
+  pub inner_numbers : ActionTree → List ℕ
+  inner_numbers (DeclareInteger name e) = []
+  inner_numbers (DeclareCondition name c) = []
+  inner_numbers (SetInteger slot e) = []
+  inner_numbers (SetCondition slot c) = []
+  inner_numbers (ReduceInteger slot reduction e) = []
+  inner_numbers (SetEntry vector index e) = []
+  inner_numbers (ReduceEntry vector index reduction e) = []
+  inner_numbers (DeclareSet name set) = []
+  inner_numbers (AssignSet slot set) = []
+  inner_numbers (AddVertex slot e) = []
+  inner_numbers (PrintInteger e) = []
+  inner_numbers (PrintCondition c) = []
+  inner_numbers (ApplyVertex set function) = []
+  inner_numbers (ApplyEdges ends function) = []
+  inner_numbers (If c body) = numbers body
+  inner_numbers (IfElse c body other) = numbers body ++ numbers other
+  inner_numbers (While c body) = numbers body
+  inner_numbers (For name first end body) = numbers body
+
+  -- in the order of the text, that of a statement before those of its body
+  pub numbers : BlockTree → List ℕ
+  numbers Empty = []
+  numbers (Then number label action others) = number ∷ (inner_numbers action ++ numbers others)
+
+-- the first is n, and each other is one more than the one before it
+abbrev pub InOrder : ℕ → List ℕ → Type 0
+InOrder n [] = Unit {0}
+InOrder n (x ∷ others) = (x ≡ n) × InOrder (suc n) others
