@@ -4,5 +4,10 @@ pub mod EdgeWrites
 pub mod Kept
 pub mod Literals
 pub mod Numbers
+pub mod ResolvedPrograms
+pub mod ResolvedScopes
+pub mod ResolvedStatements
+pub mod ResolvedSteps
+pub mod ResolvedValues
 pub mod Sources
 pub mod StepLaws
