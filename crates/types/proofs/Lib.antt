@@ -3,6 +3,7 @@ pub mod DeclarationLaws
 pub mod EdgeWrites
 pub mod Kept
 pub mod Literals
+pub mod NewNames
 pub mod Numbers
 pub mod ResolvedPrograms
 pub mod ResolvedScopes

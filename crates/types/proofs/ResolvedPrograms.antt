@@ -14,18 +14,18 @@ use Rattle.typed_tree.specs.declared.program.Vector.{Vector}
 use Rattle.typed_tree.specs.BlockTree.{BlockTree, Empty}
 use Rattle.typed_tree.specs.StepTree.{StepsTree, NoStep}
 use Rattle.typed_tree.specs.ProgramTree.{ProgramTree}
-use Rattle.typed_tree.specs.Resolved.{VisibleTree, BlockIsResolved, EdgeFunctionIsResolved, EdgesAreResolved, FilterIsResolved, IsName, IsResolved, IsVertex, StepsAreResolved, VectorIsResolved, VertexFunctionIsResolved, in_edge_function, in_filter, in_main, in_vertex_function, with_condition}
+use Rattle.typed_tree.specs.Resolved.{VisibleTree, BlockIsResolved, EdgeFunctionIsResolved, EdgesAreResolved, FilterIsResolved, IsName, IsResolved, IsVertex, StepsAreResolved, VectorIsResolved, VertexFunctionIsResolved, in_edge_function, in_filter, in_main, in_vertex_function}
 use Rattle.expression_types.specs.declared.scope.Entity.{Entity}
 use Rattle.expression_types.specs.declared.scope.Entity.TheVariants as entity
-use Rattle.expression_types.specs.ScopeTree.{ScopeTree, conditions_of, entered, integers_of, sets_of}
+use Rattle.expression_types.specs.ScopeTree.{conditions_of, entered, integers_of, sets_of}
 use Rattle.types.specs.Block.{statements_typed}
 use Rattle.types.specs.Checker.{CheckerTree, condition_slot, declared_in, restarted, with_scope}
-use Rattle.types.specs.Declaration.{DeclaredTree, KindTree, MainKind, EdgeKind, VertexKind, FilterKind, NoKind, begins, declaration_typed, declarations_typed, declare_condition, declare_constant_as, declare_edges, declare_function, declare_integer, declare_name, declare_set, declare_vector, function_declared, function_of, has_all, inside_of, is_bool, is_vertex, kind, kind_fits, kind_of, literal_or_fault, loads, main_bytes, main_declared, next_name, only_edges, opened, parameter, parameters_declared, result_declared, result_entity, steps_declared, takes_nothing, with_main}
+use Rattle.types.specs.Declaration.{DeclaredTree, KindTree, MainKind, EdgeKind, VertexKind, FilterKind, NoKind, begins, declaration_typed, declarations_typed, declare_constant_as, declare_function, declare_name, function_declared, function_of, has_all, inside_of, is_bool, is_vertex, kind, kind_fits, kind_of, literal_or_fault, loads, main_bytes, main_declared, next_name, only_edges, opened, parameter, parameters_declared, result_declared, result_entity, steps_declared, takes_nothing, with_main}
 use Rattle.types.specs.Initial.{GivenTree, given_by, is_sound}
 use Rattle.types.specs.Literal.{literal_condition, literal_integer}
 use Rattle.types.specs.Program.{counting, main_of, opening, program_of, set_count}
 use Rattle.types.specs.Step.{steps_typed, with_writes}
-use Rattle.types.proofs.ResolvedScopes.{CheckerFits, Grows, ScopeFits, Within, all_then, declared_before, declared_fits, declared_name, get_before, get_last, known_grows, left_fits, no_left, no_right, not_empty}
+use Rattle.types.proofs.ResolvedScopes.{CheckerFits, Grows, Within, all_then, declared_before, declared_fits, declared_name, get_before, get_last, known_grows, left_fits, no_left, no_right, not_empty}
 use Rattle.types.proofs.ResolvedStatements.{behind_block, statements_before, statements_fit}
 use Rattle.types.proofs.ResolvedSteps.{behind_steps, condition_declared, steps_before, steps_fit}
 use Rattle.types.proofs.ResolvedValues.{EntityIsResolved}

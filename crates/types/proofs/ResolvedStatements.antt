@@ -1,8 +1,7 @@
 -- The statements of a main without a fault are resolved.
-use Rattle.std.proofs.Common.{◌≡◌, refl, ap, sym, subst, ◌∙◌, ℕ, suc, ◌+◌, Bool, true, false, ◌||◌, if◌then◌else◌, List, [], ◌∷◌, ◌++◌, length, length-append, arith, Option, Some, None}
+use Rattle.std.proofs.Common.{◌≡◌, refl, ap, sym, subst, ◌∙◌, ℕ, suc, Bool, true, false, ◌||◌, if◌then◌else◌, [], ◌∷◌, ◌++◌, length, length-append, arith, Option, Some, None}
 use Rattle.std.specs.Prelude.{slice_get}
 use Rattle.syntax.specs.Words.{Identifier}
-use Rattle.syntax.specs.ExpressionTrees.{ExpressionTree}
 use Rattle.syntax.specs.declared.declaration.DeclaredType.{DeclaredType}
 use Rattle.syntax.specs.declared.declaration.DeclaredType.TheVariants as declared
 use Rattle.syntax.specs.declared.statement.Reduction.{Reduction}
@@ -20,7 +19,7 @@ use Rattle.expression_types.specs.ValueTree as value
 use Rattle.expression_types.specs.ValueTree.{ValueTree, named_set}
 use Rattle.types.specs.Block.{action_typed, behind, closed, statements_typed}
 use Rattle.types.specs.Checker.{CheckerTree, condition_slot, counted, declared_in, integer_slot, labelled, set_slot}
-use Rattle.types.specs.Initial.{EndTree, GivenTree, condition_given, edge_function, end_of, ends_given, given_by, integer_given, is_edges, is_unclear, is_unknown, is_wrong, members_given, vertex_function}
+use Rattle.types.specs.Initial.{EndTree, GivenTree, condition_given, edge_function, end_of, given_by, integer_given, is_edges, is_unclear, is_unknown, is_wrong, members_given, vertex_function}
 use Rattle.types.specs.Statement.{add_vertex, added, applied, apply, assign, assigned, declare_as, edges_applied, entry_reduced, entry_set, has_ends, print, printed, reduce, reduce_entry, reduced, set_applied, set_entry, vertices_applied}
 use Rattle.types.specs.Wanted.{as_index, condition_in, integer_in}
 use Rattle.types.proofs.ResolvedScopes.{CheckerFits, Grows, Within, declared_before, declared_fits, declared_name, get_before, get_last, labelled_before, labelled_fits, left_fits, no_left, no_right, not_empty}

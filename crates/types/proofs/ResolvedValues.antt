@@ -1,5 +1,5 @@
 -- What expressions and initial values speak of is there.
-use Rattle.std.proofs.Common.{◌≡◌, ℕ, zero, suc, ℤ, pos, negsuc, Bool, true, false, ◌||◌, if◌then◌else◌, nat_eq, List, [], ◌∷◌, Option, Some, None}
+use Rattle.std.proofs.Common.{ℕ, zero, suc, ℤ, pos, negsuc, Bool, true, false, ◌||◌, if◌then◌else◌, List, [], ◌∷◌, Option, Some, None}
 use Rattle.std.specs.Str.{bytes_eq}
 use Rattle.std.specs.List.{AllByRecursion}
 use Rattle.syntax.specs.declared.operators.Addition.{Addition}
@@ -18,11 +18,9 @@ use Rattle.typed_tree.specs.declared.expression.Connective.{Connective}
 use Rattle.typed_tree.specs.declared.expression.Connective.TheVariants as connective
 use Rattle.typed_tree.specs.declared.expression.Operator.{Operator}
 use Rattle.typed_tree.specs.declared.expression.Slot.{Slot}
-use Rattle.typed_tree.specs.declared.statement.EndFilter.{EndFilter}
 use Rattle.typed_tree.specs.declared.statement.Ends.{Ends}
 use Rattle.typed_tree.specs.declared.statement.SetValue.TheVariants as set
 use Rattle.typed_tree.specs.IntegerTree.{IntegerTree}
-use Rattle.typed_tree.specs.ConditionTree.{ConditionTree}
 use Rattle.typed_tree.specs.ProgramTree.{ProgramTree}
 use Rattle.typed_tree.specs.Resolved.{VisibleTree, ConditionIsResolved, EndIsResolved, EndsAreResolved, IntegerIsResolved, IsCondition, IsEdgeFunction, IsFilter, IsInteger, IsName, IsSet, IsVector, IsVertex, IsVertexFunction, SetIsResolved}
 use Rattle.expression_types.specs.declared.fault.Rule.{Rule}
@@ -34,12 +32,12 @@ use Rattle.expression_types.specs.declared.scope.Inside.TheVariants as inside
 use Rattle.expression_types.specs.Expression.{as_size, as_vector, comparison_value, conjunction_value, conjuncts, disjuncts, factors, primary_value, sum_value, summands, term_value, unary_value, used, used_as, value_of, vector_place}
 use Rattle.expression_types.specs.Names.{found}
 use Rattle.expression_types.specs.Noted.{Noted}
-use Rattle.expression_types.specs.Operators.{IntegersTree, Integers, MixedIntegers, FaultyIntegers, ConditionsTree, Conditions, MixedConditions, FaultyConditions, added, condition_index, beside_condition, beside_integer, compared, entry_value, equated, first_condition, first_integer, given, grouped_conditions, grouped_integers, integer_index, multiplied, related_value, signed_value}
+use Rattle.expression_types.specs.Operators.{IntegersTree, Integers, MixedIntegers, FaultyIntegers, ConditionsTree, Conditions, MixedConditions, FaultyConditions, added, condition_index, beside_condition, beside_integer, compared, entry_value, equated, first_condition, first_integer, given, grouped_conditions, grouped_integers, multiplied, related_value, signed_value}
 use Rattle.expression_types.specs.ScopeTree.{ScopeTree}
 use Rattle.expression_types.specs.ValueTree.{ValueTree, Integer, Condition, Vertex, Set, Faulty, condition_reads_entry, named_set, named_value, reads_entry}
 use Rattle.types.specs.Checker.{CheckerTree}
-use Rattle.types.specs.Initial.{EndTree, Absent, Given, Wrong, Unknown, GivenTree, Typed, Members, Loaded, Degrees, Broken, condition_given, edge_function, end_of, ends_given, filter_function, filter_named, filtered, filtered_by, given_by, given_filter, integer_given, is_edges, is_unclear, is_unknown, is_wrong, members_given, modified, modified_by, new_set, loaded, of_edges, vector_of, vertex_function, writes_vector}
-use Rattle.types.specs.Wanted.{as_condition, as_index, as_integer, as_members, condition_in, integer_in, no_index, unread}
+use Rattle.types.specs.Initial.{EndTree, GivenTree, Typed, Members, Loaded, Degrees, Broken, condition_given, edge_function, end_of, ends_given, filter_function, filter_named, filtered, filtered_by, given_by, given_filter, integer_given, is_edges, is_unclear, is_unknown, is_wrong, members_given, modified, modified_by, new_set, loaded, of_edges, vector_of, vertex_function, writes_vector}
+use Rattle.types.specs.Wanted.{as_condition, as_index, as_integer, as_members, condition_in, integer_in, no_index}
 
 -- what a name stands for is there
 abbrev pub EntityIsResolved : ProgramTree → VisibleTree → Entity → Type 0

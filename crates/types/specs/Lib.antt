@@ -6,6 +6,7 @@ pub mod Given
 pub mod Initial
 pub mod Kind
 pub mod Literal
+pub mod NewNames
 pub mod Numbers
 pub mod Plain
 pub mod Program

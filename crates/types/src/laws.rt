@@ -1,10 +1,11 @@
 //! Laws of checked programs. The calls do nothing.
-ghost use Rattle.std.specs.Prelude.{ℕ, Ok};
+ghost use Rattle.std.specs.Prelude.{ℕ, [], Ok};
 ghost use Rattle.std.specs.List.{AllByRecursion};
 ghost use Rattle.syntax.specs.SourceTrees.{SourceTree};
 ghost use Rattle.typed_tree.specs.ProgramTree.{ProgramTree};
 ghost use Rattle.typed_tree.specs.Resolved.{IsResolved};
 ghost use Rattle.types.specs.EdgeWrites.{ReducesInOneWay, SetsNoEntry};
+ghost use Rattle.types.specs.NewNames.{DeclarationsDeclareNew};
 ghost use Rattle.types.specs.Numbers.{InOrder, numbers};
 ghost use Rattle.types.specs.Program.{Checks, program_of};
 
@@ -22,4 +23,9 @@ pub fn edge_functions_only_reduce()
 /// The law that in a checked program each place is that of something that is there.
 pub fn checked_programs_are_resolved()
     ensures { (source : SourceTree) (length : ℕ) (program : ProgramTree) → Checks source length (Ok program) → IsResolved program }
+{}
+
+/// The law that in a source with a program no visible name is declared again.
+pub fn checked_sources_declare_new_names()
+    ensures { (source : SourceTree) (length : ℕ) (program : ProgramTree) → Checks source length (Ok program) → DeclarationsDeclareNew [] source.declarations }
 {}

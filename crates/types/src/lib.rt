@@ -28,5 +28,5 @@ mod text;
 mod wanted;
 
 pub use error::CheckError;
-pub use laws::{checked_programs_are_resolved, edge_functions_only_reduce, statements_are_numbered_in_order};
+pub use laws::{checked_programs_are_resolved, checked_sources_declare_new_names, edge_functions_only_reduce, statements_are_numbered_in_order};
 pub use program::check;
