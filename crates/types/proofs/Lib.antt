@@ -5,6 +5,7 @@ pub mod Kept
 pub mod Literals
 pub mod NewNames
 pub mod Numbers
+pub mod Outcomes
 pub mod ResolvedPrograms
 pub mod ResolvedScopes
 pub mod ResolvedStatements

@@ -1,5 +1,5 @@
 -- A source without a fault declares no visible name again.
-use Rattle.std.proofs.Common.{◌≡◌, ◌≢◌, refl, ap, sym, subst, ◌∙◌, ℕ, suc, pos, length, Bool, true, false, if◌then◌else◌, List, [], ◌∷◌, ◌++◌, map, Option, Some, None}
+use Rattle.std.proofs.Common.{◌≡◌, ◌≢◌, refl, ap, sym, subst, ◌∙◌, ℕ, ◌+◌, ◌≤◌, arith, suc, pos, length, Bool, true, false, if◌then◌else◌, List, [], ◌∷◌, ◌++◌, map, Option, Some, None}
 use Rattle.std.specs.Str.{bytes_eq}
 use Rattle.std.specs.List.{AllByRecursion}
 use Rattle.std.proofs.lemmas.Bool.Decides.{not_from_Decides}
@@ -24,7 +24,7 @@ use Rattle.types.specs.Checker.{CheckerTree, condition_slot, counted, declared_i
 use Rattle.types.specs.Declaration.{DeclaredTree, KindTree, MainKind, EdgeKind, VertexKind, FilterKind, NoKind, begins, declaration_typed, declarations_typed, declare_constant_as, declare_function, declare_name, function_declared, has_all, inside_of, kind, kind_fits, literal_or_fault, loads, main_declared, next_name, only_edges, opened, parameter, parameters_declared, result_declared, result_entity, steps_declared, with_main}
 use Rattle.types.specs.Initial.{GivenTree, condition_given, given_by, integer_given, is_sound, members_given}
 use Rattle.types.specs.Literal.{literal_condition, literal_integer}
-use Rattle.types.specs.NewNames.{ActionDeclaresNew, BlockDeclaresNew, DeclarationDeclaresNew, DeclarationsDeclareNew, FunctionDeclaresNew, IsNew, ParametersAreNew, ResultIsNew, names_behind, names_inside, with_declaration, with_new, with_parameters, with_result}
+use Rattle.types.specs.NewNames.{ActionDeclaresNew, BlockDeclaresNew, DeclarationDeclaresNew, DeclarationsDeclareNew, FunctionDeclaresNew, IsNew, ParametersAreNew, ResultIsNew, edges_declared, edges_in, names_behind, names_inside, with_declaration, with_new, with_parameters, with_result}
 use Rattle.types.specs.Program.{opening, program_of, set_count}
 use Rattle.types.specs.Statement.{declare_as}
 use Rattle.types.specs.Step.{declare_step_as, step_behind, step_typed, steps_behind, steps_typed, with_writes}
@@ -309,3 +309,64 @@ pub names_are_new : (source : SourceTree) (length : ℕ) → (program_of source 
 names_are_new source length none =
     let start = opening (set_count source.declarations) in
     declarations_new start source.declarations (no_left (declarations_typed start source.declarations).faults _ none)
+
+-- how many constants of the edges came before
+abbrev edges_met : Option ℕ → ℕ
+edges_met None = 0
+edges_met (Some name) = 1
+
+only_edges_met : (name : Identifier) (place : ℕ) (edges : Option ℕ) → (only_edges name place edges).faults ≡ []
+    → edges_met (only_edges name place edges).value ≡ edges_met edges + 1
+only_edges_met name place None none = refl
+only_edges_met name place (Some old) none = absurd (not_empty _ _ none)
+
+constant_edges : (d : DeclaredTree) (at : ℕ) (name : Identifier) (initial : InitialTree) (type : DeclaredType) (given : GivenTree)
+    → (declare_constant_as d at name initial type given).faults ≡ []
+    → edges_met (declare_constant_as d at name initial type given).value.edges ≡ edges_met d.edges + edges_in type
+constant_edges d at name initial declared.Int given none = omega arith
+constant_edges d at name initial declared.Bool given none = omega arith
+constant_edges d at name initial declared.Vertex given none = omega arith
+constant_edges d at name initial declared.VertexSet given none = omega arith
+constant_edges d at name initial declared.Vector given none = omega arith
+constant_edges d at name initial declared.EdgeSet given none =
+    let only = only_edges name (next_name d) d.edges in
+    only_edges_met name (next_name d) d.edges (no_left only.faults ((declare_name d name entity.Edges).faults ++ []) (no_right (loads at given).faults _ none))
+
+with_main_edges : (e : DeclaredTree) (fits : Bool) (main : BlockTree) → (with_main e fits main).edges ≡ e.edges
+with_main_edges e true main = refl
+with_main_edges e false main = refl
+
+function_edges : (d : DeclaredTree) (at : ℕ) (name : Identifier) (parameters : List ParameterTree) (result : Option ParameterTree) (body : source.BlockTree) (kind : KindTree)
+    → (declare_function d at name parameters result body kind).value.edges ≡ d.edges
+function_edges d at name parameters result body (MainKind fits) =
+    let b = (statements_typed (opened (restarted d.checker) (MainKind fits) parameters result).value Empty body).value in
+    with_main_edges (declare_name (record d { checker = with_scope b.1 d.checker.scope }) name entity.Main).value fits b.0
+function_edges d at name parameters result body EdgeKind = refl
+function_edges d at name parameters result body VertexKind = refl
+function_edges d at name parameters result body FilterKind = refl
+function_edges d at name parameters result body NoKind = refl
+
+few_edges : (edges : Option ℕ) → edges_met edges + 0 ≤ 1
+few_edges None = omega arith
+few_edges (Some name) = omega arith
+
+one_of_edges : (d : DeclaredTree) (xs : List DeclarationTree) → (declarations_typed d xs).faults ≡ [] → edges_met d.edges + edges_declared xs ≤ 1
+one_of_edges d [] none = few_edges d.edges
+one_of_edges d (source.Constant at x initial ∷ others) none =
+    let given = given_by d.checker at initial in
+    let e = declaration_typed d (source.Constant at x initial) in
+    let rest = declarations_typed e.value others in
+    let first = constant_edges d at x.name initial x.declared given.value (no_right given.faults _ (no_left e.faults rest.faults none)) in
+    let all = one_of_edges e.value others (no_right e.faults rest.faults none) in
+    omega (arith, first, all)
+one_of_edges d (source.Function at name parameters result body ∷ others) none =
+    let e = declaration_typed d (source.Function at name parameters result body) in
+    let rest = declarations_typed e.value others in
+    let same = function_edges d at name parameters result body (kind name.bytes parameters result) in
+    subst (λ edges. edges_met edges + edges_declared others ≤ 1) same (one_of_edges e.value others (no_right e.faults rest.faults none))
+
+pub edges_are_one : (source : SourceTree) (length : ℕ) → (program_of source length).faults ≡ [] → edges_declared source.declarations ≤ 1
+edges_are_one source length none =
+    let start = opening (set_count source.declarations) in
+    let all = one_of_edges start source.declarations (no_left (declarations_typed start source.declarations).faults _ none) in
+    omega (arith, all)

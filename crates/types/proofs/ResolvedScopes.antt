@@ -135,8 +135,8 @@ labelled_before p c (Some label) within = new_label_before p c label (found labe
 new_label_fits : (p : ProgramTree) (v : VisibleTree) (c : CheckerTree) (label : Identifier) (place : Option ℕ) → (new_label c label place).faults ≡ [] → CheckerFits p v c
     → Within p (new_label c label place).value.1 → CheckerFits p v (new_label c label place).value.1 × IsLabel p (new_label c label place).value.0
 new_label_fits p v c label None none fits within =
-    let one = (label.bytes, length c.labels) ∷ [] in
-    let name = without_ends label.bytes ∷ [] in
+    let one : List (List ℕ × ℕ) = (label.bytes, length c.labels) ∷ [] in
+    let name : List (List ℕ) = without_ends label.bytes ∷ [] in
     let same : length c.labels ≡ length c.label_names = fits.1 in
     let both : length (c.labels ++ one) ≡ length (c.label_names ++ name) = omega (arith, same, length-append c.labels one, length-append c.label_names name) in
     let there : length c.labels < length p.labels = omega (arith, same, within.1, length-append c.label_names name) in

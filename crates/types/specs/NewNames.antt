@@ -1,7 +1,9 @@
--- Sources in which no visible name is declared again. A list of names has those that are visible, in the order of the text.
-use Rattle.std.specs.Prelude.{◌≢◌, ℕ, List, [], ◌∷◌, ◌++◌, Option, Some, None}
+-- Sources in which no visible name is declared again, and the edges once at most. A list of names has those that are visible, in the order of the text.
+use Rattle.std.specs.Prelude.{◌≢◌, ℕ, ◌+◌, List, [], ◌∷◌, ◌++◌, Option, Some, None}
 use Rattle.std.specs.List.{AllByRecursion}
 use Rattle.syntax.specs.Words.{Identifier}
+use Rattle.syntax.specs.declared.declaration.DeclaredType.{DeclaredType}
+use Rattle.syntax.specs.declared.declaration.DeclaredType.TheVariants as declared
 use Rattle.syntax.specs.SourceTrees.{ParameterTree, ActionTree, Declare, While, For, If, IfElse, Print, Assign, Reduce, SetEntry, ReduceEntry, AddVertex, Apply, BlockTree, Empty, Then, DeclarationTree, Constant, Function}
 
 -- the visible names with one more
@@ -84,3 +86,18 @@ with_declaration visible (Function at name parameters result body) = with_new vi
 abbrev pub DeclarationsDeclareNew : List (List ℕ) → List DeclarationTree → Type 0
 DeclarationsDeclareNew visible [] = Unit {0}
 DeclarationsDeclareNew visible (x ∷ others) = DeclarationDeclaresNew visible x × DeclarationsDeclareNew (with_declaration visible x) others
+
+-- 1 for the type of the edges
+abbrev pub edges_in : DeclaredType → ℕ
+edges_in declared.Int = 0
+edges_in declared.Bool = 0
+edges_in declared.Vertex = 0
+edges_in declared.VertexSet = 0
+edges_in declared.Vector = 0
+edges_in declared.EdgeSet = 1
+
+-- how many constants are the edges
+abbrev pub edges_declared : List DeclarationTree → ℕ
+edges_declared [] = 0
+edges_declared (Constant at p initial ∷ others) = edges_in p.declared + edges_declared others
+edges_declared (Function at name parameters result body ∷ others) = edges_declared others
