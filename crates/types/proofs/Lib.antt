@@ -2,6 +2,7 @@ pub mod BlockLaws
 pub mod DeclarationLaws
 pub mod EdgeWrites
 pub mod Kept
+pub mod LabelLaws
 pub mod Literals
 pub mod NewNames
 pub mod Numbers

@@ -5,6 +5,7 @@ pub mod EdgeWrites
 pub mod Given
 pub mod Initial
 pub mod Kind
+pub mod Labels
 pub mod Literal
 pub mod NewNames
 pub mod Numbers

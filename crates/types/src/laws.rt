@@ -1,11 +1,14 @@
 //! Laws of checked programs. The calls do nothing.
-ghost use Rattle.std.specs.Prelude.{◌⊎◌, ℕ, ◌≤◌, [], Ok, Err};
-ghost use Rattle.std.specs.List.{AllByRecursion};
+ghost use Rattle.std.specs.Prelude.{◌≡◌, ◌⊎◌, ℕ, ◌≤◌, [], map, Ok, Err};
+ghost use Rattle.std.specs.List.{AllByRecursion, IsDistinct};
+ghost use Rattle.std.specs.Str.{bytes_eq};
 ghost use Rattle.syntax.specs.SourceTrees.{SourceTree};
 ghost use Rattle.typed_tree.specs.ProgramTree.{ProgramTree};
 ghost use Rattle.typed_tree.specs.Resolved.{IsResolved};
 ghost use Rattle.expression_types.specs.declared.fault.Fault as fault;
 ghost use Rattle.types.specs.EdgeWrites.{ReducesInOneWay, SetsNoEntry};
+ghost use Rattle.types.specs.Checker.{without_ends};
+ghost use Rattle.types.specs.Labels.{labels_of};
 ghost use Rattle.types.specs.NewNames.{DeclarationsDeclareNew, edges_declared};
 ghost use Rattle.types.specs.Numbers.{InOrder, numbers};
 ghost use Rattle.types.specs.Program.{Checks, program_of};
@@ -39,4 +42,11 @@ pub fn checked_programs_are_resolved()
 pub fn checked_sources_declare_new_names()
     ensures names { (source : SourceTree) (length : ℕ) (program : ProgramTree) → Checks source length (Ok program) → DeclarationsDeclareNew [] source.declarations }
     ensures edges { (source : SourceTree) (length : ℕ) (program : ProgramTree) → Checks source length (Ok program) → edges_declared source.declarations ≤ 1 }
+{}
+
+/// The law that in a source with a program no label stands twice, and that the program has these labels, without `#`, in
+/// the order of the text.
+pub fn checked_sources_have_distinct_labels()
+    ensures distinct { (source : SourceTree) (length : ℕ) (program : ProgramTree) → Checks source length (Ok program) → IsDistinct bytes_eq (labels_of source.declarations) }
+    ensures kept { (source : SourceTree) (length : ℕ) (program : ProgramTree) → Checks source length (Ok program) → program.labels ≡ map without_ends (labels_of source.declarations) }
 {}

@@ -10,7 +10,7 @@
 //! Laws say what that definition comes to; the calls do nothing. `checked_programs_are_resolved`: in a checked
 //! program each place is that of something that is there (`IsResolved` of `typed_tree`), so no look-up of a run
 //! falls back on a value that stands for nothing. `checked_sources_declare_new_names`: no visible name is declared
-//! again. `statements_are_numbered_in_order`, `edge_functions_only_reduce`, and
+//! again. `checked_sources_have_distinct_labels`, `statements_are_numbered_in_order`, `edge_functions_only_reduce`, and
 //! `sources_have_a_program_or_a_fault`, never both.
 //!
 //! One file has one kind of things: declarations, statements of `main` without blocks, their blocks, statements of
@@ -34,5 +34,5 @@ mod text;
 mod wanted;
 
 pub use error::CheckError;
-pub use laws::{checked_programs_are_resolved, checked_sources_declare_new_names, edge_functions_only_reduce, sources_have_a_program_or_a_fault, statements_are_numbered_in_order};
+pub use laws::{checked_programs_are_resolved, checked_sources_declare_new_names, checked_sources_have_distinct_labels, edge_functions_only_reduce, sources_have_a_program_or_a_fault, statements_are_numbered_in_order};
 pub use program::check;
