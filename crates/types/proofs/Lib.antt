@@ -14,3 +14,4 @@ pub mod ResolvedSteps
 pub mod ResolvedValues
 pub mod Sources
 pub mod StepLaws
+pub mod UsedNames

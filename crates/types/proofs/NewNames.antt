@@ -50,7 +50,7 @@ declared_over_new : (name : Identifier) (e : Entity) (scope : ScopeTree) (o : Op
 declared_over_new name e scope None is none = (not_found name.bytes scope.visible is, map-append (λ x. x.0) scope.visible ((name.bytes, e) ∷ []))
 declared_over_new name e scope (Some old) is none = absurd (not_empty _ _ none)
 
-declared_new : (c : CheckerTree) (name : Identifier) (e : Entity) → (declared_in c name e).faults ≡ []
+pub declared_new : (c : CheckerTree) (name : Identifier) (e : Entity) → (declared_in c name e).faults ≡ []
     → IsNew (names c) name × (names (declared_in c name e).value ≡ with_new (names c) name)
 declared_new c name e none =
     let o = found name.bytes c.scope.visible in
@@ -60,7 +60,7 @@ new_label_same : (c : CheckerTree) (label : Identifier) (place : Option ℕ) →
 new_label_same c label None = refl
 new_label_same c label (Some place) = refl
 
-labelled_same : (c : CheckerTree) (label : Option Identifier) → names (labelled c label).value.1 ≡ names c
+pub labelled_same : (c : CheckerTree) (label : Option Identifier) → names (labelled c label).value.1 ≡ names c
 labelled_same c None = refl
 labelled_same c (Some label) = new_label_same c label (found label.bytes c.labels)
 
@@ -79,7 +79,7 @@ declare_step_new c at name given declared.Vector none = absurd (not_empty _ _ no
 declare_step_new c at name given declared.EdgeSet none = absurd (not_empty _ _ none)
 
 mutual
-  step_new : (c : CheckerTree) (action : source.ActionTree) → (step_typed c action).faults ≡ []
+  pub step_new : (c : CheckerTree) (action : source.ActionTree) → (step_typed c action).faults ≡ []
       → ActionDeclaresNew (names c) action × (names (step_typed c action).value.1 ≡ names_behind (names c) action)
   step_new c (source.Declare at x initial) none =
       let given = given_by c at initial in declare_step_new c at x.name given.value x.declared (no_right given.faults _ none)
@@ -132,7 +132,7 @@ declare_new c at name given declared.Vector none = absurd (not_empty _ _ none)
 declare_new c at name given declared.EdgeSet none = absurd (not_empty _ _ none)
 
 mutual
-  action_new : (c : CheckerTree) (action : source.ActionTree) → (action_typed c action).faults ≡ []
+  pub action_new : (c : CheckerTree) (action : source.ActionTree) → (action_typed c action).faults ≡ []
       → ActionDeclaresNew (names c) action × (names (action_typed c action).value.1 ≡ names_behind (names c) action)
   action_new c (source.Declare at x initial) none =
       let given = given_by c at initial in declare_new c at x.name given.value x.declared (no_right given.faults _ none)
@@ -195,7 +195,7 @@ result_new : (c : CheckerTree) (kind : KindTree) (result : Option ParameterTree)
 result_new c kind None none = (tt, refl)
 result_new c kind (Some result) none = declared_new c result.name (result_entity c kind) none
 
-opened_new : (c : CheckerTree) (kind : KindTree) (parameters : List ParameterTree) (result : Option ParameterTree) → (opened c kind parameters result).faults ≡ []
+pub opened_new : (c : CheckerTree) (kind : KindTree) (parameters : List ParameterTree) (result : Option ParameterTree) → (opened c kind parameters result).faults ≡ []
     → ParametersAreNew (names c) parameters × ResultIsNew (with_parameters (names c) parameters) result
     × (names (opened c kind parameters result).value ≡ names_inside (names c) parameters result)
 opened_new c kind parameters result none =
@@ -290,7 +290,7 @@ each_function_new d at name parameters result body FilterKind none = steps_decla
 each_function_new d at name parameters result body NoKind none = steps_declared_new d at NoKind name parameters result body none
 
 -- declarations
-declaration_new : (d : DeclaredTree) (x : DeclarationTree) → (declaration_typed d x).faults ≡ []
+pub declaration_new : (d : DeclaredTree) (x : DeclarationTree) → (declaration_typed d x).faults ≡ []
     → DeclarationDeclaresNew (names d.checker) x × (names (declaration_typed d x).value.checker ≡ with_declaration (names d.checker) x)
 declaration_new d (source.Constant at x initial) none =
     let given = given_by d.checker at initial in constant_new d at x.name initial x.declared given.value (no_right given.faults _ none)

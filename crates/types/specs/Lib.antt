@@ -13,4 +13,5 @@ pub mod Plain
 pub mod Program
 pub mod Statement
 pub mod Step
+pub mod UsedNames
 pub mod Wanted
