@@ -28,7 +28,8 @@ use Rattle.types.specs.Program.{opening, program_of, set_count}
 use Rattle.types.specs.Statement.{declare_as}
 use Rattle.types.specs.Step.{declare_step_as, step_behind, step_typed, steps_behind, steps_typed, with_writes}
 use Rattle.types.specs.Wanted.{condition_in, integer_in}
-use Rattle.types.proofs.ResolvedScopes.{no_left, no_right, not_empty}
+use Rattle.types.proofs.Faultless.{no_left, no_right, not_empty}
+use Rattle.types.proofs.ResolvedScopes.{all_then}
 
 -- the labels that were met, with `#` at both ends
 abbrev met : CheckerTree → List (List ℕ)
@@ -50,15 +51,11 @@ all_differ name [] none = tt
 all_differ name (x ∷ others) none =
     let first = one_differs name x.0 (bytes_eq name x.0) x.1 (found name others) refl none in (first.0, all_differ name others first.1)
 
-all_end : (P : List ℕ → Type 0) (xs : List (List ℕ)) (x : List ℕ) → AllByRecursion P xs → P x → AllByRecursion P (xs ++ x ∷ [])
-all_end P [] x all last = (last, tt)
-all_end P (y ∷ xs) x all last = (all.0, all_end P xs x all.1 last)
-
 distinct_end : (xs : List (List ℕ)) (x : List ℕ) → IsDistinct bytes_eq xs → AllByRecursion (λ other. bytes_eq other x ≡ false) xs → IsDistinct bytes_eq (xs ++ x ∷ [])
 unfolding IsDistinct
 distinct_end [] x distinct others = (tt, tt)
 distinct_end (y ∷ xs) x distinct others =
-    (all_end (λ other. bytes_eq y other ≡ false) xs x distinct.0 others.0, distinct_end xs x distinct.1 others.1)
+    (all_then (λ other. bytes_eq y other ≡ false) xs x distinct.0 others.0, distinct_end xs x distinct.1 others.1)
 
 -- from one point of a source to a later one, with these labels between them
 record Meets (c d : CheckerTree) (labels : List (List ℕ)) : Type 0 where

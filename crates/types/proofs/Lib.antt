@@ -1,6 +1,7 @@
 pub mod BlockLaws
 pub mod DeclarationLaws
 pub mod EdgeWrites
+pub mod Faultless
 pub mod Kept
 pub mod LabelLaws
 pub mod Literals

@@ -29,7 +29,7 @@ use Rattle.types.specs.Program.{opening, program_of, set_count}
 use Rattle.types.specs.Statement.{declare_as}
 use Rattle.types.specs.Step.{declare_step_as, step_behind, step_typed, steps_behind, steps_typed, with_writes}
 use Rattle.types.specs.Wanted.{condition_in, integer_in}
-use Rattle.types.proofs.ResolvedScopes.{no_left, no_right, not_empty}
+use Rattle.types.proofs.Faultless.{no_left, no_right, not_empty}
 
 -- the names that are visible to the checker
 abbrev names : CheckerTree → List (List ℕ)

@@ -25,7 +25,8 @@ use Rattle.types.specs.Initial.{GivenTree, given_by, is_sound}
 use Rattle.types.specs.Literal.{literal_condition, literal_integer}
 use Rattle.types.specs.Program.{counting, main_of, opening, program_of, set_count}
 use Rattle.types.specs.Step.{steps_typed, with_writes}
-use Rattle.types.proofs.ResolvedScopes.{CheckerFits, Grows, Within, all_then, declared_before, declared_fits, declared_name, get_before, get_last, known_grows, left_fits, no_left, no_right, not_empty}
+use Rattle.types.proofs.Faultless.{no_left, no_right, not_empty}
+use Rattle.types.proofs.ResolvedScopes.{CheckerFits, Grows, Within, all_then, declared_before, declared_fits, declared_name, get_before, get_last, known_grows, left_fits}
 use Rattle.types.proofs.ResolvedStatements.{behind_block, statements_before, statements_fit}
 use Rattle.types.proofs.ResolvedSteps.{behind_steps, condition_declared, steps_before, steps_fit}
 use Rattle.types.proofs.ResolvedValues.{EntityIsResolved}

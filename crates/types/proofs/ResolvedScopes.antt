@@ -13,25 +13,14 @@ use Rattle.expression_types.specs.declared.scope.Entity.TheVariants as entity
 use Rattle.expression_types.specs.Names.{found}
 use Rattle.expression_types.specs.ScopeTree.{ScopeTree, conditions_of, declared_over, integers_of, sets_of, with_entity}
 use Rattle.types.specs.Checker.{CheckerTree, declared_in, labelled, new_label, with_scope, without_ends}
+use Rattle.types.proofs.Faultless.{no_left, not_empty}
 use Rattle.types.proofs.ResolvedValues.{EntityIsResolved, Known}
 
--- where two lists together are empty
-pub no_left : {A : Type 0} (xs ys : List A) → xs ++ ys ≡ [] → xs ≡ []
-no_left [] ys none = refl
-no_left (x ∷ xs) ys none = absurd cc
-
-pub no_right : {A : Type 0} (xs ys : List A) → xs ++ ys ≡ [] → ys ≡ []
-no_right [] ys none = none
-no_right (x ∷ xs) ys none = absurd cc
-
-pub not_empty : {A : Type 0} (x : A) (xs : List A) → x ∷ xs ≡ [] → ⊥
-not_empty x xs none = cc
-
+-- lists with one more, and places in longer ones
 pub all_then : {A : Type 0} (P : A → Type 0) (xs : List A) (x : A) → AllByRecursion P xs → P x → AllByRecursion P (xs ++ x ∷ [])
 all_then P [] x all last = (last, tt)
 all_then P (y ∷ xs) x all last = (all.0, all_then P xs x all.1 last)
 
--- places in a longer list
 pub get_before : {A : Type 0} (xs ys : List A) (k : ℕ) (x : A) → slice_get xs k ≡ Some x → slice_get (xs ++ ys) k ≡ Some x
 get_before [] ys k x is = absurd (none-some x is)
 get_before (y ∷ xs) ys zero x is = is

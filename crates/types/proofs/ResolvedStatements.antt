@@ -22,7 +22,8 @@ use Rattle.types.specs.Checker.{CheckerTree, condition_slot, counted, declared_i
 use Rattle.types.specs.Initial.{EndTree, GivenTree, condition_given, edge_function, end_of, given_by, integer_given, is_edges, is_unclear, is_unknown, is_wrong, members_given, vertex_function}
 use Rattle.types.specs.Statement.{add_vertex, added, applied, apply, assign, assigned, declare_as, edges_applied, entry_reduced, entry_set, has_ends, print, printed, reduce, reduce_entry, reduced, set_applied, set_entry, vertices_applied}
 use Rattle.types.specs.Wanted.{as_index, condition_in, integer_in}
-use Rattle.types.proofs.ResolvedScopes.{CheckerFits, Grows, Within, declared_before, declared_fits, declared_name, get_before, get_last, labelled_before, labelled_fits, left_fits, no_left, no_right, not_empty}
+use Rattle.types.proofs.Faultless.{no_left, no_right, not_empty}
+use Rattle.types.proofs.ResolvedScopes.{CheckerFits, Grows, Within, declared_before, declared_fits, declared_name, get_before, get_last, labelled_before, labelled_fits, left_fits}
 use Rattle.types.proofs.ResolvedSteps.{condition_declared, integer_declared}
 use Rattle.types.proofs.ResolvedValues.{EndTreeIsResolved, EntityIsResolved, GivenIsResolved, MaybeIndex, MaybePlace, MaybeSet, ValueIsResolved, as_integer_resolved, condition_given_resolved, condition_in_resolved, edge_function_resolved, end_resolved, given_by_resolved, index_resolved, integer_given_resolved, integer_in_resolved, members_given_resolved, named_set_resolved, used_resolved, value_resolved, vector_resolved, vertex_function_resolved}
 

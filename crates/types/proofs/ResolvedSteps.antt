@@ -18,7 +18,8 @@ use Rattle.types.specs.Checker.{CheckerTree, condition_slot, declared_in, intege
 use Rattle.types.specs.Initial.{GivenTree, condition_given, given_by, integer_given}
 use Rattle.types.specs.Step.{assign_step, assigned_step, declare_step_as, entry_step, may_reduce, may_set, own_vertex, reduce_entry_step, reduce_step, reduced_step, reduction_step, set_entry_step, step_behind, step_typed, steps_behind, steps_typed, written_at}
 use Rattle.types.specs.Wanted.{condition_in, integer_in}
-use Rattle.types.proofs.ResolvedScopes.{CheckerFits, Grows, Within, declared_before, declared_fits, declared_name, get_before, get_last, labelled_before, labelled_fits, left_fits, no_left, no_right, not_empty}
+use Rattle.types.proofs.Faultless.{no_left, no_right, not_empty}
+use Rattle.types.proofs.ResolvedScopes.{CheckerFits, Grows, Within, declared_before, declared_fits, declared_name, get_before, get_last, labelled_before, labelled_fits, left_fits}
 use Rattle.types.proofs.ResolvedValues.{EntityIsResolved, GivenIsResolved, MaybePlace, ValueIsResolved, as_integer_resolved, condition_given_resolved, condition_in_resolved, given_by_resolved, integer_given_resolved, integer_in_resolved, used_resolved, value_resolved, vector_resolved}
 
 -- one more variable

@@ -29,7 +29,7 @@ use Rattle.types.specs.Step.{assign_step, may_reduce, may_set, own_vertex, reduc
 use Rattle.types.specs.UsedNames.{ActionUsesVisible, BlockUsesVisible, ComparisonUsesVisible, ConjunctionUsesVisible, DeclarationUsesVisible, DeclarationsUseVisible, EndIsVisible, ExpressionUsesVisible, InitialUsesVisible, IsVisible, PrimaryUsesVisible, SumUsesVisible, TermUsesVisible, UnaryUsesVisible}
 use Rattle.types.specs.Wanted.{as_index, condition_in, integer_in}
 use Rattle.types.proofs.NewNames.{action_new, declaration_new, declared_new, labelled_same, opened_new, step_new}
-use Rattle.types.proofs.ResolvedScopes.{no_left, no_right, not_empty}
+use Rattle.types.proofs.Faultless.{no_left, no_right, not_empty}
 
 -- the names that are visible
 abbrev seen : ScopeTree → List (List ℕ)
