@@ -1,5 +1,6 @@
 pub mod Entries
 pub mod Least
+pub mod LeastLaws
 pub mod Levels
 pub mod NamesLaws
 pub mod OperandLaws

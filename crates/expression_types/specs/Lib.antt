@@ -1,5 +1,6 @@
 pub mod Expression
 pub mod Faults
+pub mod Least
 pub mod Names
 pub mod Noted
 pub mod Operands

@@ -3,3 +3,4 @@ pub mod ConditionTree
 pub mod StepTree
 pub mod BlockTree
 pub mod ProgramTree
+pub mod Resolved

@@ -1,5 +1,5 @@
 -- Edge functions reduce a vector in one way, and set no entry.
-use Rattle.std.proofs.Common.{◌≡◌, refl, ap, sym, ◌∙◌, subst, ◌⊎◌, inl, inr, ℕ, nat_eq, Bool, true, false, List, [], ◌∷◌, ◌++◌, length, Option, Some, None}
+use Rattle.std.proofs.Common.{◌≡◌, refl, ap, sym, ◌∙◌, subst, inl, inr, ℕ, nat_eq, Bool, true, false, List, [], ◌∷◌, ◌++◌, length, Option, Some, None}
 use Rattle.std.specs.Prelude.{cond}
 use Rattle.std.proofs.lemmas.Bool.{eq-eqb}
 use Rattle.std.proofs.lemmas.Option.{none-some, same_Some}
@@ -31,7 +31,7 @@ use Rattle.types.specs.Block.{statements_typed}
 use Rattle.types.specs.Declaration.{DeclaredTree, KindTree, MainKind, EdgeKind, VertexKind, FilterKind, NoKind, declaration_typed, declarations_typed, declare_constant_as, declare_function, declare_name, function_of, inside_of, kind, opened, parameter, parameters_declared, result_declared, result_entity, with_main}
 use Rattle.types.specs.EdgeWrites.{ReducesInOneWay, SetsNoEntry, StepReduces, StepSetsNoEntry, StepsReduce}
 use Rattle.types.specs.Initial.{GivenTree, given_by}
-use Rattle.types.specs.Step.{assigned_step, declare_step_as, entry_step, may_reduce, may_set, no_step, one_reduction, own_vertex, reduce_entry_step, reduced_as, reduced_step, reduction_step, same_reduction, set_entry_step, step_behind, step_typed, steps_behind, steps_typed, with_writes, written_at, written_with}
+use Rattle.types.specs.Step.{assigned_step, declare_step_as, entry_step, may_reduce, may_set, one_reduction, own_vertex, reduce_entry_step, reduced_as, reduced_step, reduction_step, same_reduction, step_behind, step_typed, steps_behind, steps_typed, with_writes, written_at, written_with}
 use Rattle.types.specs.Program.{opening, program_of, set_count}
 use Rattle.types.specs.Wanted.{integer_in}
 

@@ -19,11 +19,11 @@ use Rattle.expression_types.specs.ValueTree as value
 use Rattle.expression_types.specs.ValueTree.{ValueTree, named_set}
 use Rattle.types.specs.Block.{action_typed, behind, statements_typed}
 use Rattle.types.specs.Checker.{CheckerTree, counted, declared_in, integer_slot, labelled, new_label, restarted, with_scope}
-use Rattle.types.specs.Declaration.{DeclaredTree, KindTree, MainKind, EdgeKind, VertexKind, FilterKind, NoKind, declaration_typed, declarations_typed, declare_constant_as, declare_function, declare_name, kind, opened, parameter, parameters_declared, result_declared, result_entity, with_main}
-use Rattle.types.specs.Initial.{EndTree, GivenTree, edge_function, end_of, ends_given, given_by, is_edges, is_unclear, is_unknown, is_wrong, vertex_function}
+use Rattle.types.specs.Declaration.{DeclaredTree, KindTree, MainKind, EdgeKind, VertexKind, FilterKind, NoKind, declaration_typed, declarations_typed, declare_constant_as, declare_function, declare_name, kind, opened, parameter, parameters_declared, result_declared, with_main}
+use Rattle.types.specs.Initial.{EndTree, GivenTree, edge_function, end_of, given_by, is_edges, is_unclear, is_unknown, is_wrong, vertex_function}
 use Rattle.types.specs.Numbers.{InOrder, inner_numbers, numbers}
 use Rattle.types.specs.Program.{main_of, opening, program_of, set_count}
-use Rattle.types.specs.Statement.{added, applied, assigned, declare_as, edges_applied, entry_reduced, entry_set, has_ends, no_action, printed, reduced, set_applied, vertices_applied}
+use Rattle.types.specs.Statement.{added, applied, assigned, declare_as, edges_applied, entry_reduced, entry_set, has_ends, printed, reduced, set_applied, vertices_applied}
 use Rattle.types.specs.Wanted.{as_index, integer_in}
 
 -- numbers that go on behind so many

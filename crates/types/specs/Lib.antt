@@ -5,10 +5,13 @@ pub mod EdgeWrites
 pub mod Given
 pub mod Initial
 pub mod Kind
+pub mod Labels
 pub mod Literal
+pub mod NewNames
 pub mod Numbers
 pub mod Plain
 pub mod Program
 pub mod Statement
 pub mod Step
+pub mod UsedNames
 pub mod Wanted

@@ -1,18 +1,60 @@
 //! Laws of checked programs. The calls do nothing.
-ghost use Rattle.std.specs.Prelude.{ℕ};
-ghost use Rattle.std.specs.List.{AllByRecursion};
+ghost use Rattle.std.specs.Prelude.{◌≡◌, ◌⊎◌, ℕ, ◌≤◌, [], map, Ok, Err};
+ghost use Rattle.std.specs.List.{AllByRecursion, IsDistinct};
+ghost use Rattle.std.specs.Str.{bytes_eq};
 ghost use Rattle.syntax.specs.SourceTrees.{SourceTree};
+ghost use Rattle.typed_tree.specs.ProgramTree.{ProgramTree};
+ghost use Rattle.typed_tree.specs.Resolved.{IsResolved};
+ghost use Rattle.expression_types.specs.declared.fault.Fault as fault;
 ghost use Rattle.types.specs.EdgeWrites.{ReducesInOneWay, SetsNoEntry};
+ghost use Rattle.types.specs.Checker.{without_ends};
+ghost use Rattle.types.specs.Labels.{labels_of};
+ghost use Rattle.types.specs.NewNames.{DeclarationsDeclareNew, edges_declared};
 ghost use Rattle.types.specs.Numbers.{InOrder, numbers};
-ghost use Rattle.types.specs.Program.{program_of};
+ghost use Rattle.types.specs.UsedNames.{DeclarationsUseVisible};
+ghost use Rattle.types.specs.Program.{Checks, program_of};
 
-/// The law that the statements of `main` are numbered from 1 in the order of the text, without a gap, a block before
-/// its body.
-pub fn statements_are_numbered_in_order()
-    ensures { (source : SourceTree) (length : ℕ) → InOrder 1 (numbers (program_of source length).value.main) }
+/// The law that a source has a program or a fault that is told, and not both. It has a program exactly where it has no
+/// fault, and of several the least is told, by the law [`expression_types::least_fault_is_told`].
+pub fn sources_have_a_program_or_a_fault()
+    ensures one { (source : SourceTree) (length : ℕ) → ((program : ProgramTree) × Checks source length (Ok program)) ⊎ ((f : fault.Fault) × Checks source length (Err f)) }
+    ensures not_both { (source : SourceTree) (length : ℕ) (program : ProgramTree) (f : fault.Fault) → Checks source length (Ok program) → Checks source length (Err f) → ⊥ }
+{}
+
+/// The law that in a source with a program each used name is visible: constants and functions from the end of their
+/// declaration, a variable from the end of its declaration to the end of its block, the name of a `for` in its body,
+/// parameters and a result in their function.
+pub fn checked_sources_use_visible_names()
+    ensures { (source : SourceTree) (length : ℕ) (program : ProgramTree) → Checks source length (Ok program) → DeclarationsUseVisible [] source.declarations }
+{}
+
+/// The law that in a source with a program no visible name is declared again: no constant, function, parameter, result or
+/// variable has the name of another that is visible where it is declared. One constant at most is the edges.
+pub fn checked_sources_declare_new_names()
+    ensures names { (source : SourceTree) (length : ℕ) (program : ProgramTree) → Checks source length (Ok program) → DeclarationsDeclareNew [] source.declarations }
+    ensures edges { (source : SourceTree) (length : ℕ) (program : ProgramTree) → Checks source length (Ok program) → edges_declared source.declarations ≤ 1 }
+{}
+
+/// The law that in a source with a program no label stands twice, and that the program has these labels, without `#`, in
+/// the order of the text.
+pub fn checked_sources_have_distinct_labels()
+    ensures distinct { (source : SourceTree) (length : ℕ) (program : ProgramTree) → Checks source length (Ok program) → IsDistinct bytes_eq (labels_of source.declarations) }
+    ensures kept { (source : SourceTree) (length : ℕ) (program : ProgramTree) → Checks source length (Ok program) → program.labels ≡ map without_ends (labels_of source.declarations) }
+{}
+
+/// The law that in a checked program each place is that of something that is there: that of a variable or a vertex set
+/// is the place of one that is visible and has its name, and vectors, functions, labels and names are in their tables.
+pub fn checked_programs_are_resolved()
+    ensures { (source : SourceTree) (length : ℕ) (program : ProgramTree) → Checks source length (Ok program) → IsResolved program }
 {}
 
 /// The law that an edge function reduces a vector in one way only, and writes no entry by `=`.
 pub fn edge_functions_only_reduce()
     ensures { (source : SourceTree) (length : ℕ) → AllByRecursion (λ f. ReducesInOneWay f.steps × SetsNoEntry f.steps) (program_of source length).value.edge_functions }
+{}
+
+/// The law that the statements of `main` are numbered from 1 in the order of the text, without a gap, a block before
+/// its body.
+pub fn statements_are_numbered_in_order()
+    ensures { (source : SourceTree) (length : ℕ) → InOrder 1 (numbers (program_of source length).value.main) }
 {}

@@ -1,0 +1,234 @@
+-- A program in which each place is that of something that is there: variables, vertex sets, vectors, functions, labels and names.
+use Rattle.std.specs.Prelude.{◌≡◌, ℕ, ◌<◌, List, [], ◌∷◌, ◌++◌, length, slice_get, Option, Some, None}
+use Rattle.std.specs.List.{AllByRecursion}
+use Rattle.typed_tree.specs.declared.expression.Slot.{Slot}
+use Rattle.typed_tree.specs.declared.expression.Endpoint.{Endpoint}
+use Rattle.typed_tree.specs.declared.expression.Endpoint.TheVariants as endpoint
+use Rattle.typed_tree.specs.declared.program.Vector.{Vector}
+use Rattle.typed_tree.specs.declared.statement.EndFilter.{EndFilter}
+use Rattle.typed_tree.specs.declared.statement.EndFilter.TheVariants as filter
+use Rattle.typed_tree.specs.declared.statement.Ends.{Ends}
+use Rattle.typed_tree.specs.declared.statement.SetValue.{SetValue}
+use Rattle.typed_tree.specs.declared.statement.SetValue.TheVariants as set
+use Rattle.typed_tree.specs.IntegerTree as integer
+use Rattle.typed_tree.specs.IntegerTree.{IntegerTree}
+use Rattle.typed_tree.specs.ConditionTree as condition
+use Rattle.typed_tree.specs.ConditionTree.{ConditionTree}
+use Rattle.typed_tree.specs.StepTree as step
+use Rattle.typed_tree.specs.StepTree.{FunctionTree, StepTree, StepsTree}
+use Rattle.typed_tree.specs.BlockTree as action
+use Rattle.typed_tree.specs.BlockTree.{ActionTree, BlockTree}
+use Rattle.typed_tree.specs.ProgramTree.{ProgramTree}
+
+-- What is visible at a point of a program, at its place: the names of the integers, of the conditions and of the vertex sets, of which
+-- the constant ones come first; and how many vertices the function around the point works on. The bound of a `for` has a place
+-- behind its name, and no name.
+pub record VisibleTree : Type 0 where
+  pub integers : List (Option ℕ)
+  pub conditions : List ℕ
+  pub sets : List ℕ
+  pub vertices : ℕ
+
+-- one more of each kind
+abbrev pub with_integer : ℕ → VisibleTree → VisibleTree
+with_integer name v = record v { integers = v.integers ++ Some name ∷ [] }
+
+abbrev pub with_condition : ℕ → VisibleTree → VisibleTree
+with_condition name v = record v { conditions = v.conditions ++ name ∷ [] }
+
+abbrev pub with_set : ℕ → VisibleTree → VisibleTree
+with_set name v = record v { sets = v.sets ++ name ∷ [] }
+
+abbrev pub in_loop : ℕ → VisibleTree → VisibleTree
+in_loop name v = record v { integers = v.integers ++ Some name ∷ None ∷ [] }
+
+-- at the first statement of `main`, of an edge function, of a vertex function, and of a filter with a result of this name
+abbrev pub in_main : ProgramTree → VisibleTree
+in_main p = record { integers = []; conditions = []; sets = p.sets; vertices = 0 }
+
+abbrev pub in_edge_function : ProgramTree → VisibleTree
+in_edge_function p = record { integers = []; conditions = []; sets = p.sets; vertices = 2 }
+
+abbrev pub in_vertex_function : ProgramTree → VisibleTree
+in_vertex_function p = record { integers = []; conditions = []; sets = p.sets; vertices = 1 }
+
+abbrev pub in_filter : ProgramTree → (result : ℕ) → VisibleTree
+in_filter p result = record { integers = []; conditions = result ∷ []; sets = p.sets; vertices = 1 }
+
+-- the name, vector or function at a place is in its table
+abbrev pub IsName : ProgramTree → ℕ → Type 0
+IsName p name = name < length p.names
+
+abbrev pub IsVector : ProgramTree → ℕ → Type 0
+IsVector p vector = vector < length p.vectors
+
+abbrev pub IsEdgeFunction : ProgramTree → ℕ → Type 0
+IsEdgeFunction p function = function < length p.edge_functions
+
+abbrev pub IsVertexFunction : ProgramTree → ℕ → Type 0
+IsVertexFunction p function = function < length p.vertex_functions
+
+abbrev pub IsFilter : ProgramTree → ℕ → Type 0
+IsFilter p function = function < length p.filters
+
+-- what is visible at the place has the name
+abbrev pub IsInteger : ProgramTree → VisibleTree → Slot → Type 0
+IsInteger p v slot = (slice_get v.integers slot.place ≡ Some (Some slot.name)) × IsName p slot.name
+
+abbrev pub IsCondition : ProgramTree → VisibleTree → Slot → Type 0
+IsCondition p v slot = (slice_get v.conditions slot.place ≡ Some slot.name) × IsName p slot.name
+
+abbrev pub IsSet : ProgramTree → VisibleTree → Slot → Type 0
+IsSet p v slot = (slice_get v.sets slot.place ≡ Some slot.name) × IsName p slot.name
+
+-- the source stands before the destination
+abbrev pub IsVertex : VisibleTree → Endpoint → Type 0
+IsVertex v endpoint.Source = 0 < v.vertices
+IsVertex v endpoint.Destination = 1 < v.vertices
+
+-- the label is in its table, where there is one
+abbrev pub IsLabel : ProgramTree → Option ℕ → Type 0
+IsLabel p None = Unit {0}
+IsLabel p (Some label) = label < length p.labels
+
+-- all that an expression speaks of is there
+abbrev pub IntegerIsResolved : ProgramTree → VisibleTree → IntegerTree → Type 0
+IntegerIsResolved p v (integer.Number n) = Unit {0}
+IntegerIsResolved p v (integer.Constant name n) = IsName p name
+IntegerIsResolved p v (integer.Variable slot) = IsInteger p v slot
+IntegerIsResolved p v (integer.Parameter at) = IsVertex v at
+IntegerIsResolved p v (integer.EntryAt vector at) = IsVector p vector × IsVertex v at
+IntegerIsResolved p v (integer.Entry vector index) = IsVector p vector × IntegerIsResolved p v index
+IntegerIsResolved p v (integer.SetSize slot) = IsSet p v slot
+IntegerIsResolved p v (integer.Negative e) = IntegerIsResolved p v e
+IntegerIsResolved p v (integer.Arithmetic operator left right) = IntegerIsResolved p v left × IntegerIsResolved p v right
+
+abbrev pub ConditionIsResolved : ProgramTree → VisibleTree → ConditionTree → Type 0
+ConditionIsResolved p v (condition.Literal b) = Unit {0}
+ConditionIsResolved p v (condition.Constant name b) = IsName p name
+ConditionIsResolved p v (condition.Variable slot) = IsCondition p v slot
+ConditionIsResolved p v (condition.Not c) = ConditionIsResolved p v c
+ConditionIsResolved p v (condition.Compare comparison left right) = IntegerIsResolved p v left × IntegerIsResolved p v right
+ConditionIsResolved p v (condition.Connect connective left right) = ConditionIsResolved p v left × ConditionIsResolved p v right
+
+-- an end of an edge apply
+abbrev pub EndIsResolved : ProgramTree → VisibleTree → Option EndFilter → Type 0
+EndIsResolved p v None = Unit {0}
+EndIsResolved p v (Some (filter.Members slot)) = IsSet p v slot
+EndIsResolved p v (Some (filter.Function place)) = IsFilter p place
+
+abbrev pub EndsAreResolved : ProgramTree → VisibleTree → Ends → Type 0
+EndsAreResolved p v ends = EndIsResolved p v ends.from × EndIsResolved p v ends.to
+
+-- the members that a vertex set gets
+abbrev pub SetIsResolved : ProgramTree → VisibleTree → SetValue → Type 0
+SetIsResolved p v set.Empty = Unit {0}
+SetIsResolved p v set.All = Unit {0}
+SetIsResolved p v (set.Copy slot) = IsSet p v slot
+SetIsResolved p v (set.Filter slot place) = IsSet p v slot × IsFilter p place
+SetIsResolved p v (set.Modified ends function vector) = EndsAreResolved p v ends × IsEdgeFunction p function × IsVector p vector
+
+-- behind a statement of a function
+abbrev pub behind_step : StepTree → VisibleTree → VisibleTree
+behind_step (step.DeclareInteger name e) v = with_integer name v
+behind_step (step.DeclareCondition name c) v = with_condition name v
+behind_step (step.SetInteger slot e) v = v
+behind_step (step.SetCondition slot c) v = v
+behind_step (step.ReduceInteger slot by e) v = v
+behind_step (step.SetEntry vector e) v = v
+behind_step (step.ReduceEntry vector by e) v = v
+behind_step (step.If c body) v = v
+behind_step (step.IfElse c body other) v = v
+
+abbrev mutual
+  pub StepIsResolved : ProgramTree → VisibleTree → StepTree → Type 0
+  StepIsResolved p v (step.DeclareInteger name e) = IsName p name × IntegerIsResolved p v e
+  StepIsResolved p v (step.DeclareCondition name c) = IsName p name × ConditionIsResolved p v c
+  StepIsResolved p v (step.SetInteger slot e) = IsInteger p v slot × IntegerIsResolved p v e
+  StepIsResolved p v (step.SetCondition slot c) = IsCondition p v slot × ConditionIsResolved p v c
+  StepIsResolved p v (step.ReduceInteger slot by e) = IsInteger p v slot × IntegerIsResolved p v e
+  StepIsResolved p v (step.SetEntry vector e) = IsVector p vector × IntegerIsResolved p v e
+  StepIsResolved p v (step.ReduceEntry vector by e) = IsVector p vector × IntegerIsResolved p v e
+  StepIsResolved p v (step.If c body) = ConditionIsResolved p v c × StepsAreResolved p v body
+  StepIsResolved p v (step.IfElse c body other) = ConditionIsResolved p v c × StepsAreResolved p v body × StepsAreResolved p v other
+
+  -- each statement, at what is visible behind those before it
+  pub StepsAreResolved : ProgramTree → VisibleTree → StepsTree → Type 0
+  StepsAreResolved p v step.NoStep = Unit {0}
+  StepsAreResolved p v (step.StepThen first others) = StepIsResolved p v first × StepsAreResolved p (behind_step first v) others
+
+-- behind a statement of main
+abbrev pub behind_action : ActionTree → VisibleTree → VisibleTree
+behind_action (action.DeclareInteger name e) v = with_integer name v
+behind_action (action.DeclareCondition name c) v = with_condition name v
+behind_action (action.SetInteger slot e) v = v
+behind_action (action.SetCondition slot c) v = v
+behind_action (action.ReduceInteger slot by e) v = v
+behind_action (action.SetEntry vector index e) v = v
+behind_action (action.ReduceEntry vector index by e) v = v
+behind_action (action.DeclareSet name value) v = with_set name v
+behind_action (action.AssignSet slot value) v = v
+behind_action (action.AddVertex slot e) v = v
+behind_action (action.PrintInteger e) v = v
+behind_action (action.PrintCondition c) v = v
+behind_action (action.ApplyVertex slot function) v = v
+behind_action (action.ApplyEdges ends function) v = v
+behind_action (action.If c body) v = v
+behind_action (action.IfElse c body other) v = v
+behind_action (action.While c body) v = v
+behind_action (action.For name first end body) v = v
+
+abbrev mutual
+  pub ActionIsResolved : ProgramTree → VisibleTree → ActionTree → Type 0
+  ActionIsResolved p v (action.DeclareInteger name e) = IsName p name × IntegerIsResolved p v e
+  ActionIsResolved p v (action.DeclareCondition name c) = IsName p name × ConditionIsResolved p v c
+  ActionIsResolved p v (action.SetInteger slot e) = IsInteger p v slot × IntegerIsResolved p v e
+  ActionIsResolved p v (action.SetCondition slot c) = IsCondition p v slot × ConditionIsResolved p v c
+  ActionIsResolved p v (action.ReduceInteger slot by e) = IsInteger p v slot × IntegerIsResolved p v e
+  ActionIsResolved p v (action.SetEntry vector index e) = IsVector p vector × IntegerIsResolved p v index × IntegerIsResolved p v e
+  ActionIsResolved p v (action.ReduceEntry vector index by e) = IsVector p vector × IntegerIsResolved p v index × IntegerIsResolved p v e
+  ActionIsResolved p v (action.DeclareSet name value) = IsName p name × SetIsResolved p v value
+  ActionIsResolved p v (action.AssignSet slot value) = IsSet p v slot × SetIsResolved p v value
+  ActionIsResolved p v (action.AddVertex slot e) = IsSet p v slot × IntegerIsResolved p v e
+  ActionIsResolved p v (action.PrintInteger e) = IntegerIsResolved p v e
+  ActionIsResolved p v (action.PrintCondition c) = ConditionIsResolved p v c
+  ActionIsResolved p v (action.ApplyVertex slot function) = IsSet p v slot × IsVertexFunction p function
+  ActionIsResolved p v (action.ApplyEdges ends function) = EndsAreResolved p v ends × IsEdgeFunction p function
+  ActionIsResolved p v (action.If c body) = ConditionIsResolved p v c × BlockIsResolved p v body
+  ActionIsResolved p v (action.IfElse c body other) = ConditionIsResolved p v c × BlockIsResolved p v body × BlockIsResolved p v other
+  ActionIsResolved p v (action.While c body) = ConditionIsResolved p v c × BlockIsResolved p v body
+  ActionIsResolved p v (action.For name first end body) =
+      IsName p name × IntegerIsResolved p v first × IntegerIsResolved p v end × BlockIsResolved p (in_loop name v) body
+
+  -- each statement, at what is visible behind those before it
+  pub BlockIsResolved : ProgramTree → VisibleTree → BlockTree → Type 0
+  BlockIsResolved p v action.Empty = Unit {0}
+  BlockIsResolved p v (action.Then number label first others) =
+      IsLabel p label × ActionIsResolved p v first × BlockIsResolved p (behind_action first v) others
+
+-- functions with their names
+abbrev pub EdgeFunctionIsResolved : ProgramTree → FunctionTree → Type 0
+EdgeFunctionIsResolved p f = IsName p f.name × StepsAreResolved p (in_edge_function p) f.steps
+
+abbrev pub VertexFunctionIsResolved : ProgramTree → FunctionTree → Type 0
+VertexFunctionIsResolved p f = IsName p f.name × StepsAreResolved p (in_vertex_function p) f.steps
+
+abbrev pub FilterIsResolved : ProgramTree → FunctionTree → Type 0
+FilterIsResolved p f = IsName p f.name × ((result : ℕ) × IsName p result × StepsAreResolved p (in_filter p result) f.steps)
+
+abbrev pub VectorIsResolved : ProgramTree → Vector → Type 0
+VectorIsResolved p vector = IsName p vector.name
+
+-- the constant of the edges, where there is one
+abbrev pub EdgesAreResolved : ProgramTree → Option ℕ → Type 0
+EdgesAreResolved p None = Unit {0}
+EdgesAreResolved p (Some name) = IsName p name
+
+pub record IsResolved (p : ProgramTree) : Type 0 where
+  pub edges : EdgesAreResolved p p.edges
+  pub vectors : AllByRecursion (VectorIsResolved p) p.vectors
+  pub sets : AllByRecursion (IsName p) p.sets
+  pub edge_functions : AllByRecursion (EdgeFunctionIsResolved p) p.edge_functions
+  pub vertex_functions : AllByRecursion (VertexFunctionIsResolved p) p.vertex_functions
+  pub filters : AllByRecursion (FilterIsResolved p) p.filters
+  pub main : BlockIsResolved p (in_main p) p.main
