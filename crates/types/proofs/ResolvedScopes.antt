@@ -3,7 +3,7 @@ use Rattle.std.proofs.Common.{◌≡◌, refl, ap, sym, ◌∙◌, subst, ℕ, z
 use Rattle.std.specs.Prelude.{slice_get}
 use Rattle.std.specs.List.{AllByRecursion}
 use Rattle.std.proofs.lemmas.Option.{none-some}
-use Rattle.syntax.specs.Words.{Identifier}
+use Rattle.syntax.specs.Terminals.{Identifier}
 use Rattle.typed_tree.specs.declared.expression.Endpoint.{Endpoint}
 use Rattle.typed_tree.specs.declared.expression.Endpoint.TheVariants as endpoint
 use Rattle.typed_tree.specs.ProgramTree.{ProgramTree}

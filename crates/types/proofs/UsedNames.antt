@@ -3,7 +3,7 @@ use Rattle.std.proofs.Common.{◌≡◌, refl, sym, subst, ℕ, suc, ◌<◌, ar
 use Rattle.std.specs.Str.{bytes_eq}
 use Rattle.std.specs.List.{Contains}
 use Rattle.std.proofs.lemmas.Slice.Eq.{bytes_eq-Decides}
-use Rattle.syntax.specs.Words.{Identifier}
+use Rattle.syntax.specs.Terminals.{Identifier}
 use Rattle.syntax.specs.declared.operators.Addition.{Addition}
 use Rattle.syntax.specs.declared.operators.Multiplication.{Multiplication}
 use Rattle.syntax.specs.ExpressionTrees as tree
