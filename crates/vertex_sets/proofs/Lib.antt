@@ -1,0 +1,4 @@
+pub mod Ascending
+pub mod FlagMembers
+pub mod BitMembers
+pub mod WordMembers
