@@ -1,8 +1,8 @@
 -- The vertices of flags that are true.
 use Rattle.std.proofs.Common.{◌≡◌, ◌≢◌, ℕ, zero, suc, ◌+◌, ◌<◌, ◌≤◌, inl, inr, ◌↔◌, Bool, true, false, cond, List, [], ◌∷◌, ◌++◌, length, get_or, set, replicate, refl, sym, ◌∙◌, ap, subst, arith, Contains, get_or-set_same, get_or-set_other}
 use Rattle.std.specs.List.{range_with_len}
-use Rattle.std.proofs.lemmas.Bool.{cases_eq}
-use Rattle.std.proofs.lemmas.List.{get_or_push, get_or_append_left}
+use Rattle.std.proofs.lemmas.Bool.{cases_eq, cases_lt}
+use Rattle.std.proofs.lemmas.List.{get_or_push, get_or_append_left, get_or_past}
 use Rattle.vertex_sets.specs.VertexSet.{IsAnswer}
 use Rattle.vertex_sets.specs.Words.{flag_members}
 use Rattle.vertex_sets.proofs.Ascending.{Rises, contains_nothing, rises_choice, choice_cases, choice_later, choice_first, HasOneMore}
@@ -109,4 +109,11 @@ next_flag gives n flags b long now before v lt =
       | inr apart ↦
           let is : get_or (flags ++ b ∷ []) v false ≡ get_or flags v false = get_or_append_left flags (b ∷ []) false v (omega arith) in
           subst (λ t. gives v t) (sym is) (before v (omega arith))
+    ]
+
+pub flag_bound : (flags : List Bool) (v : ℕ) → Contains (flag_members 0 flags) v → v < length flags
+flag_bound flags v is =
+    elim (cases_lt v (length flags)) [
+      | inl lt ↦ lt
+      | inr le ↦ absurd (cc (get_or_past flags v false le, (flag_members_has flags v).0 is))
     ]

@@ -208,14 +208,14 @@ next_bit gives from bit word next false lt e now before others =
     )
 
 -- what a test answers for the vertices of the next word, after those of the words below it
-module _ (gives : ℕ → Bool → Type 0) (n : ℕ) (words : List ℕ) (word place : ℕ) (long : length words ≡ place) (start : place * 64 < n) where
+module _ (gives : ℕ → Bool → Type 0) (n : ℕ) (words : List ℕ) (word place count : ℕ) (long : length words ≡ place) (start : place * 64 < n) (many : count ≡ min (n - place * 64) 64) where
   earlier : (v : ℕ) → v / 64 < place → bit_at (get_or (words ++ word ∷ []) (v / 64) 0) (v % 64) ≡ bit_at (get_or words (v / 64) 0) (v % 64)
   earlier v lt = ap (λ w. bit_at w (v % 64)) (get_or_append_left words (word ∷ []) 0 (v / 64) (omega arith))
 
   latest : (v : ℕ) → v / 64 ≡ place → bit_at (get_or (words ++ word ∷ []) (v / 64) 0) (v % 64) ≡ bit_at word (v % 64)
   latest v here = ap (λ w. bit_at w (v % 64)) (get_or_push words word 0 (v / 64) (long ∙ sym here))
 
-  pub next_word : ((i : ℕ) → i < min (n - place * 64) 64 → gives (place * 64 + i) (bit_at word i == 1))
+  pub next_word : ((i : ℕ) → i < count → gives (place * 64 + i) (bit_at word i == 1))
       → ((v : ℕ) → v < 64 * place → v < n → gives v (bit_at (get_or words (v / 64) 0) (v % 64) == 1))
       → (v : ℕ) → v < 64 * (place + 1) → v < n → gives v (bit_at (get_or (words ++ word ∷ []) (v / 64) 0) (v % 64) == 1)
   next_word now before v lt within =
@@ -227,14 +227,14 @@ module _ (gives : ℕ → Bool → Type 0) (n : ℕ) (words : List ℕ) (word pl
             subst (λ b. gives v (b == 1)) (sym (latest v here)) (subst (λ u. gives u (bit_at word (v % 64) == 1)) is (now (v % 64) (omega arith)))
       ]
 
-  pub next_below : ((i : ℕ) → min (n - place * 64) 64 ≤ i → bit_at word i ≡ 0) → ((v : ℕ) → HasBit words v → v < n) → (v : ℕ) → HasBit (words ++ word ∷ []) v → v < n
+  pub next_below : ((i : ℕ) → count ≤ i → bit_at word i ≡ 0) → ((v : ℕ) → HasBit words v → v < n) → (v : ℕ) → HasBit (words ++ word ∷ []) v → v < n
   next_below others before v is =
       elim (cases_lt (v / 64) place) [
         | inl sooner ↦ before v (sym (earlier v sooner) ∙ is)
         | inr later ↦
             elim (cases_eq (v / 64) place) [
               | inl here ↦
-                  elim (cases_lt (v % 64) (min (n - place * 64) 64)) [
+                  elim (cases_lt (v % 64) count) [
                     | inl lt ↦ omega arith
                     | inr le ↦ absurd (omega (arith, sym is ∙ latest v here ∙ others (v % 64) le))
                   ]

@@ -2,6 +2,7 @@
 
 ghost use Rattle.std.specs.Prelude.{◌≡◌, ◌↔◌, ℕ, ◌<◌, ◌≤◌, [], length, Contains, IfOk, IfSome, IsOk, IsSome, IsTrue, OnOk, OnErr};
 ghost use Rattle.vertex_sets.specs.VertexSet.{IsVertexSet, IsAscendingBelow, IsAnswer, Adds, AreWordsOf, AreFlagsOf, subset, all_vertices};
+ghost use Rattle.vertex_sets.specs.Stored.{members_of, form_of, IsStored};
 
 use crate::flags::FlagSet;
 use crate::form::Form;
@@ -66,12 +67,28 @@ impl VertexSet {
     pub fn full(alloc: Global, vertices: u32, form: Form) -> Result<VertexSet, AllocError>
         ensures { IfOk result (λ s. s ≡ subset vertices (all_vertices vertices) form) }
     {
-        let members = match form {
-            Form::List => Members::Listed((0..vertices).collect(alloc)?),
-            Form::Flags => Members::Flagged(FlagSet::full(alloc, vertices)?),
-            Form::Bits => Members::Worded(WordSet::full(alloc, vertices)?),
-        };
-        Ok(VertexSet { vertices, members })
+        match form {
+            Form::List => {
+                let list = (0..vertices).collect(alloc)?;
+                Ok(VertexSet::of(vertices, Members::Listed(list)))
+            }
+            Form::Flags => {
+                let set = FlagSet::full(alloc, vertices)?;
+                Ok(VertexSet::of(vertices, Members::Flagged(set)))
+            }
+            Form::Bits => {
+                let set = WordSet::full(alloc, vertices)?;
+                Ok(VertexSet::of(vertices, Members::Worded(set)))
+            }
+        }
+    }
+
+    /// The set that is kept so.
+    fn of(vertices: u32, members: Members) -> VertexSet
+        requires { IsStored vertices members }
+        ensures { result ≡ subset vertices (members_of members) (form_of members) }
+    {
+        VertexSet { vertices, members }
     }
 
     /// The set of members that ascend strictly, each below the number of vertices. Takes `O(k)` for k
@@ -122,12 +139,20 @@ impl VertexSet {
             → IsAnswer (F.post test) s.members v) }
         ensures valid { IfOk result IsVertexSet }
     {
-        let members = match form {
-            Form::List => Members::Listed(list::from_test(alloc, vertices, &test)?),
-            Form::Flags => Members::Flagged(FlagSet::from_test(alloc, vertices, &test)?),
-            Form::Bits => Members::Worded(WordSet::from_test(alloc, vertices, &test)?),
-        };
-        Ok(VertexSet { vertices, members })
+        match form {
+            Form::List => {
+                let list = list::from_test(alloc, vertices, &test)?;
+                Ok(VertexSet::of(vertices, Members::Listed(list)))
+            }
+            Form::Flags => {
+                let set = FlagSet::from_test(alloc, vertices, &test)?;
+                Ok(VertexSet::of(vertices, Members::Flagged(set)))
+            }
+            Form::Bits => {
+                let set = WordSet::from_test(alloc, vertices, &test)?;
+                Ok(VertexSet::of(vertices, Members::Worded(set)))
+            }
+        }
     }
 
     /// A set of the same members in a form. From k members it takes `O(k)`, what going over the
@@ -158,11 +183,16 @@ impl VertexSet {
         ensures valid { IsVertexSet self.new }
     {
         match &mut self.members {
-            Members::Listed(members) => list::insert(members, vertex, self.vertices)?,
-            Members::Flagged(set) => set.insert(vertex),
-            Members::Worded(set) => set.insert(vertex),
+            Members::Listed(members) => list::insert(members, vertex, self.vertices),
+            Members::Flagged(set) => {
+                set.insert(vertex);
+                Ok(())
+            }
+            Members::Worded(set) => {
+                set.insert(vertex);
+                Ok(())
+            }
         }
-        Ok(())
     }
 
     /// Whether a vertex is a member; a number that is no vertex is none. As flags and bits it reads one
@@ -227,6 +257,8 @@ impl VertexSet {
         ensures members { result ≡ self.now.members }
         ensures valid { IsVertexSet self.now }
     {
+        // A proof knows the range of a number that is read.
+        let _vertices = self.vertices;
         match &self.members {
             Members::Listed(members) => Iter::of_list(members),
             Members::Flagged(set) => Iter::of_flags(&set.flags),

@@ -1,8 +1,16 @@
-use Rattle.std.proofs.Common.{◌≡◌, ◌+◌, ◌++◌, ◌∷◌, [], length, length-append, arith, cond, ap, sym, ◌∙◌, rules}
+use Rattle.std.proofs.Common.{◌≡◌, ℕ, Bool, true, false, ◌+◌, ◌++◌, ◌∷◌, [], length, length-append, arith, cond, ap, sym, ◌∙◌, rules}
 use Rattle.vertex_sets.specs.Words.{flag_members}
 use Rattle.vertex_sets.proofs.FlagMembers.{flag_answer, next_flag, flags_push, length_flags}
 use Rattle.vertex_sets.proofs.flags.FlagSet.from_test.Goals as goal
 use Rattle.vertex_sets.proofs.flags.FlagSet.from_test.Goals.{then-passes, else-passes}
+
+counted_on : (b : Bool) (n m : ℕ) → b ≡ true → m ≡ n + 1 → m ≡ n + cond b 1 0
+counted_on true n m on is = is
+counted_on false n m on is = absurd (cc on)
+
+counted_off : (b : Bool) (n m : ℕ) → b ≡ false → m ≡ n → m ≡ n + cond b 1 0
+counted_off true n m off is = absurd (cc off)
+counted_off false n m off is = omega arith
 
 pub overflow_add-count : goal.overflow_add-count
 overflow_add-count g c = omega (arith, c.loop-vertex.invariant.count, c.loop-vertex.invariant.flags, length_flags 0 c.loop-vertex.flags.items)
@@ -14,8 +22,8 @@ loop-vertex-preserved g c =
     let flags : c.push.new.self.items ≡ l.flags.items ++ passes ∷ [] = search rules in
     let count : c.if-passes.count ≡ l.count + cond passes 1 0 =
     elim c.if-passes.branch [
-      | then-passes w ↦ let one : cond passes 1 0 ≡ 1 = ap (λ b. cond b 1 0) w.if-passes.true in omega (arith, w.count-is)
-      | else-passes w ↦ let none : cond passes 1 0 ≡ 0 = ap (λ b. cond b 1 0) w.if-passes.false in omega (arith, w.count-is)
+      | then-passes w ↦ counted_on passes l.count c.if-passes.count w.if-passes.true w.count-is
+      | else-passes w ↦ counted_off passes l.count c.if-passes.count w.if-passes.false w.count-is
     ] in
     record {
       flags = omega (arith, l.invariant.flags, ap length flags, length-append l.flags.items (passes ∷ []));

@@ -19,6 +19,7 @@ loop-place-preserved g c =
     let pushed : c.push.new.self.items ≡ l.words.items ++ word ∷ [] = search rules in
     let start : l.place * 64 < c.args.vertices = omega arith in
     let fits : word < 2 ^ 64 = search rules in
+    let many : c.min.result ≡ min (c.args.vertices - l.place * 64) 64 = search rules in
     record {
       words = ap length pushed ∙ omega (arith, l.invariant.words, length-append l.words.items (word ∷ []));
       count = omega (
@@ -29,8 +30,8 @@ loop-place-preserved g c =
         length-append (word_members 0 l.words.items) (bit_members 64 (0 + 64 * length l.words.items) word),
         length_bits 64 (0 + 64 * length l.words.items) word fits
       );
-      below = rw pushed (next_below (λ v b. g.F.Fn.post c.args.test.now (v, tt) b) c.args.vertices l.words.items word l.place l.invariant.words start c.word_from_test-word.ensures.others l.invariant.below);
-      tested = rw pushed (next_word (λ v b. g.F.Fn.post c.args.test.now (v, tt) b) c.args.vertices l.words.items word l.place l.invariant.words start c.word_from_test-word.ensures.tested l.invariant.tested);
+      below = rw pushed (next_below (λ v b. g.F.Fn.post c.args.test.now (v, tt) b) c.args.vertices l.words.items word l.place c.min.result l.invariant.words start many c.word_from_test-word.ensures.others l.invariant.below);
+      tested = rw pushed (next_word (λ v b. g.F.Fn.post c.args.test.now (v, tt) b) c.args.vertices l.words.items word l.place c.min.result l.invariant.words start many c.word_from_test-word.ensures.tested l.invariant.tested);
     }
 
 pub returns-clause-below : goal.returns-clause-below
