@@ -141,6 +141,12 @@ range_bound a (suc n) v is =
       | inr later ↦ omega (arith, range_bound (a + 1) n v later)
     ]
 
+pub range_end : (a n m : ℕ) → m ≡ a + n → range_with_len a (n + 1) ≡ range_with_len a n ++ m ∷ []
+range_end a zero m at = let here : a ≡ m = omega arith in ap (λ k. k ∷ []) here
+range_end a (suc n) m at =
+    let more : suc n + 1 ≡ suc (n + 1) = omega arith in
+    ap (range_with_len a) more ∙ ap (λ xs. a ∷ xs) (range_end (a + 1) n m (omega arith))
+
 -- ---- a list that begins with a number or lacks it, by a test
 
 pub rises_choice : (b : Bool) (a : ℕ) (xs : List ℕ) → Rises (a + 1) xs → Rises a (cond b (a ∷ xs) xs)

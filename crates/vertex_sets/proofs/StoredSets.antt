@@ -1,5 +1,5 @@
 -- What a set that is kept in one of the three forms comes to.
-use Rattle.std.proofs.Common.{◌≡◌, ℕ, ◌+◌, ◌<◌, ◌≤◌, inl, inr, List, length, get_or, refl, sym, ◌∙◌, ap, subst, arith, All, Contains}
+use Rattle.std.proofs.Common.{◌≡◌, ℕ, ◌+◌, ◌<◌, ◌≤◌, inl, inr, Result, Ok, Err, OnOk, List, length, get_or, refl, sym, ◌∙◌, ap, subst, arith, All, Contains}
 use Rattle.std.specs.List.{range_with_len}
 use Rattle.std.proofs.lemmas.List.Elements.{All-contains, All-from_get_or, Contains-get_or}
 use Rattle.vertex_sets.specs.declared.flags.FlagSet.{FlagSet}
@@ -16,7 +16,7 @@ use Rattle.vertex_sets.proofs.WordMembers.{rises_words, word_members_has}
 pub all_ascending : (n : ℕ) → IsAscendingBelow n (range_with_len 0 n)
 all_ascending n = ascending_below n (range_with_len 0 n) (rises_range 0 n) (λ v is. omega (arith, range_bound 0 n v is))
 
-valid_members : (n : ℕ) (m : Members) → IsStored n m → IsAscendingBelow n (members_of m)
+pub valid_members : (n : ℕ) (m : Members) → IsStored n m → IsAscendingBelow n (members_of m)
 valid_members n (Listed list) is = is
 valid_members n (Flagged set) is =
     ascending_below n (flag_members 0 set.flags.items) (rises_flags 0 set.flags.items) (λ v member. omega (arith, is, flag_bound set.flags.items v member))
@@ -47,12 +47,16 @@ module _ (n : ℕ) (m : Members) (s : VertexSubset) (is : IsStored n m) (view : 
       subst (λ t. AreWordsOf t set.words.items) (ap (λ t. subset n (members_of t) (form_of t)) (sym form) ∙ view) here
 
   -- one member more, in the same form
-  pub added : (v : ℕ) (new : Members) → form_of new ≡ form_of m → HasOneMore v (members_of m) (members_of new)
+  pub added : (v : ℕ) (old new : Members) → m ≡ old → form_of new ≡ form_of old → HasOneMore v (members_of old) (members_of new)
       → Adds v s (subset n (members_of new) (form_of new))
-  added v new form more =
-      let here : Adds v (subset n (members_of m) (form_of m)) (subset n (members_of new) (form_of new)) =
+  added v old new at form more =
+      let here : Adds v (subset n (members_of old) (form_of old)) (subset n (members_of new) (form_of new)) =
       record { vertices = refl; form = form; members = more } in
-      subst (λ t. Adds v t (subset n (members_of new) (form_of new))) view here
+      subst (λ t. Adds v t (subset n (members_of new) (form_of new))) (ap (λ t. subset n (members_of t) (form_of t)) (sym at) ∙ view) here
+
+pub on_ok : {T E : Type 0} (r : Result T E) (P Q : Type 0) → (P → Q) → OnOk r P → OnOk r Q
+on_ok (Ok x) P Q f p = f p
+on_ok (Err e) P Q f p = p
 
 -- a member below n more, and all are below n
 pub still_below : (n v : ℕ) (old new : List ℕ) → v < n → All (λ u. u < n) old → HasOneMore v old new → All (λ u. u < n) new

@@ -1,7 +1,7 @@
 //! Members in an ascending list.
 
 ghost use Rattle.std.specs.Prelude.{◌≡◌, ◌↔◌, ℕ, ◌<◌, ◌⊎◌, Contains, IfOk, OnOk, OnErr, IsTrue};
-ghost use Rattle.vertex_sets.specs.VertexSet.{IsAscendingBelow, IsAnswer};
+ghost use Rattle.vertex_sets.specs.VertexSet.{IsAscendingBelow, IsAnswer, all_vertices};
 
 use std::alloc::{AllocError, Global};
 
@@ -34,6 +34,17 @@ pub(crate) fn insert(list: &mut Vec<u32>, vertex: u32, vertices: u32) -> Result<
         list.insert(place, vertex)?;
     }
     Ok(())
+}
+
+/// All vertices.
+pub(crate) fn full(alloc: Global, vertices: u32) -> Result<Vec<u32>, AllocError>
+    ensures { IfOk result (λ list. list.items ≡ all_vertices vertices) }
+{
+    let mut list = Vec::with_capacity(alloc, vertices as usize)?;
+    for vertex in 0..vertices {
+        list.push(vertex)?;
+    }
+    Ok(list)
 }
 
 /// The vertices that pass a test.

@@ -69,7 +69,7 @@ impl VertexSet {
     {
         match form {
             Form::List => {
-                let list = (0..vertices).collect(alloc)?;
+                let list = list::full(alloc, vertices)?;
                 Ok(VertexSet::of(vertices, Members::Listed(list)))
             }
             Form::Flags => {
@@ -86,7 +86,8 @@ impl VertexSet {
     /// The set that is kept so.
     fn of(vertices: u32, members: Members) -> VertexSet
         requires { IsStored vertices members }
-        ensures { result ≡ subset vertices (members_of members) (form_of members) }
+        ensures set { result ≡ subset vertices (members_of members) (form_of members) }
+        ensures valid { IsVertexSet result }
     {
         VertexSet { vertices, members }
     }

@@ -1,12 +1,13 @@
-use Rattle.std.proofs.Common.{length, ap, sym, ◌∙◌}
+use Rattle.std.proofs.Common.{◌≡◌, length, ap, sym, ◌∙◌, rules}
 use Rattle.vertex_sets.specs.Stored.{members_of}
 use Rattle.vertex_sets.proofs.StoredSets.{valid_set, count_bound}
 use Rattle.vertex_sets.proofs.set.VertexSet.len.Goals as goal
 
 pub returns-in-Listed-clause-bounded : goal.returns-in-Listed-clause-bounded
 returns-in-Listed-clause-bounded c =
+    let long : c.len.result ≡ length c.in-Listed.members.items = search rules in
     count_bound c.self.inside.vertices c.self.inside.members c.args.self.now c.self.invariant c.self.view_is c.len.result
-    (c.len.ensures ∙ ap (λ m. length (members_of m)) (sym c.in-Listed.is))
+    (long ∙ ap (λ m. length (members_of m)) (sym c.in-Listed.is))
 
 pub returns-in-Flagged-clause-bounded : goal.returns-in-Flagged-clause-bounded
 returns-in-Flagged-clause-bounded c =
