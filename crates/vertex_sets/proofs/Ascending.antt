@@ -1,5 +1,5 @@
 -- Ascending lists by recursion, and what their members say of them.
-use Rattle.std.proofs.Common.{◌≡◌, ℕ, zero, suc, ◌+◌, ◌<◌, ◌≤◌, ◌⊎◌, inl, inr, ◌↔◌, Bool, true, false, cond, List, [], ◌∷◌, ◌++◌, length, get_or, take, drop, Result, Ok, Err, IsTrue, is_ok, MatchResult, refl, sym, ◌∙◌, ap, ap₂, subst, arith, All, Contains}
+use Rattle.std.proofs.Common.{◌≡◌, ℕ, zero, suc, ◌+◌, ◌<◌, ◌≤◌, ◌⊎◌, inl, inr, ◌↔◌, Bool, true, false, cond, List, [], ◌∷◌, ◌++◌, length, get_or, take, drop, Result, Ok, Err, IsTrue, is_ok, MatchResult, refl, sym, ◌∙◌, ap, ap₂, subst, arith, Contains}
 use Rattle.std.specs.List.{range_with_len}
 use Rattle.std.specs.List.Sorted.{IsStrictlyIncreasing}
 use Rattle.std.proofs.lemmas.Bool.{cases_eq, cases_lt}
@@ -222,14 +222,13 @@ rises_end low v (x ∷ xs) up le above =
     (up.0, rises_end (x + 1) v xs up.1 (omega arith) (λ u is. above u (contains_later x u xs is)))
 
 pub end_has : (v : ℕ) (xs : List ℕ) → HasOneMore v xs (xs ++ v ∷ [])
-end_has v xs u =
-    (
-      λ is. elim (Contains-append_cases xs (v ∷ []) u is) [ inl before ↦ inr before | inr last ↦ inl (contains_one v u last) ],
-      λ or. elim or [
-        | inl here ↦ Contains-append_right xs (v ∷ []) u (subst (λ w. Contains (v ∷ []) w) (sym here) (contains_first v []))
-        | inr before ↦ Contains-append_left xs (v ∷ []) u before
-      ],
-    )
+end_has v xs u = (
+  λ is. elim (Contains-append_cases xs (v ∷ []) u is) [ inl before ↦ inr before | inr last ↦ inl (contains_one v u last) ],
+  λ or. elim or [
+    | inl here ↦ Contains-append_right xs (v ∷ []) u (subst (λ w. Contains (v ∷ []) w) (sym here) (contains_first v []))
+    | inr before ↦ Contains-append_left xs (v ∷ []) u before
+  ],
+)
 
 pub ascending_end : (v n : ℕ) (xs : List ℕ) → IsAscendingBelow v xs → v < n → IsAscendingBelow n (xs ++ v ∷ [])
 ascending_end v n xs is lt =
@@ -278,37 +277,35 @@ rises_between low (suc i) v (x ∷ xs) up le within lower higher =
     (up.0, rises_between (x + 1) i v xs up.1 (omega arith) (omega arith) (λ k l. lower (suc k) (omega arith)) (λ k l m. higher (suc k) (omega arith) (omega arith)))
 
 first_has : (v : ℕ) (xs : List ℕ) → HasOneMore v xs (v ∷ xs)
-first_has v xs u =
-    (
-      λ is. first_or_later v u xs is,
-      λ or. elim or [
-        | inl here ↦ subst (λ w. Contains (v ∷ xs) w) (sym here) (contains_first v xs)
-        | inr later ↦ contains_later v u xs later
-      ],
-    )
+first_has v xs u = (
+  λ is. first_or_later v u xs is,
+  λ or. elim or [
+    | inl here ↦ subst (λ w. Contains (v ∷ xs) w) (sym here) (contains_first v xs)
+    | inr later ↦ contains_later v u xs later
+  ],
+)
 
 pub between_has : (i v : ℕ) (xs : List ℕ) → HasOneMore v xs (take i xs ++ v ∷ drop i xs)
 between_has zero v xs u = first_has v xs u
 between_has (suc i) v [] u = first_has v [] u
-between_has (suc i) v (x ∷ xs) u =
-    (
-      λ is. elim (first_or_later x u (take i xs ++ v ∷ drop i xs) is) [
-        | inl first ↦ inr ((first_has x xs u).1 (inl first))
-        | inr after ↦
-            elim ((between_has i v xs u).0 after) [
-              | inl here ↦ inl here
-              | inr later ↦ inr (contains_later x u xs later)
-            ]
-      ],
-      λ or. elim or [
-        | inl here ↦ contains_later x u (take i xs ++ v ∷ drop i xs) ((between_has i v xs u).1 (inl here))
-        | inr is ↦
-            elim (first_or_later x u xs is) [
-              | inl first ↦ (first_has x (take i xs ++ v ∷ drop i xs) u).1 (inl first)
-              | inr later ↦ contains_later x u (take i xs ++ v ∷ drop i xs) ((between_has i v xs u).1 (inr later))
-            ]
-      ],
-    )
+between_has (suc i) v (x ∷ xs) u = (
+  λ is. elim (first_or_later x u (take i xs ++ v ∷ drop i xs) is) [
+    | inl first ↦ inr ((first_has x xs u).1 (inl first))
+    | inr after ↦
+        elim ((between_has i v xs u).0 after) [
+          | inl here ↦ inl here
+          | inr later ↦ inr (contains_later x u xs later)
+        ]
+  ],
+  λ or. elim or [
+    | inl here ↦ contains_later x u (take i xs ++ v ∷ drop i xs) ((between_has i v xs u).1 (inl here))
+    | inr is ↦
+        elim (first_or_later x u xs is) [
+          | inl first ↦ (first_has x (take i xs ++ v ∷ drop i xs) u).1 (inl first)
+          | inr later ↦ contains_later x u (take i xs ++ v ∷ drop i xs) ((between_has i v xs u).1 (inr later))
+        ]
+  ],
+)
 
 pub ascending_between : (n i v : ℕ) (xs : List ℕ) → IsAscendingBelow n xs → v < n → i ≤ length xs → ((k : ℕ) → k < i → get_or xs k 0 < v)
     → ((k : ℕ) → i ≤ k → k < length xs → v < get_or xs k 0) → IsAscendingBelow n (take i xs ++ v ∷ drop i xs)

@@ -1,5 +1,5 @@
 -- The vertices of flags that are true.
-use Rattle.std.proofs.Common.{◌≡◌, ◌≢◌, ℕ, zero, suc, ◌+◌, ◌<◌, ◌≤◌, inl, inr, ◌↔◌, Bool, true, false, cond, List, [], ◌∷◌, ◌++◌, length, get_or, set, replicate, refl, sym, ◌∙◌, ap, subst, arith, Contains, get_or-set_same, get_or-set_other}
+use Rattle.std.proofs.Common.{◌≡◌, ℕ, zero, suc, ◌+◌, ◌<◌, ◌≤◌, inl, inr, ◌↔◌, Bool, true, false, cond, List, [], ◌∷◌, ◌++◌, length, get_or, set, replicate, refl, sym, ◌∙◌, ap, subst, arith, Contains, get_or-set_same, get_or-set_other}
 use Rattle.std.specs.List.{range_with_len}
 use Rattle.std.proofs.lemmas.Bool.{cases_eq, cases_lt}
 use Rattle.std.proofs.lemmas.List.{get_or_push, get_or_append_left, get_or_past}
@@ -30,11 +30,10 @@ flag_in a (suc i) (flag ∷ flags) is =
 
 -- a vertex is among them exactly where its flag is true
 pub flag_members_has : (flags : List Bool) (v : ℕ) → Contains (flag_members 0 flags) v ↔ (get_or flags v false ≡ true)
-flag_members_has flags v =
-    (
-      λ is. let h = flag_of 0 v flags is in let e : h.0 ≡ v = omega (arith, h.1) in subst (λ i. get_or flags i false ≡ true) e h.2,
-      λ is. let e : 0 + v ≡ v = omega arith in subst (λ u. Contains (flag_members 0 flags) u) e (flag_in 0 v flags is),
-    )
+flag_members_has flags v = (
+  λ is. let h = flag_of 0 v flags is in let e : h.0 ≡ v = omega (arith, h.1) in subst (λ i. get_or flags i false ≡ true) e h.2,
+  λ is. let e : 0 + v ≡ v = omega arith in subst (λ u. Contains (flag_members 0 flags) u) e (flag_in 0 v flags is),
+)
 
 -- ---- how many there are
 
@@ -80,8 +79,7 @@ flags_set flags v within u =
           let on : get_or (set flags v true) u false ≡ true = ap (λ w. get_or (set flags v true) w false) here ∙ get_or-set_same flags v true false within in
           (λ is. inl here, λ or. (flag_members_has (set flags v true) u).1 on)
       | inr apart ↦
-          let same : get_or (set flags v true) u false ≡ get_or flags u false = get_or-set_other flags v u true false apart in
-          (
+          let same : get_or (set flags v true) u false ≡ get_or flags u false = get_or-set_other flags v u true false apart in (
             λ is. inr ((flag_members_has flags u).1 (sym same ∙ (flag_members_has (set flags v true) u).0 is)),
             λ or. elim or [
               | inl here ↦ absurd (apart here)

@@ -1,5 +1,5 @@
 -- What a set that is kept in one of the three forms comes to.
-use Rattle.std.proofs.Common.{◌≡◌, ℕ, ◌+◌, ◌<◌, ◌≤◌, inl, inr, Result, Ok, Err, OnOk, List, length, get_or, refl, sym, ◌∙◌, ap, subst, arith, All, Contains}
+use Rattle.std.proofs.Common.{◌≡◌, ℕ, ◌<◌, ◌≤◌, inl, inr, Result, Ok, Err, OnOk, List, length, get_or, refl, sym, ◌∙◌, ap, subst, arith, All, Contains}
 use Rattle.std.specs.List.{range_with_len}
 use Rattle.std.proofs.lemmas.List.Elements.{All-contains, All-from_get_or, Contains-get_or}
 use Rattle.vertex_sets.specs.declared.flags.FlagSet.{FlagSet}

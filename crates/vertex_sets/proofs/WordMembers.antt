@@ -1,5 +1,5 @@
 -- The vertices of the set bits of words.
-use Rattle.std.proofs.Common.{◌≡◌, ◌≢◌, ℕ, zero, suc, ◌+◌, ◌-◌, ◌*◌, ◌/◌, ◌%◌, ◌^◌, ◌<◌, ◌≤◌, ◌⊎◌, inl, inr, ◌↔◌, Bool, true, false, ◌==◌, bit_and, bit_or, w64, get_or-set_same, get_or-set_other, List, [], ◌∷◌, ◌++◌, length, get_or, set, replicate, refl, sym, ◌∙◌, ap, ap₂, subst, arith, cond, min, append_assoc, length-append, length-set, Contains}
+use Rattle.std.proofs.Common.{◌≡◌, ◌≢◌, ℕ, zero, suc, ◌+◌, ◌-◌, ◌*◌, ◌/◌, ◌%◌, ◌^◌, ◌<◌, ◌≤◌, inl, inr, ◌↔◌, Bool, true, false, ◌==◌, bit_and, bit_or, w64, get_or-set_same, get_or-set_other, List, [], ◌∷◌, ◌++◌, length, get_or, set, replicate, refl, sym, ◌∙◌, ap, ap₂, subst, arith, cond, min, append_assoc, length-append, Contains}
 use Rattle.std.specs.Int.{bit_at}
 use Rattle.std.proofs.lemmas.Bool.{cases_lt, cases_eq, eqb-true, eq-eqb}
 use Rattle.std.proofs.lemmas.List.{append-nil, get_or_push, get_or_append_left, get_or_past, get_or-replicate, length-replicate}
@@ -72,11 +72,10 @@ word_in a (word ∷ words) i is =
 
 -- a vertex is among them exactly where its bit is set
 pub word_members_has : (words : List ℕ) (v : ℕ) → Contains (word_members 0 words) v ↔ HasBit words v
-word_members_has words v =
-    (
-      λ is. let h = word_of 0 words v is in let e : h.0 ≡ v = omega (arith, h.1) in subst (λ i. HasBit words i) e h.2,
-      λ is. let e : 0 + v ≡ v = omega arith in subst (λ u. Contains (word_members 0 words) u) e (word_in 0 words v is),
-    )
+word_members_has words v = (
+  λ is. let h = word_of 0 words v is in let e : h.0 ≡ v = omega (arith, h.1) in subst (λ i. HasBit words i) e h.2,
+  λ is. let e : 0 + v ≡ v = omega arith in subst (λ u. Contains (word_members 0 words) u) e (word_in 0 words v is),
+)
 
 pub words_none : (a n : ℕ) → word_members a (replicate n 0) ≡ []
 words_none a zero = refl
@@ -100,14 +99,14 @@ one_more a (word ∷ words) zero other i within lt off on same =
       arith,
       length-append (bit_members 64 a other) (word_members (a + 64) words),
       length-append (bit_members 64 a word) (word_members (a + 64) words),
-      one_more_bit 64 a word other i lt off on same
+      one_more_bit 64 a word other i lt off on same,
     )
 one_more a (word ∷ words) (suc place) other i within lt off on same =
     omega (
       arith,
       length-append (bit_members 64 a word) (word_members (a + 64) (set words place other)),
       length-append (bit_members 64 a word) (word_members (a + 64) words),
-      one_more (a + 64) words place other i (omega arith) lt off on same
+      one_more (a + 64) words place other i (omega arith) lt off on same,
     )
 
 pub words_room : (a : ℕ) (words : List ℕ) → length (word_members a words) ≤ 64 * length words
@@ -148,14 +147,13 @@ module _ (words : List ℕ) (v : ℕ) (within : v / 64 < length words) where
       elim (cases_eq u v) [
         | inl here ↦
             (λ is. inl here, λ or. (word_members_has (with_bit words v) u).1 (subst (λ w. HasBit (with_bit words v) w) (sym here) set_here))
-        | inr apart ↦
-            (
-              λ is. inr ((word_members_has words u).1 (sym (kept u apart) ∙ (word_members_has (with_bit words v) u).0 is)),
-              λ or. elim or [
-                | inl here ↦ absurd (apart here)
-                | inr is ↦ (word_members_has (with_bit words v) u).1 (kept u apart ∙ (word_members_has words u).0 is)
-              ],
-            )
+        | inr apart ↦ (
+          λ is. inr ((word_members_has words u).1 (sym (kept u apart) ∙ (word_members_has (with_bit words v) u).0 is)),
+          λ or. elim or [
+            | inl here ↦ absurd (apart here)
+            | inr is ↦ (word_members_has (with_bit words v) u).1 (kept u apart ∙ (word_members_has words u).0 is)
+          ],
+        )
       ]
 
   pub mask_off : bit_and word (1 * 2 ^ (v % 64) % 2 ^ 64) ≡ 0 → bit_at word (v % 64) ≡ 0

@@ -4,7 +4,7 @@ use Rattle.vertex_sets.specs.declared.form.Form.{Form}
 use Rattle.vertex_sets.specs.declared.form.Form.TheVariants.{List as AsList, Flags as AsFlags, Bits as AsBits}
 use Rattle.vertex_sets.specs.declared.set.Members.{Members}
 use Rattle.vertex_sets.specs.declared.set.Members.TheVariants.{Listed, Flagged, Worded}
-use Rattle.vertex_sets.specs.VertexSet.{VertexSubset, subset, IsAscendingBelow, word_count}
+use Rattle.vertex_sets.specs.VertexSet.{IsAscendingBelow, word_count}
 use Rattle.vertex_sets.specs.Words.{flag_members, word_members}
 
 abbrev pub members_of : Members → List ℕ

@@ -1,4 +1,4 @@
-use Rattle.std.proofs.Common.{arith, ◌↔◌, Contains, IsTrue, is_ok}
+use Rattle.std.proofs.Common.{◌↔◌, Contains, IsTrue, is_ok}
 use Rattle.std.proofs.lemmas.List.Sorted.{searched}
 use Rattle.vertex_sets.proofs.Ascending.{rises, non_decreasing, found_member}
 use Rattle.vertex_sets.proofs.list.contains.Goals as goal

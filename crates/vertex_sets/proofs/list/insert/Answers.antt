@@ -15,8 +15,8 @@ returns-in_ok-insert-clause-ascending c =
     let up : IsAscendingBelow c.args.vertices lent = subst (λ ys. IsAscendingBelow c.args.vertices ys) (sym same) c.requires.ascending in
     let at = searched lent v (Err place) c.in-Err.ensures.position (non_decreasing 0 lent (rises c.args.vertices lent up)) in
     rw is (
-      subst (λ ys. IsAscendingBelow c.args.vertices (take place ys ++ v ∷ drop place ys)) same
-      (ascending_between c.args.vertices place v lent up c.requires.below at.0 at.1 at.2)
+    subst (λ ys. IsAscendingBelow c.args.vertices (take place ys ++ v ∷ drop place ys)) same
+    (ascending_between c.args.vertices place v lent up c.requires.below at.0 at.1 at.2)
     )
 
 pub returns-in_ok-insert-clause-added : goal.returns-in_ok-insert-clause-added

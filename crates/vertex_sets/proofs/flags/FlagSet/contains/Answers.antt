@@ -1,5 +1,5 @@
-use Rattle.std.proofs.Common.{◌≡◌, Bool, true, false, get_or, sym, ◌∙◌, rules}
-use Rattle.vertex_sets.proofs.FlagMembers.{flag_members_has, flags_set, flag_answer, next_flag}
+use Rattle.std.proofs.Common.{◌≡◌, false, get_or, sym, ◌∙◌, rules}
+use Rattle.vertex_sets.proofs.FlagMembers.{flag_members_has}
 use Rattle.vertex_sets.proofs.flags.FlagSet.contains.Goals as goal
 
 pub returns-in-Some : goal.returns-in-Some

@@ -1,4 +1,4 @@
-use Rattle.vertex_sets.proofs.StoredSets.{flags_of, words_of, valid_set, count_bound, added, still_below, all_ascending}
+use Rattle.vertex_sets.proofs.StoredSets.{flags_of}
 use Rattle.vertex_sets.proofs.set.VertexSet.flags.Goals as goal
 
 pub returns-in-Flagged-clause-members : goal.returns-in-Flagged-clause-members

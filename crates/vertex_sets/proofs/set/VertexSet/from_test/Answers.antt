@@ -1,5 +1,3 @@
-use Rattle.std.proofs.Common.{ap, sym, subst}
-use Rattle.vertex_sets.specs.VertexSet.{IsAnswer}
 use Rattle.vertex_sets.proofs.set.VertexSet.from_test.Goals as goal
 
 pub returns-in-Flags-clause-tested : goal.returns-in-Flags-clause-tested

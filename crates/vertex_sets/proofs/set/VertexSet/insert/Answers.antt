@@ -1,7 +1,7 @@
-use Rattle.std.proofs.Common.{◌≡◌, ◌<◌, length, refl, sym, ◌∙◌, ap, subst, arith}
+use Rattle.std.proofs.Common.{◌≡◌, ◌<◌, length, refl, ◌∙◌, ap, subst, arith}
 use Rattle.vertex_sets.specs.declared.set.Members.TheVariants.{Listed, Flagged, Worded}
 use Rattle.vertex_sets.specs.Words.{word_members}
-use Rattle.vertex_sets.specs.Stored.{IsStored, members_of}
+use Rattle.vertex_sets.specs.Stored.{IsStored}
 use Rattle.vertex_sets.proofs.StoredSets.{valid_members, added, on_ok, still_below}
 use Rattle.vertex_sets.proofs.set.VertexSet.insert.Goals as goal
 use Rattle.vertex_sets.proofs.set.VertexSet.insert.Goals.{in-Listed, in-Flagged, in-Worded}
@@ -31,8 +31,8 @@ returns-clause-added c =
     elim c.match-self.branch [
       | in-Listed w ↦
           rw (w.result-is, w.self-inside-is) (
-            on_ok w.insert.result _ _
-            (λ more. added n m s c.self.invariant c.self.view_is v (Listed w.in-Listed.members) (Listed w.insert.new.list) w.in-Listed.is refl more) w.insert.ensures.added
+          on_ok w.insert.result _ _
+          (λ more. added n m s c.self.invariant c.self.view_is v (Listed w.in-Listed.members) (Listed w.insert.new.list) w.in-Listed.is refl more) w.insert.ensures.added
           )
       | in-Flagged w ↦
           rw (w.result-is, w.self-inside-is)

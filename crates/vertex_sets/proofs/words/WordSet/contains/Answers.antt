@@ -2,7 +2,7 @@ use Rattle.std.proofs.Common.{◌≡◌, ◌/◌, ◌%◌, ◌^◌, get_or, bit_
 use Rattle.std.specs.Int.{bit_at}
 use Rattle.std.proofs.lemmas.Bool.{eqb-true, eq-eqb}
 use Rattle.std.proofs.lemmas.Nat.Bits.{shr_and_one, bit_at-zero}
-use Rattle.vertex_sets.proofs.WordMembers.{word_members_has, words_set, words_room, word_answer, next_bit, next_word, next_below, filled_words, filled_but_last}
+use Rattle.vertex_sets.proofs.WordMembers.{word_members_has}
 use Rattle.vertex_sets.proofs.words.WordSet.contains.Goals as goal
 
 pub returns-in-Some : goal.returns-in-Some

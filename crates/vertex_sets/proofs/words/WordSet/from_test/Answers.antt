@@ -1,4 +1,4 @@
-use Rattle.std.proofs.Common.{◌≡◌, ◌+◌, ◌*◌, ◌-◌, ◌^◌, ◌<◌, ◌++◌, ◌∷◌, [], length, length-append, min, count_ones, ap, sym, ◌∙◌, arith, rules}
+use Rattle.std.proofs.Common.{◌≡◌, ◌+◌, ◌*◌, ◌-◌, ◌^◌, ◌<◌, ◌++◌, ◌∷◌, [], length, length-append, min, ap, ◌∙◌, arith, rules}
 use Rattle.std.proofs.lemmas.List.Elements.{All-from_get_or, Contains-get_or}
 use Rattle.vertex_sets.specs.Words.{bit_members, word_members}
 use Rattle.vertex_sets.proofs.BitMembers.{length_bits, bits_room}
@@ -28,7 +28,7 @@ loop-place-preserved g c =
         ap (λ ws. length (word_members 0 ws)) pushed,
         ap length (words_push 0 l.words.items word),
         length-append (word_members 0 l.words.items) (bit_members 64 (0 + 64 * length l.words.items) word),
-        length_bits 64 (0 + 64 * length l.words.items) word fits
+        length_bits 64 (0 + 64 * length l.words.items) word fits,
       );
       below = rw pushed (next_below (λ v b. g.F.Fn.post c.args.test.now (v, tt) b) c.args.vertices l.words.items word l.place c.min.result l.invariant.words start many c.word_from_test-word.ensures.others l.invariant.below);
       tested = rw pushed (next_word (λ v b. g.F.Fn.post c.args.test.now (v, tt) b) c.args.vertices l.words.items word l.place c.min.result l.invariant.words start many c.word_from_test-word.ensures.tested l.invariant.tested);
