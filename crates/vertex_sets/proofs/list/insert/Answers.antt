@@ -1,0 +1,26 @@
+use Rattle.std.proofs.Common.{◌≡◌, ◌++◌, ◌∷◌, Err, take, drop, sym, subst, rules}
+use Rattle.vertex_sets.specs.VertexSet.{IsAscendingBelow}
+use Rattle.std.proofs.lemmas.List.Sorted.{searched}
+use Rattle.vertex_sets.proofs.Ascending.{rises, non_decreasing, ascending_between, between_has}
+use Rattle.vertex_sets.proofs.list.insert.Goals as goal
+
+pub returns-in_ok-insert-clause-ascending : goal.returns-in_ok-insert-clause-ascending
+returns-in_ok-insert-clause-ascending c =
+    let xs = c.args.list.now.items in
+    let v = c.args.vertex in
+    let place = c.in-Err.place in
+    let is : c.insert.new.self.items ≡ take place xs ++ v ∷ drop place xs = search rules in
+    let lent = c.deref-2.result.now in
+    let same : lent ≡ xs = c.deref-2.ensures.value in
+    let up : IsAscendingBelow c.args.vertices lent = subst (λ ys. IsAscendingBelow c.args.vertices ys) (sym same) c.requires.ascending in
+    let at = searched lent v (Err place) c.in-Err.ensures.position (non_decreasing 0 lent (rises c.args.vertices lent up)) in
+    rw is (
+    subst (λ ys. IsAscendingBelow c.args.vertices (take place ys ++ v ∷ drop place ys)) same
+    (ascending_between c.args.vertices place v lent up c.requires.below at.0 at.1 at.2)
+    )
+
+pub returns-in_ok-insert-clause-added : goal.returns-in_ok-insert-clause-added
+returns-in_ok-insert-clause-added c =
+    let xs = c.args.list.now.items in
+    let is : c.insert.new.self.items ≡ take c.in-Err.place xs ++ c.args.vertex ∷ drop c.in-Err.place xs = search rules in
+    rw is (between_has c.in-Err.place c.args.vertex xs)

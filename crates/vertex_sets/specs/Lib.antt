@@ -1,0 +1,4 @@
+pub mod VertexSet
+pub mod Words
+pub mod Stored
+pub mod Remaining
