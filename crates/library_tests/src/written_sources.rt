@@ -37,7 +37,7 @@ fn words(alloc: Global, text: &[u8]) -> Result<Vec<u8>, Fail> {
 }
 
 #[test]
-fn what_is_written_has_the_words_of_the_text(rt: HostRuntime) -> Result<(), Fail> {
+fn what_is_written_has_the_tokens_of_the_text(rt: HostRuntime) -> Result<(), Fail> {
     let table: [&[u8]; 17] = [
         b"",
         b"const edges : edgeset{Edge}(Vertex, Vertex) = load(argv[1]);",
