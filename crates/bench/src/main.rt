@@ -17,6 +17,7 @@ mod sets;
 mod tails;
 mod timing;
 mod trees;
+mod vertex_set_runs;
 mod workload;
 
 use outcome::hash_of;
@@ -35,7 +36,7 @@ fn main(rt: HostRuntime) -> io::Result<ExitCode> {
         return Ok(ExitCode::SUCCESS);
     }
     eprintln!(rt;
-        "usage: bench [--time scripts|lexer|parser|tails|trees|ctrees|sets|crew | --script ADDS]"
+        "usage: bench [--time scripts|lexer|parser|tails|trees|ctrees|sets|crew|vertices | --script ADDS]"
     )?;
     Ok(ExitCode::from(2))
 }
@@ -68,6 +69,7 @@ fn print_times<R: Print + AllocGlobal + Clock + Threads + Sync>(
         "ctrees" => ctrees::print_times(rt),
         "sets" => sets::print_times(rt),
         "crew" => crew_runs::print_times(rt),
+        "vertices" => vertex_set_runs::print_times(rt),
         _ => Err(Error::other("nothing of this name is timed")),
     }
 }

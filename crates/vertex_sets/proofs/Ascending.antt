@@ -307,11 +307,10 @@ between_has (suc i) v (x ∷ xs) u = (
   ],
 )
 
-pub ascending_between : (n i v : ℕ) (xs : List ℕ) → IsAscendingBelow n xs → v < n → i ≤ length xs → ((k : ℕ) → k < i → get_or xs k 0 < v)
-    → ((k : ℕ) → i ≤ k → k < length xs → v < get_or xs k 0) → IsAscendingBelow n (take i xs ++ v ∷ drop i xs)
-ascending_between n i v xs is lt within lower higher =
-    ascending_below n (take i xs ++ v ∷ drop i xs) (rises_between 0 i v xs (rises n xs is) (omega arith) within lower higher)
-    (λ u member. elim ((between_has i v xs u).0 member) [ inl here ↦ omega arith | inr was ↦ below n u xs is was ])
+pub increasing_between : (i v : ℕ) (xs : List ℕ) → IsStrictlyIncreasing xs → i ≤ length xs → ((k : ℕ) → k < i → get_or xs k 0 < v)
+    → ((k : ℕ) → i ≤ k → k < length xs → v < get_or xs k 0) → IsStrictlyIncreasing (take i xs ++ v ∷ drop i xs)
+increasing_between i v xs up within lower higher =
+    increasing_from_rises 0 (take i xs ++ v ∷ drop i xs) (rises_between 0 i v xs (rises_from_increasing 0 xs (omega arith) up) (omega arith) within lower higher)
 
 -- ---- a binary search
 

@@ -1,6 +1,7 @@
 -- What a set that is kept in one of the three forms comes to.
-use Rattle.std.proofs.Common.{◌≡◌, ℕ, ◌<◌, ◌≤◌, inl, inr, Result, Ok, Err, OnOk, List, length, get_or, refl, sym, ◌∙◌, ap, subst, arith, All, Contains}
+use Rattle.std.proofs.Common.{◌≡◌, ℕ, ◌<◌, ◌≤◌, inl, inr, Result, Ok, Err, OnOk, OnErr, List, length, get_or, refl, sym, ◌∙◌, ap, subst, arith, All, Contains}
 use Rattle.std.specs.List.{range_with_len}
+use Rattle.std.specs.List.Sorted.{IsStrictlyIncreasing}
 use Rattle.std.proofs.lemmas.List.Elements.{All-contains, All-from_get_or, Contains-get_or}
 use Rattle.vertex_sets.specs.declared.flags.FlagSet.{FlagSet}
 use Rattle.vertex_sets.specs.declared.words.WordSet.{WordSet}
@@ -66,3 +67,9 @@ still_below n v old new lt all more =
     bound : (u : ℕ) → Contains new u → u < n
     bound u member =
         elim ((more u).0 member) [ inl here ↦ omega arith | inr was ↦ All-contains (λ w. w < n) old u all was ]
+
+-- a list after an insert, done or refused
+pub inserted_list : {T E : Type 0} (n v : ℕ) (old new : List ℕ) (r : Result T E) → v < n → IsAscendingBelow n old → IsStrictlyIncreasing new
+    → OnOk r (HasOneMore v old new) → OnErr r (new ≡ old) → IsAscendingBelow n new
+inserted_list n v old new (Ok x) lt is up more same = record { ascending = up; below = still_below n v old new lt is.below more }
+inserted_list n v old new (Err e) lt is up more same = subst (λ xs. IsAscendingBelow n xs) (sym same) is

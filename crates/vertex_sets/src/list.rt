@@ -1,23 +1,23 @@
 //! Members in an ascending list.
 
 ghost use Rattle.std.specs.Prelude.{◌≡◌, ◌↔◌, ℕ, ◌<◌, ◌⊎◌, Contains, IfOk, OnOk, OnErr, IsTrue};
+ghost use Rattle.std.specs.List.Sorted.{IsStrictlyIncreasing};
 ghost use Rattle.vertex_sets.specs.VertexSet.{IsAscendingBelow, IsAnswer, all_vertices};
 
 use std::alloc::{AllocError, Global};
 
 /// Whether a vertex stands in an ascending list. Takes `O(log k)` for k members.
-pub(crate) fn contains(list: &[u32], vertex: u32, vertices: u32) -> bool
-    requires { IsAscendingBelow vertices list.now }
+pub(crate) fn contains(list: &[u32], vertex: u32) -> bool
+    requires { IsStrictlyIncreasing list.now }
     ensures { IsTrue result ↔ Contains list.now vertex }
 {
     list.binary_search(&vertex).is_ok()
 }
 
 /// Puts a vertex at its place, unless it stands there. Constant time at the end.
-pub(crate) fn insert(list: &mut Vec<u32>, vertex: u32, vertices: u32) -> Result<(), AllocError>
-    requires ascending { IsAscendingBelow vertices list.old.items }
-    requires below { vertex < vertices }
-    ensures ascending { IsAscendingBelow vertices list.new.items }
+pub(crate) fn insert(list: &mut Vec<u32>, vertex: u32) -> Result<(), AllocError>
+    requires { IsStrictlyIncreasing list.old.items }
+    ensures ascending { IsStrictlyIncreasing list.new.items }
     ensures added { OnOk result ((u : ℕ)
         → Contains list.new.items u ↔ ((u ≡ vertex) ⊎ Contains list.old.items u)) }
     ensures err { OnErr result (list.new.items ≡ list.old.items) }

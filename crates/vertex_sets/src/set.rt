@@ -103,7 +103,15 @@ impl VertexSet {
         requires { IsAscendingBelow vertices members.now }
         ensures { IfOk result (λ s. s ≡ subset vertices members.now form) }
     {
-        VertexSet::from_members(alloc, vertices, Iter::of_list(members), form)
+        match form {
+            Form::List => {
+                let list = Vec::from_slice(alloc, members)?;
+                Ok(VertexSet::of(vertices, Members::Listed(list)))
+            }
+            Form::Flags | Form::Bits => {
+                VertexSet::from_members(alloc, vertices, Iter::of_list(members), form)
+            }
+        }
     }
 
     /// The set of members that ascend.
@@ -161,15 +169,20 @@ impl VertexSet {
     pub fn to_form(&self, alloc: Global, form: Form) -> Result<VertexSet, AllocError>
         ensures { IfOk result (λ s. s ≡ subset self.now.vertices self.now.members form) }
     {
-        let members = match (&self.members, form) {
-            (Members::Flagged(set), Form::Flags) => Members::Flagged(set.copy(alloc)?),
-            (Members::Worded(set), Form::Bits) => Members::Worded(set.copy(alloc)?),
-            _ => return VertexSet::from_members(alloc, self.vertices, self.iter(), form),
-        };
-        Ok(VertexSet {
-            vertices: self.vertices,
-            members,
-        })
+        match (&self.members, form) {
+            (Members::Listed(list), _) => {
+                VertexSet::from_ascending(alloc, self.vertices, list, form)
+            }
+            (Members::Flagged(set), Form::Flags) => {
+                let copy = set.copy(alloc)?;
+                Ok(VertexSet::of(self.vertices, Members::Flagged(copy)))
+            }
+            (Members::Worded(set), Form::Bits) => {
+                let copy = set.copy(alloc)?;
+                Ok(VertexSet::of(self.vertices, Members::Worded(copy)))
+            }
+            _ => VertexSet::from_members(alloc, self.vertices, self.iter(), form),
+        }
     }
 
     /// Makes a vertex a member. As flags and bits it takes constant time and no memory. As a list it
@@ -184,7 +197,7 @@ impl VertexSet {
         ensures valid { IsVertexSet self.new }
     {
         match &mut self.members {
-            Members::Listed(members) => list::insert(members, vertex, self.vertices),
+            Members::Listed(members) => list::insert(members, vertex),
             Members::Flagged(set) => {
                 set.insert(vertex);
                 Ok(())
@@ -203,7 +216,7 @@ impl VertexSet {
         ensures { IsTrue result ↔ Contains self.now.members vertex }
     {
         match &self.members {
-            Members::Listed(members) => list::contains(members, vertex, self.vertices),
+            Members::Listed(members) => list::contains(members, vertex),
             Members::Flagged(set) => set.contains(vertex),
             Members::Worded(set) => set.contains(vertex),
         }

@@ -1,7 +1,7 @@
-use Rattle.std.proofs.Common.{◌≡◌, ◌++◌, ◌∷◌, Err, take, drop, sym, subst, rules}
-use Rattle.vertex_sets.specs.VertexSet.{IsAscendingBelow}
+use Rattle.std.proofs.Common.{◌≡◌, ◌++◌, ◌∷◌, Err, take, drop, sym, subst, arith, rules}
+use Rattle.std.specs.List.Sorted.{IsStrictlyIncreasing}
 use Rattle.std.proofs.lemmas.List.Sorted.{searched}
-use Rattle.vertex_sets.proofs.Ascending.{rises, non_decreasing, ascending_between, between_has}
+use Rattle.vertex_sets.proofs.Ascending.{rises_from_increasing, non_decreasing, increasing_between, between_has}
 use Rattle.vertex_sets.proofs.list.insert.Goals as goal
 
 pub returns-in_ok-insert-clause-ascending : goal.returns-in_ok-insert-clause-ascending
@@ -12,12 +12,9 @@ returns-in_ok-insert-clause-ascending c =
     let is : c.insert.new.self.items ≡ take place xs ++ v ∷ drop place xs = search rules in
     let lent = c.deref-2.result.now in
     let same : lent ≡ xs = c.deref-2.ensures.value in
-    let up : IsAscendingBelow c.args.vertices lent = subst (λ ys. IsAscendingBelow c.args.vertices ys) (sym same) c.requires.ascending in
-    let at = searched lent v (Err place) c.in-Err.ensures.position (non_decreasing 0 lent (rises c.args.vertices lent up)) in
-    rw is (
-    subst (λ ys. IsAscendingBelow c.args.vertices (take place ys ++ v ∷ drop place ys)) same
-    (ascending_between c.args.vertices place v lent up c.requires.below at.0 at.1 at.2)
-    )
+    let up : IsStrictlyIncreasing lent = subst IsStrictlyIncreasing (sym same) c.requires in
+    let at = searched lent v (Err place) c.in-Err.ensures.position (non_decreasing 0 lent (rises_from_increasing 0 lent (omega arith) up)) in
+    rw is (subst (λ ys. IsStrictlyIncreasing (take place ys ++ v ∷ drop place ys)) same (increasing_between place v lent up at.0 at.1 at.2))
 
 pub returns-in_ok-insert-clause-added : goal.returns-in_ok-insert-clause-added
 returns-in_ok-insert-clause-added c =
