@@ -1,0 +1,7 @@
+pub mod Places
+pub mod Sources
+pub mod Lists
+pub mod Entries
+pub mod Degrees
+pub mod Index
+pub mod Neighbours
