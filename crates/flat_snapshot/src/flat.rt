@@ -1,6 +1,6 @@
 //! Flat snapshots of graphs.
 
-ghost use Rattle.std.specs.Prelude.{◌≡◌, length, IfOk};
+ghost use Rattle.std.specs.Prelude.{◌≡◌, ◌^◌, ◌≤◌, length, IfOk};
 ghost use Rattle.tree_batch.specs.Digraph.{IsDigraph};
 ghost use Rattle.tree_batch.specs.Neighbours.{destinations_of, sources_of};
 ghost use Rattle.flat_snapshot.specs.Neighbours.{AreDegreesOf};
@@ -101,7 +101,8 @@ impl Flat {
     /// The vertices that have out-edges, ascending, each with the number of them. It takes no memory,
     /// and a step takes constant time.
     pub fn sources(&self) -> Degrees<'_>
-        ensures { AreDegreesOf (λ u. destinations_of u self.now.edges) result }
+        ensures degrees { AreDegreesOf (λ u. destinations_of u self.now.edges) result }
+        ensures bounded { length result ≤ 2 ^ 32 }
     {
         self.outgoing.degrees()
     }
@@ -109,7 +110,8 @@ impl Flat {
     /// The vertices that have in-edges, ascending, each with the number of them. It takes no memory,
     /// and a step takes constant time.
     pub fn destinations(&self) -> Degrees<'_>
-        ensures { AreDegreesOf (λ v. sources_of v self.now.edges) result }
+        ensures degrees { AreDegreesOf (λ v. sources_of v self.now.edges) result }
+        ensures bounded { length result ≤ 2 ^ 32 }
     {
         self.incoming.degrees()
     }
