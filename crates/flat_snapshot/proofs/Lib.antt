@@ -2,3 +2,4 @@ pub mod Storing
 pub mod Words
 pub mod Ranks
 pub mod Snapshots
+pub mod Chunks

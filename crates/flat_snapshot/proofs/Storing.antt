@@ -6,7 +6,7 @@ use Rattle.tail_codec.specs.Spelling.{Spells}
 use Rattle.tail_codec.specs.Decoding.{elements_over}
 use Rattle.tail_codec.proofs.Lists.{elements_from-SpellsFrom}
 use Rattle.c_tree.specs.Heads.{is_head}
-use Rattle.c_tree.specs.Chunks.{ChunkedSet, before_head}
+use Rattle.c_tree.specs.Chunks.{before_head}
 use Rattle.flat_snapshot.specs.declared.place.Place.{Place}
 use Rattle.flat_snapshot.specs.declared.place.Place.TheVariants.{Bytes, Set}
 use Rattle.flat_snapshot.specs.declared.lists.Entry.{Entry}
@@ -28,7 +28,7 @@ whole_prefix b (x ∷ xs) same = elim (cases_Bool (is_head b x)) [
       here ∙ ap (λ ys. x ∷ ys) (whole_prefix b xs rest)
 ]
 
-append_none : {A : Type 0} (xs : List A) → xs ≡ xs ++ []
+pub append_none : {A : Type 0} (xs : List A) → xs ≡ xs ++ []
 append_none [] = refl
 append_none (x ∷ xs) = ap (λ ys. x ∷ ys) (append_none xs)
 
@@ -40,7 +40,7 @@ pub last_bytes : (bytes list : List ℕ) → bytes_at (bytes ++ list) (length by
 last_bytes bytes list = ap (take (length list)) (drop_at bytes list (length bytes) refl) ∙ take_all (length list) list (omega arith)
 
 -- a list that is spelled by the bytes that came last is there
-pub bytes_place : (bytes list xs : List ℕ) (sets : List ChunkedSet) → Spells None xs list → IsPlace (bytes ++ list) sets (Bytes (length list) (length bytes)) × (list_at (bytes ++ list) sets (Bytes (length list) (length bytes)) ≡ xs)
+pub bytes_place : (bytes list xs : List ℕ) (sets : List (List ℕ)) → Spells None xs list → IsPlace (bytes ++ list) sets (Bytes (length list) (length bytes)) × (list_at (bytes ++ list) sets (Bytes (length list) (length bytes)) ≡ xs)
 bytes_place bytes list xs sets spells =
     let P : List ℕ → Type 0 = λ b. Spells None (elements_over None b) b in
     let is = elements_from-SpellsFrom 0 xs list spells in
@@ -48,18 +48,18 @@ bytes_place bytes list xs sets spells =
     ((omega (arith, length-append bytes list), subst P (sym (last_bytes bytes list)) here), ap (elements_over None) (last_bytes bytes list) ∙ is)
 
 -- the set that came last
-pub last_set : (sets : List ChunkedSet) (s : ChunkedSet) → elements_of_set (sets ++ s ∷ []) (length sets) ≡ s.elements
+pub last_set : (sets : List (List ℕ)) (s : List ℕ) → elements_of_set (sets ++ s ∷ []) (length sets) ≡ s
 last_set [] s = refl
 last_set (t ∷ sets) s = last_set sets s
 
 -- the set at a place
-pub set_at : (sets : List ChunkedSet) (i : ℕ) (s : ChunkedSet) → i < length sets → s ≡ get_or sets i s → elements_of_set sets i ≡ s.elements
+pub set_at : (sets : List (List ℕ)) (i : ℕ) (s : List ℕ) → i < length sets → s ≡ get_or sets i s → elements_of_set sets i ≡ s
 set_at [] i s lt is = absurd (omega arith)
-set_at (t ∷ sets) zero s lt is = ap (λ r. r.elements) (sym is)
+set_at (t ∷ sets) zero s lt is = sym is
 set_at (t ∷ sets) (suc i) s lt is = set_at sets i s (omega arith) is
 
 -- sets stay at their places
-set_stays : (sets more : List ChunkedSet) (i : ℕ) → i < length sets → elements_of_set (sets ++ more) i ≡ elements_of_set sets i
+set_stays : (sets more : List (List ℕ)) (i : ℕ) → i < length sets → elements_of_set (sets ++ more) i ≡ elements_of_set sets i
 set_stays [] more i lt = absurd (omega arith)
 set_stays (s ∷ sets) more zero lt = refl
 set_stays (s ∷ sets) more (suc i) lt = set_stays sets more i (omega arith)
@@ -76,7 +76,7 @@ pub push_failed : {T E : Type 0} (old : List (ℕ × List ℕ)) (u : ℕ) (xs : 
 push_failed old u xs (Ok t) new err same = absurd (false≢true err)
 push_failed old u xs (Err e) new err same = same
 
-module _ (bytes more : List ℕ) (sets others : List ChunkedSet) where
+module _ (bytes more : List ℕ) (sets others : List (List ℕ)) where
   -- a place is one still, with the same list
   place_stays : (p : Place) → IsPlace bytes sets p → IsPlace (bytes ++ more) (sets ++ others) p × (list_at (bytes ++ more) (sets ++ others) p ≡ list_at bytes sets p)
   place_stays (Bytes len start) is =
@@ -98,14 +98,14 @@ module _ (bytes more : List ℕ) (sets others : List ChunkedSet) where
       let same = (place_stays e.place ok.0.place).1 in
       rw (same, lists_stay es ok.1) refl
 
-module _ (bytes bytes' : List ℕ) (sets sets' : List ChunkedSet) (longer : Extends bytes bytes') (wider : Extends sets sets') where
+module _ (bytes bytes' : List ℕ) (sets sets' : List (List ℕ)) (longer : Extends bytes bytes') (wider : Extends sets sets') where
   pub listed_extend : (es : List Entry) → AreListed bytes sets es → AreListed bytes' sets' es
   listed_extend es ok = rw (longer.is, wider.is) (listed_stay bytes longer.more sets wider.more es ok)
 
   pub lists_extend : (es : List Entry) → AreListed bytes sets es → lists_in bytes' sets' es ≡ lists_in bytes sets es
   lists_extend es ok = rw (longer.is, wider.is) (lists_stay bytes longer.more sets wider.more es ok)
 
-module _ (bytes : List ℕ) (sets : List ChunkedSet) where
+module _ (bytes : List ℕ) (sets : List (List ℕ)) where
   -- an entry comes behind others
   pub listed_push : (es : List Entry) (e : Entry) → AreListed bytes sets es → IsListed bytes sets e → AreListed bytes sets (es ++ e ∷ [])
   listed_push [] e ok is = (is, tt)

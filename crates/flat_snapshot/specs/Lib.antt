@@ -1,5 +1,5 @@
 pub mod Places
-pub mod Sources
+pub mod Chunks
 pub mod Lists
 pub mod Entries
 pub mod Degrees

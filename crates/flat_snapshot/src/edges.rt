@@ -1,8 +1,11 @@
 //! The neighbours of a vertex.
 
-ghost use Rattle.std.specs.Prelude.{◌≡◌, ◌↔◌, [], length, take, drop, min, IsTrue};
+ghost use Rattle.std.specs.Prelude.{◌≡◌, ◌↔◌, ◌≤◌, ◌++◌, [], length, take, drop, min, IsTrue};
 ghost use Rattle.std.specs.Iterator.{YieldsFirst, item_count};
+ghost use Rattle.c_tree.specs.Blocks.{IsRead};
+ghost use Rattle.flat_snapshot.specs.Chunks.{elements_in};
 
+use crate::shared_set::Chunk;
 use std::marker::Model;
 use tail_codec::TailIter;
 
@@ -10,26 +13,21 @@ use tail_codec::TailIter;
 #[derive(Drop)]
 pub struct Edges<'a> {
     left: usize,
-    source: Source<'a>,
-}
-
-/// Where the neighbours are read.
-#[derive(Drop)]
-enum Source<'a> {
-    Bytes(TailIter<'a>),
-    Set(c_tree::Iter<'a>),
+    /// Those before the next head.
+    tail: TailIter<'a>,
+    chunks: &'a [Chunk],
 }
 
 impl<'a> Model for Edges<'a> {
-    ghost use Rattle.std.specs.Prelude.{◌≡◌, ℕ, List, length};
+    ghost use Rattle.std.specs.Prelude.{◌≡◌, ℕ, List, ◌++◌, length};
 
     ghost Value = { List ℕ };
 
-    ghost use Rattle.flat_snapshot.specs.Sources.{left_in};
+    ghost use Rattle.flat_snapshot.specs.Chunks.{elements_in};
 
-    ghost view = { λ e. left_in e.source };
+    ghost view = { λ e. e.tail ++ elements_in e.chunks.now };
 
-    ghost invariant = { λ e. e.left ≡ length (left_in e.source) };
+    ghost invariant = { λ e. e.left ≡ length (e.tail ++ elements_in e.chunks.now) };
 }
 
 impl<'a> Edges<'a> {
@@ -38,33 +36,19 @@ impl<'a> Edges<'a> {
     pub(crate) fn none() -> Edges<'a>
         ensures { result ≡ [] }
     {
-        Edges {
-            left: 0,
-            source: Source::Bytes(TailIter::over(None, &[])),
-        }
+        Edges::new(0, TailIter::over(None, &[]), &[])
     }
 
-    /// So many neighbours that are read from bytes.
+    /// The `len` elements of a tail and of chunks.
     #[inline]
-    pub(crate) fn of_bytes(bytes: TailIter<'a>, len: usize) -> Edges<'a>
-        requires { len ≡ length bytes }
-        ensures { result ≡ bytes.entry }
+    pub(crate) fn new(len: usize, tail: TailIter<'a>, chunks: &'a [Chunk]) -> Edges<'a>
+        requires { len ≡ length (tail ++ elements_in chunks.now) }
+        ensures { result ≡ tail.entry ++ elements_in chunks.now }
     {
         Edges {
             left: len,
-            source: Source::Bytes(bytes),
-        }
-    }
-
-    /// So many neighbours that are read from a set.
-    #[inline]
-    pub(crate) fn of_set(set: c_tree::Iter<'a>, len: usize) -> Edges<'a>
-        requires { len ≡ length set }
-        ensures { result ≡ set.entry }
-    {
-        Edges {
-            left: len,
-            source: Source::Set(set),
+            tail,
+            chunks,
         }
     }
 
@@ -81,7 +65,7 @@ impl<'a> Edges<'a> {
     pub fn is_empty(&self) -> bool
         ensures { IsTrue result ↔ (self.now ≡ []) }
     {
-        self.left == 0
+        self.len() == 0
     }
 
     /// Reads the next neighbours into the front of a block, as many as fit and are left, and gives
@@ -93,13 +77,29 @@ impl<'a> Edges<'a> {
         ensures kept { drop result block.new ≡ drop result block.old }
         ensures rest { self.new ≡ drop result self.old }
     {
-        let filled = match &mut self.source {
-            Source::Bytes(bytes) => bytes.fill(block),
-            Source::Set(set) => set.fill(block),
-        };
+        let mut filled = fill_from(&mut self.tail, block, 0);
+        while filled < block.len() {
+            let Some((chunk, rest)) = self.chunks.split_first() else {
+                break;
+            };
+            block[filled] = chunk.head;
+            self.tail = chunk.tail.iter();
+            self.chunks = rest;
+            filled = fill_from(&mut self.tail, block, filled + 1);
+        }
         self.left -= filled;
         filled
     }
+}
+
+/// Reads the next elements of a tail into a block from a place on, as many as fit and are left, and
+/// gives the place after them.
+#[inline]
+fn fill_from(tail: &mut TailIter<'_>, block: &mut [u32], place: usize) -> usize
+    requires { place ≤ length block.old }
+    ensures { IsRead place tail.old block.old result tail.new block.new }
+{
+    place + tail.fill(&mut block[place..])
 }
 
 impl<'a> Iterator for Edges<'a> {
@@ -111,11 +111,14 @@ impl<'a> Iterator for Edges<'a> {
 
     #[inline(always)]
     fn next(&mut self) -> Option<u32> {
-        let neighbour = match &mut self.source {
-            Source::Bytes(bytes) => bytes.next()?,
-            Source::Set(set) => set.next()?,
-        };
+        if let Some(neighbour) = self.tail.next() {
+            self.left -= 1;
+            return Some(neighbour);
+        }
+        let (chunk, rest) = self.chunks.split_first()?;
         self.left -= 1;
-        Some(neighbour)
+        self.tail = chunk.tail.iter();
+        self.chunks = rest;
+        Some(chunk.head)
     }
 }

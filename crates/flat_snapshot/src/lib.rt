@@ -11,8 +11,9 @@
 //! so a look-up reads two places, and a vertex without an edge takes two bits. A short set without
 //! heads, as most are, is kept in its bytes, which lie one after another in the order of the
 //! vertices. So a walk over all edges reads memory in order, and making a flat counts no reference
-//! for such a set. A larger set is shared with the graph. A flat owns all that it shows: it may
-//! outlive its graph, and threads may share it.
+//! for such a set. Of a larger set the bytes are shared with the graph, chunk by chunk, and its heads
+//! stand in an array, so that a walk over it needs no tree and its state is small. A flat owns all
+//! that it shows: it may outlive its graph, and threads may share it.
 //!
 //! Engines that run programs over graphs stand on this crate. Flat snapshots are those of Aspen
 //! (Dhulipala, Blelloch, Shun, PLDI 2019); the bits with counts are the rank of Jacobson (Space-efficient
@@ -26,6 +27,7 @@ mod flat;
 mod index;
 mod lists;
 mod place;
+mod shared_set;
 
 pub use degrees::Degrees;
 pub use edges::Edges;

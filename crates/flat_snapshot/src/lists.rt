@@ -6,6 +6,7 @@ ghost use Rattle.flat_snapshot.specs.Lists.{neighbours_at, degrees_of, IsPushed}
 use crate::degrees::Degrees;
 use crate::edges::Edges;
 use crate::place::{Place, edges_at, stored};
+use crate::shared_set::SharedSet;
 use c_tree::CTree;
 use std::alloc::{AllocError, Global};
 use std::marker::Model;
@@ -26,7 +27,7 @@ pub(crate) struct Lists {
     /// The bytes of short lists.
     bytes: Vec<u8>,
     /// The sets that are shared with the graph.
-    sets: Vec<CTree>,
+    sets: Vec<SharedSet>,
 }
 
 // By hand: a derived drop would be written out, and proved again, in each function that lets lists go.
@@ -75,11 +76,11 @@ impl Lists {
     /// Adds a vertex with its neighbours behind the others. The only error is out of memory, and
     /// then the lists are as they were.
     #[inline]
-    pub(crate) fn push(&mut self, vertex: u32, set: &CTree) -> Result<(), AllocError>
+    pub(crate) fn push(&mut self, alloc: Global, vertex: u32, set: &CTree) -> Result<(), AllocError>
         requires { length set.now.elements < 2 ^ 32 }
         ensures { IsPushed self.old vertex set.now.elements result self.new }
     {
-        let place = stored(&mut self.bytes, &mut self.sets, set)?;
+        let place = stored(alloc, &mut self.bytes, &mut self.sets, set)?;
         let degree = set.len() as u32;
         self.entries.push(Entry {
             vertex,

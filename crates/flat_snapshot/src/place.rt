@@ -4,9 +4,9 @@ ghost use Rattle.std.specs.Prelude.{◌≡◌, length};
 ghost use Rattle.flat_snapshot.specs.Places.{list_at, IsPlace, IsStored};
 
 use crate::edges::Edges;
+use crate::shared_set::SharedSet;
 use c_tree::CTree;
-use shared_tree::Share;
-use std::alloc::AllocError;
+use std::alloc::{AllocError, Global};
 use tail_codec::TailIter;
 
 /// How many bytes a list has at most that stands among the bytes.
@@ -25,8 +25,9 @@ pub(crate) enum Place {
 /// its place. The only error is out of memory, which includes 2^32 sets.
 #[inline]
 pub(crate) fn stored(
+    alloc: Global,
     bytes: &mut Vec<u8>,
-    sets: &mut Vec<CTree>,
+    sets: &mut Vec<SharedSet>,
     set: &CTree,
 ) -> Result<Place, AllocError>
     ensures { IsStored bytes.old.items sets.old.items set.now.elements result bytes.new.items sets.new.items }
@@ -44,7 +45,7 @@ pub(crate) fn stored(
     let Ok(index) = u32::try_from(sets.len()) else {
         return Err(AllocError);
     };
-    sets.push(set.share()?)?;
+    sets.push(SharedSet::of(alloc, set)?)?;
     Ok(Place::Set(index))
 }
 
@@ -52,7 +53,7 @@ pub(crate) fn stored(
 #[inline]
 pub(crate) fn edges_at<'a>(
     bytes: &'a [u8],
-    sets: &'a [CTree],
+    sets: &'a [SharedSet],
     place: Place,
     degree: u32,
 ) -> Edges<'a>
@@ -63,11 +64,9 @@ pub(crate) fn edges_at<'a>(
     match place {
         Place::Bytes { len, start } => {
             let (start, len) = (start as usize, usize::from(len));
-            Edges::of_bytes(
-                TailIter::over(None, &bytes[start..start + len]),
-                degree as usize,
-            )
+            let tail = TailIter::over(None, &bytes[start..start + len]);
+            Edges::new(degree as usize, tail, &[])
         }
-        Place::Set(index) => Edges::of_set(sets[index as usize].iter(), degree as usize),
+        Place::Set(index) => sets[index as usize].edges(degree as usize),
     }
 }

@@ -23,5 +23,5 @@ returns c =
     let set = c.args.set.now in
     let sets = c.args.sets.now.items in
     let place : c.in-Ok.index ≡ length sets = omega (arith, c.in-Ok.ensures) in
-    rw (place, c.in_ok-push.ensures.items, c.in_ok-share.ensures)
-    (record { bytes_extend = same_extends c.args.bytes.now.items; sets_extend = record { more = set ∷ []; is = refl }; place = omega (arith, length-append sets (set ∷ [])); list = last_set sets set })
+    rw (place, c.in_ok-push.ensures.items, c.in_ok-of.ensures)
+    (record { bytes_extend = same_extends c.args.bytes.now.items; sets_extend = record { more = set.elements ∷ []; is = refl }; place = omega (arith, length-append sets (set.elements ∷ [])); list = last_set sets set.elements })
