@@ -8,6 +8,7 @@
 
 mod crew_runs;
 mod ctrees;
+mod flats;
 mod lexing;
 mod outcome;
 mod parsing;
@@ -36,7 +37,7 @@ fn main(rt: HostRuntime) -> io::Result<ExitCode> {
         return Ok(ExitCode::SUCCESS);
     }
     eprintln!(rt;
-        "usage: bench [--time scripts|lexer|parser|tails|trees|ctrees|sets|crew|vertices | --script ADDS]"
+        "usage: bench [--time scripts|lexer|parser|tails|trees|ctrees|sets|flats|vertices|crew | --script ADDS]"
     )?;
     Ok(ExitCode::from(2))
 }
@@ -68,6 +69,7 @@ fn print_times<R: Print + AllocGlobal + Clock + Threads + Sync>(
         "trees" => trees::print_times(rt),
         "ctrees" => ctrees::print_times(rt),
         "sets" => sets::print_times(rt),
+        "flats" => flats::print_times(rt),
         "crew" => crew_runs::print_times(rt),
         "vertices" => vertex_set_runs::print_times(rt),
         _ => Err(Error::other("nothing of this name is timed")),

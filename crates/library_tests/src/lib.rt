@@ -1,5 +1,5 @@
 //! Tests of what only a call of a library shows: devices that fail, pieces of input, spans of tokens,
-//! histories with little room, bytes of tails and sets, forks and threads. What a script or a program can
+//! histories with little room, bytes of tails and sets, flat snapshots, forks and threads. What a script or a program can
 //! show is a case in `crates/cases/data`.
 //!
 //! They stand above the crates that they test, so that each of those is proved once.
@@ -11,6 +11,8 @@ mod chunked_sets;
 mod crew_runs;
 #[cfg(test)]
 mod device_calls;
+#[cfg(test)]
+mod flat_graphs;
 #[cfg(test)]
 mod forked_graphs;
 #[cfg(test)]

@@ -1,7 +1,9 @@
-ghost use Rattle.std.specs.Prelude.{◌≡◌, ℕ, ◌+◌, ◌^◌, ◌<◌, true, ◌∷◌, length, take, drop, min};
+ghost use Rattle.std.specs.Prelude.{◌≡◌, ℕ, ◌+◌, ◌^◌, ◌<◌, true, List, ◌∷◌, length, take, drop, min};
 ghost use Rattle.std.specs.Iterator.{YieldsFirst, item_count};
 ghost use Rattle.tail_codec.specs.Decoding.{elements_from, is_spelling_from};
+ghost use Rattle.tail_codec.specs.Spelling.{Spells};
 
+use crate::tail::least_over;
 use std::marker::Model;
 
 /// The elements of a tail that are still to come, ascending.
@@ -30,6 +32,16 @@ impl<'a> TailIter<'a> {
         ensures { result ≡ elements_from low 1 rest.now }
     {
         TailIter { low, rest }
+    }
+
+    /// The elements of the list that the bytes are known to spell over the base, ascending. It takes
+    /// no memory.
+    #[inline]
+    pub fn over(base: Option<u32>, bytes: &'a [u8]) -> TailIter<'a>
+        requires { (xs : List ℕ) × Spells base xs bytes.now }
+        ensures { Spells base result bytes.now }
+    {
+        TailIter::new(least_over(base), bytes)
     }
 
     /// Reads the next elements into the front of a block, as many as fit and are left, and gives

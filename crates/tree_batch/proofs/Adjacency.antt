@@ -22,13 +22,13 @@ rises_from_set u low (x ∷ xs) le s =
 abbrev pub AreSets : ℕ → List (ℕ × ChunkedSet) → Type 0
 AreSets b es = (u : ℕ) (s : ChunkedSet) → lookup u es ≡ Some s → IsNeighbourSet b s
 
-sets_head : (b : ℕ) (e : ℕ × ChunkedSet) (es : List (ℕ × ChunkedSet)) → AreSets b (e ∷ es) → IsNeighbourSet b e.1
+pub sets_head : (b : ℕ) (e : ℕ × ChunkedSet) (es : List (ℕ × ChunkedSet)) → AreSets b (e ∷ es) → IsNeighbourSet b e.1
 sets_head b e es ok = let here : lookup e.0 (e ∷ es) ≡ Some e.1 = rw (eq-eqb e.0 e.0 refl) in ok e.0 e.1 here
 
-some_none : {A : Type 0} (o : Option A) (x : A) → o ≡ Some x → o ≡ None → ⊥
+pub some_none : {A : Type 0} (o : Option A) (x : A) → o ≡ Some x → o ≡ None → ⊥
 some_none o x e f = cc
 
-sets_tail : (b h : ℕ) (e : ℕ × ChunkedSet) (es : List (ℕ × ChunkedSet)) → entries.Rises (e.0 + 1) h es → AreSets b (e ∷ es) → AreSets b es
+pub sets_tail : (b h : ℕ) (e : ℕ × ChunkedSet) (es : List (ℕ × ChunkedSet)) → entries.Rises (e.0 + 1) h es → AreSets b (e ∷ es) → AreSets b es
 sets_tail b h e es s ok u set is = elim (cases_eq e.0 u) [
   | inl at ↦ absurd (some_none (lookup u es) set is (lookup_below (e.0 + 1) h es u s (omega arith)))
   | inr other ↦ ok u set (rw (ne_eqb e.0 u other) is)

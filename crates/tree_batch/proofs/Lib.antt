@@ -8,3 +8,4 @@ pub mod Adjacency
 pub mod Columns
 pub mod Neighbourhoods
 pub mod Crossing
+pub mod VertexSets

@@ -8,3 +8,4 @@ pub mod Neighbours
 pub mod Forking
 pub mod Outcome
 pub mod Refusal
+pub mod VertexSets

@@ -3,7 +3,8 @@
 ghost use Rattle.std.specs.Prelude.{◌≡◌, length};
 ghost use Rattle.tree_batch.specs.Edge.{has_edge};
 ghost use Rattle.tree_batch.specs.Digraph.{IsDigraph};
-ghost use Rattle.tree_batch.specs.Neighbours.{destinations_of, sources_of, HasNeighbours};
+ghost use Rattle.tree_batch.specs.Neighbours.{destinations_of, sources_of, edges_of, HasNeighbours};
+ghost use Rattle.tree_batch.specs.VertexSets.{AreSetsOf};
 ghost use Rattle.tree_batch.specs.Outcome.{Opens, Applies};
 
 use crate::batch::Batch;
@@ -163,6 +164,24 @@ impl Graph {
         ensures { HasNeighbours (sources_of destination self.now.edges) result }
     {
         self.incoming.find(destination)
+    }
+
+    /// The vertices that have out-edges, ascending, each with the destinations of its edges. It takes
+    /// no memory, and a step takes constant time on average.
+    pub fn outgoing(&self) -> shared_tree::Iter<'_, CTree>
+        ensures sets { AreSetsOf (λ u. destinations_of u self.now.edges) result }
+        ensures edges { edges_of result ≡ self.now.edges }
+        ensures graph { IsDigraph self.now }
+    {
+        self.outgoing.iter()
+    }
+
+    /// The vertices that have in-edges, ascending, each with the sources of its edges. It takes no
+    /// memory, and a step takes constant time on average.
+    pub fn incoming(&self) -> shared_tree::Iter<'_, CTree>
+        ensures sets { AreSetsOf (λ v. sources_of v self.now.edges) result }
+    {
+        self.incoming.iter()
     }
 
     /// As [`Graph::out`].

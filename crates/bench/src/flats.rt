@@ -1,0 +1,294 @@
+//! Flat snapshots: how long they take to make and to walk, beside tails in a plain list.
+
+use crate::random::Random;
+use crate::timing::Times;
+use flat_snapshot::Flat;
+use std::alloc::{AllocError, Global};
+use std::io;
+use std::io::Error;
+use std::rt::Clock;
+use std::time::Instant;
+use tail_codec::{Tail, TailError};
+use tree_batch::{Batch, Entry, Graph, GraphError};
+
+// A random graph of so many vertices and about so many edges.
+#[derive(Clone, Copy, Debug)]
+struct Size {
+    name: &'static str,
+    vertices: u32,
+    edges: u32,
+}
+
+const SIZES: [Size; 3] = [
+    Size {
+        name: "2^16 / 2^20",
+        vertices: 1 << 16,
+        edges: 1 << 20,
+    },
+    Size {
+        name: "2^20 / 2^24",
+        vertices: 1 << 20,
+        edges: 1 << 24,
+    },
+    Size {
+        name: "2^24 / 1000",
+        vertices: 1 << 24,
+        edges: 1000,
+    },
+];
+
+const CHUNK_SIZE: u32 = 64;
+
+// How often a row is timed.
+const TURNS: usize = 5;
+
+const SEED: u64 = 2026;
+
+// How many edges a batch adds.
+const BATCH: u32 = 1 << 20;
+
+// How many tails are timed together, and how many elements each has at most.
+const TAILS: u32 = 1 << 20;
+
+/// Prints the times of making flats and of reading all their edges, and what an edge and a vertex
+/// that has edges cost.
+pub fn print_times<R: Print + AllocGlobal + Clock>(rt: &R) -> io::Result<()> {
+    println!(rt;
+        "{:<12} {:<14} {:>10} {:>12} {:>10} {:>20}",
+        "graph", "row", "items", "best us", "ps an item", "sum"
+    )?;
+    for size in SIZES {
+        let work = Work::new(rt.alloc(), size)?;
+        for row in ROWS {
+            print_row(rt, size, row, &work)?;
+        }
+    }
+    Ok(())
+}
+
+// What is timed.
+#[derive(Clone, Copy, Debug)]
+enum Row {
+    Make,
+    Tails,
+    TailBlocks,
+    Walk,
+    WalkBlocks,
+    WalkSources,
+    Degrees,
+}
+
+const ROWS: [Row; 7] = [
+    Row::Make,
+    Row::Tails,
+    Row::Walk,
+    Row::TailBlocks,
+    Row::WalkBlocks,
+    Row::WalkSources,
+    Row::Degrees,
+];
+
+impl Row {
+    fn name(self) -> &'static str {
+        match self {
+            Row::Make => "of, drop",
+            Row::Tails => "tails",
+            Row::Walk => "out",
+            Row::TailBlocks => "tails, fill",
+            Row::WalkBlocks => "out, fill",
+            Row::WalkSources => "sources, fill",
+            Row::Degrees => "out_degree",
+        }
+    }
+
+    // How many things are done: vertices that have edges, edges, or vertices.
+    fn items(self, work: &Work) -> u64 {
+        match self {
+            Row::Make => work.flat.sources().count() as u64,
+            Row::Degrees => u64::from(work.flat.vertices()),
+            _ => work.flat.edge_count() as u64,
+        }
+    }
+
+    // Does the work once, and gives a number that depends on all of it.
+    fn work(self, alloc: Global, work: &Work) -> io::Result<u64> {
+        match self {
+            Row::Make => Ok(Flat::of(alloc, &work.graph)?.edge_count() as u64),
+            Row::Tails => Ok(sum_of_tails(&work.tails)),
+            Row::Walk => Ok(sum_of_flat(&work.flat)),
+            Row::TailBlocks => Ok(sum_of_tails_by_blocks(&work.tails)),
+            Row::WalkBlocks => Ok(sum_of_flat_by_blocks(&work.flat)),
+            Row::WalkSources => Ok(sum_of_sources_by_blocks(&work.flat)),
+            Row::Degrees => Ok(sum_of_degrees(&work.flat)),
+        }
+    }
+}
+
+fn print_row<R: Print + AllocGlobal + Clock>(
+    rt: &R,
+    size: Size,
+    row: Row,
+    work: &Work,
+) -> io::Result<()> {
+    let mut times = Times::new(rt.alloc());
+    let mut sum = 0u64;
+    for _ in 0..TURNS {
+        let start = Instant::now(rt)?;
+        sum = row.work(rt.alloc(), work)?;
+        times.push(rt, start)?;
+    }
+    let (graph, name, best, items) = (size.name, row.name(), times.best(), row.items(work));
+    let (micros, picos) = (best / 1000, best.saturating_mul(1000) / items.max(1));
+    println!(rt; "{graph:<12} {name:<14} {items:>10} {micros:>12} {picos:>10} {sum:>20}")
+}
+
+// A graph, its flat, and the tails of its destinations in a plain list.
+struct Work {
+    graph: Graph,
+    flat: Flat,
+    tails: Vec<Tail>,
+}
+
+impl Drop for Work {
+    fn drop(self) {
+        let Work {
+            graph: _,
+            flat: _,
+            tails: _,
+        } = self;
+    }
+}
+
+impl Work {
+    fn new(alloc: Global, size: Size) -> io::Result<Work> {
+        let graph = graph(alloc, size)?;
+        let flat = Flat::of(alloc, &graph)?;
+        let tails = tails(alloc, &graph)?;
+        Ok(Work { graph, flat, tails })
+    }
+}
+
+// The graph of a size, made by batches.
+fn graph(alloc: Global, size: Size) -> io::Result<Graph> {
+    let mut random = Random::new(SEED);
+    let mut graph = made(Graph::new(size.vertices, CHUNK_SIZE))?;
+    let vertices = u64::from(size.vertices).max(1);
+    let mut left = size.edges;
+    for _ in 0..=size.edges / BATCH {
+        let count = left.min(BATCH);
+        let mut batch = Batch::new(alloc);
+        for _ in 0..count {
+            let from = random.below(vertices) as u32;
+            let to = random.below(vertices) as u32;
+            batch.push(Entry::Add(from, to)).map_err(refused)?;
+        }
+        graph = made(graph.apply(alloc, &batch))?;
+        left = left.wrapping_sub(count);
+    }
+    Ok(graph)
+}
+
+// The destinations of each vertex as one tail.
+fn tails(alloc: Global, graph: &Graph) -> io::Result<Vec<Tail>> {
+    let mut tails = Vec::new(alloc);
+    for vertex in 0..graph.vertices().min(TAILS) {
+        if let Some(set) = graph.out(vertex) {
+            let list: Vec<u32> = set.iter().collect(alloc)?;
+            tails.push(Tail::encode(alloc, None, &list).map_err(told)?)?;
+        }
+    }
+    Ok(tails)
+}
+
+fn sum_of_tails(tails: &[Tail]) -> u64 {
+    let mut sum = 0u64;
+    for tail in tails {
+        for element in tail.iter() {
+            sum = sum.wrapping_add(u64::from(element));
+        }
+    }
+    sum
+}
+
+fn sum_of_flat(flat: &Flat) -> u64 {
+    let mut sum = 0u64;
+    for vertex in 0..flat.vertices() {
+        for element in flat.out(vertex) {
+            sum = sum.wrapping_add(u64::from(element));
+        }
+    }
+    sum
+}
+
+fn sum_of_tails_by_blocks(tails: &[Tail]) -> u64 {
+    let mut sum = 0u64;
+    let mut block = [0u32; 128];
+    for tail in tails {
+        let mut elements = tail.iter();
+        for _ in 0..=tail.len() / 128 {
+            let filled = elements.fill(&mut block);
+            sum = sum.wrapping_add(sum_of(&block[..filled]));
+        }
+    }
+    sum
+}
+
+fn sum_of_flat_by_blocks(flat: &Flat) -> u64 {
+    let mut sum = 0u64;
+    let mut block = [0u32; 128];
+    for vertex in 0..flat.vertices() {
+        let mut edges = flat.out(vertex);
+        for _ in 0..edges.len().div_ceil(128) {
+            let filled = edges.fill(&mut block);
+            sum = sum.wrapping_add(sum_of(&block[..filled]));
+        }
+    }
+    sum
+}
+
+fn sum_of_sources_by_blocks(flat: &Flat) -> u64 {
+    let mut sum = 0u64;
+    let mut block = [0u32; 128];
+    for (vertex, _) in flat.sources() {
+        let mut edges = flat.out(vertex);
+        for _ in 0..edges.len().div_ceil(128) {
+            let filled = edges.fill(&mut block);
+            sum = sum.wrapping_add(sum_of(&block[..filled]));
+        }
+    }
+    sum
+}
+
+fn sum_of_degrees(flat: &Flat) -> u64 {
+    let mut sum = 0u64;
+    for vertex in 0..flat.vertices() {
+        sum = sum.wrapping_add(u64::from(flat.out_degree(vertex)));
+    }
+    sum
+}
+
+fn sum_of(block: &[u32]) -> u64 {
+    let mut sum = 0u64;
+    for element in block {
+        sum = sum.wrapping_add(u64::from(*element));
+    }
+    sum
+}
+
+fn made(answer: Result<Graph, GraphError>) -> io::Result<Graph> {
+    answer.map_err(refused)
+}
+
+fn refused(error: GraphError) -> Error {
+    match error {
+        GraphError::NoMemory => Error::other("out of memory"),
+        GraphError::VertexRange | GraphError::BadChunkSize => Error::other("a graph was refused"),
+    }
+}
+
+fn told(error: TailError) -> Error {
+    match error {
+        TailError::NoMemory => Error::other("out of memory"),
+        TailError::NotAscending | TailError::BadTail => Error::other("a tail was refused"),
+    }
+}

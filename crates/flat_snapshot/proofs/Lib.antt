@@ -1,0 +1,5 @@
+pub mod Storing
+pub mod Words
+pub mod Ranks
+pub mod Snapshots
+pub mod Chunks

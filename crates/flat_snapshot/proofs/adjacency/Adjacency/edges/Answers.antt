@@ -1,0 +1,20 @@
+use Rattle.flat_snapshot.proofs.Ranks.{ranked, unmarked}
+use Rattle.flat_snapshot.proofs.adjacency.Adjacency.edges.Goals as goal
+
+pub edges-requires : goal.edges-requires
+edges-requires c =
+    let a = c.self.inside in
+    let found = ranked a.words.items a.lists c.self.invariant c.args.vertex (rw c.deref.ensures.value at c.in-Some.ensures.0) in
+    rw (c.in-Some.ensures.1, c.deref.ensures.value) found.0
+
+pub returns-in-Some : goal.returns-in-Some
+returns-in-Some c =
+    let a = c.self.inside in
+    let found = ranked a.words.items a.lists c.self.invariant c.args.vertex (rw c.deref.ensures.value at c.in-Some.ensures.0) in
+    rw (c.edges.ensures, ← c.self.view_is, c.in-Some.ensures.1, c.deref.ensures.value) (found.1)
+
+pub returns-in-None : goal.returns-in-None
+returns-in-None c =
+    let a = c.self.inside in
+    let none = unmarked a.words.items a.lists c.self.invariant c.args.vertex (rw c.deref.ensures.value at c.in-None.ensures) in
+    rw (← c.self.view_is, c.none.ensures, none)

@@ -1,0 +1,135 @@
+//! Flat snapshots of graphs.
+
+ghost use Rattle.std.specs.Prelude.{◌≡◌, ◌^◌, ◌≤◌, length, IfOk};
+ghost use Rattle.tree_batch.specs.Digraph.{IsDigraph};
+ghost use Rattle.tree_batch.specs.Neighbours.{destinations_of, sources_of};
+ghost use Rattle.flat_snapshot.specs.Neighbours.{AreDegreesOf};
+
+use crate::adjacency::Adjacency;
+use crate::degrees::Degrees;
+use crate::edges::Edges;
+use std::alloc::{AllocError, Global};
+use std::marker::Model;
+use tree_batch::Graph;
+
+/// A graph's neighbours in arrays. It owns what it shows and never changes. Threads may share it.
+pub struct Flat {
+    vertices: u32,
+    edge_count: usize,
+    outgoing: Adjacency,
+    incoming: Adjacency,
+}
+
+// By hand: a derived drop would be written out, and proved again, in each function that lets a flat go.
+impl Drop for Flat {
+    fn drop(self) {
+        let Flat {
+            vertices: _,
+            edge_count: _,
+            outgoing: _,
+            incoming: _,
+        } = self;
+    }
+}
+
+impl Model for Flat {
+    ghost use Rattle.tree_batch.specs.Digraph.{Digraph, digraph};
+    ghost use Rattle.flat_snapshot.specs.Neighbours.{edges_in, IsFlat};
+
+    ghost Value = { Digraph };
+
+    ghost view = { λ f. digraph f.vertices (edges_in f.outgoing) };
+
+    ghost invariant = { λ f. IsFlat f.vertices f.edge_count f.outgoing f.incoming };
+}
+
+impl Flat {
+    /// The flat snapshot of a graph. It takes time in proportion to the vertices that have edges, and
+    /// to a small part of those that have none. It copies the short sets of neighbours that have no
+    /// head, and shares the others with the graph. The graph stays as it is.
+    ///
+    /// The only error is out of memory, which includes a count of owners that is full.
+    pub fn of(alloc: Global, graph: &Graph) -> Result<Flat, AllocError>
+        ensures { IfOk result (λ f. f ≡ graph.now) }
+    {
+        let vertices = graph.vertices();
+        let edge_count = graph.edge_count();
+        let outgoing = Adjacency::of(alloc, vertices, graph.outgoing())?;
+        let incoming = Adjacency::of(alloc, vertices, graph.incoming())?;
+        Ok(Flat {
+            vertices,
+            edge_count,
+            outgoing,
+            incoming,
+        })
+    }
+
+    /// The destinations of the edges from a vertex, ascending. A number that is no vertex has none.
+    /// A look-up takes constant time and no memory.
+    #[inline]
+    pub fn out(&self, source: u32) -> Edges<'_>
+        ensures { result ≡ destinations_of source self.now.edges }
+    {
+        self.outgoing.edges(source)
+    }
+
+    /// The sources of the edges to a vertex, ascending. A number that is no vertex has none. A
+    /// look-up takes constant time and no memory.
+    #[inline]
+    pub fn in_(&self, destination: u32) -> Edges<'_>
+        ensures { result ≡ sources_of destination self.now.edges }
+    {
+        self.incoming.edges(destination)
+    }
+
+    /// How many edges there are from a vertex. It takes constant time and no memory.
+    #[inline]
+    pub fn out_degree(&self, source: u32) -> u32
+        ensures { result ≡ length (destinations_of source self.now.edges) }
+    {
+        self.outgoing.degree(source)
+    }
+
+    /// How many edges there are to a vertex. It takes constant time and no memory.
+    #[inline]
+    pub fn in_degree(&self, destination: u32) -> u32
+        ensures { result ≡ length (sources_of destination self.now.edges) }
+    {
+        self.incoming.degree(destination)
+    }
+
+    /// The vertices that have out-edges, ascending, each with the number of them. It takes no memory,
+    /// and a step takes constant time.
+    pub fn sources(&self) -> Degrees<'_>
+        ensures degrees { AreDegreesOf (λ u. destinations_of u self.now.edges) result }
+        ensures bounded { length result ≤ 2 ^ 32 }
+    {
+        self.outgoing.degrees()
+    }
+
+    /// The vertices that have in-edges, ascending, each with the number of them. It takes no memory,
+    /// and a step takes constant time.
+    pub fn destinations(&self) -> Degrees<'_>
+        ensures degrees { AreDegreesOf (λ v. sources_of v self.now.edges) result }
+        ensures bounded { length result ≤ 2 ^ 32 }
+    {
+        self.incoming.degrees()
+    }
+
+    /// How many edges there are. It takes constant time and no memory.
+    #[inline]
+    pub fn edge_count(&self) -> usize
+        ensures { result ≡ length self.now.edges }
+    {
+        self.edge_count
+    }
+
+    /// How many vertices there are, 1 to 16,777,216. It takes no memory.
+    #[inline]
+    pub fn vertices(&self) -> u32
+        ensures count { result ≡ self.now.vertices }
+        ensures graph { IsDigraph self.now }
+    {
+        self.vertices
+    }
+}
