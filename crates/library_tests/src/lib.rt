@@ -30,6 +30,6 @@ mod token_spans;
 #[cfg(test)]
 mod version_steps;
 #[cfg(test)]
-mod vertex_sets;
+mod vertex_set_forms;
 #[cfg(test)]
 mod written_sources;
