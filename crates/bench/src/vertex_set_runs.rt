@@ -79,7 +79,10 @@ impl Row {
 
 /// Prints the times of the work on sets of three densities, in microseconds.
 pub fn print_times<R: Print + AllocGlobal + Clock>(rt: &R) -> io::Result<()> {
-    println!(rt; "{:<24} {:>10} {:>12} {:>12}", "row", "members", "best us", "median us")?;
+    println!(rt;
+        "{:<24} {:>10} {:>12} {:>12}",
+        "row", "members", "best us", "median us"
+    )?;
     for spread in SPREADS {
         let work = Work::new(rt.alloc(), spread)?;
         for row in ROWS {

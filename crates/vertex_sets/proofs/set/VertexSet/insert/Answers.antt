@@ -15,8 +15,8 @@ invariant_of-self c =
       | in-Listed w ↦
           let was : IsAscendingBelow n w.in-Listed.members.items = subst (λ m. IsStored n m) w.in-Listed.is c.self.invariant in
           rw w.self-inside-is (
-            inserted_list n c.args.vertex w.in-Listed.members.items w.insert.new.list.items w.insert.result lt was w.insert.ensures.ascending w.insert.ensures.added
-            w.insert.ensures.err
+          inserted_list n c.args.vertex w.in-Listed.members.items w.insert.new.list.items w.insert.result lt was w.insert.ensures.ascending w.insert.ensures.added
+          w.insert.ensures.err
           )
       | in-Flagged w ↦
           let was : length w.in-Flagged.set.flags.items ≡ n = subst (λ m. IsStored n m) w.in-Flagged.is c.self.invariant in
