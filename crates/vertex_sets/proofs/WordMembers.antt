@@ -119,14 +119,14 @@ abbrev pub with_bit : List ℕ → ℕ → List ℕ
 with_bit words v = set words (v / 64) (bit_or (get_or words (v / 64) 0) (1 * 2 ^ (v % 64) % 2 ^ 64))
 
 module _ (words : List ℕ) (v : ℕ) (within : v / 64 < length words) where
-  abbrev word : ℕ
-  word = get_or words (v / 64) 0
+  abbrev old_word : ℕ
+  old_word = get_or words (v / 64) 0
 
   low : v % 64 < 64
   low = omega arith
 
   set_here : HasBit (with_bit words v) v
-  set_here = ap (λ w. bit_at w (v % 64)) (get_or-set_same words (v / 64) _ 0 within) ∙ bit_at_set_same w64 word (v % 64) low
+  set_here = ap (λ w. bit_at w (v % 64)) (get_or-set_same words (v / 64) _ 0 within) ∙ bit_at_set_same w64 old_word (v % 64) low
 
   -- the other bits are as they were
   kept : (u : ℕ) → u ≢ v → bit_at (get_or (with_bit words v) (u / 64) 0) (u % 64) ≡ bit_at (get_or words (u / 64) 0) (u % 64)
@@ -136,7 +136,7 @@ module _ (words : List ℕ) (v : ℕ) (within : v / 64 < length words) where
             let other : u % 64 ≢ v % 64 = λ e. apart (omega arith) in
             ap (λ k. bit_at (get_or (with_bit words v) k 0) (u % 64)) same
             ∙ ap (λ w. bit_at w (u % 64)) (get_or-set_same words (v / 64) _ 0 within)
-            ∙ bit_at_set_other w64 word (v % 64) low (u % 64) other
+            ∙ bit_at_set_other w64 old_word (v % 64) low (u % 64) other
             ∙ ap (λ k. bit_at (get_or words k 0) (u % 64)) (sym same)
         | inr elsewhere ↦ ap (λ w. bit_at w (u % 64)) (get_or-set_other words (v / 64) (u / 64) _ 0 elsewhere)
       ]
@@ -156,23 +156,23 @@ module _ (words : List ℕ) (v : ℕ) (within : v / 64 < length words) where
         )
       ]
 
-  pub mask_off : bit_and word (1 * 2 ^ (v % 64) % 2 ^ 64) ≡ 0 → bit_at word (v % 64) ≡ 0
-  mask_off none = zero_by_one (bit_at word (v % 64)) (2 ^ (v % 64)) (pow_pos (v % 64)) (sym (and_pow word (v % 64)) ∙ ap (bit_and word) (sym (one_shl (v % 64) 64 low)) ∙ none)
+  pub mask_off : bit_and old_word (1 * 2 ^ (v % 64) % 2 ^ 64) ≡ 0 → bit_at old_word (v % 64) ≡ 0
+  mask_off none = zero_by_one (bit_at old_word (v % 64)) (2 ^ (v % 64)) (pow_pos (v % 64)) (sym (and_pow old_word (v % 64)) ∙ ap (bit_and old_word) (sym (one_shl (v % 64) 64 low)) ∙ none)
     where
       zero_by_one : (b p : ℕ) → 0 < p → b * p ≡ 0 → b ≡ 0
       zero_by_one zero p some none = refl
       zero_by_one (suc b) p some none = absurd (omega arith)
 
-  pub mask_on : bit_and word (1 * 2 ^ (v % 64) % 2 ^ 64) ≢ 0 → HasBit words v
-  mask_on some = one_by_two (bit_at word (v % 64)) (bit_at-lt word (v % 64)) (λ e. some (ap (bit_and word) (one_shl (v % 64) 64 low) ∙ and_pow word (v % 64) ∙ ap (λ b. b * 2 ^ (v % 64)) e ∙ omega arith))
+  pub mask_on : bit_and old_word (1 * 2 ^ (v % 64) % 2 ^ 64) ≢ 0 → HasBit words v
+  mask_on some = one_by_two (bit_at old_word (v % 64)) (bit_at-lt old_word (v % 64)) (λ e. some (ap (bit_and old_word) (one_shl (v % 64) 64 low) ∙ and_pow old_word (v % 64) ∙ ap (λ b. b * 2 ^ (v % 64)) e ∙ omega arith))
     where
       one_by_two : (b : ℕ) → b < 2 → (b ≡ 0 → ⊥) → b ≡ 1
       one_by_two b lt apart = omega arith
 
   -- and adds one
-  pub words_set_more : bit_at word (v % 64) ≡ 0 → length (word_members 0 (with_bit words v)) ≡ suc (length (word_members 0 words))
+  pub words_set_more : bit_at old_word (v % 64) ≡ 0 → length (word_members 0 (with_bit words v)) ≡ suc (length (word_members 0 words))
   words_set_more off =
-      one_more 0 words (v / 64) _ (v % 64) within low off (bit_at_set_same w64 word (v % 64) low) (λ j lt apart. bit_at_set_other w64 word (v % 64) low j apart)
+      one_more 0 words (v / 64) _ (v % 64) within low off (bit_at_set_same w64 old_word (v % 64) low) (λ j lt apart. bit_at_set_other w64 old_word (v % 64) low j apart)
 
 -- what a test answered stands in the bit
 pub word_answer : (gives : ℕ → Bool → Type 0) (words : List ℕ) (v : ℕ) → gives v (bit_at (get_or words (v / 64) 0) (v % 64) == 1) → IsAnswer gives (word_members 0 words) v

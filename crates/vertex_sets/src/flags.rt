@@ -1,6 +1,6 @@
 //! A flag for each vertex.
 
-ghost use Rattle.std.specs.Prelude.{◌≡◌, ◌↔◌, ℕ, ◌<◌, ◌⊎◌, ◌^◌, [], length, Contains, IfOk, OnOk, OnErr, IsTrue};
+ghost use Rattle.std.specs.Prelude.{◌≡◌, ◌↔◌, ℕ, ◌<◌, ◌⊎◌, ◌^◌, [], length, Contains, IfOk, IsTrue};
 ghost use Rattle.vertex_sets.specs.VertexSet.{IsAscendingBelow, IsAnswer, all_vertices};
 ghost use Rattle.vertex_sets.specs.Words.{flag_members};
 
