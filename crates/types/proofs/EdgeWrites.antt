@@ -182,9 +182,10 @@ reduced_again at writes vector x own reduction.Plus reduction.Plus is = (λ v b 
 
 reduced_with : (at : ℕ) (writes : Writes) (vector : ℕ) (by : Reduction) (x : IntegerTree) (own : Bool) (old : Option Reduction) → lookup (nat_eq vector) writes ≡ old
     → Reduces writes own (Some vector) by x (written_with at vector by writes old).value
-reduced_with at writes vector by x own None is =
-    (λ v b known. lookup_first (nat_eq v) writes ((vector, by) ∷ []) b known,
-    may_reduce_so (writes ++ (vector, by) ∷ []) vector by x own (lookup_last (nat_eq vector) writes ((vector, by) ∷ []) is ∙ lookup_one vector by))
+reduced_with at writes vector by x own None is = (
+  λ v b known. lookup_first (nat_eq v) writes ((vector, by) ∷ []) b known,
+  may_reduce_so (writes ++ (vector, by) ∷ []) vector by x own (lookup_last (nat_eq vector) writes ((vector, by) ∷ []) is ∙ lookup_one vector by),
+)
 reduced_with at writes vector by x own (Some first) is = reduced_again at writes vector x own first by is
 
 reduced_once : (at : ℕ) (writes : Writes) (vector : Option ℕ) (by : Reduction) (x : IntegerTree) (own : Bool)
@@ -297,9 +298,10 @@ abbrev pub WritesWell : FunctionTree → Type 0
 WritesWell f = ReducesInOneWay f.steps × SetsNoEntry f.steps
 
 writes_well : (f : FunctionTree) (writes : Writes) → StepsAgree writes f.steps → WritesWell f
-writes_well f writes agree =
-    (λ vector a b one other. same_Some a b (sym (one_reduced_as_written writes vector a f.steps agree one) ∙ one_reduced_as_written writes vector b f.steps agree other),
-    steps_set_none writes f.steps agree)
+writes_well f writes agree = (
+  λ vector a b one other. same_Some a b (sym (one_reduced_as_written writes vector a f.steps agree one) ∙ one_reduced_as_written writes vector b f.steps agree other),
+  steps_set_none writes f.steps agree,
+)
 
 all_behind : (fs : List FunctionTree) (f : FunctionTree) → AllByRecursion WritesWell fs → WritesWell f → AllByRecursion WritesWell (fs ++ f ∷ [])
 all_behind [] f all well = (well, tt)

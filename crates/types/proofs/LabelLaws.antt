@@ -155,7 +155,7 @@ mutual
       let rest = steps_typed s.value.1 (step_behind so_far s.value.0) others in
       let both = no_right l.faults (s.faults ++ rest.faults) none in
       let last = meets_then l.value.1 s.value.1 rest.value.1 (inner_labels action) (block_labels others) (step_meets l.value.1 action (no_left s.faults rest.faults both))
-          (steps_meet s.value.1 (step_behind so_far s.value.0) others (no_right s.faults rest.faults both)) in
+      (steps_meet s.value.1 (step_behind so_far s.value.0) others (no_right s.faults rest.faults both)) in
       meets_then c l.value.1 rest.value.1 (own_label label) (inner_labels action ++ block_labels others) (labelled_meets c label (no_left l.faults (s.faults ++ rest.faults) none)) last
 
 mutual
@@ -201,7 +201,7 @@ mutual
       let both = no_right l.faults (a.faults ++ rest.faults) none in
       let first = meets_like c l.value.1 c d (own_label label) refl refl refl refl (labelled_meets c label (no_left l.faults (a.faults ++ rest.faults) none)) in
       let last = meets_then d a.value.1 rest.value.1 (inner_labels action) (block_labels others) (action_meets d action (no_left a.faults rest.faults both))
-          (statements_meet a.value.1 more others (no_right a.faults rest.faults both)) in
+      (statements_meet a.value.1 more others (no_right a.faults rest.faults both)) in
       meets_then c d rest.value.1 (own_label label) (inner_labels action ++ block_labels others) first last
 
 -- functions

@@ -92,9 +92,13 @@ mutual
       let b = steps_typed c NoStep body in
       let d = steps_behind c b.value.1 in
       let o = steps_typed d NoStep otherwise in
-      let both = no_right (condition_in c.scope at test).faults (b.faults ++ (o.faults ++ [])) none in
-      ((steps_new c NoStep body (no_left b.faults (o.faults ++ []) both),
-      steps_new d NoStep otherwise (no_left o.faults [] (no_right b.faults (o.faults ++ []) both))), refl)
+      let both = no_right (condition_in c.scope at test).faults (b.faults ++ (o.faults ++ [])) none in (
+        (
+          steps_new c NoStep body (no_left b.faults (o.faults ++ []) both),
+          steps_new d NoStep otherwise (no_left o.faults [] (no_right b.faults (o.faults ++ []) both)),
+        ),
+        refl,
+      )
   step_new c (source.Print at e) none = (tt, refl)
   step_new c (source.Assign name initial) none = (tt, refl)
   step_new c (source.Reduce name by e) none = (tt, refl)
@@ -154,9 +158,13 @@ mutual
       let b = statements_typed c Empty body in
       let d = closed c b.value.1 in
       let o = statements_typed d Empty otherwise in
-      let both = no_right (condition_in c.scope at test).faults (b.faults ++ (o.faults ++ [])) none in
-      ((statements_new c Empty body (no_left b.faults (o.faults ++ []) both),
-      statements_new d Empty otherwise (no_left o.faults [] (no_right b.faults (o.faults ++ []) both))), refl)
+      let both = no_right (condition_in c.scope at test).faults (b.faults ++ (o.faults ++ [])) none in (
+        (
+          statements_new c Empty body (no_left b.faults (o.faults ++ []) both),
+          statements_new d Empty otherwise (no_left o.faults [] (no_right b.faults (o.faults ++ []) both)),
+        ),
+        refl,
+      )
   action_new c (source.Print at e) none = (tt, refl)
   action_new c (source.Assign name initial) none = (tt, refl)
   action_new c (source.Reduce name by e) none = (tt, refl)
@@ -258,9 +266,10 @@ steps_declared_new d at kind name parameters result body none =
     let f = function_declared around kind name b.value.0 in
     let inside = no_right (kind_fits at kind).faults (c.faults ++ (b.faults ++ f.faults)) none in
     let both = no_right c.faults (b.faults ++ f.faults) inside in
-    let first = opened_new d.checker kind parameters result (no_left c.faults (b.faults ++ f.faults) inside) in
-    ((first.0, first.1, subst (λ visible. BlockDeclaresNew visible body) first.2 (steps_new c.value NoStep body (no_left b.faults f.faults both))),
-    function_new around kind name b.value.0 (no_right b.faults f.faults both))
+    let first = opened_new d.checker kind parameters result (no_left c.faults (b.faults ++ f.faults) inside) in (
+      (first.0, first.1, subst (λ visible. BlockDeclaresNew visible body) first.2 (steps_new c.value NoStep body (no_left b.faults f.faults both))),
+      function_new around kind name b.value.0 (no_right b.faults f.faults both),
+    )
 
 with_main_names : (e : DeclaredTree) (fits : Bool) (main : BlockTree) → names (with_main e fits main).checker ≡ names e.checker
 with_main_names e true main = refl
@@ -276,9 +285,10 @@ main_new d fits name parameters result body none =
     let e = declare_name around name entity.Main in
     let both = no_right c.faults (b.faults ++ (e.faults ++ [])) none in
     let first = opened_new (restarted d.checker) (MainKind fits) parameters result (no_left c.faults (b.faults ++ (e.faults ++ [])) none) in
-    let named = name_new around name entity.Main (no_left e.faults [] (no_right b.faults (e.faults ++ []) both)) in
-    ((first.0, first.1, subst (λ visible. BlockDeclaresNew visible body) first.2 (statements_new c.value Empty body (no_left b.faults (e.faults ++ []) both))),
-    (named.0, with_main_names e.value fits b.value.0 ∙ named.1))
+    let named = name_new around name entity.Main (no_left e.faults [] (no_right b.faults (e.faults ++ []) both)) in (
+      (first.0, first.1, subst (λ visible. BlockDeclaresNew visible body) first.2 (statements_new c.value Empty body (no_left b.faults (e.faults ++ []) both))),
+      (named.0, with_main_names e.value fits b.value.0 ∙ named.1),
+    )
 
 each_function_new : (d : DeclaredTree) (at : ℕ) (name : Identifier) (parameters : List ParameterTree) (result : Option ParameterTree) (body : source.BlockTree) (kind : KindTree)
     → (declare_function d at name parameters result body kind).faults ≡ []

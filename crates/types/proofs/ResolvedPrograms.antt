@@ -154,13 +154,15 @@ on_vertices p n = record { integers = []; conditions = []; sets = p.sets; vertic
 entered_as : (p : ProgramTree) (n : ℕ) (kind : KindTree) (c : CheckerTree) → CheckerFits p (in_main p) c
     → CheckerFits p (on_vertices p n) (with_writes (with_scope c (entered (inside_of kind) c.scope)) [])
 entered_as p n kind c fits =
-    let more : Grows (in_main p) (on_vertices p n) = record { integers = λ k x is. is; conditions = λ k x is. is; sets = λ k x is. is; vertices = omega arith } in
-    (record {
-      integers = fits.0.integers;
-      conditions = fits.0.conditions;
-      sets = fits.0.sets;
-      known = known_grows p (in_main p) (on_vertices p n) more c.scope.visible fits.0.known;
-    }, fits.1)
+    let more : Grows (in_main p) (on_vertices p n) = record { integers = λ k x is. is; conditions = λ k x is. is; sets = λ k x is. is; vertices = omega arith } in (
+      record {
+        integers = fits.0.integers;
+        conditions = fits.0.conditions;
+        sets = fits.0.sets;
+        known = known_grows p (in_main p) (on_vertices p n) more c.scope.visible fits.0.known;
+      },
+      fits.1,
+    )
 
 entered_fits : (p : ProgramTree) (kind : KindTree) (c : CheckerTree) → CheckerFits p (in_main p) c
     → CheckerFits p (visible_in p kind) (with_writes (with_scope c (entered (inside_of kind) c.scope)) [])
@@ -208,10 +210,12 @@ filter_opened p c parameters None none within fits shape = absurd shape.1
 filter_opened p c parameters (Some result) none within fits shape =
     let e = with_writes (with_scope c (entered (inside_of FilterKind) c.scope)) [] in
     let d = parameters_declared e endpoint.Source parameters in
-    let slot = entity.ConditionVariable (condition_slot d.value) in
-    (length d.value.names, declared_name p d.value result.name slot within,
-    condition_declared p (in_vertex_function p) d.value result.name (no_right d.faults (declared_in d.value result.name slot).faults none) within
-    (before_result_fits p c FilterKind parameters (Some result) none fits shape))
+    let slot = entity.ConditionVariable (condition_slot d.value) in (
+      length d.value.names,
+      declared_name p d.value result.name slot within,
+      condition_declared p (in_vertex_function p) d.value result.name (no_right d.faults (declared_in d.value result.name slot).faults none) within
+          (before_result_fits p c FilterKind parameters (Some result) none fits shape),
+    )
 
 -- what was declared is resolved
 abbrev MainIsResolved : ProgramTree → Option BlockTree → Type 0
@@ -235,9 +239,14 @@ constant_before p d at name initial declared.Bool given within =
     (declared_before p d.checker name (entity.ConditionConstant (next_name d) b) within.0, within.1, within.2, within.3, within.4, within.5)
 constant_before p d at name initial declared.Vertex given within =
     (declared_before p d.checker name entity.Unclear within.0, within.1, within.2, within.3, within.4, within.5)
-constant_before p d at name initial declared.VertexSet given within =
-    (declared_before p d.checker name (entity.ConstantSet (record { place = length d.sets; name = next_name d })) within.0, within.1, within.2, within.3, within.4,
-    λ k x is. within.5 k x (get_before d.sets (next_name d ∷ []) k x is))
+constant_before p d at name initial declared.VertexSet given within = (
+  declared_before p d.checker name (entity.ConstantSet (record { place = length d.sets; name = next_name d })) within.0,
+  within.1,
+  within.2,
+  within.3,
+  within.4,
+  λ k x is. within.5 k x (get_before d.sets (next_name d ∷ []) k x is),
+)
 constant_before p d at name initial declared.Vector given within =
     (declared_before p d.checker name (entity.Vector (length d.vectors)) within.0, shorter d.vectors _ (length p.vectors) within.1, within.2, within.3, within.4, within.5)
 constant_before p d at name initial declared.EdgeSet given within =
@@ -274,15 +283,29 @@ constant_fits p d at name initial declared.Vector given none within fits =
     let named = no_left (declare_name d name e).faults [] (no_right b.faults _ none) in
     let left = no_left (declared_in d.checker name e).faults [] named in
     let there = declared_name p d.checker name e within.0 in
-    let vector : Vector = record { name = next_name d; beginning = b.value } in
-    (placeless p (in_main p) d.checker name e left fits.0 (last_within d.vectors vector (length p.vectors) within.1) refl refl refl, fits.1,
-    all_then (VectorIsResolved p) d.vectors vector fits.2 there, fits.3, fits.4, fits.5, fits.6, fits.7)
+    let vector : Vector = record { name = next_name d; beginning = b.value } in (
+      placeless p (in_main p) d.checker name e left fits.0 (last_within d.vectors vector (length p.vectors) within.1) refl refl refl,
+      fits.1,
+      all_then (VectorIsResolved p) d.vectors vector fits.2 there,
+      fits.3,
+      fits.4,
+      fits.5,
+      fits.6,
+      fits.7,
+    )
 constant_fits p d at name initial declared.EdgeSet given none within fits =
     let only = only_edges name (next_name d) d.edges in
     let named = no_right only.faults ((declare_name d name entity.Edges).faults ++ []) (no_right (loads at given).faults _ none) in
-    let left = no_left (declared_in d.checker name entity.Edges).faults [] (no_left (declare_name d name entity.Edges).faults [] named) in
-    (placeless p (in_main p) d.checker name entity.Edges left fits.0 tt refl refl refl,
-    edges_resolved p name (next_name d) d.edges fits.1 (declared_name p d.checker name entity.Edges within.0), fits.2, fits.3, fits.4, fits.5, fits.6, fits.7)
+    let left = no_left (declared_in d.checker name entity.Edges).faults [] (no_left (declare_name d name entity.Edges).faults [] named) in (
+      placeless p (in_main p) d.checker name entity.Edges left fits.0 tt refl refl refl,
+      edges_resolved p name (next_name d) d.edges fits.1 (declared_name p d.checker name entity.Edges within.0),
+      fits.2,
+      fits.3,
+      fits.4,
+      fits.5,
+      fits.6,
+      fits.7,
+    )
 
 -- what the statements of a function of each kind have to be
 abbrev StepsFitKind : ProgramTree → KindTree → StepsTree → Type 0
@@ -297,15 +320,30 @@ function_before : (p : ProgramTree) (d : DeclaredTree) (kind : KindTree) (name :
     → WithinProgram p (function_declared d kind name steps).value → WithinProgram p d
 function_before p d (MainKind fits) name steps within =
     (declared_before p d.checker name entity.Unclear within.0, within.1, within.2, within.3, within.4, within.5)
-function_before p d EdgeKind name steps within =
-    (declared_before p d.checker name (entity.EdgeFunction (length d.edge_functions)) within.0, within.1,
-    shorter d.edge_functions _ (length p.edge_functions) within.2, within.3, within.4, within.5)
-function_before p d VertexKind name steps within =
-    (declared_before p d.checker name (entity.VertexFunction (length d.vertex_functions)) within.0, within.1, within.2,
-    shorter d.vertex_functions _ (length p.vertex_functions) within.3, within.4, within.5)
-function_before p d FilterKind name steps within =
-    (declared_before p d.checker name (entity.Filter (length d.filters)) within.0, within.1, within.2, within.3,
-    shorter d.filters _ (length p.filters) within.4, within.5)
+function_before p d EdgeKind name steps within = (
+  declared_before p d.checker name (entity.EdgeFunction (length d.edge_functions)) within.0,
+  within.1,
+  shorter d.edge_functions _ (length p.edge_functions) within.2,
+  within.3,
+  within.4,
+  within.5,
+)
+function_before p d VertexKind name steps within = (
+  declared_before p d.checker name (entity.VertexFunction (length d.vertex_functions)) within.0,
+  within.1,
+  within.2,
+  shorter d.vertex_functions _ (length p.vertex_functions) within.3,
+  within.4,
+  within.5,
+)
+function_before p d FilterKind name steps within = (
+  declared_before p d.checker name (entity.Filter (length d.filters)) within.0,
+  within.1,
+  within.2,
+  within.3,
+  shorter d.filters _ (length p.filters) within.4,
+  within.5,
+)
 function_before p d NoKind name steps within =
     (declared_before p d.checker name entity.Unclear within.0, within.1, within.2, within.3, within.4, within.5)
 
@@ -318,21 +356,42 @@ function_fits p d (MainKind fits) name steps none within all resolved =
 function_fits p d EdgeKind name steps none within all resolved =
     let e = entity.EdgeFunction (length d.edge_functions) in
     let left = no_left (declared_in d.checker name e).faults [] (no_left (declare_name d name e).faults [] none) in
-    let f = function_of d steps in
-    (placeless p (in_main p) d.checker name e left all.0 (last_within d.edge_functions f (length p.edge_functions) within.2) refl refl refl, all.1, all.2, all.3,
-    all_then (EdgeFunctionIsResolved p) d.edge_functions f all.4 (declared_name p d.checker name e within.0, resolved), all.5, all.6, all.7)
+    let f = function_of d steps in (
+      placeless p (in_main p) d.checker name e left all.0 (last_within d.edge_functions f (length p.edge_functions) within.2) refl refl refl,
+      all.1,
+      all.2,
+      all.3,
+      all_then (EdgeFunctionIsResolved p) d.edge_functions f all.4 (declared_name p d.checker name e within.0, resolved),
+      all.5,
+      all.6,
+      all.7,
+    )
 function_fits p d VertexKind name steps none within all resolved =
     let e = entity.VertexFunction (length d.vertex_functions) in
     let left = no_left (declared_in d.checker name e).faults [] (no_left (declare_name d name e).faults [] none) in
-    let f = function_of d steps in
-    (placeless p (in_main p) d.checker name e left all.0 (last_within d.vertex_functions f (length p.vertex_functions) within.3) refl refl refl, all.1, all.2, all.3, all.4,
-    all_then (VertexFunctionIsResolved p) d.vertex_functions f all.5 (declared_name p d.checker name e within.0, resolved), all.6, all.7)
+    let f = function_of d steps in (
+      placeless p (in_main p) d.checker name e left all.0 (last_within d.vertex_functions f (length p.vertex_functions) within.3) refl refl refl,
+      all.1,
+      all.2,
+      all.3,
+      all.4,
+      all_then (VertexFunctionIsResolved p) d.vertex_functions f all.5 (declared_name p d.checker name e within.0, resolved),
+      all.6,
+      all.7,
+    )
 function_fits p d FilterKind name steps none within all resolved =
     let e = entity.Filter (length d.filters) in
     let left = no_left (declared_in d.checker name e).faults [] (no_left (declare_name d name e).faults [] none) in
-    let f = function_of d steps in
-    (placeless p (in_main p) d.checker name e left all.0 (last_within d.filters f (length p.filters) within.4) refl refl refl, all.1, all.2, all.3, all.4, all.5,
-    all_then (FilterIsResolved p) d.filters f all.6 (declared_name p d.checker name e within.0, resolved), all.7)
+    let f = function_of d steps in (
+      placeless p (in_main p) d.checker name e left all.0 (last_within d.filters f (length p.filters) within.4) refl refl refl,
+      all.1,
+      all.2,
+      all.3,
+      all.4,
+      all.5,
+      all_then (FilterIsResolved p) d.filters f all.6 (declared_name p d.checker name e within.0, resolved),
+      all.7,
+    )
 function_fits p d NoKind name steps none within all resolved =
     let left = no_left (declared_in d.checker name entity.Unclear).faults [] none in
     (placeless p (in_main p) d.checker name entity.Unclear left all.0 tt refl refl refl, all.1, all.2, all.3, all.4, all.5, all.6, all.7)
@@ -399,9 +458,17 @@ main_before p d fits name parameters result body within =
     let c = (opened (restarted d.checker) (MainKind fits) parameters result).value in
     let b = (statements_typed c Empty body).value in
     let inner = with_main_before p (declare_name (around d b.1) name entity.Main).value fits b.0 within in
-    let between = declared_before p (with_scope b.1 d.checker.scope) name entity.Main inner.0 in
-    (between, (opened_before p (restarted d.checker) (MainKind fits) parameters result (statements_before p c Empty body between),
-    inner.1, inner.2, inner.3, inner.4, inner.5))
+    let between = declared_before p (with_scope b.1 d.checker.scope) name entity.Main inner.0 in (
+      between,
+      (
+        opened_before p (restarted d.checker) (MainKind fits) parameters result (statements_before p c Empty body between),
+        inner.1,
+        inner.2,
+        inner.3,
+        inner.4,
+        inner.5,
+      ),
+    )
 
 main_fits : (p : ProgramTree) (d : DeclaredTree) (fits : Bool) (name : Identifier) (parameters : List ParameterTree) (result : Option ParameterTree) (body : source.BlockTree)
     → (main_declared d fits name parameters result body).faults ≡ [] → WithinProgram p (main_declared d fits name parameters result body).value → DeclaredFits p d

@@ -234,9 +234,10 @@ mutual
       let names = no_right (integer_in c.scope at limit).faults (d.faults ++ (b.faults ++ [])) (no_right (integer_in c.scope at first).faults _ none) in
       let left = no_left b.faults [] (no_right d.faults (b.faults ++ []) names) in
       let between = statements_before p d.value Empty body within in
-      let inner = statements_fit p w d.value Empty body left within tt (loop_declared p v c name (no_left d.faults (b.faults ++ []) names) between fits) in
-      ((declared_name p c name e between, integer_in_resolved p v c.scope at fits.0.known first, integer_in_resolved p v c.scope at fits.0.known limit, inner.0),
-      left_fits p v (behind_block b.value.0 w) c b.value.1 fits inner.1)
+      let inner = statements_fit p w d.value Empty body left within tt (loop_declared p v c name (no_left d.faults (b.faults ++ []) names) between fits) in (
+        (declared_name p c name e between, integer_in_resolved p v c.scope at fits.0.known first, integer_in_resolved p v c.scope at fits.0.known limit, inner.0),
+        left_fits p v (behind_block b.value.0 w) c b.value.1 fits inner.1,
+      )
   action_fits p v c (source.If at test body) none within fits =
       let b = statements_typed c Empty body in
       let left = no_left b.faults [] (no_right (condition_in c.scope at test).faults _ none) in

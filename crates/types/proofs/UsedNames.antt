@@ -58,9 +58,10 @@ mutual
   expression_visible scope at (tree.LastConjunction c) none = conjunction_visible scope at c none
   expression_visible scope at (tree.ConjunctionThen c others) none =
       let x = conjunction_value scope at c in
-      let rest = disjuncts scope at (first_condition x.value) others in
-      (conjunction_visible scope at c (no_left x.faults _ none),
-      disjuncts_visible scope at (first_condition x.value) others (no_left rest.faults _ (no_right x.faults _ none)))
+      let rest = disjuncts scope at (first_condition x.value) others in (
+        conjunction_visible scope at c (no_left x.faults _ none),
+        disjuncts_visible scope at (first_condition x.value) others (no_left rest.faults _ (no_right x.faults _ none)),
+      )
 
   disjuncts_visible : (scope : ScopeTree) (at : ℕ) (left : ConditionsTree) (e : ExpressionTree) → (disjuncts scope at left e).faults ≡ [] → ExpressionUsesVisible (seen scope) e
   disjuncts_visible scope at left (tree.LastConjunction c) none = conjunction_visible scope at c (no_left (conjunction_value scope at c).faults [] none)
@@ -72,9 +73,10 @@ mutual
   conjunction_visible scope at (tree.LastComparison c) none = comparison_visible scope at c none
   conjunction_visible scope at (tree.ComparisonThen c others) none =
       let x = comparison_value scope at c in
-      let rest = conjuncts scope at (first_condition x.value) others in
-      (comparison_visible scope at c (no_left x.faults _ none),
-      conjuncts_visible scope at (first_condition x.value) others (no_left rest.faults _ (no_right x.faults _ none)))
+      let rest = conjuncts scope at (first_condition x.value) others in (
+        comparison_visible scope at c (no_left x.faults _ none),
+        conjuncts_visible scope at (first_condition x.value) others (no_left rest.faults _ (no_right x.faults _ none)),
+      )
 
   conjuncts_visible : (scope : ScopeTree) (at : ℕ) (left : ConditionsTree) (c : ConjunctionTree) → (conjuncts scope at left c).faults ≡ [] → ConjunctionUsesVisible (seen scope) c
   conjuncts_visible scope at left (tree.LastComparison c) none = comparison_visible scope at c (no_left (comparison_value scope at c).faults [] none)
@@ -93,9 +95,10 @@ mutual
   sum_visible scope at (tree.LastTerm t) none = term_visible scope at t none
   sum_visible scope at (tree.TermThen t o others) none =
       let x = term_value scope at t in
-      let rest = summands scope at (first_integer x.value) o others in
-      (term_visible scope at t (no_left x.faults _ none),
-      summands_visible scope at (first_integer x.value) o others (no_left rest.faults _ (no_right x.faults _ none)))
+      let rest = summands scope at (first_integer x.value) o others in (
+        term_visible scope at t (no_left x.faults _ none),
+        summands_visible scope at (first_integer x.value) o others (no_left rest.faults _ (no_right x.faults _ none)),
+      )
 
   summands_visible : (scope : ScopeTree) (at : ℕ) (left : IntegersTree) (o : Addition) (s : SumTree) → (summands scope at left o s).faults ≡ [] → SumUsesVisible (seen scope) s
   summands_visible scope at left o (tree.LastTerm t) none = term_visible scope at t (no_left (term_value scope at t).faults [] none)
@@ -107,9 +110,10 @@ mutual
   term_visible scope at (tree.LastUnary u) none = unary_visible scope at u none
   term_visible scope at (tree.UnaryThen u o others) none =
       let x = unary_value scope at u in
-      let rest = factors scope at (first_integer x.value) o others in
-      (unary_visible scope at u (no_left x.faults _ none),
-      factors_visible scope at (first_integer x.value) o others (no_left rest.faults _ (no_right x.faults _ none)))
+      let rest = factors scope at (first_integer x.value) o others in (
+        unary_visible scope at u (no_left x.faults _ none),
+        factors_visible scope at (first_integer x.value) o others (no_left rest.faults _ (no_right x.faults _ none)),
+      )
 
   factors_visible : (scope : ScopeTree) (at : ℕ) (left : IntegersTree) (o : Multiplication) (t : TermTree) → (factors scope at left o t).faults ≡ [] → TermUsesVisible (seen scope) t
   factors_visible scope at left o (tree.LastUnary u) none = unary_visible scope at u (no_left (unary_value scope at u).faults [] none)
@@ -126,9 +130,10 @@ mutual
   primary_visible scope at (tree.Truth b) none = tt
   primary_visible scope at (tree.Variable name) none = used_visible scope name (no_left (used scope name).faults _ none)
   primary_visible scope at (tree.Entry vector index) none =
-      let place = vector_place scope at vector in
-      (vector_visible scope at vector (no_left place.faults _ none),
-      expression_visible scope at index (no_left (value_of scope at index).faults _ (no_right place.faults _ none)))
+      let place = vector_place scope at vector in (
+        vector_visible scope at vector (no_left place.faults _ none),
+        expression_visible scope at index (no_left (value_of scope at index).faults _ (no_right place.faults _ none)),
+      )
   primary_visible scope at (tree.Size set) none = used_visible scope set (no_left (used scope set).faults _ none)
   primary_visible scope at (tree.Parentheses inside) none = expression_visible scope at inside none
 
@@ -148,18 +153,22 @@ given_visible c at (source.NewSet size) none = tt
 given_visible c at (source.Load argument) none = tt
 given_visible c at (source.Vertices edges) none = used_visible c.scope edges (no_left (used c.scope edges).faults _ none)
 given_visible c at (source.OutDegrees edges) none = used_visible c.scope edges (no_left (used c.scope edges).faults _ none)
-given_visible c at (source.Filter s f) none =
-    (used_visible c.scope s (no_left (used c.scope s).faults _ none),
-    used_visible c.scope f (no_left (used c.scope f).faults _ (no_right (used c.scope s).faults _ none)))
+given_visible c at (source.Filter s f) none = (
+  used_visible c.scope s (no_left (used c.scope s).faults _ none),
+  used_visible c.scope f (no_left (used c.scope f).faults _ (no_right (used c.scope s).faults _ none)),
+)
 given_visible c at (source.ApplyModified edges ends f x) none =
     let behind_edges = no_right (used c.scope edges).faults _ none in
     let behind_from = no_right (end_of c.scope ends.from).faults _ behind_edges in
-    let behind_to = no_right (end_of c.scope ends.to).faults _ behind_from in
-    (used_visible c.scope edges (no_left (used c.scope edges).faults _ none),
-    (end_visible c.scope ends.from (no_left (end_of c.scope ends.from).faults _ behind_edges),
-    end_visible c.scope ends.to (no_left (end_of c.scope ends.to).faults _ behind_from)),
-    used_visible c.scope f (no_left (used c.scope f).faults _ behind_to),
-    used_visible c.scope x (no_left (used c.scope x).faults _ (no_right (used c.scope f).faults _ behind_to)))
+    let behind_to = no_right (end_of c.scope ends.to).faults _ behind_from in (
+      used_visible c.scope edges (no_left (used c.scope edges).faults _ none),
+      (
+        end_visible c.scope ends.from (no_left (end_of c.scope ends.from).faults _ behind_edges),
+        end_visible c.scope ends.to (no_left (end_of c.scope ends.to).faults _ behind_from),
+      ),
+      used_visible c.scope f (no_left (used c.scope f).faults _ behind_to),
+      used_visible c.scope x (no_left (used c.scope x).faults _ (no_right (used c.scope f).faults _ behind_to)),
+    )
 given_visible c at (source.Value e) none = expression_visible c.scope at e (no_left (value_of c.scope at e).faults [] none)
 
 -- statements of functions
@@ -177,33 +186,41 @@ mutual
       let b = steps_typed c NoStep body in
       let d = steps_behind c b.value.1 in
       let o = steps_typed d NoStep otherwise in
-      let both = no_right t.faults (b.faults ++ (o.faults ++ [])) none in
-      (condition_visible c.scope at test (no_left t.faults _ none), steps_visible c NoStep body (no_left b.faults (o.faults ++ []) both),
-      steps_visible d NoStep otherwise (no_left o.faults [] (no_right b.faults (o.faults ++ []) both)))
+      let both = no_right t.faults (b.faults ++ (o.faults ++ [])) none in (
+        condition_visible c.scope at test (no_left t.faults _ none),
+        steps_visible c NoStep body (no_left b.faults (o.faults ++ []) both),
+        steps_visible d NoStep otherwise (no_left o.faults [] (no_right b.faults (o.faults ++ []) both)),
+      )
   step_visible c (source.Print at e) none = absurd (not_empty _ _ none)
   step_visible c (source.Assign name initial) none =
-      let all = no_left (assign_step c name.at name initial).faults [] none in
-      (used_visible c.scope name (no_left (used c.scope name).faults _ all),
-      given_visible c name.at initial (no_left (given_by c name.at initial).faults _ (no_right (used c.scope name).faults _ all)))
+      let all = no_left (assign_step c name.at name initial).faults [] none in (
+        used_visible c.scope name (no_left (used c.scope name).faults _ all),
+        given_visible c name.at initial (no_left (given_by c name.at initial).faults _ (no_right (used c.scope name).faults _ all)),
+      )
   step_visible c (source.Reduce name by e) none =
-      let all = no_left (reduce_step c.scope name.at name by e).faults [] none in
-      (used_visible c.scope name (no_left (used c.scope name).faults _ all),
-      expression_visible c.scope name.at e (no_left (value_of c.scope name.at e).faults _ (no_right (used c.scope name).faults _ all)))
+      let all = no_left (reduce_step c.scope name.at name by e).faults [] none in (
+        used_visible c.scope name (no_left (used c.scope name).faults _ all),
+        expression_visible c.scope name.at e (no_left (value_of c.scope name.at e).faults _ (no_right (used c.scope name).faults _ all)),
+      )
   step_visible c (source.SetEntry vector index e) none =
       let place = vector_place c.scope vector.at vector in
       let v = value_of c.scope vector.at index in
       let all = no_right (may_set vector.at c.scope.inside).faults _ (no_left (set_entry_step c.scope vector.at vector index e).faults [] none) in
       let behind_place = no_right place.faults _ all in
-      let behind_index = no_right (written_at vector.at (own_vertex c.scope.inside) v.value).faults _ (no_right v.faults _ behind_place) in
-      (vector_visible c.scope vector.at vector (no_left place.faults _ all), expression_visible c.scope vector.at index (no_left v.faults _ behind_place),
-      integer_visible c.scope vector.at e (no_left (integer_in c.scope vector.at e).faults _ behind_index))
+      let behind_index = no_right (written_at vector.at (own_vertex c.scope.inside) v.value).faults _ (no_right v.faults _ behind_place) in (
+        vector_visible c.scope vector.at vector (no_left place.faults _ all),
+        expression_visible c.scope vector.at index (no_left v.faults _ behind_place),
+        integer_visible c.scope vector.at e (no_left (integer_in c.scope vector.at e).faults _ behind_index),
+      )
   step_visible c (source.ReduceEntry vector index by e) none =
       let place = vector_place c.scope vector.at vector in
       let v = value_of c.scope vector.at index in
       let behind_place = no_right (may_reduce vector.at c.scope.inside place.value by c.writes).faults _ (no_right place.faults _ none) in
-      let behind_index = no_right (written_at vector.at (own_vertex c.scope.inside) v.value).faults _ (no_right v.faults _ behind_place) in
-      (vector_visible c.scope vector.at vector (no_left place.faults _ none), expression_visible c.scope vector.at index (no_left v.faults _ behind_place),
-      integer_visible c.scope vector.at e (no_left (integer_in c.scope vector.at e).faults _ behind_index))
+      let behind_index = no_right (written_at vector.at (own_vertex c.scope.inside) v.value).faults _ (no_right v.faults _ behind_place) in (
+        vector_visible c.scope vector.at vector (no_left place.faults _ none),
+        expression_visible c.scope vector.at index (no_left v.faults _ behind_place),
+        integer_visible c.scope vector.at e (no_left (integer_in c.scope vector.at e).faults _ behind_index),
+      )
   step_visible c (source.AddVertex set e) none = absurd (not_empty _ _ none)
   step_visible c (source.Apply target ends function) none = absurd (not_empty _ _ none)
 
@@ -235,9 +252,11 @@ mutual
       let b = statements_typed d.value Empty body in
       let bounds = no_right a.faults _ none in
       let both = no_right z.faults (d.faults ++ (b.faults ++ [])) bounds in
-      let inner = statements_visible d.value Empty body (no_left b.faults [] (no_right d.faults (b.faults ++ []) both)) in
-      (integer_visible c.scope at first (no_left a.faults _ none), integer_visible c.scope at limit (no_left z.faults _ bounds),
-      subst (λ visible. BlockUsesVisible visible body) (declared_new c name e (no_left d.faults (b.faults ++ []) both)).1 inner)
+      let inner = statements_visible d.value Empty body (no_left b.faults [] (no_right d.faults (b.faults ++ []) both)) in (
+        integer_visible c.scope at first (no_left a.faults _ none),
+        integer_visible c.scope at limit (no_left z.faults _ bounds),
+        subst (λ visible. BlockUsesVisible visible body) (declared_new c name e (no_left d.faults (b.faults ++ []) both)).1 inner,
+      )
   action_visible c (source.If at test body) none =
       let t = condition_in c.scope at test in
       let b = statements_typed c Empty body in
@@ -247,48 +266,60 @@ mutual
       let b = statements_typed c Empty body in
       let d = closed c b.value.1 in
       let o = statements_typed d Empty otherwise in
-      let both = no_right t.faults (b.faults ++ (o.faults ++ [])) none in
-      (condition_visible c.scope at test (no_left t.faults _ none), statements_visible c Empty body (no_left b.faults (o.faults ++ []) both),
-      statements_visible d Empty otherwise (no_left o.faults [] (no_right b.faults (o.faults ++ []) both)))
+      let both = no_right t.faults (b.faults ++ (o.faults ++ [])) none in (
+        condition_visible c.scope at test (no_left t.faults _ none),
+        statements_visible c Empty body (no_left b.faults (o.faults ++ []) both),
+        statements_visible d Empty otherwise (no_left o.faults [] (no_right b.faults (o.faults ++ []) both)),
+      )
   action_visible c (source.Print at e) none =
       expression_visible c.scope at e (no_left (value_of c.scope at e).faults _ (no_left (print c.scope at e).faults [] none))
   action_visible c (source.Assign name initial) none =
-      let all = no_left (assign c name.at name initial).faults [] none in
-      (used_visible c.scope name (no_left (used c.scope name).faults _ all),
-      given_visible c name.at initial (no_left (given_by c name.at initial).faults _ (no_right (used c.scope name).faults _ all)))
+      let all = no_left (assign c name.at name initial).faults [] none in (
+        used_visible c.scope name (no_left (used c.scope name).faults _ all),
+        given_visible c name.at initial (no_left (given_by c name.at initial).faults _ (no_right (used c.scope name).faults _ all)),
+      )
   action_visible c (source.Reduce name by e) none =
-      let all = no_left (reduce c.scope name.at name by e).faults [] none in
-      (used_visible c.scope name (no_left (used c.scope name).faults _ all),
-      expression_visible c.scope name.at e (no_left (value_of c.scope name.at e).faults _ (no_right (used c.scope name).faults _ all)))
+      let all = no_left (reduce c.scope name.at name by e).faults [] none in (
+        used_visible c.scope name (no_left (used c.scope name).faults _ all),
+        expression_visible c.scope name.at e (no_left (value_of c.scope name.at e).faults _ (no_right (used c.scope name).faults _ all)),
+      )
   action_visible c (source.SetEntry vector index e) none =
       let place = vector_place c.scope vector.at vector in
       let v = value_of c.scope vector.at index in
       let all = no_left (set_entry c.scope vector.at vector index e).faults [] none in
       let behind_place = no_right place.faults _ all in
-      let behind_index = no_right (as_index vector.at v.value).faults _ (no_right v.faults _ behind_place) in
-      (vector_visible c.scope vector.at vector (no_left place.faults _ all), expression_visible c.scope vector.at index (no_left v.faults _ behind_place),
-      integer_visible c.scope vector.at e (no_left (integer_in c.scope vector.at e).faults _ behind_index))
+      let behind_index = no_right (as_index vector.at v.value).faults _ (no_right v.faults _ behind_place) in (
+        vector_visible c.scope vector.at vector (no_left place.faults _ all),
+        expression_visible c.scope vector.at index (no_left v.faults _ behind_place),
+        integer_visible c.scope vector.at e (no_left (integer_in c.scope vector.at e).faults _ behind_index),
+      )
   action_visible c (source.ReduceEntry vector index by e) none =
       let place = vector_place c.scope vector.at vector in
       let v = value_of c.scope vector.at index in
       let all = no_left (reduce_entry c.scope vector.at vector index by e).faults [] none in
       let behind_place = no_right place.faults _ all in
-      let behind_index = no_right (as_index vector.at v.value).faults _ (no_right v.faults _ behind_place) in
-      (vector_visible c.scope vector.at vector (no_left place.faults _ all), expression_visible c.scope vector.at index (no_left v.faults _ behind_place),
-      integer_visible c.scope vector.at e (no_left (integer_in c.scope vector.at e).faults _ behind_index))
+      let behind_index = no_right (as_index vector.at v.value).faults _ (no_right v.faults _ behind_place) in (
+        vector_visible c.scope vector.at vector (no_left place.faults _ all),
+        expression_visible c.scope vector.at index (no_left v.faults _ behind_place),
+        integer_visible c.scope vector.at e (no_left (integer_in c.scope vector.at e).faults _ behind_index),
+      )
   action_visible c (source.AddVertex set e) none =
-      let all = no_left (add_vertex c.scope set.at set e).faults [] none in
-      (used_visible c.scope set (no_left (used c.scope set).faults _ all),
-      expression_visible c.scope set.at e (no_left (value_of c.scope set.at e).faults _ (no_right (used c.scope set).faults _ all)))
+      let all = no_left (add_vertex c.scope set.at set e).faults [] none in (
+        used_visible c.scope set (no_left (used c.scope set).faults _ all),
+        expression_visible c.scope set.at e (no_left (value_of c.scope set.at e).faults _ (no_right (used c.scope set).faults _ all)),
+      )
   action_visible c (source.Apply target ends function) none =
       let all = no_left (apply c.scope target.at target ends function).faults [] none in
       let behind_target = no_right (used c.scope target).faults _ all in
       let behind_from = no_right (end_of c.scope ends.from).faults _ behind_target in
-      let behind_to = no_right (end_of c.scope ends.to).faults _ behind_from in
-      (used_visible c.scope target (no_left (used c.scope target).faults _ all),
-      (end_visible c.scope ends.from (no_left (end_of c.scope ends.from).faults _ behind_target),
-      end_visible c.scope ends.to (no_left (end_of c.scope ends.to).faults _ behind_from)),
-      used_visible c.scope function (no_left (used c.scope function).faults _ behind_to))
+      let behind_to = no_right (end_of c.scope ends.to).faults _ behind_from in (
+        used_visible c.scope target (no_left (used c.scope target).faults _ all),
+        (
+          end_visible c.scope ends.from (no_left (end_of c.scope ends.from).faults _ behind_target),
+          end_visible c.scope ends.to (no_left (end_of c.scope ends.to).faults _ behind_from),
+        ),
+        used_visible c.scope function (no_left (used c.scope function).faults _ behind_to),
+      )
 
   statements_visible : (c : CheckerTree) (so_far : BlockTree) (block : source.BlockTree) → (statements_typed c so_far block).faults ≡ [] → BlockUsesVisible (seen c.scope) block
   statements_visible c so_far source.Empty none = tt
@@ -342,9 +373,10 @@ declarations_visible d [] none = tt
 declarations_visible d (x ∷ others) none =
     let e = declaration_typed d x in
     let rest = declarations_typed e.value others in
-    let clear = no_left e.faults rest.faults none in
-    (declaration_visible d x clear,
-    subst (λ visible. DeclarationsUseVisible visible others) (declaration_new d x clear).1 (declarations_visible e.value others (no_right e.faults rest.faults none)))
+    let clear = no_left e.faults rest.faults none in (
+      declaration_visible d x clear,
+      subst (λ visible. DeclarationsUseVisible visible others) (declaration_new d x clear).1 (declarations_visible e.value others (no_right e.faults rest.faults none)),
+    )
 
 pub names_are_visible : (source : SourceTree) (length : ℕ) → (program_of source length).faults ≡ [] → DeclarationsUseVisible [] source.declarations
 names_are_visible source length none =
