@@ -80,7 +80,11 @@ fn has_the_neighbours<R: Abort + AllocGlobal>(
     let alloc = rt.alloc();
     let out: Vec<u32> = flat.out(vertex).collect(alloc)?;
     let into: Vec<u32> = flat.in_(vertex).collect(alloc)?;
-    assert_eq!(rt; out.len(), flat.out_degree(vertex) as usize, "from {vertex}");
+    assert_eq!(rt;
+        out.len(),
+        flat.out_degree(vertex) as usize,
+        "from {vertex}"
+    );
     assert_eq!(rt; into.len(), flat.in_degree(vertex) as usize, "to {vertex}");
     if let Some(set) = graph.out(vertex) {
         let wanted: Vec<u32> = set.iter().collect(alloc)?;
