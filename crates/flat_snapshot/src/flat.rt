@@ -44,9 +44,10 @@ impl Model for Flat {
 }
 
 impl Flat {
-    /// The flat snapshot of a graph. It takes time in proportion to the vertices that have edges, and
-    /// to a small part of those that have none. It copies the short sets of neighbours that have no
-    /// head, and shares the others with the graph. The graph stays as it is.
+    /// The flat snapshot of a graph. It takes time in proportion to the vertices that have edges, to
+    /// the heads of their sets and to the bytes that it copies, which are at most 255 for a vertex and
+    /// a direction; beside that two bits for each vertex and direction. It copies the short sets of
+    /// neighbours that have no head, and shares the others with the graph, which stays as it is.
     ///
     /// The only error is out of memory, which includes a count of owners that is full.
     pub fn of(alloc: Global, graph: &Graph) -> Result<Flat, AllocError>
