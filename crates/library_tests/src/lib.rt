@@ -22,6 +22,8 @@ mod script_devices;
 #[cfg(test)]
 mod set_operations;
 #[cfg(test)]
+mod sets_of_vertices;
+#[cfg(test)]
 mod shared_trees;
 #[cfg(test)]
 mod tails;
@@ -29,7 +31,5 @@ mod tails;
 mod token_spans;
 #[cfg(test)]
 mod version_steps;
-#[cfg(test)]
-mod vertex_set_forms;
 #[cfg(test)]
 mod written_sources;
