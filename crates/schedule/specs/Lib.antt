@@ -1,0 +1,9 @@
+pub mod Access
+pub mod Calls
+pub mod Chain
+pub mod Names
+pub mod Refusal
+pub mod Rules
+pub mod Schedule
+pub mod Sites
+pub mod Values
