@@ -1,5 +1,5 @@
 //! Which vectors functions read and write.
-ghost use Rattle.std.specs.Prelude.{◌≡◌, ◌++◌, ◌&&◌, map, OnOk};
+ghost use Rattle.std.specs.Prelude.{◌≡◌, ◌++◌, map, OnOk};
 ghost use Rattle.typed_tree.specs.IntegerTree.{integer_tree};
 ghost use Rattle.typed_tree.specs.ConditionTree.{condition_tree};
 ghost use Rattle.typed_tree.specs.StepTree.{function_tree, step_tree, steps_tree};
@@ -100,17 +100,10 @@ fn step_does_avoid(step: &Step, vectors: &[usize]) -> bool
         }
         Step::If(c, body) => condition_does_avoid(c, vectors) && all_steps_avoid(body, vectors),
         Step::IfElse(c, body, other) => {
-            condition_does_avoid(c, vectors) && both_avoid(body, other, vectors)
+            condition_does_avoid(c, vectors)
+                && (all_steps_avoid(body, vectors) && all_steps_avoid(other, vectors))
         }
     }
-}
-
-/// The same of the statements of two blocks.
-#[cycle(steps)]
-fn both_avoid(body: &[Step], other: &[Step], vectors: &[usize]) -> bool
-    ensures { result ≡ steps_avoid vectors.now (steps_tree body.now) && steps_avoid vectors.now (steps_tree other.now) }
-{
-    all_steps_avoid(body, vectors) && all_steps_avoid(other, vectors)
 }
 
 /// Whether the function at this place neither reads nor writes an entry of these vectors. One that is not there
