@@ -1,24 +1,21 @@
 -- What the calls of a schedule come to.
-use Rattle.std.specs.Prelude.{ℕ, Bool, true, false, not, ◌&&◌, ◌||◌, nat_eq, nat_lt, List, [], ◌∷◌, ◌++◌, length, Option, Some, None, Result, Ok, Err, if◌then◌else◌}
+use Rattle.std.specs.Prelude.{◌≡◌, ℕ, Bool, true, false, not, ◌&&◌, ◌||◌, nat_eq, nat_lt, List, [], ◌∷◌, ◌++◌, length, Option, Some, None, Result, Ok, Err, if◌then◌else◌}
 use Rattle.std.specs.List.{concat, list_any}
 use Rattle.syntax.specs.declared.schedule.Setting.{Setting}
 use Rattle.syntax.specs.declared.schedule.Setting.TheVariants as setting
-use Rattle.typed_tree.specs.declared.program.Typed.{Typed}
-use Rattle.typed_tree.specs.ProgramTree.{ProgramTree, ScheduleCallTree, program_tree}
+use Rattle.typed_tree.specs.ProgramTree.{ProgramTree, ScheduleCallTree}
 use Rattle.schedule.specs.declared.choice.Choice.{Choice}
-use Rattle.schedule.specs.declared.choice.Fused.{Fused}
 use Rattle.schedule.specs.declared.choice.Fused.TheVariants.{With, Into}
 use Rattle.schedule.specs.declared.error.Rule.{Rule}
 use Rattle.schedule.specs.declared.error.Rule.TheVariants as rule
 use Rattle.schedule.specs.declared.error.ScheduleError.{ScheduleError}
 use Rattle.schedule.specs.declared.error.ScheduleError.TheVariants.{Faulty, NoMemory}
-use Rattle.schedule.specs.declared.schedule.Schedule.{Schedule}
 use Rattle.schedule.specs.declared.site.Apply.{Apply}
 use Rattle.schedule.specs.declared.site.Apply.TheVariants.{Vertices, Edges}
 use Rattle.schedule.specs.declared.site.Site.{Site}
 use Rattle.schedule.specs.Names.{label_place, vector_place}
 use Rattle.schedule.specs.Rules.{have_same_sets, are_independent}
-use Rattle.schedule.specs.Schedule.{ScheduleTree, choice_of, with_choice, is_fused, empty_schedule}
+use Rattle.schedule.specs.Schedule.{ScheduleTree, choice_of, with_choice, with_fused, with_one_group, is_fused, empty_schedule}
 use Rattle.schedule.specs.Sites.{site_of}
 use Rattle.schedule.specs.Values.{direction_of, parallelization_of, dense_vertex_set_of}
 
@@ -64,10 +61,18 @@ abbrev pub value_at : ProgramTree → Setting → List ℕ → ScheduleTree → 
 value_at p setting text s None = Err rule.UnknownLabel
 value_at p setting text s (Some label) = value_on setting text s label (apply_at p label)
 
+-- the arguments where they are two
+abbrev pub two_of : List (List ℕ) → Option (List ℕ × List ℕ)
+two_of (first ∷ second ∷ []) = Some (first, second)
+two_of _ = None
+
 -- a `config` call
+abbrev pub value_of_two : ProgramTree → Setting → Option (List ℕ × List ℕ) → ScheduleTree → Result ScheduleTree Rule
+value_of_two p setting (Some (label, text)) s = value_at p setting text s (label_place p label)
+value_of_two p setting None s = Err rule.BadArgument
+
 abbrev pub with_value : ProgramTree → Setting → List (List ℕ) → ScheduleTree → Result ScheduleTree Rule
-with_value p setting (label ∷ text ∷ []) s = value_at p setting text s (label_place p label)
-with_value p setting _ s = Err rule.BadArgument
+with_value p setting arguments s = value_of_two p setting (two_of arguments) s
 
 -- the statement right behind that with the first label, in its block, has the second
 abbrev pub is_label : Option ℕ → ℕ → Bool
@@ -93,13 +98,7 @@ fusing_fault_of p s first second _ _ = Some rule.NoApply
 abbrev pub fusing_fault : ProgramTree → ScheduleTree → ℕ → ℕ → Option Rule
 fusing_fault p s first second = fusing_fault_of p s first second (apply_at p first) (apply_at p second)
 
-abbrev pub fused_as : Fused → Choice → Choice
-fused_as fused c = record { direction = c.direction; parallelization = c.parallelization; dense_vertex_set = c.dense_vertex_set; fused = Some fused }
-
 -- with two labels fused
-abbrev pub with_fused : ℕ → Fused → ScheduleTree → ScheduleTree
-with_fused label fused s = with_choice label (fused_as fused (choice_of label s)) s
-
 abbrev pub fuse_or : Option Rule → ℕ → ℕ → ScheduleTree → Result ScheduleTree Rule
 fuse_or (Some r) first second s = Err r
 fuse_or None first second s = Ok (with_fused second (Into first) (with_fused first (With second) s))
@@ -109,24 +108,25 @@ fuse_at p s (Some first) (Some second) = fuse_or (fusing_fault p s first second)
 fuse_at p s _ _ = Err rule.UnknownLabel
 
 -- a call of `fuseApplyFunctions`
+abbrev pub fusing_of_two : ProgramTree → Option (List ℕ × List ℕ) → ScheduleTree → Result ScheduleTree Rule
+fusing_of_two p (Some (first, second)) s = fuse_at p s (label_place p first) (label_place p second)
+fusing_of_two p None s = Err rule.BadArgument
+
 abbrev pub with_fusing : ProgramTree → List (List ℕ) → ScheduleTree → Result ScheduleTree Rule
-with_fusing p (first ∷ second ∷ []) s = fuse_at p s (label_place p first) (label_place p second)
-with_fusing p _ s = Err rule.BadArgument
+with_fusing p arguments s = fusing_of_two p (two_of arguments) s
 
 -- the vectors of these names behind those of the group so far, where each is in no group
-abbrev mutual
-  pub grown : ProgramTree → (taken group : List ℕ) → List (List ℕ) → Option (List ℕ)
-  grown p taken group [] = Some group
-  grown p taken group (name ∷ names) = grown_by p taken group names (vector_place p name)
+abbrev pub grown_by : (taken group : List ℕ) → Option ℕ → (List ℕ → Option (List ℕ)) → Option (List ℕ)
+grown_by taken group None rest = None
+grown_by taken group (Some v) rest = if list_any (nat_eq v) (taken ++ group) then None else rest (group ++ v ∷ [])
 
-  pub grown_by : ProgramTree → (taken group : List ℕ) → List (List ℕ) → Option ℕ → Option (List ℕ)
-  grown_by p taken group names None = None
-  grown_by p taken group names (Some v) =
-      if list_any (nat_eq v) (taken ++ group) then None else grown p taken (group ++ v ∷ []) names
+abbrev pub grown : ProgramTree → (taken group : List ℕ) → List (List ℕ) → Option (List ℕ)
+grown p taken group [] = Some group
+grown p taken group (name ∷ names) = grown_by taken group (vector_place p name) λ more. grown p taken more names
 
 abbrev pub with_group : Option (List ℕ) → ScheduleTree → Result ScheduleTree Rule
 with_group None s = Err rule.BadFields
-with_group (Some group) s = Ok (record { choices = s.choices; groups = s.groups ++ group ∷ [] })
+with_group (Some group) s = Ok (with_one_group group s)
 
 -- a call of `fuseFields`
 abbrev pub with_fields : ProgramTree → List (List ℕ) → ScheduleTree → Result ScheduleTree Rule
@@ -143,21 +143,20 @@ abbrev pub with_call : ProgramTree → ScheduleCallTree → ScheduleTree → Res
 with_call p call s = with_call_of p call.setting call.arguments s
 
 -- the calls, one after the other; the first that breaks a rule is told, with its place
-abbrev mutual
-  pub with_calls : ProgramTree → List ScheduleCallTree → ScheduleTree → Result ScheduleTree (Rule × ℕ)
-  with_calls p [] s = Ok s
-  with_calls p (call ∷ calls) s = after_call p call.at calls (with_call p call s)
+abbrev pub after_call : ℕ → Result ScheduleTree Rule → (ScheduleTree → Result ScheduleTree (Rule × ℕ)) → Result ScheduleTree (Rule × ℕ)
+after_call at (Ok s) rest = rest s
+after_call at (Err r) rest = Err (r, at)
 
-  pub after_call : ProgramTree → ℕ → List ScheduleCallTree → Result ScheduleTree Rule → Result ScheduleTree (Rule × ℕ)
-  after_call p at calls (Ok s) = with_calls p calls s
-  after_call p at calls (Err r) = Err (r, at)
+abbrev pub with_calls : ProgramTree → List ScheduleCallTree → ScheduleTree → Result ScheduleTree (Rule × ℕ)
+with_calls p [] s = Ok s
+with_calls p (call ∷ calls) s = after_call call.at (with_call p call s) λ new. with_calls p calls new
 
 -- what a program's schedule says, or the rule that its first faulty call breaks
 abbrev pub schedule_of : ProgramTree → Result ScheduleTree (Rule × ℕ)
 schedule_of p = with_calls p p.schedule empty_schedule
 
 -- the answer is what the schedule says; nothing is said where memory runs out
-abbrev pub Accepts : ProgramTree → Result Schedule ScheduleError → Type 0
+abbrev pub Accepts : ProgramTree → Result ScheduleTree ScheduleError → Type 0
 Accepts p (Ok s) = schedule_of p ≡ Ok s
 Accepts p (Err (Faulty r at)) = schedule_of p ≡ Err (r, at)
 Accepts p (Err NoMemory) = Unit {0}

@@ -2,6 +2,7 @@ pub mod Access
 pub mod Calls
 pub mod Chain
 pub mod Names
+pub mod Putting
 pub mod Refusal
 pub mod Rules
 pub mod Schedule

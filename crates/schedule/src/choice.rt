@@ -1,5 +1,7 @@
 //! What a schedule says of an apply.
 ghost use Rattle.std.specs.Prelude.{◌≡◌};
+ghost use Rattle.schedule.specs.Calls.{first_given as given_first, given as given_to};
+ghost use Rattle.schedule.specs.Schedule.{no_choice};
 ghost use Rattle.schedule.specs.Values.{dense_vertex_set_of, direction_of, parallelization_of};
 
 use crate::error::Rule;
@@ -114,7 +116,9 @@ impl DenseVertexSet {
 
 impl Choice {
     /// What is said where no call is made.
-    pub(crate) fn none() -> Choice {
+    pub(crate) fn none() -> Choice
+        ensures { result ≡ no_choice }
+    {
         Choice {
             direction: None,
             parallelization: None,
@@ -124,7 +128,9 @@ impl Choice {
     }
 
     /// With a value of a `config` call, or the rule that the call breaks.
-    pub(crate) fn given(self, setting: Setting, text: &[u8]) -> Result<Choice, Rule> {
+    pub(crate) fn given(self, setting: Setting, text: &[u8]) -> Result<Choice, Rule>
+        ensures { result ≡ given_to setting text.now self }
+    {
         match setting {
             Setting::Direction => {
                 let direction = first_given(self.direction, Direction::named(text))?;
@@ -156,7 +162,9 @@ impl Choice {
 }
 
 /// The value, if it is in its table and none was given before, or the rule that is broken.
-fn first_given<T: Copy>(before: Option<T>, value: Option<T>) -> Result<Option<T>, Rule> {
+fn first_given<T: Copy>(before: Option<T>, value: Option<T>) -> Result<Option<T>, Rule>
+    ensures { result ≡ given_first before value }
+{
     match (value, before) {
         (None, _) => Err(Rule::BadArgument),
         (Some(_), Some(_)) => Err(Rule::GivenTwice),

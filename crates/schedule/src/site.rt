@@ -1,8 +1,9 @@
 //! What the labels of a program stand before.
-ghost use Rattle.std.specs.Prelude.{◌≡◌, ◌++◌, nat_eq, IfOk, OnOk, map};
+ghost use Rattle.std.specs.Prelude.{◌≡◌, ◌++◌, drop, nat_eq, IfOk, OnOk};
 ghost use Rattle.std.specs.Map.{lookup};
 ghost use Rattle.typed_tree.specs.BlockTree.{action_tree, block_tree};
-ghost use Rattle.schedule.specs.Sites.{apply_of, label_of, pair, site_at, site_of, sites_in, sites_of};
+ghost use Rattle.schedule.specs.Sites.{apply_of, label_of, modifying_as, sites_in, sites_of};
+ghost use Rattle.schedule.specs.Putting.{AreSites, PutsSite};
 
 use indexmap::IndexMap;
 use std::alloc::{AllocError, Global};
@@ -53,15 +54,15 @@ impl Model for Sites {
 impl Sites {
     /// Those of the statements of `main`. The time is in proportion to the statements.
     pub(crate) fn of(alloc: Global, main: &[Statement]) -> Result<Sites, AllocError>
-        ensures { IfOk result (λ sites. (label : ℕ) → lookup (nat_eq label) sites ≡ site_of label (block_tree main.now)) }
+        ensures { IfOk result (λ sites. AreSites sites (block_tree main.now)) }
     {
         let mut list = Vec::new(alloc);
         push_sites(main, &mut list)?;
         let mut sites = Sites {
             entries: IndexMap::new(alloc),
         };
-        'sites: for (label, site) in list {
-            sites.put(label, site)?;
+        'sites: for site in &list {
+            sites.put(site.0, site.1)?;
         }
         Ok(sites)
     }
@@ -74,8 +75,10 @@ impl Sites {
     }
 
     /// Puts a label behind the others, if it is not there already.
-    fn put(&mut self, label: usize, site: Site) -> Result<(), AllocError> {
-        if self.entries.get(&label).is_none() {
+    fn put(&mut self, label: usize, site: Site) -> Result<(), AllocError>
+        ensures { OnOk result (PutsSite self.old label site self.new) }
+    {
+        if self.get(label).is_none() {
             self.entries.insert(label, site)?;
         }
         Ok(())
@@ -85,19 +88,19 @@ impl Sites {
 /// Puts the labels of the statements, and of those in their blocks, behind the others, in the order of the text.
 #[cycle(sites)]
 fn push_sites(statements: &[Statement], sites: &mut Vec<(usize, Site)>) -> Result<(), AllocError>
-    ensures { OnOk result (map pair sites.new.items ≡ map pair sites.old.items ++ sites_of (block_tree statements.now)) }
+    ensures { OnOk result (sites.new.items ≡ sites.old.items ++ sites_of (block_tree statements.now)) }
 {
-    let mut rest = statements;
-    'statements: while let Some((statement, others)) = rest.split_first() {
+    let mut behind: usize = 0;
+    'statements: for statement in statements {
+        behind += 1;
         if let Some(label) = statement.label {
             let site = Site {
                 apply: applied_by(&statement.action),
-                next: first_label(others),
+                next: label_at(statements, behind),
             };
             sites.push((label, site))?;
         }
         push_inner(&statement.action, sites)?;
-        rest = others;
     }
     Ok(())
 }
@@ -105,12 +108,12 @@ fn push_sites(statements: &[Statement], sites: &mut Vec<(usize, Site)>) -> Resul
 /// The same of the statements in the blocks of a statement.
 #[cycle(sites)]
 fn push_inner(action: &Action, sites: &mut Vec<(usize, Site)>) -> Result<(), AllocError>
-    ensures { OnOk result (map pair sites.new.items ≡ map pair sites.old.items ++ sites_in (action_tree action.now)) }
+    ensures { OnOk result (sites.new.items ≡ sites.old.items ++ sites_in (action_tree action.now)) }
 {
     match action {
-        Action::If(_, body) | Action::While(_, body) | Action::For(_, _, _, body) => {
-            push_sites(body, sites)
-        }
+        Action::If(_, body) => push_sites(body, sites),
+        Action::While(_, body) => push_sites(body, sites),
+        Action::For(_, _, _, body) => push_sites(body, sites),
         Action::IfElse(_, body, other) => {
             push_sites(body, sites)?;
             push_sites(other, sites)
@@ -119,11 +122,11 @@ fn push_inner(action: &Action, sites: &mut Vec<(usize, Site)>) -> Result<(), All
     }
 }
 
-/// The label of the first statement, if it has one.
-fn first_label(statements: &[Statement]) -> Option<usize>
-    ensures { result ≡ label_of (block_tree statements.now) }
+/// The label of the statement at this place, if it is there and has one.
+fn label_at(statements: &[Statement], place: usize) -> Option<usize>
+    ensures { result ≡ label_of (block_tree (drop place statements.now)) }
 {
-    statements.first()?.label
+    statements.get(place)?.label
 }
 
 /// What a statement applies, if it does.
@@ -147,7 +150,9 @@ fn applied_by(action: &Action) -> Option<Apply>
 }
 
 /// The edge apply whose changes a set of this name gets, if that is its value.
-fn modifying(value: SetValue, name: usize) -> Option<Apply> {
+fn modifying(value: SetValue, name: usize) -> Option<Apply>
+    ensures { result ≡ modifying_as name value }
+{
     match value {
         SetValue::Modified(ends, function, _) => Some(Apply::Edges {
             ends,
