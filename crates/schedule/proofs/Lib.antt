@@ -1,2 +1,5 @@
+pub mod CallSteps
 pub mod Chains
+pub mod Choices
+pub mod FusedPairs
 pub mod Places

@@ -1,7 +1,10 @@
 -- Tables of names, and names in a row.
-use Rattle.std.proofs.Common.{◌≡◌, refl, ℕ, zero, suc, drop, nat_eq, slice_get, Bool, true, false, List, [], ◌∷◌, ◌++◌}
+use Rattle.std.proofs.Common.{◌≡◌, refl, ap, ◌∙◌, ℕ, zero, suc, drop, nat_eq, slice_get, Bool, true, false, List, [], ◌∷◌, ◌++◌}
 use Rattle.std.proofs.lemmas.Bool.{eqb-true}
+use Rattle.std.proofs.lemmas.List.{append-nil}
+use Rattle.std.proofs.lemmas.List.Folds.{concat-append}
 use Rattle.std.proofs.lemmas.Slice.Eq.{bytes_eq-Decides}
+use Rattle.std.specs.List.{concat}
 use Rattle.std.specs.Map.{lookup}
 use Rattle.std.specs.Option.{is_none}
 use Rattle.std.specs.Prelude.{Option, Some, None, if◌then◌else◌}
@@ -80,3 +83,6 @@ none_of None h = refl
 none_of (Some site) h =
     let bad : false ≡ true = h in
     cc
+
+pub concat_last : (groups : List (List ℕ)) (group : List ℕ) → concat (groups ++ group ∷ []) ≡ concat groups ++ group
+concat_last groups group = concat-append groups (group ∷ []) ∙ ap (λ (last : List ℕ). concat groups ++ last) (append-nil group)

@@ -1,6 +1,7 @@
 pub mod Access
 pub mod Calls
 pub mod Chain
+pub mod Laws
 pub mod Names
 pub mod Putting
 pub mod Refusal

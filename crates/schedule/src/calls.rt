@@ -41,8 +41,10 @@ pub fn accept(alloc: Global, program: &Typed) -> Result<Schedule, ScheduleError>
 {
     let tables = Tables::of(alloc, program)?;
     let mut schedule = Schedule::new(alloc);
-    tables.put_calls(alloc, &program.schedule, &mut schedule)?;
-    Ok(schedule)
+    match tables.put_calls(alloc, &program.schedule, &mut schedule) {
+        Ok(()) => Ok(schedule),
+        Err(error) => Err(error),
+    }
 }
 
 /// The arguments, where they are two.

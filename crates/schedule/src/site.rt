@@ -78,10 +78,13 @@ impl Sites {
     fn put(&mut self, label: usize, site: Site) -> Result<(), AllocError>
         ensures { OnOk result (PutsSite self.old label site self.new) }
     {
-        if self.get(label).is_none() {
-            self.entries.insert(label, site)?;
+        match self.get(label) {
+            Some(_) => Ok(()),
+            None => {
+                self.entries.insert(label, site)?;
+                Ok(())
+            }
         }
-        Ok(())
     }
 }
 

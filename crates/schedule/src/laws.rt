@@ -1,0 +1,12 @@
+//! Laws of accepted schedules. The calls do nothing.
+ghost use Rattle.std.specs.Prelude.{◌≡◌, Ok};
+ghost use Rattle.typed_tree.specs.ProgramTree.{ProgramTree};
+ghost use Rattle.schedule.specs.Calls.{schedule_of};
+ghost use Rattle.schedule.specs.Laws.{FusesWell};
+ghost use Rattle.schedule.specs.Schedule.{ScheduleTree};
+
+/// The law that of two fused statements the second stands right behind the first in one block, that they apply to
+/// the same sets, and that edge applies among them are independent.
+pub fn fused_statements_are_neighbours()
+    ensures { (p : ProgramTree) (s : ScheduleTree) → schedule_of p ≡ Ok s → FusesWell p s }
+{}
