@@ -1,4 +1,16 @@
 //! Schedules: which calls are accepted, and what they say.
+//!
+//! [`accept`] reads the calls of a checked program, one after the other, and answers with a [`Schedule`], or with the
+//! rule that the first faulty call breaks. Contracts see a `Schedule` as a `ScheduleTree`: what the calls say of each
+//! label that they name, and the groups of vectors. `specs/Calls.antt` says what a call comes to, `specs/Rules.antt`
+//! which applies may be fused, `specs/Access.antt` which vectors functions read and write, and `specs/Sites.antt` what
+//! a label stands before. `specs/Laws.antt` has what holds of each accepted schedule.
+//!
+//! One pass over `main` finds what the labels stand before, and labels and vectors are found by a hash. So the time is
+//! in proportion to the program and to the calls, and for a fusing to the two functions and the filters besides.
+//!
+//! The idea of a schedule beside the algorithm is that of GraphIt (Zhang, Yang, Baghdadi, Kamil, Shun, Amarasinghe,
+//! OOPSLA 2018). The lowering to plans stands on this crate.
 #![tactic(auto)]
 
 mod access;
