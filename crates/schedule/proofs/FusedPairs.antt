@@ -16,7 +16,7 @@ use Rattle.schedule.specs.Schedule.{ScheduleTree, choice_of, empty_schedule, fus
 use Rattle.schedule.proofs.CallSteps.{Step, GivesValue, Fuses, PutsGroup, kept_by_calls}
 use Rattle.schedule.proofs.Choices.{choice_elsewhere, choice_here, fused_after_value, given_fused}
 
-no_fault : (b : Bool) (r : Rule) (rest : Option Rule) → (if b then Some r else rest) ≡ None → (b ≡ false) × (rest ≡ None)
+pub no_fault : (b : Bool) (r : Rule) (rest : Option Rule) → (if b then Some r else rest) ≡ None → (b ≡ false) × (rest ≡ None)
 no_fault true r rest e = cc
 no_fault false r rest e = (refl, e)
 
