@@ -1,7 +1,7 @@
 -- What a call that breaks no rule does to a schedule, and what holds after all calls.
-use Rattle.std.proofs.Common.{◌≡◌, refl, ap, sym, subst, ℕ, Bool, true, false, not, ◌||◌, nat_eq, nat_lt, length, List, [], ◌∷◌}
+use Rattle.std.proofs.Common.{◌≡◌, refl, subst, ℕ, Bool, true, false, nat_lt, length, List, [], ◌∷◌}
 use Rattle.std.specs.List.{concat}
-use Rattle.std.specs.Prelude.{Option, Some, None, Result, Ok, Err, if◌then◌else◌}
+use Rattle.std.specs.Prelude.{Option, Some, None, Result, Ok, Err}
 use Rattle.syntax.specs.declared.schedule.Setting.{Setting}
 use Rattle.syntax.specs.declared.schedule.Setting.TheVariants as setting
 use Rattle.typed_tree.specs.ProgramTree.{ProgramTree, ScheduleCallTree}
@@ -11,7 +11,7 @@ use Rattle.schedule.specs.declared.error.Rule.{Rule}
 use Rattle.schedule.specs.declared.error.Rule.TheVariants as rule
 use Rattle.schedule.specs.declared.site.Apply.{Apply}
 use Rattle.schedule.specs.declared.site.Apply.TheVariants.{Vertices, Edges}
-use Rattle.schedule.specs.Calls.{after_call, and_then, apply_at, fuse_at, fuse_or, fusing_fault, fusing_of_two, given, grown, two_of, value_at, value_of_two, value_on, with_call, with_call_of, with_calls, with_fields, with_fusing, with_group, with_value}
+use Rattle.schedule.specs.Calls.{after_call, and_then, apply_at, fuse_at, fuse_or, fusing_fault, fusing_of_two, given, grown, two_of, value_at, value_of_two, value_on, with_call, with_call_of, with_calls, with_fields, with_group}
 use Rattle.schedule.specs.Names.{label_place}
 use Rattle.schedule.specs.Schedule.{ScheduleTree, choice_of, with_choice, with_fused, with_one_group}
 

@@ -1,7 +1,7 @@
 -- A label of an accepted schedule is in one fusing.
 use Rattle.std.proofs.Common.{◌≡◌, refl, ap, subst, sym, ◌∙◌, ℕ, Bool, true, false, ◌||◌, nat_eq}
 use Rattle.std.proofs.lemmas.Bool.{eqb-true}
-use Rattle.std.specs.Prelude.{Option, Some, None, is_some, Ok, if◌then◌else◌}
+use Rattle.std.specs.Prelude.{Option, Some, None, is_some, Ok}
 use Rattle.typed_tree.specs.ProgramTree.{ProgramTree}
 use Rattle.schedule.specs.declared.choice.Fused.{Fused}
 use Rattle.schedule.specs.declared.choice.Fused.TheVariants.{With, Into}

@@ -1,5 +1,5 @@
 -- Fused statements of an accepted schedule.
-use Rattle.std.proofs.Common.{◌≡◌, refl, ap, subst, sym, ◌∙◌, ℕ, Bool, true, false, not, ◌||◌, nat_eq}
+use Rattle.std.proofs.Common.{◌≡◌, refl, ap, subst, sym, ◌∙◌, ℕ, Bool, true, false, not, nat_eq}
 use Rattle.std.proofs.lemmas.Bool.{eqb-true}
 use Rattle.std.specs.Prelude.{Option, Some, None, Ok, if◌then◌else◌}
 use Rattle.typed_tree.specs.ProgramTree.{ProgramTree}
@@ -7,12 +7,11 @@ use Rattle.schedule.specs.declared.choice.Choice.{Choice}
 use Rattle.schedule.specs.declared.choice.Fused.{Fused}
 use Rattle.schedule.specs.declared.choice.Fused.TheVariants.{With, Into}
 use Rattle.schedule.specs.declared.error.Rule.{Rule}
-use Rattle.schedule.specs.declared.error.Rule.TheVariants as rule
 use Rattle.schedule.specs.declared.site.Apply.{Apply}
-use Rattle.schedule.specs.Calls.{apply_at, fusing_fault, fusing_fault_of, is_followed_by, schedule_of}
+use Rattle.schedule.specs.Calls.{apply_at, fusing_fault_of, is_followed_by, schedule_of}
 use Rattle.schedule.specs.Laws.{FusesWell, IsFusedWell}
 use Rattle.schedule.specs.Rules.{are_independent, have_same_sets}
-use Rattle.schedule.specs.Schedule.{ScheduleTree, choice_of, empty_schedule, fused_as, is_fused, with_fused, with_one_group}
+use Rattle.schedule.specs.Schedule.{ScheduleTree, choice_of, empty_schedule, fused_as, with_fused}
 use Rattle.schedule.proofs.CallSteps.{Step, GivesValue, Fuses, PutsGroup, kept_by_calls}
 use Rattle.schedule.proofs.Choices.{choice_elsewhere, choice_here, fused_after_value, given_fused}
 

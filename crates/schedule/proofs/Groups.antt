@@ -1,5 +1,5 @@
 -- Groups of an accepted schedule.
-use Rattle.std.proofs.Common.{◌≡◌, refl, ap, subst, sym, ◌∙◌, ℕ, Bool, true, false, nat_eq, List, [], ◌∷◌, ◌++◌}
+use Rattle.std.proofs.Common.{◌≡◌, refl, subst, sym, ℕ, Bool, true, false, nat_eq, List, [], ◌∷◌, ◌++◌}
 use Rattle.std.proofs.lemmas.List.{append_assoc, append-nil}
 use Rattle.std.proofs.lemmas.Map.Keys.{IsDistinct-push}
 use Rattle.std.specs.Cmp.{nat_eq_equiv}
@@ -42,7 +42,7 @@ step_keeps_distinct p s new old (Fuses a b none after) = subst GroupsAreDistinct
 step_keeps_distinct p s new old (PutsGroup names group is after) =
     let before : IsDistinct nat_eq (concat s.groups ++ []) = subst (IsDistinct nat_eq) (sym (append-nil (concat s.groups))) old in
     subst GroupsAreDistinct after
-      (subst (IsDistinct nat_eq) (sym (concat_last s.groups group)) (grown_is_distinct p (concat s.groups) [] group names before is))
+    (subst (IsDistinct nat_eq) (sym (concat_last s.groups group)) (grown_is_distinct p (concat s.groups) [] group names before is))
 
 pub accepted_groups_are_distinct : (p : ProgramTree) (s : ScheduleTree) → schedule_of p ≡ Ok s → GroupsAreDistinct s
 unfolding IsDistinct

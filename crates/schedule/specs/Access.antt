@@ -1,6 +1,6 @@
 -- Which vectors functions read and write.
 use Rattle.std.specs.List.{list_any}
-use Rattle.std.specs.Prelude.{◌==◌, ℕ, Bool, true, not, ◌&&◌, List, [], ◌∷◌, ◌++◌, Option, Some, None, slice_get, option_map}
+use Rattle.std.specs.Prelude.{◌==◌, ℕ, Bool, true, not, ◌&&◌, List, [], ◌∷◌, ◌++◌, Option, Some, None, slice_get}
 use Rattle.typed_tree.specs.declared.statement.EndFilter.{EndFilter}
 use Rattle.typed_tree.specs.declared.statement.EndFilter.TheVariants as end
 use Rattle.typed_tree.specs.IntegerTree.{IntegerTree}

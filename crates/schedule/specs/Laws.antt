@@ -1,5 +1,5 @@
 -- What holds of each accepted schedule.
-use Rattle.std.specs.Prelude.{◌≡◌, ℕ, true, nat_eq, List, Option, Some, None}
+use Rattle.std.specs.Prelude.{◌≡◌, ℕ, true, nat_eq, Some}
 use Rattle.std.specs.List.{concat, IsDistinct}
 use Rattle.typed_tree.specs.ProgramTree.{ProgramTree}
 use Rattle.schedule.specs.declared.choice.Fused.TheVariants.{With, Into}

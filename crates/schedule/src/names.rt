@@ -28,7 +28,12 @@ pub(crate) fn vector_places(
 {
     let mut places = Names::new(alloc);
     for place in 0..vectors.len() {
-        put_place(alloc, &mut places, name_at(names, vectors[place].name), place)?;
+        put_place(
+            alloc,
+            &mut places,
+            name_at(names, vectors[place].name),
+            place,
+        )?;
     }
     Ok(places)
 }

@@ -17,5 +17,5 @@ push_written_by-returns-in_ok-push_written_by_all-in-IfElse t c =
     let body = steps_write (steps_tree c.in-IfElse.body.items) in
     let other = steps_write (steps_tree c.in-IfElse.other.items) in
     on_ok_weaker c.push_written_by_all-in-IfElse-2.result
-        (λ e. rw (tree, ← append_assoc c.args.vectors.now.items body other, ← c.deref-in-IfElse.ensures.value, ← c.deref-in-IfElse-2.ensures.value, ← c.in_ok-push_written_by_all-in-IfElse.ensures) e)
-        c.push_written_by_all-in-IfElse-2.ensures
+    (λ e. rw (tree, ← append_assoc c.args.vectors.now.items body other, ← c.deref-in-IfElse.ensures.value, ← c.deref-in-IfElse-2.ensures.value, ← c.in_ok-push_written_by_all-in-IfElse.ensures) e)
+    c.push_written_by_all-in-IfElse-2.ensures

@@ -12,8 +12,8 @@ push_inner-returns-in_ok-push_sites-in-IfElse t c =
     let body = sites_of (block_tree c.in-IfElse.body.items) in
     let other = sites_of (block_tree c.in-IfElse.other.items) in
     on_ok_weaker c.push_sites-in-IfElse-2.result
-        (λ e. rw (tree, ← append_assoc c.args.sites.now.items body other, ← c.deref-in-IfElse.ensures.value, ← c.deref-in-IfElse-2.ensures.value, ← c.in_ok-push_sites-in-IfElse.ensures) e)
-        c.push_sites-in-IfElse-2.ensures
+    (λ e. rw (tree, ← append_assoc c.args.sites.now.items body other, ← c.deref-in-IfElse.ensures.value, ← c.deref-in-IfElse-2.ensures.value, ← c.in_ok-push_sites-in-IfElse.ensures) e)
+    c.push_sites-in-IfElse-2.ensures
 
 pub push_inner-returns-in-If : goal.push_inner-returns-in-If
 push_inner-returns-in-If t c =

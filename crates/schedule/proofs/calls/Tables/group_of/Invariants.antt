@@ -7,6 +7,6 @@ use Rattle.schedule.proofs.calls.Tables.group_of.Given as goal
 abbrev pub invariant-names : goal.invariant-names
 invariant-names l = record {
   group : grown (program_tree l.self.program.now) l.fn.taken.keys l.group.items (drop l.name-index l.names)
-    ≡ grown (program_tree l.self.program.now) l.fn.taken.keys [] l.names;
+      ≡ grown (program_tree l.self.program.now) l.fn.taken.keys [] l.names;
   taken : l.taken.keys ≡ l.fn.taken.keys ++ l.group.items;
 }

@@ -10,7 +10,7 @@ pub invariant_of-result : goal.invariant_of-result
 invariant_of-result c = record {
   labels_found = subst (λ (names : List (List ℕ)). ArePlaces c.in_ok-labels.labels names) c.deref.ensures.value c.in_ok-labels.ensures;
   vectors_found =
-    subst (λ (vectors : List Vector). ArePlaces c.in_ok-vectors.vectors (vector_names c.args.program.now.names.items vectors)) c.deref-3.ensures.value
+      subst (λ (vectors : List Vector). ArePlaces c.in_ok-vectors.vectors (vector_names c.args.program.now.names.items vectors)) c.deref-3.ensures.value
       (subst (λ (names : List (List ℕ)). ArePlaces c.in_ok-vectors.vectors (vector_names names c.deref-3.result.now)) c.deref-2.ensures.value c.in_ok-vectors.ensures);
   sites_found = subst (λ (main : List Statement). AreSites c.in_ok-sites.sites (block_tree main)) c.deref-4.ensures.value c.in_ok-sites.ensures;
 }

@@ -8,6 +8,6 @@ use Rattle.schedule.proofs.calls.Tables.put_calls.Given as goal
 abbrev pub invariant-calls : goal.invariant-calls
 invariant-calls l = record {
   outcome : with_calls (program_tree l.self.program.now) (map call_tree (drop l.call-index l.calls)) l.schedule
-    ≡ with_calls (program_tree l.self.program.now) (map call_tree l.calls) l.fn.schedule;
+      ≡ with_calls (program_tree l.self.program.now) (map call_tree l.calls) l.fn.schedule;
   taken : l.taken.keys ≡ concat l.schedule.groups;
 }
