@@ -21,7 +21,7 @@ pub data Step (p : ProgramTree) (s new : ScheduleTree) : Type 0 where
   Fuses : (first second : ℕ) → fusing_fault p s first second ≡ None → with_fused second (Into first) (with_fused first (With second) s) ≡ new → Step p s new
   PutsGroup : (names : List (List ℕ)) (group : List ℕ) → grown p (concat s.groups) [] names ≡ Some group → with_one_group group s ≡ new → Step p s new
 
-ok_is : {A B : Type 0} (r : Result A B) (a b : A) → r ≡ Ok a → r ≡ Ok b → a ≡ b
+pub ok_is : {A B : Type 0} (r : Result A B) (a b : A) → r ≡ Ok a → r ≡ Ok b → a ≡ b
 ok_is r a b is e = cc
 
 value_step : (p : ProgramTree) (setting : Setting) (text : List ℕ) (s new : ScheduleTree) (label : ℕ) (r : Result Choice Rule)
@@ -71,7 +71,7 @@ fields_step p names s new true is e =
     cc
 fields_step p names s new false is e = group_step p names s new _ refl (rw is at e)
 
-call_step : (p : ProgramTree) (which : Setting) (arguments : List (List ℕ)) (s new : ScheduleTree) → with_call_of p which arguments s ≡ Ok new → Step p s new
+pub call_step : (p : ProgramTree) (which : Setting) (arguments : List (List ℕ)) (s new : ScheduleTree) → with_call_of p which arguments s ≡ Ok new → Step p s new
 call_step p setting.FuseFunctions arguments s new e = fusing_step p (two_of arguments) s new e
 call_step p setting.FuseFields arguments s new e = fields_step p arguments s new _ refl e
 call_step p setting.Direction arguments s new e = two_step p setting.Direction (two_of arguments) s new e

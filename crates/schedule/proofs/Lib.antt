@@ -5,3 +5,4 @@ pub mod FusedOnce
 pub mod FusedPairs
 pub mod Groups
 pub mod Places
+pub mod Values
