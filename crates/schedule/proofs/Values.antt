@@ -1,7 +1,6 @@
 -- Values that calls gave in an accepted schedule.
-use Rattle.std.proofs.Common.{◌≡◌, refl, ap, subst, sym, ◌∙◌, ℕ, Bool, true, false, nat_eq, List, [], ◌∷◌}
+use Rattle.std.proofs.Common.{◌≡◌, refl, subst, sym, ◌∙◌, ℕ, Bool, true, false, nat_eq, List, [], ◌∷◌}
 use Rattle.std.proofs.lemmas.Bool.{eqb-true}
-use Rattle.std.specs.List.{AllByRecursion}
 use Rattle.std.specs.Prelude.{Option, Some, None, Result, Ok, Err}
 use Rattle.syntax.specs.declared.schedule.Setting.{Setting}
 use Rattle.syntax.specs.declared.schedule.Setting.TheVariants as setting
@@ -15,7 +14,6 @@ use Rattle.schedule.specs.Calls.{after_call, and_then, apply_at, first_given, gi
 use Rattle.schedule.specs.Laws.{IsGiven, IsGivenByTwo, IsGivenTo, HasValues}
 use Rattle.schedule.specs.Names.{label_place}
 use Rattle.schedule.specs.Schedule.{ScheduleTree, choice_of, empty_schedule, fused_as, with_choice, with_fused}
-use Rattle.schedule.specs.Values.{direction_of, parallelization_of, dense_vertex_set_of}
 use Rattle.schedule.proofs.CallSteps.{Step, GivesValue, Fuses, PutsGroup, kept_by_calls, ok_is}
 use Rattle.schedule.proofs.Choices.{choice_elsewhere, choice_here}
 
