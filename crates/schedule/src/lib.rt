@@ -1,0 +1,31 @@
+//! Schedules: which calls are accepted, and what they say.
+//!
+//! [`accept`] reads the calls of a checked program, one after the other, and answers with a [`Schedule`], or with the
+//! rule that the first faulty call breaks. Contracts see a `Schedule` as a `ScheduleTree`: what the calls say of each
+//! label that they name, and the groups of vectors. `specs/Calls.antt` says what a call comes to, `specs/Rules.antt`
+//! which applies may be fused, `specs/Access.antt` which vectors functions read and write, and `specs/Sites.antt` what
+//! a label stands before. `specs/Laws.antt` has what holds of each accepted schedule.
+//!
+//! One pass over `main` finds what the labels stand before, and labels and vectors are found by a hash. So the time is
+//! in proportion to the program and to the calls, and for a fusing to the two functions and the filters besides.
+//!
+//! The idea of a schedule beside the algorithm is that of GraphIt (Zhang, Yang, Baghdadi, Kamil, Shun, Amarasinghe,
+//! OOPSLA 2018). The lowering to plans stands on this crate.
+#![tactic(auto)]
+
+mod access;
+mod calls;
+mod choice;
+mod error;
+mod laws;
+mod names;
+mod rules;
+mod schedule;
+mod site;
+
+pub use calls::accept;
+pub use choice::{Choice, DenseVertexSet, Direction, Fused, Parallelization};
+pub use error::{Rule, ScheduleError};
+pub use laws::{fused_statements_are_neighbours, labels_are_fused_once, labels_have_the_values_of_calls,
+    vectors_are_in_one_group};
+pub use schedule::Schedule;

@@ -1,0 +1,89 @@
+//! The rules of calls on two applies.
+ghost use Rattle.std.specs.Prelude.{◌≡◌, IfOk};
+ghost use Rattle.typed_tree.specs.ProgramTree.{program_tree};
+ghost use Rattle.schedule.specs.Rules.{are_independent as independent, are_same as same_name, are_same_ends as same_ends, have_same_sets as same_sets, is_end};
+
+use crate::access::{end_does_avoid, function_does_avoid, push_written};
+use crate::names::name_at;
+use crate::site::Apply;
+use std::alloc::{AllocError, Global};
+use typed_tree::{EndFilter, Ends, Name, Typed};
+
+/// Whether both apply to vertices or both to edges, of the same sets and filters.
+pub(crate) fn have_same_sets(names: &[Name], first: Apply, second: Apply) -> bool
+    ensures { result ≡ same_sets names.now first second }
+{
+    match (first, second) {
+        (Apply::Vertices { set: a, .. }, Apply::Vertices { set: b, .. }) => {
+            are_same(names, a.name, b.name)
+        }
+        (Apply::Edges { ends: a, .. }, Apply::Edges { ends: b, .. }) => {
+            are_same_ends(names, a.from, b.from) && are_same_ends(names, a.to, b.to)
+        }
+        _ => false,
+    }
+}
+
+fn are_same(names: &[Name], first: usize, second: usize) -> bool
+    ensures { result ≡ same_name names.now first second }
+{
+    name_at(names, first) == name_at(names, second)
+}
+
+fn are_same_ends(names: &[Name], first: Option<EndFilter>, second: Option<EndFilter>) -> bool
+    ensures { result ≡ same_ends names.now first second }
+{
+    match (first, second) {
+        (None, None) => true,
+        (Some(EndFilter::Members(a)), Some(EndFilter::Members(b))) => {
+            are_same(names, a.name, b.name)
+        }
+        (Some(EndFilter::Function(a)), Some(EndFilter::Function(b))) => a == b,
+        _ => false,
+    }
+}
+
+/// Whether two applies that have the same sets are independent. Two vertex applies always are.
+pub(crate) fn are_independent(
+    alloc: Global,
+    program: &Typed,
+    first: Apply,
+    second: Apply,
+) -> Result<bool, AllocError>
+    ensures { IfOk result (λ yes. yes ≡ independent (program_tree program.now) first second) }
+{
+    match (first, second) {
+        (
+            Apply::Edges {
+                function: writer,
+                result: given,
+                ..
+            },
+            Apply::Edges { ends, function, .. },
+        ) => {
+            if names_result(&program.names, given, ends.from)
+                || names_result(&program.names, given, ends.to)
+            {
+                return Ok(false);
+            }
+            let mut written = Vec::new(alloc);
+            push_written(&program.edge_functions, writer, &mut written)?;
+            Ok(
+                function_does_avoid(&program.edge_functions, function, &written)
+                    && end_does_avoid(&program.filters, ends.from, &written)
+                    && end_does_avoid(&program.filters, ends.to, &written),
+            )
+        }
+        _ => Ok(true),
+    }
+}
+
+/// Whether an end is the set that an apply's changes go to.
+fn names_result(names: &[Name], name: Option<usize>, end: Option<EndFilter>) -> bool
+    ensures { result ≡ is_end names.now name end }
+{
+    match (name, end) {
+        (Some(name), Some(EndFilter::Members(set))) => are_same(names, name, set.name),
+        _ => false,
+    }
+}

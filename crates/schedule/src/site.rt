@@ -1,0 +1,167 @@
+//! What the labels of a program stand before.
+ghost use Rattle.std.specs.Prelude.{◌≡◌, ◌++◌, drop, nat_eq, IfOk, OnOk};
+ghost use Rattle.std.specs.Map.{lookup};
+ghost use Rattle.typed_tree.specs.BlockTree.{action_tree, block_tree};
+ghost use Rattle.schedule.specs.Sites.{apply_of, label_of, modifying_as, sites_in, sites_of};
+ghost use Rattle.schedule.specs.Putting.{AreSites, PutsSite};
+
+use indexmap::IndexMap;
+use std::alloc::{AllocError, Global};
+use std::marker::Model;
+use typed_tree::{Action, Ends, SetValue, Slot, Statement};
+
+/// What a statement applies.
+#[derive(Clone, Copy, Debug, PartialEq, Eq)]
+pub enum Apply {
+    /// The vertex function at this place to each vertex of a set.
+    Vertices {
+        set: Slot,
+        function: usize,
+    },
+    /// The edge function at this place to the edges between the ends. A set that gets what the apply changed
+    /// has its name at the place `result` of the program's names.
+    Edges {
+        ends: Ends,
+        function: usize,
+        result: Option<usize>,
+    },
+}
+
+/// What a label stands before.
+#[derive(Clone, Copy, Debug, PartialEq, Eq)]
+pub struct Site {
+    /// What its statement applies, if it does.
+    pub apply: Option<Apply>,
+    /// The label of the statement right behind it in its block, where there is one with a label.
+    pub next: Option<usize>,
+}
+
+/// The labels of the statements of `main`, each with what it stands before.
+#[derive(Drop)]
+pub(crate) struct Sites {
+    entries: IndexMap<usize, Site>,
+}
+
+impl Model for Sites {
+    ghost use Rattle.std.specs.Prelude.{ℕ, List};
+    ghost use Rattle.schedule.specs.declared.site.Site.{Site as OneSite};
+
+    ghost Value = { List (ℕ × OneSite) };
+
+    ghost view = { λ s. s.entries.entries };
+}
+
+impl Sites {
+    /// Those of the statements of `main`. The time is in proportion to the statements.
+    pub(crate) fn of(alloc: Global, main: &[Statement]) -> Result<Sites, AllocError>
+        ensures { IfOk result (λ sites. AreSites sites (block_tree main.now)) }
+    {
+        let mut list = Vec::new(alloc);
+        push_sites(main, &mut list)?;
+        let mut sites = Sites {
+            entries: IndexMap::new(alloc),
+        };
+        'sites: for site in &list {
+            sites.put(site.0, site.1)?;
+        }
+        Ok(sites)
+    }
+
+    /// What the label stands before, or `None` where it stands before no statement of `main`.
+    pub(crate) fn get(&self, label: usize) -> Option<Site>
+        ensures { result ≡ lookup (nat_eq label) self.now }
+    {
+        self.entries.get(&label).copied()
+    }
+
+    /// Puts a label behind the others, if it is not there already.
+    fn put(&mut self, label: usize, site: Site) -> Result<(), AllocError>
+        ensures { OnOk result (PutsSite self.old label site self.new) }
+    {
+        match self.get(label) {
+            Some(_) => Ok(()),
+            None => {
+                self.entries.insert(label, site)?;
+                Ok(())
+            }
+        }
+    }
+}
+
+/// Puts the labels of the statements, and of those in their blocks, behind the others, in the order of the text.
+#[cycle(sites)]
+fn push_sites(statements: &[Statement], sites: &mut Vec<(usize, Site)>) -> Result<(), AllocError>
+    ensures { OnOk result (sites.new.items ≡ sites.old.items ++ sites_of (block_tree statements.now)) }
+{
+    let mut behind: usize = 0;
+    'statements: for statement in statements {
+        behind += 1;
+        if let Some(label) = statement.label {
+            let site = Site {
+                apply: applied_by(&statement.action),
+                next: label_at(statements, behind),
+            };
+            sites.push((label, site))?;
+        }
+        push_inner(&statement.action, sites)?;
+    }
+    Ok(())
+}
+
+/// The same of the statements in the blocks of a statement.
+#[cycle(sites)]
+fn push_inner(action: &Action, sites: &mut Vec<(usize, Site)>) -> Result<(), AllocError>
+    ensures { OnOk result (sites.new.items ≡ sites.old.items ++ sites_in (action_tree action.now)) }
+{
+    match action {
+        Action::If(_, body) => push_sites(body, sites),
+        Action::While(_, body) => push_sites(body, sites),
+        Action::For(_, _, _, body) => push_sites(body, sites),
+        Action::IfElse(_, body, other) => {
+            push_sites(body, sites)?;
+            push_sites(other, sites)
+        }
+        _ => Ok(()),
+    }
+}
+
+/// The label of the statement at this place, if it is there and has one.
+fn label_at(statements: &[Statement], place: usize) -> Option<usize>
+    ensures { result ≡ label_of (block_tree (drop place statements.now)) }
+{
+    statements.get(place)?.label
+}
+
+/// What a statement applies, if it does.
+fn applied_by(action: &Action) -> Option<Apply>
+    ensures { result ≡ apply_of (action_tree action.now) }
+{
+    match action {
+        Action::ApplyVertex(set, function) => Some(Apply::Vertices {
+            set: *set,
+            function: *function,
+        }),
+        Action::ApplyEdges(ends, function) => Some(Apply::Edges {
+            ends: *ends,
+            function: *function,
+            result: None,
+        }),
+        Action::DeclareSet(name, value) => modifying(*value, *name),
+        Action::AssignSet(slot, value) => modifying(*value, slot.name),
+        _ => None,
+    }
+}
+
+/// The edge apply whose changes a set of this name gets, if that is its value.
+fn modifying(value: SetValue, name: usize) -> Option<Apply>
+    ensures { result ≡ modifying_as name value }
+{
+    match value {
+        SetValue::Modified(ends, function, _) => Some(Apply::Edges {
+            ends,
+            function,
+            result: Some(name),
+        }),
+        _ => None,
+    }
+}
