@@ -61,7 +61,7 @@ put_extends q label c s more = go (nat_eq q label) refl
     go : (same : Bool) → nat_eq q label ≡ same → Extends (choice_of q s) (choice_of q (with_choice label c s))
     go true t =
         subst (λ (l : ℕ). Extends (choice_of l s) (choice_of l (with_choice label c s))) (sym (eqb-true q label t))
-          (subst (Extends (choice_of label s)) (sym (choice_here label c s)) more)
+        (subst (Extends (choice_of label s)) (sym (choice_here label c s)) more)
     go false t = subst (Extends (choice_of q s)) (sym (choice_elsewhere q label c s t)) (same_extends (choice_of q s))
 
 extends_given : (which : Setting) (text : List ℕ) (c d : Choice) → Extends c d → IsGiven which text c → IsGiven which text d
@@ -79,10 +79,10 @@ step_keeps_value : (p : ProgramTree) (which : Setting) (text : List ℕ) (q : �
     → IsGiven which text (choice_of q s) → Step p s new → IsGiven which text (choice_of q new)
 step_keeps_value p which text q s new is (GivesValue setting other label c given after) =
     subst (λ (t : ScheduleTree). IsGiven which text (choice_of q t)) after
-      (extends_given which text _ _ (put_extends q label c s (given_extends setting other (choice_of label s) c given)) is)
+    (extends_given which text _ _ (put_extends q label c s (given_extends setting other (choice_of label s) c given)) is)
 step_keeps_value p which text q s new is (Fuses a b none after) =
     subst (λ (t : ScheduleTree). IsGiven which text (choice_of q t)) after
-      (extends_given which text _ _ (fused_extends q b _ (with_fused a (With b) s)) (extends_given which text _ _ (fused_extends q a _ s) is))
+    (extends_given which text _ _ (fused_extends q b _ (with_fused a (With b) s)) (extends_given which text _ _ (fused_extends q a _ s) is))
 step_keeps_value p which text q s new is (PutsGroup names group grown after) = subst (λ (t : ScheduleTree). IsGiven which text (choice_of q t)) after is
 
 given_has : (which : Setting) (text : List ℕ) (c d : Choice) → given which text c ≡ Ok d → IsGiven which text d
@@ -105,7 +105,7 @@ on_has : (which : Setting) (text : List ℕ) (s new : ScheduleTree) (label : ℕ
 on_has which text s new label (Some (Edges ends function name)) e =
     let from = and_then_from _ _ new e in
     subst (λ (t : ScheduleTree). IsGiven which text (choice_of label t)) from.2
-      (subst (IsGiven which text) (sym (choice_here label from.0 s)) (given_has which text (choice_of label s) from.0 from.1))
+    (subst (IsGiven which text) (sym (choice_here label from.0 s)) (given_has which text (choice_of label s) from.0 from.1))
 on_has which text s new label (Some (Vertices set function)) e = cc
 on_has which text s new label None e = cc
 

@@ -26,6 +26,8 @@ mod site;
 pub use calls::accept;
 pub use choice::{Choice, DenseVertexSet, Direction, Fused, Parallelization};
 pub use error::{Rule, ScheduleError};
-pub use laws::{fused_statements_are_neighbours, labels_are_fused_once, labels_have_the_values_of_calls,
-    vectors_are_in_one_group};
+pub use laws::{
+    fused_statements_are_neighbours, labels_are_fused_once, labels_have_the_values_of_calls,
+    vectors_are_in_one_group,
+};
 pub use schedule::Schedule;
