@@ -50,12 +50,11 @@ fn name_vectors(
     ensures { IfOk result (λ v. v.items ≡ named_vectors names.now declared.now vectors.items) }
 {
     let mut named = Vec::new(alloc);
-    let mut vectors = vectors;
+    let mut left = vectors.into_iter();
     'vectors: for vector in declared {
-        if vectors.is_empty() {
+        let Some(entries) = left.next() else {
             return Ok(named);
-        }
-        let entries = vectors.remove(0);
+        };
         named.push(NamedVector {
             name: name_of(alloc, names, vector.name)?,
             entries,
@@ -72,9 +71,7 @@ fn name_sets(
     ensures { IfOk result (λ v. v.items ≡ map (named_set names.now) sets.items) }
 {
     let mut named = Vec::new(alloc);
-    let mut sets = sets;
-    'sets: while !sets.is_empty() {
-        let set = sets.remove(0);
+    'sets: for set in sets {
         named.push(NamedSet {
             name: name_of(alloc, names, set.name)?,
             members: set.members,

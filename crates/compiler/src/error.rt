@@ -1,9 +1,11 @@
 ghost use Rattle.std.specs.Prelude.{◌≡◌};
-ghost use Rattle.compiler.specs.Refusal.{number_of, offset_of, of_parser};
+ghost use Rattle.compiler.specs.Refusal.{number_of, offset_of, of_parser, of_schedule, of_types};
 
 use expression_types::Fault;
 use parser::ParseError;
+use schedule::{Rule, ScheduleError};
 use thiserror::Error;
+use types::CheckError;
 
 /// Why a text is not compiled.
 #[derive(Clone, Copy, Debug, PartialEq, Eq, Error)]
@@ -14,18 +16,23 @@ pub enum CompileError {
     /// It is a source that breaks a rule of types: the fault has the rule and the offset.
     #[error("the text breaks a rule of types")]
     NotTyped(Fault),
+    /// It is a program with a schedule that is not accepted: the first faulty call, whose first token is at this
+    /// offset in bytes, breaks this rule.
+    #[error("the schedule breaks a rule")]
+    NotScheduled { rule: Rule, at: usize },
     #[error("out of memory")]
     NoMemory,
 }
 
 impl CompileError {
-    /// The number by which users know the refusal: 201, 202, 203, 211, 212, 221 to 229 or 900.
+    /// The number by which users know the refusal: 201, 202, 203, 211, 212, 221 to 229, 301 to 308, or 900.
     pub fn number(self) -> u16
         ensures { result ≡ number_of self }
     {
         match self {
             CompileError::NotParsed(error) => error.number(),
             CompileError::NotTyped(fault) => fault.rule.number(),
+            CompileError::NotScheduled { rule, .. } => rule.number(),
             CompileError::NoMemory => 900,
         }
     }
@@ -37,6 +44,7 @@ impl CompileError {
         match self {
             CompileError::NotParsed(error) => error.at(),
             CompileError::NotTyped(fault) => Some(fault.at),
+            CompileError::NotScheduled { at, .. } => Some(at),
             CompileError::NoMemory => None,
         }
     }
@@ -49,6 +57,28 @@ impl From<ParseError> for CompileError {
         match error {
             ParseError::NoMemory => CompileError::NoMemory,
             _ => CompileError::NotParsed(error),
+        }
+    }
+}
+
+impl From<CheckError> for CompileError {
+    ghost from_gives = { λ error e. e ≡ of_types error };
+
+    fn from(error: CheckError) -> CompileError {
+        match error {
+            CheckError::Faulty(fault) => CompileError::NotTyped(fault),
+            CheckError::NoMemory => CompileError::NoMemory,
+        }
+    }
+}
+
+impl From<ScheduleError> for CompileError {
+    ghost from_gives = { λ error e. e ≡ of_schedule error };
+
+    fn from(error: ScheduleError) -> CompileError {
+        match error {
+            ScheduleError::Faulty { rule, at } => CompileError::NotScheduled { rule, at },
+            ScheduleError::NoMemory => CompileError::NoMemory,
         }
     }
 }

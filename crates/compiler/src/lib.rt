@@ -1,8 +1,8 @@
 //! The compiler: makes of a program's text what is run.
 //!
-//! [`compile`] parses a text and checks it. A contract sees the answer as the program that the text is:
-//! the text is a source by the grammar, and the source has that program by the rules of types
-//! (`specs/Outcome.antt`); each refusal names its cause and comes only where that holds.
+//! [`compile`] parses a text, checks it and looks at its schedule. A contract sees the answer as the program that
+//! the text is: the text is a source by the grammar, the source has that program by the rules of types, and the
+//! program's schedule is accepted (`specs/Outcome.antt`); each refusal names its cause and comes only where that holds.
 //!
 //! The program `gsnap` stands on this crate.
 #![tactic(auto)]

@@ -3,22 +3,22 @@ ghost use Rattle.compiler.specs.Outcome.{Compiles};
 
 use crate::error::CompileError;
 use parser::parse;
+use schedule::accept;
 use std::alloc::Global;
 use typed_tree::Typed;
-use types::{CheckError, check};
+use types::check;
 
 /// The program that a text is. The text may have any bytes.
 ///
 /// Errors: `NotParsed` where the text is no source, with the parser's reason and its offset; else
 /// `NotTyped` where the source breaks a rule of types, with the fault of the least offset, and of several
-/// there the one of the least number; and `NoMemory` at any time.
+/// there the one of the least number; else `NotScheduled` where a call of the schedule breaks a rule, with
+/// the first such call's offset and the least number of the rules that it breaks; and `NoMemory` at any time.
 pub fn compile(alloc: Global, text: &[u8]) -> Result<Typed, CompileError>
     ensures { Compiles text.now result }
 {
     let source = parse(alloc, text)?;
-    match check(alloc, &source) {
-        Ok(program) => Ok(program),
-        Err(CheckError::Faulty(fault)) => Err(CompileError::NotTyped(fault)),
-        Err(CheckError::NoMemory) => Err(CompileError::NoMemory),
-    }
+    let program = check(alloc, &source)?;
+    accept(alloc, &program)?;
+    Ok(program)
 }

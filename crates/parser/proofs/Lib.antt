@@ -6,6 +6,7 @@ pub mod Faults
 pub mod Fronts
 pub mod InitialLaws
 pub mod Lists
+pub mod Offsets
 pub mod ParseLaws
 pub mod Primaries
 pub mod Steps

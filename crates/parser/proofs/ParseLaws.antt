@@ -1,5 +1,5 @@
 -- What parsing a text answers, from what reading its terminals gives.
-use Rattle.std.proofs.Common.{◌≡◌, sym, ◌∙◌, ap, subst, ℕ, List, Option, Some, None, Err}
+use Rattle.std.proofs.Common.{◌≡◌, sym, ◌∙◌, ap, subst, ℕ, List, Some, None}
 use Rattle.lexer.specs.declared.token.Token.{Token}
 use Rattle.lexer.specs.Tokens.{HasTokens}
 use Rattle.syntax.specs.Terminals.{Terminal, terminals_of}
@@ -8,10 +8,7 @@ use Rattle.syntax.specs.SourceSpelling.{source_terminals}
 use Rattle.syntax.specs.Nesting.{limit, StaysWithin}
 use Rattle.syntax.specs.SourceReading.{source_at}
 use Rattle.syntax.proofs.SourcesExact.{sources_sound, sources_complete}
-use Rattle.parser.specs.declared.syntax_error.SyntaxError.{SyntaxError}
-use Rattle.parser.specs.declared.syntax_error.SyntaxError.TheVariants as syntax
-use Rattle.parser.specs.Refusal.{of_syntax}
-use Rattle.parser.specs.Outcome.{IsSource, IsNoSource, Answers, GivesSource}
+use Rattle.parser.specs.Outcome.{IsSource, IsNoSource, IsPlaceOf}
 
 read_again : (ws : List Terminal) (source : SourceTree) → StaysWithin limit 0 ws → ws ≡ source_terminals source → source_at ws ≡ Some source
 read_again ws source within is = ap source_at is ∙ sources_complete source (subst (StaysWithin limit 0) is within)
@@ -26,15 +23,12 @@ is_source text tokens source reads within is = record {
   only = λ other spelled. let e : Some other ≡ Some source = sym (read_again (terminals_of text tokens) other within spelled) ∙ is in cc;
 }
 
-pub is_no_source : (text : List ℕ) (tokens : List Token) → HasTokens text tokens → StaysWithin limit 0 (terminals_of text tokens)
-    → source_at (terminals_of text tokens) ≡ None → IsNoSource text
-is_no_source text tokens reads within is = record {
+pub is_no_source : (text : List ℕ) (tokens : List Token) (at : ℕ) → HasTokens text tokens → StaysWithin limit 0 (terminals_of text tokens)
+    → source_at (terminals_of text tokens) ≡ None → IsPlaceOf text tokens at → IsNoSource text at
+is_no_source text tokens at reads within is place = record {
   tokens = tokens;
   reads = reads;
   within = within;
   none = λ source spelled. let e : Some source ≡ None = sym (read_again (terminals_of text tokens) source within spelled) ∙ is in cc;
+  place = place;
 }
-
-pub not_whole : (text : List ℕ) (e : SyntaxError) (read : Option SourceTree) → GivesSource (Err e) read → (read ≡ None → IsNoSource text) → Answers text (Err (of_syntax e))
-not_whole text (syntax.Unexpected at) read gives then = then gives
-not_whole text syntax.NoMemory read gives then = tt

@@ -6,5 +6,4 @@ pub mod Outcome
 pub mod Plain
 pub mod Readers
 pub mod Refusal
-pub mod SyntaxRefusal
 pub mod Views

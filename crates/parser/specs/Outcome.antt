@@ -1,5 +1,5 @@
 -- What parsing a text answers.
-use Rattle.std.specs.Prelude.{◌≡◌, ◌≢◌, ℕ, List, Option, Some, None, Result, Ok, Err}
+use Rattle.std.specs.Prelude.{◌≡◌, ◌≢◌, ℕ, ◌≤◌, List, [], ◌∷◌, length, drop, Option, Some, None, Result, Ok, Err, IfSome}
 use Rattle.lexer.specs.declared.token.Token.{Token}
 use Rattle.lexer.specs.declared.error.LexError.TheVariants as lexer
 use Rattle.lexer.specs.Tokens.{HasTokens, Reads}
@@ -12,6 +12,7 @@ use Rattle.syntax.specs.SourceViews.{source_tree}
 use Rattle.syntax.specs.SourceSpelling.{source_terminals}
 use Rattle.syntax.specs.Nesting.{limit, StaysWithin, PassesAt}
 use Rattle.parser.specs.declared.error.ParseError.{ParseError}
+use Rattle.parser.specs.Refusal.{offset_of}
 use Rattle.parser.specs.declared.error.ParseError.TheVariants.{BadByte, NumberTooLarge, UnfinishedText, Unexpected, TooDeep, NoMemory}
 
 -- the text has tokens, which nest within the limit and are those of this tree and of no other
@@ -22,12 +23,22 @@ pub record IsSource (text : List ℕ) (source : SourceTree) : Type 0 where
   pub spelled : terminals_of text tokens ≡ source_terminals source
   pub only : (other : SourceTree) → terminals_of text tokens ≡ source_terminals other → other ≡ source
 
--- the text has tokens, which nest within the limit and are those of no tree
-pub record IsNoSource (text : List ℕ) : Type 0 where
+-- the offset at which tokens begin that stand at the end of a text; where there is none, it is the text's length
+abbrev pub beginning_of : List ℕ → List Token → ℕ
+beginning_of text [] = length text
+beginning_of text (token ∷ tokens) = token.span.start
+
+-- an offset at which one of these tokens of a text begins, or the text's length
+abbrev pub IsPlaceOf : List ℕ → List Token → ℕ → Type 0
+IsPlaceOf text tokens at = (before : ℕ) × (at ≡ beginning_of text (drop before tokens))
+
+-- the text has tokens, which nest within the limit and are those of no tree, and this is the place of one of them or the end
+pub record IsNoSource (text : List ℕ) (at : ℕ) : Type 0 where
   pub tokens : List Token
   pub reads : HasTokens text tokens
   pub within : StaysWithin limit 0 (terminals_of text tokens)
   pub none : (source : SourceTree) → terminals_of text tokens ≢ source_terminals source
+  pub place : IsPlaceOf text tokens at
 
 -- the text has tokens, and at this offset stands the first at which they nest deeper than the limit
 pub record IsTooDeep (text : List ℕ) (at : ℕ) : Type 0 where
@@ -41,7 +52,7 @@ Parses text (Ok source) = IsSource text source
 Parses text (Err (BadByte at)) = Reads text (Err (lexer.BadByte at))
 Parses text (Err (NumberTooLarge at)) = Reads text (Err (lexer.NumberTooLarge at))
 Parses text (Err (UnfinishedText at)) = Reads text (Err (lexer.UnfinishedText at))
-Parses text (Err (Unexpected at)) = IsNoSource text
+Parses text (Err (Unexpected at)) = IsNoSource text at
 Parses text (Err (TooDeep at)) = IsTooDeep text at
 Parses text (Err NoMemory) = ⊥
 
@@ -60,8 +71,12 @@ abbrev pub tree_or_error : Result Source ParseError → Result SourceTree ParseE
 tree_or_error (Ok source) = Ok (source_tree source)
 tree_or_error (Err error) = Err error
 
+-- the offset of a refusal is one of the text, or its length
+abbrev pub StandsIn : List ℕ → ParseError → Type 0
+StandsIn text error = IfSome (offset_of error) (λ at. at ≤ length text)
+
 -- the source is what the reading function gives
 abbrev pub GivesSource : Result Source SyntaxError → Option SourceTree → Type 0
 GivesSource (Ok source) read = read ≡ Some (source_tree source)
-GivesSource (Err (syntax.Unexpected at)) read = read ≡ None
+GivesSource (Err (syntax.Unexpected left)) read = read ≡ None
 GivesSource (Err syntax.NoMemory) read = Unit {0}

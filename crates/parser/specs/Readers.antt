@@ -1,5 +1,5 @@
 -- What the readers answer.
-use Rattle.std.specs.Prelude.{◌≡◌, ◌≢◌, ℕ, List, [], ◌∷◌, length, Option, Some, None, Result, Ok, Err, option_map, MatchOption}
+use Rattle.std.specs.Prelude.{◌≡◌, ◌≢◌, ℕ, List, ◌∷◌, Option, Some, None, Result, Ok, Err, option_map, MatchOption}
 use Rattle.lexer.specs.declared.token.Token.{Token}
 use Rattle.lexer.specs.Tokens.{slice_of}
 use Rattle.parser.specs.declared.cursor.Cursor.{Cursor}
@@ -30,38 +30,30 @@ IsAfter terminal ws found = MatchOption found
 -- what reading gives: a tree, as view sees it, and the terminals behind it, or none; nothing is said where memory runs out
 abbrev pub Gives : {T A : Type 0} → (T → A) → Result (T × Cursor) SyntaxError → Option (A × List Terminal) → Type 0
 Gives view (Ok x) read = read ≡ Some (view x.0, terminals x.1)
-Gives view (Err (Unexpected at)) read = read ≡ None
+Gives view (Err (Unexpected left)) read = read ≡ None
 Gives view (Err NoMemory) read = Unit {0}
-
--- the offset of the first token that is left, or the length of the text
-abbrev pub place_in : ℕ → List Token → ℕ
-place_in len [] = len
-place_in len (token ∷ tokens) = token.span.start
-
-abbrev pub place : Cursor → ℕ
-place cursor = place_in (length cursor.text.now) cursor.tokens.now
 
 -- the terminals behind this one, or that it is not the first
 abbrev pub IsExpected : Terminal → List Terminal → Result Cursor SyntaxError → Type 0
 IsExpected terminal ws (Ok after) = ws ≡ terminal ∷ terminals after
-IsExpected terminal ws (Err (Unexpected at)) = (rest : List Terminal) → ws ≢ terminal ∷ rest
+IsExpected terminal ws (Err (Unexpected left)) = (rest : List Terminal) → ws ≢ terminal ∷ rest
 IsExpected terminal ws (Err NoMemory) = ⊥
 
 -- the name at the front, and the terminals behind it, or that there is none; nothing is said where memory runs out
 abbrev pub IsName : List Terminal → Result (Identifier × Cursor) SyntaxError → Type 0
 IsName ws (Ok x) = ws ≡ Name x.0 ∷ terminals x.1
-IsName ws (Err (Unexpected at)) = (name : Identifier) (rest : List Terminal) → ws ≢ Name name ∷ rest
+IsName ws (Err (Unexpected left)) = (name : Identifier) (rest : List Terminal) → ws ≢ Name name ∷ rest
 IsName ws (Err NoMemory) = Unit {0}
 
 -- the terminals behind a piece of the text, or that it is not there
 abbrev pub Passes : Result Cursor SyntaxError → Option (List Terminal) → Type 0
 Passes (Ok behind) read = read ≡ Some (terminals behind)
-Passes (Err (Unexpected at)) read = read ≡ None
+Passes (Err (Unexpected left)) read = read ≡ None
 Passes (Err NoMemory) read = ⊥
 
 -- the answer is the expression with which the terminals begin, and the terminals behind it, or that they begin with none so deep;
 -- nothing is said where memory runs out
 abbrev pub AnswersBegins : ℕ → List Terminal → Result (ExpressionTree × Cursor) SyntaxError → Type 0
 AnswersBegins depth ws (Ok x) = Begins depth ws x.0 (terminals x.1)
-AnswersBegins depth ws (Err (Unexpected at)) = (tree : ExpressionTree) (rest : List Terminal) → Begins depth ws tree rest → ⊥
+AnswersBegins depth ws (Err (Unexpected left)) = (tree : ExpressionTree) (rest : List Terminal) → Begins depth ws tree rest → ⊥
 AnswersBegins depth ws (Err NoMemory) = Unit {0}

@@ -1,9 +1,7 @@
--- The numbers and offsets of refusals, and what becomes of those of the lexer and of the reader of expressions.
+-- The numbers and offsets of refusals, and what becomes of those of the lexer.
 use Rattle.std.specs.Prelude.{ℕ, Option, Some, None}
 use Rattle.lexer.specs.declared.error.LexError.{LexError}
 use Rattle.lexer.specs.declared.error.LexError.TheVariants as lexer
-use Rattle.parser.specs.declared.syntax_error.SyntaxError.{SyntaxError}
-use Rattle.parser.specs.declared.syntax_error.SyntaxError.TheVariants as syntax
 use Rattle.parser.specs.declared.error.ParseError.{ParseError}
 use Rattle.parser.specs.declared.error.ParseError.TheVariants.{BadByte, NumberTooLarge, UnfinishedText, Unexpected, TooDeep, NoMemory}
 
@@ -29,7 +27,3 @@ of_lexer (lexer.BadByte at) = BadByte at
 of_lexer (lexer.NumberTooLarge at) = NumberTooLarge at
 of_lexer (lexer.UnfinishedText at) = UnfinishedText at
 of_lexer lexer.NoMemory = NoMemory
-
-abbrev pub of_syntax : SyntaxError → ParseError
-of_syntax (syntax.Unexpected at) = Unexpected at
-of_syntax syntax.NoMemory = NoMemory

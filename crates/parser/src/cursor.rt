@@ -4,7 +4,7 @@ ghost use Rattle.lexer.specs.Tokens.{slice_of};
 ghost use Rattle.parser.specs.declared.syntax_error.SyntaxError.TheVariants.{Unexpected};
 ghost use Rattle.syntax.specs.Terminals.{OfSymbol, OfKeyword, keyword_terminal, terminals_of};
 ghost use Rattle.syntax.specs.SourceReading.{after_terminal};
-ghost use Rattle.parser.specs.Readers.{terminals, terminal_at, Finds, IsAfter, IsExpected, Passes, place};
+ghost use Rattle.parser.specs.Readers.{terminals, terminal_at, Finds, IsAfter, IsExpected, Passes};
 ghost use Rattle.syntax.specs.ExpressionReading.{addition, multiplication, relation, prefix};
 
 use crate::syntax_error::SyntaxError;
@@ -13,14 +13,14 @@ use syntax::{Addition, Multiplication, Prefix, Relation};
 
 /// A text, and those of its tokens that are left to be read.
 #[derive(Clone, Copy)]
-pub struct Cursor<'a> {
+pub(crate) struct Cursor<'a> {
     text: &'a [u8],
     tokens: &'a [Token],
 }
 
 impl<'a> Cursor<'a> {
     /// At the first of these tokens of a text.
-    pub fn new(text: &'a [u8], tokens: &'a [Token]) -> Cursor<'a>
+    pub(crate) fn new(text: &'a [u8], tokens: &'a [Token]) -> Cursor<'a>
         ensures left { terminals result ≡ terminals_of text.now tokens.now }
         ensures parts { (result.text.now ≡ text.now) × (result.tokens.now ≡ tokens.now) }
     {
@@ -28,9 +28,8 @@ impl<'a> Cursor<'a> {
     }
 
     /// The next token, and the place behind it; `None` at the end.
-    pub fn next(self) -> Option<(Token, Cursor<'a>)>
+    pub(crate) fn next(self) -> Option<(Token, Cursor<'a>)>
         ensures terminal { MatchOption result (terminals self.entry ≡ []) (λ x. terminals self.entry ≡ terminal_at self.entry x.0 ∷ terminals x.1) }
-        ensures starts { IfSome result (λ x. place self.entry ≡ x.0.span.start) }
         ensures tokens { IfSome result (λ x. (x.1.text.now ≡ self.entry.text.now) × (self.entry.tokens.now ≡ x.0 ∷ x.1.tokens.now)) }
     {
         let (token, tokens) = self.tokens.split_first()?;
@@ -41,32 +40,24 @@ impl<'a> Cursor<'a> {
         Some((*token, after))
     }
 
-    /// The offset of the next token, or the text's length at the end.
-    pub fn at(self) -> usize
-        ensures { result ≡ place self.entry }
+    /// The refusal of the next token.
+    pub(crate) fn unexpected(self) -> SyntaxError
+        ensures { result ≡ Unexpected (length self.entry.tokens.now) }
     {
-        match self.tokens.split_first() {
-            Some((token, _)) => token.span.start,
-            None => self.text.len(),
+        SyntaxError::Unexpected {
+            left: self.tokens.len(),
         }
     }
 
-    /// The refusal of the next token, at its offset.
-    pub fn unexpected(self) -> SyntaxError
-        ensures { result ≡ Unexpected (place self.entry) }
-    {
-        SyntaxError::Unexpected { at: self.at() }
-    }
-
     /// The bytes of the text at a span, as many of them as the text has. They are not copied.
-    pub fn bytes(self, span: Span) -> &'a [u8]
+    pub(crate) fn bytes(self, span: Span) -> &'a [u8]
         ensures { result.now ≡ slice_of self.entry.text.now span }
     {
         span.slice_of(self.text)
     }
 
     /// The place behind a symbol, if it is the next token.
-    pub fn after_symbol(self, symbol: Symbol) -> Option<Cursor<'a>>
+    pub(crate) fn after_symbol(self, symbol: Symbol) -> Option<Cursor<'a>>
         ensures is { IsAfter (OfSymbol symbol) (terminals self.entry) result }
         ensures behind { after_terminal (OfSymbol symbol) (terminals self.entry) ≡ option_map terminals result }
         ensures shorter { IfSome result (λ after. length (terminals after) < length (terminals self.entry)) }
@@ -80,7 +71,7 @@ impl<'a> Cursor<'a> {
     }
 
     /// The place behind a keyword that opens nothing, if it is the next token.
-    pub fn after_keyword(self, keyword: Keyword) -> Option<Cursor<'a>>
+    pub(crate) fn after_keyword(self, keyword: Keyword) -> Option<Cursor<'a>>
         requires { (at : ℕ) → keyword_terminal keyword at ≡ OfKeyword keyword }
         ensures is { IsAfter (OfKeyword keyword) (terminals self.entry) result }
         ensures behind { after_terminal (OfKeyword keyword) (terminals self.entry) ≡ option_map terminals result }
@@ -95,7 +86,7 @@ impl<'a> Cursor<'a> {
     }
 
     /// The place behind a symbol, or `Unexpected` at the next token, if that is another one.
-    pub fn expect_symbol(self, symbol: Symbol) -> Result<Cursor<'a>, SyntaxError>
+    pub(crate) fn expect_symbol(self, symbol: Symbol) -> Result<Cursor<'a>, SyntaxError>
         ensures is { IsExpected (OfSymbol symbol) (terminals self.entry) result }
         ensures passes { Passes result (after_terminal (OfSymbol symbol) (terminals self.entry)) }
         ensures shorter { IfOk result (λ after. length (terminals after) < length (terminals self.entry)) }
@@ -107,7 +98,7 @@ impl<'a> Cursor<'a> {
     }
 
     /// The place behind a keyword that opens nothing, or `Unexpected` at the next token, if that is another one.
-    pub fn expect_keyword(self, keyword: Keyword) -> Result<Cursor<'a>, SyntaxError>
+    pub(crate) fn expect_keyword(self, keyword: Keyword) -> Result<Cursor<'a>, SyntaxError>
         requires { (at : ℕ) → keyword_terminal keyword at ≡ OfKeyword keyword }
         ensures is { IsExpected (OfKeyword keyword) (terminals self.entry) result }
         ensures passes { Passes result (after_terminal (OfKeyword keyword) (terminals self.entry)) }
@@ -120,7 +111,7 @@ impl<'a> Cursor<'a> {
     }
 
     /// The `+` or `-` at the front, and the place behind it.
-    pub fn addition(self) -> Option<(Addition, Cursor<'a>)>
+    pub(crate) fn addition(self) -> Option<(Addition, Cursor<'a>)>
         ensures found { Finds result (addition (terminals self.entry)) }
         ensures shorter { IfSome result (λ x. length (terminals x.1) < length (terminals self.entry)) }
     {
@@ -133,7 +124,7 @@ impl<'a> Cursor<'a> {
     }
 
     /// The `*`, `/` or `%` at the front, and the place behind it.
-    pub fn multiplication(self) -> Option<(Multiplication, Cursor<'a>)>
+    pub(crate) fn multiplication(self) -> Option<(Multiplication, Cursor<'a>)>
         ensures found { Finds result (multiplication (terminals self.entry)) }
         ensures shorter { IfSome result (λ x. length (terminals x.1) < length (terminals self.entry)) }
     {
@@ -147,7 +138,7 @@ impl<'a> Cursor<'a> {
     }
 
     /// The relation at the front, and the place behind it.
-    pub fn relation(self) -> Option<(Relation, Cursor<'a>)>
+    pub(crate) fn relation(self) -> Option<(Relation, Cursor<'a>)>
         ensures found { Finds result (relation (terminals self.entry)) }
         ensures shorter { IfSome result (λ x. length (terminals x.1) < length (terminals self.entry)) }
     {
@@ -165,7 +156,7 @@ impl<'a> Cursor<'a> {
     }
 
     /// The `-` or `not` at the front, and the place behind it.
-    pub fn prefix(self) -> Option<(Prefix, Cursor<'a>)>
+    pub(crate) fn prefix(self) -> Option<(Prefix, Cursor<'a>)>
         ensures found { Finds result (prefix (terminals self.entry)) }
         ensures shorter { IfSome result (λ x. length (terminals x.1) < length (terminals self.entry)) }
     {

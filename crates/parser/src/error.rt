@@ -1,8 +1,7 @@
 ghost use Rattle.std.specs.Prelude.{◌≡◌};
 ghost use Rattle.parser.specs.declared.error.ParseError.TheVariants.{NoMemory};
-ghost use Rattle.parser.specs.Refusal.{number_of, offset_of, of_lexer, of_syntax};
+ghost use Rattle.parser.specs.Refusal.{number_of, offset_of, of_lexer};
 
-use crate::syntax_error::SyntaxError;
 use lexer::LexError;
 use std::alloc::{AllocError, AllocFailed};
 use thiserror::Error;
@@ -68,17 +67,6 @@ impl From<LexError> for ParseError {
             LexError::NumberTooLarge { at } => ParseError::NumberTooLarge { at },
             LexError::UnfinishedText { at } => ParseError::UnfinishedText { at },
             LexError::NoMemory => ParseError::NoMemory,
-        }
-    }
-}
-
-impl From<SyntaxError> for ParseError {
-    ghost from_gives = { λ error e. e ≡ of_syntax error };
-
-    fn from(error: SyntaxError) -> ParseError {
-        match error {
-            SyntaxError::Unexpected { at } => ParseError::Unexpected { at },
-            SyntaxError::NoMemory => ParseError::NoMemory,
         }
     }
 }

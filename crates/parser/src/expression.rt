@@ -20,7 +20,7 @@ use syntax::{Comparison, Conjunction, Expression, Name, Primary, Sum, Term, Unar
 /// which none could, at the length of the text where they end too early, or behind the opening
 /// parenthesis or bracket that is deeper than `depth`; and `NoMemory` where memory runs out. The time is
 /// in proportion to the tokens read; each name is copied once.
-pub fn read_expression(
+pub(crate) fn read_expression(
     alloc: Global,
     cursor: Cursor<'_>,
     depth: u32,

@@ -1,17 +1,17 @@
 //! A whole source.
-ghost use Rattle.std.specs.Prelude.{◌≡◌, ℕ, List, Result, length, IfOk};
+ghost use Rattle.std.specs.Prelude.{◌≡◌, ◌-◌, ℕ, List, Result, Err, drop, length, IfOk};
 ghost use Rattle.parser.specs.Readers.{terminals};
 ghost use Rattle.syntax.specs.SourceReading.{source_at};
 ghost use Rattle.syntax.specs.SourceTrees.{SourceTree};
 ghost use Rattle.parser.specs.declared.error.ParseError.{ParseError};
-ghost use Rattle.parser.specs.Outcome.{Answers, Parses, GivesSource, tree_or_error, without_place};
+ghost use Rattle.parser.specs.Outcome.{Answers, Parses, StandsIn, GivesSource, beginning_of, tree_or_error, without_place};
 
 use crate::cursor::Cursor;
 use crate::declaration::declarations;
 use crate::error::ParseError;
 use crate::schedule::schedule;
 use crate::syntax_error::SyntaxError;
-use lexer::{Keyword, TokenKind, tokens};
+use lexer::{Keyword, Token, TokenKind, tokens};
 use std::alloc::Global;
 use syntax::{Source, first_too_deep};
 
@@ -34,8 +34,23 @@ pub fn parse(alloc: Global, text: &[u8]) -> Result<Source, ParseError>
     if let Some(at) = first_too_deep(&tokens) {
         return Err(ParseError::TooDeep { at });
     }
-    let source = whole(alloc, cursor, text.len())?;
-    Ok(source)
+    match whole(alloc, cursor, text.len()) {
+        Ok(source) => Ok(source),
+        Err(SyntaxError::Unexpected { left }) => Err(ParseError::Unexpected {
+            at: beginning_of_last(text, &tokens, left),
+        }),
+        Err(SyntaxError::NoMemory) => Err(ParseError::NoMemory),
+    }
+}
+
+/// The offset at which the last so many tokens of a text begin, or the text's length where there are none.
+fn beginning_of_last(text: &[u8], tokens: &[Token], left: usize) -> usize
+    ensures { result ≡ beginning_of text.now (drop (length tokens.now - left) tokens.now) }
+{
+    match tokens.get(tokens.len().saturating_sub(left)) {
+        Some(token) => token.span.start,
+        None => text.len(),
+    }
 }
 
 /// The law that a text has one answer: it is one source, or it has one fault and no other, but for the
@@ -43,6 +58,11 @@ pub fn parse(alloc: Global, text: &[u8]) -> Result<Source, ParseError>
 pub fn one_answer()
     ensures { (text : List ℕ) (answer other : Result SourceTree ParseError) → Parses text answer → Parses text other
         → without_place answer ≡ without_place other }
+{}
+
+/// The law that a refusal stands in the text, or at its end. The call does nothing.
+pub fn refusals_stand_in_the_text()
+    ensures { (text : List ℕ) (error : ParseError) → Parses text (Err error) → StandsIn text error }
 {}
 
 /// With what each source begins.

@@ -1,0 +1,38 @@
+-- A refusal stands in the text, or at its end.
+use Rattle.std.proofs.Common.{sym, ap, subst, ℕ, zero, suc, ◌≤◌, List, [], ◌∷◌, length, drop, inl, inr, Err, arith, length-append}
+use Rattle.std.proofs.Math.Nat.{le_refl}
+use Rattle.lexer.specs.declared.token.Token.{Token}
+use Rattle.lexer.specs.Tokens.{AreInOrder, FaultsAt, bytes_of}
+use Rattle.lexer.proofs.OrderLaws.{HasTokens-AreInOrder}
+use Rattle.syntax.specs.Nesting.{PassesAt, nesting_behind}
+use Rattle.syntax.specs.Terminals.{terminal_of}
+use Rattle.lexer.specs.Tokens.{slice_of}
+use Rattle.parser.specs.declared.error.ParseError.{ParseError}
+use Rattle.parser.specs.declared.error.ParseError.TheVariants.{BadByte, NumberTooLarge, UnfinishedText, Unexpected, TooDeep, NoMemory}
+use Rattle.parser.specs.Outcome.{Parses, StandsIn, beginning_of}
+
+-- a fault stands behind what was read
+fault_within : (BeginsFault : List ℕ → Type 0) (text : List ℕ) (at : ℕ) → FaultsAt BeginsFault text at → at ≤ length text
+fault_within BeginsFault text at (pieces, rest, read, begins, is) = omega (arith, is, ap length read.whole, length-append (bytes_of pieces) rest)
+
+-- a token begins in the text
+passes_within : (text : List ℕ) (n from : ℕ) (tokens : List Token) (at : ℕ) → AreInOrder text from tokens → PassesAt text n tokens at → at ≤ length text
+passes_within text n from [] at order passes = absurd passes
+passes_within text n from (token ∷ tokens) at (follows, within, gaps, is, order) (inl passes) = omega (arith, passes.1, within.0, within.1)
+passes_within text n from (token ∷ tokens) at (follows, within, gaps, is, order) (inr passes) =
+    passes_within text (nesting_behind (terminal_of token.kind (slice_of text token.span) token.span.start) n) token.span.end tokens at order passes.1
+
+beginning_within : (text : List ℕ) (from before : ℕ) (tokens : List Token) → AreInOrder text from tokens → beginning_of text (drop before tokens) ≤ length text
+beginning_within text from zero [] order = le_refl (length text)
+beginning_within text from (suc before) [] order = le_refl (length text)
+beginning_within text from zero (token ∷ tokens) (follows, within, gaps, is, order) = omega (arith, within.0, within.1)
+beginning_within text from (suc before) (token ∷ tokens) (follows, within, gaps, is, order) = beginning_within text token.span.end before tokens order
+
+pub stands_in : (text : List ℕ) (error : ParseError) → Parses text (Err error) → StandsIn text error
+stands_in text (BadByte at) faults = fault_within _ text at faults
+stands_in text (NumberTooLarge at) faults = fault_within _ text at faults
+stands_in text (UnfinishedText at) faults = fault_within _ text at faults
+stands_in text (Unexpected at) no_source =
+    subst (λ a. a ≤ length text) (sym no_source.place.1) (beginning_within text 0 no_source.place.0 no_source.tokens (HasTokens-AreInOrder text no_source.tokens no_source.reads))
+stands_in text (TooDeep at) deep = passes_within text 0 0 deep.tokens at (HasTokens-AreInOrder text deep.tokens deep.reads) deep.passes
+stands_in text NoMemory parses = absurd parses
