@@ -5,7 +5,7 @@ use Rattle.typed_tree.specs.declared.expression.Connective.{Connective}
 use Rattle.typed_tree.specs.declared.expression.Condition.{Condition}
 use Rattle.typed_tree.specs.IntegerTree.{IntegerTree, Arithmetic, integer_tree, negated, operands_tree}
 use Rattle.typed_tree.specs.ConditionTree.{ConditionTree, Connect, condition_tree, turned, conditions_tree}
-use Rattle.schedule.specs.Access.{integer_avoids, condition_avoids}
+use Rattle.schedule.specs.Avoiding.{integer_avoids, condition_avoids}
 use Rattle.schedule.specs.Chain.{operands_avoid, conditions_avoid}
 
 pub avoids_negated : (vectors : List ℕ) (signs : ℕ) (e : IntegerTree) → integer_avoids vectors e ≡ integer_avoids vectors (negated signs e)

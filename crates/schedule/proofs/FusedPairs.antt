@@ -1,5 +1,5 @@
 -- Fused statements of an accepted schedule.
-use Rattle.std.proofs.Common.{◌≡◌, refl, ap, subst, sym, ◌∙◌, ℕ, Bool, true, false, not, nat_eq}
+use Rattle.std.proofs.Common.{◌≡◌, refl, ap, subst, sym, ◌∙◌, ℕ, Bool, true, false, not, ◌||◌, nat_eq}
 use Rattle.std.proofs.lemmas.Bool.{eqb-true}
 use Rattle.std.specs.Prelude.{Option, Some, None, Ok, if◌then◌else◌}
 use Rattle.typed_tree.specs.ProgramTree.{ProgramTree}
@@ -8,20 +8,43 @@ use Rattle.schedule.specs.declared.choice.Fused.{Fused}
 use Rattle.schedule.specs.declared.choice.Fused.TheVariants.{With, Into}
 use Rattle.schedule.specs.declared.error.Rule.{Rule}
 use Rattle.schedule.specs.declared.site.Apply.{Apply}
+use Rattle.schedule.specs.declared.site.Apply.TheVariants.{Vertices, Edges}
 use Rattle.schedule.specs.Calls.{apply_at, fusing_fault_of, is_followed_by, schedule_of}
-use Rattle.schedule.specs.Laws.{FusesWell, IsFusedWell}
-use Rattle.schedule.specs.Rules.{are_independent, have_same_sets}
+use Rattle.schedule.specs.Laws.{FusesWell, IsFusedWell, IsIndependent}
+use Rattle.schedule.specs.Rules.{are_independent, have_same_sets, is_end}
 use Rattle.schedule.specs.Schedule.{ScheduleTree, choice_of, empty_schedule, fused_as, with_fused}
 use Rattle.schedule.proofs.CallSteps.{Step, GivesValue, Fuses, PutsGroup, kept_by_calls}
+use Rattle.schedule.proofs.Uses.{nothing_in_common, of_and}
 use Rattle.schedule.proofs.Choices.{choice_elsewhere, choice_here, fused_after_value, given_fused}
 
 pub no_fault : (b : Bool) (r : Rule) (rest : Option Rule) → (if b then Some r else rest) ≡ None → (b ≡ false) × (rest ≡ None)
 no_fault true r rest e = cc
 no_fault false r rest e = (refl, e)
 
+not_or : (a b : Bool) → not (a || b) ≡ true → (a ≡ false) × (b ≡ false)
+not_or true b h = cc
+not_or false true h = cc
+not_or false false h = (refl, refl)
+
 from_not : (b : Bool) → not b ≡ false → b ≡ true
 from_not true h = refl
 from_not false h = cc
+
+is_independent : (p : ProgramTree) (one other : Apply) → are_independent p one other ≡ true → IsIndependent p one other
+is_independent p (Edges a f r) (Edges b g s) h =
+    let ends = of_and _ _ h in
+    let function = of_and _ _ ends.1 in
+    let sources = of_and _ _ function.1 in
+    let changes = not_or (is_end p.names r b.from) (is_end p.names r b.to) ends.0 in
+    record {
+      function = nothing_in_common _ _ function.0;
+      sources = nothing_in_common _ _ sources.0;
+      destinations = nothing_in_common _ _ sources.1;
+      changes_of_sources = changes.0;
+      changes_of_destinations = changes.1;
+    }
+is_independent p (Edges a f r) (Vertices set g) h = tt
+is_independent p (Vertices set f) other h = tt
 
 well_from : (p : ProgramTree) (s : ScheduleTree) (first second : ℕ) (one other : Option Apply) → apply_at p first ≡ one → apply_at p second ≡ other
     → fusing_fault_of p s first second one other ≡ None → IsFusedWell p first second
@@ -37,7 +60,7 @@ well_from p s first second (Some a) (Some b) is_one is_other e =
       second_applies = is_other;
       behind = from_not (is_followed_by p first second) behind.0;
       same_sets = from_not (have_same_sets p.names a b) sets.0;
-      independent = from_not (are_independent p a b) independent.0;
+      independent = is_independent p a b (from_not (are_independent p a b) independent.0);
     }
 well_from p s first second (Some a) None is_one is_other e = cc
 well_from p s first second None other is_one is_other e = cc

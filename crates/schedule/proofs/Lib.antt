@@ -1,8 +1,10 @@
 pub mod CallSteps
 pub mod Chains
 pub mod Choices
+pub mod Defaults
 pub mod FusedOnce
 pub mod FusedPairs
 pub mod Groups
 pub mod Places
 pub mod Values
+pub mod Uses

@@ -18,11 +18,11 @@ use Rattle.schedule.proofs.CallSteps.{Step, GivesValue, Fuses, PutsGroup, kept_b
 use Rattle.schedule.proofs.Choices.{choice_elsewhere, choice_here}
 
 -- what `and_then` gives comes from what was there
-and_then_from : {A B : Type 0} (r : Result A Rule) (f : A → B) (b : B) → and_then r f ≡ Ok b → (a : A) × (r ≡ Ok a) × (f a ≡ b)
+pub and_then_from : {A B : Type 0} (r : Result A Rule) (f : A → B) (b : B) → and_then r f ≡ Ok b → (a : A) × (r ≡ Ok a) × (f a ≡ b)
 and_then_from (Ok a) f b e = (a, refl, ok_is _ _ _ refl e)
 and_then_from (Err r) f b e = cc
 
-given_is_new : {V : Type 0} (before value after : Option V) → first_given before value ≡ Ok after → (v : V) × (value ≡ Some v) × (after ≡ Some v) × (before ≡ None)
+pub given_is_new : {V : Type 0} (before value after : Option V) → first_given before value ≡ Ok after → (v : V) × (value ≡ Some v) × (after ≡ Some v) × (before ≡ None)
 given_is_new before None after e = cc
 given_is_new None (Some v) after e = (v, refl, sym (ok_is _ _ _ refl e), refl)
 given_is_new (Some other) (Some v) after e = cc
@@ -75,7 +75,7 @@ fused_extends : (q label : ℕ) (fused : _) (s : ScheduleTree) → Extends (choi
 fused_extends q label fused s = put_extends q label (fused_as fused (choice_of label s)) s (record { direction = λ v is. is; parallelization = λ v is. is; dense_vertex_set = λ v is. is })
 
 -- a value that was given stays
-step_keeps_value : (p : ProgramTree) (which : Setting) (text : List ℕ) (q : ℕ) (s new : ScheduleTree)
+pub step_keeps_value : (p : ProgramTree) (which : Setting) (text : List ℕ) (q : ℕ) (s new : ScheduleTree)
     → IsGiven which text (choice_of q s) → Step p s new → IsGiven which text (choice_of q new)
 step_keeps_value p which text q s new is (GivesValue setting other label c given after) =
     subst (λ (t : ScheduleTree). IsGiven which text (choice_of q t)) after
@@ -143,7 +143,7 @@ nothing_by_fields : (p : ProgramTree) (s : ScheduleTree) (two : Option (List ℕ
 nothing_by_fields p s None = tt
 nothing_by_fields p s (Some (name, text)) = (nothing_to s text (label_place p name)).1
 
-made : (p : ProgramTree) (which : Setting) (arguments : List (List ℕ)) (s new : ScheduleTree) → with_call_of p which arguments s ≡ Ok new
+pub made : (p : ProgramTree) (which : Setting) (arguments : List (List ℕ)) (s new : ScheduleTree) → with_call_of p which arguments s ≡ Ok new
     → IsGivenByTwo p new which (two_of arguments)
 made p setting.Direction arguments s new e = two_has p setting.Direction (two_of arguments) s new e
 made p setting.Parallelization arguments s new e = two_has p setting.Parallelization (two_of arguments) s new e

@@ -1,6 +1,6 @@
 -- Which vectors functions read and write.
-use Rattle.std.specs.List.{list_any}
-use Rattle.std.specs.Prelude.{◌==◌, ℕ, Bool, true, not, ◌&&◌, List, [], ◌∷◌, ◌++◌, Option, Some, None, slice_get}
+use Rattle.std.specs.List.{list_all, list_any}
+use Rattle.std.specs.Prelude.{◌==◌, ℕ, Bool, not, List, [], ◌∷◌, ◌++◌, Option, Some, None, slice_get}
 use Rattle.typed_tree.specs.declared.statement.EndFilter.{EndFilter}
 use Rattle.typed_tree.specs.declared.statement.EndFilter.TheVariants as end
 use Rattle.typed_tree.specs.IntegerTree.{IntegerTree}
@@ -9,46 +9,42 @@ use Rattle.typed_tree.specs.ConditionTree.{ConditionTree}
 use Rattle.typed_tree.specs.ConditionTree as condition
 use Rattle.typed_tree.specs.StepTree.{FunctionTree, StepTree, StepsTree, DeclareInteger, DeclareCondition, SetInteger, SetCondition, ReduceInteger, SetEntry, ReduceEntry, If, IfElse, NoStep, StepThen}
 
--- the vector is none of these
-abbrev pub is_none_of : ℕ → List ℕ → Bool
-is_none_of vector vectors = not (list_any (λ v. v == vector) vectors)
+-- the vectors of which the expression reads entries, in the order of the text
+abbrev pub integer_reads : IntegerTree → List ℕ
+integer_reads (integer.Number n) = []
+integer_reads (integer.Constant name n) = []
+integer_reads (integer.Variable slot) = []
+integer_reads (integer.Parameter at) = []
+integer_reads (integer.EntryAt vector at) = vector ∷ []
+integer_reads (integer.Entry vector index) = vector ∷ integer_reads index
+integer_reads (integer.SetSize slot) = []
+integer_reads (integer.Negative e) = integer_reads e
+integer_reads (integer.Arithmetic operator a b) = integer_reads a ++ integer_reads b
 
--- the expression reads no entry of these vectors
-abbrev pub integer_avoids : List ℕ → IntegerTree → Bool
-integer_avoids vectors (integer.Number n) = true
-integer_avoids vectors (integer.Constant name n) = true
-integer_avoids vectors (integer.Variable slot) = true
-integer_avoids vectors (integer.Parameter at) = true
-integer_avoids vectors (integer.EntryAt vector at) = is_none_of vector vectors
-integer_avoids vectors (integer.Entry vector index) = is_none_of vector vectors && integer_avoids vectors index
-integer_avoids vectors (integer.SetSize slot) = true
-integer_avoids vectors (integer.Negative e) = integer_avoids vectors e
-integer_avoids vectors (integer.Arithmetic operator a b) = integer_avoids vectors a && integer_avoids vectors b
-
-abbrev pub condition_avoids : List ℕ → ConditionTree → Bool
-condition_avoids vectors (condition.Literal b) = true
-condition_avoids vectors (condition.Constant name b) = true
-condition_avoids vectors (condition.Variable slot) = true
-condition_avoids vectors (condition.Not c) = condition_avoids vectors c
-condition_avoids vectors (condition.Compare comparison a b) = integer_avoids vectors a && integer_avoids vectors b
-condition_avoids vectors (condition.Connect connective a b) = condition_avoids vectors a && condition_avoids vectors b
+abbrev pub condition_reads : ConditionTree → List ℕ
+condition_reads (condition.Literal b) = []
+condition_reads (condition.Constant name b) = []
+condition_reads (condition.Variable slot) = []
+condition_reads (condition.Not c) = condition_reads c
+condition_reads (condition.Compare comparison a b) = integer_reads a ++ integer_reads b
+condition_reads (condition.Connect connective a b) = condition_reads a ++ condition_reads b
 
 abbrev mutual
-  -- the statement neither reads nor writes an entry of these vectors
-  pub step_avoids : List ℕ → StepTree → Bool
-  step_avoids vectors (DeclareInteger name e) = integer_avoids vectors e
-  step_avoids vectors (DeclareCondition name c) = condition_avoids vectors c
-  step_avoids vectors (SetInteger slot e) = integer_avoids vectors e
-  step_avoids vectors (SetCondition slot c) = condition_avoids vectors c
-  step_avoids vectors (ReduceInteger slot reduction e) = integer_avoids vectors e
-  step_avoids vectors (SetEntry vector e) = is_none_of vector vectors && integer_avoids vectors e
-  step_avoids vectors (ReduceEntry vector reduction e) = is_none_of vector vectors && integer_avoids vectors e
-  step_avoids vectors (If c body) = condition_avoids vectors c && steps_avoid vectors body
-  step_avoids vectors (IfElse c body other) = condition_avoids vectors c && (steps_avoid vectors body && steps_avoid vectors other)
+  -- the vectors of which the statement reads or writes entries
+  pub step_uses : StepTree → List ℕ
+  step_uses (DeclareInteger name e) = integer_reads e
+  step_uses (DeclareCondition name c) = condition_reads c
+  step_uses (SetInteger slot e) = integer_reads e
+  step_uses (SetCondition slot c) = condition_reads c
+  step_uses (ReduceInteger slot reduction e) = integer_reads e
+  step_uses (SetEntry vector e) = vector ∷ integer_reads e
+  step_uses (ReduceEntry vector reduction e) = vector ∷ integer_reads e
+  step_uses (If c body) = condition_reads c ++ steps_use body
+  step_uses (IfElse c body other) = condition_reads c ++ (steps_use body ++ steps_use other)
 
-  pub steps_avoid : List ℕ → StepsTree → Bool
-  steps_avoid vectors NoStep = true
-  steps_avoid vectors (StepThen step rest) = step_avoids vectors step && steps_avoid vectors rest
+  pub steps_use : StepsTree → List ℕ
+  steps_use NoStep = []
+  steps_use (StepThen step rest) = step_uses step ++ steps_use rest
 
 abbrev mutual
   -- the vectors of which the statement writes entries, in the order of the text
@@ -68,12 +64,12 @@ abbrev mutual
   steps_write (StepThen step rest) = step_writes step ++ steps_write rest
 
 -- the same of the function at a place; one that is not there does nothing
-abbrev pub steps_avoid_where : List ℕ → Option FunctionTree → Bool
-steps_avoid_where vectors None = true
-steps_avoid_where vectors (Some f) = steps_avoid vectors f.steps
+abbrev pub steps_use_where : Option FunctionTree → List ℕ
+steps_use_where None = []
+steps_use_where (Some f) = steps_use f.steps
 
-abbrev pub function_avoids : List ℕ → List FunctionTree → ℕ → Bool
-function_avoids vectors functions place = steps_avoid_where vectors (slice_get functions place)
+abbrev pub function_uses : List FunctionTree → ℕ → List ℕ
+function_uses functions place = steps_use_where (slice_get functions place)
 
 abbrev pub steps_write_where : Option FunctionTree → List ℕ
 steps_write_where None = []
@@ -82,8 +78,16 @@ steps_write_where (Some f) = steps_write f.steps
 abbrev pub function_writes : List FunctionTree → ℕ → List ℕ
 function_writes functions place = steps_write_where (slice_get functions place)
 
--- the filter of an end reads no entry of these vectors
-abbrev pub end_avoids : List ℕ → List FunctionTree → Option EndFilter → Bool
-end_avoids vectors filters None = true
-end_avoids vectors filters (Some (end.Members slot)) = true
-end_avoids vectors filters (Some (end.Function place)) = function_avoids vectors filters place
+-- the vectors that the filter of an end reads; a vertex set reads none
+abbrev pub end_reads : List FunctionTree → Option EndFilter → List ℕ
+end_reads filters None = []
+end_reads filters (Some (end.Members slot)) = []
+end_reads filters (Some (end.Function place)) = function_uses filters place
+
+-- the vector is none of these
+abbrev pub is_none_of : ℕ → List ℕ → Bool
+is_none_of vector vectors = not (list_any (λ v. v == vector) vectors)
+
+-- none of the vectors is one of the others
+abbrev pub are_apart : List ℕ → List ℕ → Bool
+are_apart vectors others = list_all (λ v. is_none_of v others) vectors

@@ -4,7 +4,7 @@ use Rattle.typed_tree.specs.declared.expression.Operand.{Operand}
 use Rattle.typed_tree.specs.declared.expression.Condition.{Condition}
 use Rattle.typed_tree.specs.IntegerTree.{integer_tree}
 use Rattle.typed_tree.specs.ConditionTree.{condition_tree}
-use Rattle.schedule.specs.Access.{integer_avoids, condition_avoids}
+use Rattle.schedule.specs.Avoiding.{integer_avoids, condition_avoids}
 
 abbrev pub operands_avoid : List ℕ → List Operand → Bool
 operands_avoid vectors [] = true

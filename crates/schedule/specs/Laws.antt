@@ -1,8 +1,9 @@
 -- What holds of each accepted schedule.
-use Rattle.std.specs.Prelude.{◌≡◌, ℕ, true, nat_eq, Some, List, [], ◌∷◌, Option, None}
-use Rattle.std.specs.List.{concat, IsDistinct}
+use Rattle.std.specs.Prelude.{◌≡◌, ℕ, true, false, nat_eq, Some, List, [], ◌∷◌, Option, None}
+use Rattle.std.specs.List.{concat, Contains, IsDistinct}
 use Rattle.syntax.specs.declared.schedule.Setting.{Setting}
 use Rattle.syntax.specs.declared.schedule.Setting.TheVariants as setting
+use Rattle.typed_tree.specs.declared.statement.Ends.{Ends}
 use Rattle.typed_tree.specs.ProgramTree.{ProgramTree, ScheduleCallTree}
 use Rattle.schedule.specs.declared.choice.Choice.{Choice}
 use Rattle.schedule.specs.declared.choice.Direction.{Direction}
@@ -10,11 +11,26 @@ use Rattle.schedule.specs.declared.choice.Parallelization.{Parallelization}
 use Rattle.schedule.specs.declared.choice.DenseVertexSet.{DenseVertexSet}
 use Rattle.schedule.specs.declared.choice.Fused.TheVariants.{With, Into}
 use Rattle.schedule.specs.declared.site.Apply.{Apply}
+use Rattle.schedule.specs.declared.site.Apply.TheVariants.{Edges}
 use Rattle.schedule.specs.Calls.{apply_at, is_followed_by, two_of}
 use Rattle.schedule.specs.Names.{label_place}
-use Rattle.schedule.specs.Rules.{are_independent, have_same_sets}
+use Rattle.schedule.specs.Access.{end_reads, function_uses, function_writes}
+use Rattle.schedule.specs.Rules.{have_same_sets, is_end}
 use Rattle.schedule.specs.Schedule.{ScheduleTree, choice_of}
 use Rattle.schedule.specs.Values.{direction_of, parallelization_of, dense_vertex_set_of}
+
+-- No vector that the first of two edge applies writes is read or written by the second, or read by a filter of its ends,
+-- and no end of the second is the set that the first one's changes go to. Two vertex applies are done vertex by vertex.
+pub record SharesNoVector (p : ProgramTree) (f : ℕ) (r : Option ℕ) (b : Ends) (g : ℕ) : Type 0 where
+  pub function : (v : ℕ) → Contains (function_uses p.edge_functions g) v → Contains (function_writes p.edge_functions f) v → ⊥
+  pub sources : (v : ℕ) → Contains (end_reads p.filters b.from) v → Contains (function_writes p.edge_functions f) v → ⊥
+  pub destinations : (v : ℕ) → Contains (end_reads p.filters b.to) v → Contains (function_writes p.edge_functions f) v → ⊥
+  pub changes_of_sources : is_end p.names r b.from ≡ false
+  pub changes_of_destinations : is_end p.names r b.to ≡ false
+
+abbrev pub IsIndependent : ProgramTree → Apply → Apply → Type 0
+IsIndependent p (Edges a f r) (Edges b g s) = SharesNoVector p f r b g
+IsIndependent p _ _ = Unit {0}
 
 -- the second of two fused statements stands right behind the first in one block; both apply to vertices or both to
 -- edges, of the same sets and filters; and edge applies are independent
@@ -25,7 +41,7 @@ pub record IsFusedWell (p : ProgramTree) (first second : ℕ) : Type 0 where
   pub second_applies : apply_at p second ≡ Some other
   pub behind : is_followed_by p first second ≡ true
   pub same_sets : have_same_sets p.names one other ≡ true
-  pub independent : are_independent p one other ≡ true
+  pub independent : IsIndependent p one other
 
 abbrev pub FusesWell : ProgramTree → ScheduleTree → Type 0
 FusesWell p s = (first second : ℕ) → (choice_of first s).fused ≡ Some (With second) → IsFusedWell p first second
@@ -60,3 +76,42 @@ IsGivenByTwo p s which (Some (name, text)) = IsGivenTo s which text (label_place
 abbrev pub HasValues : ProgramTree → ScheduleTree → List ScheduleCallTree → Type 0
 HasValues p s [] = Unit {0}
 HasValues p s (call ∷ calls) = IsGivenByTwo p s call.setting (two_of call.arguments) × HasValues p s calls
+
+-- the call is a `config` call of this kind on the label
+pub record IsOnLabel (p : ProgramTree) (which : Setting) (label : ℕ) (call : ScheduleCallTree) : Type 0 where
+  pub name : List ℕ
+  pub text : List ℕ
+  pub kind : call.setting ≡ which
+  pub arguments : two_of call.arguments ≡ Some (name, text)
+  pub named : label_place p name ≡ Some label
+
+-- no call is one of this kind on the label
+abbrev pub NoneIsOnLabel : ProgramTree → Setting → ℕ → List ScheduleCallTree → Type 0
+NoneIsOnLabel p which label [] = Unit {0}
+NoneIsOnLabel p which label (call ∷ calls) = (IsOnLabel p which label call → ⊥) × NoneIsOnLabel p which label calls
+
+-- no value of this kind was given, so the default stands
+abbrev pub HasDefault : Setting → Choice → Type 0
+HasDefault setting.Direction c = c.direction ≡ None
+HasDefault setting.Parallelization c = c.parallelization ≡ None
+HasDefault setting.DenseVertexSet c = c.dense_vertex_set ≡ None
+HasDefault setting.FuseFunctions c = Unit {0}
+HasDefault setting.FuseFields c = Unit {0}
+
+-- a label has the default of each kind of which no call is on it
+abbrev pub HasDefaults : ProgramTree → ScheduleTree → Type 0
+HasDefaults p s = (which : Setting) (label : ℕ) → NoneIsOnLabel p which label p.schedule → HasDefault which (choice_of label s)
+
+-- a `config` call, and not one of fusing
+abbrev pub IsConfig : Setting → Type 0
+IsConfig setting.Direction = Unit {0}
+IsConfig setting.Parallelization = Unit {0}
+IsConfig setting.DenseVertexSet = Unit {0}
+IsConfig setting.FuseFunctions = ⊥
+IsConfig setting.FuseFields = ⊥
+
+-- behind a `config` call on a label no other of its kind is on that label
+abbrev pub AreOnceOnLabels : ProgramTree → List ScheduleCallTree → Type 0
+AreOnceOnLabels p [] = Unit {0}
+AreOnceOnLabels p (call ∷ calls) =
+    ((which : Setting) (label : ℕ) → IsConfig which → IsOnLabel p which label call → NoneIsOnLabel p which label calls) × AreOnceOnLabels p calls

@@ -1,4 +1,5 @@
 pub mod Access
+pub mod Avoiding
 pub mod Calls
 pub mod Chain
 pub mod Laws

@@ -6,7 +6,7 @@ use Rattle.typed_tree.specs.declared.statement.EndFilter.TheVariants as end
 use Rattle.typed_tree.specs.ProgramTree.{ProgramTree}
 use Rattle.schedule.specs.declared.site.Apply.{Apply}
 use Rattle.schedule.specs.declared.site.Apply.TheVariants.{Vertices, Edges}
-use Rattle.schedule.specs.Access.{end_avoids, function_avoids, function_writes}
+use Rattle.schedule.specs.Access.{are_apart, end_reads, function_uses, function_writes}
 use Rattle.schedule.specs.Names.{name_at}
 
 -- the names at two places are the same
@@ -36,7 +36,7 @@ is_end names _ _ = false
 abbrev pub are_independent : ProgramTree → Apply → Apply → Bool
 are_independent p (Edges a f r) (Edges b g s) =
     not (is_end p.names r b.from || is_end p.names r b.to)
-    && (function_avoids (function_writes p.edge_functions f) p.edge_functions g
-    && (end_avoids (function_writes p.edge_functions f) p.filters b.from
-    && end_avoids (function_writes p.edge_functions f) p.filters b.to))
+    && (are_apart (function_uses p.edge_functions g) (function_writes p.edge_functions f)
+    && (are_apart (end_reads p.filters b.from) (function_writes p.edge_functions f)
+    && are_apart (end_reads p.filters b.to) (function_writes p.edge_functions f)))
 are_independent p _ _ = true

@@ -3,7 +3,8 @@ ghost use Rattle.std.specs.Prelude.{◌≡◌, ◌++◌, map, OnOk};
 ghost use Rattle.typed_tree.specs.IntegerTree.{integer_tree};
 ghost use Rattle.typed_tree.specs.ConditionTree.{condition_tree};
 ghost use Rattle.typed_tree.specs.StepTree.{function_tree, step_tree, steps_tree};
-ghost use Rattle.schedule.specs.Access.{condition_avoids, end_avoids, function_avoids, function_writes, integer_avoids, step_avoids, step_writes, steps_avoid, steps_write};
+ghost use Rattle.schedule.specs.Access.{function_writes, step_writes, steps_write};
+ghost use Rattle.schedule.specs.Avoiding.{condition_avoids, end_avoids, function_avoids, integer_avoids, step_avoids, steps_avoid};
 ghost use Rattle.schedule.specs.Chain.{conditions_avoid, operands_avoid};
 
 use std::alloc::AllocError;

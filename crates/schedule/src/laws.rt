@@ -2,11 +2,13 @@
 ghost use Rattle.std.specs.Prelude.{◌≡◌, Ok};
 ghost use Rattle.typed_tree.specs.ProgramTree.{ProgramTree};
 ghost use Rattle.schedule.specs.Calls.{schedule_of};
-ghost use Rattle.schedule.specs.Laws.{FusesInPairs, FusesWell, GroupsAreDistinct, HasValues};
+ghost use Rattle.schedule.specs.Laws.{AreOnceOnLabels, FusesInPairs, FusesWell, GroupsAreDistinct, HasDefaults, HasValues};
 ghost use Rattle.schedule.specs.Schedule.{ScheduleTree};
 
 /// The law that of two fused statements the second stands right behind the first in one block, that they apply to
-/// the same sets, and that edge applies among them are independent.
+/// the same sets, and that edge applies among them are independent: no vector that the first writes is read or
+/// written by the second or read by a filter of its ends, and no end of the second is the set that the first one's
+/// changes go to.
 pub fn fused_statements_are_neighbours()
     ensures { (p : ProgramTree) (s : ScheduleTree) → schedule_of p ≡ Ok s → FusesWell p s }
 {}
@@ -24,4 +26,14 @@ pub fn vectors_are_in_one_group()
 /// The law that the label of each `config` call has the value of that call: no later call changes it.
 pub fn labels_have_the_values_of_calls()
     ensures { (p : ProgramTree) (s : ScheduleTree) → schedule_of p ≡ Ok s → HasValues p s p.schedule }
+{}
+
+/// The law that a label has the default of each kind of value for which no `config` call is on it.
+pub fn labels_without_calls_have_the_defaults()
+    ensures { (p : ProgramTree) (s : ScheduleTree) → schedule_of p ≡ Ok s → HasDefaults p s }
+{}
+
+/// The law that of each kind of `config` call one at most is on a label.
+pub fn labels_have_one_call_of_a_kind()
+    ensures { (p : ProgramTree) (s : ScheduleTree) → schedule_of p ≡ Ok s → AreOnceOnLabels p p.schedule }
 {}

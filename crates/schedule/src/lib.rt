@@ -27,7 +27,8 @@ pub use calls::accept;
 pub use choice::{Choice, DenseVertexSet, Direction, Fused, Parallelization};
 pub use error::{Rule, ScheduleError};
 pub use laws::{
-    fused_statements_are_neighbours, labels_are_fused_once, labels_have_the_values_of_calls,
+    fused_statements_are_neighbours, labels_are_fused_once, labels_have_one_call_of_a_kind,
+    labels_have_the_values_of_calls, labels_without_calls_have_the_defaults,
     vectors_are_in_one_group,
 };
 pub use schedule::Schedule;

@@ -44,6 +44,7 @@ fn are_same_ends(names: &[Name], first: Option<EndFilter>, second: Option<EndFil
 }
 
 /// Whether two applies that have the same sets are independent. Two vertex applies always are.
+#[tactic(auto, using(crate::proofs::Uses::function_is_apart, crate::proofs::Uses::end_is_apart))]
 pub(crate) fn are_independent(
     alloc: Global,
     program: &Typed,

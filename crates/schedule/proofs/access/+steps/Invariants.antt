@@ -1,6 +1,6 @@
 use Rattle.std.proofs.Common.{◌≡◌, drop}
 use Rattle.typed_tree.specs.StepTree.{steps_tree}
-use Rattle.schedule.specs.Access.{steps_avoid}
+use Rattle.schedule.specs.Avoiding.{steps_avoid}
 use Rattle.schedule.proofs.access.+steps.Given as goal
 
 -- all statements so far avoid the vectors
