@@ -6,6 +6,7 @@
 //! and no more. Nothing stands on this crate.
 #![tactic(auto)]
 
+mod batches;
 mod crew_runs;
 mod ctrees;
 mod flats;
@@ -37,7 +38,7 @@ fn main(rt: HostRuntime) -> io::Result<ExitCode> {
         return Ok(ExitCode::SUCCESS);
     }
     eprintln!(rt;
-        "usage: bench [--time scripts|lexer|parser|tails|trees|ctrees|sets|flats|vertices|crew | --script ADDS]"
+        "usage: bench [--time scripts|lexer|parser|tails|trees|ctrees|sets|flats|vertices|crew | --script ADDS | --check batches]"
     )?;
     Ok(ExitCode::from(2))
 }
@@ -51,6 +52,7 @@ fn print<R: Print + AllocGlobal + Clock + Threads + Sync>(
         [] => print_outcomes(rt),
         ["--time", subject] => print_times(rt, subject),
         ["--script", adds] => print_script(rt, adds),
+        ["--check", "batches"] => batches::print_agreement(rt, 100_000),
         _ => return Ok(false),
     };
     printed.map(|()| true)
@@ -77,9 +79,10 @@ fn print_times<R: Print + AllocGlobal + Clock + Threads + Sync>(
 }
 
 // Prints what comes of small work.
-fn print_outcomes<R: Print + AllocGlobal>(rt: &R) -> io::Result<()> {
+fn print_outcomes<R: Print + AllocGlobal + Threads + Sync>(rt: &R) -> io::Result<()> {
     print_known(rt)?;
-    script_times::print_outcomes(rt)
+    script_times::print_outcomes(rt)?;
+    batches::print_agreement(rt, 1000)
 }
 
 // Prints what the generator and the hash give where their authors have published it.
