@@ -149,10 +149,9 @@ impl Versions {
             return Err(VersionError::HistoryFull);
         }
         let graph = kept.clone()?;
-        let shared = kept.clone()?;
         reserve_ticket(&mut self.history, &mut self.held)?;
         let number = self.given + 1;
-        self.held.open(number, version, shared);
+        self.held.open(number, version, &graph)?;
         self.history.push_reserved(Done {
             step: Step::Acquire(which),
             reply: Reply::Ticket(number, version),

@@ -36,12 +36,12 @@ invariant_of-self-2 c =
     let answer : reply_to s (Acquire which) ≡ Ticket (old.given + 1) c.number_asked-version.result = acquire_reply s which kept.0 has_room ∙ ap (λ n. Ticket (n + 1) version) (sym shows.given) ∙ ap (Ticket (old.given + 1)) (sym version_is) in
     let items = c.push_reserved.ensures.items ∙ ap (λ l. l ++ record { step = Acquire which; reply = Ticket (old.given + 1) c.number_asked-version.result } ∷ []) c.in_ok-reserve_ticket.ensures.entries in
     let before = holds_unchanged old.held c.reserve_ticket.new.held s.open_tickets (version_graph s) c.in_ok-reserve_ticket.ensures.tickets c.in_ok-reserve_ticket.ensures.versions shows.held in
-    let graph_is : c.in_ok-shared.shared ≡ version_graph s c.number_asked-version.result = c.in_ok-shared.ensures.cases ∙ sym kept.1 ∙ ap (version_graph s) (sym version_is) in
+    let graph_is : c.in_ok-graph.graph ≡ version_graph s c.number_asked-version.result = c.in_ok-graph.ensures.cases ∙ sym kept.1 ∙ ap (version_graph s) (sym version_is) in
     let x : OpenTicket = record { number = old.given + 1; version = c.number_asked-version.result } in
     let new_number : ticket_version s.open_tickets x.number ≡ None = shows.tickets.given x.number (omega (arith, shows.given)) in
     let opened : Holds new.held (s.open_tickets ++ x ∷ []) (version_graph s) =
-    holds_opened c.reserve_ticket.new.held new.held s.open_tickets (version_graph s) x new_number c.open.ensures.tickets (c.open.ensures.count (before.tickets x.number ∙ new_number))
-    (λ q. c.open.ensures.versions q ∙ ap (λ (g : Digraph). if x.version == q then Some (one_more g (get nat_eq c.reserve_ticket.new.held.versions x.version)) else get nat_eq c.reserve_ticket.new.held.versions q) graph_is) before in
+    holds_opened c.reserve_ticket.new.held new.held s.open_tickets (version_graph s) x new_number c.in_ok-open.ensures.tickets (c.in_ok-open.ensures.count (before.tickets x.number ∙ new_number))
+    (λ q. c.in_ok-open.ensures.versions q ∙ ap (λ (g : Digraph). if x.version == q then Some (one_more g (get nat_eq c.reserve_ticket.new.held.versions x.version)) else get nat_eq c.reserve_ticket.new.held.versions q) graph_is) before in
     let y : OpenTicket = record { number = s.given + 1; version = version } in
     let x_is : x ≡ y = λ i. record { number = shows.given i + 1; version = version_is i } in
     kept_step old new c.self.invariant (Acquire which) (Ticket (old.given + 1) c.number_asked-version.result) answer tt refl refl items
