@@ -3,7 +3,7 @@
 ghost use Rattle.std.specs.Prelude.{◌≡◌};
 
 use crate::timing::Times;
-use crew::{CrewError, Open, Share, Work, run_pieces};
+use crew::{CrewError, Found, Open, Share, Work, run_pieces};
 use std::alloc::{AllocError, Global};
 use std::io;
 use std::io::Error;
@@ -38,7 +38,7 @@ impl Work for Numbers {
 }
 
 // What is timed.
-#[derive(Clone, Copy, Debug)]
+#[derive(Clone, Copy)]
 enum Row {
     Threads,
     Claimed,
@@ -81,8 +81,8 @@ impl Row {
     ) -> io::Result<usize> {
         match self {
             Row::Threads => Ok(started(rt, pieces)?),
-            Row::Claimed => run(rt, pieces, workers, Share::Claimed),
-            Row::Fixed => run(rt, pieces, workers, Share::Fixed),
+            Row::Claimed => Ok(found(rt, pieces, workers, Share::Claimed)?.len()),
+            Row::Fixed => Ok(found(rt, pieces, workers, Share::Fixed)?.len()),
         }
     }
 }
@@ -100,17 +100,18 @@ fn started<R: AllocGlobal + Threads>(rt: &R, threads: usize) -> Result<usize, Al
     Ok(joined)
 }
 
-fn run<R: AllocGlobal + Threads + Sync>(
+// What so many pieces, at most 1,000,000, come to.
+fn found<R: AllocGlobal + Threads + Sync>(
     rt: &R,
     pieces: usize,
     workers: usize,
     share: Share,
-) -> io::Result<usize> {
-    let mut states = Vec::new(rt.alloc());
-    let pieces = pieces.min(1_000_000);
+) -> io::Result<Vec<Found<usize>>> {
+    let (alloc, pieces) = (rt.alloc(), pieces.min(1_000_000));
+    let mut states = Vec::new(alloc);
     let found = run_pieces(
         rt,
-        rt.alloc(),
+        alloc,
         pieces,
         workers,
         share,
@@ -119,7 +120,7 @@ fn run<R: AllocGlobal + Threads + Sync>(
         &mut states,
     );
     match found {
-        Ok(found) => Ok(found.len()),
+        Ok(found) => Ok(found),
         Err(CrewError::NoMemory) => Err(Error::other("out of memory")),
         Err(CrewError::BadWorkers) => Err(Error::other("the workers were refused")),
     }
@@ -157,4 +158,24 @@ fn best_time<R: AllocGlobal + Clock + Threads + Sync>(
         times.push(rt, start)?;
     }
     Ok(times.best())
+}
+
+// The pieces, the workers and the share of each run that is looked at.
+const RUNS: [(usize, usize, Share); 4] = [
+    (40, 2, Share::Claimed),
+    (40, 4, Share::Fixed),
+    (40, 7, Share::Claimed),
+    (1000, 64, Share::Fixed),
+];
+
+/// Prints of some runs of pieces that each piece was found once, in order. Fails where one was not.
+pub fn print_found<R: Print + AllocGlobal + Threads + Sync>(rt: &R) -> io::Result<()> {
+    for (pieces, workers, share) in RUNS {
+        let found = found(rt, pieces, workers, share)?;
+        if !found.iter().map(|one| one.piece).eq(1..=pieces) {
+            return Err(Error::other("a piece was not found once"));
+        }
+        println!(rt; "{pieces} pieces by {workers} workers: each found once")?;
+    }
+    Ok(())
 }

@@ -11,7 +11,7 @@ use std::time::Instant;
 use tail_codec::{Tail, TailError};
 
 // Of each size 1,000 sets are timed, in rounds so that memory holds them.
-#[derive(Clone, Copy, Debug)]
+#[derive(Clone, Copy)]
 struct Sets {
     size: usize,
     rounds: u64,
@@ -87,7 +87,7 @@ fn print_rows<R: Print>(rt: &R, sets: Sets, totals: &[u64]) -> io::Result<()> {
 }
 
 // What is timed.
-#[derive(Clone, Copy, Debug)]
+#[derive(Clone, Copy)]
 enum Row {
     Encode,
     Make,

@@ -38,7 +38,7 @@ fn main(rt: HostRuntime) -> io::Result<ExitCode> {
         return Ok(ExitCode::SUCCESS);
     }
     eprintln!(rt;
-        "usage: bench [--time scripts|lexer|parser|tails|trees|ctrees|sets|flats|vertices|crew | --script ADDS | --check batches]"
+        "usage: bench [--time scripts|lexer|parser|tails|trees|ctrees|sets|flats|vertices|crew | --script ADDS | --check batches|crew]"
     )?;
     Ok(ExitCode::from(2))
 }
@@ -53,6 +53,7 @@ fn print<R: Print + AllocGlobal + Clock + Threads + Sync>(
         ["--time", subject] => print_times(rt, subject),
         ["--script", adds] => print_script(rt, adds),
         ["--check", "batches"] => batches::print_agreement(rt, 100_000),
+        ["--check", "crew"] => crew_runs::print_found(rt),
         _ => return Ok(false),
     };
     printed.map(|()| true)

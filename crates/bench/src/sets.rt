@@ -98,7 +98,7 @@ fn ascending(alloc: Global, random: &mut Random, size: u64) -> Result<Vec<u32>, 
 }
 
 // What is timed.
-#[derive(Clone, Copy, Debug)]
+#[derive(Clone, Copy)]
 enum Row {
     Contains,
     Merge,

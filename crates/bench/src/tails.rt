@@ -20,7 +20,7 @@ const TURNS: usize = 25;
 const SEED: u64 = 2026;
 
 // How many numbers lie between an element and the one before it: `least` and the bits of `mask`.
-#[derive(Clone, Copy, Debug)]
+#[derive(Clone, Copy)]
 struct Gaps {
     name: &'static str,
     least: u64,
@@ -62,7 +62,7 @@ pub fn print_times<R: Print + AllocGlobal + Clock>(rt: &R) -> io::Result<()> {
 }
 
 // What is timed.
-#[derive(Clone, Copy, Debug)]
+#[derive(Clone, Copy)]
 enum Row {
     Iterate,
     Fill,
