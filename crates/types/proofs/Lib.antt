@@ -1,13 +1,16 @@
 pub mod BlockLaws
 pub mod DeclarationLaws
+pub mod EachDeclaration
 pub mod EdgeWrites
 pub mod Faultless
 pub mod Kept
 pub mod LabelLaws
 pub mod Literals
+pub mod MainFunction
 pub mod NewNames
 pub mod Numbers
 pub mod Outcomes
+pub mod Prints
 pub mod ResolvedPrograms
 pub mod ResolvedScopes
 pub mod ResolvedStatements

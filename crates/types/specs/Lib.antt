@@ -2,14 +2,17 @@ pub mod Block
 pub mod Checker
 pub mod Declaration
 pub mod EdgeWrites
+pub mod EntryAccess
 pub mod Given
 pub mod Initial
 pub mod Kind
 pub mod Labels
 pub mod Literal
+pub mod MainFunction
 pub mod NewNames
 pub mod Numbers
 pub mod Plain
+pub mod Prints
 pub mod Program
 pub mod Statement
 pub mod Step

@@ -8,9 +8,12 @@ ghost use Rattle.typed_tree.specs.Resolved.{IsResolved};
 ghost use Rattle.expression_types.specs.declared.fault.Fault as fault;
 ghost use Rattle.types.specs.EdgeWrites.{ReducesInOneWay, SetsNoEntry};
 ghost use Rattle.types.specs.Checker.{without_ends};
+ghost use Rattle.types.specs.Declaration.{main_bytes};
 ghost use Rattle.types.specs.Labels.{labels_of};
+ghost use Rattle.types.specs.MainFunction.{DeclaresMain, functions_named};
 ghost use Rattle.types.specs.NewNames.{DeclarationsDeclareNew, edges_declared};
 ghost use Rattle.types.specs.Numbers.{InOrder, numbers};
+ghost use Rattle.types.specs.Prints.{PrintsInMainAlone};
 ghost use Rattle.types.specs.UsedNames.{DeclarationsUseVisible};
 ghost use Rattle.types.specs.Program.{Checks, program_of};
 
@@ -57,4 +60,15 @@ pub fn edge_functions_only_reduce()
 /// its body.
 pub fn statements_are_numbered_in_order()
     ensures { (source : SourceTree) (length : ℕ) → InOrder 1 (numbers (program_of source length).value.main) }
+{}
+
+/// The law that in a source with a program no function but `main` has a `print` in it, at any depth.
+pub fn checked_sources_print_in_main_alone()
+    ensures { (source : SourceTree) (length : ℕ) (program : ProgramTree) → Checks source length (Ok program) → AllByRecursion PrintsInMainAlone source.declarations }
+{}
+
+/// The law that a source with a program declares one function named `main`, which has neither parameters nor a result.
+pub fn checked_sources_declare_main()
+    ensures main { (source : SourceTree) (length : ℕ) (program : ProgramTree) → Checks source length (Ok program) → DeclaresMain source.declarations }
+    ensures one { (source : SourceTree) (length : ℕ) (program : ProgramTree) → Checks source length (Ok program) → functions_named main_bytes source.declarations ≡ 1 }
 {}
