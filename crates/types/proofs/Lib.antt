@@ -1,15 +1,19 @@
 pub mod BlockLaws
+pub mod ClearValues
 pub mod DeclarationLaws
 pub mod EachDeclaration
 pub mod EdgeWrites
+pub mod EntryReads
 pub mod Faultless
 pub mod Kept
+pub mod KnownScopes
 pub mod LabelLaws
 pub mod Literals
 pub mod MainFunction
 pub mod NewNames
 pub mod Numbers
 pub mod Outcomes
+pub mod PlainIndexes
 pub mod Prints
 pub mod ResolvedPrograms
 pub mod ResolvedScopes
@@ -19,3 +23,4 @@ pub mod ResolvedValues
 pub mod Sources
 pub mod StepLaws
 pub mod UsedNames
+pub mod VertexNames
