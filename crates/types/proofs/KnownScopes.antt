@@ -25,6 +25,10 @@ use Rattle.types.proofs.Faultless.{no_left, no_right, not_empty}
 abbrev pub Vertices : Type 1
 Vertices = Endpoint → List ℕ → Type 0
 
+-- none does
+abbrev pub nowhere : Vertices
+nowhere p name = ⊥
+
 abbrev pub EntityIsKnown : Vertices → List ℕ → Entity → Type 0
 EntityIsKnown At name entity.Edges = Unit {0}
 EntityIsKnown At name (entity.Vector place) = Unit {0}
@@ -47,12 +51,12 @@ abbrev pub IsKnown : Vertices → Inside → ScopeTree → Type 0
 IsKnown At i scope = (scope.inside ≡ i) × AllByRecursion (λ x. EntityIsKnown At x.0 x.1) scope.visible
 
 -- where no name stands for a vertex, these may
-entity_becomes_known : (At : Vertices) (name : List ℕ) (e : Entity) → EntityIsKnown (λ p name. ⊥) name e → EntityIsKnown At name e
+entity_becomes_known : (At : Vertices) (name : List ℕ) (e : Entity) → EntityIsKnown nowhere name e → EntityIsKnown At name e
 entity_becomes_known At name (entity.Parameter p) known = absurd known
 entity_becomes_known At name entity.Unclear known = known
 entity_becomes_known At name _ known = tt
 
-pub becomes_known : (At : Vertices) (visible : List (List ℕ × Entity)) → AllByRecursion (λ x. EntityIsKnown (λ p name. ⊥) x.0 x.1) visible
+pub becomes_known : (At : Vertices) (visible : List (List ℕ × Entity)) → AllByRecursion (λ x. EntityIsKnown nowhere x.0 x.1) visible
     → AllByRecursion (λ x. EntityIsKnown At x.0 x.1) visible
 becomes_known At [] known = tt
 becomes_known At (x ∷ others) known = (entity_becomes_known At x.0 x.1 known.0, becomes_known At others known.1)

@@ -3,9 +3,11 @@ pub mod ClearValues
 pub mod DeclarationLaws
 pub mod EachDeclaration
 pub mod EdgeWrites
+pub mod EntryAccess
 pub mod EntryReads
 pub mod Faultless
 pub mod Kept
+pub mod KnownDeclarations
 pub mod KnownScopes
 pub mod LabelLaws
 pub mod Literals

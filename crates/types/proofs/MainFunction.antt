@@ -167,3 +167,50 @@ main_is_declared_once source length none =
     let few = few_named [] main_bytes source.declarations (names_are_new source length none) in
     let some = at_least_one source.declarations (main_is_declared_somewhere source length none) in
     omega (arith, few, some)
+
+-- a function named main has neither parameters nor a result
+abbrev pub MainTakesNothing : DeclarationTree → Type 0
+MainTakesNothing (source.Constant at x initial) = Unit {0}
+MainTakesNothing (source.Function at name parameters result body) = name.bytes ≡ main_bytes → (parameters ≡ []) × (result ≡ None)
+
+is_main_or_not : (name : Identifier) (b : Bool) → bytes_eq name.bytes main_bytes ≡ b → b ≡ false → name.bytes ≢ main_bytes
+is_main_or_not name true test is main = absurd cc
+is_main_or_not name false test is main =
+    let named = (bytes_eq-Decides name.bytes main_bytes).1 main in let clash : false ≡ true = sym test ∙ named in absurd cc
+
+first_takes_nothing : (name : Identifier) (parameters : List ParameterTree) (result : Option ParameterTree) (b : Bool) (others : List DeclarationTree) → bytes_eq name.bytes main_bytes ≡ b
+    → IsMain name parameters result ⊎ DeclaresMain others → (if b then suc (functions_named main_bytes others) else functions_named main_bytes others) ≤ 1
+    → name.bytes ≡ main_bytes → (parameters ≡ []) × (result ≡ None)
+first_takes_nothing name parameters result b others test (inl is) few main = (is.1, is.2)
+first_takes_nothing name parameters result true others test (inr among) few main = let more = at_least_one others among in absurd (omega (arith, more, few))
+first_takes_nothing name parameters result false others test (inr among) few main = absurd (is_main_or_not name false test refl main)
+
+not_counted : (b : Bool) (n : ℕ) → (if b then suc n else n) ≡ 0 → (b ≡ false) × (n ≡ 0)
+not_counted true n none = absurd (omega (arith, none))
+not_counted false n none = (refl, none)
+
+none_takes_something : (xs : List DeclarationTree) → functions_named main_bytes xs ≡ 0 → AllByRecursion MainTakesNothing xs
+none_takes_something [] none = tt
+none_takes_something (source.Constant at x initial ∷ others) none = (tt, none_takes_something others none)
+none_takes_something (source.Function at name parameters result body ∷ others) none =
+    let first = not_counted (bytes_eq name.bytes main_bytes) (functions_named main_bytes others) none in
+    (λ main. absurd (is_main_or_not name (bytes_eq name.bytes main_bytes) refl first.0 main), none_takes_something others first.1)
+
+others_take_nothing : (name : Identifier) (parameters : List ParameterTree) (result : Option ParameterTree) (b : Bool) (others : List DeclarationTree) → bytes_eq name.bytes main_bytes ≡ b
+    → IsMain name parameters result ⊎ DeclaresMain others → (if b then suc (functions_named main_bytes others) else functions_named main_bytes others) ≤ 1
+    → (DeclaresMain others → functions_named main_bytes others ≤ 1 → AllByRecursion MainTakesNothing others) → AllByRecursion MainTakesNothing others
+others_take_nothing name parameters result true others test among few further = none_takes_something others (omega (arith, few))
+others_take_nothing name parameters result false others test (inl is) few further = absurd (is_main_or_not name false test refl is.0)
+others_take_nothing name parameters result false others test (inr among) few further = further among few
+
+each_takes_nothing : (xs : List DeclarationTree) → DeclaresMain xs → functions_named main_bytes xs ≤ 1 → AllByRecursion MainTakesNothing xs
+each_takes_nothing [] among few = tt
+each_takes_nothing (source.Constant at x initial ∷ others) among few = (tt, each_takes_nothing others among few)
+each_takes_nothing (source.Function at name parameters result body ∷ others) among few = (
+  first_takes_nothing name parameters result (bytes_eq name.bytes main_bytes) others refl among few,
+  others_take_nothing name parameters result (bytes_eq name.bytes main_bytes) others refl among few (each_takes_nothing others),
+)
+
+pub mains_take_nothing : (source : SourceTree) (length : ℕ) → (program_of source length).faults ≡ [] → AllByRecursion MainTakesNothing source.declarations
+mains_take_nothing source length none =
+    each_takes_nothing source.declarations (main_is_declared_somewhere source length none) (few_named [] main_bytes source.declarations (names_are_new source length none))

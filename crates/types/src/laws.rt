@@ -7,6 +7,7 @@ ghost use Rattle.typed_tree.specs.ProgramTree.{ProgramTree};
 ghost use Rattle.typed_tree.specs.Resolved.{IsResolved};
 ghost use Rattle.expression_types.specs.declared.fault.Fault as fault;
 ghost use Rattle.types.specs.EdgeWrites.{ReducesInOneWay, SetsNoEntry};
+ghost use Rattle.types.specs.EntryAccess.{AccessesEntriesWell};
 ghost use Rattle.types.specs.Checker.{without_ends};
 ghost use Rattle.types.specs.Declaration.{main_bytes};
 ghost use Rattle.types.specs.Labels.{labels_of};
@@ -71,4 +72,14 @@ pub fn checked_sources_print_in_main_alone()
 pub fn checked_sources_declare_main()
     ensures main { (source : SourceTree) (length : ℕ) (program : ProgramTree) → Checks source length (Ok program) → DeclaresMain source.declarations }
     ensures one { (source : SourceTree) (length : ℕ) (program : ProgramTree) → Checks source length (Ok program) → functions_named main_bytes source.declarations ≡ 1 }
+{}
+
+/// The law that in a source with a program an edge function reads vectors at its two parameters alone and writes them at
+/// the second alone, a vertex function and a filter read and write at their parameter alone, and no index in `main` has
+/// an entry of a vector in it. An index that is a parameter is its name, perhaps in parentheses.
+///
+/// In the checked program the types carry this for reads: `EntryAt` of a function has an `Endpoint` in place of an
+/// index, and a step that writes an entry has no index, as it writes at the last parameter.
+pub fn checked_sources_access_own_entries()
+    ensures { (source : SourceTree) (length : ℕ) (program : ProgramTree) → Checks source length (Ok program) → AllByRecursion AccessesEntriesWell source.declarations }
 {}
