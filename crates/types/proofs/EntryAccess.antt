@@ -160,7 +160,7 @@ written_index_is_plain at (Vertex p) clear none = tt
 written_index_is_plain at (Set slot) clear none = tt
 written_index_is_plain at Faulty clear none = clear
 
-main_reads : (scope : ScopeTree) (at : ℕ) → IsKnown nowhere inside.Main scope → Reads nowhere inside.Main HasNoEntry scope at
+pub main_reads : (scope : ScopeTree) (at : ℕ) → IsKnown nowhere inside.Main scope → Reads nowhere inside.Main HasNoEntry scope at
 main_reads scope at known = record {
   known = known;
   entry = λ vector index sound clear none. expression_plain scope at index (read_index_is_plain at vector (value_of scope at index).value clear

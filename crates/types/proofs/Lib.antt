@@ -26,3 +26,4 @@ pub mod Sources
 pub mod StepLaws
 pub mod UsedNames
 pub mod VertexNames
+pub mod WellTyped

@@ -18,3 +18,4 @@ pub mod Statement
 pub mod Step
 pub mod UsedNames
 pub mod Wanted
+pub mod WellTyped

@@ -16,6 +16,7 @@ ghost use Rattle.types.specs.NewNames.{DeclarationsDeclareNew, edges_declared};
 ghost use Rattle.types.specs.Numbers.{InOrder, numbers};
 ghost use Rattle.types.specs.Prints.{PrintsInMainAlone};
 ghost use Rattle.types.specs.UsedNames.{DeclarationsUseVisible};
+ghost use Rattle.types.specs.WellTyped.{DeclarationFits};
 ghost use Rattle.types.specs.Program.{Checks, program_of};
 
 /// The law that a source has a program or a fault that is told, and not both. It has a program exactly where it has no
@@ -82,4 +83,13 @@ pub fn checked_sources_declare_main()
 /// index, and a step that writes an entry has no index, as it writes at the last parameter.
 pub fn checked_sources_access_own_entries()
     ensures { (source : SourceTree) (length : ℕ) (program : ProgramTree) → Checks source length (Ok program) → AllByRecursion AccessesEntriesWell source.declarations }
+{}
+
+/// The law that in a source with a program constants and functions of users are of the kinds that there are. A constant
+/// `int` or `bool` is a literal, a vertex set `getVertices()`, a vector a literal or `getOutDegrees()`, the edges
+/// `load(argv[1])`, and none is a Vertex. A function of a user has one Vertex parameter, or one and a result of type
+/// `bool`, or two and no result. It holds declarations of `int` and `bool`, `if`, assignments and reductions alone; a
+/// filter writes no entry of a vector, and an edge function sets none.
+pub fn checked_sources_are_well_typed()
+    ensures { (source : SourceTree) (length : ℕ) (program : ProgramTree) → Checks source length (Ok program) → AllByRecursion DeclarationFits source.declarations }
 {}

@@ -37,7 +37,8 @@ mod wanted;
 
 pub use error::CheckError;
 pub use laws::{
-    checked_programs_are_resolved, checked_sources_access_own_entries, checked_sources_declare_main, checked_sources_declare_new_names,
+    checked_programs_are_resolved, checked_sources_access_own_entries,
+    checked_sources_are_well_typed, checked_sources_declare_main, checked_sources_declare_new_names,
     checked_sources_have_distinct_labels, checked_sources_print_in_main_alone,
     checked_sources_use_visible_names,
     edge_functions_only_reduce, sources_have_a_program_or_a_fault,
