@@ -1,12 +1,12 @@
 -- The declarations of a source without a fault, one after the other, and which kind each function is.
-use Rattle.std.proofs.Common.{◌≡◌, ◌≢◌, ap, subst, ◌∙◌, Bool, true, false, ◌&&◌, if◌then◌else◌, ℕ, List, [], ◌∷◌, Option, Some, None}
+use Rattle.std.proofs.Common.{◌≡◌, ◌≢◌, subst, Bool, true, false, ◌&&◌, if◌then◌else◌, ℕ, List, [], ◌∷◌, Option, Some, None}
 use Rattle.std.specs.Str.{bytes_eq}
 use Rattle.std.specs.List.{AllByRecursion}
 use Rattle.std.proofs.lemmas.Slice.Eq.{bytes_eq-Decides}
 use Rattle.syntax.specs.Terminals.{Identifier}
 use Rattle.syntax.specs.SourceTrees as source
 use Rattle.syntax.specs.SourceTrees.{ParameterTree, DeclarationTree}
-use Rattle.types.specs.Declaration.{DeclaredTree, KindTree, MainKind, EdgeKind, VertexKind, FilterKind, NoKind, declaration_typed, declarations_typed, declare_function, is_bool, is_vertex, kind, kind_of, main_bytes, main_declared, steps_declared, takes_nothing}
+use Rattle.types.specs.Declaration.{DeclaredTree, KindTree, MainKind, EdgeKind, VertexKind, FilterKind, NoKind, declaration_typed, declarations_typed, declare_function, is_bool, is_vertex, kind_of, main_bytes, main_declared, steps_declared, takes_nothing}
 use Rattle.types.proofs.Faultless.{no_left, no_right}
 
 -- what holds of each declaration, where something is known before it and behind it

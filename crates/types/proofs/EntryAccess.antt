@@ -1,5 +1,5 @@
 -- In a source without a fault functions of users read and write vectors at their own vertices, and no index of main has an entry in it.
-use Rattle.std.proofs.Common.{◌≡◌, ◌≢◌, refl, ap, sym, subst, ◌∙◌, arith, ℕ, suc, Bool, true, false, ◌&&◌, if◌then◌else◌, List, [], ◌∷◌, ◌++◌, Option, Some, None}
+use Rattle.std.proofs.Common.{◌≡◌, refl, sym, subst, arith, ℕ, suc, Bool, true, false, ◌&&◌, if◌then◌else◌, List, [], ◌∷◌, ◌++◌, Option, Some, None}
 use Rattle.std.specs.List.{AllByRecursion, Contains}
 use Rattle.syntax.specs.Terminals.{Identifier}
 use Rattle.syntax.specs.ExpressionTrees.{ExpressionTree}
@@ -21,7 +21,7 @@ use Rattle.expression_types.specs.ScopeTree.{ScopeTree}
 use Rattle.expression_types.specs.ValueTree.{ValueTree, Integer, Condition, Vertex, Set, Faulty, condition_reads_entry, reads_entry}
 use Rattle.types.specs.Block.{action_typed, behind, closed, statements_typed}
 use Rattle.types.specs.Checker.{CheckerTree, counted, declared_in, integer_slot, labelled, restarted}
-use Rattle.types.specs.Declaration.{DeclaredTree, KindTree, MainKind, EdgeKind, VertexKind, FilterKind, NoKind, declaration_typed, declarations_typed, inside_of, is_bool, is_vertex, kind_fits, kind_of, main_bytes, main_declared, opened, steps_declared, takes_nothing}
+use Rattle.types.specs.Declaration.{DeclaredTree, KindTree, MainKind, EdgeKind, VertexKind, FilterKind, NoKind, declaration_typed, declarations_typed, inside_of, is_bool, is_vertex, kind_fits, kind_of, main_declared, opened, steps_declared, takes_nothing}
 use Rattle.types.specs.EntryAccess.{AccessesEntriesWell, AccessesOwnVertices, ActionAccesses, BlockAccesses, ExpressionReadsAt, HasNoEntry, InitialReadsAt, IsNameAmong}
 use Rattle.types.specs.Initial.{given_by}
 use Rattle.types.specs.Program.{opening, program_of, set_count}
@@ -29,7 +29,7 @@ use Rattle.types.specs.Statement.{add_vertex, assign, print, reduce, reduce_entr
 use Rattle.types.specs.Step.{assign_step, at_own, may_reduce, may_set, own_vertex, reduce_step, same_endpoint, set_entry_step, step_behind, step_typed, steps_behind, steps_typed, written_at}
 use Rattle.types.specs.Wanted.{as_index, condition_in, integer_in, no_index}
 use Rattle.types.proofs.ClearValues.{IsClear}
-use Rattle.types.proofs.EachDeclaration.{IsUserKind, each_declaration, main_is_declared, user_declared}
+use Rattle.types.proofs.EachDeclaration.{each_declaration, main_is_declared, user_declared}
 use Rattle.types.proofs.EntryReads.{Reads, expression_reads}
 use Rattle.types.proofs.Faultless.{no_left, no_right, not_empty}
 use Rattle.types.proofs.KnownDeclarations.{AllKnown, ParametersFit, ResultFits, declaration_known, opened_known}
@@ -390,7 +390,7 @@ main_accesses : (d : DeclaredTree) (name : Identifier) (parameters : List Parame
     → AllKnown d → (main_declared d (takes_nothing parameters result) name parameters result body).faults ≡ [] → BlockAccesses HasNoEntry HasNoEntry body
 main_accesses d name parameters result body nothing known none =
     let none' = subst (λ r. (main_declared d (takes_nothing [] r) name [] r body).faults ≡ []) nothing.1
-        (subst (λ ps. (main_declared d (takes_nothing ps result) name ps result body).faults ≡ []) nothing.0 none) in
+    (subst (λ ps. (main_declared d (takes_nothing ps result) name ps result body).faults ≡ []) nothing.0 none) in
     let c = opened (restarted d.checker) (MainKind true) [] None in
     let b = statements_typed c.value Empty body in
     statements_access c.value Empty body (refl, known.1) (no_left b.faults _ (no_right c.faults _ none'))
@@ -413,5 +413,5 @@ pub entries_are_accessed_well : (source : SourceTree) (length : ℕ) → (progra
 entries_are_accessed_well source length none =
     let start = opening (set_count source.declarations) in
     let all = each_declaration AllKnown (λ x. MainTakesNothing x → AccessesEntriesWell x) declaration_accesses start source.declarations (refl, tt)
-        (no_left (declarations_typed start source.declarations).faults _ none) in
+    (no_left (declarations_typed start source.declarations).faults _ none) in
     all_apply source.declarations all (mains_take_nothing source length none)

@@ -1,5 +1,5 @@
 -- An expression without a fault has no faulty part, and reads entries at such indexes as the place around it takes.
-use Rattle.std.proofs.Common.{◌≡◌, ℕ, List, [], ◌++◌, Option, Some, None}
+use Rattle.std.proofs.Common.{◌≡◌, ℕ, [], Option, Some, None}
 use Rattle.syntax.specs.declared.operators.Addition.{Addition}
 use Rattle.syntax.specs.declared.operators.Multiplication.{Multiplication}
 use Rattle.syntax.specs.ExpressionTrees as tree

@@ -1,5 +1,5 @@
 -- What names stand for behind a declaration, and at the first statement of a function, in a source without a fault.
-use Rattle.std.proofs.Common.{◌≡◌, refl, sym, subst, ℕ, pos, Bool, true, false, ◌&&◌, if◌then◌else◌, List, [], ◌∷◌, ◌++◌, length, Option, Some, None}
+use Rattle.std.proofs.Common.{◌≡◌, refl, ℕ, pos, Bool, true, false, if◌then◌else◌, List, [], ◌∷◌, ◌++◌, length, Option, Some, None}
 use Rattle.syntax.specs.Terminals.{Identifier}
 use Rattle.syntax.specs.declared.declaration.DeclaredType.{DeclaredType}
 use Rattle.syntax.specs.declared.declaration.DeclaredType.TheVariants as declared
@@ -16,7 +16,7 @@ use Rattle.expression_types.specs.declared.scope.Inside.TheVariants as inside
 use Rattle.expression_types.specs.ScopeTree.{entered}
 use Rattle.types.specs.Block.{statements_typed}
 use Rattle.types.specs.Checker.{CheckerTree, condition_slot, declared_in, restarted, with_scope}
-use Rattle.types.specs.Declaration.{DeclaredTree, KindTree, MainKind, EdgeKind, VertexKind, FilterKind, NoKind, begins, declaration_typed, declare_constant_as, declare_function, declare_name, function_declared, has_all, inside_of, is_vertex, kind, kind_fits, literal_or_fault, loads, main_declared, next_name, only_edges, opened, parameter, parameters_declared, result_declared, result_entity, steps_declared, with_main}
+use Rattle.types.specs.Declaration.{DeclaredTree, KindTree, MainKind, EdgeKind, VertexKind, FilterKind, NoKind, begins, declaration_typed, declare_constant_as, declare_function, declare_name, function_declared, has_all, inside_of, is_vertex, kind, kind_fits, literal_or_fault, loads, main_declared, next_name, only_edges, opened, parameter, parameters_declared, result_declared, steps_declared, with_main}
 use Rattle.types.specs.Initial.{GivenTree, given_by, is_sound}
 use Rattle.types.specs.Literal.{literal_condition, literal_integer}
 use Rattle.types.specs.Step.{steps_typed, with_writes}

@@ -1,5 +1,5 @@
 -- A source without a fault declares main once.
-use Rattle.std.proofs.Common.{◌≡◌, ◌≢◌, refl, ap, sym, subst, ◌∙◌, inl, inr, ◌⊎◌, ℕ, suc, ◌+◌, ◌≤◌, arith, Bool, true, false, if◌then◌else◌, List, [], ◌∷◌, ◌++◌, Option, Some, None}
+use Rattle.std.proofs.Common.{◌≡◌, ◌≢◌, refl, sym, subst, ◌∙◌, inl, inr, ◌⊎◌, ℕ, suc, ◌≤◌, arith, Bool, true, false, if◌then◌else◌, List, [], ◌∷◌, ◌++◌, Option, Some, None}
 use Rattle.std.specs.Str.{bytes_eq}
 use Rattle.std.specs.List.{AllByRecursion}
 use Rattle.std.proofs.lemmas.Slice.Eq.{bytes_eq-Decides}
@@ -9,11 +9,10 @@ use Rattle.syntax.specs.declared.declaration.DeclaredType.TheVariants as declare
 use Rattle.syntax.specs.SourceTrees as source
 use Rattle.syntax.specs.SourceTrees.{ParameterTree, InitialTree, DeclarationTree, SourceTree}
 use Rattle.typed_tree.specs.BlockTree.{BlockTree, Empty}
-use Rattle.typed_tree.specs.StepTree.{NoStep}
 use Rattle.expression_types.specs.declared.scope.Entity.TheVariants as entity
 use Rattle.types.specs.Block.{statements_typed}
 use Rattle.types.specs.Checker.{restarted, with_scope}
-use Rattle.types.specs.Declaration.{DeclaredTree, KindTree, MainKind, EdgeKind, VertexKind, FilterKind, NoKind, declaration_typed, declarations_typed, declare_constant_as, declare_function, declare_name, kind, kind_of, main_bytes, opened, takes_nothing, with_main}
+use Rattle.types.specs.Declaration.{DeclaredTree, KindTree, MainKind, EdgeKind, VertexKind, FilterKind, NoKind, declaration_typed, declarations_typed, declare_constant_as, declare_function, declare_name, kind_of, main_bytes, opened, takes_nothing, with_main}
 use Rattle.types.specs.Initial.{GivenTree, given_by}
 use Rattle.types.specs.MainFunction.{DeclaresMain, IsMain, functions_named}
 use Rattle.types.specs.NewNames.{DeclarationsDeclareNew, IsNew}
@@ -63,7 +62,7 @@ function_main d at name parameters result body true test there =
     let b = (statements_typed (opened (restarted d.checker) (MainKind fits) parameters result).value Empty body).value in
     let e = (declare_name (record d { checker = with_scope b.1 d.checker.scope }) name entity.Main).value in
     elim (taken e fits b.0 there) [
-      inl is ↦ let all = nothing_taken parameters result is in inl ((bytes_eq-Decides name.bytes main_bytes).0 test, all.0, all.1)
+      | inl is ↦ let all = nothing_taken parameters result is in inl ((bytes_eq-Decides name.bytes main_bytes).0 test, all.0, all.1)
       | inr before ↦ inr before
     ]
 function_main d at name parameters result body false test there =
@@ -73,16 +72,16 @@ main_is_among : (d : DeclaredTree) (xs : List DeclarationTree) → IsThere (decl
 main_is_among d [] there = inr there
 main_is_among d (source.Constant at x initial ∷ others) there =
     elim (main_is_among (declaration_typed d (source.Constant at x initial)).value others there) [
-      inl among ↦ inl among
+      | inl among ↦ inl among
       | inr before ↦ inr (subst IsThere (constant_main d at x.name initial x.declared (given_by d.checker at initial).value) before)
     ]
 main_is_among d (source.Function at name parameters result body ∷ others) there =
     elim (main_is_among (declaration_typed d (source.Function at name parameters result body)).value others there) [
-      inl among ↦ inl (inr among)
+      | inl among ↦ inl (inr among)
       | inr behind ↦ elim (function_main d at name parameters result body (bytes_eq name.bytes main_bytes) refl behind) [
-          inl is ↦ inl (inl is)
-          | inr before ↦ inr before
-        ]
+        | inl is ↦ inl (inl is)
+        | inr before ↦ inr before
+      ]
     ]
 
 main_is_met : (length : ℕ) (main : Option BlockTree) → (main_of length main).faults ≡ [] → IsThere main

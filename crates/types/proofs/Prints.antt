@@ -1,12 +1,12 @@
 -- A source without a fault prints in main alone.
-use Rattle.std.proofs.Common.{◌≡◌, ◌≢◌, ℕ, List, [], ◌∷◌, ◌++◌, Option}
+use Rattle.std.proofs.Common.{◌≡◌, ℕ, List, [], ◌++◌, Option}
 use Rattle.std.specs.List.{AllByRecursion}
 use Rattle.syntax.specs.Terminals.{Identifier}
 use Rattle.syntax.specs.SourceTrees as source
 use Rattle.syntax.specs.SourceTrees.{ParameterTree, DeclarationTree, SourceTree}
 use Rattle.typed_tree.specs.StepTree.{StepsTree, NoStep}
 use Rattle.types.specs.Checker.{CheckerTree, labelled}
-use Rattle.types.specs.Declaration.{DeclaredTree, KindTree, declaration_typed, declarations_typed, kind_fits, kind_of, main_bytes, opened, steps_declared}
+use Rattle.types.specs.Declaration.{DeclaredTree, KindTree, declaration_typed, declarations_typed, kind_fits, kind_of, opened, steps_declared}
 use Rattle.types.specs.Prints.{ActionPrintsNothing, BlockPrintsNothing, PrintsInMainAlone}
 use Rattle.types.specs.Program.{opening, program_of, set_count}
 use Rattle.types.specs.Step.{step_behind, step_typed, steps_behind, steps_typed}

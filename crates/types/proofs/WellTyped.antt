@@ -1,5 +1,5 @@
 -- In a source without a fault constants and functions are of the kinds that there are.
-use Rattle.std.proofs.Common.{◌≡◌, ◌≢◌, refl, ap, sym, subst, ◌∙◌, inl, inr, ◌⊎◌, ℕ, zero, suc, ℤ, pos, negsuc, Bool, true, false, not, ◌&&◌, ◌||◌, if◌then◌else◌, List, [], ◌∷◌, ◌++◌, Option, Some, None}
+use Rattle.std.proofs.Common.{◌≡◌, refl, ap, sym, subst, ◌∙◌, inl, inr, ◌⊎◌, ℕ, zero, suc, ℤ, pos, negsuc, Bool, true, false, not, ◌&&◌, ◌||◌, if◌then◌else◌, List, [], ◌∷◌, ◌++◌, Option, Some, None}
 use Rattle.std.specs.Prelude.{IsSome}
 use Rattle.std.specs.List.{AllByRecursion}
 use Rattle.syntax.specs.Terminals.{Identifier}
@@ -23,7 +23,7 @@ use Rattle.expression_types.specs.Noted.{Noted, fault_at, sure, ◌>>=◌}
 use Rattle.expression_types.specs.ValueTree.{ValueTree, Integer, Condition, Vertex, Set, Faulty, is_faulty, named_set}
 use Rattle.types.specs.Checker.{CheckerTree, condition_slot, integer_slot, labelled}
 use Rattle.types.specs.Declaration.{DeclaredTree, KindTree, EdgeKind, VertexKind, FilterKind, NoKind, begins, declaration_typed, declarations_typed, declare_constant_as, has_all, inside_of, is_bool, is_vertex, kind_fits, kind_of, literal_or_fault, loads, opened, steps_declared, wanted}
-use Rattle.types.specs.Initial.{EndTree, GivenTree, Typed, Members, Loaded, Degrees, Broken, edge_function, end_of, ends_given, filter_function, filter_named, filtered, filtered_by, given_by, is_all, is_degrees, is_edges, is_loaded, is_sound, is_unclear, is_unknown, is_wrong, loaded, modified, modified_by, new_set, of_edges, vector_of, writes_vector}
+use Rattle.types.specs.Initial.{EndTree, GivenTree, Members, Loaded, Degrees, Broken, edge_function, end_of, ends_given, filter_function, filter_named, filtered, filtered_by, given_by, is_all, is_degrees, is_edges, is_loaded, is_sound, is_unclear, is_unknown, is_wrong, loaded, modified, modified_by, new_set, of_edges, vector_of, writes_vector}
 use Rattle.types.specs.Literal.{literal_condition, literal_integer}
 use Rattle.types.specs.Program.{opening, program_of, set_count}
 use Rattle.types.specs.Step.{declare_step_as, may_reduce, may_set, set_entry_step, step_behind, step_typed, steps_behind, steps_typed}
@@ -256,8 +256,8 @@ modified_sound c at edges a b f v first second third fourth fifth =
     let by = modified_by c at (ends_given a b) (edge_function f) (vector_of v) in
     let between = if is_wrong a || is_wrong b then fault_at at rule.WrongType Broken else by in
     let unclear = neither (is_unclear edges || is_unknown a || is_unknown b || is_unclear f) (is_unclear v)
-        (neither (is_unclear edges || is_unknown a || is_unknown b) (is_unclear f)
-        (neither (is_unclear edges || is_unknown a) (is_unknown b) (neither (is_unclear edges) (is_unknown a) first second) third) fourth) fifth in
+    (neither (is_unclear edges || is_unknown a || is_unknown b) (is_unclear f)
+    (neither (is_unclear edges || is_unknown a) (is_unknown b) (neither (is_unclear edges) (is_unknown a) first second) third) fourth) fifth in
     if_sound (is_unclear edges || is_unknown a || is_unknown b || is_unclear f || is_unclear v) (sure Broken) (if is_edges edges then between else fault_at at rule.WrongType Broken) unclear
     (if_then (is_edges edges) between at (if_else (is_wrong a || is_wrong b) by at (modified_by_sound c at (ends_given a b) (edge_function f) (vector_of v))))
 
@@ -439,7 +439,7 @@ constant_fits d at name initial declared.VertexSet known sound none =
 constant_fits d at name initial declared.Vector known sound none =
     let given = (given_by d.checker at initial).value in
     elim (vector_begins at given initial (is_degrees given) refl (given_sound d.checker at initial known sound) (no_left (begins at given initial).faults _ none)) [
-      inl is ↦ inl (given_is_degrees d.checker at initial is)
+      | inl is ↦ inl (given_is_degrees d.checker at initial is)
       | inr literal ↦ inr literal
     ]
 constant_fits d at name initial declared.EdgeSet known sound none =

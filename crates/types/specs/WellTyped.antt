@@ -1,7 +1,6 @@
 -- Sources whose constants have the values that constants may have, and whose functions are of a kind that there is and hold what a function of
 -- that kind may hold.
-use Rattle.std.specs.Prelude.{◌≡◌, ◌≢◌, ◌⊎◌, ℕ, pos, List, [], ◌∷◌, Option, Some, None, IsSome}
-use Rattle.syntax.specs.Terminals.{Identifier}
+use Rattle.std.specs.Prelude.{◌≡◌, ◌≢◌, ◌⊎◌, pos, List, [], ◌∷◌, Option, Some, None, IsSome}
 use Rattle.syntax.specs.declared.declaration.DeclaredType.{DeclaredType}
 use Rattle.syntax.specs.declared.declaration.DeclaredType.TheVariants as declared
 use Rattle.syntax.specs.SourceTrees as source

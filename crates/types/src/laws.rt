@@ -48,7 +48,8 @@ pub fn checked_sources_have_distinct_labels()
 {}
 
 /// The law that in a checked program each place is that of something that is there: that of a variable or a vertex set
-/// is the place of one that is visible and has its name, and vectors, functions, labels and names are in their tables.
+/// is the place of one that is visible and has its name, and vectors, functions, labels and names are in their tables. An
+/// entry stands at a vertex of its function, or, in `main` alone, at an index, which a run tests.
 pub fn checked_programs_are_resolved()
     ensures { (source : SourceTree) (length : ℕ) (program : ProgramTree) → Checks source length (Ok program) → IsResolved program }
 {}
