@@ -197,7 +197,7 @@ index_clear : (b : Bool) (at vector : ℕ) (e : IntegerTree) → (if b then faul
 index_clear true at vector e none = absurd (not_empty _ _ none)
 index_clear false at vector e none = tt
 
-condition_index_faulty : (at : ℕ) (reads : Bool) → (condition_index at reads).faults ≡ [] → ⊥
+pub condition_index_faulty : (at : ℕ) (reads : Bool) → (condition_index at reads).faults ≡ [] → ⊥
 condition_index_faulty at true none = not_empty _ _ none
 condition_index_faulty at false none = not_empty _ _ none
 

@@ -28,7 +28,8 @@ use Rattle.types.specs.Program.{opening, program_of, set_count}
 use Rattle.types.specs.Statement.{add_vertex, assign, print, reduce, reduce_entry, set_entry}
 use Rattle.types.specs.Step.{assign_step, at_own, may_reduce, may_set, own_vertex, reduce_step, same_endpoint, set_entry_step, step_behind, step_typed, steps_behind, steps_typed, written_at}
 use Rattle.types.specs.Wanted.{as_index, condition_in, integer_in, no_index}
-use Rattle.types.proofs.ClearValues.{IsClear}
+use Rattle.types.proofs.Booleans.{both_true}
+use Rattle.types.proofs.ClearValues.{IsClear, condition_index_faulty}
 use Rattle.types.proofs.EachDeclaration.{each_declaration, main_is_declared, user_declared}
 use Rattle.types.proofs.EntryReads.{Reads, expression_reads}
 use Rattle.types.proofs.Faultless.{no_left, no_right, not_empty}
@@ -134,13 +135,9 @@ if_plain : (b : Bool) (at vector : ℕ) (e : IntegerTree) → (if b then fault_a
 if_plain true at vector e none = absurd (not_empty _ _ none)
 if_plain false at vector e none = refl
 
-no_condition : (at : ℕ) (b : Bool) → (condition_index at b).faults ≡ [] → ⊥
-no_condition at true none = not_empty _ _ none
-no_condition at false none = not_empty _ _ none
-
 read_index_is_plain : (at vector : ℕ) (v : ValueTree) → IsClear v → (main_entry at vector v).faults ≡ [] → IsPlain v
 read_index_is_plain at vector (Integer e) clear none = if_plain (reads_entry e) at vector e none
-read_index_is_plain at vector (Condition c) clear none = absurd (no_condition at (condition_reads_entry c) none)
+read_index_is_plain at vector (Condition c) clear none = absurd (condition_index_faulty at (condition_reads_entry c) none)
 read_index_is_plain at vector (Vertex p) clear none = tt
 read_index_is_plain at vector (Set slot) clear none = tt
 read_index_is_plain at vector Faulty clear none = clear
@@ -351,10 +348,6 @@ steps_declared_access {At = At} d at kind name parameters result body may fit fi
     let first = opened_known At d.checker kind parameters result fit fits known (no_left c.faults _ inner) in
     steps_access may c.value NoStep body first (no_left b.faults _ (no_right c.faults _ inner))
 
-both : (a b : Bool) → (a && b) ≡ true → (a ≡ true) × (b ≡ true)
-both true b is = (refl, is)
-both false b is = absurd cc
-
 vertex_function_accesses : (d : DeclaredTree) (at : ℕ) (name : Identifier) (v : ParameterTree) (body : source.BlockTree) (b : Bool) → is_vertex v.declared ≡ b → AllKnown d
     → (steps_declared d at (if b then VertexKind else NoKind) name (v ∷ []) None body).faults ≡ [] → AccessesOwnVertices (v ∷ []) body
 vertex_function_accesses d at name v body true is known none =
@@ -364,14 +357,14 @@ vertex_function_accesses d at name v body false is known none = absurd (not_empt
 filter_accesses : (d : DeclaredTree) (at : ℕ) (name : Identifier) (v result : ParameterTree) (body : source.BlockTree) (b : Bool) → (is_vertex v.declared && is_bool result.declared) ≡ b
     → AllKnown d → (steps_declared d at (if b then FilterKind else NoKind) name (v ∷ []) (Some result) body).faults ≡ [] → AccessesOwnVertices (v ∷ []) body
 filter_accesses d at name v result body true is known none =
-    let vertex = (both (is_vertex v.declared) (is_bool result.declared) is).0 in
+    let vertex = (both_true (is_vertex v.declared) (is_bool result.declared) is).0 in
     steps_declared_access d at FilterKind name (v ∷ []) (Some result) body (vertex_body inside.Filter v.name.bytes tt) (vertex, refl, tt) tt known none
 filter_accesses d at name v result body false is known none = absurd (not_empty _ _ none)
 
 edge_function_accesses : (d : DeclaredTree) (at : ℕ) (name : Identifier) (src dst : ParameterTree) (body : source.BlockTree) (b : Bool) → (is_vertex src.declared && is_vertex dst.declared) ≡ b
     → AllKnown d → (steps_declared d at (if b then EdgeKind else NoKind) name (src ∷ dst ∷ []) None body).faults ≡ [] → AccessesOwnVertices (src ∷ dst ∷ []) body
 edge_function_accesses d at name src dst body true is known none =
-    let vertices = both (is_vertex src.declared) (is_vertex dst.declared) is in
+    let vertices = both_true (is_vertex src.declared) (is_vertex dst.declared) is in
     steps_declared_access d at EdgeKind name (src ∷ dst ∷ []) None body (edge_body src.name.bytes dst.name.bytes) (vertices.0, refl, (vertices.1, refl, tt)) tt known none
 edge_function_accesses d at name src dst body false is known none = absurd (not_empty _ _ none)
 

@@ -20,6 +20,7 @@ use Rattle.types.specs.Initial.{GivenTree, condition_given, given_by, integer_gi
 use Rattle.types.specs.Statement.{declare_as}
 use Rattle.types.specs.Step.{declare_step_as, step_typed}
 use Rattle.types.proofs.Faultless.{no_left, no_right, not_empty}
+use Rattle.types.proofs.ResolvedScopes.{all_then}
 
 -- which names may stand for the vertices that a function works on
 abbrev pub Vertices : Type 1
@@ -80,10 +81,6 @@ pub used_known : (At : Vertices) (i : Inside) (scope : ScopeTree) (name : Identi
 used_known At i scope name known none = used_among At name scope.visible known.1 none
 
 -- a declaration
-all_then : {A : Type 0} (P : A → Type 0) (xs : List A) (x : A) → AllByRecursion P xs → P x → AllByRecursion P (xs ++ x ∷ [])
-all_then P [] x all last = (last, tt)
-all_then P (y ∷ xs) x all last = (all.0, all_then P xs x all.1 last)
-
 declared_over_known : (At : Vertices) (i : Inside) (o : Option Entity) (name : Identifier) (e : Entity) (scope : ScopeTree) → IsKnown At i scope → EntityIsKnown At name.bytes e
     → (declared_over o name e scope).faults ≡ [] → IsKnown At i (declared_over o name e scope).value
 declared_over_known At i None name e scope known is none = (known.0, all_then (λ x. EntityIsKnown At x.0 x.1) scope.visible (name.bytes, e) known.1 is)

@@ -1,4 +1,5 @@
 pub mod BlockLaws
+pub mod Booleans
 pub mod ClearValues
 pub mod DeclarationLaws
 pub mod EachDeclaration

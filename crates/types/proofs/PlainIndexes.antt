@@ -1,5 +1,5 @@
 -- An index that reads no entry has none in its text.
-use Rattle.std.proofs.Common.{◌≡◌, refl, ℕ, Bool, true, false, ◌||◌, if◌then◌else◌, Option, Some, None}
+use Rattle.std.proofs.Common.{◌≡◌, sym, ℕ, Bool, true, false, ◌||◌, if◌then◌else◌, Option, Some, None}
 use Rattle.syntax.specs.declared.operators.Addition.{Addition}
 use Rattle.syntax.specs.declared.operators.Multiplication.{Multiplication}
 use Rattle.syntax.specs.declared.operators.Prefix.{Prefix}
@@ -23,6 +23,7 @@ use Rattle.expression_types.specs.Noted.{fault_at, sure}
 use Rattle.expression_types.specs.Operators.{IntegersTree, Integers, MixedIntegers, FaultyIntegers, ConditionsTree, Conditions, MixedConditions, FaultyConditions, added, beside_condition, beside_integer, compared, condition_index, entry_value, equated, first_condition, first_integer, function_entry, given, grouped_conditions, grouped_integers, main_entry, multiplied, related_value, signed_value}
 use Rattle.expression_types.specs.ScopeTree.{ScopeTree}
 use Rattle.expression_types.specs.ValueTree.{ValueTree, Integer, Condition, Vertex, Set, Faulty, condition_reads_entry, reads_entry}
+use Rattle.types.proofs.Booleans.{both_false, false_is_not_true}
 use Rattle.types.specs.EntryAccess.{ComparisonHasNoEntry, ConjunctionHasNoEntry, HasNoEntry, PrimaryHasNoEntry, SumHasNoEntry, TermHasNoEntry, UnaryHasNoEntry}
 
 -- a value without a faulty part that reads no entry
@@ -47,10 +48,6 @@ ConditionsArePlain (Conditions c) = condition_reads_entry c ≡ false
 ConditionsArePlain MixedConditions = ⊥
 ConditionsArePlain FaultyConditions = ⊥
 
-neither : (a b : Bool) → (a || b) ≡ false → (a ≡ false) × (b ≡ false)
-neither true b is = absurd cc
-neither false b is = (refl, is)
-
 -- operands
 first_integer_plain : (v : ValueTree) → IntegersArePlain (first_integer v) → IsPlain v
 first_integer_plain (Integer e) plain = plain
@@ -67,7 +64,7 @@ first_condition_plain (Set slot) plain = absurd plain
 first_condition_plain Faulty plain = plain
 
 beside_integer_plain : (o : Operator) (a b : IntegersTree) → IntegersArePlain (beside_integer o a b) → IntegersArePlain a × IntegersArePlain b
-beside_integer_plain o (Integers a) (Integers b) plain = neither (reads_entry a) (reads_entry b) plain
+beside_integer_plain o (Integers a) (Integers b) plain = both_false (reads_entry a) (reads_entry b) plain
 beside_integer_plain o (Integers a) MixedIntegers plain = absurd plain
 beside_integer_plain o (Integers a) FaultyIntegers plain = absurd plain
 beside_integer_plain o MixedIntegers (Integers b) plain = absurd plain
@@ -76,7 +73,7 @@ beside_integer_plain o MixedIntegers FaultyIntegers plain = absurd plain
 beside_integer_plain o FaultyIntegers b plain = absurd plain
 
 beside_condition_plain : (o : Connective) (a b : ConditionsTree) → ConditionsArePlain (beside_condition o a b) → ConditionsArePlain a × ConditionsArePlain b
-beside_condition_plain o (Conditions a) (Conditions b) plain = neither (condition_reads_entry a) (condition_reads_entry b) plain
+beside_condition_plain o (Conditions a) (Conditions b) plain = both_false (condition_reads_entry a) (condition_reads_entry b) plain
 beside_condition_plain o (Conditions a) MixedConditions plain = absurd plain
 beside_condition_plain o (Conditions a) FaultyConditions plain = absurd plain
 beside_condition_plain o MixedConditions (Conditions b) plain = absurd plain
@@ -100,7 +97,7 @@ given_plain at rule None plain = plain
 given_plain at rule (Some v) plain = plain
 
 compared_plain : (o : Comparison) (a b : IntegersTree) → MaybePlain (compared o a b) → IntegersArePlain a × IntegersArePlain b
-compared_plain o (Integers a) (Integers b) plain = neither (reads_entry a) (reads_entry b) plain
+compared_plain o (Integers a) (Integers b) plain = both_false (reads_entry a) (reads_entry b) plain
 compared_plain o (Integers a) MixedIntegers plain = absurd plain
 compared_plain o (Integers a) FaultyIntegers plain = absurd plain
 compared_plain o MixedIntegers (Integers b) plain = absurd plain
@@ -109,7 +106,7 @@ compared_plain o MixedIntegers FaultyIntegers plain = absurd plain
 compared_plain o FaultyIntegers b plain = absurd plain
 
 equated_plain : (o : Connective) (a b : ConditionsTree) → MaybePlain (equated o a b) → ConditionsArePlain a × ConditionsArePlain b
-equated_plain o (Conditions a) (Conditions b) plain = neither (condition_reads_entry a) (condition_reads_entry b) plain
+equated_plain o (Conditions a) (Conditions b) plain = both_false (condition_reads_entry a) (condition_reads_entry b) plain
 equated_plain o (Conditions a) MixedConditions plain = absurd plain
 equated_plain o (Conditions a) FaultyConditions plain = absurd plain
 equated_plain o MixedConditions (Conditions b) plain = absurd plain
@@ -154,7 +151,7 @@ value_signed_plain prefix.Not Faulty plain = plain
 
 -- an entry reads an entry
 true_is_not_false : true ≡ false → ⊥
-true_is_not_false is = cc
+true_is_not_false is = false_is_not_true (sym is)
 
 index_not_plain : (b : Bool) (at vector : ℕ) (e : IntegerTree) → IsPlain (if b then fault_at at rule.WrongIndex Faulty else sure (Integer (Entry vector e))).value → ⊥
 index_not_plain true at vector e plain = plain

@@ -29,6 +29,7 @@ use Rattle.types.specs.Program.{opening, program_of, set_count}
 use Rattle.types.specs.Step.{declare_step_as, may_reduce, may_set, set_entry_step, step_behind, step_typed, steps_behind, steps_typed}
 use Rattle.types.specs.Wanted.{condition_in}
 use Rattle.types.specs.WellTyped.{ActionFits, BlockFits, ConstantFits, DeclarationFits, FunctionFits, IsAllVertices, IsLoaded, IsNumberOrTruth, IsOutDegrees}
+use Rattle.types.proofs.Booleans.{both_true, false_is_not_true, neither_true}
 use Rattle.types.proofs.ClearValues.{IsClear}
 use Rattle.types.proofs.EachDeclaration.{each_declaration, user_declared}
 use Rattle.types.proofs.EdgeWrites.{declared_goes, opened_inside}
@@ -37,9 +38,6 @@ use Rattle.types.proofs.EntryReads.{expression_reads}
 use Rattle.types.proofs.Faultless.{no_left, no_right, not_empty}
 use Rattle.types.proofs.KnownDeclarations.{AllKnown, declaration_known}
 use Rattle.types.proofs.KnownScopes.{EntityIsKnown, IsKnown, Vertices, labelled_scope, nowhere, used_known}
-
-false_is_not_true : false ≡ true → ⊥
-false_is_not_true is = cc
 
 -- statements of functions
 variable_fits : (c : CheckerTree) (at : ℕ) (name : Identifier) (given : GivenTree) (type : DeclaredType) → (declare_step_as c at name given type).faults ≡ [] → IsNumberOrTruth type
@@ -158,10 +156,6 @@ bool_type declared.VertexSet is = absurd (false_is_not_true is)
 bool_type declared.Vector is = absurd (false_is_not_true is)
 bool_type declared.EdgeSet is = absurd (false_is_not_true is)
 
-both : (a b : Bool) → (a && b) ≡ true → (a ≡ true) × (b ≡ true)
-both true b is = (refl, is)
-both false b is = absurd (false_is_not_true is)
-
 vertex_function_fits : (d : DeclaredTree) (at : ℕ) (name : Identifier) (v : ParameterTree) (body : source.BlockTree) (b : Bool) → is_vertex v.declared ≡ b
     → (steps_declared d at (if b then VertexKind else NoKind) name (v ∷ []) None body).faults ≡ [] → FunctionFits (v ∷ []) None body
 vertex_function_fits d at name v body true is none = (vertex_type v.declared is, steps_declared_fit d at VertexKind name (v ∷ []) None body may_vertex none)
@@ -170,14 +164,14 @@ vertex_function_fits d at name v body false is none = absurd (not_empty _ _ none
 filter_fits : (d : DeclaredTree) (at : ℕ) (name : Identifier) (v result : ParameterTree) (body : source.BlockTree) (b : Bool) → (is_vertex v.declared && is_bool result.declared) ≡ b
     → (steps_declared d at (if b then FilterKind else NoKind) name (v ∷ []) (Some result) body).faults ≡ [] → FunctionFits (v ∷ []) (Some result) body
 filter_fits d at name v result body true is none =
-    let types = both (is_vertex v.declared) (is_bool result.declared) is in
+    let types = both_true (is_vertex v.declared) (is_bool result.declared) is in
     (vertex_type v.declared types.0, bool_type result.declared types.1, steps_declared_fit d at FilterKind name (v ∷ []) (Some result) body may_filter none)
 filter_fits d at name v result body false is none = absurd (not_empty _ _ none)
 
 edge_function_fits : (d : DeclaredTree) (at : ℕ) (name : Identifier) (src dst : ParameterTree) (body : source.BlockTree) (b : Bool) → (is_vertex src.declared && is_vertex dst.declared) ≡ b
     → (steps_declared d at (if b then EdgeKind else NoKind) name (src ∷ dst ∷ []) None body).faults ≡ [] → FunctionFits (src ∷ dst ∷ []) None body
 edge_function_fits d at name src dst body true is none =
-    let types = both (is_vertex src.declared) (is_vertex dst.declared) is in
+    let types = both_true (is_vertex src.declared) (is_vertex dst.declared) is in
     (vertex_type src.declared types.0, vertex_type dst.declared types.1, steps_declared_fit d at EdgeKind name (src ∷ dst ∷ []) None body may_edge none)
 edge_function_fits d at name src dst body false is none = absurd (not_empty _ _ none)
 
@@ -206,10 +200,6 @@ clear_entity : (At : Vertices) (name : List ℕ) (e : Entity) → EntityIsKnown 
 clear_entity At name entity.Unclear known = absurd known
 clear_entity At name _ known = refl
 
-neither : (a b : Bool) → a ≡ false → b ≡ false → (a || b) ≡ false
-neither true b first second = absurd (false_is_not_true (sym first))
-neither false b first second = second
-
 of_edges_sound : (at : ℕ) (x : GivenTree) (e : Entity) → is_sound x ≡ true → is_unclear e ≡ false → IsSound (of_edges at x e)
 of_edges_sound at x e sound clear =
     if_sound (is_unclear e) (sure Broken) (if is_edges e then sure x else fault_at at rule.WrongType Broken) clear (if_first (is_edges e) x at sound)
@@ -221,7 +211,7 @@ filtered_by_sound at (Some slot) (Some place) none = refl
 
 filtered_sound : (at : ℕ) (s f : Entity) → is_unclear s ≡ false → is_unclear f ≡ false → IsSound (filtered at s f)
 filtered_sound at s f first second =
-    if_sound (is_unclear s || is_unclear f) (sure Broken) (filtered_by at (named_set s) (filter_function f)) (neither (is_unclear s) (is_unclear f) first second)
+    if_sound (is_unclear s || is_unclear f) (sure Broken) (filtered_by at (named_set s) (filter_function f)) (neither_true (is_unclear s) (is_unclear f) first second)
     (filtered_by_sound at (named_set s) (filter_function f))
 
 end_is_known : (At : Vertices) (name : List ℕ) (e : Entity) → EntityIsKnown At name e → is_unknown (filter_named e) ≡ false
@@ -255,9 +245,9 @@ modified_sound : (c : CheckerTree) (at : ℕ) (edges : Entity) (a b : EndTree) (
 modified_sound c at edges a b f v first second third fourth fifth =
     let by = modified_by c at (ends_given a b) (edge_function f) (vector_of v) in
     let between = if is_wrong a || is_wrong b then fault_at at rule.WrongType Broken else by in
-    let unclear = neither (is_unclear edges || is_unknown a || is_unknown b || is_unclear f) (is_unclear v)
-    (neither (is_unclear edges || is_unknown a || is_unknown b) (is_unclear f)
-    (neither (is_unclear edges || is_unknown a) (is_unknown b) (neither (is_unclear edges) (is_unknown a) first second) third) fourth) fifth in
+    let unclear = neither_true (is_unclear edges || is_unknown a || is_unknown b || is_unclear f) (is_unclear v)
+    (neither_true (is_unclear edges || is_unknown a || is_unknown b) (is_unclear f)
+    (neither_true (is_unclear edges || is_unknown a) (is_unknown b) (neither_true (is_unclear edges) (is_unknown a) first second) third) fourth) fifth in
     if_sound (is_unclear edges || is_unknown a || is_unknown b || is_unclear f || is_unclear v) (sure Broken) (if is_edges edges then between else fault_at at rule.WrongType Broken) unclear
     (if_then (is_edges edges) between at (if_else (is_wrong a || is_wrong b) by at (modified_by_sound c at (ends_given a b) (edge_function f) (vector_of v))))
 
