@@ -16,7 +16,7 @@ use Rattle.expression_types.specs.declared.scope.Inside.{Inside}
 use Rattle.expression_types.specs.declared.scope.Inside.TheVariants as inside
 use Rattle.expression_types.specs.Expression.{used, value_of, vector_place}
 use Rattle.expression_types.specs.Noted.{fault_at, sure}
-use Rattle.expression_types.specs.Operators.{condition_index, entry_value, function_entry, main_entry}
+use Rattle.expression_types.specs.Operators.{entry_value, function_entry, main_entry}
 use Rattle.expression_types.specs.ScopeTree.{ScopeTree}
 use Rattle.expression_types.specs.ValueTree.{ValueTree, Integer, Condition, Vertex, Set, Faulty, condition_reads_entry, reads_entry}
 use Rattle.types.specs.Block.{action_typed, behind, closed, statements_typed}

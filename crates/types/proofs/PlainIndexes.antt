@@ -1,5 +1,5 @@
 -- An index that reads no entry has none in its text.
-use Rattle.std.proofs.Common.{◌≡◌, sym, ℕ, Bool, true, false, ◌||◌, if◌then◌else◌, Option, Some, None}
+use Rattle.std.proofs.Common.{◌≡◌, sym, ℕ, Bool, true, false, if◌then◌else◌, Option, Some, None}
 use Rattle.syntax.specs.declared.operators.Addition.{Addition}
 use Rattle.syntax.specs.declared.operators.Multiplication.{Multiplication}
 use Rattle.syntax.specs.declared.operators.Prefix.{Prefix}
