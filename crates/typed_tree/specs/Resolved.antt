@@ -1,5 +1,5 @@
 -- A program in which each place is that of something that is there: variables, vertex sets, vectors, functions, labels and names.
-use Rattle.std.specs.Prelude.{◌≡◌, ℕ, ◌<◌, List, [], ◌∷◌, ◌++◌, length, slice_get, Option, Some, None}
+use Rattle.std.specs.Prelude.{◌≡◌, ℕ, Bool, true, false, ◌<◌, List, [], ◌∷◌, ◌++◌, length, slice_get, Option, Some, None}
 use Rattle.std.specs.List.{AllByRecursion}
 use Rattle.typed_tree.specs.declared.expression.Slot.{Slot}
 use Rattle.typed_tree.specs.declared.expression.Endpoint.{Endpoint}
@@ -21,13 +21,14 @@ use Rattle.typed_tree.specs.BlockTree.{ActionTree, BlockTree}
 use Rattle.typed_tree.specs.ProgramTree.{ProgramTree}
 
 -- What is visible at a point of a program, at its place: the names of the integers, of the conditions and of the vertex sets, of which
--- the constant ones come first; and how many vertices the function around the point works on. The bound of a `for` has a place
--- behind its name, and no name.
+-- the constant ones come first; how many vertices the function around the point works on; and whether entries of vectors are read at an
+-- index, as in main, where the index is tested. The bound of a `for` has a place behind its name, and no name.
 pub record VisibleTree : Type 0 where
   pub integers : List (Option ℕ)
   pub conditions : List ℕ
   pub sets : List ℕ
   pub vertices : ℕ
+  pub indexes : Bool
 
 -- one more of each kind
 abbrev pub with_integer : ℕ → VisibleTree → VisibleTree
@@ -44,16 +45,16 @@ in_loop name v = record v { integers = v.integers ++ Some name ∷ None ∷ [] }
 
 -- at the first statement of `main`, of an edge function, of a vertex function, and of a filter with a result of this name
 abbrev pub in_main : ProgramTree → VisibleTree
-in_main p = record { integers = []; conditions = []; sets = p.sets; vertices = 0 }
+in_main p = record { integers = []; conditions = []; sets = p.sets; vertices = 0; indexes = true }
 
 abbrev pub in_edge_function : ProgramTree → VisibleTree
-in_edge_function p = record { integers = []; conditions = []; sets = p.sets; vertices = 2 }
+in_edge_function p = record { integers = []; conditions = []; sets = p.sets; vertices = 2; indexes = false }
 
 abbrev pub in_vertex_function : ProgramTree → VisibleTree
-in_vertex_function p = record { integers = []; conditions = []; sets = p.sets; vertices = 1 }
+in_vertex_function p = record { integers = []; conditions = []; sets = p.sets; vertices = 1; indexes = false }
 
 abbrev pub in_filter : ProgramTree → (result : ℕ) → VisibleTree
-in_filter p result = record { integers = []; conditions = result ∷ []; sets = p.sets; vertices = 1 }
+in_filter p result = record { integers = []; conditions = result ∷ []; sets = p.sets; vertices = 1; indexes = false }
 
 -- the name, vector or function at a place is in its table
 abbrev pub IsName : ProgramTree → ℕ → Type 0
@@ -98,7 +99,7 @@ IntegerIsResolved p v (integer.Constant name n) = IsName p name
 IntegerIsResolved p v (integer.Variable slot) = IsInteger p v slot
 IntegerIsResolved p v (integer.Parameter at) = IsVertex v at
 IntegerIsResolved p v (integer.EntryAt vector at) = IsVector p vector × IsVertex v at
-IntegerIsResolved p v (integer.Entry vector index) = IsVector p vector × IntegerIsResolved p v index
+IntegerIsResolved p v (integer.Entry vector index) = (v.indexes ≡ true) × IsVector p vector × IntegerIsResolved p v index
 IntegerIsResolved p v (integer.SetSize slot) = IsSet p v slot
 IntegerIsResolved p v (integer.Negative e) = IntegerIsResolved p v e
 IntegerIsResolved p v (integer.Arithmetic operator left right) = IntegerIsResolved p v left × IntegerIsResolved p v right

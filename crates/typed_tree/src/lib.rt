@@ -12,8 +12,8 @@
 //! [`Sequence`] is a `Vec` that contracts see as a list. Operators in a row are one list in the Rust tree, and
 //! signs in a row one count, so that no code recurses by their number; the pure trees nest.
 //!
-//! `specs/Resolved.antt` says what it is for each place in a program to be that of something that is there
-//! (`IsResolved`), which the checker's programs are by a law of `types`.
+//! `specs/Resolved.antt` says what it is for each place in a program to be that of something that is there, and for
+//! entries at an index to stand in `main` alone (`IsResolved`). The checker's programs are so by a law of `types`.
 //!
 //! The trees have their `Drop` by hand. A derived one would be written out, and proved again, in each
 //! function of each crate where a tree ends.

@@ -94,7 +94,7 @@ declared_inside : (old : Option Entity) (name : Identifier) (e : Entity) (scope 
 declared_inside None name e scope = refl
 declared_inside (Some old) name e scope = refl
 
-declared_goes : (c : CheckerTree) (name : Identifier) (e : Entity) → GoesOn c (declared_in c name e).value
+pub declared_goes : (c : CheckerTree) (name : Identifier) (e : Entity) → GoesOn c (declared_in c name e).value
 declared_goes c name e = (declared_inside (found name.bytes c.scope.visible) name e c.scope, λ vector by is. is)
 
 new_label_goes : (c : CheckerTree) (label : Identifier) (place : Option ℕ) → GoesOn c (new_label c label place).value.1
@@ -334,7 +334,7 @@ result_goes : (c : CheckerTree) (kind : KindTree) (result : Option ParameterTree
 result_goes c kind None = stays c
 result_goes c kind (Some result) = declared_goes c result.name (result_entity c kind)
 
-opened_inside : (c : CheckerTree) (kind : KindTree) (parameters : List ParameterTree) (result : Option ParameterTree)
+pub opened_inside : (c : CheckerTree) (kind : KindTree) (parameters : List ParameterTree) (result : Option ParameterTree)
     → (opened c kind parameters result).value.scope.inside ≡ inside_of kind
 opened_inside c kind parameters result =
     let e = with_writes (with_scope c (entered (inside_of kind) c.scope)) [] in

@@ -1,6 +1,7 @@
 -- Names that were visible still are.
-use Rattle.std.proofs.Common.{◌≡◌, ℕ, ◌≤◌, List, take, length, ap, sym, ◌∙◌, arith}
+use Rattle.std.proofs.Common.{◌≡◌, ℕ, ◌≤◌, List, take, length, ap, subst, sym, ◌∙◌, arith}
 use Rattle.std.proofs.lemmas.List.{length-take, take-take}
+use Rattle.std.proofs.Math.Seq.{take-length}
 use Rattle.expression_types.specs.declared.scope.Entity.{Entity}
 use Rattle.expression_types.specs.ScopeTree.{ScopeTree, Keeps, left, mark_of}
 
@@ -14,3 +15,6 @@ pub keeps_on : (old new last : ScopeTree) → Keeps old new → Keeps new last �
 keeps_on old new last kept on =
     let shorter : length old.visible ≤ length new.visible = omega (arith, sym (ap length kept) ∙ length-take (length old.visible) new.visible) in
     sym (take-take (length old.visible) (length new.visible) last.visible shorter) ∙ ap (take (length old.visible)) on ∙ kept
+
+pub keeps_same : (old new : ScopeTree) → new ≡ old → Keeps old new
+keeps_same old new is = subst (λ scope. Keeps old scope) (sym is) (take-length old.visible)

@@ -1,5 +1,5 @@
 -- A program without a fault is resolved.
-use Rattle.std.proofs.Common.{◌≡◌, refl, ap, sym, subst, ◌∙◌, ℕ, suc, ◌+◌, ◌≤◌, pos, Bool, true, false, ◌&&◌, if◌then◌else◌, List, [], ◌∷◌, ◌++◌, length, length-append, arith, Option, Some, None}
+use Rattle.std.proofs.Common.{◌≡◌, refl, ap, sym, subst, ◌∙◌, ℕ, suc, ◌+◌, ◌<◌, ◌≤◌, pos, Bool, true, false, ◌&&◌, if◌then◌else◌, List, [], ◌∷◌, ◌++◌, length, length-append, arith, Option, Some, None}
 use Rattle.std.specs.Prelude.{slice_get}
 use Rattle.std.specs.Str.{bytes_eq}
 use Rattle.std.specs.List.{AllByRecursion}
@@ -17,6 +17,7 @@ use Rattle.typed_tree.specs.ProgramTree.{ProgramTree}
 use Rattle.typed_tree.specs.Resolved.{VisibleTree, BlockIsResolved, EdgeFunctionIsResolved, EdgesAreResolved, FilterIsResolved, IsName, IsResolved, IsVertex, StepsAreResolved, VectorIsResolved, VertexFunctionIsResolved, in_edge_function, in_filter, in_main, in_vertex_function}
 use Rattle.expression_types.specs.declared.scope.Entity.{Entity}
 use Rattle.expression_types.specs.declared.scope.Entity.TheVariants as entity
+use Rattle.expression_types.specs.declared.scope.Inside.TheVariants as inside
 use Rattle.expression_types.specs.ScopeTree.{conditions_of, entered, integers_of, sets_of}
 use Rattle.types.specs.Block.{statements_typed}
 use Rattle.types.specs.Checker.{CheckerTree, condition_slot, declared_in, restarted, with_scope}
@@ -47,7 +48,7 @@ last_within xs x n is = omega (arith, is, length-append xs (x ∷ []))
 -- what a function of each kind sees before its result
 abbrev visible_in : ProgramTree → KindTree → VisibleTree
 visible_in p (MainKind true) = in_main p
-visible_in p (MainKind false) = in_edge_function p
+visible_in p (MainKind false) = record (in_edge_function p) { indexes = true }
 visible_in p EdgeKind = in_edge_function p
 visible_in p VertexKind = in_vertex_function p
 visible_in p FilterKind = in_vertex_function p
@@ -69,21 +70,21 @@ HasResult NoKind result = Unit {0}
 abbrev KindFits : ProgramTree → KindTree → List ParameterTree → Option ParameterTree → Type 0
 KindFits p kind parameters result = Enough (visible_in p kind) endpoint.Source parameters × HasResult kind result
 
-enough_two : (p : ProgramTree) (parameters : List ParameterTree) → Enough (in_edge_function p) endpoint.Destination parameters
-enough_two p [] = tt
-enough_two p (x ∷ others) = (omega arith, enough_two p others)
+enough_two : (v : VisibleTree) → 1 < v.vertices → (parameters : List ParameterTree) → Enough v endpoint.Destination parameters
+enough_two v two [] = tt
+enough_two v two (x ∷ others) = (two, enough_two v two others)
 
-enough : (p : ProgramTree) (parameters : List ParameterTree) → Enough (in_edge_function p) endpoint.Source parameters
-enough p [] = tt
-enough p (x ∷ others) = (omega arith, enough_two p others)
+enough : (v : VisibleTree) → 1 < v.vertices → (parameters : List ParameterTree) → Enough v endpoint.Source parameters
+enough v two [] = tt
+enough v two (x ∷ others) = (omega (arith, two), enough_two v two others)
 
 enough_one : (p : ProgramTree) (x : ParameterTree) → Enough (in_vertex_function p) endpoint.Source (x ∷ [])
 enough_one p x = (omega arith, tt)
 
 main_kind : (p : ProgramTree) (parameters : List ParameterTree) (result : Option ParameterTree) → KindFits p (MainKind (takes_nothing parameters result)) parameters result
 main_kind p [] None = (tt, tt)
-main_kind p [] (Some result) = (enough p [], tt)
-main_kind p (x ∷ others) result = (enough p (x ∷ others), tt)
+main_kind p [] (Some result) = (tt, tt)
+main_kind p (x ∷ others) result = (enough (visible_in p (MainKind false)) (omega arith) (x ∷ others), tt)
 
 if_kind : (p : ProgramTree) (b : Bool) (k l : KindTree) (parameters : List ParameterTree) (result : Option ParameterTree) → KindFits p k parameters result
     → KindFits p l parameters result → KindFits p (if b then k else l) parameters result
@@ -91,14 +92,14 @@ if_kind p true k l parameters result first other = first
 if_kind p false k l parameters result first other = other
 
 other_kind : (p : ProgramTree) (parameters : List ParameterTree) (result : Option ParameterTree) → KindFits p (kind_of parameters result) parameters result
-other_kind p [] result = (enough p [], tt)
-other_kind p (x ∷ []) None = if_kind p (is_vertex x.declared) VertexKind NoKind (x ∷ []) None (enough_one p x, tt) (enough p (x ∷ []), tt)
+other_kind p [] result = (enough (in_edge_function p) (omega arith) [], tt)
+other_kind p (x ∷ []) None = if_kind p (is_vertex x.declared) VertexKind NoKind (x ∷ []) None (enough_one p x, tt) (enough (in_edge_function p) (omega arith) (x ∷ []), tt)
 other_kind p (x ∷ []) (Some result) =
-    if_kind p (is_vertex x.declared && is_bool result.declared) FilterKind NoKind (x ∷ []) (Some result) (enough_one p x, tt) (enough p (x ∷ []), tt)
+    if_kind p (is_vertex x.declared && is_bool result.declared) FilterKind NoKind (x ∷ []) (Some result) (enough_one p x, tt) (enough (in_edge_function p) (omega arith) (x ∷ []), tt)
 other_kind p (x ∷ y ∷ []) None =
-    if_kind p (is_vertex x.declared && is_vertex y.declared) EdgeKind NoKind (x ∷ y ∷ []) None (enough p (x ∷ y ∷ []), tt) (enough p (x ∷ y ∷ []), tt)
-other_kind p (x ∷ y ∷ []) (Some result) = (enough p (x ∷ y ∷ []), tt)
-other_kind p (x ∷ y ∷ z ∷ others) result = (enough p (x ∷ y ∷ z ∷ others), tt)
+    if_kind p (is_vertex x.declared && is_vertex y.declared) EdgeKind NoKind (x ∷ y ∷ []) None (enough (in_edge_function p) (omega arith) (x ∷ y ∷ []), tt) (enough (in_edge_function p) (omega arith) (x ∷ y ∷ []), tt)
+other_kind p (x ∷ y ∷ []) (Some result) = (enough (in_edge_function p) (omega arith) (x ∷ y ∷ []), tt)
+other_kind p (x ∷ y ∷ z ∷ others) result = (enough (in_edge_function p) (omega arith) (x ∷ y ∷ z ∷ others), tt)
 
 each_kind : (p : ProgramTree) (name : List ℕ) (parameters : List ParameterTree) (result : Option ParameterTree) → KindFits p (kind name parameters result) parameters result
 each_kind p name parameters result =
@@ -130,7 +131,7 @@ stays v = record { integers = λ k x is. is; conditions = λ k x is. is; sets = 
 placeless : (p : ProgramTree) (v : VisibleTree) (c : CheckerTree) (name : Identifier) (e : Entity) → (declared_in c name e).faults ≡ [] → CheckerFits p v c
     → EntityIsResolved p v e → integers_of e ≡ 0 → conditions_of e ≡ 0 → sets_of e ≡ 0 → CheckerFits p v (declared_in c name e).value
 placeless p v c name e none fits is integers conditions sets =
-    declared_fits p v v c name e none fits (stays v) is (omega (arith, integers)) (omega (arith, conditions)) (omega (arith, sets))
+    declared_fits p v v c name e none fits (stays v) refl is (omega (arith, integers)) (omega (arith, conditions)) (omega (arith, sets))
 
 parameter_fits : (p : ProgramTree) (v : VisibleTree) (c : CheckerTree) (name : Identifier) (at : Endpoint) (vertex : Bool)
     → (declared_in c name (if vertex then entity.Parameter at else entity.Unclear)).faults ≡ [] → CheckerFits p v c → IsVertex v at
@@ -148,30 +149,30 @@ parameters_fit p v c at (x ∷ others) none fits enough =
     (parameter_fits p v c x.name at (is_vertex x.declared) (no_left d.faults rest.faults none) fits enough.0) enough.1
 
 -- the scope of a function, where it differs from that around it by vertices alone
-abbrev on_vertices : ProgramTree → ℕ → VisibleTree
-on_vertices p n = record { integers = []; conditions = []; sets = p.sets; vertices = n }
+abbrev on_vertices : ProgramTree → ℕ → Bool → VisibleTree
+on_vertices p n indexes = record { integers = []; conditions = []; sets = p.sets; vertices = n; indexes = indexes }
 
-entered_as : (p : ProgramTree) (n : ℕ) (kind : KindTree) (c : CheckerTree) → CheckerFits p (in_main p) c
-    → CheckerFits p (on_vertices p n) (with_writes (with_scope c (entered (inside_of kind) c.scope)) [])
-entered_as p n kind c fits =
-    let more : Grows (in_main p) (on_vertices p n) = record { integers = λ k x is. is; conditions = λ k x is. is; sets = λ k x is. is; vertices = omega arith } in (
+entered_as : (p : ProgramTree) (n : ℕ) (indexes : Bool) (kind : KindTree) (c : CheckerTree) → (inside_of kind ≡ inside.Main → indexes ≡ true) → CheckerFits p (in_main p) c
+    → CheckerFits p (on_vertices p n indexes) (with_writes (with_scope c (entered (inside_of kind) c.scope)) [])
+entered_as p n indexes kind c main fits =
+    let more : Grows (in_main p) (on_vertices p n indexes) = record { integers = λ k x is. is; conditions = λ k x is. is; sets = λ k x is. is; vertices = omega arith } in (
       record {
         integers = fits.0.integers;
         conditions = fits.0.conditions;
         sets = fits.0.sets;
-        known = known_grows p (in_main p) (on_vertices p n) more c.scope.visible fits.0.known;
+        known = (main, known_grows p (in_main p) (on_vertices p n indexes) more c.scope.visible fits.0.known.1);
       },
       fits.1,
     )
 
 entered_fits : (p : ProgramTree) (kind : KindTree) (c : CheckerTree) → CheckerFits p (in_main p) c
     → CheckerFits p (visible_in p kind) (with_writes (with_scope c (entered (inside_of kind) c.scope)) [])
-entered_fits p (MainKind true) c fits = entered_as p 0 (MainKind true) c fits
-entered_fits p (MainKind false) c fits = entered_as p 2 (MainKind false) c fits
-entered_fits p EdgeKind c fits = entered_as p 2 EdgeKind c fits
-entered_fits p VertexKind c fits = entered_as p 1 VertexKind c fits
-entered_fits p FilterKind c fits = entered_as p 1 FilterKind c fits
-entered_fits p NoKind c fits = entered_as p 2 NoKind c fits
+entered_fits p (MainKind true) c fits = entered_as p 0 true (MainKind true) c (λ main. refl) fits
+entered_fits p (MainKind false) c fits = entered_as p 2 true (MainKind false) c (λ main. refl) fits
+entered_fits p EdgeKind c fits = entered_as p 2 false EdgeKind c (λ main. cc) fits
+entered_fits p VertexKind c fits = entered_as p 1 false VertexKind c (λ main. cc) fits
+entered_fits p FilterKind c fits = entered_as p 1 false FilterKind c (λ main. cc) fits
+entered_fits p NoKind c fits = entered_as p 2 false NoKind c (λ main. cc) fits
 
 -- a result without a clear meaning
 unclear_result : (p : ProgramTree) (v : VisibleTree) (c : CheckerTree) (kind : KindTree) (result : Option ParameterTree) → result_entity c kind ≡ entity.Unclear
@@ -590,7 +591,7 @@ main_resolved p length None resolved = tt
 main_resolved p length (Some main) resolved = resolved
 
 opening_fits : (p : ProgramTree) (n : ℕ) → length p.sets ≡ n → DeclaredFits p (opening n)
-opening_fits p n counted = ((record { integers = refl; conditions = refl; sets = sym counted; known = tt }, refl), tt, tt, tt, tt, tt, tt, tt)
+opening_fits p n counted = ((record { integers = refl; conditions = refl; sets = sym counted; known = (λ main. refl, tt) }, refl), tt, tt, tt, tt, tt, tt, tt)
 
 pub program_resolved : (source : SourceTree) (length : ℕ) → (program_of source length).faults ≡ [] → IsResolved (program_of source length).value
 program_resolved source length none =

@@ -93,23 +93,23 @@ declared_name p c name e within =
     let names : length (c.names ++ name.bytes ∷ []) ≤ length p.names = within.0 in
     omega (arith, names, length-append c.names (name.bytes ∷ []))
 
-entity_scope : (p : ProgramTree) (v w : VisibleTree) (scope : ScopeTree) (name : List ℕ) (e : Entity) → ScopeFits p v scope → Grows v w → EntityIsResolved p w e
+entity_scope : (p : ProgramTree) (v w : VisibleTree) (scope : ScopeTree) (name : List ℕ) (e : Entity) → ScopeFits p v scope → Grows v w → w.indexes ≡ v.indexes → EntityIsResolved p w e
     → length w.integers ≡ length v.integers + integers_of e → length w.conditions ≡ length v.conditions + conditions_of e → length w.sets ≡ length v.sets + sets_of e
     → ScopeFits p w (with_entity name e scope)
-entity_scope p v w scope name e fits more is integers conditions sets = record {
+entity_scope p v w scope name e fits more same is integers conditions sets = record {
   integers = ap (λ n. n + integers_of e) fits.integers ∙ sym integers;
   conditions = ap (λ n. n + conditions_of e) fits.conditions ∙ sym conditions;
   sets = ap (λ n. n + sets_of e) fits.sets ∙ sym sets;
-  known = all_then (λ x. EntityIsResolved p w x.1) scope.visible (name, e) (known_grows p v w more scope.visible fits.known) is;
+  known = (λ main. same ∙ fits.known.0 main, all_then (λ x. EntityIsResolved p w x.1) scope.visible (name, e) (known_grows p v w more scope.visible fits.known.1) is);
 }
 
 pub declared_fits : (p : ProgramTree) (v w : VisibleTree) (c : CheckerTree) (name : Identifier) (e : Entity) → (declared_in c name e).faults ≡ [] → CheckerFits p v c
-    → Grows v w → EntityIsResolved p w e → length w.integers ≡ length v.integers + integers_of e → length w.conditions ≡ length v.conditions + conditions_of e
+    → Grows v w → w.indexes ≡ v.indexes → EntityIsResolved p w e → length w.integers ≡ length v.integers + integers_of e → length w.conditions ≡ length v.conditions + conditions_of e
     → length w.sets ≡ length v.sets + sets_of e → CheckerFits p w (declared_in c name e).value
-declared_fits p v w c name e none fits more is integers conditions sets =
+declared_fits p v w c name e none fits more indexes is integers conditions sets =
     let over = declared_over (found name.bytes c.scope.visible) name e c.scope in
     let same = declared_over_is (found name.bytes c.scope.visible) name e c.scope (no_left over.faults [] none) in
-    (subst (λ scope. ScopeFits p w scope) (sym same) (entity_scope p v w c.scope name.bytes e fits.0 more is integers conditions sets), fits.1)
+    (subst (λ scope. ScopeFits p w scope) (sym same) (entity_scope p v w c.scope name.bytes e fits.0 more indexes is integers conditions sets), fits.1)
 
 -- a label
 new_label_before : (p : ProgramTree) (c : CheckerTree) (label : Identifier) (place : Option ℕ) → Within p (new_label c label place).value.1 → Within p c

@@ -42,7 +42,7 @@ set_declared : (p : ProgramTree) (v : VisibleTree) (c : CheckerTree) (name : Ide
 set_declared p v c name none within fits =
     let e = entity.SetVariable (set_slot c) in
     let place = ap (λ k. slice_get (v.sets ++ length c.names ∷ []) k) fits.0.sets ∙ get_last v.sets (length c.names) [] in
-    declared_fits p v (with_set (length c.names) v) c name e none fits (set_grows (length c.names) v) (place, declared_name p c name e within)
+    declared_fits p v (with_set (length c.names) v) c name e none fits (set_grows (length c.names) v) refl (place, declared_name p c name e within)
     (omega arith) (omega arith) (length-append v.sets (length c.names ∷ []))
 
 -- a loop's name, with its bound behind it
@@ -60,7 +60,7 @@ loop_declared : (p : ProgramTree) (v : VisibleTree) (c : CheckerTree) (name : Id
 loop_declared p v c name none within fits =
     let e = entity.LoopVariable (integer_slot c) in
     let place = ap (λ k. slice_get (v.integers ++ Some (length c.names) ∷ None ∷ []) k) fits.0.integers ∙ get_last v.integers (Some (length c.names)) (None ∷ []) in
-    declared_fits p v (in_loop (length c.names) v) c name e none fits (loop_grows (length c.names) v) (place, declared_name p c name e within)
+    declared_fits p v (in_loop (length c.names) v) c name e none fits (loop_grows (length c.names) v) refl (place, declared_name p c name e within)
     (length-append v.integers (Some (length c.names) ∷ None ∷ [])) (omega arith) (omega arith)
 
 -- what was met before a statement was met before its end

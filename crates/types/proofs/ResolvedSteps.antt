@@ -45,7 +45,7 @@ pub integer_declared : (p : ProgramTree) (v : VisibleTree) (c : CheckerTree) (na
 integer_declared p v c name none within fits =
     let e = entity.IntegerVariable (integer_slot c) in
     let place = ap (λ k. slice_get (v.integers ++ Some (length c.names) ∷ []) k) fits.0.integers ∙ get_last v.integers (Some (length c.names)) [] in
-    declared_fits p v (with_integer (length c.names) v) c name e none fits (integer_grows (length c.names) v) (place, declared_name p c name e within)
+    declared_fits p v (with_integer (length c.names) v) c name e none fits (integer_grows (length c.names) v) refl (place, declared_name p c name e within)
     (length-append v.integers (Some (length c.names) ∷ [])) (omega arith) (omega arith)
 
 pub condition_declared : (p : ProgramTree) (v : VisibleTree) (c : CheckerTree) (name : Identifier) → (declared_in c name (entity.ConditionVariable (condition_slot c))).faults ≡ []
@@ -54,7 +54,7 @@ pub condition_declared : (p : ProgramTree) (v : VisibleTree) (c : CheckerTree) (
 condition_declared p v c name none within fits =
     let e = entity.ConditionVariable (condition_slot c) in
     let place = ap (λ k. slice_get (v.conditions ++ length c.names ∷ []) k) fits.0.conditions ∙ get_last v.conditions (length c.names) [] in
-    declared_fits p v (with_condition (length c.names) v) c name e none fits (condition_grows (length c.names) v) (place, declared_name p c name e within)
+    declared_fits p v (with_condition (length c.names) v) c name e none fits (condition_grows (length c.names) v) refl (place, declared_name p c name e within)
     (omega arith) (length-append v.conditions (length c.names ∷ [])) (omega arith)
 
 -- what was met before a statement was met before its end

@@ -1,5 +1,5 @@
 -- What expressions and initial values speak of is there.
-use Rattle.std.proofs.Common.{ℕ, zero, suc, ℤ, pos, negsuc, Bool, true, false, ◌||◌, if◌then◌else◌, List, [], ◌∷◌, Option, Some, None}
+use Rattle.std.proofs.Common.{◌≡◌, refl, ℕ, zero, suc, ℤ, pos, negsuc, Bool, true, false, ◌||◌, if◌then◌else◌, List, [], ◌∷◌, Option, Some, None}
 use Rattle.std.specs.Str.{bytes_eq}
 use Rattle.std.specs.List.{AllByRecursion}
 use Rattle.syntax.specs.declared.operators.Addition.{Addition}
@@ -57,9 +57,9 @@ EntityIsResolved p v (entity.Filter place) = IsFilter p place
 EntityIsResolved p v entity.Main = Unit {0}
 EntityIsResolved p v entity.Unclear = Unit {0}
 
--- all visible names do
+-- all visible names do, and main reads entries at an index
 abbrev pub Known : ProgramTree → VisibleTree → ScopeTree → Type 0
-Known p v scope = AllByRecursion (λ x. EntityIsResolved p v x.1) scope.visible
+Known p v scope = (scope.inside ≡ inside.Main → v.indexes ≡ true) × AllByRecursion (λ x. EntityIsResolved p v x.1) scope.visible
 
 -- what is there, where something is
 abbrev pub MaybeSet : ProgramTree → VisibleTree → Option Slot → Type 0
@@ -104,7 +104,7 @@ used_among p v name (x ∷ others) all =
     used_first p v name (bytes_eq name.bytes x.0) x.1 (found name.bytes others) all.0 (used_among p v name others all.1)
 
 pub used_resolved : (p : ProgramTree) (v : VisibleTree) (scope : ScopeTree) (name : Identifier) → Known p v scope → EntityIsResolved p v (used scope name).value
-used_resolved p v scope name known = used_among p v name scope.visible known
+used_resolved p v scope name known = used_among p v name scope.visible known.1
 
 given_resolved : (p : ProgramTree) (v : VisibleTree) (at : ℕ) (rule : Rule) (o : Option ValueTree) → MaybeValue p v o → ValueIsResolved p v (given at rule o).value
 given_resolved p v at rule None is = tt
@@ -263,13 +263,13 @@ faulty_index : (p : ProgramTree) (v : VisibleTree) (at : ℕ) (reads : Bool) →
 faulty_index p v at true = tt
 faulty_index p v at false = tt
 
-main_entry_resolved : (p : ProgramTree) (v : VisibleTree) (at vector : ℕ) (x : ValueTree) → IsVector p vector → ValueIsResolved p v x
+main_entry_resolved : (p : ProgramTree) (v : VisibleTree) (at vector : ℕ) (x : ValueTree) → v.indexes ≡ true → IsVector p vector → ValueIsResolved p v x
     → ValueIsResolved p v (entry_value inside.Main at (Some vector) x).value
-main_entry_resolved p v at vector (Integer e) there is = if_value p v (reads_entry e) _ _ tt (there, is)
-main_entry_resolved p v at vector (Condition c) there is = faulty_index p v at (condition_reads_entry c)
-main_entry_resolved p v at vector (Vertex e) there is = (there, is)
-main_entry_resolved p v at vector (Set slot) there is = tt
-main_entry_resolved p v at vector Faulty there is = tt
+main_entry_resolved p v at vector (Integer e) main there is = if_value p v (reads_entry e) _ _ tt (main, there, is)
+main_entry_resolved p v at vector (Condition c) main there is = faulty_index p v at (condition_reads_entry c)
+main_entry_resolved p v at vector (Vertex e) main there is = (main, there, is)
+main_entry_resolved p v at vector (Set slot) main there is = tt
+main_entry_resolved p v at vector Faulty main there is = tt
 
 function_entry_resolved : (p : ProgramTree) (v : VisibleTree) (at vector : ℕ) (x : ValueTree) → IsVector p vector → ValueIsResolved p v x
     → ValueIsResolved p v (entry_value inside.VertexFunction at (Some vector) x).value
@@ -279,13 +279,13 @@ function_entry_resolved p v at vector (Vertex e) there is = (there, is)
 function_entry_resolved p v at vector (Set slot) there is = tt
 function_entry_resolved p v at vector Faulty there is = tt
 
-entry_resolved : (p : ProgramTree) (v : VisibleTree) (i : Inside) (at : ℕ) (vector : Option ℕ) (x : ValueTree) → MaybePlace (IsVector p) vector → ValueIsResolved p v x
+entry_resolved : (p : ProgramTree) (v : VisibleTree) (i : Inside) (at : ℕ) (vector : Option ℕ) (x : ValueTree) → (i ≡ inside.Main → v.indexes ≡ true) → MaybePlace (IsVector p) vector → ValueIsResolved p v x
     → ValueIsResolved p v (entry_value i at vector x).value
-entry_resolved p v i at None x there is = tt
-entry_resolved p v inside.Main at (Some vector) x there is = main_entry_resolved p v at vector x there is
-entry_resolved p v inside.EdgeFunction at (Some vector) x there is = function_entry_resolved p v at vector x there is
-entry_resolved p v inside.VertexFunction at (Some vector) x there is = function_entry_resolved p v at vector x there is
-entry_resolved p v inside.Filter at (Some vector) x there is = function_entry_resolved p v at vector x there is
+entry_resolved p v i at None x main there is = tt
+entry_resolved p v inside.Main at (Some vector) x main there is = main_entry_resolved p v at vector x (main refl) there is
+entry_resolved p v inside.EdgeFunction at (Some vector) x main there is = function_entry_resolved p v at vector x there is
+entry_resolved p v inside.VertexFunction at (Some vector) x main there is = function_entry_resolved p v at vector x there is
+entry_resolved p v inside.Filter at (Some vector) x main there is = function_entry_resolved p v at vector x there is
 
 -- expressions
 mutual
@@ -377,7 +377,7 @@ mutual
       let e = (used scope name).value in
       given_resolved p v at rule.WrongType (named_value e) (named_resolved p v e (used_resolved p v scope name known))
   primary_resolved p v scope at known (Entry name index) =
-      entry_resolved p v scope.inside at (vector_place scope at name).value (value_of scope at index).value
+      entry_resolved p v scope.inside at (vector_place scope at name).value (value_of scope at index).value known.0
       (vector_resolved p v scope at name known) (value_resolved p v scope at known index)
   primary_resolved p v scope at known (Size name) = size_resolved p v at (used scope name).value (used_resolved p v scope name known)
   primary_resolved p v scope at known (Parentheses inside) = value_resolved p v scope at known inside

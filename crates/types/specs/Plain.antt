@@ -10,3 +10,10 @@ DeclaresNothing (action.For' at name first limit m body) = ⊥
 DeclaresNothing (action.If' at test m body) = ⊥
 DeclaresNothing (action.IfElse' at test m body n otherwise) = ⊥
 DeclaresNothing other = Unit {0}
+
+-- it reduces a variable, or writes an entry of a vector
+abbrev pub ReducesOrSetsEntry : Action → Type 0
+ReducesOrSetsEntry (action.Reduce name reduction value) = Unit {0}
+ReducesOrSetsEntry (action.SetEntry vector index value) = Unit {0}
+ReducesOrSetsEntry (action.ReduceEntry vector index reduction value) = Unit {0}
+ReducesOrSetsEntry other = ⊥

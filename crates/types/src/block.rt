@@ -6,7 +6,7 @@ ghost use Rattle.expression_types.specs.Noted.{Notes};
 ghost use Rattle.expression_types.specs.ScopeTree.{Keeps};
 ghost use Rattle.types.specs.Block.{action_typed, block_typed, for_typed, statement_tree, statement_typed, statements_typed};
 ghost use Rattle.types.specs.Checker.{checker_of};
-ghost use Rattle.types.specs.Plain.{DeclaresNothing};
+ghost use Rattle.types.specs.Plain.{DeclaresNothing, ReducesOrSetsEntry};
 
 use crate::checker::{Checker, count, declare, label};
 use crate::statement::{
@@ -138,6 +138,30 @@ fn without_block(
     match action {
         Written::Print { at, value } => print(alloc, scope, *at, value, noted),
         Written::Assign { name, value } => { assign(alloc, checker, name.at(), name, value, noted) }
+        Written::AddVertex { set, vertex } => {
+            add_vertex(alloc, scope, set.at(), set, vertex, noted)
+        }
+        Written::Apply {
+            target,
+            ends,
+            function,
+        } => Ok(apply(scope, target.at(), target, ends, function, noted)),
+        change => reduction_or_entry(alloc, change, checker, noted),
+    }
+}
+
+/// A reduction, or a write of an entry.
+fn reduction_or_entry(
+    alloc: Global,
+    action: &Written,
+    checker: &Checker,
+    noted: &mut Option<Fault>,
+) -> Result<Action, AllocError>
+    requires { ReducesOrSetsEntry action.now }
+    ensures { Notes (λ a. (action_tree a, checker_of checker.now)) noted.old noted.new result (action_typed (checker_of checker.now) (source_action action.now)) }
+{
+    let scope = &checker.scope;
+    match action {
         Written::Reduce {
             name,
             reduction,
@@ -157,19 +181,7 @@ fn without_block(
             let at = vector.at();
             reduce_entry(alloc, scope, at, vector, index, *reduction, value, noted)
         }
-        Written::AddVertex { set, vertex } => {
-            add_vertex(alloc, scope, set.at(), set, vertex, noted)
-        }
-        Written::Apply {
-            target,
-            ends,
-            function,
-        } => Ok(apply(scope, target.at(), target, ends, function, noted)),
-        Written::Declare { .. }
-        | Written::While { .. }
-        | Written::For { .. }
-        | Written::If { .. }
-        | Written::IfElse { .. } => { unreachable!() }
+        _ => unreachable!(),
     }
 }
 

@@ -7,11 +7,16 @@ ghost use Rattle.typed_tree.specs.ProgramTree.{ProgramTree};
 ghost use Rattle.typed_tree.specs.Resolved.{IsResolved};
 ghost use Rattle.expression_types.specs.declared.fault.Fault as fault;
 ghost use Rattle.types.specs.EdgeWrites.{ReducesInOneWay, SetsNoEntry};
+ghost use Rattle.types.specs.EntryAccess.{AccessesEntriesWell};
 ghost use Rattle.types.specs.Checker.{without_ends};
+ghost use Rattle.types.specs.Declaration.{main_bytes};
 ghost use Rattle.types.specs.Labels.{labels_of};
+ghost use Rattle.types.specs.MainFunction.{DeclaresMain, functions_named};
 ghost use Rattle.types.specs.NewNames.{DeclarationsDeclareNew, edges_declared};
 ghost use Rattle.types.specs.Numbers.{InOrder, numbers};
+ghost use Rattle.types.specs.Prints.{PrintsInMainAlone};
 ghost use Rattle.types.specs.UsedNames.{DeclarationsUseVisible};
+ghost use Rattle.types.specs.WellTyped.{DeclarationFits};
 ghost use Rattle.types.specs.Program.{Checks, program_of};
 
 /// The law that a source has a program or a fault that is told, and not both. It has a program exactly where it has no
@@ -43,7 +48,8 @@ pub fn checked_sources_have_distinct_labels()
 {}
 
 /// The law that in a checked program each place is that of something that is there: that of a variable or a vertex set
-/// is the place of one that is visible and has its name, and vectors, functions, labels and names are in their tables.
+/// is the place of one that is visible and has its name, and vectors, functions, labels and names are in their tables. An
+/// entry stands at a vertex of its function, or, in `main` alone, at an index, which a run tests.
 pub fn checked_programs_are_resolved()
     ensures { (source : SourceTree) (length : ℕ) (program : ProgramTree) → Checks source length (Ok program) → IsResolved program }
 {}
@@ -57,4 +63,34 @@ pub fn edge_functions_only_reduce()
 /// its body.
 pub fn statements_are_numbered_in_order()
     ensures { (source : SourceTree) (length : ℕ) → InOrder 1 (numbers (program_of source length).value.main) }
+{}
+
+/// The law that in a source with a program no function but `main` has a `print` in it, at any depth.
+pub fn checked_sources_print_in_main_alone()
+    ensures { (source : SourceTree) (length : ℕ) (program : ProgramTree) → Checks source length (Ok program) → AllByRecursion PrintsInMainAlone source.declarations }
+{}
+
+/// The law that a source with a program declares one function named `main`, which has neither parameters nor a result.
+pub fn checked_sources_declare_main()
+    ensures main { (source : SourceTree) (length : ℕ) (program : ProgramTree) → Checks source length (Ok program) → DeclaresMain source.declarations }
+    ensures one { (source : SourceTree) (length : ℕ) (program : ProgramTree) → Checks source length (Ok program) → functions_named main_bytes source.declarations ≡ 1 }
+{}
+
+/// The law that in a source with a program an edge function reads vectors at its two parameters alone and writes them at
+/// the second alone, a vertex function and a filter read and write at their parameter alone, and no index in `main` has
+/// an entry of a vector in it. An index that is a parameter is its name, perhaps in parentheses.
+///
+/// In the checked program the types carry this for reads: `EntryAt` of a function has an `Endpoint` in place of an
+/// index, and a step that writes an entry has no index, as it writes at the last parameter.
+pub fn checked_sources_access_own_entries()
+    ensures { (source : SourceTree) (length : ℕ) (program : ProgramTree) → Checks source length (Ok program) → AllByRecursion AccessesEntriesWell source.declarations }
+{}
+
+/// The law that in a source with a program constants and functions of users are of the kinds that there are. A constant
+/// `int` or `bool` is a literal, a vertex set `getVertices()`, a vector a literal or `getOutDegrees()`, the edges
+/// `load(argv[1])`, and none is a Vertex. A function of a user has one Vertex parameter, or one and a result of type
+/// `bool`, or two and no result. It holds declarations of `int` and `bool`, `if`, assignments and reductions alone; a
+/// filter writes no entry of a vector, and an edge function sets none.
+pub fn checked_sources_are_well_typed()
+    ensures { (source : SourceTree) (length : ℕ) (program : ProgramTree) → Checks source length (Ok program) → AllByRecursion DeclarationFits source.declarations }
 {}

@@ -8,12 +8,21 @@
 //! least so far.
 //!
 //! Laws say what that definition comes to; the calls do nothing. A source has a program or a told fault, never both
-//! (`sources_have_a_program_or_a_fault`). In a source with a program each used name is visible, no visible name is
-//! declared again, and no label stands twice (`checked_sources_use_visible_names`,
-//! `checked_sources_declare_new_names`, `checked_sources_have_distinct_labels`). In a checked program each place is
-//! that of something that is there (`checked_programs_are_resolved`, `IsResolved` of `typed_tree`), edge functions
-//! write by one reduction for each vector (`edge_functions_only_reduce`), and the statements of `main` have the
-//! numbers 1, 2, 3 and so on (`statements_are_numbered_in_order`).
+//! (`sources_have_a_program_or_a_fault`). In a source with a program:
+//!
+//! - each used name is visible (`checked_sources_use_visible_names`), and no visible name is declared again
+//!   (`checked_sources_declare_new_names`);
+//! - constants and functions are of the kinds that there are, and functions hold what their kind may hold
+//!   (`checked_sources_are_well_typed`);
+//! - functions read and write vectors at their own vertices, and no index of `main` has an entry in it
+//!   (`checked_sources_access_own_entries`);
+//! - `print` stands in `main` alone (`checked_sources_print_in_main_alone`), and one function is `main`
+//!   (`checked_sources_declare_main`);
+//! - no label stands twice (`checked_sources_have_distinct_labels`).
+//!
+//! In a checked program each place is that of something that is there (`checked_programs_are_resolved`, `IsResolved`
+//! of `typed_tree`), edge functions write by one reduction for each vector (`edge_functions_only_reduce`), and the
+//! statements of `main` have the numbers 1, 2, 3 and so on (`statements_are_numbered_in_order`).
 //!
 //! One file has one kind of things: declarations, statements of `main` without blocks, their blocks, statements of
 //! functions without blocks, their blocks, initial values, literals, schedules.
@@ -37,8 +46,10 @@ mod wanted;
 
 pub use error::CheckError;
 pub use laws::{
-    checked_programs_are_resolved, checked_sources_declare_new_names,
-    checked_sources_have_distinct_labels, checked_sources_use_visible_names,
+    checked_programs_are_resolved, checked_sources_access_own_entries,
+    checked_sources_are_well_typed, checked_sources_declare_main,
+    checked_sources_declare_new_names, checked_sources_have_distinct_labels,
+    checked_sources_print_in_main_alone, checked_sources_use_visible_names,
     edge_functions_only_reduce, sources_have_a_program_or_a_fault,
     statements_are_numbered_in_order,
 };

@@ -5,7 +5,7 @@ ghost use Rattle.typed_tree.specs.StepTree.{NoStep, step_tree, steps_tree};
 ghost use Rattle.expression_types.specs.Noted.{Notes};
 ghost use Rattle.expression_types.specs.ScopeTree.{Keeps};
 ghost use Rattle.types.specs.Checker.{checker_of};
-ghost use Rattle.types.specs.Plain.{DeclaresNothing};
+ghost use Rattle.types.specs.Plain.{DeclaresNothing, ReducesOrSetsEntry};
 ghost use Rattle.types.specs.Step.{labelled_step, no_for, step_typed, steps_inside, steps_typed};
 
 use crate::checker::{Checker, declare, label};
@@ -133,32 +133,49 @@ fn without_block(
     match action {
         Written::Print { at, .. } => Ok(print(*at, alloc, noted)),
         Written::Assign { name, value } => { assign(alloc, checker, name.at(), name, value, noted) }
+        Written::AddVertex { set, vertex } => {
+            add_vertex(alloc, &checker.scope, set.at(), set, vertex, noted)
+        }
+        Written::Apply {
+            target,
+            ends,
+            function,
+        } => {
+            let at = target.at();
+            Ok(apply(alloc, &checker.scope, at, target, ends, function, noted))
+        }
+        change => reduction_or_entry(alloc, change, checker, noted),
+    }
+}
+
+/// A reduction, or a write of an entry.
+fn reduction_or_entry(
+    alloc: Global,
+    action: &Written,
+    checker: &mut Checker,
+    noted: &mut Option<Fault>,
+) -> Result<Step, AllocError>
+    requires { ReducesOrSetsEntry action.now }
+    ensures typed { Notes (λ s. (step_tree s, checker_of checker.new)) noted.old noted.new result (step_typed (checker_of checker.old) (source_action action.now)) }
+    ensures kept { checker.new.scope ≡ checker.old.scope }
+{
+    match action {
         Written::Reduce {
             name,
             reduction,
             value,
-        } => reduce(
-            alloc,
-            &checker.scope,
-            name.at(),
-            name,
-            *reduction,
-            value,
-            noted,
-        ),
+        } => {
+            let at = name.at();
+            reduce(alloc, &checker.scope, at, name, *reduction, value, noted)
+        }
         Written::SetEntry {
             vector,
             index,
             value,
-        } => set_entry(
-            alloc,
-            &checker.scope,
-            vector.at(),
-            vector,
-            index,
-            value,
-            noted,
-        ),
+        } => {
+            let at = vector.at();
+            set_entry(alloc, &checker.scope, at, vector, index, value, noted)
+        }
         Written::ReduceEntry {
             vector,
             index,
@@ -168,27 +185,7 @@ fn without_block(
             let at = vector.at();
             reduce_entry(alloc, checker, at, vector, index, *reduction, value, noted)
         }
-        Written::AddVertex { set, vertex } => {
-            add_vertex(alloc, &checker.scope, set.at(), set, vertex, noted)
-        }
-        Written::Apply {
-            target,
-            ends,
-            function,
-        } => Ok(apply(
-            alloc,
-            &checker.scope,
-            target.at(),
-            target,
-            ends,
-            function,
-            noted,
-        )),
-        Written::Declare { .. }
-        | Written::While { .. }
-        | Written::For { .. }
-        | Written::If { .. }
-        | Written::IfElse { .. } => { unreachable!() }
+        _ => unreachable!(),
     }
 }
 

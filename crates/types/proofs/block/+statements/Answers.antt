@@ -1,4 +1,4 @@
-use Rattle.std.proofs.Common.{◌≡◌, ap, subst, sym, ◌∙◌, ◌+◌, length, drop}
+use Rattle.std.proofs.Common.{◌≡◌, ap, subst, sym, ◌∙◌, suc, ◌+◌, length, drop}
 use Rattle.syntax.specs.SourceTrees as source
 use Rattle.syntax.specs.SourceViews.{action_tree as source_action, block_tree as source_block}
 use Rattle.typed_tree.specs.BlockTree.{Empty, For, action_tree, block_tree}
@@ -7,13 +7,13 @@ use Rattle.typed_tree.specs.IntegerTree.{integer_tree}
 use Rattle.typed_tree.proofs.Blocks.{action_tree-While, action_tree-If, action_tree-IfElse, action_tree-For}
 use Rattle.expression_types.specs.declared.scope.Entity.TheVariants as entity
 use Rattle.expression_types.specs.Noted.{Notes, outcome, sure, ◌>>=◌}
-use Rattle.expression_types.specs.ScopeTree.{left}
+use Rattle.expression_types.specs.ScopeTree.{Keeps, left}
 use Rattle.expression_types.proofs.Steps.{then_noted}
 use Rattle.types.specs.Block.{action_typed, closed, statements_typed}
-use Rattle.types.specs.Checker.{checker_of, declared_in, integer_slot, with_scope}
+use Rattle.types.specs.Checker.{checker_of, counted, declared_in, integer_slot, labelled, with_scope}
 use Rattle.types.specs.Wanted.{integer_in}
 use Rattle.types.proofs.BlockLaws.{while_typed, if_typed, if_else_typed, statement_on}
-use Rattle.types.proofs.Kept.{left_again, keeps_on}
+use Rattle.types.proofs.Kept.{keeps_on, keeps_same, left_again}
 use Rattle.types.proofs.Sources as sources
 use Rattle.types.proofs.block.+statements.Goals as goal
 
@@ -84,3 +84,56 @@ statements-statements-preserved t c =
           ∙ ap (λ xs. outcome new (statements_typed d (block_tree xs) (source_block (drop (c.statements.statement-index + 1) c.args.block.now)))) (sym c.in_ok-push.ensures.items),
       keeps_on c.args.checker.now.scope c.statements.checker.scope c.one.new.checker.scope c.statements.invariant.1 c.in_ok-next.ensures.kept,
     )
+
+pub inner-returns-clause-typed : goal.inner-returns-clause-typed
+inner-returns-clause-typed t c =
+    let checker = checker_of c.args.checker.now in
+    let last = checker_of c.statements.new.checker in
+    let b = block_tree c.in_ok-typed.typed.items in
+    let new = c.statements.new.noted in
+    let again = c.leave.ensures ∙ ap (λ m. left m last.scope) c.mark-mark.ensures.mark ∙ left_again checker.scope last.scope c.in_ok-typed.ensures.kept in
+    then_noted c.args.noted.now new (statements_typed checker Empty (source_block c.args.block.now)) (b, last) (λ b. sure (b.0, closed checker b.1)) c.in_ok-typed.ensures.typed
+    ∙ (λ i. ((b, with_scope last (sym again i)), new))
+
+pub inner-returns-clause-kept : goal.inner-returns-clause-kept
+inner-returns-clause-kept t c =
+    let scope = c.args.checker.now.scope in
+    let last = c.statements.new.checker.scope in
+    keeps_same scope c.leave.new.self (c.leave.ensures ∙ ap (λ m. left m last) c.mark-mark.ensures.mark ∙ left_again scope last c.in_ok-typed.ensures.kept)
+
+pub one-returns-clause-kept : goal.one-returns-clause-kept
+one-returns-clause-kept t c =
+    subst (λ scope. Keeps scope c.action.new.checker.scope) (c.in_ok-number.ensures.kept ∙ c.in_ok-label.ensures.kept) c.in_ok-action.ensures.kept
+
+pub one-returns-clause-typed : goal.one-returns-clause-typed
+one-returns-clause-typed t c =
+    let checker = checker_of c.args.checker.now in
+    let labelled_checker = checker_of c.label.new.checker in
+    let place = c.in_ok-label.label in
+    let action = source_action c.args.statement.now.action in
+    let a = action_tree c.in_ok-action.action in
+    let last = checker_of c.action.new.checker in
+    let number = suc labelled_checker.statements in
+    then_noted c.args.noted.now c.label.new.noted (labelled checker c.args.statement.now.label) (place, labelled_checker)
+    (λ l. action_typed (counted l.1) action >>= λ a. sure (record { number = suc l.1.statements; label = l.0; action = a.0 }, a.1)) c.in_ok-label.ensures.labelled
+    ∙ then_noted c.label.new.noted c.action.new.noted (action_typed (counted labelled_checker) action) (a, last)
+    (λ a. sure (record { number = number; label = place; action = a.0 }, a.1))
+    (subst (λ d. outcome c.label.new.noted (action_typed d action) ≡ ((a, last), c.action.new.noted)) c.in_ok-number.ensures.counted c.in_ok-action.ensures.typed)
+    ∙ (λ i. ((record { number = sym c.in_ok-number.ensures.number i; label = place; action = a }, last), c.action.new.noted))
+
+pub repeat-returns-clause-kept : goal.repeat-returns-clause-kept
+repeat-returns-clause-kept t c =
+    let scope = c.args.checker.now.scope in
+    let last = c.statements.new.checker.scope in
+    let kept = keeps_on scope c.declare.new.checker.scope last c.in_ok-declare.ensures.kept c.in_ok-body.ensures.kept in
+    keeps_same scope c.leave.new.self (c.leave.ensures ∙ ap (λ m. left m last) c.mark-mark.ensures.mark ∙ left_again scope last kept)
+
+pub action-returns-in_ok-body-in-While-clause-kept : goal.action-returns-in_ok-body-in-While-clause-kept
+action-returns-in_ok-body-in-While-clause-kept t c = c.in_ok-body-in-While.ensures.kept
+
+pub action-returns-in_ok-body-in-If-clause-kept : goal.action-returns-in_ok-body-in-If-clause-kept
+action-returns-in_ok-body-in-If-clause-kept t c = c.in_ok-body-in-If.ensures.kept
+
+pub action-returns-in_ok-other-in-IfElse-clause-kept : goal.action-returns-in_ok-other-in-IfElse-clause-kept
+action-returns-in_ok-other-in-IfElse-clause-kept t c =
+    keeps_on c.args.checker.now.scope c.inner-in-IfElse.new.checker.scope c.inner-in-IfElse-2.new.checker.scope c.in_ok-body-in-IfElse.ensures.kept c.in_ok-other-in-IfElse.ensures.kept

@@ -14,7 +14,7 @@ use Rattle.types.specs.Step.{no_step, step_typed, steps_behind, steps_typed}
 use Rattle.types.specs.Checker.{checker_of, declared_in, integer_slot, with_scope}
 use Rattle.types.specs.Wanted.{integer_in}
 use Rattle.types.proofs.StepLaws.{while_step, if_step, if_else_step, step_on}
-use Rattle.types.proofs.Kept.{left_again, keeps_on}
+use Rattle.types.proofs.Kept.{keeps_on, keeps_same, left_again}
 use Rattle.types.proofs.Sources as sources
 use Rattle.types.proofs.step.+steps.Goals as goal
 
@@ -87,3 +87,36 @@ steps-statements-preserved t c =
           ∙ ap (λ xs. outcome new (steps_typed d (steps_tree xs) (source_block (drop (c.statements.statement-index + 1) c.args.block.now)))) (sym c.in_ok-push.ensures.items),
       keeps_on c.args.checker.now.scope c.statements.checker.scope c.one.new.checker.scope c.statements.invariant.1 c.in_ok-next.ensures.kept,
     )
+
+pub inner-returns-clause-typed : goal.inner-returns-clause-typed
+inner-returns-clause-typed t c =
+    let checker = checker_of c.args.checker.now in
+    let last = checker_of c.steps.new.checker in
+    let b = steps_tree c.in_ok-typed.typed.items in
+    let new = c.steps.new.noted in
+    let again = c.leave.ensures ∙ ap (λ m. left m last.scope) c.mark-mark.ensures.mark ∙ left_again checker.scope last.scope c.in_ok-typed.ensures.kept in
+    then_noted c.args.noted.now new (steps_typed checker NoStep (source_block c.args.block.now)) (b, last) (λ b. sure (b.0, steps_behind checker b.1)) c.in_ok-typed.ensures.typed
+    ∙ (λ i. ((b, with_scope last (sym again i)), new))
+
+pub inner-returns-clause-kept : goal.inner-returns-clause-kept
+inner-returns-clause-kept t c =
+    let scope = c.args.checker.now.scope in
+    let last = c.steps.new.checker.scope in
+    keeps_same scope c.leave.new.self (c.leave.ensures ∙ ap (λ m. left m last) c.mark-mark.ensures.mark ∙ left_again scope last c.in_ok-typed.ensures.kept)
+
+pub repeat-returns-clause-kept : goal.repeat-returns-clause-kept
+repeat-returns-clause-kept t c =
+    let scope = c.args.checker.now.scope in
+    let last = c.steps.new.checker.scope in
+    let kept = keeps_on scope c.declare.new.checker.scope last c.in_ok-declare.ensures.kept c.in_ok-_body.ensures.kept in
+    keeps_same scope c.leave.new.self (c.leave.ensures ∙ ap (λ m. left m last) c.mark-mark.ensures.mark ∙ left_again scope last kept)
+
+pub step-returns-in_ok-_body-in-While-clause-kept : goal.step-returns-in_ok-_body-in-While-clause-kept
+step-returns-in_ok-_body-in-While-clause-kept t c = c.in_ok-_body-in-While.ensures.kept
+
+pub step-returns-in_ok-body-in-If-clause-kept : goal.step-returns-in_ok-body-in-If-clause-kept
+step-returns-in_ok-body-in-If-clause-kept t c = c.in_ok-body-in-If.ensures.kept
+
+pub step-returns-in_ok-other-in-IfElse-clause-kept : goal.step-returns-in_ok-other-in-IfElse-clause-kept
+step-returns-in_ok-other-in-IfElse-clause-kept t c =
+    keeps_on c.args.checker.now.scope c.inner-in-IfElse.new.checker.scope c.inner-in-IfElse-2.new.checker.scope c.in_ok-body-in-IfElse.ensures.kept c.in_ok-other-in-IfElse.ensures.kept

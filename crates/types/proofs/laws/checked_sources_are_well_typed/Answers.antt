@@ -1,0 +1,5 @@
+use Rattle.types.proofs.WellTyped.{declarations_fit}
+use Rattle.types.proofs.laws.checked_sources_are_well_typed.Goals as goal
+
+pub returns : goal.returns
+returns c = λ source length program checks. declarations_fit source length checks.0
