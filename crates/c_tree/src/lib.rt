@@ -36,6 +36,7 @@ mod join;
 mod laws;
 mod lookup;
 mod part;
+mod spelling;
 mod tail;
 mod view;
 

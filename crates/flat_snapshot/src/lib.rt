@@ -26,8 +26,6 @@ mod edges;
 mod flat;
 mod index;
 mod lists;
-mod place;
-mod shared_set;
 
 pub use degrees::Degrees;
 pub use edges::Edges;

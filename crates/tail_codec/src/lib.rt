@@ -42,4 +42,4 @@ pub use laws::{
 pub use rewrite::TailCut;
 pub use set_operation::{Operation, merge};
 pub use tail::Tail;
-pub use writer::TailWriter;
+pub use writer::{TailWriter, append_number};
