@@ -40,7 +40,7 @@ fn append_together<'a>(
     requires over { All StandsOverItsHead chunks.now.entries }
     ensures { IsAppended bytes.old.items result
         (λ last more. SpellsUpTo prefix.entry.now.base
-            (together prefix.entry.now chunks.entry.now.entries) last.now more)
+        (together prefix.entry.now chunks.entry.now.entries) last.now more)
         bytes.new.items }
 {
     let Some((below, head, tail, above)) = chunks.parts() else {

@@ -1,6 +1,4 @@
-use Rattle.std.proofs.Common.{sym, ◌∙◌, subst}
-use Rattle.flat_snapshot.specs.Lists.{IsPushed}
-use Rattle.flat_snapshot.specs.Entries.{lists_in}
+use Rattle.std.proofs.Common.{sym, ◌∙◌}
 use Rattle.flat_snapshot.proofs.Storing.{stored_listed, stored_pushed}
 use Rattle.flat_snapshot.proofs.lists.Lists.push.Goals as goal
 
