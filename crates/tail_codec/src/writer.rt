@@ -55,7 +55,7 @@ impl TailWriter {
 
 /// Writes the bytes that spell a number behind other bytes.
 ///
-/// The only error is out of memory, and then the other bytes stand alone.
+/// The only error is out of memory, and then a part of its bytes may stand behind the others.
 #[inline]
 pub fn append_number(bytes: &mut Vec<u8>, number: u64) -> Result<(), AllocError>
     requires { number < 2 ^ 32 }
