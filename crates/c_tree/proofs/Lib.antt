@@ -4,3 +4,4 @@ pub mod Making
 pub mod Rooted
 pub mod Cuts
 pub mod Filling
+pub mod Spelled

@@ -5,3 +5,4 @@ pub mod Outcome
 pub mod Refusal
 pub mod Cutting
 pub mod Blocks
+pub mod Spelled

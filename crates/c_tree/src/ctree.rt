@@ -82,7 +82,7 @@ impl CTree {
 
     /// The prefix, and the tree of the tails by their heads.
     #[inline]
-    fn parts(&self) -> (&Tail, &Tree<ChunkTail>)
+    pub(crate) fn parts(&self) -> (&Tail, &Tree<ChunkTail>)
         ensures chunked { IsChunking self.now.chunk_size self.now.elements
             result.0.now result.1.now.entries }
         ensures depth { result.1.now.depth ≡ self.now.depth }

@@ -7,6 +7,7 @@
 //! cut, which put together gives the list back; it does nothing when called. `CTree::from_sorted` cuts
 //! a list, and refuses one that does not ascend; `prefix` and `heads` give the cut, `contains`, `len`
 //! and `iter` are those of the list, and an [`Iter`] reads the elements one by one or by blocks.
+//! `append_spelling` writes the whole list as one, in the bytes of one tail, behind other bytes.
 //!
 //! A [`View`] is a set that is lent, or what stands in it before a head or after one: the tail of a
 //! head and the chunks to the right of it are in chunks as a set is, so `root` takes a view apart into
@@ -36,6 +37,7 @@ mod join;
 mod laws;
 mod lookup;
 mod part;
+mod spelling;
 mod tail;
 mod view;
 

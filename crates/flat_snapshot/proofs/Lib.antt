@@ -2,4 +2,3 @@ pub mod Storing
 pub mod Words
 pub mod Ranks
 pub mod Snapshots
-pub mod Chunks

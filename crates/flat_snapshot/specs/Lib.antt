@@ -1,5 +1,3 @@
-pub mod Places
-pub mod Chunks
 pub mod Lists
 pub mod Entries
 pub mod Degrees

@@ -62,20 +62,20 @@ impl Adjacency {
         let mut adjacency = Adjacency::new(alloc, vertices)?;
         let mut sets = sets;
         while let Some((vertex, set)) = sets.next() {
-            adjacency.push(alloc, vertex, set)?;
+            adjacency.push(vertex, set)?;
         }
         Ok(adjacency)
     }
 
     /// Adds a vertex with its neighbours behind the others. The only error is out of memory.
-    fn push(&mut self, alloc: Global, vertex: u32, set: &CTree) -> Result<(), AllocError>
+    fn push(&mut self, vertex: u32, set: &CTree) -> Result<(), AllocError>
         requires above { Rises 0 vertex self.old }
         requires few { length set.now.elements < 2 ^ 32 }
         ensures { IfOk result (λ _. self.new ≡ self.old ++ (vertex, set.now.elements) ∷ []) }
     {
         cover(&mut self.words, vertex)?;
         let before = self.lists.len();
-        self.lists.push(alloc, vertex, set)?;
+        self.lists.push(vertex, set)?;
         mark(&mut self.words, vertex, before);
         Ok(())
     }

@@ -1,11 +1,8 @@
 //! The neighbours of a vertex.
 
-ghost use Rattle.std.specs.Prelude.{◌≡◌, ◌↔◌, ◌≤◌, ◌++◌, [], length, take, drop, min, IsTrue};
+ghost use Rattle.std.specs.Prelude.{◌≡◌, ◌↔◌, [], length, take, drop, min, IsTrue};
 ghost use Rattle.std.specs.Iterator.{YieldsFirst, item_count};
-ghost use Rattle.c_tree.specs.Blocks.{IsRead};
-ghost use Rattle.flat_snapshot.specs.Chunks.{elements_in};
 
-use crate::shared_set::Chunk;
 use std::marker::Model;
 use tail_codec::TailIter;
 
@@ -13,21 +10,17 @@ use tail_codec::TailIter;
 #[derive(Drop)]
 pub struct Edges<'a> {
     left: usize,
-    /// Those before the next head.
-    tail: TailIter<'a>,
-    chunks: &'a [Chunk],
+    list: TailIter<'a>,
 }
 
 impl<'a> Model for Edges<'a> {
-    ghost use Rattle.std.specs.Prelude.{◌≡◌, ℕ, List, ◌++◌, length};
+    ghost use Rattle.std.specs.Prelude.{◌≡◌, ℕ, List, length};
 
     ghost Value = { List ℕ };
 
-    ghost use Rattle.flat_snapshot.specs.Chunks.{elements_in};
+    ghost view = { λ e. e.list };
 
-    ghost view = { λ e. e.tail ++ elements_in e.chunks.now };
-
-    ghost invariant = { λ e. e.left ≡ length (e.tail ++ elements_in e.chunks.now) };
+    ghost invariant = { λ e. e.left ≡ length e.list };
 }
 
 impl<'a> Edges<'a> {
@@ -36,20 +29,16 @@ impl<'a> Edges<'a> {
     pub(crate) fn none() -> Edges<'a>
         ensures { result ≡ [] }
     {
-        Edges::new(0, TailIter::over(None, &[]), &[])
+        Edges::new(0, TailIter::over(None, &[]))
     }
 
-    /// The `len` elements of a tail and of chunks.
+    /// The elements of a list, of which there are `len`.
     #[inline]
-    pub(crate) fn new(len: usize, tail: TailIter<'a>, chunks: &'a [Chunk]) -> Edges<'a>
-        requires { len ≡ length (tail ++ elements_in chunks.now) }
-        ensures { result ≡ tail.entry ++ elements_in chunks.now }
+    pub(crate) fn new(len: usize, list: TailIter<'a>) -> Edges<'a>
+        requires { len ≡ length list }
+        ensures { result ≡ list.entry }
     {
-        Edges {
-            left: len,
-            tail,
-            chunks,
-        }
+        Edges { left: len, list }
     }
 
     /// How many neighbours are still to come. It takes constant time and no memory.
@@ -77,29 +66,10 @@ impl<'a> Edges<'a> {
         ensures kept { drop result block.new ≡ drop result block.old }
         ensures rest { self.new ≡ drop result self.old }
     {
-        let mut filled = fill_from(&mut self.tail, block, 0);
-        while filled < block.len() {
-            let Some((chunk, rest)) = self.chunks.split_first() else {
-                break;
-            };
-            block[filled] = chunk.head;
-            self.tail = chunk.tail.iter();
-            self.chunks = rest;
-            filled = fill_from(&mut self.tail, block, filled + 1);
-        }
+        let filled = self.list.fill(block);
         self.left -= filled;
         filled
     }
-}
-
-/// Reads the next elements of a tail into a block from a place on, as many as fit and are left, and
-/// gives the place after them.
-#[inline]
-fn fill_from(tail: &mut TailIter<'_>, block: &mut [u32], place: usize) -> usize
-    requires { place ≤ length block.old }
-    ensures { IsRead place tail.old block.old result tail.new block.new }
-{
-    place + tail.fill(&mut block[place..])
 }
 
 impl<'a> Iterator for Edges<'a> {
@@ -111,14 +81,8 @@ impl<'a> Iterator for Edges<'a> {
 
     #[inline(always)]
     fn next(&mut self) -> Option<u32> {
-        if let Some(neighbour) = self.tail.next() {
-            self.left -= 1;
-            return Some(neighbour);
-        }
-        let (chunk, rest) = self.chunks.split_first()?;
+        let neighbour = self.list.next()?;
         self.left -= 1;
-        self.tail = chunk.tail.iter();
-        self.chunks = rest;
-        Some(chunk.head)
+        Some(neighbour)
     }
 }

@@ -44,12 +44,12 @@ impl Model for Flat {
 }
 
 impl Flat {
-    /// The flat snapshot of a graph. It takes time in proportion to the vertices that have edges, to
-    /// the heads of their sets and to the bytes that it copies, which are at most 255 for a vertex and
-    /// a direction; beside that two bits for each vertex and direction. It copies the short sets of
-    /// neighbours that have no head, and shares the others with the graph, which stays as it is.
+    /// The flat snapshot of a graph, which stays as it is. It copies the bytes of all lists of
+    /// neighbours and takes time in proportion to them and to the vertices that have edges, beside the
+    /// bits. Memory in each direction: the bytes, 16 more for each vertex that has edges, and two bits
+    /// for each vertex.
     ///
-    /// The only error is out of memory, which includes a count of owners that is full.
+    /// The only error is out of memory.
     pub fn of(alloc: Global, graph: &Graph) -> Result<Flat, AllocError>
         ensures { IfOk result (λ f. f ≡ graph.now) }
     {

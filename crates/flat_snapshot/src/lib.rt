@@ -6,14 +6,14 @@
 //! number. `sources` and `destinations` go over the vertices that have edges. None of these takes
 //! memory.
 //!
-//! For each direction a flat keeps an array of the vertices that have edges, with their degrees. A
-//! bit for each vertex and a count for each 64 vertices lead to the place of a vertex in the array,
-//! so a look-up reads two places, and a vertex without an edge takes two bits. A short set without
-//! heads, as most are, is kept in its bytes, which lie one after another in the order of the
-//! vertices. So a walk over all edges reads memory in order, and making a flat counts no reference
-//! for such a set. Of a larger set the bytes are shared with the graph, chunk by chunk, and its heads
-//! stand in an array, so that a walk over it needs no tree and its state is small. A flat owns all
-//! that it shows: it may outlive its graph, and threads may share it.
+//! For each direction a flat keeps an array of the vertices that have edges, with their degrees and
+//! the places of their lists. A bit for each vertex and a count for each 64 vertices lead to the place
+//! of a vertex in the array, so a look-up reads two places, and a vertex without an edge takes two
+//! bits. All lists stand in one array of bytes, in the order of the vertices, each as one tail: the
+//! prefix of a set, and then each head, by its distance from the element before it, with the bytes of
+//! its tail. So a walk over all edges reads memory in order, needs no tree, and has a small state, and
+//! making a flat counts no reference and takes no memory for a vertex. A flat shares nothing with its
+//! graph: it may outlive it, and threads may share it.
 //!
 //! Engines that run programs over graphs stand on this crate. Flat snapshots are those of Aspen
 //! (Dhulipala, Blelloch, Shun, PLDI 2019); the bits with counts are the rank of Jacobson (Space-efficient
@@ -26,8 +26,6 @@ mod edges;
 mod flat;
 mod index;
 mod lists;
-mod place;
-mod shared_set;
 
 pub use degrees::Degrees;
 pub use edges::Edges;

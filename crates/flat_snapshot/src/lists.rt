@@ -1,22 +1,22 @@
 //! Vertices with the lists of their neighbours, one after another.
 
-ghost use Rattle.std.specs.Prelude.{◌≡◌, ◌^◌, ◌<◌, [], length};
+ghost use Rattle.std.specs.Prelude.{◌≡◌, ◌+◌, ◌^◌, ◌<◌, [], length, drop};
+ghost use Rattle.flat_snapshot.specs.Entries.{start_of, list_between, IsListed, IsStored};
 ghost use Rattle.flat_snapshot.specs.Lists.{neighbours_at, degrees_of, IsPushed};
 
 use crate::degrees::Degrees;
 use crate::edges::Edges;
-use crate::place::{Place, edges_at, stored};
-use crate::shared_set::SharedSet;
 use c_tree::CTree;
 use std::alloc::{AllocError, Global};
 use std::marker::Model;
+use tail_codec::TailIter;
 
-/// A vertex with the number of its neighbours and the place of their list.
+/// A vertex with the number of its neighbours and the place where the bytes of their list start.
 #[derive(Clone, Copy)]
 pub(crate) struct Entry {
     pub(crate) vertex: u32,
     pub(crate) degree: u32,
-    place: Place,
+    start: usize,
 }
 
 const _: () = prove!(size_of::<Entry>() == 16);
@@ -24,10 +24,8 @@ const _: () = prove!(size_of::<Entry>() == 16);
 /// Vertices with the lists of their neighbours, in the order in which they came.
 pub(crate) struct Lists {
     entries: Vec<Entry>,
-    /// The bytes of short lists.
+    /// The bytes of each list, up to where the next list starts.
     bytes: Vec<u8>,
-    /// The sets that are shared with the graph.
-    sets: Vec<SharedSet>,
 }
 
 // By hand: a derived drop would be written out, and proved again, in each function that lets lists go.
@@ -36,7 +34,6 @@ impl Drop for Lists {
         let Lists {
             entries: _,
             bytes: _,
-            sets: _,
         } = self;
     }
 }
@@ -48,9 +45,9 @@ impl Model for Lists {
 
     ghost use Rattle.flat_snapshot.specs.Entries.{lists_in, AreListed};
 
-    ghost view = { λ a. lists_in a.bytes.items a.sets.items a.entries.items };
+    ghost view = { λ a. lists_in a.bytes.items a.entries.items };
 
-    ghost invariant = { λ a. AreListed a.bytes.items a.sets.items a.entries.items };
+    ghost invariant = { λ a. AreListed a.bytes.items a.entries.items };
 }
 
 impl Lists {
@@ -61,7 +58,6 @@ impl Lists {
         Lists {
             entries: Vec::new(alloc),
             bytes: Vec::new(alloc),
-            sets: Vec::new(alloc),
         }
     }
 
@@ -76,18 +72,16 @@ impl Lists {
     /// Adds a vertex with its neighbours behind the others. The only error is out of memory, and
     /// then the lists are as they were.
     #[inline]
-    pub(crate) fn push(&mut self, alloc: Global, vertex: u32, set: &CTree) -> Result<(), AllocError>
+    pub(crate) fn push(&mut self, vertex: u32, set: &CTree) -> Result<(), AllocError>
         requires { length set.now.elements < 2 ^ 32 }
         ensures { IsPushed self.old vertex set.now.elements result self.new }
     {
-        let place = stored(alloc, &mut self.bytes, &mut self.sets, set)?;
-        let degree = set.len() as u32;
-        self.entries.push(Entry {
-            vertex,
-            degree,
-            place,
-        })?;
-        Ok(())
+        let start = self.bytes.len();
+        let stored = store(&mut self.entries, &mut self.bytes, vertex, set);
+        if stored.is_err() {
+            self.bytes.truncate(start);
+        }
+        stored
     }
 
     /// The neighbours of the vertex at a place.
@@ -97,7 +91,8 @@ impl Lists {
         ensures { result ≡ neighbours_at self.now index }
     {
         let entry = self.entries[index];
-        edges_at(&self.bytes, &self.sets, entry.place, entry.degree)
+        let end = start_after(&self.entries, index, self.bytes.len());
+        edges_up_to(&self.bytes, entry, end)
     }
 
     /// How many neighbours the vertex at a place has.
@@ -115,4 +110,50 @@ impl Lists {
     {
         Degrees::new(&self.entries)
     }
+}
+
+/// Where the bytes of the list after the one at a place start, or `count` where it is the last.
+#[inline]
+fn start_after(entries: &[Entry], index: usize, count: usize) -> usize
+    requires { index < length entries.now }
+    ensures { result ≡ start_of count (drop (index + 1) entries.now) }
+{
+    match entries.get(index + 1) {
+        Some(next) => next.start,
+        None => count,
+    }
+}
+
+/// The list of an entry, whose bytes go up to a place.
+#[inline]
+fn edges_up_to(bytes: &[u8], entry: Entry, end: usize) -> Edges<'_>
+    requires { IsListed bytes.now entry end }
+    ensures { result ≡ list_between bytes.now entry.start end }
+{
+    let list = TailIter::over(None, &bytes[entry.start..end]);
+    Edges::new(entry.degree as usize, list)
+}
+
+/// Adds the bytes of a list behind others, and its entry behind others. The only error is out of
+/// memory, and then the entries are as they were.
+#[inline]
+fn store(
+    entries: &mut Vec<Entry>,
+    bytes: &mut Vec<u8>,
+    vertex: u32,
+    set: &CTree,
+) -> Result<(), AllocError>
+    requires { length set.now.elements < 2 ^ 32 }
+    ensures { IsStored vertex set.now.elements entries.old.items bytes.old.items result
+        entries.new.items bytes.new.items }
+{
+    let start = bytes.len();
+    set.append_spelling(bytes)?;
+    let degree = set.len() as u32;
+    entries.push(Entry {
+        vertex,
+        degree,
+        start,
+    })?;
+    Ok(())
 }

@@ -1,7 +1,8 @@
 -- A list that grows at its end, and its bytes with it.
 use Rattle.std.proofs.Common.{◌≡◌, ℕ, ◌+◌, ◌-◌, ◌^◌, ◌<◌, ◌≤◌, zero, suc, List, [], ◌∷◌, ◌++◌, length, take, get_or, refl, sym, append_assoc}
 use Rattle.std.proofs.lemmas.List.{append-nil, take_more}
-use Rattle.tail_codec.specs.Writing.{least_after, WritesNumber}
+use Rattle.tail_codec.specs.Appending.{least_after}
+use Rattle.tail_codec.specs.Writing.{WritesNumber}
 use Rattle.tail_codec.specs.Spelling.{SpellsNumber, SpellsFrom, AscendsFrom}
 
 -- the last element is above those before it
@@ -39,3 +40,18 @@ pub written : (low n : ℕ) (xs : List ℕ) (place next : ℕ) (old new : List �
 written low n xs place next old new within ascends spells writes =
     let fits = next_fits low n xs within ascends in
     rw (take_more xs n 0 within, writes.front) (SpellsFrom-push low (take n xs) (get_or xs n 0) (take place old) writes.bytes spells fits.0 fits.1 writes.spells)
+
+-- an element and others behind a list, and their bytes behind its bytes
+module _ (k : ℕ) (ys : List ℕ) where
+  pub least_after-joined : (low : ℕ) (xs : List ℕ) → least_after low (xs ++ k ∷ ys) ≡ least_after (k + 1) ys
+  least_after-joined low [] = refl
+  least_after-joined low (x ∷ xs) = least_after-joined (x + 1) xs
+
+  pub joined_fits : (low : ℕ) (xs : List ℕ) → AscendsFrom low (xs ++ k ∷ ys) → (least_after low xs ≤ k) × (k < 2 ^ 32)
+  joined_fits low [] ascends = (ascends.0, ascends.1)
+  joined_fits low (x ∷ xs) ascends = joined_fits (x + 1) xs ascends.2
+
+  pub SpellsFrom-joined : (number more : List ℕ) (low : ℕ) (xs bytes : List ℕ) → SpellsFrom low xs bytes → least_after low xs ≤ k → k < 2 ^ 32 → SpellsNumber (k - least_after low xs) number → SpellsFrom (k + 1) ys more → SpellsFrom low (xs ++ k ∷ ys) (bytes ++ (number ++ more))
+  SpellsFrom-joined number more low [] bytes spells le small gap others = rw spells (le, small, number, more, refl, gap, others)
+  SpellsFrom-joined number more low (x ∷ xs) bytes (le', small', first, rest, cut, gap', others') le small gap others =
+      (le', small', first, rest ++ (number ++ more), rw cut (append_assoc first rest (number ++ more)), gap', SpellsFrom-joined number more (x + 1) xs rest others' le small gap others)

@@ -6,4 +6,5 @@ pub mod Refusal
 pub mod Decoding
 pub mod Merging
 pub mod Writing
+pub mod Appending
 pub mod Bytes

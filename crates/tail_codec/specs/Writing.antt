@@ -1,11 +1,6 @@
 -- For proofs only: bytes that are written into a buffer.
-use Rattle.std.specs.Prelude.{◌≡◌, ℕ, ◌+◌, ◌≤◌, List, [], ◌∷◌, ◌++◌, length, take}
+use Rattle.std.specs.Prelude.{◌≡◌, ℕ, ◌+◌, ◌≤◌, List, ◌++◌, length, take}
 use Rattle.tail_codec.specs.Spelling.{SpellsNumber, SpellsFrom}
-
--- the least number that may stand next after these elements
-abbrev pub least_after : ℕ → List ℕ → ℕ
-least_after low [] = low
-least_after low (x ∷ xs) = least_after (x + 1) xs
 
 -- The bytes of k stand in new from a place on up to the next place, and those before as in old.
 pub record WritesNumber (k place : ℕ) (old : List ℕ) (next : ℕ) (new : List ℕ) : Type 0 where

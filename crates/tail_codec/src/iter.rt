@@ -46,6 +46,7 @@ impl<'a> TailIter<'a> {
 
     /// Reads the next elements into the front of a block, as many as fit and are left, and gives
     /// their number. It takes no memory, and the rest of the block stays as it was.
+    #[inline]
     pub fn fill(&mut self, block: &mut [u32]) -> usize
         ensures count { result ≡ min (length block.old) (length self.old) }
         ensures filled { take result block.new ≡ take result self.old }

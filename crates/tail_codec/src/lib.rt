@@ -12,6 +12,8 @@
 //! `specs/Sets.antt` defines the union and the difference of two ascending lists, and what a list has
 //! below a number and above it. `merge` gives the first two, and `cut_list` the others, as `Tail::cut`
 //! does for tails. `over` and `followed_by` write a tail over another base, and one tail after another.
+//! One list may also be put together in its bytes: those of a tail, then by `append_number` how far the
+//! next element is above `Tail::least_after`, then those of a tail over that element.
 //! `unions_have_what_either_has` and `differences_have_what_one_lacks` are laws on the elements.
 //!
 //! A tail is 32 bytes beside its bytes. No elements take no memory, up to 127 bytes one allocation,
@@ -42,4 +44,4 @@ pub use laws::{
 pub use rewrite::TailCut;
 pub use set_operation::{Operation, merge};
 pub use tail::Tail;
-pub use writer::TailWriter;
+pub use writer::{TailWriter, append_number};

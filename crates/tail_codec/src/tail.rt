@@ -1,4 +1,5 @@
 ghost use Rattle.std.specs.Prelude.{◌≡◌, ◌↔◌, ◌+◌, [], length, IsTrue, IfOk};
+ghost use Rattle.tail_codec.specs.Appending.{least_after};
 ghost use Rattle.tail_codec.specs.Spelling.{Ascends, Spells, IsBasedList, based_list, least};
 ghost use Rattle.tail_codec.specs.Decoding.{elements_over};
 ghost use Rattle.tail_codec.specs.Outcome.{Encodes, Reads};
@@ -137,6 +138,7 @@ impl Tail {
     }
 
     /// The bytes that spell the elements over the base.
+    #[inline]
     pub fn bytes(&self) -> &[u8]
         ensures { Spells self.now.base self.now.elements result.now }
     {
@@ -150,6 +152,18 @@ impl Tail {
         ensures valid { IsBasedList self.now }
     {
         TailIter::new(least_over(self.base), self.bytes.as_slice())
+    }
+
+    /// The least number that may stand after the elements: one more than the last of them, or than the
+    /// base where there is none. Takes time in proportion to the elements, and no memory.
+    pub fn least_after(&self) -> u64
+        ensures { result ≡ least_after (least self.now.base) self.now.elements }
+    {
+        let mut least = least_over(self.base);
+        for element in self.iter() {
+            least = u64::from(element) + 1;
+        }
+        least
     }
 
     /// The elements as a list. The only error is out of memory.

@@ -1,7 +1,8 @@
 //! Tails that are written one after another.
 
 ghost use Rattle.std.specs.Prelude.{◌≡◌, ◌+◌, ◌*◌, ◌^◌, ◌<◌, ◌≤◌, length, IfOk};
-ghost use Rattle.tail_codec.specs.Spelling.{Ascends, AscendsFrom, based_list};
+ghost use Rattle.tail_codec.specs.Appending.{IsAppended};
+ghost use Rattle.tail_codec.specs.Spelling.{Ascends, AscendsFrom, SpellsNumber, based_list};
 ghost use Rattle.tail_codec.specs.Writing.{WritesNumber, WritesList};
 
 use crate::tail::{Tail, least_over};
@@ -50,6 +51,19 @@ impl TailWriter {
         let len = write_list(least_over(base), elements, buffer);
         Tail::from_spelling(alloc, base, elements.len(), &buffer[..len])
     }
+}
+
+/// Writes the bytes that spell a number behind other bytes.
+///
+/// The only error is out of memory, and then a part of its bytes may stand behind the others.
+#[inline]
+pub fn append_number(bytes: &mut Vec<u8>, number: u64) -> Result<(), AllocError>
+    requires { number < 2 ^ 32 }
+    ensures { IsAppended bytes.old.items result (λ _. SpellsNumber number) bytes.new.items }
+{
+    let mut buffer = [0; MAX_BYTES];
+    let len = write_number(number, &mut buffer, 0);
+    bytes.extend_from_slice(&buffer[..len])
 }
 
 /// Writes the bytes of a list into the front of a buffer, and gives their number.

@@ -1,6 +1,6 @@
 use Rattle.std.proofs.Common.{◌≡◌, ◌*◌, ◌≤◌, take}
 use Rattle.tail_codec.specs.Spelling.{SpellsFrom}
-use Rattle.tail_codec.specs.Writing.{least_after}
+use Rattle.tail_codec.specs.Appending.{least_after}
 use Rattle.tail_codec.proofs.writer.write_list.Given as goal
 
 abbrev pub invariant-loop-element : goal.invariant-loop-element

@@ -1,5 +1,5 @@
-use Rattle.tail_codec.specs.Spelling.{Spells, least}
-use Rattle.tail_codec.proofs.Lists.{elements_from-SpellsFrom, is_spelling_from-SpellsFrom, SpellsFrom-elements_from}
+use Rattle.tail_codec.specs.Spelling.{least}
+use Rattle.tail_codec.proofs.Lists.{is_spelling_from-SpellsFrom, SpellsFrom-elements_from}
 use Rattle.tail_codec.proofs.iter.TailIter.over.Goals as goal
 
 pub new-requires : goal.new-requires
