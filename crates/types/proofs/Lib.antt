@@ -7,6 +7,7 @@ pub mod EdgeWrites
 pub mod EntryAccess
 pub mod EntryReads
 pub mod Faultless
+pub mod InitialValues
 pub mod Kept
 pub mod KnownDeclarations
 pub mod KnownScopes

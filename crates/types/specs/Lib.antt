@@ -5,6 +5,7 @@ pub mod EdgeWrites
 pub mod EntryAccess
 pub mod Given
 pub mod Initial
+pub mod InitialValues
 pub mod Kind
 pub mod Labels
 pub mod Literal

@@ -10,6 +10,7 @@ ghost use Rattle.types.specs.EdgeWrites.{ReducesInOneWay, SetsNoEntry};
 ghost use Rattle.types.specs.EntryAccess.{AccessesEntriesWell};
 ghost use Rattle.types.specs.Checker.{without_ends};
 ghost use Rattle.types.specs.Declaration.{main_bytes};
+ghost use Rattle.types.specs.InitialValues.{DeclarationInitialsFit};
 ghost use Rattle.types.specs.Labels.{labels_of};
 ghost use Rattle.types.specs.MainFunction.{DeclaresMain, functions_named};
 ghost use Rattle.types.specs.NewNames.{DeclarationsDeclareNew, edges_declared};
@@ -90,7 +91,9 @@ pub fn checked_sources_access_own_entries()
 /// `int` or `bool` is a literal, a vertex set `getVertices()`, a vector a literal or `getOutDegrees()`, the edges
 /// `load(argv[1])`, and none is a Vertex. A function of a user has one Vertex parameter, or one and a result of type
 /// `bool`, or two and no result. It holds declarations of `int` and `bool`, `if`, assignments and reductions alone; a
-/// filter writes no entry of a vector, and an edge function sets none.
+/// filter writes no entry of a vector, and an edge function sets none. Everywhere a `new vertexset` has 0 as its size,
+/// and a `load` reads the first argument.
 pub fn checked_sources_are_well_typed()
-    ensures { (source : SourceTree) (length : ℕ) (program : ProgramTree) → Checks source length (Ok program) → AllByRecursion DeclarationFits source.declarations }
+    ensures initials { (source : SourceTree) (length : ℕ) (program : ProgramTree) → Checks source length (Ok program) → AllByRecursion DeclarationInitialsFit source.declarations }
+    ensures declarations { (source : SourceTree) (length : ℕ) (program : ProgramTree) → Checks source length (Ok program) → AllByRecursion DeclarationFits source.declarations }
 {}
