@@ -1,2 +1,4 @@
 pub mod Codes
 pub mod Runs
+pub mod Rows
+pub mod CellColumns
