@@ -2,3 +2,4 @@ pub mod Codes
 pub mod Runs
 pub mod Rows
 pub mod CellColumns
+pub mod Needs
