@@ -3,3 +3,4 @@ pub mod Runs
 pub mod Rows
 pub mod CellColumns
 pub mod Needs
+pub mod Keeping

@@ -1,5 +1,6 @@
 pub mod Cells
 pub mod Code
+pub mod FunctionCode
 pub mod Vectors
 pub mod Chain
 pub mod Columns
