@@ -4,3 +4,4 @@ pub mod Rows
 pub mod CellColumns
 pub mod Needs
 pub mod Keeping
+pub mod Functions
