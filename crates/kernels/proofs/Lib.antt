@@ -5,3 +5,4 @@ pub mod CellColumns
 pub mod Needs
 pub mod Keeping
 pub mod Functions
+pub mod Given
