@@ -2,7 +2,8 @@ pub mod Codes
 pub mod Runs
 pub mod Rows
 pub mod CellColumns
-pub mod Needs
+pub mod NeededCells
 pub mod Keeping
 pub mod Functions
 pub mod Given
+pub mod KernelLaws
