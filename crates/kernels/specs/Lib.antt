@@ -3,6 +3,7 @@ pub mod Code
 pub mod FunctionCode
 pub mod Vectors
 pub mod Kernels
+pub mod Gifts
 pub mod Chain
 pub mod Columns
 pub mod Rooms
