@@ -4,6 +4,7 @@ pub mod FunctionCode
 pub mod Vectors
 pub mod Kernels
 pub mod Gifts
+pub mod Expressions
 pub mod Chain
 pub mod Columns
 pub mod Rooms
