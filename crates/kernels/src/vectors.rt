@@ -2,7 +2,7 @@
 ghost use Rattle.std.specs.Prelude.{◌≡◌, ℕ, ◌*◌, ◌<◌, ◌≤◌, IfOk, length};
 ghost use Rattle.algorithm_meaning.specs.Value.{entry};
 
-use std::alloc::{AllocError, Global};
+use crate::change::{Change, Changes};
 use std::marker::Model;
 use typed_tree::Sequence;
 
@@ -49,6 +49,8 @@ impl<'a> Lane<'a> {
 }
 
 impl Vectors {
+    ghost use Rattle.algorithm_meaning.specs.Value.{with_entry};
+    ghost use Rattle.kernels.specs.Changes.{with_all_changes, with_changes};
     ghost use Rattle.kernels.specs.Vectors.{lane_entry};
 
     /// These vectors, in their order.
@@ -56,6 +58,33 @@ impl Vectors {
         ensures { result ≡ arrays.items }
     {
         Vectors { arrays }
+    }
+
+    /// Puts an entry of a vector; where there is no such place nothing is changed.
+    pub fn set(&mut self, vector: usize, vertex: u32, number: i64)
+        ensures { self.new ≡ with_entry self.old vector vertex number }
+    {
+        if vector < self.arrays.len() {
+            self.arrays[vector].set(vertex as usize, number);
+        }
+    }
+
+    /// Writes the changes of one vector, in time in proportion to them.
+    pub fn write_vector(&mut self, vector: usize, changes: &[Change])
+        ensures { self.new ≡ with_changes vector changes.now self.old }
+    {
+        'changes: for change in changes {
+            self.set(vector, change.vertex, change.number);
+        }
+    }
+
+    /// Writes what an apply changes, in time in proportion to the changes.
+    pub fn write(&mut self, changes: &Changes)
+        ensures { self.new ≡ with_all_changes changes.now.vectors.items self.old }
+    {
+        'vectors: for of_vector in &changes.vectors {
+            self.write_vector(of_vector.vector, &of_vector.changes);
+        }
     }
 
     /// The vector at a place; where there is none, one without entries.
