@@ -1,0 +1,11 @@
+pub mod Cells
+pub mod Code
+pub mod FunctionCode
+pub mod Vectors
+pub mod Changes
+pub mod Kernels
+pub mod Gifts
+pub mod Expressions
+pub mod Chain
+pub mod Columns
+pub mod Rooms

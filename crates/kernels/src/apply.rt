@@ -1,0 +1,26 @@
+//! Applies of edge functions.
+use crate::kernel::{EdgeKernel, FilterKernel};
+use schedule::{DenseVertexSet, Direction, Parallelization};
+use vertex_sets::VertexSet;
+
+/// Which vertices an end of an edge may be.
+#[derive(Clone, Copy)]
+pub enum End<'a> {
+    /// The members of a set.
+    Members(&'a VertexSet),
+    /// Those that a filter lets through.
+    Filter(&'a FilterKernel),
+}
+
+/// An apply of one or two edge functions to the edges between two ends, and the values that its schedule has for it.
+/// An end that is not given lets all vertices through.
+#[derive(Clone, Copy)]
+pub struct Apply<'a> {
+    pub from: Option<End<'a>>,
+    pub to: Option<End<'a>>,
+    pub first: &'a EdgeKernel,
+    pub second: Option<&'a EdgeKernel>,
+    pub direction: Direction,
+    pub parallelization: Parallelization,
+    pub dense_vertex_set: DenseVertexSet,
+}

@@ -1,0 +1,21 @@
+//! What an apply changes.
+
+/// The new entry of a vector at a vertex.
+#[derive(Clone, Copy, Debug, PartialEq, Eq)]
+pub struct Change {
+    pub vertex: u32,
+    pub number: i64,
+}
+
+/// The entries of one vector that change: the vector's place, and the changes, by ascending vertices.
+#[derive(Drop)]
+pub struct VectorChanges {
+    pub vector: usize,
+    pub changes: Vec<Change>,
+}
+
+/// What an apply changes, for each vector that it writes.
+#[derive(Drop)]
+pub struct Changes {
+    pub vectors: Vec<VectorChanges>,
+}

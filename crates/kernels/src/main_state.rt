@@ -1,0 +1,13 @@
+//! What expressions of `main` read.
+use crate::vectors::Vectors;
+
+/// What an expression of `main` reads: the vectors, the sizes of the vertex sets by their places, how many vertices
+/// there are, and the visible variables by their places.
+#[derive(Clone, Copy)]
+pub struct MainState<'a> {
+    pub vectors: &'a Vectors,
+    pub sizes: &'a [i64],
+    pub vertices: u32,
+    pub integers: &'a [i64],
+    pub conditions: &'a [bool],
+}
