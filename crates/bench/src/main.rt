@@ -10,6 +10,7 @@ mod batches;
 mod crew_runs;
 mod ctrees;
 mod flats;
+mod kernel_runs;
 mod lexing;
 mod outcome;
 mod parsing;
@@ -38,7 +39,7 @@ fn main(rt: HostRuntime) -> io::Result<ExitCode> {
         return Ok(ExitCode::SUCCESS);
     }
     eprintln!(rt;
-        "usage: bench [--time scripts|lexer|parser|tails|trees|ctrees|sets|flats|vertices|crew | --script ADDS | --check batches|crew]"
+        "usage: bench [--time scripts|lexer|parser|tails|trees|ctrees|sets|flats|vertices|kernels|crew | --script ADDS | --check batches|crew]"
     )?;
     Ok(ExitCode::from(2))
 }
@@ -74,6 +75,7 @@ fn print_times<R: Print + AllocGlobal + Clock + Threads + Sync>(
         "sets" => sets::print_times(rt),
         "flats" => flats::print_times(rt),
         "crew" => crew_runs::print_times(rt),
+        "kernels" => kernel_runs::print_times(rt),
         "vertices" => vertex_set_runs::print_times(rt),
         _ => Err(Error::other("nothing of this name is timed")),
     }
