@@ -20,6 +20,9 @@ const BATCHES: u32 = 20;
 // An edge, by its source and its destination.
 type Edge = (u32, u32);
 
+// How many entries batches have.
+const SIZES: [u32; 5] = [10, 100, 1_000, 10_000, 100_000];
+
 /// Applies batches of 10 entries, of ten times as many and so on up to `most`, with forks and without, and prints
 /// how many edges are there after the batches of each size. Fails where the graph and the set differ.
 pub fn print_agreement<R: Print + AllocGlobal + Threads + Sync>(
@@ -27,11 +30,11 @@ pub fn print_agreement<R: Print + AllocGlobal + Threads + Sync>(
     most: u32,
 ) -> io::Result<()> {
     let mut random = Random::new(SEED);
-    let mut entries = 10u32;
-    while entries <= most {
-        let edges = edges_after(rt, &mut random, entries)?;
-        println!(rt; "batches of {entries} entries: {edges} edges")?;
-        entries = entries.saturating_mul(10);
+    for entries in SIZES {
+        if entries <= most {
+            let edges = edges_after(rt, &mut random, entries)?;
+            println!(rt; "batches of {entries} entries: {edges} edges")?;
+        }
     }
     Ok(())
 }
