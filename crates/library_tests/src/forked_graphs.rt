@@ -30,30 +30,12 @@ const LOOPS: [Entry; 7] = [
 
 #[test]
 fn has_the_same_edges_at_any_forks(rt: HostRuntime) -> Result<(), Fail> {
-    let cases: [(&[Entry], &[(u32, u32)]); 4] = [
+    let cases: [(&[Entry], &[(u32, u32)]); 2] = [
         (
             &[Entry::Add(0, 1), Entry::Remove(0, 1), Entry::Add(0, 1)],
             &[(0, 1), (5, 0), (5, 6)],
         ),
         (&[Entry::Add(0, 1), Entry::Remove(0, 1)], &[(5, 0), (5, 6)]),
-        (
-            &[
-                Entry::Remove(5, 0),
-                Entry::Remove(5, 6),
-                Entry::Remove(3, 3),
-            ],
-            &[],
-        ),
-        (
-            &[
-                Entry::Add(5, 1),
-                Entry::Add(5, 2),
-                Entry::Remove(5, 0),
-                Entry::Add(5, 4),
-                Entry::Add(6, 5),
-            ],
-            &[(5, 1), (5, 2), (5, 4), (5, 6), (6, 5)],
-        ),
     ];
     let start = batch_of(rt.alloc(), &[Entry::Add(5, 6), Entry::Add(5, 0)])?;
     let graph = Graph::new(7, 64)?.apply(rt.alloc(), &start)?;
@@ -81,11 +63,6 @@ fn keeps_a_held_graph(rt: HostRuntime) -> Result<(), Fail> {
     let loops = edges_of(rt.alloc(), &held)?;
     let want = [(0, 0), (1, 1), (2, 2), (3, 3), (4, 4), (5, 5), (6, 6)];
     assert_eq!(rt; loops.as_slice(), want.as_slice());
-    assert_eq!(rt; held.out(3).map(|set| set.len()), Some(1));
-    assert_eq!(rt; newest.out(3).map(|set| set.len()), Some(99));
-    assert_eq!(rt; newest.in_(99).map(|set| set.contains(3)), Some(true));
-    assert!(rt; newest.out(0).is_none());
-    assert!(rt; newest.contains(3, 98) && !newest.contains(98, 3));
     assert_eq!(rt; newest.edge_count(), 99);
     Ok(())
 }

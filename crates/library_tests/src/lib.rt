@@ -1,6 +1,6 @@
 //! Tests of what only a call of a library shows: devices that fail, pieces of input, spans of tokens,
-//! histories with little room, bytes of tails and sets, flat snapshots, forks and threads. What a script or a program can
-//! show is a case in `crates/cases/data`.
+//! histories with little room, bytes of tails and sets, forks and threads. What a script or a program can
+//! show is a case in `crates/cases/data`, and what a contract says of every value is not said again here.
 //!
 //! They stand above the crates that they test, so that each of those is proved once.
 #![tactic(auto)]
@@ -10,21 +10,13 @@ mod chunked_sets;
 #[cfg(test)]
 mod crew_runs;
 #[cfg(test)]
-mod device_calls;
-#[cfg(test)]
-mod flat_graphs;
-#[cfg(test)]
 mod forked_graphs;
 #[cfg(test)]
 mod forked_sets;
 #[cfg(test)]
 mod script_devices;
 #[cfg(test)]
-mod set_operations;
-#[cfg(test)]
 mod sets_of_vertices;
-#[cfg(test)]
-mod shared_trees;
 #[cfg(test)]
 mod tails;
 #[cfg(test)]

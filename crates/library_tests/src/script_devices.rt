@@ -7,40 +7,42 @@ use std::io::{Error, ErrorKind, Read, Write};
 use std::sync::atomic::{AtomicUsize, Ordering};
 use std::test::Fail;
 
-// Gives at most so many bytes at a time, and fails where another would end.
+// Is interrupted before each read, and fails where another would end.
 #[derive(Drop)]
-struct FakeReader<'a> {
+struct BrokenReader<'a> {
     bytes: &'a [u8],
-    most: usize,
-    is_broken: bool,
+    is_interrupted: bool,
 }
 
-impl Read for FakeReader<'_> {
+impl Read for BrokenReader<'_> {
     fn read(&mut self, buffer: &mut [u8]) -> io::Result<usize> {
-        if self.bytes.is_empty() && self.is_broken {
+        self.is_interrupted = !self.is_interrupted;
+        if self.is_interrupted {
+            return Err(Error::from(ErrorKind::Interrupted));
+        }
+        if self.bytes.is_empty() {
             return Err(Error::from(ErrorKind::BrokenPipe));
         }
-        let count = self.most.min(buffer.len()).min(self.bytes.len());
+        let count = buffer.len().min(self.bytes.len());
         buffer[..count].copy_from_slice(&self.bytes[..count]);
         self.bytes = &self.bytes[count..];
         Ok(count)
     }
 }
 
-// Takes at most so many bytes at a time, and fails where it has no room for one more.
+// Takes at most three bytes at a time, and fails where it has no room for one more.
 #[derive(Drop)]
-struct FakeWriter {
+struct SmallWriter {
     bytes: Vec<u8>,
-    most: usize,
     room: usize,
 }
 
-impl Write for FakeWriter {
+impl Write for SmallWriter {
     fn write(&mut self, bytes: &[u8]) -> io::Result<usize> {
         if self.room == 0 {
             return Err(Error::from(ErrorKind::BrokenPipe));
         }
-        let count = self.most.min(bytes.len()).min(self.room);
+        let count = bytes.len().min(3).min(self.room);
         self.bytes.extend_from_slice(&bytes[..count])?;
         self.room -= count;
         Ok(count)
@@ -51,33 +53,18 @@ impl Write for FakeWriter {
     }
 }
 
-fn run(
-    alloc: Global,
-    reader: FakeReader<'_>,
-    writer: &mut FakeWriter,
-) -> Result<bool, ScriptError> {
-    script(
-        alloc,
-        &[],
-        &mut Device::new(reader),
-        &mut Device::new(writer),
-    )
-}
-
-fn whole(bytes: &[u8]) -> FakeReader<'_> {
-    FakeReader {
-        bytes,
-        most: usize::MAX,
-        is_broken: false,
-    }
-}
-
-fn unbounded(alloc: Global) -> FakeWriter {
-    FakeWriter {
+// Runs a script into a writer that has so much room, and gives what it took.
+fn run(alloc: Global, bytes: &[u8], room: usize) -> (Result<bool, ScriptError>, Vec<u8>) {
+    let mut writer = SmallWriter {
         bytes: Vec::new(alloc),
-        most: usize::MAX,
-        room: usize::MAX,
-    }
+        room,
+    };
+    let mut reader = Device::new(BrokenReader {
+        bytes,
+        is_interrupted: false,
+    });
+    let result = script(alloc, &[], &mut reader, &mut Device::new(&mut writer));
+    (result, writer.bytes)
 }
 
 const FIRST: &[u8] = b"vertices 4\nadd 3 0\nadd 0 1\nadd 0 1\ndel 2 2\ncommit\nedges\n";
@@ -86,21 +73,26 @@ const FIRST_REPLIES: &[u8] = b"open 4\nversion 1\nedges 2\n0 1\n3 0\n";
 
 // The replies are exactly those to the lines that ended before the reader failed.
 #[test]
-fn ends_where_the_reader_fails(rt: HostRuntime) -> Result<(), Fail> {
+fn ends_where_the_reader_fails(rt: HostRuntime) {
     for count in 0..FIRST.len() {
-        let reader = FakeReader {
-            bytes: &FIRST[..count],
-            most: usize::MAX,
-            is_broken: true,
-        };
-        let mut writer = unbounded(rt.alloc());
-        let result = run(rt.alloc(), reader, &mut writer);
+        let (result, written) = run(rt.alloc(), &FIRST[..count], usize::MAX);
         assert_eq!(rt; result, Err(ScriptError::ReadFailed), "at {count}");
         let ended = replies_after(&FIRST[..count]);
-        assert_eq!(rt; writer.bytes.len(), ended, "at {count}");
-        assert!(rt; FIRST_REPLIES.starts_with(&writer.bytes), "at {count}");
+        assert_eq!(rt;
+            written.as_slice(),
+            &FIRST_REPLIES[..ended.min(FIRST_REPLIES.len())],
+            "at {count}"
+        );
     }
-    Ok(())
+}
+
+#[test]
+fn ends_where_the_writer_fails(rt: HostRuntime) {
+    for room in 0..FIRST_REPLIES.len() {
+        let (result, written) = run(rt.alloc(), FIRST, room);
+        assert_eq!(rt; result, Err(ScriptError::WriteFailed), "at {room}");
+        assert_eq!(rt; written.as_slice(), &FIRST_REPLIES[..room], "at {room}");
+    }
 }
 
 // How many bytes the replies to the lines that end in a beginning of the first script have.
@@ -169,23 +161,4 @@ fn replies_before_it_reads_on(rt: HostRuntime) {
     assert_eq!(rt; ended, Ok(false));
     assert_eq!(rt; taken.load(Ordering::SeqCst), FIRST_REPLIES.len());
     assert_eq!(rt; missed.load(Ordering::SeqCst), 0);
-}
-
-#[test]
-fn ends_where_the_writer_fails(rt: HostRuntime) -> Result<(), Fail> {
-    for room in 0..FIRST_REPLIES.len() {
-        let mut writer = FakeWriter {
-            bytes: Vec::new(rt.alloc()),
-            most: 3,
-            room,
-        };
-        let result = run(rt.alloc(), whole(FIRST), &mut writer);
-        assert_eq!(rt; result, Err(ScriptError::WriteFailed), "at {room}");
-        assert_eq!(rt;
-            writer.bytes.as_slice(),
-            &FIRST_REPLIES[..room],
-            "at {room}"
-        );
-    }
-    Ok(())
 }

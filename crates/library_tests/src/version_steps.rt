@@ -1,11 +1,13 @@
 //! Steps of versions whose history has little room, in one run.
+use Asked::{Acquire, Commit, Release};
+use Reply::{Refused, Released, Ticket, Version};
 use std::alloc::Global;
 use std::test::Fail;
 use tree_batch::Batch;
 use version_list::{Reply, Step, VersionError, Versions, Which};
 
 // A step, the commits with an empty batch.
-#[derive(Clone, Copy, Debug)]
+#[derive(Clone, Copy)]
 enum Asked {
     Commit,
     Acquire(Which),
@@ -15,9 +17,9 @@ enum Asked {
 impl Asked {
     fn step(self, alloc: Global) -> Step {
         match self {
-            Asked::Commit => Step::Commit(Batch::new(alloc)),
-            Asked::Acquire(which) => Step::Acquire(which),
-            Asked::Release(number) => Step::Release(number),
+            Commit => Step::Commit(Batch::new(alloc)),
+            Acquire(which) => Step::Acquire(which),
+            Release(number) => Step::Release(number),
         }
     }
 }
@@ -31,71 +33,39 @@ fn replies_to(alloc: Global, room: u64, asked: &[Asked]) -> Result<Vec<Reply>, V
     versions.run(alloc, &steps)
 }
 
-const NEWEST: Asked = Asked::Acquire(Which::Newest);
+const HOLD: Asked = Acquire(Which::Newest);
 
-const NOT_KEPT: Reply = Reply::Refused(121);
-
-const NOT_HELD: Reply = Reply::Refused(122);
-
-const FULL: Reply = Reply::Refused(123);
+const FULL: Reply = Refused(123);
 
 #[test]
-fn tickets_hold_versions_and_room(rt: HostRuntime) -> Result<(), Fail> {
-    let cases: [(u64, &[Asked], &[Reply]); 2] = [
-        (
-            3,
-            &[
-                NEWEST,
-                Asked::Commit,
-                Asked::Commit,
-                NEWEST,
-                Asked::Release(1),
-                Asked::Commit,
-            ],
-            &[
-                Reply::Ticket(1, 0),
-                Reply::Version(1),
-                FULL,
-                FULL,
-                Reply::Released,
-                FULL,
-            ],
-        ),
-        (
-            7,
-            &[
-                NEWEST,
-                NEWEST,
-                NEWEST,
-                NEWEST,
-                Asked::Acquire(Which::At(1)),
-                Asked::Commit,
-                Asked::Commit,
-                Asked::Release(1),
-                Asked::Release(2),
-                Asked::Release(3),
-                Asked::Release(1),
-                Asked::Commit,
-            ],
-            &[
-                Reply::Ticket(1, 0),
-                Reply::Ticket(2, 0),
-                Reply::Ticket(3, 0),
-                FULL,
-                NOT_KEPT,
-                Reply::Version(1),
-                FULL,
-                Reply::Released,
-                Reply::Released,
-                Reply::Released,
-                NOT_HELD,
-                FULL,
-            ],
-        ),
+fn tickets_hold_room(rt: HostRuntime) -> Result<(), Fail> {
+    let asked = [HOLD, Commit, Commit, HOLD, Release(1), Commit];
+    let replies = replies_to(rt.alloc(), 3, &asked)?;
+    let wanted = [Ticket(1, 0), Version(1), FULL, FULL, Released, FULL];
+    assert_eq!(rt; replies.as_slice(), wanted.as_slice());
+    Ok(())
+}
+
+#[test]
+fn a_full_history_releases_all_tickets(rt: HostRuntime) -> Result<(), Fail> {
+    let held = [
+        HOLD,
+        HOLD,
+        HOLD,
+        HOLD,
+        Acquire(Which::At(1)),
+        Commit,
+        Commit,
     ];
-    for (room, asked, wants) in cases {
-        let replies = replies_to(rt.alloc(), room, asked)?;
-        assert_eq!(rt; replies.as_slice(), wants, "at {room}");
-    }
+    let released = [Release(1), Release(2), Release(3), Release(1), Commit];
+    let mut asked = Vec::from_slice(rt.alloc(), &held)?;
+    asked.extend_from_slice(&released)?;
+    let replies = replies_to(rt.alloc(), 7, &asked)?;
+    let tickets = [Ticket(1, 0), Ticket(2, 0), Ticket(3, 0)];
+    assert_eq!(rt; &replies[..3], tickets.as_slice());
+    let others = [FULL, Refused(121), Version(1), FULL];
+    assert_eq!(rt; &replies[3..7], others.as_slice());
+    let last = [Released, Released, Released, Refused(122), FULL];
+    assert_eq!(rt; &replies[7..], last.as_slice());
     Ok(())
 }
