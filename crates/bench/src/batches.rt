@@ -1,5 +1,6 @@
 //! Random batches on a graph, beside a plain set of pairs.
 
+use crate::graphs::told;
 use crate::random::Random;
 use std::alloc::{AllocError, Global};
 use std::collections::BTreeSet;
@@ -100,12 +101,5 @@ fn is_in(graph: &Graph, source: u32, destination: u32) -> bool {
     match graph.in_(destination) {
         Some(sources) => sources.contains(source) && graph.contains(source, destination),
         None => false,
-    }
-}
-
-fn told(error: GraphError) -> Error {
-    match error {
-        GraphError::NoMemory => Error::other("out of memory"),
-        _ => Error::other("a batch was refused"),
     }
 }

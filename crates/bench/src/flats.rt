@@ -1,6 +1,6 @@
 //! Flat snapshots: how long they take to make and to walk, beside tails in a plain list.
 
-use crate::random::Random;
+use crate::graphs::random_graph;
 use crate::timing::Times;
 use flat_snapshot::Flat;
 use std::alloc::{AllocError, Global};
@@ -9,7 +9,7 @@ use std::io::Error;
 use std::rt::Clock;
 use std::time::Instant;
 use tail_codec::{Tail, TailError};
-use tree_batch::{Batch, Entry, Graph, GraphError};
+use tree_batch::Graph;
 
 // A random graph of so many vertices and about so many edges.
 #[derive(Clone, Copy, Debug)]
@@ -37,15 +37,8 @@ const SIZES: [Size; 3] = [
     },
 ];
 
-const CHUNK_SIZE: u32 = 64;
-
 // How often a row is timed.
 const TURNS: usize = 5;
-
-const SEED: u64 = 2026;
-
-// How many edges a batch adds.
-const BATCH: u32 = 1 << 20;
 
 // How many tails are timed together, and how many elements each has at most.
 const TAILS: u32 = 1 << 20;
@@ -161,31 +154,16 @@ impl Drop for Work {
 
 impl Work {
     fn new(alloc: Global, size: Size) -> io::Result<Work> {
-        let graph = graph(alloc, size)?;
-        let flat = Flat::of(alloc, &graph)?;
+        let graph = random_graph(alloc, size.vertices, size.edges)?;
+        let flat = shared(Flat::of(alloc, &graph)?);
         let tails = tails(alloc, &graph)?;
         Ok(Work { graph, flat, tails })
     }
 }
 
-// The graph of a size, made by batches.
-fn graph(alloc: Global, size: Size) -> io::Result<Graph> {
-    let mut random = Random::new(SEED);
-    let mut graph = made(Graph::new(size.vertices, CHUNK_SIZE))?;
-    let vertices = u64::from(size.vertices).max(1);
-    let mut left = size.edges;
-    for _ in 0..=size.edges / BATCH {
-        let count = left.min(BATCH);
-        let mut batch = Batch::new(alloc);
-        for _ in 0..count {
-            let from = random.below(vertices) as u32;
-            let to = random.below(vertices) as u32;
-            batch.push(Entry::Add(from, to)).map_err(refused)?;
-        }
-        graph = made(graph.apply(alloc, &batch))?;
-        left = left.wrapping_sub(count);
-    }
-    Ok(graph)
+// A value that threads may share.
+fn shared<T: Send + Sync>(value: T) -> T {
+    value
 }
 
 // The destinations of each vertex as one tail.
@@ -273,17 +251,6 @@ fn sum_of(block: &[u32]) -> u64 {
         sum = sum.wrapping_add(u64::from(*element));
     }
     sum
-}
-
-fn made(answer: Result<Graph, GraphError>) -> io::Result<Graph> {
-    answer.map_err(refused)
-}
-
-fn refused(error: GraphError) -> Error {
-    match error {
-        GraphError::NoMemory => Error::other("out of memory"),
-        GraphError::VertexRange | GraphError::BadChunkSize => Error::other("a graph was refused"),
-    }
 }
 
 fn told(error: TailError) -> Error {

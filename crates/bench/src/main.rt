@@ -7,9 +7,11 @@
 #![tactic(auto)]
 
 mod batches;
+mod commits;
 mod crew_runs;
 mod ctrees;
 mod flats;
+mod graphs;
 mod kernel_runs;
 mod lexing;
 mod outcome;
@@ -39,7 +41,7 @@ fn main(rt: HostRuntime) -> io::Result<ExitCode> {
         return Ok(ExitCode::SUCCESS);
     }
     eprintln!(rt;
-        "usage: bench [--time scripts|lexer|parser|tails|trees|ctrees|sets|flats|vertices|kernels|crew | --script ADDS | --check batches|crew]"
+        "usage: bench [--time scripts|lexer|parser|tails|trees|ctrees|sets|commits|flats|vertices|kernels|crew | --script ADDS | --check batches|crew]"
     )?;
     Ok(ExitCode::from(2))
 }
@@ -73,6 +75,7 @@ fn print_times<R: Print + AllocGlobal + Clock + Threads + Sync>(
         "trees" => trees::print_times(rt),
         "ctrees" => ctrees::print_times(rt),
         "sets" => sets::print_times(rt),
+        "commits" => commits::print_times(rt),
         "flats" => flats::print_times(rt),
         "crew" => crew_runs::print_times(rt),
         "kernels" => kernel_runs::print_times(rt),
