@@ -1,5 +1,5 @@
 -- A refusal stands in the text, or at its end.
-use Rattle.std.proofs.Common.{◌≡◌, subst, ℕ, ◌≤◌, List, [], ◌∷◌, length, Result, Ok, Err}
+use Rattle.std.proofs.Common.{◌≡◌, ap, subst, ℕ, ◌≤◌, List, [], ◌∷◌, length, Result, Ok, Err}
 use Rattle.std.specs.List.{AllByRecursion}
 use Rattle.std.proofs.Math.Nat.{le_refl}
 use Rattle.std.proofs.lemmas.List.Elements.{All-contains, All-from_recursion}
@@ -29,7 +29,7 @@ fault_within text fault told =
 after_stands : (P : ℕ → Type 0) (here : ℕ) (done : Result ScheduleTree Rule) (rest : ScheduleTree → Result ScheduleTree (Rule × ℕ)) (rule : Rule) (at : ℕ)
     → after_call here done rest ≡ Err (rule, at) → P here → ((s : ScheduleTree) → rest s ≡ Err (rule, at) → P at) → P at
 after_stands P here (Ok s) rest rule at told stands behind = behind s told
-after_stands P here (Err r) rest rule at told stands behind = let same : here ≡ at = cc told in subst P same stands
+after_stands P here (Err r) rest rule at told stands behind = let both : ◌≡◌ {A = Rule × ℕ} (r, here) (rule, at) = cc told in subst P (ap (λ (x : Rule × ℕ). x.1) both) stands
 
 calls_stand : (P : ℕ → Type 0) (p : ProgramTree) (calls : List ScheduleCallTree) (s : ScheduleTree) (rule : Rule) (at : ℕ)
     → with_calls p calls s ≡ Err (rule, at) → AllByRecursion (λ call. P call.at) calls → P at
