@@ -7,20 +7,20 @@ use Rattle.syntax.specs.declared.declaration.DeclaredType.TheVariants as declare
 use Rattle.syntax.specs.Offsets.{IsOffsetIn, StandWhere, StandsWhere}
 use Rattle.syntax.specs.SourceTrees as source
 use Rattle.syntax.specs.SourceTrees.{CallTree, ChainTree, DeclarationTree, InitialTree, ParameterTree, SourceTree}
-use Rattle.syntax.specs.SourceSpelling.{assigned_before, block_before, chain_before, declaration_before, each_before, next_call_before, next_parameter_before, parameters_before, result_before, schedule_before, source_terminals, typed_before}
+use Rattle.syntax.specs.SourceSpelling.{assigned_before, block_before, chain_before, declaration_before, each_before, next_call_before, next_parameter_before, parameters_before, result_before, schedule_before, source_terminals}
 use Rattle.syntax.proofs.Behind.{all_both, chain_behind, declaration_behind, each_behind, next_call_behind, parameters_behind, result_behind, typed_behind}
 use Rattle.syntax.proofs.Offsets.{each_stands}
 use Rattle.typed_tree.specs.declared.expression.Endpoint.{Endpoint}
 use Rattle.typed_tree.specs.declared.expression.Endpoint.TheVariants as endpoint
 use Rattle.typed_tree.specs.BlockTree.{BlockTree, Empty}
 use Rattle.typed_tree.specs.ProgramTree.{ScheduleCallTree}
-use Rattle.typed_tree.specs.StepTree.{FunctionTree, StepsTree, NoStep}
+use Rattle.typed_tree.specs.StepTree.{StepsTree, NoStep}
 use Rattle.expression_types.specs.declared.scope.Entity.{Entity}
 use Rattle.expression_types.specs.declared.scope.Entity.TheVariants as entity
 use Rattle.expression_types.proofs.FaultOffsets.{FaultsStand, both_stand, if_stand}
 use Rattle.types.specs.Block.{statements_typed}
 use Rattle.types.specs.Checker.{CheckerTree, declared_in, restarted, with_scope}
-use Rattle.types.specs.Declaration.{DeclaredTree, KindTree, MainKind, EdgeKind, VertexKind, FilterKind, NoKind, begins, declaration_typed, declarations_typed, declare_condition, declare_constant_as, declare_edges, declare_function, declare_integer, declare_name, declare_set, declare_vector, edge_function_declared, function_declared, function_of, has_all, kind, kind_fits, literal_or_fault, loads, main_declared, next_name, only_edges, opened, parameter, parameters_declared, result_declared, result_entity, steps_declared, wanted}
+use Rattle.types.specs.Declaration.{DeclaredTree, KindTree, MainKind, EdgeKind, VertexKind, FilterKind, NoKind, begins, declaration_typed, declarations_typed, declare_constant_as, declare_function, declare_name, function_declared, has_all, kind, kind_fits, literal_or_fault, loads, main_declared, next_name, only_edges, opened, parameter, parameters_declared, result_declared, result_entity, steps_declared, wanted}
 use Rattle.types.specs.Initial.{GivenTree, given_by, is_all, is_degrees, is_loaded, is_sound}
 use Rattle.types.specs.Literal.{literal_condition, literal_integer}
 use Rattle.types.specs.Program.{chain_calls, main_of, opening, program_of, schedule_call, schedule_calls, set_count}

@@ -1,5 +1,5 @@
 -- Each fault of a statement of main stands at one of its names or labels, or at its first token.
-use Rattle.std.proofs.Common.{ℕ, suc, Bool, true, false, ◌||◌, List, [], ◌++◌, Option, Some, None}
+use Rattle.std.proofs.Common.{ℕ, suc, Bool, ◌||◌, List, [], ◌++◌, Option, Some, None}
 use Rattle.std.specs.List.{AllByRecursion}
 use Rattle.syntax.specs.Terminals.{Terminal, Identifier}
 use Rattle.syntax.specs.declared.declaration.DeclaredType.{DeclaredType}

@@ -12,7 +12,6 @@ use Rattle.syntax.proofs.Behind.{all_left, ends_behind}
 use Rattle.syntax.proofs.Offsets.{from_stands, to_stands}
 use Rattle.typed_tree.specs.declared.expression.Slot.{Slot}
 use Rattle.typed_tree.specs.declared.statement.Ends.{Ends}
-use Rattle.typed_tree.specs.declared.statement.SetValue.{SetValue}
 use Rattle.typed_tree.specs.IntegerTree.{IntegerTree, Parameter}
 use Rattle.expression_types.specs.declared.fault.Rule.TheVariants as rule
 use Rattle.expression_types.specs.declared.scope.Entity.{Entity}
