@@ -8,7 +8,8 @@
 //! least so far.
 //!
 //! Laws say what that definition comes to; the calls do nothing. A source has a program or a told fault, never both
-//! (`sources_have_a_program_or_a_fault`). In a source with a program:
+//! (`sources_have_a_program_or_a_fault`). A fault stands where something in the source does, or at the length of the
+//! text (`faults_stand_in_the_source`). In a source with a program:
 //!
 //! - each used name is visible (`checked_sources_use_visible_names`), and no visible name is declared again
 //!   (`checked_sources_declare_new_names`);
