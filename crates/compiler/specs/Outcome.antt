@@ -1,5 +1,5 @@
 -- What compiling a text answers.
-use Rattle.std.specs.Prelude.{◌≡◌, ℕ, List, length, Result, Ok, Err}
+use Rattle.std.specs.Prelude.{◌≡◌, ℕ, ◌≤◌, List, length, Result, Ok, Err, IfSome}
 use Rattle.syntax.specs.SourceTrees.{SourceTree}
 use Rattle.typed_tree.specs.declared.program.Typed.{Typed}
 use Rattle.typed_tree.specs.ProgramTree.{ProgramTree, program_tree}
@@ -11,6 +11,7 @@ use Rattle.schedule.specs.Calls.{schedule_of}
 use Rattle.schedule.specs.Schedule.{ScheduleTree}
 use Rattle.schedule.specs.declared.error.Rule.{Rule}
 use Rattle.compiler.specs.declared.error.CompileError.{CompileError}
+use Rattle.compiler.specs.Refusal.{offset_of}
 use Rattle.compiler.specs.declared.error.CompileError.TheVariants.{NotParsed, NotTyped, NotScheduled, NoMemory}
 
 -- the text is a source, which has this program by the rules of types
@@ -45,3 +46,7 @@ Compiles text (Err (NotParsed e)) = Answers text (Err e)
 Compiles text (Err (NotTyped fault)) = HasFault text fault
 Compiles text (Err (NotScheduled rule at)) = HasFaultyCall text rule at
 Compiles text (Err NoMemory) = Unit {0}
+
+-- the offset of a refusal is one of the text, or its length
+abbrev pub StandsIn : List ℕ → CompileError → Type 0
+StandsIn text error = IfSome (offset_of error) (λ at. at ≤ length text)

@@ -1,5 +1,7 @@
 //! From a text to a program.
-ghost use Rattle.compiler.specs.Outcome.{Compiles};
+ghost use Rattle.std.specs.Prelude.{ℕ, List, Err};
+ghost use Rattle.compiler.specs.declared.error.CompileError as error;
+ghost use Rattle.compiler.specs.Outcome.{Compiles, StandsIn};
 
 use crate::error::CompileError;
 use parser::parse;
@@ -22,3 +24,8 @@ pub fn compile(alloc: Global, text: &[u8]) -> Result<Typed, CompileError>
     accept(alloc, &program)?;
     Ok(program)
 }
+
+/// The law that a refusal stands in the text, or at its end: its offset is at most the text's length. The call does nothing.
+pub fn refusals_stand_in_the_text()
+    ensures { (text : List ℕ) (refusal : error.CompileError) → Compiles text (Err refusal) → StandsIn text refusal }
+{}

@@ -1,4 +1,5 @@
 pub mod Entries
+pub mod FaultOffsets
 pub mod Least
 pub mod LeastLaws
 pub mod Levels

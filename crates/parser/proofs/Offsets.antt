@@ -1,11 +1,18 @@
--- A refusal stands in the text, or at its end.
-use Rattle.std.proofs.Common.{sym, ap, subst, ℕ, zero, suc, ◌≤◌, List, [], ◌∷◌, length, drop, inl, inr, Err, arith, length-append}
+-- A refusal stands in the text, or at its end, and so does each terminal of a source.
+use Rattle.std.proofs.Common.{sym, ap, subst, ℕ, zero, suc, ◌≤◌, List, [], ◌∷◌, length, drop, inl, inr, Ok, Err, arith, length-append}
 use Rattle.std.proofs.Math.Nat.{le_refl}
+use Rattle.lexer.specs.declared.keyword.Keyword.{Keyword}
+use Rattle.lexer.specs.declared.keyword.Keyword.TheVariants as keyword
 use Rattle.lexer.specs.declared.token.Token.{Token}
+use Rattle.lexer.specs.declared.token.TokenKind.{TokenKind}
+use Rattle.lexer.specs.declared.token.TokenKind.TheVariants as kind
 use Rattle.lexer.specs.Tokens.{AreInOrder, FaultsAt, bytes_of}
 use Rattle.lexer.proofs.OrderLaws.{HasTokens-AreInOrder}
 use Rattle.syntax.specs.Nesting.{PassesAt, nesting_behind}
-use Rattle.syntax.specs.Terminals.{terminal_of}
+use Rattle.syntax.specs.Offsets.{StandWhere, StandsWhere}
+use Rattle.syntax.specs.SourceSpelling.{source_terminals}
+use Rattle.syntax.specs.SourceTrees.{SourceTree}
+use Rattle.syntax.specs.Terminals.{keyword_terminal, terminal_of, terminals_of}
 use Rattle.lexer.specs.Tokens.{slice_of}
 use Rattle.parser.specs.declared.error.ParseError.{ParseError}
 use Rattle.parser.specs.declared.error.ParseError.TheVariants.{BadByte, NumberTooLarge, UnfinishedText, Unexpected, TooDeep, NoMemory}
@@ -36,3 +43,38 @@ stands_in text (Unexpected at) no_source =
     subst (λ a. a ≤ length text) (sym no_source.place.1) (beginning_within text 0 no_source.place.0 no_source.tokens (HasTokens-AreInOrder text no_source.tokens no_source.reads))
 stands_in text (TooDeep at) deep = passes_within text 0 0 deep.tokens at (HasTokens-AreInOrder text deep.tokens deep.reads) deep.passes
 stands_in text NoMemory parses = absurd parses
+
+-- a terminal stands where its token begins
+keyword_within : (n : ℕ) (k : Keyword) (at : ℕ) → at ≤ n → StandsWhere (λ a. a ≤ n) (keyword_terminal k at)
+keyword_within n keyword.Const at within = within
+keyword_within n keyword.Func at within = within
+keyword_within n keyword.Var at within = within
+keyword_within n keyword.While at within = within
+keyword_within n keyword.For at within = within
+keyword_within n keyword.If at within = within
+keyword_within n keyword.Print at within = within
+keyword_within n keyword.ConfigApplyDirection at within = within
+keyword_within n keyword.ConfigApplyParallelization at within = within
+keyword_within n keyword.ConfigApplyDenseVertexSet at within = within
+keyword_within n keyword.FuseApplyFunctions at within = within
+keyword_within n keyword.FuseFields at within = within
+keyword_within n _ at within = tt
+
+terminal_within : (n : ℕ) (k : TokenKind) (bytes : List ℕ) (at : ℕ) → at ≤ n → StandsWhere (λ a. a ≤ n) (terminal_of k bytes at)
+terminal_within n kind.Name bytes at within = within
+terminal_within n (kind.Number number) bytes at within = tt
+terminal_within n kind.Label bytes at within = within
+terminal_within n kind.Text bytes at within = tt
+terminal_within n (kind.Keyword k) bytes at within = keyword_within n k at within
+terminal_within n (kind.Symbol symbol) bytes at within = tt
+
+tokens_within : (text : List ℕ) (from : ℕ) (tokens : List Token) → AreInOrder text from tokens → StandWhere (λ at. at ≤ length text) (terminals_of text tokens)
+tokens_within text from [] order = tt
+tokens_within text from (token ∷ tokens) (follows, within, gaps, is, order) = (
+  terminal_within (length text) token.kind (slice_of text token.span) token.span.start (omega (arith, within.0, within.1)),
+  tokens_within text token.span.end tokens order,
+)
+
+pub source_within : (text : List ℕ) (source : SourceTree) → Parses text (Ok source) → StandWhere (λ at. at ≤ length text) (source_terminals source)
+source_within text source parsed =
+    subst (StandWhere (λ at. at ≤ length text)) parsed.spelled (tokens_within text 0 parsed.tokens (HasTokens-AreInOrder text parsed.tokens parsed.reads))

@@ -1,7 +1,9 @@
 //! A whole source.
-ghost use Rattle.std.specs.Prelude.{◌≡◌, ◌-◌, ℕ, List, Result, Err, drop, length, IfOk};
+ghost use Rattle.std.specs.Prelude.{◌≡◌, ◌-◌, ◌≤◌, ℕ, List, Result, Ok, Err, drop, length, IfOk};
 ghost use Rattle.parser.specs.Readers.{terminals};
+ghost use Rattle.syntax.specs.Offsets.{StandWhere};
 ghost use Rattle.syntax.specs.SourceReading.{source_at};
+ghost use Rattle.syntax.specs.SourceSpelling.{source_terminals};
 ghost use Rattle.syntax.specs.SourceTrees.{SourceTree};
 ghost use Rattle.parser.specs.declared.error.ParseError.{ParseError};
 ghost use Rattle.parser.specs.Outcome.{Answers, Parses, StandsIn, GivesSource, beginning_of, tree_or_error, without_place};
@@ -63,6 +65,12 @@ pub fn one_answer()
 /// The law that a refusal stands in the text, or at its end. The call does nothing.
 pub fn refusals_stand_in_the_text()
     ensures { (text : List ℕ) (error : ParseError) → Parses text (Err error) → StandsIn text error }
+{}
+
+/// The law that in a source each name, each label, and each keyword that begins a declaration, a statement or a call of
+/// the schedule stands in the text. The call does nothing.
+pub fn sources_stand_in_the_text()
+    ensures { (text : List ℕ) (source : SourceTree) → Parses text (Ok source) → StandWhere (λ at. at ≤ length text) (source_terminals source) }
 {}
 
 /// With what each source begins.

@@ -1,4 +1,5 @@
 pub mod Actions
+pub mod Behind
 pub mod Complete
 pub mod ExpressionReadings
 pub mod ExpressionsExact
@@ -8,6 +9,7 @@ pub mod Levels
 pub mod Loops
 pub mod Nests
 pub mod NestsActions
+pub mod Offsets
 pub mod Operands
 pub mod Sound
 pub mod SoundActions

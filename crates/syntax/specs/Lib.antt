@@ -9,6 +9,7 @@ pub mod ExpressionTrees
 pub mod ExpressionViews
 pub mod Fits
 pub mod Nesting
+pub mod Offsets
 pub mod SourceReading
 pub mod SourceSpelling
 pub mod SourceTrees

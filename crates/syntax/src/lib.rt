@@ -3,11 +3,12 @@
 //!
 //! A terminal is a token as the grammar sees it: its bytes or its value, without its place. Names, labels, and
 //! keywords that open a declaration, a statement or a call of the schedule keep their offsets
-//! (`specs/Terminals.antt`). A contract sees an [`Expression`] as an `ExpressionTree`, one type for each level of
-//! the grammar, and a [`Source`] as a `SourceTree`; both have no pointers. `specs/ExpressionSpelling.antt` and
-//! `specs/SourceSpelling.antt` give the terminals of each tree, with one equation for each rule of the grammar,
-//! and `specs/Nesting.antt` counts what is open. `Begins` says that terminals are those of an expression, at most
-//! so deep, and then a rest that does not go on with it (`specs/ExpressionBeginnings.antt`).
+//! (`specs/Terminals.antt`, `specs/Offsets.antt`). A contract sees an [`Expression`] as an `ExpressionTree`, one
+//! type for each level of the grammar, and a [`Source`] as a `SourceTree`; both have no pointers.
+//! `specs/ExpressionSpelling.antt` and `specs/SourceSpelling.antt` give the terminals of each tree, with one
+//! equation for each rule of the grammar, and `specs/Nesting.antt` counts what is open. `Begins` says that
+//! terminals are those of an expression, at most so deep, and then a rest that does not go on with it
+//! (`specs/ExpressionBeginnings.antt`).
 //!
 //! `terminals_have_one_source` is the law that no two sources have the same terminals, and `sources_are_read_exactly`
 //! the law of the reading function, by which a parser is proved to accept exactly the grammar;

@@ -24,8 +24,12 @@ pub mod ResolvedScopes
 pub mod ResolvedStatements
 pub mod ResolvedSteps
 pub mod ResolvedValues
+pub mod SourceOffsets
 pub mod Sources
+pub mod StatementOffsets
 pub mod StepLaws
+pub mod StepOffsets
 pub mod UsedNames
+pub mod ValueOffsets
 pub mod VertexNames
 pub mod WellTyped

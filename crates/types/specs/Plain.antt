@@ -17,3 +17,10 @@ ReducesOrSetsEntry (action.Reduce name reduction value) = Unit {0}
 ReducesOrSetsEntry (action.SetEntry vector index value) = Unit {0}
 ReducesOrSetsEntry (action.ReduceEntry vector index reduction value) = Unit {0}
 ReducesOrSetsEntry other = ⊥
+
+-- it has a test, and a block or two
+abbrev pub HasTest : Action → Type 0
+HasTest (action.While' at test m body) = Unit {0}
+HasTest (action.If' at test m body) = Unit {0}
+HasTest (action.IfElse' at test m body n otherwise) = Unit {0}
+HasTest other = ⊥

@@ -6,7 +6,7 @@ ghost use Rattle.expression_types.specs.Noted.{Notes};
 ghost use Rattle.expression_types.specs.ScopeTree.{Keeps};
 ghost use Rattle.types.specs.Block.{action_typed, block_typed, for_typed, statement_tree, statement_typed, statements_typed};
 ghost use Rattle.types.specs.Checker.{checker_of};
-ghost use Rattle.types.specs.Plain.{DeclaresNothing, ReducesOrSetsEntry};
+ghost use Rattle.types.specs.Plain.{DeclaresNothing, HasTest, ReducesOrSetsEntry};
 
 use crate::checker::{Checker, count, declare, label};
 use crate::statement::{
@@ -92,11 +92,6 @@ fn action(
             variable,
             initial,
         } => declare_variable(alloc, checker, *at, variable, initial, noted),
-        Written::While { at, test, body } => {
-            let test = condition(alloc, &checker.scope, *at, test, noted)?;
-            let body = inner(alloc, body, checker, noted)?;
-            Ok(Action::While(test, body))
-        }
         Written::For {
             at,
             name,
@@ -104,6 +99,31 @@ fn action(
             limit,
             body,
         } => repeat(alloc, body, *at, name, first, limit, checker, noted),
+        Written::While { .. } | Written::If { .. } | Written::IfElse { .. } => {
+            tested(alloc, action, checker, noted)
+        }
+        plain => without_block(alloc, plain, checker, noted),
+    }
+}
+
+/// What a statement with a test does.
+#[cycle(statements)]
+fn tested(
+    alloc: Global,
+    action: &Written,
+    checker: &mut Checker,
+    noted: &mut Option<Fault>,
+) -> Result<Action, AllocError>
+    requires { HasTest action.now }
+    ensures typed { Notes (λ a. (action_tree a, checker_of checker.new)) noted.old noted.new result (action_typed (checker_of checker.old) (source_action action.now)) }
+    ensures kept { OnOk result (Keeps checker.old.scope checker.new.scope) }
+{
+    match action {
+        Written::While { at, test, body } => {
+            let test = condition(alloc, &checker.scope, *at, test, noted)?;
+            let body = inner(alloc, body, checker, noted)?;
+            Ok(Action::While(test, body))
+        }
         Written::If { at, test, body } => {
             let test = condition(alloc, &checker.scope, *at, test, noted)?;
             let body = inner(alloc, body, checker, noted)?;
@@ -120,7 +140,7 @@ fn action(
             let other = inner(alloc, otherwise, checker, noted)?;
             Ok(Action::IfElse(test, body, other))
         }
-        plain => without_block(alloc, plain, checker, noted),
+        _ => unreachable!(),
     }
 }
 

@@ -2,6 +2,8 @@
 ghost use Rattle.std.specs.Prelude.{◌≡◌, ◌⊎◌, ℕ, ◌≤◌, [], map, Ok, Err};
 ghost use Rattle.std.specs.List.{AllByRecursion, IsDistinct};
 ghost use Rattle.std.specs.Str.{bytes_eq};
+ghost use Rattle.syntax.specs.Offsets.{IsOffsetIn};
+ghost use Rattle.syntax.specs.SourceSpelling.{source_terminals};
 ghost use Rattle.syntax.specs.SourceTrees.{SourceTree};
 ghost use Rattle.typed_tree.specs.ProgramTree.{ProgramTree};
 ghost use Rattle.typed_tree.specs.Resolved.{IsResolved};
@@ -25,6 +27,13 @@ ghost use Rattle.types.specs.Program.{Checks, program_of};
 pub fn sources_have_a_program_or_a_fault()
     ensures one { (source : SourceTree) (length : ℕ) → ((program : ProgramTree) × Checks source length (Ok program)) ⊎ ((f : fault.Fault) × Checks source length (Err f)) }
     ensures not_both { (source : SourceTree) (length : ℕ) (program : ProgramTree) (f : fault.Fault) → Checks source length (Ok program) → Checks source length (Err f) → ⊥ }
+{}
+
+/// The law that each fault of a source stands where a name or a label does, or a keyword that begins a declaration or a
+/// statement, or at the length of the text; and that each call of a schedule stands where its keyword does.
+pub fn faults_stand_in_the_source()
+    ensures faults { (source : SourceTree) (length : ℕ) → AllByRecursion (λ f. IsOffsetIn (source_terminals source) f.at ⊎ (f.at ≡ length)) (program_of source length).faults }
+    ensures calls { (source : SourceTree) (length : ℕ) → AllByRecursion (λ call. IsOffsetIn (source_terminals source) call.at) (program_of source length).value.schedule }
 {}
 
 /// The law that in a source with a program each used name is visible: constants and functions from the end of their

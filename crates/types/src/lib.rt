@@ -8,7 +8,8 @@
 //! least so far.
 //!
 //! Laws say what that definition comes to; the calls do nothing. A source has a program or a told fault, never both
-//! (`sources_have_a_program_or_a_fault`). In a source with a program:
+//! (`sources_have_a_program_or_a_fault`). A fault stands where something in the source does, or at the length of the
+//! text (`faults_stand_in_the_source`). In a source with a program:
 //!
 //! - each used name is visible (`checked_sources_use_visible_names`), and no visible name is declared again
 //!   (`checked_sources_declare_new_names`);
@@ -50,7 +51,7 @@ pub use laws::{
     checked_sources_are_well_typed, checked_sources_declare_main,
     checked_sources_declare_new_names, checked_sources_have_distinct_labels,
     checked_sources_print_in_main_alone, checked_sources_use_visible_names,
-    edge_functions_only_reduce, sources_have_a_program_or_a_fault,
+    edge_functions_only_reduce, faults_stand_in_the_source, sources_have_a_program_or_a_fault,
     statements_are_numbered_in_order,
 };
 pub use program::check;

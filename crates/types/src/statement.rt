@@ -69,36 +69,29 @@ fn declare_given(
     ensures typed { Notes (λ a. (action_tree a, checker_of checker.new)) noted.old noted.new result (declare_as (checker_of checker.old) at variable.now.name (given_tree given) variable.now.declared) }
     ensures kept { OnOk result (Keeps checker.old.scope checker.new.scope) }
 {
+    let name = &variable.name;
     match variable.declared {
         DeclaredType::Int => {
             let value = given.into_integer(at, noted);
             let slot = checker.integer_slot();
-            let entity = Entity::IntegerVariable(slot);
-            declare(alloc, checker, &variable.name, entity, noted)?;
+            declare(alloc, checker, name, Entity::IntegerVariable(slot), noted)?;
             Ok(Action::DeclareInteger(slot.name, value))
         }
         DeclaredType::Bool => {
             let value = given.into_condition(at, noted);
             let slot = checker.condition_slot();
-            let entity = Entity::ConditionVariable(slot);
-            declare(alloc, checker, &variable.name, entity, noted)?;
+            declare(alloc, checker, name, Entity::ConditionVariable(slot), noted)?;
             Ok(Action::DeclareCondition(slot.name, value))
         }
         DeclaredType::VertexSet => {
             let value = given.into_members(at, noted);
             let slot = checker.set_slot();
-            declare(
-                alloc,
-                checker,
-                &variable.name,
-                Entity::SetVariable(slot),
-                noted,
-            )?;
+            declare(alloc, checker, name, Entity::SetVariable(slot), noted)?;
             Ok(Action::DeclareSet(slot.name, value))
         }
         DeclaredType::Vertex | DeclaredType::Vector | DeclaredType::EdgeSet => {
             let action = wrong(at, noted);
-            declare(alloc, checker, &variable.name, Entity::Unclear, noted)?;
+            declare(alloc, checker, name, Entity::Unclear, noted)?;
             Ok(action)
         }
     }

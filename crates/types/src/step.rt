@@ -5,7 +5,7 @@ ghost use Rattle.typed_tree.specs.StepTree.{NoStep, step_tree, steps_tree};
 ghost use Rattle.expression_types.specs.Noted.{Notes};
 ghost use Rattle.expression_types.specs.ScopeTree.{Keeps};
 ghost use Rattle.types.specs.Checker.{checker_of};
-ghost use Rattle.types.specs.Plain.{DeclaresNothing, ReducesOrSetsEntry};
+ghost use Rattle.types.specs.Plain.{DeclaresNothing, HasTest, ReducesOrSetsEntry};
 ghost use Rattle.types.specs.Step.{labelled_step, no_for, step_typed, steps_inside, steps_typed};
 
 use crate::checker::{Checker, declare, label};
@@ -86,12 +86,6 @@ fn step(
             variable,
             initial,
         } => declare_variable(alloc, checker, *at, variable, initial, noted),
-        Written::While { at, test, body } => {
-            let step = wrong(*at, alloc, noted);
-            let _test = condition(alloc, &checker.scope, *at, test, noted)?;
-            let _body = inner(alloc, body, checker, noted)?;
-            Ok(step)
-        }
         Written::For {
             at,
             name,
@@ -99,6 +93,32 @@ fn step(
             limit,
             body,
         } => repeat(alloc, body, *at, name, first, limit, checker, noted),
+        Written::While { .. } | Written::If { .. } | Written::IfElse { .. } => {
+            tested(alloc, action, checker, noted)
+        }
+        plain => without_block(alloc, plain, checker, noted),
+    }
+}
+
+/// What a statement with a test does; no function may hold a `while`.
+#[cycle(steps)]
+fn tested(
+    alloc: Global,
+    action: &Written,
+    checker: &mut Checker,
+    noted: &mut Option<Fault>,
+) -> Result<Step, AllocError>
+    requires { HasTest action.now }
+    ensures typed { Notes (λ s. (step_tree s, checker_of checker.new)) noted.old noted.new result (step_typed (checker_of checker.old) (source_action action.now)) }
+    ensures kept { OnOk result (Keeps checker.old.scope checker.new.scope) }
+{
+    match action {
+        Written::While { at, test, body } => {
+            let step = wrong(*at, alloc, noted);
+            let _test = condition(alloc, &checker.scope, *at, test, noted)?;
+            let _body = inner(alloc, body, checker, noted)?;
+            Ok(step)
+        }
         Written::If { at, test, body } => {
             let test = condition(alloc, &checker.scope, *at, test, noted)?;
             let body = inner(alloc, body, checker, noted)?;
@@ -115,7 +135,7 @@ fn step(
             let other = inner(alloc, otherwise, checker, noted)?;
             Ok(Step::IfElse(test, body, other))
         }
-        plain => without_block(alloc, plain, checker, noted),
+        _ => unreachable!(),
     }
 }
 

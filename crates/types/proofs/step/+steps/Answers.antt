@@ -18,22 +18,22 @@ use Rattle.types.proofs.Kept.{keeps_on, keeps_same, left_again}
 use Rattle.types.proofs.Sources as sources
 use Rattle.types.proofs.step.+steps.Goals as goal
 
-pub step-returns-in_ok-_body-in-While-clause-typed : goal.step-returns-in_ok-_body-in-While-clause-typed
-step-returns-in_ok-_body-in-While-clause-typed t c =
+pub tested-returns-in_ok-_body-in-While-clause-typed : goal.tested-returns-in_ok-_body-in-While-clause-typed
+tested-returns-in_ok-_body-in-While-clause-typed t c =
     while_step (checker_of c.args.checker.now) (checker_of c.inner.new.checker) c.args.action.now c.in-While.at c.in-While.test c.in-While.body c.deref.result.now
     (condition_tree c.in_ok-_test-in-While._test) (steps_tree c.in_ok-_body-in-While._body.items) c.args.noted.now c.wrong-step.new.noted c.condition.new.noted c.inner.new.noted
     c.deref.ensures.value c.in-While.is c.wrong-step.ensures.noted c.in_ok-_test-in-While.ensures c.in_ok-_body-in-While.ensures.typed
     ∙ ap (λ s. ((s, checker_of c.inner.new.checker), c.inner.new.noted)) (sym c.wrong-step.ensures.step)
 
-pub step-returns-in_ok-body-in-If-clause-typed : goal.step-returns-in_ok-body-in-If-clause-typed
-step-returns-in_ok-body-in-If-clause-typed t c =
+pub tested-returns-in_ok-body-in-If-clause-typed : goal.tested-returns-in_ok-body-in-If-clause-typed
+tested-returns-in_ok-body-in-If-clause-typed t c =
     if_step (checker_of c.args.checker.now) (checker_of c.inner-in-If.new.checker) c.args.action.now c.in-If.at c.in-If.test c.in-If.body c.deref-in-If.result.now
     (condition_tree c.in_ok-test-in-If.test) (steps_tree c.in_ok-body-in-If.body.items) c.args.noted.now c.condition-in-If.new.noted c.inner-in-If.new.noted
     c.deref-in-If.ensures.value c.in-If.is c.in_ok-test-in-If.ensures c.in_ok-body-in-If.ensures.typed
     ∙ ap (λ a. ((a, checker_of c.inner-in-If.new.checker), c.inner-in-If.new.noted)) (sym (step_tree-If c.in_ok-test-in-If.test c.in_ok-body-in-If.body))
 
-pub step-returns-in_ok-other-in-IfElse-clause-typed : goal.step-returns-in_ok-other-in-IfElse-clause-typed
-step-returns-in_ok-other-in-IfElse-clause-typed t c =
+pub tested-returns-in_ok-other-in-IfElse-clause-typed : goal.tested-returns-in_ok-other-in-IfElse-clause-typed
+tested-returns-in_ok-other-in-IfElse-clause-typed t c =
     if_else_step (checker_of c.args.checker.now) (checker_of c.inner-in-IfElse.new.checker) (checker_of c.inner-in-IfElse-2.new.checker) c.args.action.now c.in-IfElse.at c.in-IfElse.test
     c.in-IfElse.body c.in-IfElse.otherwise c.deref-in-IfElse.result.now c.deref-in-IfElse-2.result.now (condition_tree c.in_ok-test-in-IfElse.test)
     (steps_tree c.in_ok-body-in-IfElse.body.items) (steps_tree c.in_ok-other-in-IfElse.other.items)
@@ -46,7 +46,7 @@ pub step-returns-in-For-clause-typed : goal.step-returns-in-For-clause-typed
 step-returns-in-For-clause-typed t c =
     subst (λ a. Notes (λ s. (step_tree s, checker_of c.repeat.new.checker)) c.args.noted.now c.repeat.new.noted c.repeat.result (step_typed (checker_of c.args.checker.now) a))
     (sym (ap source_action c.in-For.is ∙ sources.action_tree-For c.in-For.at c.in-For.name c.in-For.first c.in-For.limit c.in-For.body
-    ∙ ap (λ xs. source.For c.in-For.at c.in-For.name c.in-For.first c.in-For.limit (source_block xs)) (sym c.deref-in-For.ensures.value)))
+    ∙ ap (λ xs. source.For c.in-For.at c.in-For.name c.in-For.first c.in-For.limit (source_block xs)) (sym c.deref.ensures.value)))
     c.repeat.ensures.typed
 
 pub repeat-returns-clause-typed : goal.repeat-returns-clause-typed
@@ -111,12 +111,12 @@ repeat-returns-clause-kept t c =
     let kept = keeps_on scope c.declare.new.checker.scope last c.in_ok-declare.ensures.kept c.in_ok-_body.ensures.kept in
     keeps_same scope c.leave.new.self (c.leave.ensures ∙ ap (λ m. left m last) c.mark-mark.ensures.mark ∙ left_again scope last kept)
 
-pub step-returns-in_ok-_body-in-While-clause-kept : goal.step-returns-in_ok-_body-in-While-clause-kept
-step-returns-in_ok-_body-in-While-clause-kept t c = c.in_ok-_body-in-While.ensures.kept
+pub tested-returns-in_ok-_body-in-While-clause-kept : goal.tested-returns-in_ok-_body-in-While-clause-kept
+tested-returns-in_ok-_body-in-While-clause-kept t c = c.in_ok-_body-in-While.ensures.kept
 
-pub step-returns-in_ok-body-in-If-clause-kept : goal.step-returns-in_ok-body-in-If-clause-kept
-step-returns-in_ok-body-in-If-clause-kept t c = c.in_ok-body-in-If.ensures.kept
+pub tested-returns-in_ok-body-in-If-clause-kept : goal.tested-returns-in_ok-body-in-If-clause-kept
+tested-returns-in_ok-body-in-If-clause-kept t c = c.in_ok-body-in-If.ensures.kept
 
-pub step-returns-in_ok-other-in-IfElse-clause-kept : goal.step-returns-in_ok-other-in-IfElse-clause-kept
-step-returns-in_ok-other-in-IfElse-clause-kept t c =
+pub tested-returns-in_ok-other-in-IfElse-clause-kept : goal.tested-returns-in_ok-other-in-IfElse-clause-kept
+tested-returns-in_ok-other-in-IfElse-clause-kept t c =
     keeps_on c.args.checker.now.scope c.inner-in-IfElse.new.checker.scope c.inner-in-IfElse-2.new.checker.scope c.in_ok-body-in-IfElse.ensures.kept c.in_ok-other-in-IfElse.ensures.kept

@@ -1,0 +1,5 @@
+use Rattle.parser.proofs.Offsets.{source_within}
+use Rattle.parser.proofs.source.sources_stand_in_the_text.Goals as goal
+
+pub returns : goal.returns
+returns c = source_within

@@ -1,0 +1,161 @@
+-- Each fault of an initial or assigned value stands at one of its names, or where its statement or declaration does.
+use Rattle.std.specs.Prelude.{IfSome}
+use Rattle.std.proofs.Common.{ℕ, zero, suc, ℤ, pos, negsuc, Bool, true, false, ◌||◌, List, [], Option, Some, None}
+use Rattle.syntax.specs.Terminals.{Terminal, Identifier}
+use Rattle.syntax.specs.ExpressionTrees.{ExpressionTree}
+use Rattle.syntax.specs.ExpressionSpelling.{expression_terminals}
+use Rattle.syntax.specs.Offsets.{StandWhere, StandsWhere}
+use Rattle.syntax.specs.SourceTrees as source
+use Rattle.syntax.specs.SourceTrees.{InitialTree}
+use Rattle.syntax.specs.SourceSpelling.{initial_before}
+use Rattle.syntax.proofs.Behind.{all_left, ends_behind}
+use Rattle.syntax.proofs.Offsets.{from_stands, to_stands}
+use Rattle.typed_tree.specs.declared.expression.Slot.{Slot}
+use Rattle.typed_tree.specs.declared.statement.Ends.{Ends}
+use Rattle.typed_tree.specs.IntegerTree.{IntegerTree, Parameter}
+use Rattle.expression_types.specs.declared.fault.Rule.TheVariants as rule
+use Rattle.expression_types.specs.declared.scope.Entity.{Entity}
+use Rattle.expression_types.specs.Expression.{used, value_of}
+use Rattle.expression_types.specs.Noted.{fault_at, sure}
+use Rattle.expression_types.specs.ScopeTree.{ScopeTree}
+use Rattle.expression_types.specs.ValueTree.{ValueTree, Integer, Condition, Vertex, Set, Faulty, condition_reads_entry, named_set, reads_entry}
+use Rattle.expression_types.proofs.FaultOffsets.{FaultsStand, both_stand, if_stand, used_stands, value_stands}
+use Rattle.types.specs.Checker.{CheckerTree}
+use Rattle.types.specs.Initial.{EndTree, GivenTree, Typed, Members, Loaded, Degrees, Broken, condition_given, edge_function, end_of, ends_given, filter_function, filtered, filtered_by, given_by, integer_given, is_edges, is_unclear, is_unknown, is_wrong, loaded, members_given, modified, modified_by, new_set, of_edges, vector_of, writes_vector}
+use Rattle.types.specs.Wanted.{as_condition, as_index, as_integer, as_members, condition_in, integer_in, no_index, unread}
+
+-- values of the type that their place wants
+pub as_integer_stands : (P : ℕ → Type 0) (at : ℕ) (v : ValueTree) → P at → FaultsStand P (as_integer at v)
+as_integer_stands P at (Integer e) here = tt
+as_integer_stands P at (Condition c) here = (here, tt)
+as_integer_stands P at (Vertex p) here = tt
+as_integer_stands P at (Set slot) here = (here, tt)
+as_integer_stands P at Faulty here = tt
+
+as_condition_stands : (P : ℕ → Type 0) (at : ℕ) (v : ValueTree) → P at → FaultsStand P (as_condition at v)
+as_condition_stands P at (Integer e) here = (here, tt)
+as_condition_stands P at (Condition c) here = tt
+as_condition_stands P at (Vertex p) here = (here, tt)
+as_condition_stands P at (Set slot) here = (here, tt)
+as_condition_stands P at Faulty here = tt
+
+as_members_stands : (P : ℕ → Type 0) (at : ℕ) (v : ValueTree) → P at → FaultsStand P (as_members at v)
+as_members_stands P at (Integer e) here = (here, tt)
+as_members_stands P at (Condition c) here = (here, tt)
+as_members_stands P at (Vertex p) here = (here, tt)
+as_members_stands P at (Set slot) here = tt
+as_members_stands P at Faulty here = tt
+
+pub integer_in_stands : (P : ℕ → Type 0) (scope : ScopeTree) (at : ℕ) (e : ExpressionTree) → P at → StandWhere P (expression_terminals e) → FaultsStand P (integer_in scope at e)
+integer_in_stands P scope at e here all =
+    let v = value_of scope at e in both_stand P v.faults _ (value_stands P scope at e here all) (as_integer_stands P at v.value here)
+
+pub condition_in_stands : (P : ℕ → Type 0) (scope : ScopeTree) (at : ℕ) (e : ExpressionTree) → P at → StandWhere P (expression_terminals e) → FaultsStand P (condition_in scope at e)
+condition_in_stands P scope at e here all =
+    let v = value_of scope at e in both_stand P v.faults _ (value_stands P scope at e here all) (as_condition_stands P at v.value here)
+
+unread_stands : (P : ℕ → Type 0) (at : ℕ) (e : IntegerTree) → P at → FaultsStand P (unread at e)
+unread_stands P at e here = if_stand P (reads_entry e) (fault_at at rule.WrongIndex None) (sure (Some e)) (here, tt) tt
+
+no_index_stands : (P : ℕ → Type 0) (at : ℕ) (b : Bool) → P at → FaultsStand P (no_index at b)
+no_index_stands P at true here = (here, (here, tt))
+no_index_stands P at false here = (here, tt)
+
+pub as_index_stands : (P : ℕ → Type 0) (at : ℕ) (v : ValueTree) → P at → FaultsStand P (as_index at v)
+as_index_stands P at (Integer e) here = unread_stands P at e here
+as_index_stands P at (Condition c) here = no_index_stands P at (condition_reads_entry c) here
+as_index_stands P at (Vertex p) here = unread_stands P at (Parameter p) here
+as_index_stands P at (Set slot) here = (here, tt)
+as_index_stands P at Faulty here = tt
+
+-- an end of an apply
+pub end_stands : (P : ℕ → Type 0) (scope : ScopeTree) (end : Option Identifier) → IfSome end (λ name. P name.at) → FaultsStand P (end_of scope end)
+end_stands P scope None there = tt
+end_stands P scope (Some name) there =
+    let e = used scope name in both_stand P e.faults [] (used_stands P scope name there) tt
+
+-- values that are no expressions
+of_edges_stands : (P : ℕ → Type 0) (at : ℕ) (x : GivenTree) (e : Entity) → P at → FaultsStand P (of_edges at x e)
+of_edges_stands P at x e here =
+    if_stand P (is_unclear e) _ _ tt (if_stand P (is_edges e) (sure x) (fault_at at rule.WrongType Broken) tt (here, tt))
+
+filtered_by_stands : (P : ℕ → Type 0) (at : ℕ) (set : Option Slot) (place : Option ℕ) → P at → FaultsStand P (filtered_by at set place)
+filtered_by_stands P at None place here = (here, tt)
+filtered_by_stands P at (Some slot) None here = (here, tt)
+filtered_by_stands P at (Some slot) (Some place) here = tt
+
+filtered_stands : (P : ℕ → Type 0) (at : ℕ) (s f : Entity) → P at → FaultsStand P (filtered at s f)
+filtered_stands P at s f here = if_stand P (is_unclear s || is_unclear f) _ _ tt (filtered_by_stands P at (named_set s) (filter_function f) here)
+
+modified_by_stands : (P : ℕ → Type 0) (c : CheckerTree) (at : ℕ) (ends : Ends) (function vector : Option ℕ) → P at → FaultsStand P (modified_by c at ends function vector)
+modified_by_stands P c at ends None vector here = (here, tt)
+modified_by_stands P c at ends (Some function) None here = (here, tt)
+modified_by_stands P c at ends (Some function) (Some vector) here = if_stand P (writes_vector c.written function vector) _ _ tt (here, tt)
+
+modified_stands : (P : ℕ → Type 0) (c : CheckerTree) (at : ℕ) (edges : Entity) (a b : EndTree) (f v : Entity) → P at → FaultsStand P (modified c at edges a b f v)
+modified_stands P c at edges a b f v here =
+    if_stand P (is_unclear edges || is_unknown a || is_unknown b || is_unclear f || is_unclear v) _ _ tt
+    (if_stand P (is_edges edges) _ _
+    (if_stand P (is_wrong a || is_wrong b) _ _ (here, tt) (modified_by_stands P c at (ends_given a b) (edge_function f) (vector_of v) here))
+    (here, tt))
+
+new_set_stands : (P : ℕ → Type 0) (at : ℕ) (n : ℤ) → P at → FaultsStand P (new_set at n)
+new_set_stands P at (pos zero) here = tt
+new_set_stands P at (pos (suc n)) here = (here, tt)
+new_set_stands P at (negsuc n) here = (here, tt)
+
+loaded_stands : (P : ℕ → Type 0) (at : ℕ) (n : ℤ) → P at → FaultsStand P (loaded at n)
+loaded_stands P at (pos zero) here = (here, tt)
+loaded_stands P at (pos (suc zero)) here = tt
+loaded_stands P at (pos (suc (suc n))) here = (here, tt)
+loaded_stands P at (negsuc n) here = (here, tt)
+
+pub given_by_stands : (P : ℕ → Type 0) (c : CheckerTree) (at : ℕ) (initial : InitialTree) (rest : List Terminal) → P at → StandWhere P (initial_before initial rest) → FaultsStand P (given_by c at initial)
+given_by_stands P c at (source.NewSet size) rest here all = new_set_stands P at size here
+given_by_stands P c at (source.Load argument) rest here all = loaded_stands P at argument here
+given_by_stands P c at (source.Vertices edges) rest here all =
+    let e = used c.scope edges in both_stand P e.faults _ (used_stands P c.scope edges all.0) (of_edges_stands P at _ e.value here)
+given_by_stands P c at (source.OutDegrees edges) rest here all =
+    let e = used c.scope edges in both_stand P e.faults _ (used_stands P c.scope edges all.0) (of_edges_stands P at _ e.value here)
+given_by_stands P c at (source.Filter set test) rest here all =
+    let s = used c.scope set in
+    let f = used c.scope test in
+    both_stand P s.faults _ (used_stands P c.scope set all.0)
+    (both_stand P f.faults _ (used_stands P c.scope test all.1.1.1.1.0) (filtered_stands P at s.value f.value here))
+given_by_stands P c at (source.ApplyModified edges ends function vector) rest here all =
+    let e = used c.scope edges in
+    let a = end_of c.scope ends.from in
+    let b = end_of c.scope ends.to in
+    let f = used c.scope function in
+    let v = used c.scope vector in
+    let names = ends_behind (StandsWhere P) ends _ all.1 in
+    both_stand P e.faults _ (used_stands P c.scope edges all.0)
+    (both_stand P a.faults _ (end_stands P c.scope ends.from (from_stands P ends _ all.1))
+    (both_stand P b.faults _ (end_stands P c.scope ends.to (to_stands P ends _ all.1))
+    (both_stand P f.faults _ (used_stands P c.scope function names.1.1.1.0)
+    (both_stand P v.faults _ (used_stands P c.scope vector names.1.1.1.1.1.0)
+    (modified_stands P c at e.value a.value b.value f.value v.value here)))))
+given_by_stands P c at (source.Value e) rest here all =
+    let v = value_of c.scope at e in both_stand P v.faults [] (value_stands P c.scope at e here (all_left (StandsWhere P) (expression_terminals e) rest all)) tt
+
+-- what a variable gets
+pub integer_given_stands : (P : ℕ → Type 0) (at : ℕ) (given : GivenTree) → P at → FaultsStand P (integer_given at given)
+integer_given_stands P at (Typed v) here = as_integer_stands P at v here
+integer_given_stands P at (Members s) here = (here, tt)
+integer_given_stands P at Loaded here = (here, tt)
+integer_given_stands P at Degrees here = (here, tt)
+integer_given_stands P at Broken here = tt
+
+pub condition_given_stands : (P : ℕ → Type 0) (at : ℕ) (given : GivenTree) → P at → FaultsStand P (condition_given at given)
+condition_given_stands P at (Typed v) here = as_condition_stands P at v here
+condition_given_stands P at (Members s) here = (here, tt)
+condition_given_stands P at Loaded here = (here, tt)
+condition_given_stands P at Degrees here = (here, tt)
+condition_given_stands P at Broken here = tt
+
+pub members_given_stands : (P : ℕ → Type 0) (at : ℕ) (given : GivenTree) → P at → FaultsStand P (members_given at given)
+members_given_stands P at (Typed v) here = as_members_stands P at v here
+members_given_stands P at (Members s) here = tt
+members_given_stands P at Loaded here = (here, tt)
+members_given_stands P at Degrees here = (here, tt)
+members_given_stands P at Broken here = tt
