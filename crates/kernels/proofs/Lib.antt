@@ -1,6 +1,5 @@
 pub mod Codes
 pub mod Runs
-pub mod Rows
 pub mod CellColumns
 pub mod NeededCells
 pub mod Keeping

@@ -1,8 +1,6 @@
 pub mod Cells
 pub mod Code
 pub mod FunctionCode
-pub mod Vectors
-pub mod Changes
 pub mod Kernels
 pub mod Gifts
 pub mod Expressions

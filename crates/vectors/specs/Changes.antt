@@ -1,8 +1,8 @@
 -- The vectors after changes were written.
 use Rattle.std.specs.Prelude.{ℕ, ℤ, List, [], ◌∷◌}
 use Rattle.algorithm_meaning.specs.Value.{with_entry}
-use Rattle.kernels.specs.declared.change.Change.{Change}
-use Rattle.kernels.specs.declared.change.VectorChanges.{VectorChanges}
+use Rattle.vectors.specs.declared.change.Change.{Change}
+use Rattle.vectors.specs.declared.change.VectorChanges.{VectorChanges}
 
 -- those of one vector, in order
 abbrev pub with_changes : (vector : ℕ) → List Change → List (List ℤ) → List (List ℤ)

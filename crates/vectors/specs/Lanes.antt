@@ -1,6 +1,6 @@
 -- One vector of a run, as it is read.
 use Rattle.std.specs.Prelude.{ℕ, ◌+◌, ◌*◌, ℤ, pos, nat_lt, if◌then◌else◌, slice_index_or}
-use Rattle.kernels.specs.declared.vectors.Lane.{Lane}
+use Rattle.vectors.specs.declared.lane.Lane.{Lane}
 
 -- the entry at a vertex, 0 where there is none
 abbrev pub lane_entry : Lane → ℕ → ℤ
