@@ -6,3 +6,5 @@ pub mod Keeping
 pub mod Functions
 pub mod Given
 pub mod KernelLaws
+pub mod VertexRuns
+pub mod VertexRows

@@ -1,6 +1,8 @@
 pub mod Cells
 pub mod Code
 pub mod FunctionCode
+pub mod VertexCode
+pub mod VertexBlocks
 pub mod Kernels
 pub mod Gifts
 pub mod Expressions
