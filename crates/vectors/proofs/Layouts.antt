@@ -8,7 +8,7 @@ use Rattle.std.proofs.lemmas.List.FromFn.{fill_by_all, get_or-map-range_with_len
 use Rattle.std.proofs.lemmas.Nat.{div-mul-add, mod-mul-add}
 use Rattle.algorithm_meaning.specs.Value.{entry, with_entry}
 use Rattle.vectors.specs.declared.location.Location.{Location}
-use Rattle.vectors.specs.Layout.{IsHome, IsLaidOut, IsMember, location_at, nowhere, number_at, own_location, vector_at, vectors_at}
+use Rattle.vectors.specs.Layout.{IsHome, IsLaidOut, location_at, nowhere, number_at, own_location, vector_at, vectors_at}
 use Rattle.vectors.proofs.Rows.{place_in_row}
 
 -- lists of the same items are the same
@@ -36,7 +36,7 @@ entry_here : (arrays : List (List ℤ)) (l : Location) (v : ℕ) → v < l.verti
 entry_here arrays l v h =
     get_or-map-range_with_len (λ u. number_at arrays l.array (u * l.stride + l.first)) 0 l.vertices v v (pos 0) h (zero-add v)
 
-length-vector : (arrays : List (List ℤ)) (l : Location) → length (vector_at arrays l) ≡ l.vertices
+pub length-vector : (arrays : List (List ℤ)) (l : Location) → length (vector_at arrays l) ≡ l.vertices
 length-vector arrays l = length-map-range_with_len (λ u. number_at arrays l.array (u * l.stride + l.first)) 0 l.vertices
 
 entry_past : (arrays : List (List ℤ)) (l : Location) (v : ℕ) → l.vertices ≤ v → get_or (vector_at arrays l) v (pos 0) ≡ pos 0

@@ -14,10 +14,13 @@
 #![tactic(auto)]
 
 mod change;
+mod error;
+mod grouping;
 mod lane;
 mod location;
 mod vectors;
 
 pub use change::{Change, Changes, VectorChanges};
+pub use error::GroupError;
 pub use lane::Lane;
 pub use vectors::Vectors;

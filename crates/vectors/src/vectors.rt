@@ -1,8 +1,10 @@
 //! The vectors of a run, by their places.
-ghost use Rattle.std.specs.Prelude.{◌≡◌, ℕ, ◌*◌, ◌<◌, ◌≤◌, [], IfOk, length};
+ghost use Rattle.std.specs.Prelude.{◌≡◌, ℕ, ◌*◌, ◌<◌, ◌≤◌, [], IfOk, MatchOption, length, slice_index_or, slice_set};
 ghost use Rattle.algorithm_meaning.specs.Value.{entry};
 
 use crate::change::{Change, Changes};
+use crate::error::GroupError;
+use crate::grouping::{copied, locate_groups, new_arrays};
 use crate::lane::Lane;
 use crate::location::{Location, own_locations};
 use std::alloc::{AllocError, Global};
@@ -43,7 +45,7 @@ impl Vectors {
     ghost use Rattle.algorithm_meaning.specs.Value.{with_entry};
     ghost use Rattle.vectors.specs.Changes.{with_all_changes, with_changes};
     ghost use Rattle.vectors.specs.Lanes.{lane_entry};
-    ghost use Rattle.vectors.specs.Vectors.{VectorsValue, with_vectors};
+    ghost use Rattle.vectors.specs.Vectors.{HasRows, IsGrouping, VectorsValue, with_vectors};
 
     /// These vectors, in their order, each with an array of its own.
     pub fn new(alloc: Global, arrays: Vec<Sequence<i64>>) -> Result<Vectors, AllocError>
@@ -55,6 +57,62 @@ impl Vectors {
             locations,
             groups: Vec::new(alloc),
         })
+    }
+
+    /// These vectors, in their order, of which those of a group stand side by side: group k is one array with a row
+    /// for each vertex. `Unfit` comes where the groups do not fit, as `IsGrouping` says.
+    pub fn grouped(
+        alloc: Global,
+        arrays: &[Sequence<i64>],
+        groups: &[Sequence<usize>],
+    ) -> Result<Vectors, GroupError>
+        ensures vectors { IfOk result (λ v. v ≡ record { vectors = arrays.now; groups = groups.now }) }
+        ensures fit { result ≡ Err GroupError.Unfit → IsGrouping arrays.now groups.now → ⊥ }
+    {
+        let mut locations = own_locations(alloc, arrays)?;
+        if !locate_groups(&mut locations, groups) {
+            return Err(GroupError::Unfit);
+        }
+        let mut vectors = Vectors {
+            arrays: new_arrays(alloc, &locations, groups)?,
+            locations,
+            groups: copied(alloc, groups)?,
+        };
+        vectors.load_all(arrays);
+        Ok(vectors)
+    }
+
+    /// Puts all entries.
+    fn load_all(&mut self, arrays: &[Sequence<i64>])
+        requires count { length arrays.now ≡ length self.old.vectors }
+        requires even { (i : ℕ) → length (slice_index_or arrays.now i []) ≡ length (slice_index_or self.old.vectors i []) }
+        ensures { self.new ≡ with_vectors self.old arrays.now }
+    {
+        'arrays: for (vector, array) in arrays.iter().enumerate() {
+            self.load(vector, array.as_slice());
+        }
+    }
+
+    /// Puts all entries of a vector.
+    fn load(&mut self, vector: usize, numbers: &[i64])
+        requires vector { vector < length self.old.vectors }
+        requires even { length numbers.now ≡ length (slice_index_or self.old.vectors vector []) }
+        ensures { self.new ≡ with_vectors self.old (slice_set self.old.vectors vector numbers.now) }
+    {
+        'numbers: for (vertex, number) in numbers.iter().enumerate() {
+            self.put(vector, vertex, *number);
+        }
+    }
+
+    /// The array of group k, from 0, or `None` where there are not so many: with g vectors in the group, the entry of
+    /// the j-th, from 0, at vertex v stands at place `v * g + j`.
+    pub fn group(&self, k: usize) -> Option<&[i64]>
+        ensures { MatchOption result (length self.now.groups ≤ k) (λ array. HasRows self.now.vectors (slice_index_or self.now.groups k []) array.now) }
+    {
+        if k >= self.groups.len() {
+            return None;
+        }
+        Some(self.arrays[self.locations.len() + k].as_slice())
     }
 
     /// Puts an entry of a vector; where there is no such place nothing is changed.

@@ -1,4 +1,4 @@
-use Rattle.std.proofs.Common.{◌≡◌, ◌+◌, ◌*◌, ◌<◌, ap, sym, ◌∙◌, subst, arith, if◌then◌else◌, nat_lt, List, [], ℤ, ℕ, length, get_or, pos}
+use Rattle.std.proofs.Common.{◌≡◌, ◌+◌, ◌*◌, ◌<◌, ap, sym, ◌∙◌, subst, arith, if◌then◌else◌, nat_lt, List, [], ℤ, length, get_or, pos}
 use Rattle.std.proofs.lemmas.List.{get_or_read}
 use Rattle.algorithm_meaning.specs.Value.{entry}
 use Rattle.vectors.specs.declared.location.Location.{Location}

@@ -1,11 +1,11 @@
-use Rattle.std.proofs.Common.{rules, ◌≡◌, ◌+◌, ◌*◌, ◌<◌, ◌≤◌, ◌^◌, ap, sym, ◌∙◌, subst, arith, List, ℤ, ℕ, length, set, get_or, [], pos, FitsSigned, to_z, of_z, w64, vec_len}
+use Rattle.std.proofs.Common.{◌≡◌, ◌+◌, ◌*◌, ◌<◌, ◌≤◌, ◌^◌, ap, sym, ◌∙◌, subst, arith, List, ℤ, length, set, get_or, [], to_z, of_z, w64}
 use Rattle.std.proofs.lemmas.Int.{to_z-of_z}
 use Rattle.std.proofs.lemmas.List.{get_or_read}
 use Rattle.algorithm_meaning.specs.Value.{with_entry}
 use Rattle.vectors.specs.declared.location.Location.{Location}
 use Rattle.vectors.specs.Vectors.{VectorsValue}
-use Rattle.vectors.specs.Layout.{IsLaidOut, location_at, nowhere, vectors_at}
-use Rattle.vectors.proofs.Layouts.{entry_set, entry_set_past, entry_set_nowhere, laid_out_after, place_fits}
+use Rattle.vectors.specs.Layout.{location_at, nowhere, vectors_at}
+use Rattle.vectors.proofs.Layouts.{entry_set, entry_set_past, place_fits}
 use Rattle.vectors.proofs.vectors.Vectors.put.Goals as goal
 
 pub overflow_mul-place : goal.overflow_mul-place
