@@ -18,5 +18,5 @@ returns c =
     let here : c.index.result.now ≡ get_or arrays (c.len-2.result + k) [] = get_or_read arrays (c.len-2.result + k) c.index.result.now below c.index.ensures [] in
     let same : get_or arrays (length ls + k) [] ≡ c.as_slice.result.now = sym (c.as_slice.ensures ∙ here ∙ ap (λ (n : ℕ). get_or arrays (n + k) []) count) in
     let rows = group_has_rows arrays ls groups c.self.invariant k inside in
-    subst (λ (now : VectorsValue). HasRows now.vectors (get_or now.groups k []) c.as_slice.result.now) c.self.view_is
-    (subst (HasRows (vectors_at arrays ls) (get_or groups k [])) same rows)
+    subst (λ (now : VectorsValue). (k < length now.groups) × HasRows now.vectors (get_or now.groups k []) c.as_slice.result.now) c.self.view_is
+    (inside, subst (HasRows (vectors_at arrays ls) (get_or groups k [])) same rows)
