@@ -8,3 +8,4 @@ pub mod Given
 pub mod KernelLaws
 pub mod VertexRuns
 pub mod VertexRows
+pub mod ShapeLaws

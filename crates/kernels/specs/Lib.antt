@@ -9,3 +9,4 @@ pub mod Expressions
 pub mod Chain
 pub mod Columns
 pub mod Rooms
+pub mod Shapes
