@@ -2,7 +2,7 @@
 
 use crate::random::Random;
 use crate::timing::Times;
-use kernels::{Around, Block, EdgeKernel, Gift, Vectors};
+use kernels::{Around, Block, EdgeKernel, Gift};
 use std::alloc::{AllocError, Global};
 use std::io;
 use std::rt::Clock;
@@ -11,6 +11,7 @@ use syntax::Reduction;
 use typed_tree::{
     Comparison, Condition, Endpoint, Function, Integer, Operand, Operator, Sequence, Slot, Step,
 };
+use vectors::Vectors;
 
 // How many vertices there are, as a power of 2, and how many pairs.
 const SCALE: u32 = 16;
@@ -139,7 +140,7 @@ impl Work {
             new: first.clone()?,
             first,
             second,
-            vectors: Vectors::new(arrays),
+            vectors: Vectors::new(alloc, arrays)?,
             block: Block::new(alloc),
         })
     }

@@ -1,5 +1,5 @@
 //! What expressions of `main` read.
-use crate::vectors::Vectors;
+use vectors::Vectors;
 
 /// What an expression of `main` reads: the vectors, the sizes of the vertex sets by their places, how many vertices
 /// there are, and the visible variables by their places.

@@ -14,6 +14,8 @@ mod forked_graphs;
 #[cfg(test)]
 mod forked_sets;
 #[cfg(test)]
+mod kernel_values;
+#[cfg(test)]
 mod script_devices;
 #[cfg(test)]
 mod sets_of_vertices;

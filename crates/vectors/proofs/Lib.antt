@@ -1,0 +1,4 @@
+pub mod Rows
+pub mod Layouts
+pub mod Groupings
+pub mod Loads

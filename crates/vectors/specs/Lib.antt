@@ -1,0 +1,4 @@
+pub mod Vectors
+pub mod Changes
+pub mod Lanes
+pub mod Layout

@@ -1,0 +1,25 @@
+//! Why vectors are not put in groups.
+ghost use Rattle.std.specs.Prelude.{◌≡◌};
+ghost use Rattle.vectors.specs.declared.error.GroupError.TheVariants.{NoMemory};
+
+use std::alloc::AllocError;
+use thiserror::Error;
+
+/// Why vectors are not put in groups.
+#[derive(Clone, Copy, Debug, PartialEq, Eq, Error)]
+pub enum GroupError {
+    /// A group names what is no vector, or a vector that stands in a group already, or vectors with other numbers of
+    /// entries than its first.
+    #[error("the groups do not fit the vectors")]
+    Unfit,
+    #[error("out of memory")]
+    NoMemory,
+}
+
+impl From<AllocError> for GroupError {
+    ghost from_gives = { λ _ e. e ≡ NoMemory };
+
+    fn from(_error: AllocError) -> GroupError {
+        GroupError::NoMemory
+    }
+}

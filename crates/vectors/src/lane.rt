@@ -1,0 +1,30 @@
+//! One vector, lent to be read.
+ghost use Rattle.std.specs.Prelude.{◌≡◌, ◌*◌, ◌<◌, ◌≤◌, length};
+
+/// One vector, lent to be read. The entry of vertex v stands at place `v * stride + first`.
+#[derive(Clone, Copy)]
+pub struct Lane<'a> {
+    pub(crate) numbers: &'a [i64],
+    pub(crate) first: usize,
+    pub(crate) stride: usize,
+    pub(crate) vertices: usize,
+    ghost in_row: { first < stride },
+    ghost whole: { vertices * stride ≤ length numbers.now },
+}
+
+impl<'a> Lane<'a> {
+    ghost use Rattle.vectors.specs.Lanes.{lane_entry};
+
+    /// The entry at a vertex, 0 where there is none.
+    #[inline(always)]
+    #[tactic(auto, using(crate::proofs::Rows::place_in_row))]
+    pub fn get(self, vertex: usize) -> i64
+        ensures { result ≡ lane_entry self.entry vertex }
+    {
+        if vertex < self.vertices {
+            self.numbers[vertex * self.stride + self.first]
+        } else {
+            0
+        }
+    }
+}
