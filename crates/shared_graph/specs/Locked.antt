@@ -4,7 +4,7 @@ use Rattle.version_list.specs.Machine.{State}
 use Rattle.version_list.specs.Timeline.{Timeline}
 use Rattle.version_list.specs.declared.error.VersionError.{VersionError}
 use Rattle.version_list.specs.declared.error.VersionError.TheVariants.{VertexRange, BadChunkSize, NotKept, NotHeld, HistoryFull, NoMemory}
-use Rattle.shared_graph.specs.Passes.{Pass}
+use Rattle.shared_graph.specs.Passes.{Pass, Shows}
 use Rattle.shared_graph.specs.declared.entry.Entry.{Entry}
 use Rattle.shared_graph.specs.Histories.{steps_of, own, state_at}
 
@@ -18,11 +18,11 @@ pub record IsTimelineOf (base : State) (log : List Entry) (t : Timeline) : Type 
 abbrev pub AreCounts : List Entry → List ℕ → Type 0
 AreCounts log counts = (reader : ℕ) → reader < length counts → slice_index counts reader ≡ length (own reader log)
 
--- a reader after a refusal at the end of this history, which it then shows; where memory ran out it is as it was
-abbrev pub after_refusal : VersionError → Pass → List Entry → Pass
-after_refusal NoMemory me log = me
-after_refusal VertexRange me log = record me { shown = log }
-after_refusal BadChunkSize me log = record me { shown = log }
-after_refusal NotKept me log = record me { shown = log }
-after_refusal NotHeld me log = record me { shown = log }
-after_refusal HistoryFull me log = record me { shown = log }
+-- a reader shows this history, at whose end a step is refused; where memory ran out it is as it was
+abbrev pub ShowsRefusal : State → VersionError → Pass → List Entry → Pass → Type 0
+ShowsRefusal base NoMemory old log new = new ≡ old
+ShowsRefusal base VertexRange old log new = Shows base old new × (new.shown ≡ log)
+ShowsRefusal base BadChunkSize old log new = Shows base old new × (new.shown ≡ log)
+ShowsRefusal base NotKept old log new = Shows base old new × (new.shown ≡ log)
+ShowsRefusal base NotHeld old log new = Shows base old new × (new.shown ≡ log)
+ShowsRefusal base HistoryFull old log new = Shows base old new × (new.shown ≡ log)

@@ -1,5 +1,5 @@
 -- What a reader shows, and how a step changes it.
-use Rattle.std.specs.Prelude.{◌≡◌, ℕ, List, [], ◌∷◌, ◌++◌}
+use Rattle.std.specs.Prelude.{◌≡◌, ℕ, zero, suc, List, [], ◌∷◌, ◌++◌}
 use mathlib.Core.List.{IsPrefix}
 use Rattle.version_list.specs.declared.step.Step.{Step}
 use Rattle.version_list.specs.declared.step.Reply.{Reply}
@@ -18,6 +18,11 @@ pub record Pass : Type 0 where
 -- a reader that has shown nothing
 abbrev pub fresh : ℕ → Pass
 fresh number = record { number = number; shown = []; last = [] }
+
+-- the readers 0 to n - 1, which have shown nothing
+abbrev pub fresh_passes : ℕ → List Pass
+fresh_passes zero = []
+fresh_passes (suc n) = fresh_passes n ++ fresh n ∷ []
 
 -- the reader made the step: the history shown extends the one before and ends in this step with this reply, and the reader's own entries in it are those after its last accepted step, and this one
 pub record HasMade (base : State) (old : Pass) (step : Step) (reply : Reply) (new : Pass) : Type 0 where

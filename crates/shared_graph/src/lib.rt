@@ -1,6 +1,4 @@
-//! A graph that many threads read while some commit.
-//!
-//! A [`SharedGraph`] has the versions of a graph under a lock, and publishes the newest one.
+//! A graph that many threads read while some commit, hold and release.
 #![tactic(auto)]
 
 mod book;
@@ -9,9 +7,11 @@ mod entry;
 mod error;
 mod front;
 mod held;
+mod ledger;
 mod naming;
 mod publisher;
 mod reader;
+mod shared;
 mod shown;
 mod snapshot;
 
@@ -21,4 +21,5 @@ pub use error::SharedError;
 pub use held::{Held, Unreleased};
 pub use naming::Naming;
 pub use reader::{Reader, Token};
+pub use shared::{MAX_READERS, SharedGraph};
 pub use snapshot::Snapshot;

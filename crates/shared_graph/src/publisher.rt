@@ -94,12 +94,12 @@ impl<R: Wait + Drop> Publisher<R> {
     {
         let (first, second) = (value.again()?, value.again()?);
         let mut writer = ShownWriter::new(alloc, first, second, readers)?;
-        let published = writer.append(value).is_ok() && publish_once(&mut writer, &rt);
-        if published {
-            Ok(Publisher { writer, rt })
-        } else {
-            writer.take(&rt);
-            Err(AllocError)
+        match writer.append(value) {
+            Ok(()) if publish_once(&mut writer, &rt) => Ok(Publisher { writer, rt }),
+            _ => {
+                writer.take(&rt);
+                Err(AllocError)
+            }
         }
     }
 

@@ -224,7 +224,7 @@ acquire_room s which number version is = elim (cases_Bool (is_kept s (number_ask
 ]
 
 -- a commit that was prepared is finished
-module _ (a b : Inside) (kept : IsFaithful a) (batch : List Entry) (p : Prepared) (ready : IsPrepared (timeline a) batch p) (newest : b.newest ≡ p.graph) (number : b.number ≡ a.number + 1)
+module _ (a b : Inside) (kept : IsFaithful a) (batch : List Entry) (p : Prepared) (ready : IsPrepared (timeline a) batch p) (newest : b.newest ≡ p.graph) (number : b.number ≡ p.number)
     (same_room : b.room ≡ a.room) (given : b.given ≡ a.given) (held : b.held ≡ a.held) (history : b.history.items ≡ a.history.items ++ p.done ∷ [])
     (capacity : vec_capacity b.history ≡ vec_capacity a.history) (unreserved : b.reserved ≡ 0) where
   abbrev before : State
@@ -248,7 +248,7 @@ module _ (a b : Inside) (kept : IsFaithful a) (batch : List Entry) (p : Prepared
   pub kept_commit : IsFaithful b
   kept_commit = kept_step a b kept (Commit batch) (Version (newest_number before + 1)) ready.is_answer tt same_vertices same_room items unreserved
       (subst (Shows b) (sym (ap (changed before (Commit batch)) ready.is_answer))
-      (shows_committed a b before kept.state entry same_room items unreserved batch (commit_room before batch (newest_number before + 1) ready.is_answer) next_is number given held fits))
+      (shows_committed a b before kept.state entry same_room items unreserved batch (commit_room before batch (newest_number before + 1) ready.is_answer) next_is (number ∙ ready.number ∙ ap (λ n. n + 1) (sym kept.state.number)) given held fits))
 
   pub accepts_commit : Accepts (timeline a) p.done.step p.done.reply (timeline b)
   accepts_commit = subst (λ (d : Done). Accepts (timeline a) d.step d.reply (timeline b)) (sym ready.done)

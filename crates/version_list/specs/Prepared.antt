@@ -17,6 +17,7 @@ use Rattle.version_list.specs.Timeline.{Timeline, IsAccepted, Refuses}
 pub record IsPrepared (t : Timeline) (batch : List Entry) (p : Prepared) : Type 0 where
   pub is_answer : reply_to t.state (Commit batch) ≡ Version (newest_number t.state + 1)
   pub done : p.done ≡ record { step = Commit batch; reply = Version (newest_number t.state + 1) }
+  pub number : p.number ≡ newest_number t.state + 1
   pub graph : p.graph ≡ graph_after (version_graph t.state (newest_number t.state)) batch
   pub reserved : 1 ≤ t.reserved
 

@@ -2,10 +2,11 @@ use crate::step::{Done, Ticket, Which};
 use tree_batch::Graph;
 
 /// A commit whose memory is taken, of [`Versions::prepare`](crate::Versions::prepare): its entry
-/// in the history, and the graph of the version that it makes.
+/// in the history, and the number and the graph of the version that it makes.
 #[derive(Debug, Drop)]
 pub struct Prepared {
     pub done: Done,
+    pub number: u64,
     pub graph: Graph,
 }
 

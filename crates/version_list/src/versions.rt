@@ -142,14 +142,18 @@ impl Versions {
     pub fn finish(&mut self, prepared: Prepared) -> u64
         requires { (batch : List Entry) × IsPrepared self.old batch prepared }
         ensures accepted { Accepts self.old prepared.done.step prepared.done.reply self.new }
-        ensures number { prepared.done.reply ≡ reply.Version result }
+        ensures number { result ≡ prepared.number }
     {
-        let Prepared { done, graph } = prepared;
+        let Prepared {
+            done,
+            number,
+            graph,
+        } = prepared;
         self.history.push_reserved(done);
         self.newest = graph;
-        self.number += 1;
+        self.number = number;
         self.reserved = 0;
-        self.number
+        number
     }
 
     /// Holds a version by a new ticket, and answers the ticket and the version's graph, which
@@ -333,11 +337,16 @@ impl Versions {
     {
         self.history.reserve(self.held.ticket_count() + 1)?;
         self.reserved = 1;
+        let number = self.number + 1;
         let done = Done {
             step: Step::Commit(batch),
-            reply: Reply::Version(self.number + 1),
+            reply: Reply::Version(number),
         };
-        Ok(Prepared { done, graph })
+        Ok(Prepared {
+            done,
+            number,
+            graph,
+        })
     }
 
     /// The number of the version that is asked for.
