@@ -117,9 +117,9 @@ holds_version t which p base log e h is ready step_is version graph =
 
 -- a release of an open ticket is accepted
 pub release_accepted : {A : Type 0} (old new : Timeline) (number : ℕ) (r : Result A VersionError) → reply_to old.state (Release number) ≡ Released → IfErr r (λ e. e ≡ NotHeld)
-    → TimelineAnswers old (Release number) (λ x. Released) r new → Accepts old (Release number) Released new
-release_accepted old new number (Ok x) is only a = a
-release_accepted old new number (Err e) is only a =
-    let refused = subst (λ (d : VersionError). TimelineAnswers old (Release number) (λ x. Released) (Err d) new) only a in
+    → TimelineAnswers {A = A} old (Release number) (λ x. Released) r new → Accepts old (Release number) Released new
+release_accepted {A} old new number (Ok x) is only a = a
+release_accepted {A} old new number (Err e) is only a =
+    let refused = subst (λ (d : VersionError). TimelineAnswers {A = A} old (Release number) (λ x. Released) (Err d) new) only a in
     let no : Released ≡ Refused 122 = sym is ∙ refused.is_answer in
     absurd cc

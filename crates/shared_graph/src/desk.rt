@@ -21,7 +21,10 @@ use std::thread::Threads;
 use tree_batch::Batch;
 use version_list::{Done, MAX_HISTORY, Reply, Step, VersionError, Versions, Which};
 
-/// At how many levels a batch goes by halves on two threads.
+/// From how many entries on a batch is worth the start of threads.
+const MANY_ENTRIES: usize = 4096;
+
+/// At how many levels such a batch goes by halves on two threads.
 const FORKS: u32 = 2;
 
 /// The versions, which stand in the replay of their history, and the history as the ledger has it,
@@ -66,12 +69,18 @@ impl<J: Naming, R: Wait + Drop> Desk<J, R> {
         ensures err { IfErr result (λ _. self.new ≡ self.old) }
     {
         prove!(self.versions.history().len() as u64 <= MAX_HISTORY);
-        let prepared = match self.versions.prepare(rt, alloc, batch, FORKS) {
+        let forks = if batch.entries().len() < MANY_ENTRIES {
+            0
+        } else {
+            FORKS
+        };
+        let prepared = match self.versions.prepare(rt, alloc, batch, forks) {
             Ok(prepared) => prepared,
             Err(error) => return Err(self.ledger.refuse(rt, me, error)),
         };
         let graph = Arc::new(alloc, prepared.graph.clone()?)?;
-        self.ledger.record(rt, me, &prepared.done, prepared.number, graph);
+        self.ledger
+            .record(rt, me, &prepared.done, prepared.number, graph);
         Ok(self.versions.finish(prepared))
     }
 
@@ -99,7 +108,8 @@ impl<J: Naming, R: Wait + Drop> Desk<J, R> {
             step: Step::Acquire(which),
             reply: Reply::Ticket(prepared.ticket.number, prepared.version),
         };
-        self.ledger.record(rt, me, &done, newest.number, newest.graph);
+        self.ledger
+            .record(rt, me, &done, newest.number, newest.graph);
         let number = prepared.version;
         let (ticket, _) = self.versions.finish_acquire(prepared);
         Ok(Held::new(ticket, Snapshot { number, graph }))
@@ -133,7 +143,8 @@ impl<J: Naming, R: Wait + Drop> Desk<J, R> {
             step: Step::Release(ticket.number),
             reply: Reply::Released,
         };
-        self.ledger.record(rt, me, &done, newest.number, newest.graph);
+        self.ledger
+            .record(rt, me, &done, newest.number, newest.graph);
         self.versions.release(ticket).unwrap();
         held.into_snapshot();
         Ok(())

@@ -130,13 +130,7 @@ impl<J: Naming> Front<J> {
         let count = self.count;
         let found = book
             .count
-            .compare_exchange::<Add, Nothing>(
-                count,
-                count + 1,
-                &mut seen,
-                &mut offer,
-                &mut pen,
-            );
+            .compare_exchange::<Add, Nothing>(count, count + 1, &mut seen, &mut offer, &mut pen);
         if found != count {
             return false;
         }

@@ -123,7 +123,12 @@ impl<J: Naming, R: Wait + Drop> Ledger<J, R> {
 
     /// Why the versions refused a reader's step, at the end of the history that the reader then shows.
     /// Where memory ran out, the reader is as it was.
-    pub(crate) fn refuse<T: Wait>(&self, rt: &T, me: &mut Reader<J>, error: VersionError) -> SharedError
+    pub(crate) fn refuse<T: Wait>(
+        &self,
+        rt: &T,
+        me: &mut Reader<J>,
+        error: VersionError,
+    ) -> SharedError
         ensures error { result ≡ from_version error }
         ensures shown { ShowsRefusal J.base error me.old self.now me.new }
     {

@@ -51,7 +51,15 @@ impl<J: Naming, R: Wait + Drop> SharedGraph<J, R> {
         requires base { J.base ≡ opened vertices 16777216 }
         ensures { Opens vertices chunk_size readers (λ r. r.1.items) result }
     {
-        SharedGraph::open_with_room(rt, alloc, opening, vertices, chunk_size, readers, MAX_HISTORY)
+        SharedGraph::open_with_room(
+            rt,
+            alloc,
+            opening,
+            vertices,
+            chunk_size,
+            readers,
+            MAX_HISTORY,
+        )
     }
 
     /// The same with room for at most `room` entries in the history; a larger room than
@@ -74,8 +82,7 @@ impl<J: Naming, R: Wait + Drop> SharedGraph<J, R> {
             return Err(SharedError::BadSeats);
         }
         let graph = Arc::new(alloc, versions.newest().1.clone()?)?;
-        let (ledger, passes) =
-            Ledger::open(rt, alloc, opening, vertices, room, graph, readers)?;
+        let (ledger, passes) = Ledger::open(rt, alloc, opening, vertices, room, graph, readers)?;
         let desk = Mutex::new(Desk::new(versions, ledger));
         Ok((SharedGraph { desk }, passes))
     }
@@ -126,12 +133,7 @@ impl<J: Naming, R: Wait + Drop> SharedGraph<J, R> {
     /// Errors, which give the held version back: `NotHeld` where its ticket is not open, at the end
     /// of the history that the reader then shows; else `NoMemory`, and then graph and reader are as
     /// they were.
-    pub fn release<T: Wait>(
-        &self,
-        rt: &T,
-        me: &mut Reader<J>,
-        held: Held,
-    ) -> Result<(), Unreleased>
+    pub fn release<T: Wait>(&self, rt: &T, me: &mut Reader<J>, held: Held) -> Result<(), Unreleased>
         ensures { AnswersRelease J.base me.old held result me.new }
     {
         self.desk.lock(rt).release(rt, me, held)

@@ -201,7 +201,7 @@ next_version s batch number is =
     let count : newest_number after ≡ newest_number s + 1 = length-append s.batches (batch ∷ []) in (
       ap newest_number after_is ∙ count,
       ap (λ (t : State). version_graph t (newest_number s + 1)) after_is ∙ ap (version_graph after) (sym count) ∙ newest_graph after
-      ∙ graph_through-pushed s.opening s.batches batch ∙ ap (λ (g : Digraph). graph_after g batch) (sym (newest_graph s)),
+          ∙ graph_through-pushed s.opening s.batches batch ∙ ap (λ (g : Digraph). graph_after g batch) (sym (newest_graph s)),
     )
 
 -- a hold changes no version
