@@ -4,7 +4,7 @@ use Rattle.tree_batch.specs.Digraph.{empty_graph, graph_through}
 use Rattle.version_list.specs.declared.versions.Versions.TheInside.{Inside}
 use Rattle.version_list.specs.Machine.{State, opened, newest_number, version_graph}
 use Rattle.version_list.specs.Timeline.{Timeline, IsLegal, replay}
-use Rattle.version_list.specs.Held.{Holds, AreTickets}
+use Rattle.version_list.specs.Held.{Holds, AreTickets, HasRoom}
 
 -- the state in which the versions began
 abbrev pub base : Inside → State
@@ -12,9 +12,9 @@ base a = opened a.newest.vertices a.room
 
 -- the timeline that the fields stand for
 abbrev pub timeline : Inside → Timeline
-timeline a = record { base = base a; history = a.history.items; state = replay (base a) a.history.items }
+timeline a = record { base = base a; history = a.history.items; state = replay (base a) a.history.items; reserved = a.reserved }
 
--- the fields are those of the state, and memory is kept for the release of each open ticket
+-- the fields are those of the state, and memory is kept for the release of each open ticket, and for what is reserved beside: with two entries room for a ticket
 pub record Shows (a : Inside) (s : State) : Type 0 where
   pub opening : s.opening ≡ empty_graph a.newest.vertices
   pub number : a.number ≡ newest_number s
@@ -27,7 +27,8 @@ pub record Shows (a : Inside) (s : State) : Type 0 where
   pub within_room : a.room ≤ 16777216
   pub few : a.number + a.given ≤ length a.history.items
   pub fits : length a.history.items + length s.open_tickets ≤ a.room
-  pub reserved : length a.history.items + length s.open_tickets ≤ vec_capacity a.history
+  pub reserved : length a.history.items + length s.open_tickets + a.reserved ≤ vec_capacity a.history
+  pub ticket_room : 2 ≤ a.reserved → HasRoom a.held
 
 -- the history is legal, and the fields are those of its state
 pub record IsFaithful (a : Inside) : Type 0 where

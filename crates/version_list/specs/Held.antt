@@ -1,6 +1,6 @@
 -- For proofs only: what is kept of open tickets, and of the versions that they hold.
 use Rattle.std.specs.Prelude.{◌≡◌, ℕ, ◌+◌, ◌-◌, ◌<◌, ◌==◌, nat_eq, nat_lt, if◌then◌else◌, List, [], ◌∷◌, length, Option, Some, None}
-use Rattle.indexmap.specs.IndexMap.{get, index_map_len}
+use Rattle.indexmap.specs.IndexMap.{get, index_map_len, spare}
 use Rattle.tree_batch.specs.Digraph.{Digraph}
 use Rattle.version_list.specs.declared.held.HeldVersion.{HeldVersion}
 use Rattle.version_list.specs.declared.held.HeldVersions.{HeldVersions}
@@ -30,6 +30,10 @@ pub record Holds (held : HeldVersions) (open_tickets : List OpenTicket) (graph_o
   pub tickets : (number : ℕ) → get nat_eq held.tickets number ≡ ticket_version open_tickets number
   pub count : index_map_len held.tickets ≡ length open_tickets
   pub versions : (k : ℕ) → get nat_eq held.versions k ≡ held_by (holder_count open_tickets k) (graph_of k)
+
+-- there is room for one more ticket and one more version
+abbrev pub HasRoom : HeldVersions → Type 0
+HasRoom held = (0 < spare held.tickets) × (0 < spare held.versions)
 
 -- no two tickets have one number
 abbrev pub AreDistinct : List OpenTicket → Type 0

@@ -1,5 +1,6 @@
 pub mod Machine
 pub mod Timeline
+pub mod Prepared
 pub mod Held
 pub mod Fields
 pub mod Refusal

@@ -27,15 +27,16 @@ abbrev pub replay : State → List Done → State
 replay s [] = s
 replay s (done ∷ history) = replay (state_after s done.step) history
 
--- the state in which the versions began, the history since, and the state now
+-- the state in which the versions began, the history since, the state now, and for how many entries beside those of releases memory is reserved
 pub record Timeline : Type 0 where
   pub base : State
   pub history : List Done
   pub state : State
+  pub reserved : ℕ
 
 -- a timeline at its beginning
 abbrev pub beginning : State → Timeline
-beginning s = record { base = s; history = []; state = s }
+beginning s = record { base = s; history = []; state = s; reserved = 0 }
 
 -- the machine answers the step so and accepts it, and the new timeline is the old one with the step at its end
 pub record Accepts (old : Timeline) (step : Step) (reply : Reply) (new : Timeline) : Type 0 where
@@ -44,6 +45,7 @@ pub record Accepts (old : Timeline) (step : Step) (reply : Reply) (new : Timelin
   pub base : new.base ≡ old.base
   pub history : new.history ≡ old.history ++ record { step = step; reply = reply } ∷ []
   pub state : new.state ≡ state_after old.state step
+  pub reserved : new.reserved ≡ 0
 
 -- the machine refuses the step with the error's number, and nothing is changed
 pub record Refuses (old : Timeline) (step : Step) (error : VersionError) (new : Timeline) : Type 0 where
@@ -63,7 +65,7 @@ Answers old step reply (Err HistoryFull) new = Refuses old step HistoryFull new
 -- the timeline after a step that was answered so
 abbrev pub with_reply : Timeline → Step → Reply → Timeline
 with_reply t step (Refused number) = t
-with_reply t step reply = record { base = t.base; history = t.history ++ record { step = step; reply = reply } ∷ []; state = state_after t.state step }
+with_reply t step reply = record { base = t.base; history = t.history ++ record { step = step; reply = reply } ∷ []; state = state_after t.state step; reserved = 0 }
 
 -- what the steps are answered, one after another
 abbrev pub replies_to : State → List Step → List Reply

@@ -1,8 +1,8 @@
-ghost use Rattle.std.specs.Prelude.{◌≡◌, ℕ, ◌+◌, ◌<◌, ◌^◌, ◌==◌, if◌then◌else◌, nat_eq, None, Some, is_some, IsSome, OnErr, OnOk};
+ghost use Rattle.std.specs.Prelude.{◌≡◌, ℕ, ◌+◌, ◌<◌, ◌^◌, ◌==◌, if◌then◌else◌, nat_eq, None, Some, is_some, IsSome, OnOk};
 ghost use Rattle.std.specs.Option.{option_map, option_copied};
-ghost use Rattle.indexmap.specs.IndexMap.{IsEmpty, IsUnchanged, get, index_map_len, spare};
+ghost use Rattle.indexmap.specs.IndexMap.{IsEmpty, IsUnchanged, get, index_map_len};
 ghost use Rattle.version_list.specs.declared.held.HeldVersion.{HeldVersion};
-ghost use Rattle.version_list.specs.Held.{one_more, one_fewer};
+ghost use Rattle.version_list.specs.Held.{one_more, one_fewer, HasRoom};
 
 use indexmap::IndexMap;
 use std::alloc::{AllocError, Global};
@@ -69,42 +69,35 @@ impl HeldVersions {
     pub(crate) fn reserve(&mut self) -> Result<(), AllocError>
         ensures tickets { IsUnchanged self.old.tickets self.new.tickets }
         ensures versions { IsUnchanged self.old.versions self.new.versions }
-        ensures ok { OnOk result ((0 < spare self.new.tickets) × (0 < spare self.new.versions)) }
+        ensures ok { OnOk result (HasRoom self.new) }
+        ensures err { HasRoom self.old → HasRoom self.new }
     {
         self.tickets.reserve(1)?;
         self.versions.reserve(1)
     }
 
-    /// Opens a ticket on a version, whose graph this is: it gets a second owner where no other ticket holds the
-    /// version.
-    pub(crate) fn open(
-        &mut self,
-        ticket: u64,
-        version: u64,
-        graph: &Graph,
-    ) -> Result<(), AllocError>
-        requires room { (0 < spare self.old.tickets) × (0 < spare self.old.versions) }
+    /// Opens a ticket on a version, whose graph this is. The graph is kept where no other ticket holds the
+    /// version. Takes no memory.
+    pub(crate) fn open(&mut self, ticket: u64, version: u64, graph: Graph)
+        requires room { HasRoom self.old }
         requires few { (held : HeldVersion) → get nat_eq self.old.versions version ≡ Some held
             → held.holders + 1 < 2 ^ 64 }
-        ensures tickets { OnOk result ((q : ℕ) → get nat_eq self.new.tickets q
-            ≡ (if ticket == q then Some version else get nat_eq self.old.tickets q)) }
-        ensures count { OnOk result (get nat_eq self.old.tickets ticket ≡ None
-            → index_map_len self.new.tickets ≡ index_map_len self.old.tickets + 1) }
-        ensures versions { OnOk result ((q : ℕ) → get nat_eq self.new.versions q
-            ≡ (if version == q then Some (one_more graph.now (get nat_eq self.old.versions version))
-            else get nat_eq self.old.versions q)) }
-        ensures unchanged { OnErr result (IsUnchanged self.old.tickets self.new.tickets × IsUnchanged self.old.versions self.new.versions) }
+        ensures tickets { (q : ℕ) → get nat_eq self.new.tickets q
+            ≡ (if ticket == q then Some version else get nat_eq self.old.tickets q) }
+        ensures count { get nat_eq self.old.tickets ticket ≡ None
+            → index_map_len self.new.tickets ≡ index_map_len self.old.tickets + 1 }
+        ensures versions { (q : ℕ) → get nat_eq self.new.versions q
+            ≡ (if version == q then Some (one_more graph (get nat_eq self.old.versions version))
+            else get nat_eq self.old.versions q) }
     {
         match self.versions.get_mut(&version) {
             Some(held) => held.holders += 1,
             None => {
-                let graph = graph.clone()?;
                 let held = HeldVersion { graph, holders: 1 };
                 self.versions.insert(version, held).unwrap();
             }
         }
         self.tickets.insert(ticket, version).unwrap();
-        Ok(())
     }
 
     /// Closes an open ticket, and answers its version, which goes where no other ticket holds it.

@@ -9,9 +9,11 @@
 
 mod error;
 mod held;
+mod prepared;
 mod step;
 mod versions;
 
 pub use error::VersionError;
+pub use prepared::{Prepared, PreparedAcquire};
 pub use step::{Done, Reply, Step, Ticket, Which};
 pub use versions::{MAX_HISTORY, Versions};

@@ -1,15 +1,20 @@
-ghost use Rattle.std.specs.Prelude.{◌≡◌, ◌+◌, ◌^◌, ◌≤◌, ◌<◌, if◌then◌else◌, IfOk, IfErr, OnOk, vec_len, vec_capacity};
+ghost use Rattle.std.specs.Prelude.{◌≡◌, ◌+◌, ◌^◌, ◌≤◌, ◌<◌, if◌then◌else◌, IfOk, IfErr, OnOk, List, length, vec_len, vec_capacity};
 ghost use Rattle.std.specs.Option.{option_copied};
-ghost use Rattle.indexmap.specs.IndexMap.{IsUnchanged, index_map_len, spare};
+ghost use Rattle.indexmap.specs.IndexMap.{IsUnchanged, index_map_len};
+ghost use Rattle.tree_batch.specs.declared.batch.Entry.{Entry};
 ghost use Rattle.tree_batch.specs.Entry.{names_outside};
-ghost use Rattle.version_list.specs.declared.error.VersionError.TheVariants.{VertexRange, NotHeld, HistoryFull};
+ghost use Rattle.tree_batch.specs.Digraph.{graph_after};
+ghost use Rattle.version_list.specs.declared.error.VersionError.TheVariants.{VertexRange, NotHeld, HistoryFull, NoMemory};
 ghost use Rattle.version_list.specs.declared.step.Step.TheVariants.{Commit, Acquire, Release};
 ghost use Rattle.version_list.specs.declared.step.Reply.TheVariants as reply;
-ghost use Rattle.version_list.specs.Machine.{lacks_room, newest_number, number_asked, version_graph, kept_graph, ticket_graph};
-ghost use Rattle.version_list.specs.Timeline.{IsLegal, replay, Opens, Answers, Takes, Runs};
+ghost use Rattle.version_list.specs.Machine.{lacks_room, newest_number, number_asked, version_graph, kept_graph, ticket_graph, is_open, reply_to};
+ghost use Rattle.version_list.specs.Timeline.{IsLegal, replay, Opens, Accepts, Answers, Takes, Runs};
+ghost use Rattle.version_list.specs.Prepared.{IsPrepared, IsPreparedAcquire, Prepares};
+ghost use Rattle.version_list.specs.Held.{HasRoom};
 
 use crate::error::VersionError;
 use crate::held::HeldVersions;
+use crate::prepared::{Prepared, PreparedAcquire};
 use crate::step::{Done, Reply, Step, Ticket, Which};
 use std::alloc::{AllocError, Global};
 use std::marker::Model;
@@ -28,6 +33,9 @@ pub struct Versions {
     history: Vec<Done>,
     given: u64,
     held: HeldVersions,
+    /// For how many entries memory is reserved, beside those of releases: 1 for a commit that was
+    /// prepared, 2 for a hold, else 0.
+    reserved: u64,
 }
 
 impl Model for Versions {
@@ -71,6 +79,7 @@ impl Versions {
             history: Vec::new(alloc),
             given: 0,
             held: HeldVersions::new(alloc),
+            reserved: 0,
         })
     }
 
@@ -85,16 +94,9 @@ impl Versions {
         if self.lacks_room(1) {
             return Err(refusal_when_full(&batch, self.newest.vertices()));
         }
-        let next = self.newest.apply(alloc, &batch)?;
-        self.history.reserve(self.held.ticket_count() + 1)?;
-        let number = self.number + 1;
-        self.history.push_reserved(Done {
-            step: Step::Commit(batch),
-            reply: Reply::Version(number),
-        });
-        self.newest = next;
-        self.number = number;
-        Ok(number)
+        let graph = self.newest.apply(alloc, &batch)?;
+        let prepared = self.reserve_entry(batch, graph)?;
+        Ok(self.finish(prepared))
     }
 
     /// As [`Versions::commit`], by [`Graph::apply_forked`] with halves on two threads at so many
@@ -110,21 +112,48 @@ impl Versions {
     ) -> Result<u64, VersionError>
         ensures { Answers self.old (Commit batch) reply.Version result self.new }
     {
+        let prepared = self.prepare(rt, alloc, batch, forks)?;
+        Ok(self.finish(prepared))
+    }
+
+    /// Takes the memory of a commit, and makes the next version's graph, by
+    /// [`Graph::apply_forked`]. Neither the versions nor the history are changed before
+    /// [`Versions::finish`].
+    ///
+    /// Errors: those of [`Versions::commit`].
+    pub fn prepare<R: Threads + Sync>(
+        &mut self,
+        rt: &R,
+        alloc: Global,
+        batch: Batch,
+        forks: u32,
+    ) -> Result<Prepared, VersionError>
+        ensures { Prepares self.old (Commit batch) 1 (λ t p. IsPrepared t batch p) result self.new }
+    {
         if self.lacks_room(1) {
             return Err(refusal_when_full(&batch, self.newest.vertices()));
         }
-        let forked = self.newest.apply_forked(rt, alloc, &batch, forks, &Quiet)?;
-        let entries = self.held.ticket_count() + 1;
-        self.history.reserve(entries)?;
-        let step = Step::Commit(batch);
-        let version = self.number + 1;
-        self.history.push_reserved(Done {
-            step,
-            reply: Reply::Version(version),
-        });
-        self.newest = forked;
-        self.number = version;
-        Ok(version)
+        let graph = self.newest.apply_forked(rt, alloc, &batch, forks, &Quiet)?;
+        self.reserve_entry(batch, graph)
+    }
+
+    /// Commits what was prepared, where no step was accepted since, and answers the new version's
+    /// number. Takes no memory, and cannot be refused.
+    pub fn finish(&mut self, prepared: Prepared) -> u64
+        requires { (batch : List Entry) × IsPrepared self.old batch prepared }
+        ensures accepted { Accepts self.old prepared.done.step prepared.done.reply self.new }
+        ensures number { result ≡ prepared.number }
+    {
+        let Prepared {
+            done,
+            number,
+            graph,
+        } = prepared;
+        self.history.push_reserved(done);
+        self.newest = graph;
+        self.number = number;
+        self.reserved = 0;
+        number
     }
 
     /// Holds a version by a new ticket, and answers the ticket and the version's graph, which
@@ -141,23 +170,64 @@ impl Versions {
         ensures graph { let version = number_asked self.old.state which in
             IfOk result (λ r. r.1 ≡ version_graph self.old.state version) }
     {
+        let prepared = self.prepare_acquire(which)?;
+        Ok(self.finish_acquire(prepared))
+    }
+
+    /// Takes the memory of a hold, and of the release of its ticket. Neither the versions nor the
+    /// history are changed before [`Versions::finish_acquire`].
+    ///
+    /// Errors: those of [`Versions::acquire`].
+    pub fn prepare_acquire(&mut self, which: Which) -> Result<PreparedAcquire, VersionError>
+        ensures { Prepares self.old (Acquire which) 2 (λ t p. IsPreparedAcquire t which p) result self.new }
+    {
         let version = self.number_asked(which);
-        let Some(kept) = self.kept_graph(version) else {
+        let Some(found) = self.kept_graph(version) else {
             return Err(VersionError::NotKept);
         };
         if self.lacks_room(2) {
             return Err(VersionError::HistoryFull);
         }
-        let graph = kept.clone()?;
+        let graph = found.clone()?;
+        let kept = graph.clone()?;
         reserve_ticket(&mut self.history, &mut self.held)?;
-        let number = self.given + 1;
-        self.held.open(number, version, &graph)?;
+        self.reserved = 2;
+        let ticket = Ticket {
+            number: self.given + 1,
+        };
+        Ok(PreparedAcquire {
+            which,
+            ticket,
+            version,
+            graph,
+            kept,
+        })
+    }
+
+    /// Holds the version that was prepared, where no step was accepted since, and answers the
+    /// ticket and the version's graph. Takes no memory, and cannot be refused.
+    pub fn finish_acquire(&mut self, prepared: PreparedAcquire) -> (Ticket, Graph)
+        requires { IsPreparedAcquire self.old prepared.which prepared }
+        ensures accepted { Accepts self.old (Acquire prepared.which)
+            (reply.Ticket prepared.ticket.number prepared.version) self.new }
+        ensures ticket { result.0 ≡ prepared.ticket }
+        ensures graph { result.1 ≡ prepared.graph }
+    {
+        let PreparedAcquire {
+            which,
+            ticket,
+            version,
+            graph,
+            kept,
+        } = prepared;
+        self.held.open(ticket.number, version, kept);
         self.history.push_reserved(Done {
             step: Step::Acquire(which),
-            reply: Reply::Ticket(number, version),
+            reply: Reply::Ticket(ticket.number, version),
         });
-        self.given = number;
-        Ok((Ticket { number }, graph))
+        self.given = ticket.number;
+        self.reserved = 0;
+        (ticket, graph)
     }
 
     /// Closes a ticket. Its version is dropped where no other ticket holds it and it is not the
@@ -178,6 +248,7 @@ impl Versions {
             step: Step::Release(ticket.number),
             reply: Reply::Released,
         });
+        self.reserved = 0;
         Ok(())
     }
 
@@ -195,6 +266,13 @@ impl Versions {
             replies.push_reserved(reply);
         }
         Ok(replies)
+    }
+
+    /// Whether the ticket is open, so that its release is not refused. Takes no memory.
+    pub fn is_open(&self, ticket: Ticket) -> bool
+        ensures { result ≡ is_open self.now.state ticket.number }
+    {
+        self.held.is_open(ticket.number)
     }
 
     /// The graph of the version that a ticket holds, or `None` where the ticket is not open.
@@ -220,6 +298,7 @@ impl Versions {
         ensures entries { result.now ≡ self.now.history }
         ensures legal { IsLegal self.now.base result.now }
         ensures replays { replay self.now.base result.now ≡ self.now.state }
+        ensures few { length result.now ≤ 16777216 }
     {
         &self.history
     }
@@ -247,6 +326,27 @@ impl Versions {
             Err(refusal) => Ok(Reply::Refused(refusal.number())),
             Ok(reply) => Ok(reply),
         }
+    }
+
+    /// Takes the memory of a commit's entry.
+    fn reserve_entry(&mut self, batch: Batch, graph: Graph) -> Result<Prepared, VersionError>
+        requires answer { reply_to self.old.state (Commit batch) ≡ reply.Version (newest_number self.old.state + 1) }
+        requires graph { graph ≡ graph_after (version_graph self.old.state (newest_number self.old.state)) batch }
+        ensures ok { IfOk result (λ p. (self.new ≡ record self.old { reserved = 1 }) × IsPrepared self.new batch p) }
+        ensures err { IfErr result (λ e. (e ≡ NoMemory) × (self.new ≡ self.old)) }
+    {
+        self.history.reserve(self.held.ticket_count() + 1)?;
+        self.reserved = 1;
+        let number = self.number + 1;
+        let done = Done {
+            step: Step::Commit(batch),
+            reply: Reply::Version(number),
+        };
+        Ok(Prepared {
+            done,
+            number,
+            graph,
+        })
     }
 
     /// The number of the version that is asked for.
@@ -287,7 +387,8 @@ fn reserve_ticket(history: &mut Vec<Done>, held: &mut HeldVersions) -> Result<()
     ensures capacity { vec_capacity history.old ≤ vec_capacity history.new }
     ensures tickets { IsUnchanged held.old.tickets held.new.tickets }
     ensures versions { IsUnchanged held.old.versions held.new.versions }
-    ensures room { OnOk result ((0 < spare held.new.tickets) × (0 < spare held.new.versions)) }
+    ensures room { OnOk result (HasRoom held.new) }
+    ensures kept_room { HasRoom held.old → HasRoom held.new }
     ensures entry_room { OnOk result
         (vec_len history.new + index_map_len held.new.tickets + 2 ≤ vec_capacity history.new) }
 {

@@ -1,0 +1,5 @@
+pub mod Prefixes
+pub mod Adding
+pub mod Publishing
+pub mod Growing
+pub mod Steps

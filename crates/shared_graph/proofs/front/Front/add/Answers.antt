@@ -1,0 +1,38 @@
+use Rattle.std.proofs.Common.{◌≡◌, ◌+◌, ◌==◌, true, ◌∙◌, ◌∷◌, ◌++◌, [], List, length, sym, ap, subst, arith, length-append}
+use Rattle.std.proofs.lemmas.Bool.{eq-eqb}
+use Rattle.version_list.specs.Timeline.{IsLegal}
+use Rattle.shared_graph.specs.declared.entry.Entry.{Entry}
+use Rattle.shared_graph.specs.Histories.{steps_of, MayFollow}
+use Rattle.shared_graph.proofs.Adding.{adds_moves}
+use Rattle.shared_graph.proofs.Growing.{legal-push}
+use Rattle.shared_graph.proofs.front.Front.add.Goals as goal
+
+pub compare_exchange-found-requires : goal.compare_exchange-found-requires
+compare_exchange-found-requires g c =
+    let h = c.args.book.now.count_is in
+    let offer = c.plain-offer.ensures in
+    let pen = c.no_pen-pen.ensures in
+    let seen = c.again-seen.result in
+    let at_book = ap (λ s. s.book) c.again-seen.ensures ∙ c.self.invariant.1 ∙ sym (ap (λ w. w.book) h) in
+    let len : length seen.log ≡ c.self.inside.count = ap (λ s. length s.log) c.again-seen.ensures ∙ sym c.self.invariant.0 in
+    let e : Entry = record { by = c.args.by; done = c.of.result.value } in (
+      ap (λ w. w.tracked) h,
+      at_book,
+      pen.0 ∙ at_book,
+      offer.0,
+      rw (ap (λ w. w.key) h, pen.1, offer.1, offer.3) (adds_moves seen.log e c.self.inside.count len),
+    )
+
+pub invariant_of-self : goal.invariant_of-self
+invariant_of-self g c =
+    let log = c.self.inside.seen.log in
+    let e : Entry = record { by = c.args.by; done = c.args.done.now } in
+    let found : c.compare_exchange-found.result == c.self.inside.count ≡ true = eq-eqb c.compare_exchange-found.result c.self.inside.count c.if-found-count.false in
+    let told = rw found at c.compare_exchange-found.ensures.7 in
+    let added : c.compare_exchange-found.new.seen.log ≡ log ++ e ∷ [] =
+    told ∙ ap (λ s. s.log ++ c.plain-offer.result.ask ∷ []) c.again-seen.ensures ∙ ap (λ (x : Entry). log ++ x ∷ []) (c.plain-offer.ensures.1 ∙ ap (λ d. record { by = c.args.by; done = d }) c.of.ensures) in
+    let may : MayFollow g.J.Naming.base log e.done = rw c.self.view_is c.requires.follows in (
+      omega (arith, c.self.invariant.0, ap length added, length-append log (e ∷ [])),
+      c.compare_exchange-found.ensures.0 ∙ ap (λ s. s.book) c.again-seen.ensures ∙ c.self.invariant.1,
+      subst (λ (l : List Entry). IsLegal g.J.Naming.base (steps_of l)) (sym added) (legal-push g.J.Naming.base log e c.self.invariant.2 may),
+    )

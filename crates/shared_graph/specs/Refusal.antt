@@ -1,0 +1,26 @@
+-- The numbers by which refusals are known.
+use Rattle.std.specs.Prelude.{ℕ}
+use Rattle.version_list.specs.declared.error.VersionError.{VersionError}
+use Rattle.version_list.specs.declared.error.VersionError.TheVariants as version
+use Rattle.shared_graph.specs.declared.error.SharedError.{SharedError}
+use Rattle.shared_graph.specs.declared.error.SharedError.TheVariants.{VertexRange, BadChunkSize, NotKept, NotHeld, HistoryFull, BadSeats, Closed, NoMemory}
+
+-- the number of a refusal
+abbrev pub number_of : SharedError → ℕ
+number_of VertexRange = 111
+number_of BadChunkSize = 103
+number_of NotKept = 121
+number_of NotHeld = 122
+number_of HistoryFull = 123
+number_of BadSeats = 124
+number_of Closed = 125
+number_of NoMemory = 900
+
+-- a refusal of the versions, as one of the shared graph
+abbrev pub from_version : VersionError → SharedError
+from_version version.VertexRange = VertexRange
+from_version version.BadChunkSize = BadChunkSize
+from_version version.NotKept = NotKept
+from_version version.NotHeld = NotHeld
+from_version version.HistoryFull = HistoryFull
+from_version version.NoMemory = NoMemory

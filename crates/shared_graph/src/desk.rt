@@ -1,0 +1,152 @@
+//! What lies under the lock.
+
+ghost use Rattle.std.specs.Prelude.{◌≡◌, [], IfOk, IfErr};
+ghost use Rattle.version_list.specs.declared.step.Step.TheVariants.{Commit, Acquire, Release};
+ghost use Rattle.version_list.specs.declared.step.Reply.TheVariants as reply;
+ghost use Rattle.version_list.specs.Timeline.{beginning};
+ghost use Rattle.shared_graph.specs.Histories.{state_at};
+ghost use Rattle.shared_graph.specs.Holding.{HoldsVersion};
+ghost use Rattle.shared_graph.specs.Outcome.{Answers, AnswersRelease};
+
+use crate::error::SharedError;
+use crate::held::{Held, Unreleased};
+use crate::ledger::Ledger;
+use crate::naming::Naming;
+use crate::reader::Reader;
+use crate::snapshot::Snapshot;
+use std::alloc::Global;
+use std::marker::Model;
+use std::sync::{Arc, Wait};
+use std::thread::Threads;
+use tree_batch::Batch;
+use version_list::{Done, MAX_HISTORY, Reply, Step, VersionError, Versions, Which};
+
+/// From how many entries on a batch is worth the start of threads.
+const MANY_ENTRIES: usize = 4096;
+
+/// At how many levels such a batch goes by halves on two threads.
+const FORKS: u32 = 2;
+
+/// The versions, which stand in the replay of their history, and the history as the ledger has it,
+/// which is the same. Contracts see it as the history.
+#[derive(Drop)]
+pub(crate) struct Desk<J: Naming, R: Wait + Drop> {
+    versions: Versions,
+    ledger: Ledger<J, R>,
+}
+
+impl<J: Naming, R: Wait + Drop> Model for Desk<J, R> {
+    ghost use Rattle.std.specs.Prelude.{List};
+    ghost use Rattle.shared_graph.specs.declared.entry.Entry.{Entry};
+    ghost use Rattle.shared_graph.specs.Locked.{IsTimelineOf};
+
+    ghost Value = { List Entry };
+
+    ghost view = { λ d. d.ledger };
+
+    ghost invariant = { λ d. IsTimelineOf J.base d.ledger d.versions };
+}
+
+impl<J: Naming, R: Wait + Drop> Desk<J, R> {
+    /// Versions that were just opened, and the ledger of no step.
+    pub(crate) fn new(versions: Versions, ledger: Ledger<J, R>) -> Desk<J, R>
+        requires versions { versions ≡ beginning J.base }
+        requires ledger { ledger ≡ [] }
+    {
+        Desk { versions, ledger }
+    }
+
+    /// Commits a batch in the name of a reader. All growth comes before the step.
+    pub(crate) fn commit<T: Threads + Wait + Sync>(
+        &mut self,
+        rt: &T,
+        alloc: Global,
+        me: &mut Reader<J>,
+        batch: Batch,
+    ) -> Result<u64, SharedError>
+        ensures answer { Answers J.base me.old (Commit batch) reply.Version result me.new }
+        ensures log { IfOk result (λ _. me.new.shown ≡ self.new) }
+        ensures err { IfErr result (λ _. self.new ≡ self.old) }
+    {
+        prove!(self.versions.history().len() as u64 <= MAX_HISTORY);
+        let forks = if batch.entries().len() < MANY_ENTRIES {
+            0
+        } else {
+            FORKS
+        };
+        let prepared = match self.versions.prepare(rt, alloc, batch, forks) {
+            Ok(prepared) => prepared,
+            Err(error) => return Err(self.ledger.refuse(rt, me, error)),
+        };
+        let graph = Arc::new(alloc, prepared.graph.clone()?)?;
+        self.ledger
+            .record(rt, me, &prepared.done, prepared.number, graph);
+        Ok(self.versions.finish(prepared))
+    }
+
+    /// Holds a version in the name of a reader. All growth comes before the step.
+    pub(crate) fn hold<T: Wait>(
+        &mut self,
+        rt: &T,
+        alloc: Global,
+        me: &mut Reader<J>,
+        which: Which,
+    ) -> Result<Held, SharedError>
+        ensures answer { Answers J.base me.old (Acquire which) (λ h. reply.Ticket h.ticket h.version) result me.new }
+        ensures graph { IfOk result (HoldsVersion (state_at J.base me.new.shown) which) }
+        ensures log { IfOk result (λ _. me.new.shown ≡ self.new) }
+        ensures err { IfErr result (λ _. self.new ≡ self.old) }
+    {
+        prove!(self.versions.history().len() as u64 <= MAX_HISTORY);
+        let prepared = match self.versions.prepare_acquire(which) {
+            Ok(prepared) => prepared,
+            Err(error) => return Err(self.ledger.refuse(rt, me, error)),
+        };
+        let newest = self.ledger.newest()?;
+        let graph = Arc::new(alloc, prepared.graph.clone()?)?;
+        let done = Done {
+            step: Step::Acquire(which),
+            reply: Reply::Ticket(prepared.ticket.number, prepared.version),
+        };
+        self.ledger
+            .record(rt, me, &done, newest.number, newest.graph);
+        let number = prepared.version;
+        let (ticket, _) = self.versions.finish_acquire(prepared);
+        Ok(Held::new(ticket, Snapshot { number, graph }))
+    }
+
+    /// Closes the ticket of a held version in the name of a reader.
+    pub(crate) fn release<T: Wait>(
+        &mut self,
+        rt: &T,
+        me: &mut Reader<J>,
+        held: Held,
+    ) -> Result<(), Unreleased>
+        ensures answer { AnswersRelease J.base me.old held result me.new }
+        ensures log { IfOk result (λ _. me.new.shown ≡ self.new) }
+        ensures err { IfErr result (λ _. self.new ≡ self.old) }
+    {
+        prove!(self.versions.history().len() as u64 <= MAX_HISTORY);
+        let ticket = held.ticket();
+        if !self.versions.is_open(ticket) {
+            let error = self.ledger.refuse(rt, me, VersionError::NotHeld);
+            return Err(Unreleased { error, held });
+        }
+        let newest = match self.ledger.newest() {
+            Ok(newest) => newest,
+            Err(_) => {
+                let error = SharedError::NoMemory;
+                return Err(Unreleased { error, held });
+            }
+        };
+        let done = Done {
+            step: Step::Release(ticket.number),
+            reply: Reply::Released,
+        };
+        self.ledger
+            .record(rt, me, &done, newest.number, newest.graph);
+        self.versions.release(ticket).unwrap();
+        held.into_snapshot();
+        Ok(())
+    }
+}

@@ -1,0 +1,77 @@
+ghost use Rattle.std.specs.Prelude.{◌≡◌};
+ghost use Rattle.shared_graph.specs.declared.error.SharedError.TheVariants.{NoMemory};
+ghost use Rattle.shared_graph.specs.Refusal.{number_of, from_version};
+
+use std::alloc::{AllocError, AllocFailed};
+use thiserror::Error;
+use version_list::VersionError;
+
+/// Why a step was refused, a snapshot was not given, or a graph was not opened.
+#[derive(Clone, Copy, Debug, PartialEq, Eq, Error)]
+pub enum SharedError {
+    #[error("a graph has 1 to 16777216 vertices, and an entry names two of them")]
+    VertexRange,
+    #[error("a chunk size is a power of two from 1 to 256")]
+    BadChunkSize,
+    #[error("the version is neither the newest nor held")]
+    NotKept,
+    #[error("the ticket is not open")]
+    NotHeld,
+    #[error("the history has no room for the step")]
+    HistoryFull,
+    #[error("a shared graph has 1 to 64 readers")]
+    BadSeats,
+    #[error("nothing is published, as after the graph was dropped")]
+    Closed,
+    #[error("out of memory")]
+    NoMemory,
+}
+
+impl SharedError {
+    /// The number by which users know the refusal: 111, 103, 121 to 125 or 900.
+    pub fn number(self) -> u16
+        ensures { result ≡ number_of self }
+    {
+        match self {
+            SharedError::VertexRange => 111,
+            SharedError::BadChunkSize => 103,
+            SharedError::NotKept => 121,
+            SharedError::NotHeld => 122,
+            SharedError::HistoryFull => 123,
+            SharedError::BadSeats => 124,
+            SharedError::Closed => 125,
+            SharedError::NoMemory => 900,
+        }
+    }
+}
+
+impl From<VersionError> for SharedError {
+    ghost from_gives = { λ v e. e ≡ from_version v };
+
+    fn from(error: VersionError) -> SharedError {
+        match error {
+            VersionError::VertexRange => SharedError::VertexRange,
+            VersionError::BadChunkSize => SharedError::BadChunkSize,
+            VersionError::NotKept => SharedError::NotKept,
+            VersionError::NotHeld => SharedError::NotHeld,
+            VersionError::HistoryFull => SharedError::HistoryFull,
+            VersionError::NoMemory => SharedError::NoMemory,
+        }
+    }
+}
+
+impl From<AllocError> for SharedError {
+    ghost from_gives = { λ _ e. e ≡ NoMemory };
+
+    fn from(_error: AllocError) -> SharedError {
+        SharedError::NoMemory
+    }
+}
+
+impl<T: Drop> From<AllocFailed<T>> for SharedError {
+    ghost from_gives = { λ _ e. e ≡ NoMemory };
+
+    fn from(_error: AllocFailed<T>) -> SharedError {
+        SharedError::NoMemory
+    }
+}

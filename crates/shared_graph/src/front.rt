@@ -1,0 +1,141 @@
+//! Beginnings of the shared history.
+
+ghost use Rattle.std.specs.Prelude.{◌≡◌, ◌<◌, ◌^◌, ◌++◌, ◌∷◌, [], length, MatchBool};
+ghost use mathlib.Core.List.{IsPrefix};
+ghost use Rattle.version_list.specs.Timeline.{IsLegal};
+ghost use Rattle.shared_graph.specs.Histories.{steps_of, MayFollow};
+
+use crate::book::{Add, Added, Book, Law, Nothing};
+use crate::entry::Entry;
+use crate::naming::Naming;
+use logbook::{Offer, Seen};
+use std::marker::{Model, PhantomData};
+use std::snapshot::Snapshot;
+use version_list::Done;
+
+/// A beginning of the shared history that was seen, of which the code keeps the length alone.
+/// Contracts see it as its entries.
+#[derive(Drop)]
+pub(crate) struct Front<J: Naming> {
+    count: u64,
+    seen: Seen<Entry, u64, Law>,
+    of: PhantomData<J>,
+}
+
+impl<J: Naming> Model for Front<J> {
+    ghost use Rattle.std.specs.Prelude.{◌≡◌, List, length};
+    ghost use Rattle.version_list.specs.Timeline.{IsLegal};
+    ghost use Rattle.shared_graph.specs.declared.entry.Entry.{Entry};
+    ghost use Rattle.shared_graph.specs.Histories.{steps_of};
+
+    ghost Value = { List Entry };
+
+    ghost view = { λ f. f.seen.log };
+
+    ghost invariant = { λ f. (f.count ≡ length f.seen.log) × (f.seen.book ≡ J.book)
+        × IsLegal J.base (steps_of f.seen.log) };
+}
+
+impl<J: Naming> Front<J> {
+    /// The front that has seen nothing.
+    pub(crate) fn first(seen: Seen<Entry, u64, Law>) -> Front<J>
+        requires { (seen.book ≡ J.book) × (seen.log ≡ []) }
+        ensures { result ≡ [] }
+    {
+        Front {
+            count: 0,
+            seen,
+            of: PhantomData,
+        }
+    }
+
+    /// What was seen of a legal history of so many entries.
+    pub(crate) fn of_seen(seen: Seen<Entry, u64, Law>, count: u64) -> Front<J>
+        requires book { seen.book ≡ J.book }
+        requires count { count ≡ length seen.log }
+        requires legal { IsLegal J.base (steps_of seen.log) }
+        ensures { result ≡ seen.log }
+    {
+        Front {
+            count,
+            seen,
+            of: PhantomData,
+        }
+    }
+
+    /// How many entries it has.
+    pub(crate) fn len(&self) -> u64
+        ensures length { result ≡ length self.now }
+        ensures legal { IsLegal J.base (steps_of self.now) }
+    {
+        self.count
+    }
+
+    /// A copy.
+    pub(crate) fn again(&self) -> Front<J>
+        ensures { result ≡ self.now }
+    {
+        Front {
+            count: self.count,
+            seen: self.seen.again(),
+            of: PhantomData,
+        }
+    }
+
+    /// The token that this was seen.
+    pub(crate) fn seen(&self) -> Seen<Entry, u64, Law>
+        ensures book { result.book ≡ J.book }
+        ensures log { result.log ≡ self.now }
+    {
+        self.seen.again()
+    }
+
+    /// Whether the other front begins with this one; else this one begins with the other.
+    pub(crate) fn begins(&self, other: &Front<J>) -> bool
+        ensures { MatchBool result (IsPrefix self.now other.now) (IsPrefix other.now self.now) }
+    {
+        let mut both = self.seen.again();
+        both.learn(&other.seen);
+        self.count <= other.count
+    }
+
+    /// The longer of two fronts, which the other begins.
+    pub(crate) fn longer(&self, other: &Front<J>) -> Front<J>
+        ensures this { IsPrefix self.now result }
+        ensures that { IsPrefix other.now result }
+        ensures legal { IsLegal J.base (steps_of result) }
+    {
+        if self.begins(other) {
+            other.again()
+        } else {
+            self.again()
+        }
+    }
+
+    /// Adds a reader's step to all that was seen, and says whether it did. It did not where the
+    /// history is longer.
+    pub(crate) fn add(&mut self, book: &Book<J>, by: u64, done: &Done) -> bool
+        requires room { length self.old < 2 ^ 62 }
+        requires follows { MayFollow J.base self.old done.now }
+        ensures { MatchBool result (self.new ≡ self.old ++ record { by = by; done = done.now } ∷ [])
+            (self.new ≡ self.old) }
+    {
+        let mut seen = self.seen.again();
+        let added = Added {
+            by,
+            done: Snapshot::of(done),
+        };
+        let mut offer: Offer<Entry, u64, Law, Nothing> = seen.plain::<Nothing, Added, Add>(&added);
+        let mut pen = seen.no_pen();
+        let count = self.count;
+        let found = book
+            .count
+            .compare_exchange::<Add, Nothing>(count, count + 1, &mut seen, &mut offer, &mut pen);
+        if found != count {
+            return false;
+        }
+        self.seen = seen;
+        self.count = count + 1;
+        true
+    }
+}

@@ -1,0 +1,211 @@
+//! The shared history as the lock keeps it: what was published, and how many steps each reader made.
+
+ghost use Rattle.std.specs.Prelude.{◌≡◌, ◌<◌, ◌≤◌, ◌+◌, ◌++◌, ◌∷◌, [], length, slice_index, IfOk};
+ghost use Rattle.std.specs.Arc.{arc_value};
+ghost use mathlib.Core.List.{IsPrefix};
+ghost use Rattle.version_list.specs.Machine.{opened, state_after};
+ghost use Rattle.version_list.specs.Timeline.{IsLegal};
+ghost use Rattle.shared_graph.specs.Histories.{own, steps_of, state_at, MayFollow, IsNewest};
+ghost use Rattle.shared_graph.specs.Passes.{HasMade, fresh_passes};
+ghost use Rattle.shared_graph.specs.Locked.{AreCounts, ShowsRefusal};
+ghost use Rattle.shared_graph.specs.Refusal.{from_version};
+
+use crate::book::{Book, Opening};
+use crate::error::SharedError;
+use crate::front::Front;
+use crate::naming::Naming;
+use crate::publisher::Publisher;
+use crate::reader::Reader;
+use crate::shown::Shown;
+use crate::snapshot::Snapshot;
+use std::alloc::{AllocError, Global};
+use std::marker::Model;
+use std::sync::{Arc, Wait};
+use tree_batch::Graph;
+use version_list::{Done, VersionError};
+
+/// The shared history, which is the one that was published, and how many of its entries each reader
+/// made. Contracts see it as the history.
+#[derive(Drop)]
+pub(crate) struct Ledger<J: Naming, R: Wait + Drop> {
+    vertices: u32,
+    room: u64,
+    book: Book<J>,
+    front: Front<J>,
+    counts: Vec<u64>,
+    publisher: Publisher<R>,
+}
+
+impl<J: Naming, R: Wait + Drop> Model for Ledger<J, R> {
+    ghost use Rattle.std.specs.Prelude.{◌≡◌, List};
+    ghost use Rattle.version_list.specs.Machine.{opened};
+    ghost use Rattle.shared_graph.specs.declared.entry.Entry.{Entry};
+    ghost use Rattle.shared_graph.specs.Locked.{AreCounts};
+
+    ghost Value = { List Entry };
+
+    ghost view = { λ l. l.front };
+
+    ghost invariant = { λ l. (J.base ≡ opened l.vertices l.room) × AreCounts l.front l.counts.items
+        × (l.publisher ≡ record { book = J.book; base = J.base; log = l.front }) };
+}
+
+impl<J: Naming, R: Wait + Drop> Ledger<J, R> {
+    /// The ledger of a history that has not begun, with its readers, 1 to 64, to whom version 0 is
+    /// published.
+    ///
+    /// Errors: `AllocError` where there is no memory, or no place for a reader.
+    pub(crate) fn open(
+        rt: R,
+        alloc: Global,
+        opening: Opening,
+        vertices: u32,
+        room: u64,
+        graph: Arc<Graph>,
+        readers: usize,
+    ) -> Result<(Ledger<J, R>, Vec<Reader<J>>), AllocError>
+        requires book { opening ≡ J.book }
+        requires base { J.base ≡ opened vertices room }
+        requires newest { IsNewest (state_at J.base []) 0 (arc_value graph) }
+        requires readers { (0 < readers) × (readers ≤ 64) }
+        ensures ledger { IfOk result (λ r. r.0 ≡ []) }
+        ensures readers { IfOk result (λ r. r.1.items ≡ fresh_passes readers) }
+    {
+        let (book, front) = opening.named::<J>();
+        let shown = Shown::new(vertices, room, 0, graph, &front);
+        let mut publisher = Publisher::new(alloc, rt, shown, readers)?;
+        let passes = fresh_readers(alloc, &mut publisher, &front, readers)?;
+        let counts = Vec::from_elem(alloc, 0, readers)?;
+        let ledger = Ledger {
+            vertices,
+            room,
+            book,
+            front,
+            counts,
+            publisher,
+        };
+        Ok((ledger, passes))
+    }
+
+    /// The newest version, which is the one that is published.
+    ///
+    /// Errors: `AllocError` where the graph cannot be shared once more.
+    pub(crate) fn newest(&self) -> Result<Snapshot, AllocError>
+        ensures { IfOk result (λ s. IsNewest (state_at J.base self.now) s.number (arc_value s.graph)) }
+    {
+        self.publisher.published().snapshot()
+    }
+
+    /// Puts a reader's step at the end of the history and publishes the newest version after it, whose
+    /// number and graph these are. Takes no memory; waits for readers.
+    pub(crate) fn record<T: Wait>(
+        &mut self,
+        rt: &T,
+        me: &mut Reader<J>,
+        done: &Done,
+        number: u64,
+        graph: Arc<Graph>,
+    )
+        requires few { length self.old ≤ 16777216 }
+        requires follows { MayFollow J.base self.old done.now }
+        requires newest { IsNewest (state_after (state_at J.base self.old) done.now.step) number (arc_value graph) }
+        ensures log { self.new ≡ self.old ++ record { by = me.old.number; done = done.now } ∷ [] }
+        ensures made { HasMade J.base me.old done.now.step done.now.reply me.new }
+        ensures shown { me.new.shown ≡ self.new }
+    {
+        let (place, steps) = meet(rt, &self.front, &self.counts, me);
+        extend(rt, &self.book, &mut self.front, place, done);
+        let shown = Shown::new(self.vertices, self.room, number, graph, &self.front);
+        self.publisher.publish(shown);
+        self.counts[place] = steps + 1;
+        me.has_made(&self.front);
+    }
+
+    /// Why the versions refused a reader's step, at the end of the history that the reader then shows.
+    /// Where memory ran out, the reader is as it was.
+    pub(crate) fn refuse<T: Wait>(
+        &self,
+        rt: &T,
+        me: &mut Reader<J>,
+        error: VersionError,
+    ) -> SharedError
+        ensures error { result ≡ from_version error }
+        ensures shown { ShowsRefusal J.base error me.old self.now me.new }
+    {
+        if error != VersionError::NoMemory {
+            meet(rt, &self.front, &self.counts, me);
+            me.show(&self.front);
+        }
+        SharedError::from(error)
+    }
+}
+
+// The reader's place in the counts and its count, where it is a reader of this graph that has shown
+// nothing but beginnings of this history. It is; were it not, the call would not return.
+fn meet<J: Naming, T: Wait>(
+    rt: &T,
+    front: &Front<J>,
+    counts: &[u64],
+    me: &Reader<J>,
+) -> (usize, u64)
+    requires { AreCounts front.now counts.now }
+    ensures place { (result.0 ≡ me.now.number) × (result.0 < length counts.now) }
+    ensures steps { (result.1 ≡ length (own me.now.number front.now)) × (result.1 ≡ slice_index counts.now result.0) }
+    ensures begins { IsPrefix me.now.shown front.now }
+    ensures own { own me.now.number front.now ≡ own me.now.number me.now.last }
+    ensures legal { IsLegal J.base (steps_of front.now) }
+{
+    let (number, steps) = me.account();
+    let place = number as usize;
+    if place >= counts.len() || counts[place] != steps || !me.front().begins(front) {
+        never(rt);
+    }
+    front.len();
+    (place, steps)
+}
+
+// Puts a reader's step at the end of the history, all of which was seen, under the lock; had it not
+// been, the call would not return.
+fn extend<J: Naming, T: Wait>(
+    rt: &T,
+    book: &Book<J>,
+    front: &mut Front<J>,
+    reader: usize,
+    done: &Done,
+)
+    requires few { length front.old ≤ 16777216 }
+    requires follows { MayFollow J.base front.old done.now }
+    ensures { front.new ≡ front.old ++ record { by = reader; done = done.now } ∷ [] }
+{
+    if !front.add(book, reader as u64, done) {
+        never(rt);
+    }
+}
+
+// Does not return.
+fn never<T: Wait>(rt: &T)
+    ensures { ⊥ }
+{
+    for _ in rt.forever() {}
+    unreachable!()
+}
+
+// So many readers, numbered from 0, that have shown nothing.
+fn fresh_readers<J: Naming, R: Wait + Drop>(
+    alloc: Global,
+    publisher: &mut Publisher<R>,
+    first: &Front<J>,
+    readers: usize,
+) -> Result<Vec<Reader<J>>, AllocError>
+    requires first { first.now ≡ [] }
+    requires book { (publisher.old.book ≡ J.book) × (publisher.old.base ≡ J.base) }
+    ensures same { publisher.new ≡ publisher.old }
+    ensures fresh { IfOk result (λ v. v.items ≡ fresh_passes readers) }
+{
+    let mut passes = Vec::with_capacity(alloc, readers)?;
+    for number in 0..readers {
+        let read = publisher.reader()?;
+        passes.push_reserved(Reader::new(number as u64, read, first));
+    }
+    Ok(passes)
+}

@@ -1,0 +1,44 @@
+//! A graph that many threads read while some commit, hold and release.
+//!
+//! A [`SharedGraph`] has the versions of a graph under a lock and publishes the newest one. It is
+//! opened with 1 to 64 [`Reader`]s. A reader takes the newest version by [`Reader::latest`], which
+//! takes no lock and waits for nobody, and it is the one in whose name its owner commits, holds and
+//! releases.
+//!
+//! A contract sees a reader as what it shows: a history of accepted steps, each with its reply and
+//! the reader that made it, which only grows at its end (`specs/Passes.antt`). After a step the
+//! history shown ends in that step; a refusal is the version machine's at the end of the history
+//! shown; a snapshot has the fold of its batches. What one reader showed another takes in by a
+//! [`Token`]. A contract sees what lies under the lock as the history, of which the versions are the
+//! replay, and which is the one that was published.
+//!
+//! The history itself stands in the proofs alone (`logbook`): threads share its length, one word, and
+//! each reader has a beginning of it. The newest version is published in two copies, of which readers
+//! take one while the writer changes the other (left-right, Ramalhete and Correia, 2015).
+//!
+//! Which graph a reader or a token belongs to is a type parameter, a [`Naming`]. It stands on
+//! `version_list`; `gsnap race` will stand on it.
+#![tactic(auto)]
+
+mod book;
+mod desk;
+mod entry;
+mod error;
+mod front;
+mod held;
+mod ledger;
+mod naming;
+mod publisher;
+mod reader;
+mod shared;
+mod shown;
+mod snapshot;
+
+pub use book::Opening;
+pub use entry::Entry;
+pub use error::SharedError;
+pub use held::{Held, Unreleased};
+pub use naming::Naming;
+pub use reader::{Reader, Token};
+pub use shared::{MAX_READERS, SharedGraph};
+pub use snapshot::Snapshot;

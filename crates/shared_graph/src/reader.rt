@@ -1,0 +1,182 @@
+//! Readers, and what they tell one another.
+
+ghost use Rattle.std.specs.Prelude.{◌≡◌, ◌<◌, ◌+◌, ◌^◌, ◌⊎◌, ◌++◌, ◌∷◌, [], length, IfOk, IfErr, Some};
+ghost use Rattle.std.specs.Arc.{arc_value};
+ghost use mathlib.Core.List.{IsPrefix};
+ghost use Rattle.left_right.specs.Sides.{view as view_of};
+ghost use Rattle.version_list.specs.Timeline.{IsLegal};
+ghost use Rattle.shared_graph.specs.declared.error.SharedError.TheVariants.{Closed, NoMemory};
+ghost use Rattle.shared_graph.specs.Histories.{steps_of, own, state_at, IsNewest};
+ghost use Rattle.shared_graph.specs.Passes.{fresh, Shows};
+ghost use Rattle.shared_graph.specs.Publishing.{Knows};
+
+use crate::error::SharedError;
+use crate::front::Front;
+use crate::naming::Naming;
+use crate::publisher::{Seeing, ShownReader};
+use crate::shown::Shown;
+use crate::snapshot::Snapshot;
+use std::marker::Model;
+
+/// One of the readers of a shared graph, and the one by whose name its owner commits and holds.
+/// Contracts see it as the history that it shows, of accepted steps with their replies and the
+/// reader that made each, which only grows at its end.
+#[derive(Drop)]
+pub struct Reader<J: Naming> {
+    number: u64,
+    read: Option<ShownReader>,
+    front: Front<J>,
+    last: Front<J>,
+    steps: u64,
+}
+
+impl<J: Naming> Model for Reader<J> {
+    ghost use Rattle.std.specs.Prelude.{◌≡◌, length, Some, IfSome};
+    ghost use mathlib.Core.List.{IsPrefix};
+    ghost use Rattle.left_right.specs.Sides.{view as view_of};
+    ghost use Rattle.shared_graph.specs.Histories.{own};
+    ghost use Rattle.shared_graph.specs.Passes.{Pass};
+    ghost use Rattle.shared_graph.specs.Publishing.{Knows};
+
+    ghost Value = { Pass };
+
+    ghost view = { λ r. record { number = r.number; shown = r.front; last = r.last } };
+
+    ghost invariant = { λ r. (r.steps ≡ length (own r.number r.last)) × IsPrefix r.last r.front
+        × IfSome r.read (λ x. Knows J.book J.base (view_of x.place)) };
+}
+
+impl<J: Naming> Reader<J> {
+    /// A reader that has shown nothing.
+    pub(crate) fn new(number: u64, read: ShownReader, first: &Front<J>) -> Reader<J>
+        requires first { first.now ≡ [] }
+        requires read { Knows J.book J.base (view_of read.place) }
+        ensures { result ≡ fresh number }
+    {
+        Reader {
+            number,
+            read: Some(read),
+            front: first.again(),
+            last: first.again(),
+            steps: 0,
+        }
+    }
+
+    /// The newest version that is published. Takes no lock and waits for nobody: it has no bound by
+    /// which it could. It costs a guard and the clone of one counted pointer.
+    ///
+    /// The history shown afterwards begins with the one before; the snapshot's number is the count
+    /// of its commits, and the graph is their batches, folded.
+    ///
+    /// Errors: `Closed` where nothing is published, as after the shared graph was dropped, and
+    /// `NoMemory` where the graph cannot be shared once more. The reader is then as it was.
+    pub fn latest(&mut self) -> Result<Snapshot, SharedError>
+        ensures shows { IfOk result (λ s. Shows J.base self.old self.new) }
+        ensures newest { IfOk result (λ s. IsNewest (state_at J.base self.new.shown) s.number (arc_value s.graph)) }
+        ensures err { IfErr result (λ e. ((e ≡ Closed) ⊎ (e ≡ NoMemory)) × (self.new ≡ self.old)) }
+    {
+        let Some(reader) = self.read.take() else {
+            return Err(SharedError::Closed);
+        };
+        match reader.enter_as::<Seeing>() {
+            Ok(reading) => {
+                let seen = see(reading.get(), &self.front);
+                self.read = Some(reading.leave());
+                let (snapshot, front) = seen?;
+                self.front = front;
+                Ok(snapshot)
+            }
+            Err(reader) => {
+                self.read = Some(reader);
+                Err(SharedError::Closed)
+            }
+        }
+    }
+
+    /// What this reader showed after its last accepted step, or the empty history before the first,
+    /// for others to [`Reader::learn`]. Takes no memory.
+    pub fn token(&self) -> Token<J>
+        ensures { result ≡ self.now.last }
+    {
+        Token {
+            front: self.last.again(),
+        }
+    }
+
+    /// Takes in what a token tells: the history shown afterwards begins with the one before and with
+    /// the token's. Takes no memory, and is not refused.
+    pub fn learn(&mut self, token: &Token<J>)
+        ensures number { self.new.number ≡ self.old.number }
+        ensures last { self.new.last ≡ self.old.last }
+        ensures shown { IsPrefix self.old.shown self.new.shown }
+        ensures told { IsPrefix token.now self.new.shown }
+        ensures legal { IsLegal J.base (steps_of self.new.shown) }
+    {
+        self.front = self.front.longer(&token.front);
+    }
+
+    /// The reader's number, and how many steps it made.
+    pub(crate) fn account(&self) -> (u64, u64)
+        ensures number { result.0 ≡ self.now.number }
+        ensures steps { result.1 ≡ length (own self.now.number self.now.last) }
+        ensures last { IsPrefix self.now.last self.now.shown }
+    {
+        (self.number, self.steps)
+    }
+
+    /// What it shows.
+    pub(crate) fn front(&self) -> &Front<J>
+        ensures { result.now ≡ self.now.shown }
+    {
+        &self.front
+    }
+
+    /// Shows a history that begins with the one shown.
+    pub(crate) fn show(&mut self, front: &Front<J>)
+        requires { IsPrefix self.old.shown front.now }
+        ensures { self.new ≡ record self.old { shown = front.now } }
+    {
+        self.front = front.again();
+    }
+
+    /// Shows a history that ends in a step of this reader.
+    pub(crate) fn has_made(&mut self, front: &Front<J>)
+        requires own { length (own self.old.number front.now) ≡ length (own self.old.number self.old.last) + 1 }
+        requires few { length (own self.old.number front.now) < 2 ^ 64 }
+        ensures { self.new ≡ record self.old { shown = front.now; last = front.now } }
+    {
+        self.front = front.again();
+        self.last = front.again();
+        self.steps += 1;
+    }
+}
+
+/// A history that a reader showed, for other readers of the same graph to learn.
+#[derive(Drop)]
+pub struct Token<J: Naming> {
+    front: Front<J>,
+}
+
+impl<J: Naming> Model for Token<J> {
+    ghost use Rattle.std.specs.Prelude.{List};
+    ghost use Rattle.shared_graph.specs.declared.entry.Entry.{Entry};
+
+    ghost Value = { List Entry };
+
+    ghost view = { λ t. t.front };
+}
+
+// The version that is shown, and the history that made it, where that begins with what was seen.
+fn see<J: Naming>(shown: &Shown, front: &Front<J>) -> Result<(Snapshot, Front<J>), SharedError>
+    requires { (shown.now.book ≡ J.book) × (shown.now.base ≡ J.base) }
+    ensures seen { IfOk result (λ r. IsPrefix front.now r.1 × IsLegal J.base (steps_of r.1)) }
+    ensures newest { IfOk result (λ r. IsNewest (state_at J.base r.1) r.0.number (arc_value r.0.graph)) }
+    ensures err { IfErr result (λ e. (e ≡ Closed) ⊎ (e ≡ NoMemory)) }
+{
+    let newer = shown.front::<J>();
+    if !front.begins(&newer) {
+        return Err(SharedError::Closed);
+    }
+    let snapshot = shown.snapshot()?;
+    Ok((snapshot, newer))
+}

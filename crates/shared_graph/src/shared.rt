@@ -1,0 +1,141 @@
+//! Graphs that threads share.
+
+ghost use Rattle.std.specs.Prelude.{◌≡◌, IfOk};
+ghost use Rattle.version_list.specs.declared.step.Step.TheVariants.{Commit, Acquire};
+ghost use Rattle.version_list.specs.declared.step.Reply.TheVariants as reply;
+ghost use Rattle.version_list.specs.Machine.{opened};
+ghost use Rattle.shared_graph.specs.Histories.{state_at};
+ghost use Rattle.shared_graph.specs.Holding.{HoldsVersion};
+ghost use Rattle.shared_graph.specs.Outcome.{Answers, AnswersRelease, Opens};
+
+use crate::book::Opening;
+use crate::desk::Desk;
+use crate::error::SharedError;
+use crate::held::{Held, Unreleased};
+use crate::ledger::Ledger;
+use crate::naming::Naming;
+use crate::reader::Reader;
+use std::alloc::Global;
+use std::sync::{Arc, Mutex, Wait};
+use std::thread::Threads;
+use tree_batch::Batch;
+use version_list::{MAX_HISTORY, Versions, Which};
+
+/// The most readers of a shared graph.
+pub const MAX_READERS: usize = 64;
+
+/// Versions of a graph that many threads read while some commit, hold and release. Its readers take
+/// the newest version without it, by [`Reader::latest`]. Dropped, it waits for readers that are in
+/// the midst of that, and publishes nothing any more.
+#[derive(Drop)]
+pub struct SharedGraph<J: Naming, R: Wait + Drop> {
+    desk: Mutex<Desk<J, R>>,
+}
+
+impl<J: Naming, R: Wait + Drop> SharedGraph<J, R> {
+    /// Version 0 of a graph with this many vertices, 1 to 16,777,216, and no edges, in chunks of a
+    /// power of two from 1 to 256, with so many readers, 1 to 64, numbered from 0, which have shown
+    /// nothing. The history has room for [`MAX_HISTORY`] entries. `rt` is what publishing waits by.
+    ///
+    /// Errors: `VertexRange` for another number of vertices, else `BadChunkSize` for another chunk
+    /// size, else `BadSeats` for another number of readers, else `NoMemory`.
+    pub fn open(
+        rt: R,
+        alloc: Global,
+        opening: Opening,
+        vertices: u32,
+        chunk_size: u32,
+        readers: usize,
+    ) -> Result<(SharedGraph<J, R>, Vec<Reader<J>>), SharedError>
+        requires book { opening ≡ J.book }
+        requires base { J.base ≡ opened vertices 16777216 }
+        ensures { Opens vertices chunk_size readers (λ r. r.1.items) result }
+    {
+        SharedGraph::open_with_room(
+            rt,
+            alloc,
+            opening,
+            vertices,
+            chunk_size,
+            readers,
+            MAX_HISTORY,
+        )
+    }
+
+    /// The same with room for at most `room` entries in the history; a larger room than
+    /// [`MAX_HISTORY`] is taken as that. The errors are those of [`SharedGraph::open`].
+    pub fn open_with_room(
+        rt: R,
+        alloc: Global,
+        opening: Opening,
+        vertices: u32,
+        chunk_size: u32,
+        readers: usize,
+        room: u64,
+    ) -> Result<(SharedGraph<J, R>, Vec<Reader<J>>), SharedError>
+        requires book { opening ≡ J.book }
+        requires base { J.base ≡ opened vertices room }
+        ensures { Opens vertices chunk_size readers (λ r. r.1.items) result }
+    {
+        let versions = Versions::with_room(alloc, vertices, chunk_size, room)?;
+        if readers == 0 || readers > MAX_READERS {
+            return Err(SharedError::BadSeats);
+        }
+        let graph = Arc::new(alloc, versions.newest().1.clone()?)?;
+        let (ledger, passes) = Ledger::open(rt, alloc, opening, vertices, room, graph, readers)?;
+        let desk = Mutex::new(Desk::new(versions, ledger));
+        Ok((SharedGraph { desk }, passes))
+    }
+
+    /// Makes the next version by a batch, also by an empty one, in the name of a reader, and answers
+    /// its number. The history that the reader shows afterwards extends the one before and ends in
+    /// this commit.
+    ///
+    /// Errors: `VertexRange` where an entry names a vertex that the graph does not have, else
+    /// `HistoryFull` where the history has no room, at the end of the history that the reader then
+    /// shows; else `NoMemory`, and then graph and reader are as they were. The batch is gone.
+    pub fn commit<T: Threads + Wait + Sync>(
+        &self,
+        rt: &T,
+        alloc: Global,
+        me: &mut Reader<J>,
+        batch: Batch,
+    ) -> Result<u64, SharedError>
+        ensures { Answers J.base me.old (Commit batch) reply.Version result me.new }
+    {
+        self.desk.lock(rt).commit(rt, alloc, me, batch)
+    }
+
+    /// Holds a version by a new ticket in the name of a reader: of the newest all batches of the
+    /// history that the reader then shows, folded, of an older one those up to its number. That
+    /// history extends the one before and ends in this hold.
+    ///
+    /// Errors: `NotKept` where the version asked for is neither the newest nor held, else
+    /// `HistoryFull` where the history has no room for this step and for the ticket's release, at
+    /// the end of the history that the reader then shows; else `NoMemory`, and then graph and reader
+    /// are as they were.
+    pub fn hold<T: Wait>(
+        &self,
+        rt: &T,
+        alloc: Global,
+        me: &mut Reader<J>,
+        which: Which,
+    ) -> Result<Held, SharedError>
+        ensures answer { Answers J.base me.old (Acquire which) (λ h. reply.Ticket h.ticket h.version) result me.new }
+        ensures version { IfOk result (HoldsVersion (state_at J.base me.new.shown) which) }
+    {
+        self.desk.lock(rt).hold(rt, alloc, me, which)
+    }
+
+    /// Closes the ticket of a held version in the name of a reader. The history that the reader shows
+    /// afterwards extends the one before and ends in this release.
+    ///
+    /// Errors, which give the held version back: `NotHeld` where its ticket is not open, at the end
+    /// of the history that the reader then shows; else `NoMemory`, and then graph and reader are as
+    /// they were.
+    pub fn release<T: Wait>(&self, rt: &T, me: &mut Reader<J>, held: Held) -> Result<(), Unreleased>
+        ensures { AnswersRelease J.base me.old held result me.new }
+    {
+        self.desk.lock(rt).release(rt, me, held)
+    }
+}
