@@ -20,6 +20,8 @@ mod script_devices;
 #[cfg(test)]
 mod sets_of_vertices;
 #[cfg(test)]
+mod shared_graphs;
+#[cfg(test)]
 mod tails;
 #[cfg(test)]
 mod token_spans;
