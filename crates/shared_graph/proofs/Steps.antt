@@ -1,5 +1,5 @@
 -- What an accepted step does to the ledger and to the reader that made it, and what a refusal shows.
-use Rattle.std.proofs.Common.{◌≡◌, ℕ, ◌+◌, ◌<◌, ◌≤◌, true, false, Result, Ok, Err, IfErr, List, [], ◌∷◌, ◌++◌, length, slice_index, slice_set, get_or-set_same, get_or-set_other, inl, inr, refl, sym, ap, ◌∙◌, subst, arith, length-append}
+use Rattle.std.proofs.Common.{◌≡◌, ℕ, ◌+◌, ◌<◌, Result, Ok, Err, IfErr, List, [], ◌∷◌, ◌++◌, length, slice_index, slice_set, get_or-set_same, get_or-set_other, inl, inr, refl, sym, ap, ◌∙◌, subst, arith, length-append}
 use Rattle.std.proofs.lemmas.Bool.{cases_eq}
 use Rattle.std.proofs.lemmas.List.{length-set}
 use mathlib.Core.List.{IsPrefix}
@@ -7,7 +7,7 @@ use Rattle.tree_batch.specs.declared.batch.Entry.{Entry as Change}
 use Rattle.tree_batch.specs.Digraph.{Digraph}
 use Rattle.version_list.specs.declared.step.Step.{Step}
 use Rattle.version_list.specs.declared.step.Step.TheVariants.{Commit, Acquire, Release}
-use Rattle.version_list.specs.declared.step.Reply.TheVariants.{Version, Ticket, Released, Refused}
+use Rattle.version_list.specs.declared.step.Reply.TheVariants.{Released, Refused}
 use Rattle.version_list.specs.declared.step.Which.{Which}
 use Rattle.version_list.specs.declared.step.Which.TheVariants.{Newest, At}
 use Rattle.version_list.specs.declared.prepared.Prepared.{Prepared}
@@ -22,7 +22,7 @@ use Rattle.version_list.proofs.Stepping.{next_version, held_versions}
 use Rattle.shared_graph.specs.declared.entry.Entry.{Entry}
 use Rattle.shared_graph.specs.Histories.{steps_of, own, state_at, MayFollow, IsNewest}
 use Rattle.shared_graph.specs.Holding.{Hold, HoldsVersion}
-use Rattle.shared_graph.specs.Passes.{Pass, HasMade, Shows}
+use Rattle.shared_graph.specs.Passes.{Pass, HasMade}
 use Rattle.shared_graph.specs.Outcome.{Refuses}
 use Rattle.shared_graph.specs.Refusal.{from_version}
 use Rattle.shared_graph.specs.Locked.{IsTimelineOf, AreCounts, ShowsRefusal}

@@ -1,4 +1,4 @@
-use Rattle.std.proofs.Common.{◌≡◌, ◌∙◌, ◌++◌, ◌∷◌, [], List, Ok, sym, ap, subst}
+use Rattle.std.proofs.Common.{◌≡◌, ◌∙◌, List, Ok, sym, ap, subst}
 use Rattle.std.specs.Arc.{arc_value}
 use Rattle.tree_batch.specs.Digraph.{Digraph}
 use Rattle.version_list.specs.declared.step.Step.TheVariants.{Commit}

@@ -1,4 +1,4 @@
-use Rattle.std.proofs.Common.{◌≡◌, ◌∙◌, ◌++◌, ◌∷◌, [], true, List, refl, sym, ap, subst}
+use Rattle.std.proofs.Common.{◌≡◌, ◌∙◌, true, List, refl, sym, subst}
 use Rattle.version_list.specs.declared.step.Step.TheVariants.{Release}
 use Rattle.version_list.specs.declared.step.Reply.TheVariants.{Released}
 use Rattle.version_list.specs.Machine.{State, is_open, reply_to}

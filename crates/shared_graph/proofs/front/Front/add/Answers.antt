@@ -1,4 +1,4 @@
-use Rattle.std.proofs.Common.{◌≡◌, ◌+◌, ◌==◌, true, ◌∙◌, ◌∷◌, ◌++◌, [], List, length, sym, ap, subst, arith, length-append}
+use Rattle.std.proofs.Common.{◌≡◌, ◌==◌, true, ◌∙◌, ◌∷◌, ◌++◌, [], List, length, sym, ap, subst, arith, length-append}
 use Rattle.std.proofs.lemmas.Bool.{eq-eqb}
 use Rattle.version_list.specs.Timeline.{IsLegal}
 use Rattle.shared_graph.specs.declared.entry.Entry.{Entry}

@@ -1,4 +1,4 @@
-use Rattle.std.proofs.Common.{◌≡◌, ◌≤◌, ap, subst, arith, length, List, inl, inr}
+use Rattle.std.proofs.Common.{◌≤◌, ap, subst, arith, length, List, inl, inr}
 use Rattle.std.proofs.lemmas.Bool.{cases_Bool, leb-true, leb-false}
 use mathlib.Core.List.{IsPrefix}
 use Rattle.shared_graph.specs.declared.entry.Entry.{Entry}

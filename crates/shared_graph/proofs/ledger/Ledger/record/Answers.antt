@@ -1,7 +1,7 @@
-use Rattle.std.proofs.Common.{◌≡◌, ◌+◌, ◌∙◌, ◌++◌, ◌∷◌, [], List, length, sym, ap, subst, arith, length-append}
+use Rattle.std.proofs.Common.{◌≡◌, ◌∙◌, ◌∷◌, [], List, length, sym, ap, subst, arith, length-append}
 use Rattle.version_list.specs.Machine.{State, state_after}
 use Rattle.shared_graph.specs.declared.entry.Entry.{Entry}
-use Rattle.shared_graph.specs.Histories.{state_at, own, IsNewest}
+use Rattle.shared_graph.specs.Histories.{state_at, IsNewest}
 use Rattle.std.specs.Arc.{arc_value}
 use Rattle.shared_graph.proofs.Growing.{state_at-push, length-own}
 use Rattle.shared_graph.proofs.ledger.Ledger.record.Goals as goal
