@@ -49,8 +49,16 @@ fn expressions_have_one_value_by_tree_and_kernel(rt: HostRuntime) -> Result<(), 
             None => format!(in rt.alloc(); "")?,
         };
         let outcome = plain_run(rt.alloc(), &program, VERTICES, &[], 0)?;
-        assert_eq!(rt; outcome.text.as_slice(), printed.as_bytes(), "{expression} by its tree");
-        assert_eq!(rt; outcome.end == End::Fault(401, 1), value.is_none(), "the end of {expression}");
+        assert_eq!(rt;
+            outcome.text.as_slice(),
+            printed.as_bytes(),
+            "{expression} by its tree"
+        );
+        assert_eq!(rt;
+            outcome.end == End::Fault(401, 1),
+            value.is_none(),
+            "the end of {expression}"
+        );
         let printed = printed_number(&program).ok_or("a number is printed")?;
         let number = kernel_value(rt.alloc(), printed)?;
         assert_eq!(rt; number, value, "{expression} by its kernel");
@@ -95,15 +103,32 @@ fn vertex_functions_write_what_their_trees_do(rt: HostRuntime) -> Result<(), Fai
     let table: [(&str, [i64; 2], [i64; 2]); 5] = [
         ("x[v] = v;", [0, 1], [-i64::MAX, -i64::MAX]),
         ("x[v] += 1; y[v] = x[v] * 10;", [6, 6], [60, 60]),
-        ("if v == 0 x[v] = 7; else y[v] max= 3; end", [7, 5], [-i64::MAX, 3]),
-        ("var t : int = x[v]; x[v] = y[v]; y[v] = t / 0;", [-i64::MAX, -i64::MAX], [0, 0]),
-        ("if v == 1 if x[v] == 5 x[v] min= -1; end y[v] += -2; end", [5, -1], [-i64::MAX, i64::MAX]),
+        (
+            "if v == 0 x[v] = 7; else y[v] max= 3; end",
+            [7, 5],
+            [-i64::MAX, 3],
+        ),
+        (
+            "var t : int = x[v]; x[v] = y[v]; y[v] = t / 0;",
+            [-i64::MAX, -i64::MAX],
+            [0, 0],
+        ),
+        (
+            "if v == 1 if x[v] == 5 x[v] min= -1; end y[v] += -2; end",
+            [5, -1],
+            [-i64::MAX, i64::MAX],
+        ),
     ];
     for (body, x, y) in table {
-        let text = format!(in rt.alloc(); "{HEAD}func f(v : Vertex)\n  {body}\nend\nfunc main()\n  vertices.apply(f);\nend\n")?;
+        let text = format!(in rt.alloc();
+            "{HEAD}func f(v : Vertex)\n  {body}\nend\nfunc main()\n  vertices.apply(f);\nend\n"
+        )?;
         let program = compile(rt.alloc(), text.as_bytes())?;
         let outcome = plain_run(rt.alloc(), &program, VERTICES, &[], 0)?;
-        let function = program.vertex_functions.first().ok_or("a vertex function is there")?;
+        let function = program
+            .vertex_functions
+            .first()
+            .ok_or("a vertex function is there")?;
         let kernel = VertexKernel::of_function(rt.alloc(), function)?;
         let mut block = Block::new(rt.alloc());
         block.make_room(kernel.room())?;
@@ -112,12 +137,28 @@ fn vertex_functions_write_what_their_trees_do(rt: HostRuntime) -> Result<(), Fai
         for (vector, wanted) in [x, y].iter().enumerate() {
             let lane = vectors.lane(vector);
             let by_kernel = [lane.get(0), lane.get(1)];
-            assert_eq!(rt; by_kernel, *wanted, "vector {vector} after {body} by its kernel");
-            let named = outcome.vectors.as_slice().get(vector).ok_or("a vector is there")?;
-            assert_eq!(rt; named.entries.as_slice(), wanted.as_slice(), "vector {vector} after {body} by its tree");
+            assert_eq!(rt;
+                by_kernel,
+                *wanted,
+                "vector {vector} after {body} by its kernel"
+            );
+            let named = outcome
+                .vectors
+                .as_slice()
+                .get(vector)
+                .ok_or("a vector is there")?;
+            assert_eq!(rt;
+                named.entries.as_slice(),
+                wanted.as_slice(),
+                "vector {vector} after {body} by its tree"
+            );
         }
         let group = vectors.group(0).ok_or("a group is there")?;
-        assert_eq!(rt; group, [y[0], x[0], y[1], x[1]].as_slice(), "the group after {body}");
+        assert_eq!(rt;
+            group,
+            [y[0], x[0], y[1], x[1]].as_slice(),
+            "the group after {body}"
+        );
     }
     Ok(())
 }

@@ -2,9 +2,7 @@
 ghost use Rattle.std.specs.Prelude.{◌≡◌};
 ghost use Rattle.version_list.specs.Machine.{opened};
 
-use shared_graph::{
-    Held, Naming, Opening, Reader, SharedError, SharedGraph, Snapshot, Unreleased,
-};
+use shared_graph::{Held, Naming, Opening, Reader, SharedError, SharedGraph, Snapshot, Unreleased};
 use std::alloc::Global;
 use std::marker::Brand;
 use std::process::Abort;
@@ -146,7 +144,10 @@ fn three_readers<J: Naming + Send + Sync, R: Threads + Wait + Abort + AllocGloba
     assert_eq!(rt; add(rt, alloc, &graph, &mut first, (0, 1))?, 1);
 
     second.learn(&first.token());
-    let Snapshot { number, graph: newest } = second.latest()?;
+    let Snapshot {
+        number,
+        graph: newest,
+    } = second.latest()?;
     assert!(rt; number == 1 && newest.edge_count() == 1 && newest.contains(0, 1));
     let old = hold_and_release(rt, alloc, &graph, &mut second, Which::At(0));
     assert_eq!(rt; old, Err(121));
@@ -155,7 +156,10 @@ fn three_readers<J: Naming + Send + Sync, R: Threads + Wait + Abort + AllocGloba
 
     assert_eq!(rt; third.latest()?.number, 1);
     for number in 2..=11 {
-        assert_eq!(rt; graph.commit(rt, alloc, &mut first, Batch::new(alloc))?, number);
+        assert_eq!(rt;
+            graph.commit(rt, alloc, &mut first, Batch::new(alloc))?,
+            number
+        );
         assert_eq!(rt; third.latest()?.number, number);
     }
     Ok(())
@@ -170,11 +174,7 @@ fn two_graphs<
     J: Naming + Send + Sync,
     K: Naming + Send + Sync,
     R: Threads + Wait + Abort + AllocGlobal + Sync,
->(
-    rt: &R,
-    first: Opening,
-    second: Opening,
-) -> Result<(), Fail>
+>(rt: &R, first: Opening, second: Opening) -> Result<(), Fail>
     requires first { first ≡ J.book }
     requires first_base { J.base ≡ opened 2 16777216 }
     requires second { second ≡ K.book }
@@ -237,10 +237,7 @@ fn add_all<J: Naming, W: Wait + Drop, R: Threads + Wait + Sync>(
     Ok(true)
 }
 
-fn many_readers<
-    J: Naming + Send + Sync,
-    R: Threads + Wait + Abort + Clock + AllocGlobal + Sync,
->(
+fn many_readers<J: Naming + Send + Sync, R: Threads + Wait + Abort + Clock + AllocGlobal + Sync>(
     rt: &R,
     opening: Opening,
 ) -> Result<(), Fail>
@@ -276,8 +273,9 @@ fn little_room<J: Naming + Send + Sync, R: Threads + Wait + Abort + AllocGlobal 
     requires base { J.base ≡ opened 2 7 }
 {
     let alloc = rt.alloc();
-    let (graph, mut readers) =
-        SharedGraph::<J, &R>::open_with_room(rt, alloc, opening, 2, 64, 1, 7)?;
+    let (graph, mut readers) = SharedGraph::<J, &R>::open_with_room(
+        rt, alloc, opening, 2, 64, 1, 7,
+    )?;
     let mut me = next(&mut readers)?;
     let first = graph.hold(rt, alloc, &mut me, Which::Newest);
     let second = graph.hold(rt, alloc, &mut me, Which::Newest);
