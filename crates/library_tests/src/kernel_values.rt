@@ -1,9 +1,10 @@
 //! Expressions by their trees and by their kernels beside each other, and vertex functions.
 use algorithm_meaning::{End, plain_run};
 use compiler::compile;
-use kernels::{Block, ExpressionKernel, MainState, VertexKernel};
+use kernels::{Block, EdgeKernel, ExpressionKernel, MainState, Shape, VertexKernel};
 use std::alloc::Global;
 use std::test::Fail;
+use syntax::Reduction;
 use typed_tree::{Action, Integer, Sequence, Typed};
 use vectors::Vectors;
 
@@ -14,7 +15,8 @@ const HEAD: &str = "element Vertex end\nelement Edge end\n\
     const edges : edgeset{Edge}(Vertex, Vertex) = load(argv[1]);\n\
     const vertices : vertexset{Vertex} = edges.getVertices();\n\
     const x : vector{Vertex}(int) = 5;\n\
-    const y : vector{Vertex}(int) = -9223372036854775807;\n";
+    const y : vector{Vertex}(int) = -9223372036854775807;\n\
+    const k : int = -3;\n";
 
 // An expression, and its value by hand, or none where an index is no vertex.
 type Row<'a> = (&'a str, Option<i64>);
@@ -49,8 +51,16 @@ fn expressions_have_one_value_by_tree_and_kernel(rt: HostRuntime) -> Result<(), 
             None => format!(in rt.alloc(); "")?,
         };
         let outcome = plain_run(rt.alloc(), &program, VERTICES, &[], 0)?;
-        assert_eq!(rt; outcome.text.as_slice(), printed.as_bytes(), "{expression} by its tree");
-        assert_eq!(rt; outcome.end == End::Fault(401, 1), value.is_none(), "the end of {expression}");
+        assert_eq!(rt;
+            outcome.text.as_slice(),
+            printed.as_bytes(),
+            "{expression} by its tree"
+        );
+        assert_eq!(rt;
+            outcome.end == End::Fault(401, 1),
+            value.is_none(),
+            "the end of {expression}"
+        );
         let printed = printed_number(&program).ok_or("a number is printed")?;
         let number = kernel_value(rt.alloc(), printed)?;
         assert_eq!(rt; number, value, "{expression} by its kernel");
@@ -95,15 +105,32 @@ fn vertex_functions_write_what_their_trees_do(rt: HostRuntime) -> Result<(), Fai
     let table: [(&str, [i64; 2], [i64; 2]); 5] = [
         ("x[v] = v;", [0, 1], [-i64::MAX, -i64::MAX]),
         ("x[v] += 1; y[v] = x[v] * 10;", [6, 6], [60, 60]),
-        ("if v == 0 x[v] = 7; else y[v] max= 3; end", [7, 5], [-i64::MAX, 3]),
-        ("var t : int = x[v]; x[v] = y[v]; y[v] = t / 0;", [-i64::MAX, -i64::MAX], [0, 0]),
-        ("if v == 1 if x[v] == 5 x[v] min= -1; end y[v] += -2; end", [5, -1], [-i64::MAX, i64::MAX]),
+        (
+            "if v == 0 x[v] = 7; else y[v] max= 3; end",
+            [7, 5],
+            [-i64::MAX, 3],
+        ),
+        (
+            "var t : int = x[v]; x[v] = y[v]; y[v] = t / 0;",
+            [-i64::MAX, -i64::MAX],
+            [0, 0],
+        ),
+        (
+            "if v == 1 if x[v] == 5 x[v] min= -1; end y[v] += -2; end",
+            [5, -1],
+            [-i64::MAX, i64::MAX],
+        ),
     ];
     for (body, x, y) in table {
-        let text = format!(in rt.alloc(); "{HEAD}func f(v : Vertex)\n  {body}\nend\nfunc main()\n  vertices.apply(f);\nend\n")?;
+        let text = format!(in rt.alloc();
+            "{HEAD}func f(v : Vertex)\n  {body}\nend\nfunc main()\n  vertices.apply(f);\nend\n"
+        )?;
         let program = compile(rt.alloc(), text.as_bytes())?;
         let outcome = plain_run(rt.alloc(), &program, VERTICES, &[], 0)?;
-        let function = program.vertex_functions.first().ok_or("a vertex function is there")?;
+        let function = program
+            .vertex_functions
+            .first()
+            .ok_or("a vertex function is there")?;
         let kernel = VertexKernel::of_function(rt.alloc(), function)?;
         let mut block = Block::new(rt.alloc());
         block.make_room(kernel.room())?;
@@ -112,12 +139,65 @@ fn vertex_functions_write_what_their_trees_do(rt: HostRuntime) -> Result<(), Fai
         for (vector, wanted) in [x, y].iter().enumerate() {
             let lane = vectors.lane(vector);
             let by_kernel = [lane.get(0), lane.get(1)];
-            assert_eq!(rt; by_kernel, *wanted, "vector {vector} after {body} by its kernel");
-            let named = outcome.vectors.as_slice().get(vector).ok_or("a vector is there")?;
-            assert_eq!(rt; named.entries.as_slice(), wanted.as_slice(), "vector {vector} after {body} by its tree");
+            assert_eq!(rt;
+                by_kernel,
+                *wanted,
+                "vector {vector} after {body} by its kernel"
+            );
+            let named = outcome
+                .vectors
+                .as_slice()
+                .get(vector)
+                .ok_or("a vector is there")?;
+            assert_eq!(rt;
+                named.entries.as_slice(),
+                wanted.as_slice(),
+                "vector {vector} after {body} by its tree"
+            );
         }
         let group = vectors.group(0).ok_or("a group is there")?;
-        assert_eq!(rt; group, [y[0], x[0], y[1], x[1]].as_slice(), "the group after {body}");
+        assert_eq!(rt;
+            group,
+            [y[0], x[0], y[1], x[1]].as_slice(),
+            "the group after {body}"
+        );
+    }
+    Ok(())
+}
+
+#[test]
+fn common_functions_have_their_shape(rt: HostRuntime) -> Result<(), Fail> {
+    // the body of an edge function, and its shape
+    let table = [
+        ("x[d] max= s;", "source 0 by max"),
+        ("x[d] min= y[s];", "entry 0 1"),
+        ("y[d] += x[s] + k;", "entry 1 0 plus -3"),
+        ("x[d] += 1;", "constant 0 1"),
+        ("x[d] += k;", "constant 0 -3"),
+        ("x[d] += x[s] - 1;", "other"),
+        ("x[d] += y[d];", "other"),
+        ("x[d] += 1; y[d] += 1;", "other"),
+        ("if s < d x[d] += 1; end", "other"),
+    ];
+    for (body, wanted) in table {
+        let text = format!(in rt.alloc();
+            "{HEAD}func f(s : Vertex, d : Vertex)\n  {body}\nend\nfunc main()\n  edges.apply(f);\nend\n"
+        )?;
+        let program = compile(rt.alloc(), text.as_bytes())?;
+        let function = program
+            .edge_functions
+            .first()
+            .ok_or("an edge function is there")?;
+        let kernel = EdgeKernel::of_function(rt.alloc(), function)?;
+        let shape = match kernel.shape() {
+            Shape::Other => format!(in rt.alloc(); "other")?,
+            Shape::Source(x, Reduction::Max) => format!(in rt.alloc(); "source {x} by max")?,
+            Shape::Source(x, _) => format!(in rt.alloc(); "source {x}")?,
+            Shape::Entry(x, _, y) => format!(in rt.alloc(); "entry {x} {y}")?,
+            Shape::EntryPlus(x, _, y, n) => format!(in rt.alloc(); "entry {x} {y} plus {n}")?,
+            Shape::Constant(x, _, n) => format!(in rt.alloc(); "constant {x} {n}")?,
+        };
+        assert_eq!(rt; shape.as_str(), wanted, "the shape of {body}");
     }
     Ok(())
 }
