@@ -135,7 +135,7 @@ fn vertex_functions_write_what_their_trees_do(rt: HostRuntime) -> Result<(), Fai
         let mut block = Block::new(rt.alloc());
         block.make_room(kernel.room())?;
         let mut vectors = two_vectors(rt.alloc())?;
-        kernel.run(&[0, 1], &[2], VERTICES, &mut vectors, &mut block);
+        kernel.run(&[0, 1], &[2], &mut vectors, &mut block);
         for (vector, wanted) in [x, y].iter().enumerate() {
             let lane = vectors.lane(vector);
             let by_kernel = [lane.get(0), lane.get(1)];
