@@ -1,8 +1,8 @@
-//! Edge functions over the pairs of a random graph: a loop of Rust beside blocks of a kernel.
+//! Edge functions over the pairs of a random graph: a loop of Rust beside a loop by the kernel's shape, and blocks.
 
 use crate::random::Random;
 use crate::timing::Times;
-use kernels::{Around, Block, EdgeKernel, Gift};
+use kernels::{Around, Block, EdgeKernel, Gift, Shape};
 use std::alloc::{AllocError, Global};
 use std::io;
 use std::rt::Clock;
@@ -53,21 +53,23 @@ impl Row {
 #[derive(Clone, Copy, Debug)]
 enum Way {
     Loop,
+    Shape,
     Blocks,
 }
 
 /// Prints the times of each edge function, in picoseconds a pair.
 pub fn print_times<R: Print + AllocGlobal + Clock>(rt: &R) -> io::Result<()> {
     println!(rt;
-        "{:<22} {:>12} {:>12} {:>8}",
-        "row", "loop ps", "blocks ps", "same"
+        "{:<22} {:>12} {:>12} {:>12} {:>8}",
+        "row", "loop ps", "shape ps", "blocks ps", "same"
     )?;
     let mut work = Work::new(rt.alloc())?;
     for row in ROWS {
         let (alone, one) = time_of(rt, row, Way::Loop, &mut work)?;
+        let (shape, another) = time_of(rt, row, Way::Shape, &mut work)?;
         let (blocks, other) = time_of(rt, row, Way::Blocks, &mut work)?;
-        let (name, same) = (row.name(), one == other);
-        println!(rt; "{name:<22} {alone:>12} {blocks:>12} {same:>8}")?;
+        let (name, same) = (row.name(), one == other && one == another);
+        println!(rt; "{name:<22} {alone:>12} {shape:>12} {blocks:>12} {same:>8}")?;
     }
     Ok(())
 }
@@ -87,6 +89,7 @@ fn time_of<R: Print + AllocGlobal + Clock>(
         let start = Instant::now(rt)?;
         match way {
             Way::Loop => loop_over(row, work),
+            Way::Shape => shape_over(&kernel, work)?,
             Way::Blocks => run_over(&kernel, work)?,
         }
         times.push(rt, start)?;
@@ -254,6 +257,37 @@ fn loop_over(row: Row, work: &mut Work) {
             }
         }
     }
+}
+
+// The row as one loop by the shape of its kernel; by blocks where it has none.
+fn shape_over(kernel: &EdgeKernel, work: &mut Work) -> Result<(), AllocError> {
+    match kernel.shape() {
+        Shape::Entry(_, Reduction::Min, from) => {
+            let lane = work.vectors.lane(from);
+            for (source, destination) in work.sources.iter().zip(&work.destinations) {
+                let given = lane.get(*source as usize);
+                if let Some(new) = work.new.get_mut(*destination as usize) {
+                    *new = (*new).min(given);
+                }
+            }
+        }
+        Shape::Constant(_, Reduction::Plus, given) => {
+            for destination in &work.destinations {
+                if let Some(new) = work.new.get_mut(*destination as usize) {
+                    *new = new.wrapping_add(given);
+                }
+            }
+        }
+        Shape::Source(_, Reduction::Max) => {
+            for (source, destination) in work.sources.iter().zip(&work.destinations) {
+                if let Some(new) = work.new.get_mut(*destination as usize) {
+                    *new = (*new).max(i64::from(*source));
+                }
+            }
+        }
+        _ => run_over(kernel, work)?,
+    }
+    Ok(())
 }
 
 // The row by blocks of its kernel.

@@ -1,9 +1,10 @@
 //! Expressions by their trees and by their kernels beside each other, and vertex functions.
 use algorithm_meaning::{End, plain_run};
 use compiler::compile;
-use kernels::{Block, ExpressionKernel, MainState, VertexKernel};
+use kernels::{Block, EdgeKernel, ExpressionKernel, MainState, Shape, VertexKernel};
 use std::alloc::Global;
 use std::test::Fail;
+use syntax::Reduction;
 use typed_tree::{Action, Integer, Sequence, Typed};
 use vectors::Vectors;
 
@@ -14,7 +15,8 @@ const HEAD: &str = "element Vertex end\nelement Edge end\n\
     const edges : edgeset{Edge}(Vertex, Vertex) = load(argv[1]);\n\
     const vertices : vertexset{Vertex} = edges.getVertices();\n\
     const x : vector{Vertex}(int) = 5;\n\
-    const y : vector{Vertex}(int) = -9223372036854775807;\n";
+    const y : vector{Vertex}(int) = -9223372036854775807;\n\
+    const k : int = -3;\n";
 
 // An expression, and its value by hand, or none where an index is no vertex.
 type Row<'a> = (&'a str, Option<i64>);
@@ -133,7 +135,7 @@ fn vertex_functions_write_what_their_trees_do(rt: HostRuntime) -> Result<(), Fai
         let mut block = Block::new(rt.alloc());
         block.make_room(kernel.room())?;
         let mut vectors = two_vectors(rt.alloc())?;
-        kernel.run(&[0, 1], &[2], VERTICES, &mut vectors, &mut block);
+        kernel.run(&[0, 1], &[2], &mut vectors, &mut block);
         for (vector, wanted) in [x, y].iter().enumerate() {
             let lane = vectors.lane(vector);
             let by_kernel = [lane.get(0), lane.get(1)];
@@ -159,6 +161,43 @@ fn vertex_functions_write_what_their_trees_do(rt: HostRuntime) -> Result<(), Fai
             [y[0], x[0], y[1], x[1]].as_slice(),
             "the group after {body}"
         );
+    }
+    Ok(())
+}
+
+#[test]
+fn common_functions_have_their_shape(rt: HostRuntime) -> Result<(), Fail> {
+    // the body of an edge function, and its shape
+    let table = [
+        ("x[d] max= s;", "source 0 by max"),
+        ("x[d] min= y[s];", "entry 0 1"),
+        ("y[d] += x[s] + k;", "entry 1 0 plus -3"),
+        ("x[d] += 1;", "constant 0 1"),
+        ("x[d] += k;", "constant 0 -3"),
+        ("x[d] += x[s] - 1;", "other"),
+        ("x[d] += y[d];", "other"),
+        ("x[d] += 1; y[d] += 1;", "other"),
+        ("if s < d x[d] += 1; end", "other"),
+    ];
+    for (body, wanted) in table {
+        let text = format!(in rt.alloc();
+            "{HEAD}func f(s : Vertex, d : Vertex)\n  {body}\nend\nfunc main()\n  edges.apply(f);\nend\n"
+        )?;
+        let program = compile(rt.alloc(), text.as_bytes())?;
+        let function = program
+            .edge_functions
+            .first()
+            .ok_or("an edge function is there")?;
+        let kernel = EdgeKernel::of_function(rt.alloc(), function)?;
+        let shape = match kernel.shape() {
+            Shape::Other => format!(in rt.alloc(); "other")?,
+            Shape::Source(x, Reduction::Max) => format!(in rt.alloc(); "source {x} by max")?,
+            Shape::Source(x, _) => format!(in rt.alloc(); "source {x}")?,
+            Shape::Entry(x, _, y) => format!(in rt.alloc(); "entry {x} {y}")?,
+            Shape::EntryPlus(x, _, y, n) => format!(in rt.alloc(); "entry {x} {y} plus {n}")?,
+            Shape::Constant(x, _, n) => format!(in rt.alloc(); "constant {x} {n}")?,
+        };
+        assert_eq!(rt; shape.as_str(), wanted, "the shape of {body}");
     }
     Ok(())
 }

@@ -20,7 +20,7 @@ mod script_devices;
 #[cfg(test)]
 mod sets_of_vertices;
 #[cfg(test)]
-mod shared_graphs;
+mod shared_graph_rows;
 #[cfg(test)]
 mod tails;
 #[cfg(test)]

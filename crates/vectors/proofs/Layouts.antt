@@ -16,7 +16,7 @@ pub same_lists : {A : Type 0} (xs ys : List A) (d : A) → length xs ≡ length 
 same_lists xs ys d n h = fill_by_all (λ k. get_or ys k d) xs (length xs) d refl h ∙ sym (fill_by_all (λ k. get_or ys k d) ys (length xs) d (sym n) (λ k l. refl))
 
 -- a list stays where a place past its end is set
-set_past : {A : Type 0} (xs : List A) (at : ℕ) (x : A) → length xs ≤ at → set xs at x ≡ xs
+pub set_past : {A : Type 0} (xs : List A) (at : ℕ) (x : A) → length xs ≤ at → set xs at x ≡ xs
 set_past [] at x l = refl
 set_past (y ∷ xs) zero x l = absurd (omega arith)
 set_past (y ∷ xs) (suc at) x l = ap (λ zs. y ∷ zs) (set_past xs at x (omega arith))
@@ -129,7 +129,8 @@ number_elsewhere : (arrays : List (List ℤ)) (array place : ℕ) (x : ℤ) (oth
 number_elsewhere arrays array place x other at h =
     ap (λ (xs : List ℤ). get_or xs at (pos 0)) (get_or-set_other arrays array other (set (get_or arrays array []) place x) [] h)
 
-same_functions : {A B : Type 0} (f g : A → B) → ((x : A) → f x ≡ g x) → f ≡ g
+-- functions that give the same are one
+pub same_functions : {A B : Type 0} (f g : A → B) → ((x : A) → f x ≡ g x) → f ≡ g
 same_functions f g h = λ i x. h x i
 
 -- a vector keeps its entries where the number written is none of them
