@@ -14,13 +14,9 @@ mod forked_graphs;
 #[cfg(test)]
 mod forked_sets;
 #[cfg(test)]
-mod kernel_values;
-#[cfg(test)]
 mod script_devices;
 #[cfg(test)]
 mod sets_of_vertices;
-#[cfg(test)]
-mod shared_graph_rows;
 #[cfg(test)]
 mod tails;
 #[cfg(test)]

@@ -7,7 +7,9 @@ fn sets_are_the_same_in_each_form(rt: HostRuntime) -> Result<(), Fail> {
     for form in [Form::List, Form::Flags, Form::Bits] {
         let mut set = VertexSet::empty(rt.alloc(), 65, form)?;
         for vertex in [63, 0, 64, 0] {
-            set.insert(vertex)?;
+            if vertex < set.vertices() {
+                set.insert(vertex)?;
+            }
         }
         let members: Vec<u32> = set.iter().collect(rt.alloc())?;
         assert_eq!(rt; members.as_slice(), [0, 63, 64].as_slice(), "{form:?}");

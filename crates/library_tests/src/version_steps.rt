@@ -62,10 +62,9 @@ fn a_full_history_releases_all_tickets(rt: HostRuntime) -> Result<(), Fail> {
     asked.extend_from_slice(&released)?;
     let replies = replies_to(rt.alloc(), 7, &asked)?;
     let tickets = [Ticket(1, 0), Ticket(2, 0), Ticket(3, 0)];
-    assert_eq!(rt; &replies[..3], tickets.as_slice());
-    let others = [FULL, Refused(121), Version(1), FULL];
-    assert_eq!(rt; &replies[3..7], others.as_slice());
-    let last = [Released, Released, Released, Refused(122), FULL];
-    assert_eq!(rt; &replies[7..], last.as_slice());
+    let mut wanted = Vec::from_slice(rt.alloc(), &tickets)?;
+    wanted.extend_from_slice(&[FULL, Refused(121), Version(1), FULL])?;
+    wanted.extend_from_slice(&[Released, Released, Released, Refused(122), FULL])?;
+    assert_eq!(rt; replies.as_slice(), wanted.as_slice());
     Ok(())
 }

@@ -1,6 +1,0 @@
-use Rattle.version_list.specs.Machine.{opened}
-use Rattle.library_tests.proofs.shared_graph_rows.a_room_of_seven.Given as goal
-
--- the graph that was just opened
-abbrev pub ghosts-little_room : goal.ghosts-little_room
-ghosts-little_room a = record { book = a.opening; base = opened 2 7 }

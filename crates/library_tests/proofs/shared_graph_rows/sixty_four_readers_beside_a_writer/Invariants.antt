@@ -1,6 +1,0 @@
-use Rattle.version_list.specs.Machine.{opened}
-use Rattle.library_tests.proofs.shared_graph_rows.sixty_four_readers_beside_a_writer.Given as goal
-
--- the graph that was just opened
-abbrev pub ghosts-many_readers : goal.ghosts-many_readers
-ghosts-many_readers a = record { book = a.opening; base = opened 128 16777216 }

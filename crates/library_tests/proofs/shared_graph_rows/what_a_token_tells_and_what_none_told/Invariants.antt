@@ -1,6 +1,0 @@
-use Rattle.version_list.specs.Machine.{opened}
-use Rattle.library_tests.proofs.shared_graph_rows.what_a_token_tells_and_what_none_told.Given as goal
-
--- the graph that was just opened
-abbrev pub ghosts-three_readers : goal.ghosts-three_readers
-ghosts-three_readers a = record { book = a.opening; base = opened 3 16777216 }
