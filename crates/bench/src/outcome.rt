@@ -1,6 +1,7 @@
 //! What a script replies.
 
 use devices::Device;
+use scripts::{Session, script as run_script};
 use std::alloc::Global;
 use std::io;
 use std::io::Error;
@@ -11,7 +12,9 @@ use std::io::Error;
 pub fn replies_to(alloc: Global, script: &str) -> io::Result<Vec<u8>> {
     let mut replies = Vec::new(alloc);
     let mut reader = Device::new(script.as_bytes());
-    match scripts::script(alloc, &[], &mut reader, &mut Device::new(&mut replies)) {
+    let mut session = Session::new(alloc);
+    let mut writer = Device::new(&mut replies);
+    match run_script(alloc, &[], &mut reader, &mut writer, &mut session) {
         Ok(_) => Ok(replies),
         Err(error) => Err(Error::other(error.to_string(alloc)?.as_str())),
     }

@@ -4,7 +4,7 @@ use crate::compare::{Output, add_differences};
 use crate::listing::Place;
 use crate::repeated::expanded;
 use devices::Device;
-use driver::{Files, run};
+use driver::{Files, Session, run};
 use std::alloc::{AllocError, Global};
 use std::io::ErrorKind;
 use std::{fs, io, str};
@@ -96,6 +96,7 @@ fn outcome_on(folder: &Folder<'_>, words: &[&str], input: &[u8]) -> io::Result<O
         &mut Device::new(input),
         &mut Device::new(&mut out),
         &mut Device::new(&mut err),
+        &mut Session::new(alloc),
     );
     let status = Vec::from_slice(alloc, format!(in alloc; "{status}\n")?.as_bytes())?;
     Ok(Outcome { status, out, err })

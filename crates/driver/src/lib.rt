@@ -25,4 +25,5 @@ pub use error::ServeError;
 pub use files::{Disk, Files};
 pub use requests::{Request, RequestError};
 pub use running::run;
+pub use scripts::Session;
 pub use serving::serve;

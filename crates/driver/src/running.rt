@@ -10,13 +10,15 @@ use crate::files::Files;
 use crate::requests::RequestError;
 use crate::serving::{Text, serve};
 use devices::{Drain, Feed};
+use scripts::Session;
 use std::alloc::Global;
 use std::fmt::Write;
 
 /// Reads the words after the program's name, and does what they ask for; the answer is the exit status.
 ///
 /// It is that of `serve` where the words are a request. Where they are none, or ask for help, it is 2, and 4
-/// where memory runs out over them; `err` is then told why, and `out` took nothing.
+/// where memory runs out over them; `err` is then told why, and `out` took nothing. A script opens its graph
+/// in the session, which begins anew.
 pub fn run<F: Files, R: Feed, W: Drain, E: Drain>(
     alloc: Global,
     words: &[&str],
@@ -24,6 +26,7 @@ pub fn run<F: Files, R: Feed, W: Drain, E: Drain>(
     input: &mut R,
     out: &mut W,
     err: &mut E,
+    session: &mut Session,
 ) -> u8
     ensures { Runs (F.may_hold files.now) (F.may_fail files.now) (map (λ w. w.now) words.entry.now)
         (input_of (R.given input.old) (R.ended input.old) (R.failures input.old))
@@ -32,7 +35,7 @@ pub fn run<F: Files, R: Feed, W: Drain, E: Drain>(
         (taken_by (W.taken out.new) (W.failures out.new)) result }
 {
     match request(alloc, words) {
-        Ok(request) => serve(alloc, &request, files, input, out, err),
+        Ok(request) => serve(alloc, &request, files, input, out, err, session),
         Err(error) => refused(&error, err),
     }
 }

@@ -12,7 +12,7 @@ use crate::requests::Request;
 use crate::status;
 use compiler::{CompileError, compile};
 use devices::{Drain, Feed, write_all};
-use scripts::{run_text, script};
+use scripts::{Session, run_text, script};
 use std::alloc::Global;
 use std::fmt;
 use std::fmt::Write;
@@ -22,7 +22,8 @@ use typed_tree::Typed;
 const OK_LINE: &[u8] = b"ok\n";
 
 /// Does a request, and answers the exit status: 0 where all was done, or 3 where some run of the script
-/// ended by a fault. `out` has then taken the line `ok` of a check, or the replies of the script.
+/// ended by a fault. `out` has then taken the line `ok` of a check, or the replies of the script. A script
+/// opens its graph in the session, which begins anew; a check leaves the session as it is.
 ///
 /// `Check` writes once the program is compiled. `Script` compiles each program before it reads the next
 /// file, and reads the script's file last. The status is 1 where a program's text is refused; `err` is
@@ -36,6 +37,7 @@ pub fn serve<F: Files, R: Feed, W: Drain, E: Drain>(
     input: &mut R,
     out: &mut W,
     err: &mut E,
+    session: &mut Session,
 ) -> u8
     ensures { Serves (F.may_hold files.now) (F.may_fail files.now) request.now
         (input_of (R.given input.old) (R.ended input.old) (R.failures input.old))
@@ -44,10 +46,10 @@ pub fn serve<F: Files, R: Feed, W: Drain, E: Drain>(
         (taken_by (W.taken out.new) (W.failures out.new)) result }
 {
     match request {
-        Request::Input => told(run_input(alloc, input, out), err),
+        Request::Input => told(run_input(alloc, input, out, session), err),
         Request::Check { file } => told(check_file(alloc, file, files, out), err),
         Request::Script { script, programs } => {
-            told(run_files(alloc, script, programs, files, out), err)
+            told(run_files(alloc, script, programs, files, out, session), err)
         }
     }
 }
@@ -72,6 +74,7 @@ fn run_input<'a, R: Feed, W: Drain>(
     alloc: Global,
     input: &mut R,
     out: &mut W,
+    session: &mut Session,
 ) -> Result<bool, ServeError<'a>>
     ensures { RunsInput
         (input_of (R.given input.old) (R.ended input.old) (R.failures input.old))
@@ -79,7 +82,7 @@ fn run_input<'a, R: Feed, W: Drain>(
         (taken_by (W.taken out.old) (W.failures out.old))
         (taken_by (W.taken out.new) (W.failures out.new)) result }
 {
-    Ok(script(alloc, &[], input, out)?)
+    Ok(script(alloc, &[], input, out, session)?)
 }
 
 // Compiles the program in the file of this name, and then writes the line `ok`. No run ends by a fault.
@@ -107,6 +110,7 @@ fn run_files<'a, F: Files, W: Drain>(
     programs: &[&'a str],
     files: &F,
     out: &mut W,
+    session: &mut Session,
 ) -> Result<bool, ServeError<'a>>
     ensures { RunsFiles (F.may_hold files.now) (F.may_fail files.now) script.now (map (λ p. p.now) programs.entry.now)
         (taken_by (W.taken out.old) (W.failures out.old))
@@ -114,7 +118,7 @@ fn run_files<'a, F: Files, W: Drain>(
 {
     let compiled = compiled_files(alloc, programs, files)?;
     let text = files.read(alloc, script)?;
-    Ok(run_text(alloc, &compiled, &text, out)?)
+    Ok(run_text(alloc, &compiled, &text, out, session)?)
 }
 
 // The programs in the files of these names.

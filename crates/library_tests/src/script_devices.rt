@@ -1,6 +1,6 @@
 //! Scripts and their replies, over readers and writers that fail or go slowly.
 use devices::Device;
-use scripts::{ScriptError, script};
+use scripts::{ScriptError, Session, script};
 use std::alloc::Global;
 use std::io;
 use std::io::{Error, ErrorKind, Read, Write};
@@ -63,7 +63,8 @@ fn run(alloc: Global, bytes: &[u8], room: usize) -> (Result<bool, ScriptError>, 
         bytes,
         is_interrupted: false,
     });
-    let result = script(alloc, &[], &mut reader, &mut Device::new(&mut writer));
+    let mut session = Session::new(alloc);
+    let result = script(alloc, &[], &mut reader, &mut Device::new(&mut writer), &mut session);
     (result, writer.bytes)
 }
 
@@ -157,6 +158,7 @@ fn replies_before_it_reads_on(rt: HostRuntime) {
         &[],
         &mut Device::new(reader),
         &mut Device::new(CountingWriter(&taken)),
+        &mut Session::new(rt.alloc()),
     );
     assert_eq!(rt; ended, Ok(false));
     assert_eq!(rt; taken.load(Ordering::SeqCst), FIRST_REPLIES.len());

@@ -20,13 +20,13 @@
 mod commands;
 mod error;
 mod line_reply;
-mod lines;
 mod open_graph;
 mod outcome_text;
 mod parse;
 mod pieces;
 mod reply_writer;
 mod scripts;
+mod session;
 mod text;
 mod words;
 
@@ -36,4 +36,5 @@ pub use outcome_text::{is_fault, push_outcome};
 pub use parse::command;
 pub use pieces::{first_piece, joined_pieces, last_line, split_line};
 pub use scripts::script;
+pub use session::Session;
 pub use text::run_text;

@@ -5,14 +5,15 @@ ghost use Rattle.scripts.specs.Progress.{at_start};
 ghost use Rattle.scripts.specs.Script.{input, taken_by, RunsScript};
 
 use crate::error::ScriptError;
-use crate::lines::Lines;
+use crate::session::Session;
 use crate::reply_writer::{BLOCK, ReplyWriter};
 use devices::{Drain, Feed};
 use std::alloc::Global;
 use typed_tree::Typed;
 
 /// Reads a script to its end and writes the replies to its lines, in blocks of 64 KiB. Its runs are of
-/// these programs, numbered from 1. `Ok` says whether some run ended by a fault.
+/// these programs, numbered from 1. `Ok` says whether some run ended by a fault. The session begins anew,
+/// and has at the end what the script opened.
 ///
 /// The replies to the lines that have come are written before more is read. Errors:
 /// - `ReadFailed` where the reader failed in this call. What was written is exactly the replies to the
@@ -24,6 +25,7 @@ pub fn script<R: Feed, W: Drain>(
     programs: &[Typed],
     reader: &mut R,
     writer: &mut W,
+    session: &mut Session,
 ) -> Result<bool, ScriptError>
     ensures { RunsScript (map program_tree programs.now)
         (input (R.given reader.old) (R.ended reader.old) (R.failures reader.old))
@@ -33,7 +35,7 @@ pub fn script<R: Feed, W: Drain>(
 {
     let mut block = vec![in alloc; 0u8; BLOCK]?;
     let mut kept = Vec::with_capacity(alloc, BLOCK)?;
-    let mut lines = Lines::new(alloc);
+    *session = Session::new(alloc);
     let mut replies = ReplyWriter {
         writer,
         kept: &mut kept,
@@ -41,7 +43,7 @@ pub fn script<R: Feed, W: Drain>(
     let result = read_to_end(
         alloc,
         programs,
-        &mut lines,
+        session,
         &mut block,
         reader,
         &mut replies,
@@ -57,12 +59,12 @@ pub fn script<R: Feed, W: Drain>(
 fn read_to_end<R: Feed, W: Drain>(
     alloc: Global,
     programs: &[Typed],
-    lines: &mut Lines,
+    session: &mut Session,
     block: &mut [u8],
     reader: &mut R,
     replies: &mut ReplyWriter<'_, W>,
 ) -> Result<bool, ScriptError>
-    requires lines { lines.old ≡ at_start }
+    requires session { session.old ≡ at_start }
     requires block { 0 < length block.old }
     requires kept { replies.old.kept ≡ [] }
     ensures same_writer { replies.new.writer ≡ replies.old.writer }
@@ -80,10 +82,10 @@ fn read_to_end<R: Feed, W: Drain>(
         if count == 0 {
             break;
         }
-        lines.take(alloc, programs, &block[..count], replies)?;
+        session.take(alloc, programs, &block[..count], replies)?;
         replies.flush()?;
     }
-    lines.finish(alloc, programs, replies)?;
+    session.finish(alloc, programs, replies)?;
     replies.flush()?;
-    Ok(lines.has_faulted())
+    Ok(session.has_faulted())
 }

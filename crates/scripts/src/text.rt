@@ -6,14 +6,15 @@ ghost use Rattle.scripts.specs.Script.{taken_by};
 ghost use Rattle.scripts.specs.Text.{RunsText};
 
 use crate::error::ScriptError;
-use crate::lines::Lines;
+use crate::session::Session;
 use crate::reply_writer::{BLOCK, ReplyWriter};
 use devices::Drain;
 use std::alloc::Global;
 use typed_tree::Typed;
 
 /// Runs the script that a text is and writes the replies to its lines, in blocks of 64 KiB. Its runs are
-/// of these programs, numbered from 1. `Ok` says whether some run ended by a fault.
+/// of these programs, numbered from 1. `Ok` says whether some run ended by a fault. The session begins anew,
+/// and has at the end what the script opened.
 ///
 /// Errors: `WriteFailed` where the writer failed in this call, or `NoMemory`; never `ReadFailed`. What was
 /// written is then a beginning of the replies.
@@ -22,18 +23,19 @@ pub fn run_text<W: Drain>(
     programs: &[Typed],
     text: &[u8],
     writer: &mut W,
+    session: &mut Session,
 ) -> Result<bool, ScriptError>
     ensures { RunsText (map program_tree programs.now) text.now
         (taken_by (W.taken writer.old) (W.failures writer.old))
         (taken_by (W.taken writer.new) (W.failures writer.new)) result }
 {
     let mut kept = Vec::with_capacity(alloc, BLOCK)?;
-    let mut lines = Lines::new(alloc);
+    *session = Session::new(alloc);
     let mut replies = ReplyWriter {
         writer,
         kept: &mut kept,
     };
-    let result = answer_text(alloc, programs, &mut lines, text, &mut replies);
+    let result = answer_text(alloc, programs, session, text, &mut replies);
     let ReplyWriter { writer, kept: _ } = replies;
     // No effect at run time. The proof reads what the writer holds from this use.
     let _ = &*writer;
@@ -44,20 +46,20 @@ pub fn run_text<W: Drain>(
 fn answer_text<W: Drain>(
     alloc: Global,
     programs: &[Typed],
-    lines: &mut Lines,
+    session: &mut Session,
     text: &[u8],
     replies: &mut ReplyWriter<'_, W>,
 ) -> Result<bool, ScriptError>
-    requires lines { lines.old ≡ at_start }
+    requires session { session.old ≡ at_start }
     requires kept { replies.old.kept ≡ [] }
     ensures same_writer { replies.new.writer ≡ replies.old.writer }
     ensures runs { RunsText (map program_tree programs.now) text.now
         (taken_by replies.old.taken replies.old.failures)
         (taken_by replies.new.taken replies.new.failures) result }
 {
-    lines.take(alloc, programs, text, replies)?;
+    session.take(alloc, programs, text, replies)?;
     replies.flush()?;
-    lines.finish(alloc, programs, replies)?;
+    session.finish(alloc, programs, replies)?;
     replies.flush()?;
-    Ok(lines.has_faulted())
+    Ok(session.has_faulted())
 }

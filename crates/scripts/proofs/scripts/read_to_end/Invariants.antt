@@ -8,7 +8,7 @@ use Rattle.scripts.proofs.scripts.read_to_end.Given as goal
 abbrev pub invariant-reads : goal.invariant-reads
 invariant-reads g l =
     IsReading (map program_tree l.fn.programs) (input (g.R.Feed.given l.fn.reader) (g.R.Feed.ended l.fn.reader) (g.R.Feed.failures l.fn.reader))
-    (input (g.R.Feed.given l.reader) (g.R.Feed.ended l.reader) (g.R.Feed.failures l.reader)) l.fn.replies l.lines l.replies
+    (input (g.R.Feed.given l.reader) (g.R.Feed.ended l.reader) (g.R.Feed.failures l.reader)) l.fn.replies l.session l.replies
 
 abbrev pub decreases-reads : goal.decreases-reads
 decreases-reads g l = g.R.Feed.reads_left l.reader

@@ -2,7 +2,7 @@ use Rattle.std.proofs.Common.{◌∙◌, sym}
 use Rattle.std.proofs.lemmas.Bool.{eqb-true}
 use Rattle.scripts.proofs.ReadingLaws.{empty_when_none}
 use Rattle.scripts.proofs.SendingLaws.{emits_none, emits_failed}
-use Rattle.scripts.proofs.lines.Lines.end_line.Goals as goal
+use Rattle.scripts.proofs.session.Session.end_line.Goals as goal
 
 pub returns-then-is_empty-clause-emits : goal.returns-then-is_empty-clause-emits
 returns-then-is_empty-clause-emits g c =

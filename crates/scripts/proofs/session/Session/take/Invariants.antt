@@ -1,7 +1,7 @@
 use Rattle.std.proofs.Common.{length, map}
 use Rattle.typed_tree.specs.ProgramTree.{program_tree}
 use Rattle.scripts.proofs.ReadingLaws.{IsTaking}
-use Rattle.scripts.proofs.lines.Lines.take.Given as goal
+use Rattle.scripts.proofs.session.Session.take.Given as goal
 
 -- the lines before the rest are answered
 abbrev pub invariant-lines : goal.invariant-lines

@@ -1,4 +1,4 @@
-//! The lines of a script, whose bytes come in pieces.
+//! What a script has opened, and its lines, whose bytes come in pieces.
 ghost use Rattle.std.specs.Prelude.{◌≡◌, [], ◌++◌, None, OnOk, map};
 ghost use Rattle.typed_tree.specs.ProgramTree.{program_tree};
 ghost use Rattle.scripts.specs.Pieces.{HasNone};
@@ -19,28 +19,40 @@ use std::marker::Model;
 use typed_tree::Typed;
 use version_list::Versions;
 
-/// How far a script has been read: the graph that the lines so far opened, if they did, and the
-/// beginning of the line that has not ended.
-#[derive(Drop)]
-pub(crate) struct Lines {
+/// What a script has opened and how far it has been read: the graph that the lines so far opened, if they
+/// did, with its versions, and the beginning of the line that has not ended.
+///
+/// A caller lends one to a script, and has the graph until it lets the session go. That takes time in
+/// proportion to the graph, which a process that ends need not spend.
+pub struct Session {
     graph: Option<OpenGraph>,
     partial: Vec<u8>,
 }
 
-impl Model for Lines {
+// By hand: a derived drop would be written out, and proved again, in each function that lets a session go.
+impl Drop for Session {
+    fn drop(self) {
+        let Session {
+            graph: _,
+            partial: _,
+        } = self;
+    }
+}
+
+impl Model for Session {
     ghost use Rattle.scripts.specs.Progress.{Reading};
 
     ghost Value = { Reading };
 
-    ghost view = { λ l. record { state = l.graph; partial = l.partial.items } };
+    ghost view = { λ s. record { state = s.graph; partial = s.partial.items } };
 }
 
-impl Lines {
-    /// No line so far.
-    pub(crate) fn new(alloc: Global) -> Lines
+impl Session {
+    /// No line so far, and no graph. It takes no memory.
+    pub fn new(alloc: Global) -> Session
         ensures { result ≡ at_start }
     {
-        Lines {
+        Session {
             graph: None,
             partial: Vec::new(alloc),
         }

@@ -4,7 +4,7 @@ use Rattle.scripts.specs.declared.line_reply.LineReply.TheVariants as line_reply
 use Rattle.scripts.specs.Stepping.{line_text}
 use Rattle.scripts.specs.Replies.{unopened}
 use Rattle.scripts.proofs.SendingLaws.{emits_none, emits_as}
-use Rattle.scripts.proofs.lines.open.Goals as goal
+use Rattle.scripts.proofs.session.open.Goals as goal
 
 pub returns-in_err-reply-in-Err-clause-emits : goal.returns-in_err-reply-in-Err-clause-emits
 returns-in_err-reply-in-Err-clause-emits g c = emits_none _ _ _ c.from_residual.ensures.1

@@ -3,7 +3,7 @@ use Rattle.typed_tree.specs.ProgramTree.{program_tree}
 use Rattle.scripts.specs.Pieces.{HasNone}
 use Rattle.scripts.proofs.ReadingLaws.{taking_starts, taking_ends, reading_ends, taking_line, taking_fails, taking_lacks}
 use Rattle.scripts.proofs.SendingLaws.{emits_failed}
-use Rattle.scripts.proofs.lines.Lines.take.Goals as goal
+use Rattle.scripts.proofs.session.Session.take.Goals as goal
 
 pub lines-init : goal.lines-init
 lines-init g c = taking_starts (map program_tree c.args.programs.now) c.args.self.now c.args.bytes.now _ c.requires

@@ -6,7 +6,7 @@ use Rattle.scripts.specs.Stepping.{line_text}
 use Rattle.scripts.specs.Replies.{answer, on_open, unopened}
 use Rattle.scripts.proofs.ReadingLaws.{answer_command}
 use Rattle.scripts.proofs.SendingLaws.{emits_as}
-use Rattle.scripts.proofs.lines.answer_line.Goals as goal
+use Rattle.scripts.proofs.session.answer_line.Goals as goal
 
 pub returns-in_default-clause-emits : goal.returns-in_default-clause-emits
 returns-in_default-clause-emits g c =
