@@ -2,12 +2,12 @@
 
 use crate::graphs::{random_batch, random_graph, told};
 use crate::random::Random;
-use crate::timing::Times;
+use crate::table::{print_head, print_row};
+use crate::timing::{Job, times_of};
 use std::io;
 use std::rt::Clock;
 use std::thread::Threads;
-use std::time::Instant;
-use tree_batch::{Graph, Quiet};
+use tree_batch::{Batch, Graph, Quiet};
 
 // How many vertices the graphs have.
 const VERTICES: u32 = 1 << 20;
@@ -28,38 +28,75 @@ const ROWS: [(u32, u32, u32, usize); 7] = [
 /// Prints the times of batches, in microseconds: the graph's edges, the batch's entries, the forks, the best, the
 /// median.
 pub fn print_times<R: Print + AllocGlobal + Clock + Threads + Sync>(rt: &R) -> io::Result<()> {
-    println!(rt;
-        "{:>10} {:>10} {:>6} {:>12} {:>12}",
-        "edges", "entries", "forks", "best us", "median us"
+    print_head(
+        rt,
+        "row",
+        &["edges", "entries", "forks", "best us", "median us"],
     )?;
     for (edges, entries, forks, turns) in ROWS {
-        let graph = random_graph(rt.alloc(), VERTICES, edges)?;
-        let mut times = times_of(rt, graph, entries, forks, turns)?;
-        let (best, median) = (times.best() / 1000, times.median()? / 1000);
-        println!(rt; "{edges:>10} {entries:>10} {forks:>6} {best:>12} {median:>12}")?;
+        let mut commits = Commits::new(rt, edges, entries, forks)?;
+        let times = times_of(rt, turns, &mut commits)?;
+        drop(commits);
+        let (best, median) = (times.best / 1000, times.median / 1000);
+        let numbers = [
+            u64::from(edges),
+            u64::from(entries),
+            u64::from(forks),
+            best,
+            median,
+        ];
+        print_row(rt, "batch", &numbers)?;
     }
     Ok(())
 }
 
-// The times of so many batches, one after another; each lets go the graph before it.
-fn times_of<R: AllocGlobal + Clock + Threads + Sync>(
-    rt: &R,
+// Batches of so many entries, one after another; each lets go the graph before it.
+struct Commits<'a, R> {
+    rt: &'a R,
+    random: Random,
     graph: Graph,
+    batch: Batch,
     entries: u32,
     forks: u32,
-    turns: usize,
-) -> io::Result<Times> {
-    let mut random = Random::new(SEED);
-    let mut times = Times::new(rt.alloc());
-    let mut graph = graph;
-    for _ in 0..turns {
-        let batch = random_batch(rt.alloc(), &mut random, VERTICES, entries)?;
-        let start = Instant::now(rt)?;
-        graph = graph
-            .apply_forked(rt, rt.alloc(), &batch, forks, &Quiet)
-            .map_err(told)?;
-        times.push(rt, start)?;
-        times.note(graph.edge_count());
+}
+
+impl<R> Drop for Commits<'_, R> {
+    fn drop(self) {
+        let Commits {
+            rt: _,
+            random: _,
+            graph: _,
+            batch: _,
+            entries: _,
+            forks: _,
+        } = self;
     }
-    Ok(times)
+}
+
+impl<'a, R: AllocGlobal> Commits<'a, R> {
+    fn new(rt: &'a R, edges: u32, entries: u32, forks: u32) -> io::Result<Commits<'a, R>> {
+        Ok(Commits {
+            rt,
+            random: Random::new(SEED),
+            graph: random_graph(rt.alloc(), VERTICES, edges)?,
+            batch: Batch::new(rt.alloc()),
+            entries,
+            forks,
+        })
+    }
+}
+
+impl<R: AllocGlobal + Threads + Sync> Job for Commits<'_, R> {
+    fn begin(&mut self) -> io::Result<()> {
+        self.batch = random_batch(self.rt.alloc(), &mut self.random, VERTICES, self.entries)?;
+        Ok(())
+    }
+
+    fn run(&mut self) -> io::Result<u64> {
+        let next = self
+            .graph
+            .apply_forked(self.rt, self.rt.alloc(), &self.batch, self.forks, &Quiet);
+        self.graph = next.map_err(told)?;
+        Ok(self.graph.edge_count() as u64)
+    }
 }

@@ -2,14 +2,14 @@
 
 ghost use Rattle.std.specs.Prelude.{◌≡◌};
 
-use crate::timing::Times;
+use crate::table::{print_head, print_row};
+use crate::timing::{Job, times_of};
 use crew::{CrewError, Found, Open, Share, Work, run_pieces};
 use std::alloc::{AllocError, Global};
 use std::io;
 use std::io::Error;
 use std::rt::Clock;
 use std::thread::{self, Threads};
-use std::time::Instant;
 
 // How often a row is timed.
 const TURNS: usize = 25;
@@ -128,36 +128,45 @@ fn found<R: AllocGlobal + Threads + Sync>(
 
 /// Prints the times of runs of 64 and of 1,000,000 pieces, and of bare threads.
 pub fn print_times<R: Print + AllocGlobal + Clock + Threads + Sync>(rt: &R) -> io::Result<()> {
-    println!(rt;
-        "{:<10} {:>8} {:>8} {:>12} {:>12}",
-        "row", "pieces", "workers", "ns", "ns a piece"
-    )?;
+    print_head(rt, "row", &["pieces", "workers", "ns", "ns a piece"])?;
     for (row, pieces, workers, rounds) in ROWS {
-        let nanos = best_time(rt, row, pieces, workers, rounds)? / rounds.max(1);
-        let name = row.name();
+        let mut turn = Turn {
+            rt,
+            row,
+            pieces,
+            workers,
+            rounds,
+        };
+        let nanos = times_of(rt, TURNS, &mut turn)?.best / rounds.max(1);
         let each = nanos / (pieces as u64).max(1);
-        println!(rt; "{name:<10} {pieces:>8} {workers:>8} {nanos:>12} {each:>12}")?;
+        print_row(
+            rt,
+            row.name(),
+            &[pieces as u64, workers as u64, nanos, each],
+        )?;
     }
     Ok(())
 }
 
-// The best time of so many rounds of a row, in nanoseconds.
-fn best_time<R: AllocGlobal + Clock + Threads + Sync>(
-    rt: &R,
+// So many rounds of a row.
+#[derive(Drop)]
+struct Turn<'a, R> {
+    rt: &'a R,
     row: Row,
     pieces: usize,
     workers: usize,
     rounds: u64,
-) -> io::Result<u64> {
-    let mut times = Times::new(rt.alloc());
-    for _ in 0..TURNS {
-        let start = Instant::now(rt)?;
-        for _ in 0..rounds {
-            times.note(row.work(rt, pieces, workers)?);
+}
+
+impl<R: AllocGlobal + Threads + Sync> Job for Turn<'_, R> {
+    fn run(&mut self) -> io::Result<u64> {
+        let mut found = 0u64;
+        for _ in 0..self.rounds {
+            let done = self.row.work(self.rt, self.pieces, self.workers)?;
+            found = found.wrapping_add(done as u64);
         }
-        times.push(rt, start)?;
+        Ok(found)
     }
-    Ok(times.best())
 }
 
 // The pieces, the workers and the share of each run that is looked at.

@@ -1,13 +1,13 @@
 //! Sets in chunks: how long they take to make and to walk, beside their bytes alone.
 
 use crate::random::Random;
-use crate::timing::Times;
+use crate::table::{print_head, print_row};
+use crate::timing::{Job, TURNS, times_of};
 use c_tree::{CTree, CTreeError};
 use std::alloc::{AllocError, Global};
 use std::io;
 use std::io::Error;
 use std::rt::Clock;
-use std::time::Instant;
 use tail_codec::{Tail, TailError};
 
 // Of each size 1,000 sets are timed, in rounds so that memory holds them.
@@ -38,9 +38,6 @@ const SETS: [Sets; 3] = [
 
 const CHUNK_SIZE: u32 = 64;
 
-// How often a row is timed.
-const TURNS: usize = 5;
-
 const SEED: u64 = 2026;
 
 // The elements are below 2^24, by 64 in a word of a bitmap.
@@ -50,16 +47,12 @@ const WORDS: usize = 1 << (BITS - 6);
 
 /// Prints the times of all sets of a size, and what a set's walk and making cost an element.
 pub fn print_times<R: Print + AllocGlobal + Clock>(rt: &R) -> io::Result<()> {
-    println!(rt;
-        "{:<12} {:>8} {:>10} {:>14}",
-        "row", "size", "us", "ps an element"
-    )?;
+    print_head(rt, "row", &["size", "us", "ps an element"])?;
     let mut random = Random::new(SEED);
     for sets in SETS {
         let mut totals = [0u64; 6];
         for _ in 0..sets.rounds {
-            let work = Work::new(rt.alloc(), &mut random, sets)?;
-            add_times(rt, &work, &mut totals)?;
+            add_times(rt, &Work::new(rt.alloc(), &mut random, sets)?, &mut totals)?;
         }
         print_rows(rt, sets, &totals)?;
     }
@@ -69,19 +62,31 @@ pub fn print_times<R: Print + AllocGlobal + Clock>(rt: &R) -> io::Result<()> {
 // Adds the best time of each row to its total.
 fn add_times<R: AllocGlobal + Clock>(rt: &R, work: &Work, totals: &mut [u64]) -> io::Result<()> {
     for (total, row) in totals.iter_mut().zip(ROWS) {
-        *total = total.saturating_add(best_time(rt, row, work)?);
+        let times = times_of(rt, TURNS, &mut Turn(rt.alloc(), row, work))?;
+        *total = total.saturating_add(times.best);
     }
     Ok(())
 }
 
-fn print_rows<R: Print>(rt: &R, sets: Sets, totals: &[u64]) -> io::Result<()> {
-    let size = sets.size;
-    let count = sets.rounds.saturating_mul(sets.sets as u64);
-    let elements = count.saturating_mul(size as u64).max(1);
+// A row on some sets.
+#[derive(Drop)]
+struct Turn<'a>(Global, Row, &'a Work);
+
+impl Job for Turn<'_> {
+    fn run(&mut self) -> io::Result<u64> {
+        self.1.work(self.0, self.2)
+    }
+}
+
+fn print_rows<R: Print + AllocGlobal>(rt: &R, sets: Sets, totals: &[u64]) -> io::Result<()> {
+    let size = sets.size as u64;
+    let elements = sets
+        .rounds
+        .saturating_mul(sets.sets as u64)
+        .saturating_mul(size);
     for (row, total) in ROWS.into_iter().zip(totals) {
-        let (name, micros) = (row.name(), *total / 1000);
-        let picos = total.saturating_mul(1000) / elements;
-        println!(rt; "{name:<12} {size:>8} {micros:>10} {picos:>14}")?;
+        let picos = total.saturating_mul(1000) / elements.max(1);
+        print_row(rt, row.name(), &[size, *total / 1000, picos])?;
     }
     Ok(())
 }
@@ -129,22 +134,6 @@ impl Row {
             Row::WalkBlocks => Ok(sum_of_sets_by_blocks(&work.sets)),
         }
     }
-}
-
-// The best time of a row, in nanoseconds.
-fn best_time<R: AllocGlobal + Clock>(rt: &R, row: Row, work: &Work) -> io::Result<u64> {
-    let mut times = Times::new(rt.alloc());
-    let mut sum = 0u64;
-    for _ in 0..TURNS {
-        let start = Instant::now(rt)?;
-        let found = row.work(rt.alloc(), work)?;
-        times.push(rt, start)?;
-        sum = sum.wrapping_add(found);
-    }
-    if sum == 1 {
-        return Err(Error::other("the sets are empty"));
-    }
-    Ok(times.best())
 }
 
 // Lists, the sets of them, and the prefixes and tails of the sets.

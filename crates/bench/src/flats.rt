@@ -1,18 +1,18 @@
 //! Flat snapshots: how long they take to make and to walk, beside tails in a plain list.
 
 use crate::graphs::random_graph;
-use crate::timing::Times;
+use crate::table::{print_head, print_row};
+use crate::timing::{Job, TURNS, times_of};
 use flat_snapshot::Flat;
-use std::alloc::{AllocError, Global};
+use std::alloc::Global;
 use std::io;
 use std::io::Error;
 use std::rt::Clock;
-use std::time::Instant;
 use tail_codec::{Tail, TailError};
 use tree_batch::Graph;
 
 // A random graph of so many vertices and about so many edges.
-#[derive(Clone, Copy, Debug)]
+#[derive(Clone, Copy)]
 struct Size {
     name: &'static str,
     vertices: u32,
@@ -37,30 +37,41 @@ const SIZES: [Size; 3] = [
     },
 ];
 
-// How often a row is timed.
-const TURNS: usize = 5;
-
 // How many tails are timed together, and how many elements each has at most.
 const TAILS: u32 = 1 << 20;
 
 /// Prints the times of making flats and of reading all their edges, and what an edge and a vertex
 /// that has edges cost.
 pub fn print_times<R: Print + AllocGlobal + Clock>(rt: &R) -> io::Result<()> {
-    println!(rt;
-        "{:<12} {:<14} {:>10} {:>12} {:>10} {:>20}",
-        "graph", "row", "items", "best us", "ps an item", "sum"
-    )?;
     for size in SIZES {
-        let work = Work::new(rt.alloc(), size)?;
-        for row in ROWS {
-            print_row(rt, size, row, &work)?;
-        }
+        print_head(rt, size.name, &["items", "best us", "ps an item", "sum"])?;
+        print_rows(rt, &Work::new(rt.alloc(), size)?)?;
     }
     Ok(())
 }
 
+fn print_rows<R: Print + AllocGlobal + Clock>(rt: &R, work: &Work) -> io::Result<()> {
+    for row in ROWS {
+        let times = times_of(rt, TURNS, &mut Turn(rt.alloc(), row, work))?;
+        let (items, micros) = (row.items(work), times.best / 1000);
+        let picos = times.best.saturating_mul(1000) / items.max(1);
+        print_row(rt, row.name(), &[items, micros, picos, times.found])?;
+    }
+    Ok(())
+}
+
+// A row on a graph and its flat.
+#[derive(Drop)]
+struct Turn<'a>(Global, Row, &'a Work);
+
+impl Job for Turn<'_> {
+    fn run(&mut self) -> io::Result<u64> {
+        self.1.work(self.0, self.2)
+    }
+}
+
 // What is timed.
-#[derive(Clone, Copy, Debug)]
+#[derive(Clone, Copy)]
 enum Row {
     Make,
     Tails,
@@ -115,24 +126,6 @@ impl Row {
             Row::Degrees => Ok(sum_of_degrees(&work.flat)),
         }
     }
-}
-
-fn print_row<R: Print + AllocGlobal + Clock>(
-    rt: &R,
-    size: Size,
-    row: Row,
-    work: &Work,
-) -> io::Result<()> {
-    let mut times = Times::new(rt.alloc());
-    let mut sum = 0u64;
-    for _ in 0..TURNS {
-        let start = Instant::now(rt)?;
-        sum = row.work(rt.alloc(), work)?;
-        times.push(rt, start)?;
-    }
-    let (graph, name, best, items) = (size.name, row.name(), times.best(), row.items(work));
-    let (micros, picos) = (best / 1000, best.saturating_mul(1000) / items.max(1));
-    println!(rt; "{graph:<12} {name:<14} {items:>10} {micros:>12} {picos:>10} {sum:>20}")
 }
 
 // A graph, its flat, and the tails of its destinations in a plain list.

@@ -1,17 +1,19 @@
 //! Edge functions over the pairs of a random graph: a loop of Rust beside a loop by the kernel's shape, and blocks.
 
 use crate::random::Random;
-use crate::timing::Times;
+use crate::table::{print_head, print_row};
+use crate::timing::{Job, times_of};
+use algorithm_meaning::reduce;
 use kernels::{Around, Block, EdgeKernel, Gift, Shape};
 use std::alloc::{AllocError, Global};
 use std::io;
+use std::io::Error;
 use std::rt::Clock;
-use std::time::Instant;
 use syntax::Reduction;
 use typed_tree::{
     Comparison, Condition, Endpoint, Function, Integer, Operand, Operator, Sequence, Slot, Step,
 };
-use vectors::Vectors;
+use vectors::{Lane, Vectors};
 
 // How many vertices there are, as a power of 2, and how many pairs.
 const SCALE: u32 = 16;
@@ -24,7 +26,7 @@ const TURNS: usize = 7;
 const SEED: u64 = 2026;
 
 // The edge function that is timed.
-#[derive(Clone, Copy, Debug)]
+#[derive(Clone, Copy)]
 enum Row {
     /// `x[dst] min= y[src]`
     MinEntry,
@@ -50,52 +52,82 @@ impl Row {
 }
 
 // How a row is done.
-#[derive(Clone, Copy, Debug)]
+#[derive(Clone, Copy)]
 enum Way {
     Loop,
     Shape,
     Blocks,
 }
 
-/// Prints the times of each edge function, in picoseconds a pair.
+/// Prints the times of each edge function, in picoseconds a pair. Fails where two ways differ.
 pub fn print_times<R: Print + AllocGlobal + Clock>(rt: &R) -> io::Result<()> {
-    println!(rt;
-        "{:<22} {:>12} {:>12} {:>12} {:>8}",
-        "row", "loop ps", "shape ps", "blocks ps", "same"
-    )?;
+    print_head(rt, "row", &["loop ps", "shape ps", "blocks ps"])?;
     let mut work = Work::new(rt.alloc())?;
     for row in ROWS {
-        let (alone, one) = time_of(rt, row, Way::Loop, &mut work)?;
-        let (shape, another) = time_of(rt, row, Way::Shape, &mut work)?;
-        let (blocks, other) = time_of(rt, row, Way::Blocks, &mut work)?;
-        let (name, same) = (row.name(), one == other && one == another);
-        println!(rt; "{name:<22} {alone:>12} {shape:>12} {blocks:>12} {same:>8}")?;
+        print_ways(rt, row, &kernel_of(rt.alloc(), row)?, &mut work)?;
     }
     Ok(())
 }
 
+fn print_ways<R: Print + AllocGlobal + Clock>(
+    rt: &R,
+    row: Row,
+    kernel: &EdgeKernel,
+    work: &mut Work,
+) -> io::Result<()> {
+    let (alone, sum) = time_of(rt, row, Way::Loop, kernel, work)?;
+    let (shape, by_shape) = time_of(rt, row, Way::Shape, kernel, work)?;
+    let (blocks, by_blocks) = time_of(rt, row, Way::Blocks, kernel, work)?;
+    if sum != by_shape || sum != by_blocks {
+        return Err(Error::other("a kernel came to something else than the loop"));
+    }
+    print_row(rt, row.name(), &[alone, shape, blocks])
+}
+
 // The least time of a row, in picoseconds a pair, and a sum of what it left.
-fn time_of<R: Print + AllocGlobal + Clock>(
+fn time_of<R: AllocGlobal + Clock>(
     rt: &R,
     row: Row,
     way: Way,
+    kernel: &EdgeKernel,
     work: &mut Work,
 ) -> io::Result<(u64, i64)> {
-    let kernel = EdgeKernel::of_function(rt.alloc(), &function_of(rt.alloc(), row)?)?;
-    let mut times = Times::new(rt.alloc());
-    let mut sum = 0;
-    for _ in 0..TURNS {
-        work.begin();
-        let start = Instant::now(rt)?;
-        match way {
-            Way::Loop => loop_over(row, work),
-            Way::Shape => shape_over(&kernel, work)?,
-            Way::Blocks => run_over(&kernel, work)?,
-        }
-        times.push(rt, start)?;
-        sum = sum_of(&work.new);
+    let mut turn = Turn {
+        row,
+        way,
+        kernel,
+        work,
+    };
+    let best = times_of(rt, TURNS, &mut turn)?.best;
+    Ok((
+        best.saturating_mul(1000) / PAIRS as u64,
+        sum_of(&turn.work.new),
+    ))
+}
+
+// A way to do a row.
+#[derive(Drop)]
+struct Turn<'a> {
+    row: Row,
+    way: Way,
+    kernel: &'a EdgeKernel,
+    work: &'a mut Work,
+}
+
+impl Job for Turn<'_> {
+    fn begin(&mut self) -> io::Result<()> {
+        self.work.begin();
+        Ok(())
     }
-    Ok((times.best().saturating_mul(1000) / PAIRS as u64, sum))
+
+    fn run(&mut self) -> io::Result<u64> {
+        match self.way {
+            Way::Loop => loop_over(self.row, self.work),
+            Way::Shape => shape_over(self.kernel, self.work)?,
+            Way::Blocks => run_over(self.kernel, self.work)?,
+        }
+        Ok(self.work.new.len() as u64)
+    }
 }
 
 fn sum_of(numbers: &[i64]) -> i64 {
@@ -107,7 +139,6 @@ fn sum_of(numbers: &[i64]) -> i64 {
 }
 
 // The pairs of a graph, the vectors before an apply, and the first vector after it.
-#[derive(Drop)]
 struct Work {
     sources: Vec<u32>,
     destinations: Vec<u32>,
@@ -118,32 +149,33 @@ struct Work {
     block: Block,
 }
 
+impl Drop for Work {
+    fn drop(self) {
+        let Work {
+            sources: _,
+            destinations: _,
+            first: _,
+            second: _,
+            vectors: _,
+            new: _,
+            block: _,
+        } = self;
+    }
+}
+
 impl Work {
     fn new(alloc: Global) -> Result<Work, AllocError> {
         let mut random = Random::new(SEED);
-        let mut pairs = Vec::with_capacity(alloc, PAIRS)?;
-        for _ in 0..PAIRS {
-            pairs.push(edge(&mut random))?;
-        }
-        pairs.sort()?;
-        let mut sources = Vec::with_capacity(alloc, PAIRS)?;
-        let mut destinations = Vec::with_capacity(alloc, PAIRS)?;
-        for (source, destination) in &pairs {
-            sources.push(*source)?;
-            destinations.push(*destination)?;
-        }
+        let pairs = &pairs(alloc, &mut random)?;
         let first = numbers(alloc, &mut random)?;
         let second = numbers(alloc, &mut random)?;
-        let mut arrays = Vec::new(alloc);
-        arrays.push(Sequence::new(first.clone()?))?;
-        arrays.push(Sequence::new(second.clone()?))?;
         Ok(Work {
-            sources,
-            destinations,
+            sources: pairs.iter().map(|pair| pair.0).collect(alloc)?,
+            destinations: pairs.iter().map(|pair| pair.1).collect(alloc)?,
             new: first.clone()?,
+            vectors: vectors(alloc, &first, &second)?,
             first,
             second,
-            vectors: Vectors::new(alloc, arrays)?,
             block: Block::new(alloc),
         })
     }
@@ -154,6 +186,24 @@ impl Work {
             *new = *old;
         }
     }
+}
+
+// The edges of a graph, ascending.
+fn pairs(alloc: Global, random: &mut Random) -> Result<Vec<(u32, u32)>, AllocError> {
+    let mut pairs = Vec::with_capacity(alloc, PAIRS)?;
+    for _ in 0..PAIRS {
+        pairs.push(edge(random))?;
+    }
+    pairs.sort()?;
+    Ok(pairs)
+}
+
+fn vectors(alloc: Global, first: &[i64], second: &[i64]) -> Result<Vectors, AllocError> {
+    let mut arrays = Vec::new(alloc);
+    for numbers in [first, second] {
+        arrays.push(Sequence::new(Vec::from_slice(alloc, numbers)?))?;
+    }
+    Vectors::new(alloc, arrays)
 }
 
 // A number for each vertex.
@@ -178,23 +228,20 @@ fn edge(random: &mut Random) -> (u32, u32) {
     (source, destination)
 }
 
-// The function of a row.
-fn function_of(alloc: Global, row: Row) -> Result<Function, AllocError> {
-    let steps = match row {
-        Row::MinEntry => {
-            let given = Integer::EntryAt(1, Endpoint::Source);
-            vec![in alloc; Step::ReduceEntry(0, Reduction::Min, given)]?
-        }
-        Row::AddOne => {
-            vec![in alloc; Step::ReduceEntry(0, Reduction::Plus, Integer::Number(1))]?
-        }
-        Row::MaxSource => {
-            let given = Integer::Parameter(Endpoint::Source);
-            vec![in alloc; Step::ReduceEntry(0, Reduction::Max, given)]?
-        }
-        Row::Choice => choice_steps(alloc)?,
+// The kernel of the function of a row.
+fn kernel_of(alloc: Global, row: Row) -> Result<EdgeKernel, AllocError> {
+    let steps = steps_of(alloc, row)?;
+    EdgeKernel::of_function(alloc, &Function { name: 0, steps })
+}
+
+fn steps_of(alloc: Global, row: Row) -> Result<Vec<Step>, AllocError> {
+    let (reduction, given) = match row {
+        Row::MinEntry => (Reduction::Min, Integer::EntryAt(1, Endpoint::Source)),
+        Row::AddOne => (Reduction::Plus, Integer::Number(1)),
+        Row::MaxSource => (Reduction::Max, Integer::Parameter(Endpoint::Source)),
+        Row::Choice => return choice_steps(alloc),
     };
-    Ok(Function { name: 0, steps })
+    Ok(vec![in alloc; Step::ReduceEntry(0, reduction, given)]?)
 }
 
 fn choice_steps(alloc: Global) -> Result<Vec<Step>, AllocError> {
@@ -218,89 +265,96 @@ fn choice_steps(alloc: Global) -> Result<Vec<Step>, AllocError> {
 fn loop_over(row: Row, work: &mut Work) {
     let (sources, destinations) = (work.sources.as_slice(), work.destinations.as_slice());
     match row {
-        Row::MinEntry => {
-            for (source, destination) in sources.iter().zip(destinations) {
-                let given = work.second.get(*source as usize).copied().unwrap_or(0);
-                if let Some(new) = work.new.get_mut(*destination as usize) {
-                    *new = (*new).min(given);
-                }
-            }
-        }
-        Row::AddOne => {
-            for destination in destinations {
-                if let Some(new) = work.new.get_mut(*destination as usize) {
-                    *new = new.wrapping_add(1);
-                }
-            }
-        }
-        Row::MaxSource => {
-            for (source, destination) in sources.iter().zip(destinations) {
-                if let Some(new) = work.new.get_mut(*destination as usize) {
-                    *new = (*new).max(i64::from(*source));
-                }
-            }
-        }
+        Row::MinEntry => min_entries(sources, destinations, &work.second, &mut work.new),
+        Row::AddOne => add_to_each(destinations, 1, &mut work.new),
+        Row::MaxSource => max_sources(sources, destinations, &mut work.new),
         Row::Choice => {
-            for (source, destination) in sources.iter().zip(destinations) {
-                let given = work
-                    .second
-                    .get(*source as usize)
-                    .copied()
-                    .unwrap_or(0)
-                    .wrapping_add(1);
-                let old = work.first.get(*destination as usize).copied().unwrap_or(0);
-                if given < old
-                    && let Some(new) = work.new.get_mut(*destination as usize)
-                {
-                    *new = (*new).min(given);
-                }
-            }
+            let (old, given) = (work.first.as_slice(), work.second.as_slice());
+            min_of_less(sources, destinations, (old, given), &mut work.new);
+        }
+    }
+}
+
+fn entry(numbers: &[i64], vertex: u32) -> i64 {
+    numbers.get(vertex as usize).copied().unwrap_or(0)
+}
+
+fn min_entries(sources: &[u32], destinations: &[u32], given: &[i64], new: &mut [i64]) {
+    for (source, destination) in sources.iter().zip(destinations) {
+        let given = entry(given, *source);
+        if let Some(new) = new.get_mut(*destination as usize) {
+            *new = (*new).min(given);
+        }
+    }
+}
+
+fn add_to_each(destinations: &[u32], given: i64, new: &mut [i64]) {
+    for destination in destinations {
+        if let Some(new) = new.get_mut(*destination as usize) {
+            *new = new.wrapping_add(given);
+        }
+    }
+}
+
+fn max_sources(sources: &[u32], destinations: &[u32], new: &mut [i64]) {
+    for (source, destination) in sources.iter().zip(destinations) {
+        if let Some(new) = new.get_mut(*destination as usize) {
+            *new = (*new).max(i64::from(*source));
+        }
+    }
+}
+
+fn min_of_less(
+    sources: &[u32],
+    destinations: &[u32],
+    (old, given): (&[i64], &[i64]),
+    new: &mut [i64],
+) {
+    for (source, destination) in sources.iter().zip(destinations) {
+        let given = entry(given, *source).wrapping_add(1);
+        if given < entry(old, *destination)
+            && let Some(new) = new.get_mut(*destination as usize)
+        {
+            *new = (*new).min(given);
         }
     }
 }
 
 // The row as one loop by the shape of its kernel; by blocks where it has none.
 fn shape_over(kernel: &EdgeKernel, work: &mut Work) -> Result<(), AllocError> {
+    let (sources, destinations) = (work.sources.as_slice(), work.destinations.as_slice());
     match kernel.shape() {
         Shape::Entry(_, Reduction::Min, from) => {
-            let lane = work.vectors.lane(from);
-            for (source, destination) in work.sources.iter().zip(&work.destinations) {
-                let given = lane.get(*source as usize);
-                if let Some(new) = work.new.get_mut(*destination as usize) {
-                    *new = (*new).min(given);
-                }
-            }
+            min_of_lane(
+                sources,
+                destinations,
+                work.vectors.lane(from),
+                &mut work.new,
+            );
         }
         Shape::Constant(_, Reduction::Plus, given) => {
-            for destination in &work.destinations {
-                if let Some(new) = work.new.get_mut(*destination as usize) {
-                    *new = new.wrapping_add(given);
-                }
-            }
+            add_to_each(destinations, given, &mut work.new);
         }
-        Shape::Source(_, Reduction::Max) => {
-            for (source, destination) in work.sources.iter().zip(&work.destinations) {
-                if let Some(new) = work.new.get_mut(*destination as usize) {
-                    *new = (*new).max(i64::from(*source));
-                }
-            }
-        }
+        Shape::Source(_, Reduction::Max) => max_sources(sources, destinations, &mut work.new),
         _ => run_over(kernel, work)?,
     }
     Ok(())
 }
 
+fn min_of_lane(sources: &[u32], destinations: &[u32], given: Lane<'_>, new: &mut [i64]) {
+    for (source, destination) in sources.iter().zip(destinations) {
+        let given = given.get(*source as usize);
+        if let Some(new) = new.get_mut(*destination as usize) {
+            *new = (*new).min(given);
+        }
+    }
+}
+
 // The row by blocks of its kernel.
 fn run_over(kernel: &EdgeKernel, work: &mut Work) -> Result<(), AllocError> {
     for (sources, destinations) in work.sources.chunks(128).zip(work.destinations.chunks(128)) {
-        run_block(
-            kernel,
-            &work.vectors,
-            sources,
-            destinations,
-            &mut work.block,
-            &mut work.new,
-        )?;
+        let pairs = (sources, destinations);
+        run_block(kernel, &work.vectors, pairs, &mut work.block, &mut work.new)?;
     }
     Ok(())
 }
@@ -308,8 +362,7 @@ fn run_over(kernel: &EdgeKernel, work: &mut Work) -> Result<(), AllocError> {
 fn run_block(
     kernel: &EdgeKernel,
     vectors: &Vectors,
-    sources: &[u32],
-    destinations: &[u32],
+    (sources, destinations): (&[u32], &[u32]),
     block: &mut Block,
     new: &mut [i64],
 ) -> Result<(), AllocError> {
@@ -333,42 +386,35 @@ fn run_block(
 
 // Joins what is given to the destinations.
 fn join(gift: Gift<'_>, destinations: &[u32], new: &mut [i64]) {
-    match gift.when {
-        None => join_all(gift, destinations, new),
-        Some(when) => {
-            for ((destination, given), active) in destinations.iter().zip(gift.numbers).zip(when) {
-                if *active != 0
-                    && let Some(new) = new.get_mut(*destination as usize)
-                {
-                    *new = (*new).min(*given);
-                }
-            }
+    match (gift.when, gift.reduction) {
+        (Some(when), reduction) => join_some(reduction, gift.numbers, when, destinations, new),
+        (None, Reduction::Min) => join_all(Reduction::Min, gift.numbers, destinations, new),
+        (None, Reduction::Max) => join_all(Reduction::Max, gift.numbers, destinations, new),
+        (None, Reduction::Plus) => join_all(Reduction::Plus, gift.numbers, destinations, new),
+    }
+}
+
+fn join_some(
+    reduction: Reduction,
+    numbers: &[i64],
+    when: &[i64],
+    destinations: &[u32],
+    new: &mut [i64],
+) {
+    for ((destination, given), active) in destinations.iter().zip(numbers).zip(when) {
+        if *active != 0
+            && let Some(new) = new.get_mut(*destination as usize)
+        {
+            *new = reduce(reduction, *new, *given);
         }
     }
 }
 
-fn join_all(gift: Gift<'_>, destinations: &[u32], new: &mut [i64]) {
-    match gift.reduction {
-        Reduction::Min => {
-            for (destination, given) in destinations.iter().zip(gift.numbers) {
-                if let Some(new) = new.get_mut(*destination as usize) {
-                    *new = (*new).min(*given);
-                }
-            }
-        }
-        Reduction::Max => {
-            for (destination, given) in destinations.iter().zip(gift.numbers) {
-                if let Some(new) = new.get_mut(*destination as usize) {
-                    *new = (*new).max(*given);
-                }
-            }
-        }
-        Reduction::Plus => {
-            for (destination, given) in destinations.iter().zip(gift.numbers) {
-                if let Some(new) = new.get_mut(*destination as usize) {
-                    *new = new.wrapping_add(*given);
-                }
-            }
+#[inline(always)]
+fn join_all(reduction: Reduction, numbers: &[i64], destinations: &[u32], new: &mut [i64]) {
+    for (destination, given) in destinations.iter().zip(numbers) {
+        if let Some(new) = new.get_mut(*destination as usize) {
+            *new = reduce(reduction, *new, *given);
         }
     }
 }

@@ -1,11 +1,11 @@
 //! How long the lexer takes for a long source, beside a plain loop over its bytes.
 
-use crate::timing::{TURNS, Times, print_head, print_row};
+use crate::table::{print_head, print_row};
+use crate::timing::{Job, TURNS, times_of};
 use std::alloc::{AllocError, Global};
 use std::io;
 use std::io::Error;
 use std::rt::Clock;
-use std::time::Instant;
 
 // The source that is timed has at least so many bytes.
 const BYTES: usize = 10_000_000;
@@ -112,36 +112,50 @@ fn source(alloc: Global, bytes: usize) -> Result<String, AllocError> {
 
 /// Prints the times of the lexer and of a plain loop over the same bytes.
 pub fn print_times<R: Print + AllocGlobal + Clock>(rt: &R) -> io::Result<()> {
-    print_head(rt)?;
+    print_head(rt, "row", &HEADS)?;
     let text = source(rt.alloc(), BYTES)?;
-    print_lexer(rt, "lexer, bytes", text.as_bytes())?;
-    print_plain_loop(rt, text.as_bytes())
+    print_of(rt, "lexer", &mut Lexing(rt.alloc(), text.as_bytes()))?;
+    print_of(rt, "plain loop", &mut PlainLoop(text.as_bytes()))
 }
 
-/// Prints the row of the lexer on a text.
-pub fn print_lexer<R: Print + AllocGlobal + Clock>(
+/// What the numbers of a row of this table, and of that of the parser, are.
+pub const HEADS: [&str; 3] = ["best us", "median us", "check"];
+
+/// Prints the row of a job.
+pub fn print_of<R: Print + AllocGlobal + Clock, J: Job>(
     rt: &R,
     name: &str,
-    text: &[u8],
+    job: &mut J,
 ) -> io::Result<()> {
-    let mut times = Times::new(rt.alloc());
-    for _ in 0..TURNS {
-        let start = Instant::now(rt)?;
-        times.note(tokens_of(rt.alloc(), text)?);
-        times.push(rt, start)?;
-    }
-    print_row(rt, name, text.len(), &mut times)
+    let times = times_of(rt, TURNS, job)?;
+    print_row(
+        rt,
+        name,
+        &[times.best / 1000, times.median / 1000, times.found],
+    )
 }
 
-// Prints the row of a plain loop over a text.
-fn print_plain_loop<R: Print + AllocGlobal + Clock>(rt: &R, text: &[u8]) -> io::Result<()> {
-    let mut times = Times::new(rt.alloc());
-    for _ in 0..TURNS {
-        let start = Instant::now(rt)?;
-        times.note(class_runs(text));
-        times.push(rt, start)?;
+/// The lexer on a text.
+#[derive(Drop)]
+pub struct Lexing<'a>(pub Global, pub &'a [u8]);
+
+impl Job for Lexing<'_> {
+    fn run(&mut self) -> io::Result<u64> {
+        match lexer::tokens(self.0, self.1) {
+            Ok(tokens) => Ok(tokens.len() as u64),
+            Err(error) => Err(Error::other(error.to_string(self.0)?.as_str())),
+        }
     }
-    print_row(rt, "plain loop, bytes", text.len(), &mut times)
+}
+
+// A plain loop over a text.
+#[derive(Drop)]
+struct PlainLoop<'a>(&'a [u8]);
+
+impl Job for PlainLoop<'_> {
+    fn run(&mut self) -> io::Result<u64> {
+        Ok(class_runs(self.0))
+    }
 }
 
 // What a byte may be part of.
@@ -163,8 +177,8 @@ fn class_of(byte: u8) -> Class {
 }
 
 // How many runs of bytes of one class the text has, from a plain loop over its bytes.
-fn class_runs(text: &[u8]) -> usize {
-    let mut runs = 0usize;
+fn class_runs(text: &[u8]) -> u64 {
+    let mut runs = 0u64;
     let mut before = Class::Other;
     for byte in text {
         let class = class_of(*byte);
@@ -174,12 +188,4 @@ fn class_runs(text: &[u8]) -> usize {
         before = class;
     }
     runs
-}
-
-// How many tokens a text has.
-fn tokens_of(alloc: Global, text: &[u8]) -> io::Result<usize> {
-    match lexer::tokens(alloc, text) {
-        Ok(tokens) => Ok(tokens.len()),
-        Err(error) => Err(Error::other(error.to_string(alloc)?.as_str())),
-    }
 }

@@ -19,6 +19,7 @@ mod parsing;
 mod random;
 mod script_times;
 mod sets;
+mod table;
 mod tails;
 mod timing;
 mod trees;

@@ -1,12 +1,12 @@
 //! How long the parser takes for long sources of statements, beside the lexer alone.
 
-use crate::lexing::print_lexer;
-use crate::timing::{TURNS, Times, print_head, print_row};
+use crate::lexing::{HEADS, Lexing, print_of};
+use crate::table::print_head;
+use crate::timing::Job;
 use std::alloc::{AllocError, Global};
 use std::io;
 use std::io::Error;
 use std::rt::Clock;
-use std::time::Instant;
 use syntax::{Declaration, Source};
 
 // The sources that are timed have at least so many bytes.
@@ -49,31 +49,25 @@ fn source(alloc: Global, bytes: usize) -> Result<String, AllocError> {
 
 /// Prints the times of the parser, and of the lexer on the same bytes.
 pub fn print_times<R: Print + AllocGlobal + Clock>(rt: &R) -> io::Result<()> {
-    print_head(rt)?;
-    for bytes in [SHORT, LONG] {
+    for (rows, bytes) in [("100,000 bytes", SHORT), ("1,000,000 bytes", LONG)] {
+        print_head(rt, rows, &HEADS)?;
         let text = source(rt.alloc(), bytes)?;
-        print_parser(rt, text.as_bytes())?;
-        print_lexer(rt, "lexer alone, bytes", text.as_bytes())?;
+        print_of(rt, "parser", &mut Parsing(rt.alloc(), text.as_bytes()))?;
+        print_of(rt, "lexer alone", &mut Lexing(rt.alloc(), text.as_bytes()))?;
     }
     Ok(())
 }
 
-// Prints the row of the parser on a text.
-fn print_parser<R: Print + AllocGlobal + Clock>(rt: &R, text: &[u8]) -> io::Result<()> {
-    let mut times = Times::new(rt.alloc());
-    for _ in 0..TURNS {
-        let start = Instant::now(rt)?;
-        times.note(statements_of(rt.alloc(), text)?);
-        times.push(rt, start)?;
-    }
-    print_row(rt, "parser, bytes", text.len(), &mut times)
-}
+// The parser on a text.
+#[derive(Drop)]
+struct Parsing<'a>(Global, &'a [u8]);
 
-// How many statements stand in the first function of a text, aside from those in other statements.
-fn statements_of(alloc: Global, text: &[u8]) -> io::Result<usize> {
-    match parser::parse(alloc, text) {
-        Ok(source) => Ok(statements_in(&source)),
-        Err(error) => Err(Error::other(error.to_string(alloc)?.as_str())),
+impl Job for Parsing<'_> {
+    fn run(&mut self) -> io::Result<u64> {
+        match parser::parse(self.0, self.1) {
+            Ok(source) => Ok(statements_in(&source) as u64),
+            Err(error) => Err(Error::other(error.to_string(self.0)?.as_str())),
+        }
     }
 }
 

@@ -1,11 +1,12 @@
 //! How long a script takes.
 
 use crate::outcome::{hash_of, replies_to};
-use crate::timing::{TURNS, Times, print_head, print_row};
+use crate::table::{print_head, print_row};
+use crate::timing::{Job, TURNS, times_of};
 use crate::workload::adds_script;
+use std::alloc::Global;
 use std::io;
 use std::rt::Clock;
-use std::time::Instant;
 
 /// Prints what small scripts reply.
 pub fn print_outcomes<R: Print + AllocGlobal>(rt: &R) -> io::Result<()> {
@@ -21,16 +22,22 @@ pub fn print_outcomes<R: Print + AllocGlobal>(rt: &R) -> io::Result<()> {
 
 /// Prints the times of scripts of growing size.
 pub fn print_times<R: Print + AllocGlobal + Clock>(rt: &R) -> io::Result<()> {
-    print_head(rt)?;
+    print_head(rt, "row", &["adds", "best us", "median us"])?;
     for adds in [1000, 10_000, 100_000, 1_000_000] {
         let script = adds_script(rt.alloc(), adds)?;
-        let mut times = Times::new(rt.alloc());
-        for _ in 0..TURNS {
-            let start = Instant::now(rt)?;
-            let _replies = replies_to(rt.alloc(), script.as_str())?;
-            times.push(rt, start)?;
-        }
-        print_row(rt, "script, adds", adds as usize, &mut times)?;
+        let times = times_of(rt, TURNS, &mut Script(rt.alloc(), script.as_str()))?;
+        let numbers = [u64::from(adds), times.best / 1000, times.median / 1000];
+        print_row(rt, "script", &numbers)?;
     }
     Ok(())
+}
+
+// A script over memory.
+#[derive(Drop)]
+struct Script<'a>(Global, &'a str);
+
+impl Job for Script<'_> {
+    fn run(&mut self) -> io::Result<u64> {
+        Ok(replies_to(self.0, self.1)?.len() as u64)
+    }
 }

@@ -1,7 +1,8 @@
 //! Unions and differences of sets in chunks, beside a look-up and a merge of two sorted lists.
 
 use crate::random::Random;
-use crate::timing::Times;
+use crate::table::{print_head, print_row};
+use crate::timing::{Job, TURNS, times_of};
 use c_tree::{CTree, CTreeError};
 use set_ops::{Quiet, SetError, difference, difference_forked, union, union_forked};
 use std::alloc::{AllocError, Global};
@@ -9,14 +10,10 @@ use std::io;
 use std::io::Error;
 use std::rt::Clock;
 use std::thread::Threads;
-use std::time::Instant;
 
 const CHUNK_SIZE: u32 = 64;
 
 const SEED: u64 = 2026;
-
-// How often a row is timed.
-const TURNS: usize = 5;
 
 // The elements of the larger set.
 const SIZE: u64 = 1_000_000;
@@ -26,11 +23,10 @@ const OTHERS: [(u64, u64); 3] = [(1, 1000), (1000, 50), (1_000_000, 1)];
 
 /// Prints the times of the work on a set of 1,000,000 elements and sets of three sizes.
 pub fn print_times<R: Print + AllocGlobal + Clock + Threads + Sync>(rt: &R) -> io::Result<()> {
-    println!(rt; "{:<22} {:>8} {:>12}", "row", "size", "ns")?;
+    print_head(rt, "row", &["size", "ns"])?;
     let mut random = Random::new(SEED);
     for (size, rounds) in OTHERS {
-        let work = Work::new(rt.alloc(), &mut random, size)?;
-        print_rows(rt, &work, size, rounds)?;
+        print_rows(rt, &Work::new(rt.alloc(), &mut random, size)?, size, rounds)?;
     }
     Ok(())
 }
@@ -43,11 +39,35 @@ fn print_rows<R: Print + AllocGlobal + Clock + Threads + Sync>(
     rounds: u64,
 ) -> io::Result<()> {
     for row in ROWS {
-        let nanos = best_time(rt, row, work, rounds)? / rounds.max(1);
-        let name = row.name();
-        println!(rt; "{name:<22} {size:>8} {nanos:>12}")?;
+        let mut turn = Turn {
+            rt,
+            row,
+            work,
+            rounds,
+        };
+        let times = times_of(rt, TURNS, &mut turn)?;
+        print_row(rt, row.name(), &[size, times.best / rounds.max(1)])?;
     }
     Ok(())
+}
+
+// So many rounds of a row on two sets.
+#[derive(Drop)]
+struct Turn<'a, R> {
+    rt: &'a R,
+    row: Row,
+    work: &'a Work,
+    rounds: u64,
+}
+
+impl<R: AllocGlobal + Threads + Sync> Job for Turn<'_, R> {
+    fn run(&mut self) -> io::Result<u64> {
+        let mut sum = 0u64;
+        for round in 0..self.rounds {
+            sum = sum.wrapping_add(self.row.work(self.rt, self.work, round)? as u64);
+        }
+        Ok(sum)
+    }
 }
 
 // Two lists and the sets of them.
@@ -154,28 +174,6 @@ impl Row {
         };
         Ok(set.map_err(refused)?.len())
     }
-}
-
-// The best time of so many rounds of a row, in nanoseconds.
-fn best_time<R: AllocGlobal + Clock + Threads + Sync>(
-    rt: &R,
-    row: Row,
-    work: &Work,
-    rounds: u64,
-) -> io::Result<u64> {
-    let mut times = Times::new(rt.alloc());
-    let mut sum = 0usize;
-    for _ in 0..TURNS {
-        let start = Instant::now(rt)?;
-        for turn in 0..rounds {
-            sum = sum.wrapping_add(row.work(rt, work, turn)?);
-        }
-        times.push(rt, start)?;
-    }
-    if sum == usize::MAX {
-        return Err(Error::other("the sets are too large"));
-    }
-    Ok(times.best())
 }
 
 // The numbers of two ascending lists in order, each once.

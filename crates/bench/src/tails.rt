@@ -1,12 +1,12 @@
 //! Tails: how long they take to read and to make.
 
 use crate::random::Random;
-use crate::timing::Times;
+use crate::table::{print_head, print_row};
+use crate::timing::{Job, times_of};
 use std::alloc::{AllocError, Global};
 use std::io;
 use std::io::Error;
 use std::rt::Clock;
-use std::time::Instant;
 use tail_codec::{Tail, TailError};
 
 // How many tails are timed together, and how many elements each has.
@@ -47,18 +47,50 @@ const GAPS: [Gaps; 3] = [
 
 /// Prints the times of a pass over all tails, in nanoseconds.
 pub fn print_times<R: Print + AllocGlobal + Clock>(rt: &R) -> io::Result<()> {
-    println!(rt;
-        "{:<8} {:<10} {:>10} {:>10} {:>10}",
-        "row", "gaps", "elements", "best ns", "median ns"
-    )?;
     for gaps in GAPS {
-        let lists = lists(rt.alloc(), gaps)?;
-        let tails = tails(rt.alloc(), lists.as_slice()).map_err(told)?;
-        for row in [Row::Iterate, Row::Fill, Row::Encode, Row::Read] {
-            print_row(rt, row, gaps.name, lists.as_slice(), tails.as_slice())?;
-        }
+        print_head(rt, gaps.name, &["elements", "best ns", "median ns", "sum"])?;
+        print_rows(rt, gaps)?;
     }
     Ok(())
+}
+
+fn print_rows<R: Print + AllocGlobal + Clock>(rt: &R, gaps: Gaps) -> io::Result<()> {
+    let alloc = rt.alloc();
+    let lists = &lists(alloc, gaps)?;
+    let made = &tails(alloc, lists).map_err(told)?;
+    for row in [Row::Iterate, Row::Fill, Row::Encode, Row::Read] {
+        let mut turn = Turn {
+            alloc,
+            row,
+            lists,
+            made,
+        };
+        let times = times_of(rt, TURNS, &mut turn)?;
+        let elements = u64::from(TAILS * ELEMENTS);
+        print_row(
+            rt,
+            row.name(),
+            &[elements, times.best, times.median, times.found],
+        )?;
+    }
+    Ok(())
+}
+
+// A row on some lists and their tails.
+#[derive(Drop)]
+struct Turn<'a> {
+    alloc: Global,
+    row: Row,
+    lists: &'a [Vec<u32>],
+    made: &'a [Tail],
+}
+
+impl Job for Turn<'_> {
+    fn run(&mut self) -> io::Result<u64> {
+        self.row
+            .work(self.alloc, self.lists, self.made)
+            .map_err(told)
+    }
 }
 
 // What is timed.
@@ -95,28 +127,6 @@ impl Row {
             }
         }
     }
-}
-
-fn print_row<R: Print + AllocGlobal + Clock>(
-    rt: &R,
-    row: Row,
-    gaps: &str,
-    lists: &[Vec<u32>],
-    tails: &[Tail],
-) -> io::Result<()> {
-    let mut times = Times::new(rt.alloc());
-    let mut sum = 0u64;
-    for _ in 0..TURNS {
-        let start = Instant::now(rt)?;
-        let found = row.work(rt.alloc(), lists, tails).map_err(told)?;
-        times.push(rt, start)?;
-        sum = sum.wrapping_add(found);
-    }
-    let best = times.best();
-    let median = times.median()?;
-    let elements = TAILS * ELEMENTS;
-    let name = row.name();
-    println!(rt; "{name:<8} {gaps:<10} {elements:>10} {best:>10} {median:>10} {sum:>24}")
 }
 
 // The lists of a row, each above its own place.

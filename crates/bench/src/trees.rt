@@ -1,18 +1,17 @@
 //! Persistent trees beside the `BTreeMap` of std, on the same work.
 
 use crate::random::Random;
+use crate::table::{print_head, print_row};
+use crate::timing::{Job, TURNS, times_of};
 use shared_tree::{Share, Tree, TreeError};
 use std::alloc::Global;
 use std::collections::BTreeMap;
-use std::io;
 use std::io::Error;
 use std::rt::Clock;
-use std::time::Instant;
+use std::{io, mem};
 
-// How many entries the trees have that are timed, and how often each row is timed.
+// How many entries the trees have that are timed.
 const ENTRIES: u32 = 1_000_000;
-
-const TURNS: usize = 5;
 
 const FINDS: u32 = 1_000_000;
 
@@ -23,138 +22,170 @@ const GAP: u32 = 4;
 
 const SEED: u64 = 2026;
 
-/// Prints the times of trees and of maps: of each row the best of some turns, in microseconds.
+/// Prints the times of trees and of maps: of each row the best of some turns, in microseconds. Fails where a tree and
+/// a map come to something else.
 pub fn print_times<R: Print + AllocGlobal + Clock>(rt: &R) -> io::Result<()> {
-    println!(rt;
-        "{:<16} {:>10} {:>10} {:>10}",
-        "row", "count", "tree us", "map us"
-    )?;
-    print_row(rt, "from_sorted", ENTRIES, time_builds(rt)?)?;
-    print_row(rt, "iter", ENTRIES, time_walks(rt)?)?;
-    print_row(rt, "find", FINDS, time_finds(rt)?)?;
-    print_row(rt, "insert", INSERTS, time_inserts(rt, false)?)?;
-    print_row(rt, "insert, shared", INSERTS, time_inserts(rt, true)?)
+    print_head(rt, "row", &["count", "tree us", "map us"])?;
+    for row in ROWS {
+        let tree = times_of(rt, TURNS, &mut OfTree::new(rt.alloc(), row)?)?;
+        let map = times_of(rt, TURNS, &mut OfMap::new(rt.alloc(), row)?)?;
+        if tree.found != map.found {
+            return Err(Error::other("a tree and a map differ"));
+        }
+        print_row(
+            rt,
+            row.name(),
+            &[row.count(), tree.best / 1000, map.best / 1000],
+        )?;
+    }
+    Ok(())
 }
 
-// The best times of a row, in microseconds, and what the work came to.
+// What is timed.
 #[derive(Clone, Copy)]
-struct Times {
-    tree: u64,
-    map: u64,
-    sum: u64,
+enum Row {
+    Build,
+    Walk,
+    Find,
+    Insert,
+    InsertShared,
 }
 
-impl Times {
-    fn new() -> Times {
-        Times {
-            tree: u64::MAX,
-            map: u64::MAX,
-            sum: 0,
+const ROWS: [Row; 5] = [
+    Row::Build,
+    Row::Walk,
+    Row::Find,
+    Row::Insert,
+    Row::InsertShared,
+];
+
+impl Row {
+    fn name(self) -> &'static str {
+        match self {
+            Row::Build => "from_sorted",
+            Row::Walk => "iter",
+            Row::Find => "find",
+            Row::Insert => "insert",
+            Row::InsertShared => "insert, shared",
         }
     }
 
-    // Takes a turn of the tree and one of the map into account.
-    fn note(&mut self, tree: (u64, u64), map: (u64, u64)) {
-        self.tree = self.tree.min(tree.0);
-        self.map = self.map.min(map.0);
-        self.sum ^= tree.1 ^ map.1;
+    fn count(self) -> u64 {
+        match self {
+            Row::Build | Row::Walk => u64::from(ENTRIES),
+            Row::Find => u64::from(FINDS),
+            Row::Insert | Row::InsertShared => u64::from(INSERTS),
+        }
     }
 }
 
-// Prints a row, with a word where tree and map did not come to the same.
-fn print_row<R: Print>(rt: &R, name: &str, count: u32, times: Times) -> io::Result<()> {
-    let (tree, map) = (times.tree, times.map);
-    let word = if times.sum == 0 { "" } else { " differ" };
-    println!(rt; "{name:<16} {count:>10} {tree:>10} {map:>10}{word}")
+// A row on a tree, with the entries of the next one.
+struct OfTree {
+    alloc: Global,
+    row: Row,
+    entries: Vec<(u32, u64)>,
+    tree: Tree<u64>,
 }
 
-// How many microseconds went by.
-fn micros_since<R: Clock>(rt: &R, start: Instant) -> io::Result<u64> {
-    let taken = start.elapsed(rt)?;
-    Ok(u64::try_from(taken.as_micros()).unwrap_or(u64::MAX))
-}
-
-// Builds the tree and the map of the same entries.
-fn time_builds<R: AllocGlobal + Clock>(rt: &R) -> io::Result<Times> {
-    let mut times = Times::new();
-    for _ in 0..TURNS {
-        times.note(tree_build(rt)?, map_build(rt)?);
+impl Drop for OfTree {
+    fn drop(self) {
+        let OfTree {
+            alloc: _,
+            row: _,
+            entries: _,
+            tree: _,
+        } = self;
     }
-    Ok(times)
 }
 
-// How long a tree takes to build, and the sum of its entries.
-fn tree_build<R: AllocGlobal + Clock>(rt: &R) -> io::Result<(u64, u64)> {
-    let entries = entries_of(rt.alloc(), ENTRIES)?;
-    let start = Instant::now(rt)?;
-    let tree = made(rt.alloc(), Tree::from_sorted(rt.alloc(), entries))?;
-    Ok((micros_since(rt, start)?, sum_of_tree(&tree)))
-}
-
-// How long a map takes to build, and the sum of its entries.
-fn map_build<R: AllocGlobal + Clock>(rt: &R) -> io::Result<(u64, u64)> {
-    let entries = entries_of(rt.alloc(), ENTRIES)?;
-    let start = Instant::now(rt)?;
-    let map: BTreeMap<u32, u64> = entries.into_iter().collect(rt.alloc())?;
-    Ok((micros_since(rt, start)?, sum_of_map(&map)))
-}
-
-// Goes over the tree and the map.
-fn time_walks<R: AllocGlobal + Clock>(rt: &R) -> io::Result<Times> {
-    let mut times = Times::new();
-    let tree = tree_of(rt.alloc(), ENTRIES)?;
-    let map = map_of(rt.alloc(), ENTRIES)?;
-    for _ in 0..TURNS {
-        let start = Instant::now(rt)?;
-        let tree_sum = sum_of_tree(&tree);
-        let for_tree = micros_since(rt, start)?;
-        let start = Instant::now(rt)?;
-        let map_sum = sum_of_map(&map);
-        times.note((for_tree, tree_sum), (micros_since(rt, start)?, map_sum));
+impl OfTree {
+    fn new(alloc: Global, row: Row) -> io::Result<OfTree> {
+        Ok(OfTree {
+            alloc,
+            row,
+            entries: Vec::new(alloc),
+            tree: tree_of(alloc, ENTRIES)?,
+        })
     }
-    Ok(times)
 }
 
-// Looks up keys in scattered order.
-fn time_finds<R: AllocGlobal + Clock>(rt: &R) -> io::Result<Times> {
-    let mut times = Times::new();
-    let tree = tree_of(rt.alloc(), ENTRIES)?;
-    let map = map_of(rt.alloc(), ENTRIES)?;
-    for _ in 0..TURNS {
-        let start = Instant::now(rt)?;
-        let tree_sum = sum_of_finds(&tree, FINDS);
-        let for_tree = micros_since(rt, start)?;
-        let start = Instant::now(rt)?;
-        let map_sum = sum_of_map_finds(&map, FINDS);
-        times.note((for_tree, tree_sum), (micros_since(rt, start)?, map_sum));
+impl Job for OfTree {
+    fn begin(&mut self) -> io::Result<()> {
+        match self.row {
+            Row::Build => self.entries = entries_of(self.alloc, ENTRIES)?,
+            Row::Insert | Row::InsertShared => self.tree = tree_of(self.alloc, ENTRIES)?,
+            Row::Walk | Row::Find => {}
+        }
+        Ok(())
     }
-    Ok(times)
-}
 
-// Puts new entries into the tree and the map. Where `shared` is said, the tree has a second owner
-// at each step, as a version that a reader holds.
-fn time_inserts<R: AllocGlobal + Clock>(rt: &R, shared: bool) -> io::Result<Times> {
-    let mut times = Times::new();
-    for _ in 0..TURNS {
-        times.note(tree_inserts(rt, shared)?, map_inserts(rt)?);
+    fn run(&mut self) -> io::Result<u64> {
+        match self.row {
+            Row::Build => {
+                let entries = mem::replace(&mut self.entries, Vec::new(self.alloc));
+                self.tree = made(self.alloc, Tree::from_sorted(self.alloc, entries))?;
+                Ok(0)
+            }
+            Row::Walk => Ok(sum_of_tree(&self.tree)),
+            Row::Find => Ok(sum_of_finds(&self.tree)),
+            Row::Insert => grow_tree(self.alloc, &mut self.tree, false),
+            Row::InsertShared => grow_tree(self.alloc, &mut self.tree, true),
+        }
     }
-    Ok(times)
 }
 
-// How long a tree takes for new entries, and the sum of its entries then.
-fn tree_inserts<R: AllocGlobal + Clock>(rt: &R, shared: bool) -> io::Result<(u64, u64)> {
-    let tree = tree_of(rt.alloc(), ENTRIES)?;
-    let start = Instant::now(rt)?;
-    let tree = grown_tree(rt.alloc(), tree, INSERTS, shared)?;
-    Ok((micros_since(rt, start)?, sum_of_tree(&tree)))
+// A row on a map, with the entries of the next one.
+struct OfMap {
+    alloc: Global,
+    row: Row,
+    entries: Vec<(u32, u64)>,
+    map: BTreeMap<u32, u64>,
 }
 
-// How long a map takes for new entries, and the sum of its entries then.
-fn map_inserts<R: AllocGlobal + Clock>(rt: &R) -> io::Result<(u64, u64)> {
-    let mut map = map_of(rt.alloc(), ENTRIES)?;
-    let start = Instant::now(rt)?;
-    grow_map(&mut map, INSERTS)?;
-    Ok((micros_since(rt, start)?, sum_of_map(&map)))
+impl Drop for OfMap {
+    fn drop(self) {
+        let OfMap {
+            alloc: _,
+            row: _,
+            entries: _,
+            map: _,
+        } = self;
+    }
+}
+
+impl OfMap {
+    fn new(alloc: Global, row: Row) -> io::Result<OfMap> {
+        Ok(OfMap {
+            alloc,
+            row,
+            entries: Vec::new(alloc),
+            map: map_of(alloc, ENTRIES)?,
+        })
+    }
+}
+
+impl Job for OfMap {
+    fn begin(&mut self) -> io::Result<()> {
+        match self.row {
+            Row::Build => self.entries = entries_of(self.alloc, ENTRIES)?,
+            Row::Insert | Row::InsertShared => self.map = map_of(self.alloc, ENTRIES)?,
+            Row::Walk | Row::Find => {}
+        }
+        Ok(())
+    }
+
+    fn run(&mut self) -> io::Result<u64> {
+        match self.row {
+            Row::Build => {
+                let entries = mem::replace(&mut self.entries, Vec::new(self.alloc));
+                self.map = entries.into_iter().collect(self.alloc)?;
+                Ok(0)
+            }
+            Row::Walk => Ok(sum_of_map(&self.map)),
+            Row::Find => Ok(sum_of_map_finds(&self.map)),
+            Row::Insert | Row::InsertShared => grow_map(&mut self.map),
+        }
+    }
 }
 
 fn entries_of(alloc: Global, count: u32) -> io::Result<Vec<(u32, u64)>> {
@@ -186,39 +217,41 @@ fn key_among(random: &mut Random) -> u32 {
     u32::try_from(random.next() % bound).unwrap_or(0)
 }
 
-fn grown_tree(alloc: Global, tree: Tree<u64>, inserts: u32, shared: bool) -> io::Result<Tree<u64>> {
+// Puts new entries into a tree. Where `shared` is said, it has a second owner at each step, as a version that a
+// reader holds.
+fn grow_tree(alloc: Global, tree: &mut Tree<u64>, shared: bool) -> io::Result<u64> {
     let mut random = Random::new(SEED);
-    let mut tree = tree;
-    for i in 0..inserts {
+    for i in 0..INSERTS {
         let other = if shared { tree.share()? } else { Tree::new() };
-        tree = tree.insert(alloc, key_among(&mut random), u64::from(i))?;
+        let grown = mem::replace(tree, Tree::new());
+        *tree = grown.insert(alloc, key_among(&mut random), u64::from(i))?;
         drop(other);
     }
-    Ok(tree)
+    Ok(0)
 }
 
-fn grow_map(map: &mut BTreeMap<u32, u64>, inserts: u32) -> io::Result<()> {
+fn grow_map(map: &mut BTreeMap<u32, u64>) -> io::Result<u64> {
     let mut random = Random::new(SEED);
-    for i in 0..inserts {
-        let _old = map.insert(key_among(&mut random), u64::from(i))?;
+    for i in 0..INSERTS {
+        map.insert(key_among(&mut random), u64::from(i))?;
     }
-    Ok(())
+    Ok(0)
 }
 
-fn sum_of_finds(tree: &Tree<u64>, finds: u32) -> u64 {
+fn sum_of_finds(tree: &Tree<u64>) -> u64 {
     let mut random = Random::new(SEED);
     let mut sum = 0u64;
-    for _ in 0..finds {
+    for _ in 0..FINDS {
         let key = key_among(&mut random) / GAP * GAP;
         sum = sum.wrapping_add(tree.find(key).copied().unwrap_or(1));
     }
     sum
 }
 
-fn sum_of_map_finds(map: &BTreeMap<u32, u64>, finds: u32) -> u64 {
+fn sum_of_map_finds(map: &BTreeMap<u32, u64>) -> u64 {
     let mut random = Random::new(SEED);
     let mut sum = 0u64;
-    for _ in 0..finds {
+    for _ in 0..FINDS {
         let key = key_among(&mut random) / GAP * GAP;
         sum = sum.wrapping_add(map.get(&key).copied().unwrap_or(1));
     }

@@ -1,12 +1,11 @@
 //! Sets of vertices: how long they take to go over, to look in and to make.
 
 use crate::random::Random;
-use crate::timing::Times;
+use crate::table::{print_head, print_row};
+use crate::timing::{Job, times_of};
 use std::alloc::{AllocError, Global};
 use std::io;
-use std::io::Error;
 use std::rt::Clock;
-use std::time::Instant;
 use vertex_sets::{Form, VertexSet};
 
 // How many vertices there are.
@@ -21,7 +20,7 @@ const SEED: u64 = 2026;
 const SPREADS: [u32; 3] = [1000, 20, 1];
 
 // What is timed.
-#[derive(Clone, Copy, Debug)]
+#[derive(Clone, Copy)]
 enum Row {
     PlainLoop,
     IterateBits,
@@ -79,30 +78,34 @@ impl Row {
 
 /// Prints the times of the work on sets of three densities, in microseconds.
 pub fn print_times<R: Print + AllocGlobal + Clock>(rt: &R) -> io::Result<()> {
-    println!(rt;
-        "{:<24} {:>10} {:>12} {:>12}",
-        "row", "members", "best us", "median us"
-    )?;
+    print_head(rt, "row", &["members", "best us", "median us"])?;
     for spread in SPREADS {
-        let work = Work::new(rt.alloc(), spread)?;
-        for row in ROWS {
-            print_row(rt, row, &work)?;
-        }
+        print_rows(rt, &Work::new(rt.alloc(), spread)?)?;
     }
     Ok(())
 }
 
-fn print_row<R: Print + AllocGlobal + Clock>(rt: &R, row: Row, work: &Work) -> io::Result<()> {
-    let mut times = Times::new(rt.alloc());
-    for _ in 0..TURNS {
-        let start = Instant::now(rt)?;
-        let found = done(rt.alloc(), row, work)?;
-        times.push(rt, start)?;
-        times.note(found as usize);
+fn print_rows<R: Print + AllocGlobal + Clock>(rt: &R, work: &Work) -> io::Result<()> {
+    let members = work.list.len() as u64;
+    for row in ROWS {
+        let times = times_of(rt, TURNS, &mut Turn(rt.alloc(), row, work))?;
+        print_row(
+            rt,
+            row.name(),
+            &[members, times.best / 1000, times.median / 1000],
+        )?;
     }
-    let (name, best) = (row.name(), times.best() / 1000);
-    let (members, median) = (work.list.len(), times.median()? / 1000);
-    println!(rt; "{name:<24} {members:>10} {best:>12} {median:>12}")
+    Ok(())
+}
+
+// A row on some sets.
+#[derive(Drop)]
+struct Turn<'a>(Global, Row, &'a Work);
+
+impl Job for Turn<'_> {
+    fn run(&mut self) -> io::Result<u64> {
+        done(self.0, self.1, self.2)
+    }
 }
 
 // A set in each form, and vertices to look for.
