@@ -3,11 +3,12 @@
 use crate::graphs::{random_batch, random_graph, told};
 use crate::random::Random;
 use crate::table::{print_head, print_row};
-use crate::timing::{Job, times_of};
+use crate::timing::{Times, nanos_since};
 use std::io;
 use std::rt::Clock;
 use std::thread::Threads;
-use tree_batch::{Batch, Graph, Quiet};
+use std::time::Instant;
+use tree_batch::{Graph, Quiet};
 
 // How many vertices the graphs have.
 const VERTICES: u32 = 1 << 20;
@@ -34,9 +35,8 @@ pub fn print_times<R: Print + AllocGlobal + Clock + Threads + Sync>(rt: &R) -> i
         &["edges", "entries", "forks", "best us", "median us"],
     )?;
     for (edges, entries, forks, turns) in ROWS {
-        let mut commits = Commits::new(rt, edges, entries, forks)?;
-        let times = times_of(rt, turns, &mut commits)?;
-        drop(commits);
+        let graph = random_graph(rt.alloc(), VERTICES, edges)?;
+        let times = times_of(rt, graph, entries, forks, turns)?;
         let (best, median) = (times.best / 1000, times.median / 1000);
         let numbers = [
             u64::from(edges),
@@ -50,53 +50,24 @@ pub fn print_times<R: Print + AllocGlobal + Clock + Threads + Sync>(rt: &R) -> i
     Ok(())
 }
 
-// Batches of so many entries, one after another; each lets go the graph before it.
-struct Commits<'a, R> {
-    rt: &'a R,
-    random: Random,
+// The times of so many batches, one after another; each lets go the graph before it.
+fn times_of<R: AllocGlobal + Clock + Threads + Sync>(
+    rt: &R,
     graph: Graph,
-    batch: Batch,
     entries: u32,
     forks: u32,
-}
-
-impl<R> Drop for Commits<'_, R> {
-    fn drop(self) {
-        let Commits {
-            rt: _,
-            random: _,
-            graph: _,
-            batch: _,
-            entries: _,
-            forks: _,
-        } = self;
+    turns: usize,
+) -> io::Result<Times> {
+    let mut random = Random::new(SEED);
+    let mut taken = Vec::with_capacity(rt.alloc(), turns)?;
+    let mut graph = graph;
+    for _ in 0..turns {
+        let batch = random_batch(rt.alloc(), &mut random, VERTICES, entries)?;
+        let start = Instant::now(rt)?;
+        graph = graph
+            .apply_forked(rt, rt.alloc(), &batch, forks, &Quiet)
+            .map_err(told)?;
+        taken.push(nanos_since(rt, start)?)?;
     }
-}
-
-impl<'a, R: AllocGlobal> Commits<'a, R> {
-    fn new(rt: &'a R, edges: u32, entries: u32, forks: u32) -> io::Result<Commits<'a, R>> {
-        Ok(Commits {
-            rt,
-            random: Random::new(SEED),
-            graph: random_graph(rt.alloc(), VERTICES, edges)?,
-            batch: Batch::new(rt.alloc()),
-            entries,
-            forks,
-        })
-    }
-}
-
-impl<R: AllocGlobal + Threads + Sync> Job for Commits<'_, R> {
-    fn begin(&mut self) -> io::Result<()> {
-        self.batch = random_batch(self.rt.alloc(), &mut self.random, VERTICES, self.entries)?;
-        Ok(())
-    }
-
-    fn run(&mut self) -> io::Result<u64> {
-        let next = self
-            .graph
-            .apply_forked(self.rt, self.rt.alloc(), &self.batch, self.forks, &Quiet);
-        self.graph = next.map_err(told)?;
-        Ok(self.graph.edge_count() as u64)
-    }
+    Times::of(&mut taken, graph.edge_count() as u64)
 }

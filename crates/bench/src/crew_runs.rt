@@ -3,13 +3,14 @@
 ghost use Rattle.std.specs.Prelude.{◌≡◌};
 
 use crate::table::{print_head, print_row};
-use crate::timing::{Job, times_of};
+use crate::timing::nanos_since;
 use crew::{CrewError, Found, Open, Share, Work, run_pieces};
 use std::alloc::{AllocError, Global};
 use std::io;
 use std::io::Error;
 use std::rt::Clock;
 use std::thread::{self, Threads};
+use std::time::Instant;
 
 // How often a row is timed.
 const TURNS: usize = 25;
@@ -130,43 +131,31 @@ fn found<R: AllocGlobal + Threads + Sync>(
 pub fn print_times<R: Print + AllocGlobal + Clock + Threads + Sync>(rt: &R) -> io::Result<()> {
     print_head(rt, "row", &["pieces", "workers", "ns", "ns a piece"])?;
     for (row, pieces, workers, rounds) in ROWS {
-        let mut turn = Turn {
-            rt,
-            row,
-            pieces,
-            workers,
-            rounds,
-        };
-        let nanos = times_of(rt, TURNS, &mut turn)?.best / rounds.max(1);
+        let nanos = best_time(rt, row, pieces, workers, rounds)? / rounds.max(1);
         let each = nanos / (pieces as u64).max(1);
-        print_row(
-            rt,
-            row.name(),
-            &[pieces as u64, workers as u64, nanos, each],
-        )?;
+        let numbers = [pieces as u64, workers as u64, nanos, each];
+        print_row(rt, row.name(), &numbers)?;
     }
     Ok(())
 }
 
-// So many rounds of a row.
-#[derive(Drop)]
-struct Turn<'a, R> {
-    rt: &'a R,
+// The best time of so many rounds of a row, in nanoseconds.
+fn best_time<R: AllocGlobal + Clock + Threads + Sync>(
+    rt: &R,
     row: Row,
     pieces: usize,
     workers: usize,
     rounds: u64,
-}
-
-impl<R: AllocGlobal + Threads + Sync> Job for Turn<'_, R> {
-    fn run(&mut self) -> io::Result<u64> {
-        let mut found = 0u64;
-        for _ in 0..self.rounds {
-            let done = self.row.work(self.rt, self.pieces, self.workers)?;
-            found = found.wrapping_add(done as u64);
+) -> io::Result<u64> {
+    let mut best = u64::MAX;
+    for _ in 0..TURNS {
+        let start = Instant::now(rt)?;
+        for _ in 0..rounds {
+            row.work(rt, pieces, workers)?;
         }
-        Ok(found)
+        best = best.min(nanos_since(rt, start)?);
     }
+    Ok(best)
 }
 
 // The pieces, the workers and the share of each run that is looked at.

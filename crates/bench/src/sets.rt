@@ -2,7 +2,7 @@
 
 use crate::random::Random;
 use crate::table::{print_head, print_row};
-use crate::timing::{Job, TURNS, times_of};
+use crate::timing::{TURNS, nanos_since};
 use c_tree::{CTree, CTreeError};
 use set_ops::{Quiet, SetError, difference, difference_forked, union, union_forked};
 use std::alloc::{AllocError, Global};
@@ -10,6 +10,7 @@ use std::io;
 use std::io::Error;
 use std::rt::Clock;
 use std::thread::Threads;
+use std::time::Instant;
 
 const CHUNK_SIZE: u32 = 64;
 
@@ -39,35 +40,28 @@ fn print_rows<R: Print + AllocGlobal + Clock + Threads + Sync>(
     rounds: u64,
 ) -> io::Result<()> {
     for row in ROWS {
-        let mut turn = Turn {
-            rt,
-            row,
-            work,
-            rounds,
-        };
-        let times = times_of(rt, TURNS, &mut turn)?;
-        print_row(rt, row.name(), &[size, times.best / rounds.max(1)])?;
+        let nanos = best_time(rt, row, work, rounds)? / rounds.max(1);
+        print_row(rt, row.name(), &[size, nanos])?;
     }
     Ok(())
 }
 
-// So many rounds of a row on two sets.
-#[derive(Drop)]
-struct Turn<'a, R> {
-    rt: &'a R,
+// The best time of so many rounds of a row, in nanoseconds.
+fn best_time<R: AllocGlobal + Clock + Threads + Sync>(
+    rt: &R,
     row: Row,
-    work: &'a Work,
+    work: &Work,
     rounds: u64,
-}
-
-impl<R: AllocGlobal + Threads + Sync> Job for Turn<'_, R> {
-    fn run(&mut self) -> io::Result<u64> {
-        let mut sum = 0u64;
-        for round in 0..self.rounds {
-            sum = sum.wrapping_add(self.row.work(self.rt, self.work, round)? as u64);
+) -> io::Result<u64> {
+    let mut best = u64::MAX;
+    for _ in 0..TURNS {
+        let start = Instant::now(rt)?;
+        for round in 0..rounds {
+            row.work(rt, work, round)?;
         }
-        Ok(sum)
+        best = best.min(nanos_since(rt, start)?);
     }
+    Ok(best)
 }
 
 // Two lists and the sets of them.

@@ -40,12 +40,19 @@ pub fn times_of<R: AllocGlobal + Clock, J: Job>(
         found = job.run()?;
         taken.push(nanos_since(rt, start)?)?;
     }
-    taken.sort()?;
-    Ok(Times {
-        best: at(&taken, 0),
-        median: at(&taken, turns / 2),
-        found,
-    })
+    Times::of(&mut taken, found)
+}
+
+impl Times {
+    /// The times of turns that took so many nanoseconds each.
+    pub fn of(taken: &mut Vec<u64>, found: u64) -> io::Result<Times> {
+        taken.sort()?;
+        Ok(Times {
+            best: at(taken, 0),
+            median: at(taken, taken.len() / 2),
+            found,
+        })
+    }
 }
 
 // The number at a place, 0 where there is none.
@@ -53,8 +60,8 @@ fn at(numbers: &[u64], place: usize) -> u64 {
     numbers.get(place).copied().unwrap_or(0)
 }
 
-// How many nanoseconds went by.
-fn nanos_since<R: Clock>(rt: &R, start: Instant) -> io::Result<u64> {
+/// How many nanoseconds went by.
+pub fn nanos_since<R: Clock>(rt: &R, start: Instant) -> io::Result<u64> {
     let taken = start.elapsed(rt)?;
     Ok(u64::try_from(taken.as_nanos()).unwrap_or(u64::MAX))
 }
