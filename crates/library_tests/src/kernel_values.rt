@@ -10,9 +10,8 @@ use vectors::Vectors;
 // What stands before each program: two vectors of two entries.
 const HEAD: &str = "element Vertex end\nelement Edge end\n\
     const edges : edgeset{Edge}(Vertex, Vertex) = load(argv[1]);\n\
-    const x : vector{Vertex}(int) = 5;\n\
-    const y : vector{Vertex}(int) = -9223372036854775807;\n\
-    const k : int = -3;\n";
+    const k : int = -3; const m : int = 9223372036854775807; const x : vector{Vertex}(int) = 5;\n\
+    const y : vector{Vertex}(int) = -9223372036854775807;\n";
 
 // The same vectors, in one group.
 fn two_vectors(alloc: Global) -> Result<Vectors, Fail> {
@@ -64,33 +63,17 @@ fn value_by_kernel(
 
 // A word of a table at random, by a generator of linear congruence.
 fn word<'a>(words: &[&'a str], state: &mut u64) -> &'a str {
-    *state = state
-        .wrapping_mul(6_364_136_223_846_793_005)
-        .wrapping_add(1);
-    let place = (*state >> 33) as usize;
-    match words.get(place % words.len().max(1)) {
-        Some(word) => word,
-        None => "",
-    }
+    *state = state.wrapping_mul(0x5851_F42D_4C95_7F2D).wrapping_add(1);
+    let place = (*state >> 33) as usize % words.len().max(1);
+    words.get(place).copied().unwrap_or("")
 }
 
-// Statements that print random expressions.
-fn random_prints(alloc: Global) -> Result<String, Fail> {
-    let numbers = [
-        "0",
-        "1",
-        "-1",
-        "2",
-        "-7",
-        "9223372036854775807",
-        "(y[0] - 1)",
-        "y[1]",
-        "--x[0]",
-        "-(-k)",
-    ];
+// A program that prints random expressions.
+fn random_program(alloc: Global) -> Result<String, Fail> {
+    let numbers = ["0", "-1", "2", "-k", "m", "(y[0] - 1)", "--x[0]"];
     let operators = [" + ", " - ", " * ", " / ", " % "];
     let mut state = 2026;
-    let mut text = String::new(alloc);
+    let mut text = format!(in alloc; "{HEAD}func main()\n")?;
     for _ in 0..500u32 {
         text.push_str("  print (")?;
         for end in [" ", ") ", " ", " "] {
@@ -100,13 +83,13 @@ fn random_prints(alloc: Global) -> Result<String, Fail> {
         }
         text.push_str("x[1];\n")?;
     }
+    text.push_str("end\n")?;
     Ok(text)
 }
 
 #[test]
 fn random_expressions_have_one_value(rt: HostRuntime) -> Result<(), Fail> {
-    let prints = random_prints(rt.alloc())?;
-    let text = format!(in rt.alloc(); "{HEAD}func main()\n{prints}end\n")?;
+    let text = random_program(rt.alloc())?;
     let program = compile(rt.alloc(), text.as_bytes())?;
     let by_trees = plain_run(rt.alloc(), &program, 2, &[], 0)?;
     let by_kernels = lines_by_kernels(rt.alloc(), &program)?;
@@ -148,11 +131,8 @@ fn common_edge_functions_have_their_shape(rt: HostRuntime) -> Result<(), Fail> {
     let table = [
         ("y[d] += x[s] + k;", Some(-3), None),
         ("y[d] += x[s] - k;", Some(3), None),
-        ("x[d] += x[s] - 1;", Some(-1), None),
         ("x[d] min= x[s] + -2;", Some(-2), None),
         ("x[d] += -3;", None, Some(-3)),
-        ("x[d] += --3;", None, None),
-        ("x[d] += x[d] + 1;", None, None),
         ("if s < d x[d] += 1; end", None, None),
     ];
     for (body, sum, number) in table {
