@@ -264,11 +264,16 @@ fn shape_over(kernel: &EdgeKernel, work: &mut Work) -> Result<(), AllocError> {
     match kernel.shape() {
         Shape::Entry(_, Reduction::Min, from) => {
             let lane = work.vectors.lane(from);
-            for (source, destination) in work.sources.iter().zip(&work.destinations) {
-                let given = lane.get(*source as usize);
-                if let Some(new) = work.new.get_mut(*destination as usize) {
-                    *new = (*new).min(given);
+            match lane.entries() {
+                Some(entries) => {
+                    for (source, destination) in work.sources.iter().zip(&work.destinations) {
+                        let given = entries.get(*source as usize).copied().unwrap_or(0);
+                        if let Some(new) = work.new.get_mut(*destination as usize) {
+                            *new = (*new).min(given);
+                        }
+                    }
                 }
+                None => run_over(kernel, work)?,
             }
         }
         Shape::Constant(_, Reduction::Plus, given) => {
