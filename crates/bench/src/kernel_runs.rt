@@ -13,7 +13,7 @@ use syntax::Reduction;
 use typed_tree::{
     Comparison, Condition, Endpoint, Function, Integer, Operand, Operator, Sequence, Slot, Step,
 };
-use vectors::{Lane, Vectors};
+use vectors::Vectors;
 
 // How many vertices there are, as a power of 2, and how many pairs.
 const SCALE: u32 = 16;
@@ -325,12 +325,10 @@ fn shape_over(kernel: &EdgeKernel, work: &mut Work) -> Result<(), AllocError> {
     let (sources, destinations) = (work.sources.as_slice(), work.destinations.as_slice());
     match kernel.shape() {
         Shape::Entry(_, Reduction::Min, from) => {
-            min_of_lane(
-                sources,
-                destinations,
-                work.vectors.lane(from),
-                &mut work.new,
-            );
+            match work.vectors.lane(from).entries() {
+                Some(entries) => min_entries(sources, destinations, entries, &mut work.new),
+                None => run_over(kernel, work)?,
+            }
         }
         Shape::Constant(_, Reduction::Plus, given) => {
             add_to_each(destinations, given, &mut work.new);
@@ -339,15 +337,6 @@ fn shape_over(kernel: &EdgeKernel, work: &mut Work) -> Result<(), AllocError> {
         _ => run_over(kernel, work)?,
     }
     Ok(())
-}
-
-fn min_of_lane(sources: &[u32], destinations: &[u32], given: Lane<'_>, new: &mut [i64]) {
-    for (source, destination) in sources.iter().zip(destinations) {
-        let given = given.get(*source as usize);
-        if let Some(new) = new.get_mut(*destination as usize) {
-            *new = (*new).min(given);
-        }
-    }
 }
 
 // The row by blocks of its kernel.

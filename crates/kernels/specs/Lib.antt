@@ -1,12 +1,6 @@
-pub mod Cells
-pub mod Code
-pub mod FunctionCode
-pub mod VertexCode
 pub mod VertexBlocks
 pub mod Kernels
 pub mod Gifts
 pub mod Expressions
-pub mod Chain
 pub mod Columns
-pub mod Rooms
 pub mod Shapes

@@ -1,5 +1,5 @@
 //! One vector, lent to be read.
-ghost use Rattle.std.specs.Prelude.{◌≡◌, ◌*◌, ◌<◌, ◌≤◌, length};
+ghost use Rattle.std.specs.Prelude.{◌≡◌, ◌*◌, ◌<◌, ◌≤◌, ℕ, pos, IfSome, IsSome, length, slice_index_or};
 
 /// One vector, lent to be read. The entry of vertex v stands at place `v * stride + first`.
 #[derive(Clone, Copy)]
@@ -26,5 +26,17 @@ impl<'a> Lane<'a> {
         } else {
             0
         }
+    }
+
+    /// The entries by their vertices, where they stand one behind the other: those of a vector that stands alone do.
+    #[inline(always)]
+    pub fn entries(self) -> Option<&'a [i64]>
+        ensures entries { IfSome result (λ numbers. (v : ℕ) → slice_index_or numbers.now v (pos 0) ≡ lane_entry self.entry v) }
+        ensures alone { self.entry.stride ≡ 1 → IsSome result }
+    {
+        if self.stride != 1 {
+            return None;
+        }
+        Some(&self.numbers[..self.vertices])
     }
 }

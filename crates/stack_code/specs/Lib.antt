@@ -1,0 +1,7 @@
+pub mod Cells
+pub mod Code
+pub mod FunctionCode
+pub mod VertexCode
+pub mod Meaning
+pub mod Chain
+pub mod Rooms
