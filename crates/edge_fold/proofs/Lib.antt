@@ -1,0 +1,6 @@
+pub mod ChangedRows
+pub mod Entries
+pub mod Folds
+pub mod Rows
+pub mod SlotRows
+pub mod Edges
