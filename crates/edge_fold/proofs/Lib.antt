@@ -4,3 +4,5 @@ pub mod Folds
 pub mod Rows
 pub mod SlotRows
 pub mod Edges
+pub mod Findings
+pub mod Meaning

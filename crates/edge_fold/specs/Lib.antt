@@ -3,3 +3,4 @@ pub mod Held
 pub mod Changed
 pub mod Slots
 pub mod Folded
+pub mod Ends

@@ -19,8 +19,7 @@ impl Accumulator {
         kept: &[u32],
         vertices: u32,
     ) -> Result<Vec<Change>, AllocError>
-        requires { IsNonDecreasing kept.now }
-        ensures { (new : ℕ → ℤ) → ((v : ℕ) → Contains kept.now v → new v ≡ held self.now v (lane_entry old.entry v))
+        ensures { IsNonDecreasing kept.now → (new : ℕ → ℤ) → ((v : ℕ) → Contains kept.now v → new v ≡ held self.now v (lane_entry old.entry v))
             → ((v : ℕ) → ¬ Contains kept.now v → new v ≡ lane_entry old.entry v)
             → IfOk result (λ cs. cs.items ≡ changed vertices (lane_entry old.entry) new) }
     {

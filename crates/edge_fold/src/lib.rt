@@ -3,9 +3,11 @@
 
 mod accumulator;
 mod changes;
+mod found;
 mod functions;
 mod joins;
 mod pairs;
+mod passing;
 mod run;
 mod scratch;
 mod sent;

@@ -11,8 +11,8 @@ use Rattle.edge_fold.proofs.accumulator.Accumulator.changes.Goals as goal
 pub kept-init : goal.kept-init
 kept-init c = record {
   inside = omega arith;
-  passed = λ i l. absurd (omega (arith, l));
-  found = λ new here there. c.new-changes.ensures.items ∙ sym (none_yet (lane_entry c.args.old) new);
+  passed = λ up i l. absurd (omega (arith, l));
+  found = λ up new here there. c.new-changes.ensures.items ∙ sym (none_yet (lane_entry c.args.old) new);
 }
 
 pub kept-preserved : goal.kept-preserved
@@ -24,11 +24,10 @@ kept-preserved c =
     let inside : index < length kept = c.kept-test.true in
     let old = lane_entry c.args.old in
     let from : next ≤ v = omega (arith, c.if-vertex-next.false) in
-    let up = c.requires in
     record {
       inside = omega (arith, c.if-vertices-vertex.false);
-      passed = λ i l. let most = up i index 0 (omega (arith, l)) inside in inl (omega (arith, most));
-      found = λ new here there.
+      passed = λ up i l. let most = up i index 0 (omega (arith, l)) inside in inl (omega (arith, most));
+      found = λ up new here there.
           let items = c.kept.changes.items in
           let before_fits : FitsSigned w64 c.get-before.result = search rules in
           let number_fits : FitsSigned w64 c.entry.result = search rules in
@@ -38,15 +37,15 @@ kept-preserved c =
           c.in_ok-push_change.ensures
           ∙ ap (λ (y : ℤ). items ++ change_at (λ _. y) (λ _. number) v) was
           ∙ ap (λ (y : ℤ). items ++ change_at (λ _. old v) (λ _. y) v) is
-          ∙ ap (λ (cs : List Change). cs ++ change_at old new v) (c.kept.invariant.found new here there)
-          ∙ changed_more old new next v from (λ u a b. there u (between_kept kept index next c.args.vertices u up c.kept.invariant.passed a (omega (arith, b, c.if-vertices-vertex.false)) (λ l. b)));
+          ∙ ap (λ (cs : List Change). cs ++ change_at old new v) (c.kept.invariant.found up new here there)
+          ∙ changed_more old new next v from (λ u a b. there u (between_kept kept index next c.args.vertices u up (c.kept.invariant.passed up) a (omega (arith, b, c.if-vertices-vertex.false)) (λ l. b)));
     }
 
 pub returns : goal.returns
-returns c new here there =
+returns c up new here there =
     let kept = c.args.kept.now in
     let index = c.kept.vertex-index in
     let done = c.kept-test.false in
-    c.kept.invariant.found new here there
+    c.kept.invariant.found up new here there
     ∙ changed_rest (lane_entry c.args.old) new c.kept.next c.args.vertices c.kept.invariant.inside
-      (λ u a b. there u (between_kept kept index c.kept.next c.args.vertices u c.requires c.kept.invariant.passed a b (λ l. absurd (omega (arith, done, l)))))
+      (λ u a b. there u (between_kept kept index c.kept.next c.args.vertices u up (c.kept.invariant.passed up) a b (λ l. absurd (omega (arith, done, l)))))

@@ -1,0 +1,17 @@
+use Rattle.std.proofs.Common.{◌≡◌, ℕ, ℤ, List, refl, subst, sym, ap, ◌∙◌}
+use Rattle.std.specs.List.Sorted.{IsNonDecreasing}
+use Rattle.algorithm_meaning.specs.Value.{entry}
+use Rattle.vectors.specs.Lanes.{lane_entry}
+use Rattle.edge_fold.specs.Held.{held}
+use Rattle.edge_fold.proofs.Findings.{changed_agree}
+use Rattle.edge_fold.proofs.found.all_changes.Goals as goal
+
+pub returns : goal.returns
+returns c =
+    let slot = c.args.slot.now in
+    let lane = lane_entry c.lane-old.result in
+    let e = entry c.args.functions.vectors.now.vectors slot.vector in
+    let now = c.touched-touched.ensures in
+    let up = subst (λ (ks : List ℕ). IsNonDecreasing ks) (sym now.list) c.requires in
+    c.in_ok-changes.ensures up (λ v. held slot.entries v (lane v)) (λ v has. refl) (λ v absent. now.covers v (lane v) absent)
+    ∙ changed_agree lane e (λ v. held slot.entries v (lane v)) (λ v. held slot.entries v (e v)) c.lane-old.ensures 0 c.args.functions.vertices (λ v l. ap (held slot.entries v) (c.lane-old.ensures v))

@@ -1,0 +1,127 @@
+//! What an apply has changed.
+ghost use Rattle.std.specs.Prelude.{◌≡◌, ℕ, ℤ, ◌≤◌, Bool, if◌then◌else◌, List, [], length, slice_index_or, IfOk};
+ghost use Rattle.std.specs.List.{filter};
+ghost use Rattle.std.specs.List.Sorted.{IsNonDecreasing};
+ghost use Rattle.syntax.specs.declared.statement.Reduction.{Reduction};
+ghost use Rattle.typed_tree.specs.StepTree.{StepsTree};
+ghost use Rattle.algorithm_meaning.specs.EdgeApply.{after_edges};
+ghost use Rattle.algorithm_meaning.specs.Laws.{IsGivenBy};
+ghost use Rattle.algorithm_meaning.specs.State.{StateValue};
+ghost use Rattle.algorithm_meaning.specs.Value.{entry};
+ghost use Rattle.kernels.specs.Cells.{HasSizes};
+ghost use Rattle.edge_fold.specs.Changed.{changed, changes_of};
+ghost use Rattle.edge_fold.specs.Ends.{IsEndTest, IsTest};
+ghost use Rattle.edge_fold.specs.Folded.{AreFunctions, HasFolded};
+ghost use Rattle.edge_fold.specs.Held.{held};
+ghost use Rattle.edge_fold.specs.Slots.{active, held_in};
+
+use crate::functions::Functions;
+use crate::passing::keep_passing;
+use crate::scratch::Scratch;
+use crate::slot::{Slot, Slots};
+use kernels::{Block, End};
+use std::alloc::{AllocError, Global};
+use vectors::{Change, Changes, VectorChanges};
+
+impl Scratch {
+    /// What the edges that were folded change, at the vertices that an end lets through; one that is not given lets all
+    /// through. There is one list for each vector that a function has given something, and a vector without one does
+    /// not change. The next call must be `begin`. The only error is out of memory.
+    pub fn changes(
+        &mut self,
+        alloc: Global,
+        functions: Functions<'_>,
+        to: Option<End<'_>>,
+    ) -> Result<Changes, AllocError>
+        ensures { IfOk result (λ c. (m : StateValue) (steps : List StepsTree) (edges : List (ℕ × ℕ)) (test : ℕ → Bool) → AreFunctions functions.entry m steps → IsEndTest to.entry m test
+            → HasFolded m steps edges self.old → (x : ℕ) (r : Reduction) → IsGivenBy r x steps m.sets m.vectors → functions.entry.vertices ≤ length (slice_index_or m.vectors x [])
+            → changes_of x c.vectors.items ≡ changed functions.entry.vertices (entry m.vectors x)
+                (entry (after_edges steps m.sets m.vectors (filter (λ e. test e.1) edges) m.vectors) x)) }
+    {
+        self.flush(alloc, functions)?;
+        let changes = found_in_slots(alloc, functions, to, &mut self.slots, &mut self.block)?;
+        Ok(changes)
+    }
+}
+
+/// What the slots have for their vectors.
+fn found_in_slots(
+    alloc: Global,
+    functions: Functions<'_>,
+    to: Option<End<'_>>,
+    slots: &mut Slots,
+    block: &mut Block,
+) -> Result<Changes, AllocError>
+    ensures { IfOk result (λ c. (m : StateValue) (test : ℕ → Bool) → functions.entry.vectors.now.vectors ≡ m.vectors → HasSizes functions.entry.sizes.now m → IsEndTest to.entry m test
+        → (x : ℕ) → changes_of x c.vectors.items ≡ changed functions.entry.vertices (entry m.vectors x)
+            (λ v. if test v then held_in (active slots.old) x v (entry m.vectors x v) else entry m.vectors x v)) }
+{
+    let mut vectors = Vec::new(alloc);
+    'slots: for place in 0..slots.used {
+        vectors.push(found_in_slot(alloc, functions, to, &mut slots.slots[place], block)?)?;
+    }
+    Ok(Changes { vectors })
+}
+
+/// What a slot has for its vector.
+fn found_in_slot(
+    alloc: Global,
+    functions: Functions<'_>,
+    to: Option<End<'_>>,
+    slot: &mut Slot,
+    block: &mut Block,
+) -> Result<VectorChanges, AllocError>
+    ensures vector { IfOk result (λ c. c.vector ≡ slot.old.vector) }
+    ensures changes { IfOk result (λ c. (m : StateValue) (test : ℕ → Bool) → functions.entry.vectors.now.vectors ≡ m.vectors → HasSizes functions.entry.sizes.now m → IsEndTest to.entry m test
+        → c.changes.items ≡ changed functions.entry.vertices (entry m.vectors slot.old.vector)
+            (λ v. if test v then held slot.old.entries v (entry m.vectors slot.old.vector v) else entry m.vectors slot.old.vector v)) }
+{
+    slot.entries.sort_touched();
+    let vector = slot.vector;
+    match to {
+        None => {
+            let changes = all_changes(alloc, functions, slot)?;
+            Ok(VectorChanges { vector, changes })
+        }
+        Some(end) => {
+            let changes = passing_changes(alloc, functions, end, slot, block)?;
+            Ok(VectorChanges { vector, changes })
+        }
+    }
+}
+
+/// Its changes at all vertices.
+fn all_changes(
+    alloc: Global,
+    functions: Functions<'_>,
+    slot: &Slot,
+) -> Result<Vec<Change>, AllocError>
+    requires { IsNonDecreasing slot.now.entries.touched.items }
+    ensures { IfOk result (λ cs. cs.items ≡ changed functions.entry.vertices (entry functions.entry.vectors.now.vectors slot.now.vector)
+        (λ v. held slot.now.entries v (entry functions.entry.vectors.now.vectors slot.now.vector v))) }
+{
+    let old = functions.vectors.lane(slot.vector);
+    let touched = slot.entries.touched();
+    let changes = slot.entries.changes(alloc, old, touched, functions.vertices)?;
+    Ok(changes)
+}
+
+/// Its changes at the vertices that an end lets through.
+fn passing_changes(
+    alloc: Global,
+    functions: Functions<'_>,
+    end: End<'_>,
+    slot: &Slot,
+    block: &mut Block,
+) -> Result<Vec<Change>, AllocError>
+    requires { IsNonDecreasing slot.now.entries.touched.items }
+    ensures { IfOk result (λ cs. (m : StateValue) (test : ℕ → Bool) → functions.entry.vectors.now.vectors ≡ m.vectors → HasSizes functions.entry.sizes.now m → IsTest end.entry m test
+        → cs.items ≡ changed functions.entry.vertices (entry m.vectors slot.now.vector)
+            (λ v. if test v then held slot.now.entries v (entry m.vectors slot.now.vector v) else entry m.vectors slot.now.vector v)) }
+{
+    let mut kept = Vec::new(alloc);
+    keep_passing(functions, end, slot.entries.touched(), block, &mut kept)?;
+    let old = functions.vectors.lane(slot.vector);
+    let changes = slot.entries.changes(alloc, old, &kept, functions.vertices)?;
+    Ok(changes)
+}
