@@ -1,5 +1,5 @@
 //! What an apply has changed.
-ghost use Rattle.std.specs.Prelude.{◌≡◌, ℕ, ℤ, ◌≤◌, Bool, if◌then◌else◌, List, [], length, slice_index_or, IfOk};
+ghost use Rattle.std.specs.Prelude.{◌≡◌, ℕ, ℤ, ◌≤◌, ◌++◌, Bool, if◌then◌else◌, List, [], length, slice_index_or, IfOk, OnOk};
 ghost use Rattle.std.specs.List.{filter};
 ghost use Rattle.std.specs.List.Sorted.{IsNonDecreasing};
 ghost use Rattle.syntax.specs.declared.statement.Reduction.{Reduction};
@@ -41,6 +41,23 @@ impl Scratch {
         self.flush(alloc, functions)?;
         let changes = found_in_slots(alloc, functions, to, &mut self.slots, &mut self.block)?;
         Ok(changes)
+    }
+
+    /// Adds those of the vertices that an end lets through to a list, in their order. What was folded stays. The only
+    /// error is out of memory.
+    pub fn keep_passing(
+        &mut self,
+        functions: Functions<'_>,
+        end: End<'_>,
+        vertices: &[u32],
+        kept: &mut Vec<u32>,
+    ) -> Result<(), AllocError>
+        ensures kept { OnOk result ((m : StateValue) (test : ℕ → Bool) → functions.entry.vectors.now.vectors ≡ m.vectors → HasSizes functions.entry.sizes.now m → IsTest end.entry m test
+            → kept.new.items ≡ kept.old.items ++ filter test vertices.now) }
+        ensures folded { (m : StateValue) (steps : List StepsTree) (edges : List (ℕ × ℕ)) → HasFolded m steps edges self.old → HasFolded m steps edges self.new }
+    {
+        keep_passing(functions, end, vertices, &mut self.block, kept)?;
+        Ok(())
     }
 }
 
