@@ -1,5 +1,5 @@
 -- What is found in slots.
-use Rattle.std.proofs.Common.{◌≡◌, ℕ, zero, suc, ◌+◌, ◌<◌, ◌==◌, ℤ, Bool, true, false, cond, if◌then◌else◌, List, [], ◌∷◌, ◌++◌, length, drop, take, set, get_or, Contains, refl, sym, ap, ◌∙◌, arith, ◌⊎◌, inl, inr, subst, append_assoc, IsTrue, ◌↔◌}
+use Rattle.std.proofs.Common.{◌≡◌, ℕ, zero, suc, ◌+◌, ◌<◌, ◌==◌, ℤ, Bool, true, false, cond, ◌||◌, if◌then◌else◌, List, [], ◌∷◌, ◌++◌, length, drop, take, set, get_or, Contains, refl, sym, ap, ◌∙◌, arith, ◌⊎◌, inl, inr, subst, append_assoc, IsTrue, ◌↔◌}
 use Rattle.std.proofs.lemmas.List.{drop_more, drop-set-lt, get_or-take}
 use Rattle.std.proofs.Math.Seq.{take-set-lt}
 use Rattle.std.proofs.lemmas.Bool.Decides.{nat_tests}
@@ -12,7 +12,7 @@ use Rattle.vertex_sets.proofs.Ascending.{contains_first, contains_later, contain
 use Rattle.vectors.specs.declared.change.Change.{Change}
 use Rattle.vectors.specs.declared.change.VectorChanges.{VectorChanges}
 use Rattle.edge_fold.specs.declared.slot.Slot.{Slot}
-use Rattle.edge_fold.specs.Changed.{change_at, changed, changed_from, changes_of}
+use Rattle.edge_fold.specs.Changed.{AreApart, change_at, changed, changed_from, changes_of, changes_or, is_named}
 use Rattle.edge_fold.specs.Held.{held}
 use Rattle.edge_fold.specs.Slots.{held_in}
 use Rattle.edge_fold.proofs.ChangedRows.{nothing_changed}
@@ -51,11 +51,7 @@ pub found_is : (n : ℕ) (e : ℕ → ℕ → ℤ) (test : ℕ → Bool) (ss : L
 found_is n e test [] x = sym (nothing_changed (e x) (λ v. if test v then e x v else e x v) 0 n (λ u a b. same_either (test u) (e x u)))
 found_is n e test (s ∷ ss) x = found_at n e test s ss x (s.vector == x) refl (found_is n e test ss x)
 
--- the changes of a vector, or these where it is not there
-abbrev pub changes_or : (vector : ℕ) → List VectorChanges → List Change → List Change
-changes_or x [] rest = rest
-changes_or x (c ∷ cs) rest = cond (c.vector == x) c.changes.items (changes_or x cs rest)
-
+-- one more vector
 pub changes_or-push : (x : ℕ) (cs : List VectorChanges) (c : VectorChanges) (rest : List Change)
     → changes_or x (cs ++ c ∷ []) rest ≡ changes_or x cs (cond (c.vector == x) c.changes.items rest)
 changes_or-push x [] c rest = refl
@@ -64,6 +60,56 @@ changes_or-push x (d ∷ ds) c rest = ap (λ (r : List Change). cond (d.vector =
 pub changes_or-nothing : (x : ℕ) (cs : List VectorChanges) → changes_or x cs [] ≡ changes_of x cs
 changes_or-nothing x [] = refl
 changes_or-nothing x (c ∷ cs) = ap (λ (r : List Change). cond (c.vector == x) c.changes.items r) (changes_or-nothing x cs)
+
+-- a vector that is there already
+named_at : (x y : ℕ) (d : VectorChanges) (new rest now was : List Change) (p q : Bool) → (d.vector == y) ≡ p → (d.vector == x) ≡ q → ((p ≡ false) → now ≡ was)
+    → (p ≡ true → q ≡ false → (y == x) ≡ false) → ((y == x) ≡ false → now ≡ was)
+    → cond q d.changes.items now ≡ cond q d.changes.items was
+named_at x y d new rest now was p true at is more off other = refl
+named_at x y d new rest now was true false at is more off other = other (off refl refl)
+named_at x y d new rest now was false false at is more off other = more refl
+
+apart_numbers : (k x y : ℕ) → (k == y) ≡ true → (k == x) ≡ false → (y == x) ≡ false
+apart_numbers k x y on off = grind (arith, nat_tests)
+
+not_its_own : (x y : ℕ) (cs : List VectorChanges) (new rest : List Change) → (y == x) ≡ false → changes_or x cs (cond (y == x) new rest) ≡ changes_or x cs rest
+not_its_own x y cs new rest off = ap (λ (b : Bool). changes_or x cs (cond b new rest)) off
+
+skip_at : (p q : Bool) → p || q ≡ true → p ≡ false → q ≡ true
+skip_at true q h e = absurd (false≢true (sym e))
+skip_at false q h e = h
+
+pub changes_or-skip : (x y : ℕ) (cs : List VectorChanges) (new rest : List Change) → is_named y cs ≡ true → changes_or x cs (cond (y == x) new rest) ≡ changes_or x cs rest
+changes_or-skip x y [] new rest named = absurd (false≢true named)
+changes_or-skip x y (d ∷ ds) new rest named =
+    named_at x y d new rest (changes_or x ds (cond (y == x) new rest)) (changes_or x ds rest) (d.vector == y) (d.vector == x) refl refl
+    (λ e. changes_or-skip x y ds new rest (skip_at (d.vector == y) (is_named y ds) named e))
+    (λ on off. apart_numbers d.vector x y on off)
+    (λ off. not_its_own x y ds new rest off)
+
+named_push_at : (x : ℕ) (d : VectorChanges) (ds : List VectorChanges) (c : VectorChanges) (b : Bool) → b || is_named x ds ≡ false → (is_named x ds ≡ false → is_named x (ds ++ c ∷ []) ≡ false) → b || is_named x (ds ++ c ∷ []) ≡ false
+named_push_at x d ds c true none more = absurd (false≢true (sym none))
+named_push_at x d ds c false none more = more none
+
+first_off : (p q : Bool) → p || q ≡ false → p ≡ false
+first_off true q h = h
+first_off false q h = refl
+
+rest_off : (p q : Bool) → p || q ≡ false → q ≡ false
+rest_off true q h = absurd (false≢true (sym h))
+rest_off false q h = h
+
+turned : (m n : ℕ) → (m == n) ≡ false → (n == m) ≡ false
+turned m n h = grind (arith, nat_tests)
+
+named_push : (x : ℕ) (cs : List VectorChanges) (c : VectorChanges) → is_named x cs ≡ false → (c.vector == x) ≡ false → is_named x (cs ++ c ∷ []) ≡ false
+named_push x [] c none off = ap (λ (b : Bool). b || false) off
+named_push x (d ∷ ds) c none off = named_push_at x d ds c (d.vector == x) none (λ n. named_push x ds c n off)
+
+pub apart_push : (cs : List VectorChanges) (c : VectorChanges) → is_named c.vector cs ≡ false → AreApart cs → AreApart (cs ++ c ∷ [])
+apart_push [] c none apart = (refl, tt)
+apart_push (d ∷ ds) c none apart =
+    (named_push d.vector ds c apart.0 (turned d.vector c.vector (first_off (d.vector == c.vector) (is_named c.vector ds) none)), apart_push ds c (rest_off (d.vector == c.vector) (is_named c.vector ds) none) apart.1)
 
 -- the slots that are left after one was worked on
 abbrev tail : List Slot → List Slot

@@ -1,5 +1,6 @@
 -- What an apply changes.
-use Rattle.std.specs.Prelude.{ℕ, ◌+◌, zero, suc, ℤ, ◌==◌, if◌then◌else◌, List, [], ◌∷◌, ◌++◌}
+use Rattle.std.specs.Prelude.{◌≡◌, ℕ, ◌+◌, zero, suc, ℤ, ◌==◌, Bool, false, if◌then◌else◌, List, [], ◌∷◌, ◌++◌}
+use Rattle.std.specs.List.{list_any}
 use Rattle.algorithm_meaning.specs.Arithmetic.{int_equal}
 use Rattle.vectors.specs.declared.change.Change.{Change}
 use Rattle.vectors.specs.declared.change.VectorChanges.{VectorChanges}
@@ -21,3 +22,17 @@ changed n old new = changed_from old new 0 n
 abbrev pub changes_of : (vector : ℕ) → List VectorChanges → List Change
 changes_of x [] = []
 changes_of x (c ∷ cs) = if c.vector == x then c.changes.items else changes_of x cs
+
+-- the changes of a vector, or these where it is not there
+abbrev pub changes_or : (vector : ℕ) → List VectorChanges → List Change → List Change
+changes_or x [] rest = rest
+changes_or x (c ∷ cs) rest = if c.vector == x then c.changes.items else changes_or x cs rest
+
+-- whether the vector is there
+abbrev pub is_named : (vector : ℕ) → List VectorChanges → Bool
+is_named x cs = list_any (λ c. c.vector == x) cs
+
+-- each vector is there once
+abbrev pub AreApart : List VectorChanges → Type 0
+AreApart [] = Unit {0}
+AreApart (c ∷ cs) = (is_named c.vector cs ≡ false) × AreApart cs

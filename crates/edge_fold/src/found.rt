@@ -1,5 +1,5 @@
 //! What an apply has changed.
-ghost use Rattle.std.specs.Prelude.{◌≡◌, ℕ, ℤ, ◌≤◌, ◌++◌, Bool, if◌then◌else◌, List, [], length, slice_index_or, IfOk, OnOk};
+ghost use Rattle.std.specs.Prelude.{◌≡◌, ℕ, ℤ, ◌==◌, ◌≤◌, ◌++◌, Bool, if◌then◌else◌, List, [], length, slice_index_or, IfOk, OnOk};
 ghost use Rattle.std.specs.List.{filter};
 ghost use Rattle.std.specs.List.Sorted.{IsNonDecreasing};
 ghost use Rattle.syntax.specs.declared.statement.Reduction.{Reduction};
@@ -9,7 +9,8 @@ ghost use Rattle.algorithm_meaning.specs.Laws.{IsGivenBy};
 ghost use Rattle.algorithm_meaning.specs.State.{StateValue};
 ghost use Rattle.algorithm_meaning.specs.Value.{entry};
 ghost use Rattle.kernels.specs.Cells.{HasSizes};
-ghost use Rattle.edge_fold.specs.Changed.{changed, changes_of};
+ghost use Rattle.edge_fold.specs.Changed.{AreApart, changed, changes_of, changes_or, is_named};
+ghost use Rattle.vectors.specs.declared.change.Change.{Change};
 ghost use Rattle.edge_fold.specs.Ends.{IsEndTest, IsTest};
 ghost use Rattle.edge_fold.specs.Folded.{AreFunctions, HasFolded};
 ghost use Rattle.edge_fold.specs.Held.{held};
@@ -33,7 +34,8 @@ impl Scratch {
         functions: Functions<'_>,
         to: Option<End<'_>>,
     ) -> Result<Changes, AllocError>
-        ensures { IfOk result (λ c. (m : StateValue) (steps : List StepsTree) (edges : List (ℕ × ℕ)) (test : ℕ → Bool) → AreFunctions functions.entry m steps → IsEndTest to.entry m test
+        ensures once { IfOk result (λ c. AreApart c.vectors.items) }
+        ensures changes { IfOk result (λ c. (m : StateValue) (steps : List StepsTree) (edges : List (ℕ × ℕ)) (test : ℕ → Bool) → AreFunctions functions.entry m steps → IsEndTest to.entry m test
             → HasFolded m steps edges self.old → (x : ℕ) (r : Reduction) → IsGivenBy r x steps m.sets m.vectors → functions.entry.vertices ≤ length (slice_index_or m.vectors x [])
             → changes_of x c.vectors.items ≡ changed functions.entry.vertices (entry m.vectors x)
                 (entry (after_edges steps m.sets m.vectors (filter (λ e. test e.1) edges) m.vectors) x)) }
@@ -69,15 +71,42 @@ fn found_in_slots(
     slots: &mut Slots,
     block: &mut Block,
 ) -> Result<Changes, AllocError>
-    ensures { IfOk result (λ c. (m : StateValue) (test : ℕ → Bool) → functions.entry.vectors.now.vectors ≡ m.vectors → HasSizes functions.entry.sizes.now m → IsEndTest to.entry m test
+    ensures once { IfOk result (λ c. AreApart c.vectors.items) }
+    ensures changes { IfOk result (λ c. (m : StateValue) (test : ℕ → Bool) → functions.entry.vectors.now.vectors ≡ m.vectors → HasSizes functions.entry.sizes.now m → IsEndTest to.entry m test
         → (x : ℕ) → changes_of x c.vectors.items ≡ changed functions.entry.vertices (entry m.vectors x)
             (λ v. if test v then held_in (active slots.old) x v (entry m.vectors x v) else entry m.vectors x v)) }
 {
     let mut vectors = Vec::new(alloc);
     'slots: for place in 0..slots.used {
-        vectors.push(found_in_slot(alloc, functions, to, &mut slots.slots[place], block)?)?;
+        let found = found_in_slot(alloc, functions, to, &mut slots.slots[place], block)?;
+        push_once(found, &mut vectors)?;
     }
     Ok(Changes { vectors })
+}
+
+/// Adds the changes of a vector that is not there yet.
+fn push_once(found: VectorChanges, vectors: &mut Vec<VectorChanges>) -> Result<(), AllocError>
+    ensures apart { OnOk result (AreApart vectors.old.items → AreApart vectors.new.items) }
+    ensures changes { OnOk result ((x : ℕ) (rest : List Change)
+        → changes_or x vectors.new.items rest ≡ changes_or x vectors.old.items (if found.vector == x then found.changes.items else rest)) }
+{
+    if has_vector(vectors, found.vector) {
+        return Ok(());
+    }
+    vectors.push(found)?;
+    Ok(())
+}
+
+/// Whether the changes of a vector are there.
+fn has_vector(vectors: &[VectorChanges], vector: usize) -> bool
+    ensures { result ≡ is_named vector vectors.now }
+{
+    'vectors: for of_vector in vectors {
+        if of_vector.vector == vector {
+            return true;
+        }
+    }
+    false
 }
 
 /// What a slot has for its vector.

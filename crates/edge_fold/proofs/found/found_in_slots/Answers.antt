@@ -1,16 +1,18 @@
-use Rattle.std.proofs.Common.{rules, ◌≡◌, ℕ, ◌<◌, ◌+◌, ◌≤◌, ◌==◌, ◌++◌, ◌∷◌, [], Bool, cond, if◌then◌else◌, ℤ, List, length, take, drop, set, get_or, refl, sym, ap, ◌∙◌, arith}
+use Rattle.std.proofs.Common.{rules, ◌≡◌, ℕ, ◌<◌, ◌+◌, ◌≤◌, ◌==◌, ◌++◌, ◌∷◌, [], Bool, cond, if◌then◌else◌, ℤ, List, length, take, drop, set, get_or, refl, sym, ap, ◌∙◌, subst, arith}
 use Rattle.std.proofs.lemmas.List.{length-take-le, drop_all}
 use Rattle.algorithm_meaning.specs.Value.{entry}
 use Rattle.vectors.specs.declared.change.Change.{Change}
 use Rattle.vectors.specs.declared.change.VectorChanges.{VectorChanges}
 use Rattle.edge_fold.specs.declared.slot.Slot.{Slot}
 use Rattle.edge_fold.specs.Slots.{active}
-use Rattle.edge_fold.proofs.Findings.{changes_or, changes_or-nothing, changes_or-push, found_in, found_is, left_after, next_left}
+use Rattle.edge_fold.specs.Changed.{AreApart, changes_or}
+use Rattle.edge_fold.proofs.Findings.{changes_or-nothing, found_in, found_is, left_after, next_left}
 use Rattle.edge_fold.proofs.found.found_in_slots.Goals as goal
 
 pub slots-init : goal.slots-init
 slots-init c = record {
   used = refl;
+  apart = subst (λ (cs : List VectorChanges). AreApart cs) (sym c.new-vectors.ensures.items) tt;
   left = refl;
   found = λ m test vectors sizes is x. ap (λ (cs : List VectorChanges). changes_or x cs (found_in c.args.functions.vertices (entry m.vectors) test (active c.args.slots.now) x)) c.new-vectors.ensures.items;
 }
@@ -33,15 +35,15 @@ slots-preserved c =
     let there : k < length all = omega (arith, long, test_true) in
     let left = c.slots.invariant.left in
     let rest = drop (k + 1) all in
-    let one = c.in_ok-found_in_slot.field-0 in
-    let found = c.in_ok-found_in_slot.ensures in
+    let one = c.in_ok-found.found in
+    let found = c.in_ok-found.ensures in
     record {
       used = same;
+      apart = c.in_ok-push_once.ensures.apart c.slots.invariant.apart;
       left = left_after k n xs all c.found_in_slot.new.slot was inside here there left;
       found = λ m test vectors sizes is x.
           let f = λ (ss : List Slot). found_in c.args.functions.vertices (entry m.vectors) test ss x in
-          ap (λ (cs : List VectorChanges). changes_or x cs (f rest)) c.in_ok-push.ensures.items
-          ∙ changes_or-push x c.slots.vectors.items one (f rest)
+          c.in_ok-push_once.ensures.changes x (f rest)
           ∙ ap (λ (r : List Change). changes_or x c.slots.vectors.items r)
             (ap (λ (y : ℕ). cond (y == x) one.changes.items (f rest)) found.vector
             ∙ ap (λ (cs : List Change). cond (was.vector == x) cs (f rest)) (found.changes m test vectors sizes is)
@@ -49,8 +51,8 @@ slots-preserved c =
           ∙ c.slots.invariant.found m test vectors sizes is x;
     }
 
-pub returns : goal.returns
-returns c m test vectors sizes is x =
+pub returns-clause-changes : goal.returns-clause-changes
+returns-clause-changes c m test vectors sizes is x =
     let all = active c.args.slots.now in
     let k = c.slots.place in
     let few_then : c.args.slots.now.used ≤ length c.args.slots.now.slots.items = search rules in
