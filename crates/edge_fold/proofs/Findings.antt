@@ -1,11 +1,14 @@
 -- What is found in slots.
-use Rattle.std.proofs.Common.{◌≡◌, ℕ, zero, suc, ◌+◌, ◌<◌, ◌==◌, ℤ, Bool, true, false, cond, ◌||◌, if◌then◌else◌, List, [], ◌∷◌, ◌++◌, length, drop, take, set, get_or, Contains, refl, sym, ap, ◌∙◌, arith, ◌⊎◌, inl, inr, subst, append_assoc, IsTrue, ◌↔◌}
+use Rattle.std.proofs.Common.{◌≡◌, ℕ, zero, suc, ◌+◌, ◌-◌, ◌<◌, ◌==◌, ℤ, Bool, true, false, cond, ◌||◌, if◌then◌else◌, List, [], ◌∷◌, ◌++◌, length, drop, take, set, get_or, Contains, refl, sym, ap, ◌∙◌, arith, ◌⊎◌, inl, inr, subst, append_assoc, IsTrue, ◌↔◌}
 use Rattle.std.proofs.lemmas.List.{drop_more, drop-set-lt, get_or-take}
 use Rattle.std.proofs.Math.Seq.{take-set-lt}
 use Rattle.std.proofs.lemmas.Bool.Decides.{nat_tests}
 use Rattle.std.proofs.lemmas.Bool.{false≢true}
 use Rattle.std.specs.List.{filter, list_any}
-use Rattle.std.proofs.lemmas.List.Elements.{filter_more}
+use Rattle.std.proofs.lemmas.List.{append-nil}
+use Rattle.std.proofs.lemmas.List.Elements.{Contains-append_left, Contains-get_or, Contains-push, Contains-push_cases, filter_more}
+use Rattle.std.proofs.lemmas.List.Sorted.{IsNonDecreasingBy-push}
+use Rattle.std.specs.List.Sorted.{IsNonDecreasing}
 use Rattle.std.proofs.lemmas.List.Folds.{Any-from_list_any, list_any_at}
 use Rattle.algorithm_meaning.specs.EdgeApply.{is_member}
 use Rattle.vertex_sets.proofs.Ascending.{contains_first, contains_later, contains_nothing, first_or_later}
@@ -178,3 +181,27 @@ member_at v xs false false h e = sym e
 
 pub member_is : (v : ℕ) (xs : List ℕ) (b : Bool) → IsTrue b ↔ Contains xs v → b ≡ is_member v xs
 member_is v xs b h = member_at v xs b (is_member v xs) h refl
+
+-- one more vertex of an ascending list of those that pass a test
+pub ascending_more : (xs ys : List ℕ) (v : ℕ) (b : Bool) → ys ≡ xs ++ cond b (v ∷ []) [] → IsNonDecreasing xs → ((u : ℕ) → Contains xs u → u < v) → IsNonDecreasing ys
+ascending_more xs ys v true e up below =
+    subst (λ (ks : List ℕ). IsNonDecreasing ks) (sym e) (IsNonDecreasingBy-push (λ (x : ℕ). x) xs v up (λ d l. let less = below (get_or xs (length xs - 1) d) (Contains-get_or xs (length xs - 1) d (omega (arith, l))) in omega (arith, less)))
+ascending_more xs ys v false e up below = subst (λ (ks : List ℕ). IsNonDecreasing ks) (sym (e ∙ append-nil xs)) up
+
+pub below_more : (xs ys : List ℕ) (v : ℕ) (b : Bool) → ys ≡ xs ++ cond b (v ∷ []) [] → ((u : ℕ) → Contains xs u → u < v) → (u : ℕ) → Contains ys u → u < v + 1
+below_more xs ys v true e below u has =
+    choose (Contains-push_cases xs v u (subst (λ (ks : List ℕ). Contains ks u) e has)) (λ h. let less = below u h in omega (arith, less)) (λ h. omega (arith, h))
+below_more xs ys v false e below u has = let less = below u (subst (λ (ks : List ℕ). Contains ks u) (e ∙ append-nil xs) has) in omega (arith, less)
+
+less_than : (u v : ℕ) → u < v + 1 → (u == v) ≡ false → u < v
+less_than u v l off = grind (arith, nat_tests)
+
+others_at : (p : ℕ → Bool) (xs ys : List ℕ) (v u : ℕ) (b c : Bool) → p v ≡ b → (u == v) ≡ c → ys ≡ xs ++ cond b (v ∷ []) [] → ((w : ℕ) → w < v → ¬ Contains xs w → p w ≡ false) → u < v + 1 → ¬ Contains ys u → p u ≡ false
+others_at p xs ys v u true true is at e others l absent =
+    absurd (absent (subst (λ (ks : List ℕ). Contains ks u) (sym e) (subst (λ (w : ℕ). Contains (xs ++ v ∷ []) w) (sym (same u v at)) (Contains-push xs v))))
+others_at p xs ys v u false true is at e others l absent = ap p (same u v at) ∙ is
+others_at p xs ys v u b false is at e others l absent =
+    others u (less_than u v l at) (λ h. absent (subst (λ (ks : List ℕ). Contains ks u) (sym e) (Contains-append_left xs (cond b (v ∷ []) []) u h)))
+
+pub others_more : (p : ℕ → Bool) (xs ys : List ℕ) (v : ℕ) → ys ≡ xs ++ cond (p v) (v ∷ []) [] → ((w : ℕ) → w < v → ¬ Contains xs w → p w ≡ false) → (u : ℕ) → u < v + 1 → ¬ Contains ys u → p u ≡ false
+others_more p xs ys v e others u l absent = others_at p xs ys v u (p v) (u == v) refl refl e others l absent

@@ -11,7 +11,7 @@ use vectors::{Change, Lane};
 
 impl Accumulator {
     /// The changes at these vertices, which do not fall, each named once; `new` is any account of the new entries that
-    /// agrees with those of these vertices, and has the old ones at all others. The only error is out of memory.
+    /// agrees with those of these vertices, and has the old ones at all others of the graph. The only error is out of memory.
     pub(crate) fn changes(
         &self,
         alloc: Global,
@@ -20,7 +20,7 @@ impl Accumulator {
         vertices: u32,
     ) -> Result<Vec<Change>, AllocError>
         ensures { IsNonDecreasing kept.now → (new : ℕ → ℤ) → ((v : ℕ) → Contains kept.now v → new v ≡ held self.now v (lane_entry old.entry v))
-            → ((v : ℕ) → ¬ Contains kept.now v → new v ≡ lane_entry old.entry v)
+            → ((v : ℕ) → v < vertices → ¬ Contains kept.now v → new v ≡ lane_entry old.entry v)
             → IfOk result (λ cs. cs.items ≡ changed vertices (lane_entry old.entry) new) }
     {
         let mut changes = Vec::new(alloc);

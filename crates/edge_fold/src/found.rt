@@ -1,5 +1,5 @@
 //! What an apply has changed.
-ghost use Rattle.std.specs.Prelude.{◌≡◌, ℕ, ℤ, ◌==◌, ◌≤◌, ◌++◌, Bool, if◌then◌else◌, List, [], length, slice_index_or, IfOk, OnOk};
+ghost use Rattle.std.specs.Prelude.{◌≡◌, ℕ, ℤ, ◌==◌, ◌<◌, ◌≤◌, Contains, ◌++◌, Bool, if◌then◌else◌, List, [], length, slice_index_or, IfOk, OnOk};
 ghost use Rattle.std.specs.List.{filter};
 ghost use Rattle.std.specs.List.Sorted.{IsNonDecreasing};
 ghost use Rattle.syntax.specs.declared.statement.Reduction.{Reduction};
@@ -122,15 +122,41 @@ fn found_in_slot(
         → c.changes.items ≡ changed functions.entry.vertices (entry m.vectors slot.old.vector)
             (λ v. if test v then held slot.old.entries v (entry m.vectors slot.old.vector v) else entry m.vectors slot.old.vector v)) }
 {
+    if slot.entries.is_crowded() {
+        let walked = slot.entries.walk(alloc, functions.vertices)?;
+        let found = found_among(alloc, functions, to, slot, &walked, block)?;
+        return Ok(found);
+    }
     slot.entries.sort_touched();
+    let touched = slot.entries.touched();
+    let found = found_among(alloc, functions, to, slot, touched, block)?;
+    Ok(found)
+}
+
+/// The same, where these vertices have all new entries of the graph.
+fn found_among(
+    alloc: Global,
+    functions: Functions<'_>,
+    to: Option<End<'_>>,
+    slot: &Slot,
+    touched: &[u32],
+    block: &mut Block,
+) -> Result<VectorChanges, AllocError>
+    requires ascending { IsNonDecreasing touched.now }
+    requires covers { (v : ℕ) (old : ℤ) → v < functions.vertices → ¬ Contains touched.now v → held slot.now.entries v old ≡ old }
+    ensures vector { IfOk result (λ c. c.vector ≡ slot.now.vector) }
+    ensures changes { IfOk result (λ c. (m : StateValue) (test : ℕ → Bool) → functions.entry.vectors.now.vectors ≡ m.vectors → HasSizes functions.entry.sizes.now m → IsEndTest to.entry m test
+        → c.changes.items ≡ changed functions.entry.vertices (entry m.vectors slot.now.vector)
+            (λ v. if test v then held slot.now.entries v (entry m.vectors slot.now.vector v) else entry m.vectors slot.now.vector v)) }
+{
     let vector = slot.vector;
     match to {
         None => {
-            let changes = all_changes(alloc, functions, slot)?;
+            let changes = all_changes(alloc, functions, slot, touched)?;
             Ok(VectorChanges { vector, changes })
         }
         Some(end) => {
-            let changes = passing_changes(alloc, functions, end, slot, block)?;
+            let changes = passing_changes(alloc, functions, end, slot, touched, block)?;
             Ok(VectorChanges { vector, changes })
         }
     }
@@ -141,13 +167,14 @@ fn all_changes(
     alloc: Global,
     functions: Functions<'_>,
     slot: &Slot,
+    touched: &[u32],
 ) -> Result<Vec<Change>, AllocError>
-    requires { IsNonDecreasing slot.now.entries.touched.items }
+    requires ascending { IsNonDecreasing touched.now }
+    requires covers { (v : ℕ) (old : ℤ) → v < functions.vertices → ¬ Contains touched.now v → held slot.now.entries v old ≡ old }
     ensures { IfOk result (λ cs. cs.items ≡ changed functions.entry.vertices (entry functions.entry.vectors.now.vectors slot.now.vector)
         (λ v. held slot.now.entries v (entry functions.entry.vectors.now.vectors slot.now.vector v))) }
 {
     let old = functions.vectors.lane(slot.vector);
-    let touched = slot.entries.touched();
     let changes = slot.entries.changes(alloc, old, touched, functions.vertices)?;
     Ok(changes)
 }
@@ -158,15 +185,17 @@ fn passing_changes(
     functions: Functions<'_>,
     end: End<'_>,
     slot: &Slot,
+    touched: &[u32],
     block: &mut Block,
 ) -> Result<Vec<Change>, AllocError>
-    requires { IsNonDecreasing slot.now.entries.touched.items }
+    requires ascending { IsNonDecreasing touched.now }
+    requires covers { (v : ℕ) (old : ℤ) → v < functions.vertices → ¬ Contains touched.now v → held slot.now.entries v old ≡ old }
     ensures { IfOk result (λ cs. (m : StateValue) (test : ℕ → Bool) → functions.entry.vectors.now.vectors ≡ m.vectors → HasSizes functions.entry.sizes.now m → IsTest end.entry m test
         → cs.items ≡ changed functions.entry.vertices (entry m.vectors slot.now.vector)
             (λ v. if test v then held slot.now.entries v (entry m.vectors slot.now.vector v) else entry m.vectors slot.now.vector v)) }
 {
     let mut kept = Vec::new(alloc);
-    keep_passing(functions, end, slot.entries.touched(), block, &mut kept)?;
+    keep_passing(functions, end, touched, block, &mut kept)?;
     let old = functions.vectors.lane(slot.vector);
     let changes = slot.entries.changes(alloc, old, &kept, functions.vertices)?;
     Ok(changes)

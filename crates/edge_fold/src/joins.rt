@@ -1,5 +1,5 @@
 //! Joining what is given to vertices.
-ghost use Rattle.std.specs.Prelude.{◌≡◌, ℕ, ℤ, pos, ◌==◌, if◌then◌else◌, ◌<◌, ◌≤◌, Contains, length, slice_index_or, vec_len, OnOk};
+ghost use Rattle.std.specs.Prelude.{◌≡◌, ℕ, ℤ, pos, ◌==◌, if◌then◌else◌, ◌<◌, ◌≤◌, Contains, length, slice_index_or, vec_len, IfOk, OnOk};
 ghost use Rattle.std.specs.List.Sorted.{IsNonDecreasing};
 ghost use Rattle.algorithm_meaning.specs.Arithmetic.{reduced};
 ghost use Rattle.edge_fold.specs.Given.{each_given, for_vector, given_from, reduced_at};
@@ -8,6 +8,7 @@ ghost use Rattle.kernels.specs.Gifts.{gift_at, truth_at};
 ghost use Rattle.vectors.specs.Lanes.{lane_entry};
 
 use crate::accumulator::Accumulator;
+use crate::passing::keep_where;
 use algorithm_meaning::reduce;
 use kernels::Gift;
 use std::alloc::{AllocError, Global};
@@ -229,6 +230,35 @@ impl Accumulator {
         ensures held { (v : ℕ) (old : ℤ) → held self.new v old ≡ held self.old v old }
     {
         self.touched.sort_unstable();
+    }
+
+    /// Whether most vertices were given something, so that a walk over all finds them sooner in order than a sort.
+    pub(crate) fn is_crowded(&self) -> bool {
+        self.touched.len() > self.stamps.len() / 64
+    }
+
+    /// Whether a vertex was given something.
+    #[inline]
+    fn is_touched(&self, vertex: u32) -> bool
+        ensures { result ≡ (slice_index_or self.now.stamps.items vertex 0 == self.now.stamp) }
+    {
+        match self.stamps.get(vertex as usize) {
+            Some(stamp) => *stamp == self.stamp,
+            None => false,
+        }
+    }
+
+    /// The vertices of a graph that were given something, ascending. All others of the graph have no new entry. The
+    /// only error is out of memory.
+    pub(crate) fn walk(&self, alloc: Global, vertices: u32) -> Result<Vec<u32>, AllocError>
+        ensures ascending { IfOk result (λ found. IsNonDecreasing found.items) }
+        ensures covers { IfOk result (λ found. (v : ℕ) (old : ℤ) → v < vertices → ¬ Contains found.items v → held self.now v old ≡ old) }
+    {
+        let mut found = Vec::with_capacity(alloc, self.touched.len())?;
+        'vertices: for vertex in 0..vertices {
+            keep_where(self.is_touched(vertex), vertex, &mut found)?;
+        }
+        Ok(found)
     }
 
     /// The vertices that were given something. All others have no new entry.

@@ -101,7 +101,7 @@ fn keep_all_where(block: &Block, part: &[u32], kept: &mut Vec<u32>) -> Result<()
 }
 
 /// A vertex, where it is to be kept.
-fn keep_where(keeps: bool, vertex: u32, kept: &mut Vec<u32>) -> Result<(), AllocError>
+pub(crate) fn keep_where(keeps: bool, vertex: u32, kept: &mut Vec<u32>) -> Result<(), AllocError>
     ensures { OnOk result (kept.new.items ≡ kept.old.items ++ (if keeps then vertex ∷ [] else [])) }
 {
     if keeps {

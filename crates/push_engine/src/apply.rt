@@ -8,7 +8,7 @@ ghost use Rattle.algorithm_meaning.specs.Laws.{IsGivenBy};
 ghost use Rattle.algorithm_meaning.specs.State.{StateValue};
 ghost use Rattle.algorithm_meaning.specs.Value.{entry};
 ghost use Rattle.kernels.specs.Cells.{HasSizes};
-ghost use Rattle.edge_fold.specs.Changed.{changed, changes_of};
+ghost use Rattle.edge_fold.specs.Changed.{AreApart, changed, changes_of};
 ghost use Rattle.edge_fold.specs.Ends.{IsEndTest, IsTest};
 ghost use Rattle.edge_fold.specs.Folded.{AreFunctions, AreKernels, HasFolded};
 ghost use Rattle.push_engine.specs.Between.{edges_between};
@@ -30,7 +30,8 @@ pub fn push(
     sizes: &[i64],
     scratch: &mut Scratch,
 ) -> Result<Changes, AllocError>
-    ensures { IfOk result (λ c. (m : StateValue) (steps : List StepsTree) (from to : ℕ → Bool) → vectors.now.vectors ≡ m.vectors → HasSizes sizes.now m
+    ensures once { IfOk result (λ c. AreApart c.vectors.items) }
+    ensures changes { IfOk result (λ c. (m : StateValue) (steps : List StepsTree) (from to : ℕ → Bool) → vectors.now.vectors ≡ m.vectors → HasSizes sizes.now m
         → AreKernels apply.now.first.now apply.now.second steps → IsEndTest apply.now.from m from → IsEndTest apply.now.to m to
         → (x : ℕ) (r : Reduction) → IsGivenBy r x steps m.sets m.vectors → flat.now.vertices ≤ length (slice_index_or m.vectors x [])
         → changes_of x c.vectors.items ≡ changed flat.now.vertices (entry m.vectors x)

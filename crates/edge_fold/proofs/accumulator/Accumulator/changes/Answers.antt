@@ -38,7 +38,7 @@ kept-preserved c =
           ∙ ap (λ (y : ℤ). items ++ change_at (λ _. y) (λ _. number) v) was
           ∙ ap (λ (y : ℤ). items ++ change_at (λ _. old v) (λ _. y) v) is
           ∙ ap (λ (cs : List Change). cs ++ change_at old new v) (c.kept.invariant.found up new here there)
-          ∙ changed_more old new next v from (λ u a b. there u (between_kept kept index next c.args.vertices u up (c.kept.invariant.passed up) a (omega (arith, b, c.if-vertices-vertex.false)) (λ l. b)));
+          ∙ changed_more old new next v from (λ u a b. there u (omega (arith, b, c.if-vertices-vertex.false)) (between_kept kept index next c.args.vertices u up (c.kept.invariant.passed up) a (omega (arith, b, c.if-vertices-vertex.false)) (λ l. b)));
     }
 
 pub returns : goal.returns
@@ -48,4 +48,4 @@ returns c up new here there =
     let done = c.kept-test.false in
     c.kept.invariant.found up new here there
     ∙ changed_rest (lane_entry c.args.old) new c.kept.next c.args.vertices c.kept.invariant.inside
-      (λ u a b. there u (between_kept kept index c.kept.next c.args.vertices u up (c.kept.invariant.passed up) a b (λ l. absurd (omega (arith, done, l)))))
+      (λ u a b. there u b (between_kept kept index c.kept.next c.args.vertices u up (c.kept.invariant.passed up) a b (λ l. absurd (omega (arith, done, l)))))
