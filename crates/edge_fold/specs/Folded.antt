@@ -1,0 +1,39 @@
+-- What a scratch has folded.
+use Rattle.std.specs.Prelude.{◌≡◌, ℕ, ℤ, Option, Some, None, List, [], ◌∷◌, take}
+use Rattle.std.specs.Borrow.{Bor}
+use Rattle.syntax.specs.declared.statement.Reduction.{Reduction}
+use Rattle.typed_tree.specs.StepTree.{StepsTree}
+use Rattle.algorithm_meaning.specs.State.{StateValue}
+use Rattle.algorithm_meaning.specs.Value.{entry}
+use Rattle.kernels.specs.declared.kernel.EdgeKernel.{EdgeKernel}
+use Rattle.kernels.specs.Cells.{HasSizes}
+use Rattle.kernels.specs.Kernels.{IsEdgeKernel}
+use Rattle.edge_fold.specs.declared.functions.Functions.{Functions}
+use Rattle.edge_fold.specs.declared.pairs.Pairs.{Pairs}
+use Rattle.edge_fold.specs.declared.scratch.Scratch.{Scratch}
+use Rattle.edge_fold.specs.Given.{IsReducedBy, all_given, given_on, pairs, reduced_at}
+use Rattle.edge_fold.specs.Slots.{active, held_in}
+
+-- the kernels are those of these functions, in order
+abbrev pub AreKernels : EdgeKernel → Option (Bor EdgeKernel) → List StepsTree → Type 0
+AreKernels first None (a ∷ []) = IsEdgeKernel first a
+AreKernels first None _ = ⊥
+AreKernels first (Some second) (a ∷ b ∷ []) = IsEdgeKernel first a × IsEdgeKernel second.now b
+AreKernels first (Some second) _ = ⊥
+
+-- the functions have these statements, and read the vectors and the sets of a state
+pub record AreFunctions (f : Functions) (m : StateValue) (steps : List StepsTree) : Type 0 where
+  pub vectors : f.vectors.now.vectors ≡ m.vectors
+  pub sizes : HasSizes f.sizes.now m
+  pub kernels : AreKernels f.first.now f.second steps
+
+-- the pairs that wait
+abbrev pub waiting : Pairs → List (ℕ × ℕ)
+waiting p = pairs (take p.count p.sources) (take p.count p.destinations)
+
+-- the new entries reduced with what the pairs that wait give are the old ones reduced with what these edges give, for
+-- each vector to which the functions give by one reduction
+abbrev pub HasFolded : StateValue → List StepsTree → List (ℕ × ℕ) → Scratch → Type 0
+HasFolded m steps edges s = (x : ℕ) (r : Reduction) → IsReducedBy r x m steps → (v : ℕ)
+    → reduced_at r v (held_in (active s.slots) x v (entry m.vectors x v)) (given_on x (all_given m steps) (waiting s.pairs))
+    ≡ reduced_at r v (entry m.vectors x v) (given_on x (all_given m steps) edges)

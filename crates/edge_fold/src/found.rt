@@ -1,0 +1,202 @@
+//! What an apply has changed.
+ghost use Rattle.std.specs.Prelude.{◌≡◌, ℕ, ℤ, ◌==◌, ◌<◌, ◌≤◌, Contains, ◌++◌, Bool, if◌then◌else◌, List, [], length, slice_index_or, IfOk, OnOk};
+ghost use Rattle.std.specs.List.{filter};
+ghost use Rattle.std.specs.List.Sorted.{IsNonDecreasing};
+ghost use Rattle.syntax.specs.declared.statement.Reduction.{Reduction};
+ghost use Rattle.typed_tree.specs.StepTree.{StepsTree};
+ghost use Rattle.algorithm_meaning.specs.EdgeApply.{after_edges};
+ghost use Rattle.algorithm_meaning.specs.Laws.{IsGivenBy};
+ghost use Rattle.algorithm_meaning.specs.State.{StateValue};
+ghost use Rattle.algorithm_meaning.specs.Value.{entry};
+ghost use Rattle.kernels.specs.Cells.{HasSizes};
+ghost use Rattle.edge_fold.specs.Changed.{AreApart, changed, changes_of, changes_or, is_named};
+ghost use Rattle.vectors.specs.declared.change.Change.{Change};
+ghost use Rattle.edge_fold.specs.Ends.{IsEndTest, IsTest};
+ghost use Rattle.edge_fold.specs.Folded.{AreFunctions, HasFolded};
+ghost use Rattle.edge_fold.specs.Held.{held};
+ghost use Rattle.edge_fold.specs.Slots.{active, held_in};
+
+use crate::functions::Functions;
+use crate::passing::keep_passing;
+use crate::scratch::Scratch;
+use crate::slot::{Slot, Slots};
+use kernels::{Block, End};
+use std::alloc::{AllocError, Global};
+use vectors::{Change, Changes, VectorChanges};
+
+impl Scratch {
+    /// What the edges that were folded change, at the vertices that an end lets through; one that is not given lets all
+    /// through. There is one list for each vector that a function has given something, and a vector without one does
+    /// not change. The next call must be `begin`. The only error is out of memory.
+    pub fn changes(
+        &mut self,
+        alloc: Global,
+        functions: Functions<'_>,
+        to: Option<End<'_>>,
+    ) -> Result<Changes, AllocError>
+        ensures once { IfOk result (λ c. AreApart c.vectors.items) }
+        ensures changes { IfOk result (λ c. (m : StateValue) (steps : List StepsTree) (edges : List (ℕ × ℕ)) (test : ℕ → Bool) → AreFunctions functions.entry m steps → IsEndTest to.entry m test
+            → HasFolded m steps edges self.old → (x : ℕ) (r : Reduction) → IsGivenBy r x steps m.sets m.vectors → functions.entry.vertices ≤ length (slice_index_or m.vectors x [])
+            → changes_of x c.vectors.items ≡ changed functions.entry.vertices (entry m.vectors x)
+                (entry (after_edges steps m.sets m.vectors (filter (λ e. test e.1) edges) m.vectors) x)) }
+    {
+        self.flush(alloc, functions)?;
+        let changes = found_in_slots(alloc, functions, to, &mut self.slots, &mut self.block)?;
+        Ok(changes)
+    }
+
+    /// Adds those of the vertices that an end lets through to a list, in their order. What was folded stays. The only
+    /// error is out of memory.
+    pub fn keep_passing(
+        &mut self,
+        functions: Functions<'_>,
+        end: End<'_>,
+        vertices: &[u32],
+        kept: &mut Vec<u32>,
+    ) -> Result<(), AllocError>
+        ensures kept { OnOk result ((m : StateValue) (test : ℕ → Bool) → functions.entry.vectors.now.vectors ≡ m.vectors → HasSizes functions.entry.sizes.now m → IsTest end.entry m test
+            → kept.new.items ≡ kept.old.items ++ filter test vertices.now) }
+        ensures folded { (m : StateValue) (steps : List StepsTree) (edges : List (ℕ × ℕ)) → HasFolded m steps edges self.old → HasFolded m steps edges self.new }
+    {
+        keep_passing(functions, end, vertices, &mut self.block, kept)?;
+        Ok(())
+    }
+}
+
+/// What the slots have for their vectors.
+fn found_in_slots(
+    alloc: Global,
+    functions: Functions<'_>,
+    to: Option<End<'_>>,
+    slots: &mut Slots,
+    block: &mut Block,
+) -> Result<Changes, AllocError>
+    ensures once { IfOk result (λ c. AreApart c.vectors.items) }
+    ensures changes { IfOk result (λ c. (m : StateValue) (test : ℕ → Bool) → functions.entry.vectors.now.vectors ≡ m.vectors → HasSizes functions.entry.sizes.now m → IsEndTest to.entry m test
+        → (x : ℕ) → changes_of x c.vectors.items ≡ changed functions.entry.vertices (entry m.vectors x)
+            (λ v. if test v then held_in (active slots.old) x v (entry m.vectors x v) else entry m.vectors x v)) }
+{
+    let mut vectors = Vec::new(alloc);
+    'slots: for place in 0..slots.used {
+        let found = found_in_slot(alloc, functions, to, &mut slots.slots[place], block)?;
+        push_once(found, &mut vectors)?;
+    }
+    Ok(Changes { vectors })
+}
+
+/// Adds the changes of a vector that is not there yet.
+fn push_once(found: VectorChanges, vectors: &mut Vec<VectorChanges>) -> Result<(), AllocError>
+    ensures apart { OnOk result (AreApart vectors.old.items → AreApart vectors.new.items) }
+    ensures changes { OnOk result ((x : ℕ) (rest : List Change)
+        → changes_or x vectors.new.items rest ≡ changes_or x vectors.old.items (if found.vector == x then found.changes.items else rest)) }
+{
+    if has_vector(vectors, found.vector) {
+        return Ok(());
+    }
+    vectors.push(found)?;
+    Ok(())
+}
+
+/// Whether the changes of a vector are there.
+fn has_vector(vectors: &[VectorChanges], vector: usize) -> bool
+    ensures { result ≡ is_named vector vectors.now }
+{
+    'vectors: for of_vector in vectors {
+        if of_vector.vector == vector {
+            return true;
+        }
+    }
+    false
+}
+
+/// What a slot has for its vector.
+fn found_in_slot(
+    alloc: Global,
+    functions: Functions<'_>,
+    to: Option<End<'_>>,
+    slot: &mut Slot,
+    block: &mut Block,
+) -> Result<VectorChanges, AllocError>
+    ensures vector { IfOk result (λ c. c.vector ≡ slot.old.vector) }
+    ensures changes { IfOk result (λ c. (m : StateValue) (test : ℕ → Bool) → functions.entry.vectors.now.vectors ≡ m.vectors → HasSizes functions.entry.sizes.now m → IsEndTest to.entry m test
+        → c.changes.items ≡ changed functions.entry.vertices (entry m.vectors slot.old.vector)
+            (λ v. if test v then held slot.old.entries v (entry m.vectors slot.old.vector v) else entry m.vectors slot.old.vector v)) }
+{
+    if slot.entries.is_crowded() {
+        let walked = slot.entries.walk(alloc, functions.vertices)?;
+        let found = found_among(alloc, functions, to, slot, &walked, block)?;
+        return Ok(found);
+    }
+    slot.entries.sort_touched();
+    let touched = slot.entries.touched();
+    let found = found_among(alloc, functions, to, slot, touched, block)?;
+    Ok(found)
+}
+
+/// The same, where these vertices have all new entries of the graph.
+fn found_among(
+    alloc: Global,
+    functions: Functions<'_>,
+    to: Option<End<'_>>,
+    slot: &Slot,
+    touched: &[u32],
+    block: &mut Block,
+) -> Result<VectorChanges, AllocError>
+    requires ascending { IsNonDecreasing touched.now }
+    requires covers { (v : ℕ) (old : ℤ) → v < functions.vertices → ¬ Contains touched.now v → held slot.now.entries v old ≡ old }
+    ensures vector { IfOk result (λ c. c.vector ≡ slot.now.vector) }
+    ensures changes { IfOk result (λ c. (m : StateValue) (test : ℕ → Bool) → functions.entry.vectors.now.vectors ≡ m.vectors → HasSizes functions.entry.sizes.now m → IsEndTest to.entry m test
+        → c.changes.items ≡ changed functions.entry.vertices (entry m.vectors slot.now.vector)
+            (λ v. if test v then held slot.now.entries v (entry m.vectors slot.now.vector v) else entry m.vectors slot.now.vector v)) }
+{
+    let vector = slot.vector;
+    match to {
+        None => {
+            let changes = all_changes(alloc, functions, slot, touched)?;
+            Ok(VectorChanges { vector, changes })
+        }
+        Some(end) => {
+            let changes = passing_changes(alloc, functions, end, slot, touched, block)?;
+            Ok(VectorChanges { vector, changes })
+        }
+    }
+}
+
+/// Its changes at all vertices.
+fn all_changes(
+    alloc: Global,
+    functions: Functions<'_>,
+    slot: &Slot,
+    touched: &[u32],
+) -> Result<Vec<Change>, AllocError>
+    requires ascending { IsNonDecreasing touched.now }
+    requires covers { (v : ℕ) (old : ℤ) → v < functions.vertices → ¬ Contains touched.now v → held slot.now.entries v old ≡ old }
+    ensures { IfOk result (λ cs. cs.items ≡ changed functions.entry.vertices (entry functions.entry.vectors.now.vectors slot.now.vector)
+        (λ v. held slot.now.entries v (entry functions.entry.vectors.now.vectors slot.now.vector v))) }
+{
+    let old = functions.vectors.lane(slot.vector);
+    let changes = slot.entries.changes(alloc, old, touched, functions.vertices)?;
+    Ok(changes)
+}
+
+/// Its changes at the vertices that an end lets through.
+fn passing_changes(
+    alloc: Global,
+    functions: Functions<'_>,
+    end: End<'_>,
+    slot: &Slot,
+    touched: &[u32],
+    block: &mut Block,
+) -> Result<Vec<Change>, AllocError>
+    requires ascending { IsNonDecreasing touched.now }
+    requires covers { (v : ℕ) (old : ℤ) → v < functions.vertices → ¬ Contains touched.now v → held slot.now.entries v old ≡ old }
+    ensures { IfOk result (λ cs. (m : StateValue) (test : ℕ → Bool) → functions.entry.vectors.now.vectors ≡ m.vectors → HasSizes functions.entry.sizes.now m → IsTest end.entry m test
+        → cs.items ≡ changed functions.entry.vertices (entry m.vectors slot.now.vector)
+            (λ v. if test v then held slot.now.entries v (entry m.vectors slot.now.vector v) else entry m.vectors slot.now.vector v)) }
+{
+    let mut kept = Vec::new(alloc);
+    keep_passing(functions, end, touched, block, &mut kept)?;
+    let old = functions.vectors.lane(slot.vector);
+    let changes = slot.entries.changes(alloc, old, &kept, functions.vertices)?;
+    Ok(changes)
+}

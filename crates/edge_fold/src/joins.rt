@@ -1,0 +1,310 @@
+//! Joining what is given to vertices.
+ghost use Rattle.std.specs.Prelude.{◌≡◌, ℕ, ℤ, pos, ◌==◌, if◌then◌else◌, ◌<◌, ◌≤◌, Contains, length, slice_index_or, vec_len, IfOk, OnOk};
+ghost use Rattle.std.specs.List.Sorted.{IsNonDecreasing};
+ghost use Rattle.algorithm_meaning.specs.Arithmetic.{reduced};
+ghost use Rattle.edge_fold.specs.Given.{each_given, for_vector, given_from, reduced_at};
+ghost use Rattle.edge_fold.specs.Held.{held, room};
+ghost use Rattle.kernels.specs.Gifts.{gift_at, truth_at};
+ghost use Rattle.vectors.specs.Lanes.{lane_entry};
+
+use crate::accumulator::Accumulator;
+use crate::passing::keep_where;
+use algorithm_meaning::reduce;
+use kernels::Gift;
+use std::alloc::{AllocError, Global};
+use syntax::Reduction;
+use vectors::Lane;
+
+impl Accumulator {
+    /// No new entry, and room for no vertex.
+    pub(crate) fn new(alloc: Global) -> Accumulator
+        ensures { (v : ℕ) (old : ℤ) → held result v old ≡ old }
+    {
+        Accumulator {
+            values: Vec::new(alloc),
+            stamps: Vec::new(alloc),
+            touched: Vec::new(alloc),
+            stamp: 1,
+        }
+    }
+
+    /// Forgets all entries, and makes room for so many vertices. It takes constant time where the room is there, but
+    /// once in 2^32 times. The only error is out of memory, after which it has no entry too.
+    pub(crate) fn begin(&mut self, vertices: u32) -> Result<(), AllocError>
+        ensures { (v : ℕ) (old : ℤ) → held self.new v old ≡ old }
+    {
+        self.clear();
+        self.make_room(vertices as usize)
+    }
+
+    /// Forgets all entries.
+    fn clear(&mut self)
+        ensures { (v : ℕ) (old : ℤ) → held self.new v old ≡ old }
+    {
+        self.touched.clear();
+        if self.stamp == u32::MAX {
+            self.stamps.fill(0);
+            self.stamp = 0;
+        }
+        self.stamp += 1;
+    }
+
+    /// Makes room for so many vertices, where it is not there. The entries stay, after an error too.
+    fn make_room(&mut self, vertices: usize) -> Result<(), AllocError>
+        ensures held { (v : ℕ) (old : ℤ) → held self.new v old ≡ held self.old v old }
+        ensures room { OnOk result (vertices ≤ room self.new) }
+    {
+        lengthen_numbers(&mut self.values, vertices)?;
+        lengthen(&mut self.stamps, vertices)?;
+        Ok(())
+    }
+
+    /// Reduces the entries at the destinations of pairs with a column of what is given to them. Where there is no
+    /// entry yet, the old one is read. The only error is out of memory, after which a part was done.
+    pub(crate) fn join_column(
+        &mut self,
+        old: Lane<'_>,
+        gift: Gift<'_>,
+        destinations: &[u32],
+    ) -> Result<(), AllocError>
+        requires { length destinations.now ≤ length gift.numbers.now }
+        ensures { OnOk result ((v : ℕ) → held self.new v (lane_entry old.entry v)
+            ≡ reduced_at gift.entry.reduction v (held self.old v (lane_entry old.entry v)) (given_from gift.entry.vector (gift_at gift.entry) 0 destinations.now)) }
+    {
+        match gift.reduction {
+            Reduction::Min => self.join_all(Reduction::Min, old, gift, destinations),
+            Reduction::Max => self.join_all(Reduction::Max, old, gift, destinations),
+            Reduction::Plus => self.join_all(Reduction::Plus, old, gift, destinations),
+        }
+    }
+
+    #[inline(always)]
+    fn join_all(
+        &mut self,
+        reduction: Reduction,
+        old: Lane<'_>,
+        gift: Gift<'_>,
+        destinations: &[u32],
+    ) -> Result<(), AllocError>
+        requires { length destinations.now ≤ length gift.numbers.now }
+        ensures { OnOk result ((v : ℕ) → held self.new v (lane_entry old.entry v)
+            ≡ reduced_at reduction v (held self.old v (lane_entry old.entry v)) (given_from gift.entry.vector (gift_at gift.entry) 0 destinations.now)) }
+    {
+        'pairs: for (k, vertex) in destinations.iter().enumerate() {
+            self.join_pair(reduction, old, gift, k, *vertex)?;
+        }
+        Ok(())
+    }
+
+    /// Reduces the entry at the destination of a pair with what a column gives it, if it does.
+    #[inline(always)]
+    fn join_pair(
+        &mut self,
+        reduction: Reduction,
+        old: Lane<'_>,
+        gift: Gift<'_>,
+        place: usize,
+        vertex: u32,
+    ) -> Result<(), AllocError>
+        requires { place < length gift.numbers.now }
+        ensures { OnOk result ((v : ℕ) → held self.new v (lane_entry old.entry v)
+            ≡ reduced_at reduction v (held self.old v (lane_entry old.entry v)) (for_vector gift.entry.vector vertex (gift_at gift.entry place))) }
+    {
+        if is_given(gift, place) {
+            self.join(reduction, old, vertex, gift.numbers[place])?;
+        }
+        Ok(())
+    }
+
+    /// Reduces the entries at destinations with one number, each time that one comes. The only error is out of memory,
+    /// after which a part was done.
+    pub(crate) fn join_number(
+        &mut self,
+        reduction: Reduction,
+        old: Lane<'_>,
+        number: i64,
+        destinations: &[u32],
+    ) -> Result<(), AllocError>
+        ensures { OnOk result ((v : ℕ) → held self.new v (lane_entry old.entry v)
+            ≡ reduced_at reduction v (held self.old v (lane_entry old.entry v)) (each_given number destinations.now)) }
+    {
+        match reduction {
+            Reduction::Min => self.join_each(Reduction::Min, old, number, destinations),
+            Reduction::Max => self.join_each(Reduction::Max, old, number, destinations),
+            Reduction::Plus => self.join_each(Reduction::Plus, old, number, destinations),
+        }
+    }
+
+    #[inline(always)]
+    fn join_each(
+        &mut self,
+        reduction: Reduction,
+        old: Lane<'_>,
+        number: i64,
+        destinations: &[u32],
+    ) -> Result<(), AllocError>
+        ensures { OnOk result ((v : ℕ) → held self.new v (lane_entry old.entry v)
+            ≡ reduced_at reduction v (held self.old v (lane_entry old.entry v)) (each_given number destinations.now)) }
+    {
+        'each: for vertex in destinations {
+            self.join(reduction, old, *vertex, number)?;
+        }
+        Ok(())
+    }
+
+    /// Reduces the entry at a vertex with a number.
+    #[inline(always)]
+    fn join(
+        &mut self,
+        reduction: Reduction,
+        old: Lane<'_>,
+        vertex: u32,
+        number: i64,
+    ) -> Result<(), AllocError>
+        ensures { OnOk result ((v : ℕ) → held self.new v (lane_entry old.entry v)
+            ≡ (if vertex == v then reduced reduction (held self.old v (lane_entry old.entry v)) number else held self.old v (lane_entry old.entry v))) }
+    {
+        if vertex as usize >= self.stamps.len() {
+            return self.join_beyond(reduction, old, vertex, number);
+        }
+        self.join_inside(reduction, old, vertex, number)
+    }
+
+    /// The same where there is no room yet.
+    #[cold]
+    #[inline(never)]
+    fn join_beyond(
+        &mut self,
+        reduction: Reduction,
+        old: Lane<'_>,
+        vertex: u32,
+        number: i64,
+    ) -> Result<(), AllocError>
+        ensures { OnOk result ((v : ℕ) → held self.new v (lane_entry old.entry v)
+            ≡ (if vertex == v then reduced reduction (held self.old v (lane_entry old.entry v)) number else held self.old v (lane_entry old.entry v))) }
+    {
+        self.make_room(vertex as usize + 1)?;
+        self.join_inside(reduction, old, vertex, number)
+    }
+
+    /// The same where there is room.
+    #[inline(always)]
+    fn join_inside(
+        &mut self,
+        reduction: Reduction,
+        old: Lane<'_>,
+        vertex: u32,
+        number: i64,
+    ) -> Result<(), AllocError>
+        requires { vertex < room self.old }
+        ensures { OnOk result ((v : ℕ) → held self.new v (lane_entry old.entry v)
+            ≡ (if vertex == v then reduced reduction (held self.old v (lane_entry old.entry v)) number else held self.old v (lane_entry old.entry v))) }
+    {
+        let place = vertex as usize;
+        if self.stamps[place] == self.stamp {
+            self.values[place] = reduce(reduction, self.values[place], number);
+            return Ok(());
+        }
+        self.touched.push(vertex)?;
+        self.stamps[place] = self.stamp;
+        self.values[place] = reduce(reduction, old.get(place), number);
+        Ok(())
+    }
+
+    /// The new entry at a vertex, or this one where nothing was given.
+    #[inline]
+    pub(crate) fn entry(&self, vertex: u32, old: i64) -> i64
+        ensures { result ≡ held self.now vertex old }
+    {
+        let place = vertex as usize;
+        if place < self.stamps.len() && self.stamps[place] == self.stamp {
+            self.values[place]
+        } else {
+            old
+        }
+    }
+
+    /// Puts the vertices that were given something in ascending order.
+    pub(crate) fn sort_touched(&mut self)
+        ensures ascending { IsNonDecreasing self.new.touched.items }
+        ensures held { (v : ℕ) (old : ℤ) → held self.new v old ≡ held self.old v old }
+    {
+        self.touched.sort_unstable();
+    }
+
+    /// Whether most vertices were given something, so that a walk over all finds them sooner in order than a sort.
+    pub(crate) fn is_crowded(&self) -> bool {
+        self.touched.len() > self.stamps.len() / 64
+    }
+
+    /// Whether a vertex was given something.
+    #[inline]
+    fn is_touched(&self, vertex: u32) -> bool
+        ensures { result ≡ (slice_index_or self.now.stamps.items vertex 0 == self.now.stamp) }
+    {
+        match self.stamps.get(vertex as usize) {
+            Some(stamp) => *stamp == self.stamp,
+            None => false,
+        }
+    }
+
+    /// The vertices of a graph that were given something, ascending. All others of the graph have no new entry. The
+    /// only error is out of memory.
+    pub(crate) fn walk(&self, alloc: Global, vertices: u32) -> Result<Vec<u32>, AllocError>
+        ensures ascending { IfOk result (λ found. IsNonDecreasing found.items) }
+        ensures covers { IfOk result (λ found. (v : ℕ) (old : ℤ) → v < vertices → ¬ Contains found.items v → held self.now v old ≡ old) }
+    {
+        let mut found = Vec::with_capacity(alloc, self.touched.len())?;
+        'vertices: for vertex in 0..vertices {
+            keep_where(self.is_touched(vertex), vertex, &mut found)?;
+        }
+        Ok(found)
+    }
+
+    /// The vertices that were given something. All others have no new entry.
+    pub(crate) fn touched(&self) -> &[u32]
+        ensures list { result.now ≡ self.now.touched.items }
+        ensures covers { (v : ℕ) (old : ℤ) → ¬ Contains result.now v → held self.now v old ≡ old }
+    {
+        &self.touched
+    }
+}
+
+/// Adds zeros where there are fewer numbers than this.
+fn lengthen(numbers: &mut Vec<u32>, count: usize) -> Result<(), AllocError>
+    ensures same { (k : ℕ) → slice_index_or numbers.new.items k 0 ≡ slice_index_or numbers.old.items k 0 }
+    ensures longer { vec_len numbers.old ≤ vec_len numbers.new }
+    ensures most { (n : ℕ) → vec_len numbers.old ≤ n → count ≤ n → vec_len numbers.new ≤ n }
+    ensures enough { OnOk result (count ≤ vec_len numbers.new) }
+{
+    if numbers.len() < count {
+        numbers.resize(count, 0)?;
+    }
+    Ok(())
+}
+
+/// The same of numbers with a sign.
+fn lengthen_numbers(numbers: &mut Vec<i64>, count: usize) -> Result<(), AllocError>
+    ensures same { (k : ℕ) → slice_index_or numbers.new.items k (pos 0) ≡ slice_index_or numbers.old.items k (pos 0) }
+    ensures longer { vec_len numbers.old ≤ vec_len numbers.new }
+    ensures enough { OnOk result (count ≤ vec_len numbers.new) }
+{
+    if numbers.len() < count {
+        numbers.resize(count, 0)?;
+    }
+    Ok(())
+}
+
+/// Whether a column gives a pair something.
+#[inline(always)]
+fn is_given(gift: Gift<'_>, place: usize) -> bool
+    ensures { result ≡ truth_at gift.entry.when place }
+{
+    match gift.when {
+        None => true,
+        Some(when) => match when.get(place) {
+            Some(n) => *n != 0,
+            None => false,
+        },
+    }
+}

@@ -1,0 +1,100 @@
+//! What a run keeps for its applies.
+ghost use Rattle.std.specs.Prelude.{◌≡◌, ℕ, ◌<◌, ◌≤◌, ◌++◌, List, [], length, IfSome, OnOk};
+
+use crate::functions::Functions;
+use crate::pairs::Pairs;
+use crate::slot::Slots;
+use crate::run::run_functions;
+use kernels::Block;
+use std::alloc::{AllocError, Global};
+
+/// Memory for applies of edge functions, kept from one to the next.
+#[derive(Drop)]
+pub struct Scratch {
+    pub(crate) slots: Slots,
+    pub(crate) pairs: Pairs,
+    pub(crate) block: Block,
+}
+
+impl Scratch {
+    ghost use Rattle.typed_tree.specs.StepTree.{StepsTree};
+    ghost use Rattle.algorithm_meaning.specs.State.{StateValue};
+    ghost use Rattle.edge_fold.specs.Folded.{AreFunctions, HasFolded};
+    ghost use Rattle.edge_fold.specs.Given.{row};
+
+    /// Memory for applies, of which none is taken yet.
+    pub fn new(alloc: Global) -> Scratch
+        ensures { (m : StateValue) (steps : List StepsTree) → HasFolded m steps [] result }
+    {
+        Scratch {
+            slots: Slots::new(alloc),
+            pairs: Pairs::new(),
+            block: Block::new(alloc),
+        }
+    }
+
+    /// Begins an apply, whatever became of the one before. It takes constant time.
+    pub fn begin(&mut self)
+        ensures { (m : StateValue) (steps : List StepsTree) → HasFolded m steps [] self.new }
+    {
+        self.slots.used = 0;
+        self.pairs.count = 0;
+    }
+
+    /// Folds the edges from a source to destinations, at most 128. The only error is out of memory.
+    pub fn fold(
+        &mut self,
+        alloc: Global,
+        functions: Functions<'_>,
+        source: u32,
+        destinations: &[u32],
+    ) -> Result<(), AllocError>
+        requires { length destinations.now ≤ 128 }
+        ensures { OnOk result ((m : StateValue) (steps : List StepsTree) (edges : List (ℕ × ℕ)) → AreFunctions functions.entry m steps
+            → HasFolded m steps edges self.old → HasFolded m steps (edges ++ row source destinations.now) self.new) }
+    {
+        if let Some(sent) = functions.sent(source) {
+            self.slots.join_number(alloc, functions, sent, destinations)?;
+            return Ok(());
+        }
+        self.gather(alloc, functions, source, destinations)
+    }
+
+    /// Adds edges to those that wait, and lets the kernels run where these are 128.
+    fn gather(
+        &mut self,
+        alloc: Global,
+        functions: Functions<'_>,
+        source: u32,
+        destinations: &[u32],
+    ) -> Result<(), AllocError>
+        requires { length destinations.now ≤ 128 }
+        ensures { OnOk result ((m : StateValue) (steps : List StepsTree) (edges : List (ℕ × ℕ)) → AreFunctions functions.entry m steps
+            → HasFolded m steps edges self.old → HasFolded m steps (edges ++ row source destinations.now) self.new) }
+    {
+        let room = self.pairs.room();
+        if destinations.len() <= room {
+            self.pairs.add(source, destinations);
+            return Ok(());
+        }
+        let (first, rest) = destinations.split_at(room);
+        self.pairs.add(source, first);
+        self.flush(alloc, functions)?;
+        self.pairs.add(source, rest);
+        Ok(())
+    }
+
+    /// Lets the kernels run over the pairs that wait. The only error is out of memory.
+    pub fn flush(&mut self, alloc: Global, functions: Functions<'_>) -> Result<(), AllocError>
+        ensures folded { OnOk result ((m : StateValue) (steps : List StepsTree) (edges : List (ℕ × ℕ)) → AreFunctions functions.entry m steps
+            → HasFolded m steps edges self.old → HasFolded m steps edges self.new) }
+        ensures none { OnOk result (self.new.pairs.count ≡ 0) }
+    {
+        let pairs = &self.pairs;
+        let sources = &pairs.sources[..pairs.count];
+        let destinations = &pairs.destinations[..pairs.count];
+        run_functions(alloc, functions, sources, destinations, &mut self.block, &mut self.slots)?;
+        self.pairs.count = 0;
+        Ok(())
+    }
+}

@@ -1,0 +1,20 @@
+//! The vectors that an apply writes.
+ghost use Rattle.std.specs.Prelude.{◌≤◌, vec_len};
+
+use crate::accumulator::Accumulator;
+
+/// A vector that an apply writes, by its place, and its new entries.
+#[derive(Drop)]
+pub(crate) struct Slot {
+    pub(crate) vector: usize,
+    pub(crate) entries: Accumulator,
+}
+
+/// The vectors that an apply has given something: the first slots, as many as are in use. The others keep their memory
+/// for the next apply.
+#[derive(Drop)]
+pub(crate) struct Slots {
+    pub(crate) slots: Vec<Slot>,
+    pub(crate) used: usize,
+    ghost few: { used ≤ vec_len slots },
+}

@@ -1,0 +1,2 @@
+pub mod RowFolds
+pub mod Walked

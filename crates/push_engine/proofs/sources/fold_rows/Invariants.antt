@@ -1,0 +1,14 @@
+use Rattle.std.proofs.Common.{◌≡◌, ℕ, ◌++◌, List, length, take}
+use Rattle.typed_tree.specs.StepTree.{StepsTree}
+use Rattle.algorithm_meaning.specs.State.{StateValue}
+use Rattle.edge_fold.specs.Folded.{AreFunctions, HasFolded}
+use Rattle.push_engine.specs.Rows.{rows}
+use Rattle.push_engine.proofs.sources.fold_rows.Given as goal
+
+-- the rows of the sources that have come are folded
+abbrev pub invariant-sources : goal.invariant-sources
+invariant-sources l = record {
+  room : length l.block ≡ 128;
+  folded : (m : StateValue) (steps : List StepsTree) (edges : List (ℕ × ℕ)) → AreFunctions l.functions m steps
+      → HasFolded m steps edges l.fn.scratch → HasFolded m steps (edges ++ rows l.flat.edges (take l.source-index l.sources)) l.scratch;
+}

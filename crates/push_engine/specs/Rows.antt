@@ -1,0 +1,9 @@
+-- For proofs only: the edges from some sources.
+use Rattle.std.specs.Prelude.{ℕ, List, [], ◌∷◌, ◌++◌}
+use Rattle.edge_fold.specs.Given.{row}
+use Rattle.tree_batch.specs.Neighbours.{destinations_of}
+
+-- those of a graph with these edges
+abbrev pub rows : List (ℕ × ℕ) → (sources : List ℕ) → List (ℕ × ℕ)
+rows es [] = []
+rows es (u ∷ us) = row u (destinations_of u es) ++ rows es us

@@ -1,0 +1,139 @@
+//! Going over the sources of an apply.
+ghost use Rattle.std.specs.Prelude.{◌≡◌, ℕ, ◌+◌, ◌++◌, Bool, true, List, [], length, vec_len, OnOk};
+ghost use Rattle.std.specs.List.{filter};
+ghost use Rattle.typed_tree.specs.StepTree.{StepsTree};
+ghost use Rattle.algorithm_meaning.specs.EdgeApply.{is_member};
+ghost use Rattle.algorithm_meaning.specs.State.{StateValue};
+ghost use Rattle.edge_fold.specs.Ends.{IsTest};
+ghost use Rattle.edge_fold.specs.Folded.{AreFunctions, HasFolded};
+ghost use Rattle.edge_fold.specs.Given.{row};
+ghost use Rattle.tree_batch.specs.Neighbours.{destinations_of};
+ghost use Rattle.push_engine.specs.Between.{firsts};
+ghost use Rattle.push_engine.specs.Rows.{rows};
+
+use edge_fold::{Functions, Scratch};
+use flat_snapshot::{Degrees, Flat};
+use kernels::End;
+use std::alloc::{AllocError, Global};
+use vertex_sets::VertexSet;
+
+/// Folds all edges.
+pub(crate) fn fold_all(
+    alloc: Global,
+    flat: &Flat,
+    functions: Functions<'_>,
+    block: &mut [u32],
+    scratch: &mut Scratch,
+) -> Result<(), AllocError>
+    requires { length block.old ≡ 128 }
+    ensures { OnOk result ((m : StateValue) (steps : List StepsTree) (from : ℕ → Bool) → AreFunctions functions.entry m steps → ((v : ℕ) → from v ≡ true)
+        → HasFolded m steps [] scratch.old → HasFolded m steps (filter (λ e. from e.0) flat.now.edges) scratch.new) }
+{
+    'sources: for (source, _) in flat.sources() {
+        fold_row(alloc, flat, functions, source, block, scratch)?;
+    }
+    Ok(())
+}
+
+/// Folds the edges from the members of a set.
+pub(crate) fn fold_members(
+    alloc: Global,
+    flat: &Flat,
+    functions: Functions<'_>,
+    set: &VertexSet,
+    block: &mut [u32],
+    scratch: &mut Scratch,
+) -> Result<(), AllocError>
+    requires { length block.old ≡ 128 }
+    ensures { OnOk result ((m : StateValue) (steps : List StepsTree) (from : ℕ → Bool) → AreFunctions functions.entry m steps → ((v : ℕ) → from v ≡ is_member v set.now.members)
+        → HasFolded m steps [] scratch.old → HasFolded m steps (filter (λ e. from e.0) flat.now.edges) scratch.new) }
+{
+    'sources: for source in set.iter() {
+        fold_row(alloc, flat, functions, source, block, scratch)?;
+    }
+    Ok(())
+}
+
+/// Folds the edges from the sources that an end lets through. Each vertex with an edge is tested once.
+pub(crate) fn fold_passing(
+    alloc: Global,
+    flat: &Flat,
+    functions: Functions<'_>,
+    from: End<'_>,
+    block: &mut [u32],
+    scratch: &mut Scratch,
+) -> Result<(), AllocError>
+    requires { length block.old ≡ 128 }
+    ensures { OnOk result ((m : StateValue) (steps : List StepsTree) (test : ℕ → Bool) → AreFunctions functions.entry m steps → IsTest from.entry m test
+        → HasFolded m steps [] scratch.old → HasFolded m steps (filter (λ e. test e.0) flat.now.edges) scratch.new) }
+{
+    let mut sources = flat.sources();
+    let mut part = Vec::new(alloc);
+    let mut kept = Vec::new(alloc);
+    'parts: loop {
+        take_sources(&mut sources, &mut part)?;
+        if part.is_empty() {
+            return Ok(());
+        }
+        kept.clear();
+        scratch.keep_passing(functions, from, &part, &mut kept)?;
+        fold_rows(alloc, flat, functions, &kept, block, scratch)?;
+    }
+}
+
+/// Takes the next sources, at most 128, and none where none is left.
+fn take_sources(sources: &mut Degrees<'_>, part: &mut Vec<u32>) -> Result<(), AllocError>
+    ensures taken { OnOk result (part.new.items ++ firsts sources.new ≡ firsts sources.old) }
+    ensures none { OnOk result (part.new.items ≡ [] → sources.new ≡ []) }
+    ensures fewer { OnOk result (length sources.new + vec_len part.new ≡ length sources.old) }
+{
+    part.clear();
+    'places: for _place in 0..128usize {
+        let Some((source, _)) = sources.next() else {
+            return Ok(());
+        };
+        part.push(source)?;
+    }
+    Ok(())
+}
+
+/// Folds the edges from these sources.
+fn fold_rows(
+    alloc: Global,
+    flat: &Flat,
+    functions: Functions<'_>,
+    sources: &[u32],
+    block: &mut [u32],
+    scratch: &mut Scratch,
+) -> Result<(), AllocError>
+    requires { length block.old ≡ 128 }
+    ensures { OnOk result ((m : StateValue) (steps : List StepsTree) (edges : List (ℕ × ℕ)) → AreFunctions functions.entry m steps
+        → HasFolded m steps edges scratch.old → HasFolded m steps (edges ++ rows flat.now.edges sources.now) scratch.new) }
+{
+    'sources: for source in sources {
+        fold_row(alloc, flat, functions, *source, block, scratch)?;
+    }
+    Ok(())
+}
+
+/// Folds the edges from a source.
+#[inline]
+fn fold_row(
+    alloc: Global,
+    flat: &Flat,
+    functions: Functions<'_>,
+    source: u32,
+    block: &mut [u32],
+    scratch: &mut Scratch,
+) -> Result<(), AllocError>
+    requires { length block.old ≡ 128 }
+    ensures { OnOk result ((m : StateValue) (steps : List StepsTree) (edges : List (ℕ × ℕ)) → AreFunctions functions.entry m steps
+        → HasFolded m steps edges scratch.old → HasFolded m steps (edges ++ row source (destinations_of source flat.now.edges)) scratch.new) }
+{
+    let mut neighbours = flat.out(source);
+    'rounds: while !neighbours.is_empty() {
+        let count = neighbours.fill(block);
+        scratch.fold(alloc, functions, source, &block[..count])?;
+    }
+    Ok(())
+}
