@@ -6,7 +6,7 @@ use Rattle.typed_tree.specs.StepTree.{StepsTree}
 use Rattle.algorithm_meaning.specs.State.{StateValue}
 use Rattle.algorithm_meaning.specs.Value.{entry}
 use Rattle.kernels.specs.declared.kernel.EdgeKernel.{EdgeKernel}
-use Rattle.kernels.specs.Cells.{HasSizes}
+use Rattle.stack_code.specs.Cells.{HasSizes}
 use Rattle.kernels.specs.Kernels.{IsEdgeKernel}
 use Rattle.edge_fold.specs.declared.functions.Functions.{Functions}
 use Rattle.edge_fold.specs.declared.pairs.Pairs.{Pairs}

@@ -7,7 +7,7 @@ ghost use Rattle.algorithm_meaning.specs.EdgeApply.{after_edges};
 ghost use Rattle.algorithm_meaning.specs.Laws.{IsGivenBy};
 ghost use Rattle.algorithm_meaning.specs.State.{StateValue};
 ghost use Rattle.algorithm_meaning.specs.Value.{entry};
-ghost use Rattle.kernels.specs.Cells.{HasSizes};
+ghost use Rattle.stack_code.specs.Cells.{HasSizes};
 ghost use Rattle.edge_fold.specs.Changed.{AreApart, changed, changes_of};
 ghost use Rattle.edge_fold.specs.Ends.{IsEndTest, IsTest};
 ghost use Rattle.edge_fold.specs.Folded.{AreFunctions, AreKernels, HasFolded};

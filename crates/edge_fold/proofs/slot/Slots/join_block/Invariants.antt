@@ -2,7 +2,7 @@ use Rattle.std.proofs.Common.{◌≡◌, ℕ, ◌<◌, length, take}
 use Rattle.syntax.specs.declared.statement.Reduction.{Reduction}
 use Rattle.algorithm_meaning.specs.Value.{entry}
 use Rattle.kernels.specs.Columns.{cells_at}
-use Rattle.kernels.specs.FunctionCode.{given_by}
+use Rattle.stack_code.specs.FunctionCode.{given_by}
 use Rattle.edge_fold.specs.Given.{IsBy, given_from, reduced_at}
 use Rattle.edge_fold.specs.Slots.{active, held_in}
 use Rattle.edge_fold.proofs.slot.Slots.join_block.Given as goal
