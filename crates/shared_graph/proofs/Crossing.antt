@@ -1,9 +1,12 @@
 -- That readers go to other threads, and that threads share a graph.
+use mathlib.Core.List.{[], ◌∷◌}
+use mir.Syntax.{Sym}
 use denote.RattleType.{RattleType}
 use denote.Builtin.{u32, u64}
 use denote.Param.Send.{IsSend, IsSync, view_send, view_sync, sendable}
 use denote.Param.SendFields.{as_row_send, declared_send, declared_sync}
 use denote.Struct.Field.{row_field}
+use denote.Struct.Tuple.{TupleAt, type_at}
 use Rattle.core.specs.contracts.option.Option as option
 use Rattle.left_right.specs.contracts.reader.Reader as read
 use Rattle.logbook.specs.contracts.tokens.Seen as seen
@@ -114,3 +117,8 @@ module _ (J R : RattleType) (g : naming.Ghosts J.Denot) (r : IsSend R) where
   graph_shared =
       let m : IsSync (mutex.the_row (desk.the_row J R g)) = search (crosses, desk_send) in
       declared_sync (shared.the_type J R g) (m, tt)
+
+-- a closure that captures four values goes to another thread with them
+pub four_send : (name : Sym) (A B C D : RattleType) → IsSend A → IsSend B → IsSend C → IsSend D → IsSend (TupleAt name (A ∷ B ∷ C ∷ D ∷ []))
+four_send name A B C D a b c d = declared_send (type_at name (A ∷ B ∷ C ∷ D ∷ []))
+    (as_row_send (row_field A) a, (as_row_send (row_field B) b, (as_row_send (row_field C) c, (as_row_send (row_field D) d, tt))))
