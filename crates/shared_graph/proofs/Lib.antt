@@ -3,3 +3,4 @@ pub mod Adding
 pub mod Publishing
 pub mod Growing
 pub mod Steps
+pub mod Crossing

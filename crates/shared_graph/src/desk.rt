@@ -1,9 +1,11 @@
 //! What lies under the lock.
 
-ghost use Rattle.std.specs.Prelude.{◌≡◌, [], IfOk, IfErr};
+ghost use Rattle.std.specs.Prelude.{◌≡◌, [], IfOk, IfErr, true};
 ghost use Rattle.version_list.specs.declared.step.Step.TheVariants.{Commit, Acquire, Release};
 ghost use Rattle.version_list.specs.declared.step.Reply.TheVariants as reply;
+ghost use Rattle.version_list.specs.Machine.{is_open};
 ghost use Rattle.version_list.specs.Timeline.{beginning};
+ghost use Rattle.shared_graph.specs.declared.error.SharedError.TheVariants.{NoMemory};
 ghost use Rattle.shared_graph.specs.Histories.{state_at};
 ghost use Rattle.shared_graph.specs.Holding.{HoldsVersion};
 ghost use Rattle.shared_graph.specs.Outcome.{Answers, AnswersRelease};
@@ -115,7 +117,7 @@ impl<J: Naming, R: Wait + Drop> Desk<J, R> {
         Ok(Held::new(ticket, Snapshot { number, graph }))
     }
 
-    /// Closes the ticket of a held version in the name of a reader.
+    /// Closes the ticket of a held version in the name of a reader. Memory runs out only for an open ticket.
     pub(crate) fn release<T: Wait>(
         &mut self,
         rt: &T,
@@ -125,6 +127,7 @@ impl<J: Naming, R: Wait + Drop> Desk<J, R> {
         ensures answer { AnswersRelease J.base me.old held result me.new }
         ensures log { IfOk result (λ _. me.new.shown ≡ self.new) }
         ensures err { IfErr result (λ _. self.new ≡ self.old) }
+        ensures memory { IfErr result (λ u. u.error ≡ NoMemory → is_open (state_at J.base self.old) held.ticket ≡ true) }
     {
         prove!(self.versions.history().len() as u64 <= MAX_HISTORY);
         let ticket = held.ticket();

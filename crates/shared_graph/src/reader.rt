@@ -21,13 +21,24 @@ use std::marker::Model;
 /// One of the readers of a shared graph, and the one by whose name its owner commits and holds.
 /// Contracts see it as the history that it shows, of accepted steps with their replies and the
 /// reader that made each, which only grows at its end.
-#[derive(Drop)]
 pub struct Reader<J: Naming> {
     number: u64,
     read: Option<ShownReader>,
     front: Front<J>,
     last: Front<J>,
     steps: u64,
+}
+
+impl<J: Naming> Drop for Reader<J> {
+    fn drop(self) {
+        let Reader {
+            number: _,
+            read: _,
+            front: _,
+            last: _,
+            steps: _,
+        } = self;
+    }
 }
 
 impl<J: Naming> Model for Reader<J> {

@@ -27,9 +27,14 @@ pub const MAX_READERS: usize = 64;
 /// Versions of a graph that many threads read while some commit, hold and release. Its readers take
 /// the newest version without it, by [`Reader::latest`]. Dropped, it waits for readers that are in
 /// the midst of that, and publishes nothing any more.
-#[derive(Drop)]
 pub struct SharedGraph<J: Naming, R: Wait + Drop> {
     desk: Mutex<Desk<J, R>>,
+}
+
+impl<J: Naming, R: Wait + Drop> Drop for SharedGraph<J, R> {
+    fn drop(self) {
+        let SharedGraph { desk: _ } = self;
+    }
 }
 
 impl<J: Naming, R: Wait + Drop> SharedGraph<J, R> {

@@ -1,4 +1,4 @@
--- That sets and trees of sets go to other threads.
+-- That sets, trees of sets and graphs go to other threads.
 use denote.Param.Send.{IsSend, IsSync, sendable}
 use Rattle.std.proofs.Crossing.{crosses}
 use Rattle.shared_tree.proofs.tree.Tree.TheLaws.TheKnot.{crosses as tree_crosses}
@@ -8,6 +8,7 @@ use Rattle.c_tree.proofs.chunk_size.ChunkSize.TheSendSync.{the_send as size_send
 use Rattle.c_tree.specs.contracts.tail.ChunkTail as chunk
 use Rattle.c_tree.proofs.tail.ChunkTail.TheSendSync.{the_send as chunk_send, the_sync as chunk_sync}
 use Rattle.c_tree.specs.contracts.ctree.CTree as set
+use Rattle.tree_batch.specs.contracts.graph.Graph as graph
 
 chunks_send : IsSend (tree.the_row chunk.the_row)
 chunks_send = search (sendable, crosses, tree_crosses, chunk_send, chunk_sync) depth 12
@@ -23,3 +24,12 @@ set_sync = search (sendable, tail_sync, chunks_sync, size_sync) depth 12
 
 pub tree_send : IsSend (tree.the_row set.the_row)
 tree_send = search (sendable, crosses, tree_crosses, set_send, set_sync) depth 12
+
+tree_sync : IsSync (tree.the_row set.the_row)
+tree_sync = search (sendable, crosses, tree_crosses, set_send, set_sync) depth 12
+
+pub graph_send : IsSend graph.the_row
+graph_send = search (sendable, size_send, tree_send) depth 12
+
+pub graph_sync : IsSync graph.the_row
+graph_sync = search (sendable, size_sync, tree_sync) depth 12

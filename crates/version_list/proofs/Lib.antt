@@ -2,3 +2,4 @@ pub mod Holding
 pub mod Keeping
 pub mod Stepping
 pub mod Running
+pub mod Crossing

@@ -25,7 +25,7 @@ use tree_batch::{Batch, Graph, Quiet};
 pub const MAX_HISTORY: u64 = 16_777_216;
 
 /// The versions of a graph that are kept, and the history of the accepted steps.
-#[derive(Debug, Drop)]
+#[derive(Debug)]
 pub struct Versions {
     newest: Graph,
     number: u64,
@@ -36,6 +36,20 @@ pub struct Versions {
     /// For how many entries memory is reserved, beside those of releases: 1 for a commit that was
     /// prepared, 2 for a hold, else 0.
     reserved: u64,
+}
+
+impl Drop for Versions {
+    fn drop(self) {
+        let Versions {
+            newest: _,
+            number: _,
+            room: _,
+            history: _,
+            given: _,
+            held: _,
+            reserved: _,
+        } = self;
+    }
 }
 
 impl Model for Versions {

@@ -1,0 +1,8 @@
+//! Tests of shared graphs on threads: what no contract says of two passes that told each other nothing.
+//!
+//! They stand apart from `library_tests`, so that no other test has leave to wait, and both crates are
+//! proved side by side.
+#![tactic(auto)]
+
+#[cfg(test)]
+mod rows;

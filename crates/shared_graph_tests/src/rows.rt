@@ -1,0 +1,463 @@
+//! Readers of a shared graph beside a writer, on threads.
+ghost use Rattle.std.specs.Prelude.{◌≡◌};
+ghost use Rattle.version_list.specs.Machine.{opened};
+
+use shared_graph::{Held, Naming, Opening, Reader, SharedError, SharedGraph, Unreleased};
+use std::alloc::{AllocError, Global};
+use std::marker::Brand;
+use std::rt::Clock;
+use std::sync::Wait;
+use std::test::Fail;
+use std::thread::{self, Threads, join};
+use std::time::Duration;
+use tree_batch::{Batch, Entry};
+use version_list::Which;
+
+// How often a reader looks whether the last version has come.
+const MOST_READS: u32 = 1_000_000;
+
+// Commits an empty batch, and answers its number or why it was refused.
+fn commit_nothing<J: Naming, W: Wait + Drop, R: Threads + Wait + Sync>(
+    rt: &R,
+    alloc: Global,
+    graph: &SharedGraph<J, W>,
+    me: &mut Reader<J>,
+) -> Result<u64, u16> {
+    let committed = graph.commit(rt, alloc, me, Batch::new(alloc));
+    committed.map_err(|error| error.number())
+}
+
+// Commits one edge.
+fn add<J: Naming, W: Wait + Drop, R: Threads + Wait + Sync>(
+    rt: &R,
+    alloc: Global,
+    graph: &SharedGraph<J, W>,
+    me: &mut Reader<J>,
+    (source, destination): (u32, u32),
+) -> Result<u64, SharedError> {
+    let mut batch = Batch::new(alloc);
+    if batch.push(Entry::Add(source, destination)).is_err() {
+        return Err(SharedError::NoMemory);
+    }
+    graph.commit(rt, alloc, me, batch)
+}
+
+// The number of the newest version, and how many edges it has.
+fn look<J: Naming>(reader: &mut Reader<J>) -> Result<(u64, usize), SharedError> {
+    let newest = reader.latest()?;
+    Ok((newest.number, newest.graph.edge_count()))
+}
+
+// Whether the newest version has the edge.
+fn has_edge<J: Naming>(
+    reader: &mut Reader<J>,
+    source: u32,
+    destination: u32,
+) -> Result<bool, SharedError> {
+    Ok(reader.latest()?.graph.contains(source, destination))
+}
+
+fn next<J: Naming>(readers: &mut Vec<Reader<J>>) -> Result<Reader<J>, SharedError> {
+    readers.pop().ok_or(SharedError::BadSeats)
+}
+
+// Why a release was refused; the held version is then left as it is.
+fn release<J: Naming, W: Wait + Drop, R: Wait>(
+    rt: &R,
+    graph: &SharedGraph<J, W>,
+    me: &mut Reader<J>,
+    held: Held,
+) -> Option<u16> {
+    match graph.release(rt, me, held) {
+        Ok(()) => None,
+        Err(Unreleased { error, held }) => {
+            held.into_snapshot();
+            Some(error.number())
+        }
+    }
+}
+
+// Why a version was not held, or why its release was refused.
+fn release_held<J: Naming, W: Wait + Drop, R: Wait>(
+    rt: &R,
+    graph: &SharedGraph<J, W>,
+    me: &mut Reader<J>,
+    held: Result<Held, SharedError>,
+) -> Option<u16> {
+    match held {
+        Ok(held) => release(rt, graph, me, held),
+        Err(error) => Some(error.number()),
+    }
+}
+
+// The number of the version that is held, which is released; or why it is not held.
+fn hold_and_release<J: Naming, W: Wait + Drop, R: Wait>(
+    rt: &R,
+    alloc: Global,
+    graph: &SharedGraph<J, W>,
+    me: &mut Reader<J>,
+    which: Which,
+) -> Result<(u64, Option<u16>), u16> {
+    match graph.hold(rt, alloc, me, which) {
+        Ok(held) => {
+            let number = held.snapshot().number;
+            Ok((number, release(rt, graph, me, held)))
+        }
+        Err(error) => Err(error.number()),
+    }
+}
+
+#[test]
+fn two_threads_get_each_number_once(rt: HostRuntime) -> Result<(), Fail> {
+    let mut numbers = two_threads::<Brand, _>(&rt, Opening::new())?;
+    numbers.sort()?;
+    let expected: Vec<u64> = (1..=200).collect(rt.alloc())?;
+    assert!(rt; numbers.as_slice() == expected.as_slice());
+    Ok(())
+}
+
+fn two_threads<J: Naming + Send + Sync, R: Threads + Wait + AllocGlobal + Sync>(
+    rt: &R,
+    opening: Opening,
+) -> Result<Vec<u64>, SharedError>
+    requires book { opening ≡ J.book }
+    requires base { J.base ≡ opened 1 16777216 }
+{
+    let (graph, mut readers) = SharedGraph::<J, &R>::open(rt, rt.alloc(), opening, 1, 64, 2)?;
+    let (mut one, mut two) = (next(&mut readers)?, next(&mut readers)?);
+    commit_by_two(rt, rt.alloc(), &graph, &mut one, &mut two)
+}
+
+// Two readers commit 100 empty batches each, on two threads. What they are answered.
+fn commit_by_two<J: Naming + Send + Sync, W: Wait + Drop + Send + Sync, R: Threads + Wait + Sync>(
+    rt: &R,
+    alloc: Global,
+    graph: &SharedGraph<J, W>,
+    one: &mut Reader<J>,
+    two: &mut Reader<J>,
+) -> Result<Vec<u64>, SharedError> {
+    let (first, second) = join(
+        rt,
+        || commit_empty(rt, alloc, graph, one),
+        || commit_empty(rt, alloc, graph, two),
+    );
+    both(first, second)
+}
+
+fn both(
+    first: Result<Vec<u64>, SharedError>,
+    second: Result<Vec<u64>, SharedError>,
+) -> Result<Vec<u64>, SharedError> {
+    match (first, second) {
+        (Ok(mut numbers), Ok(others)) => {
+            numbers.extend_from_slice(&others)?;
+            Ok(numbers)
+        }
+        _ => Err(SharedError::NoMemory),
+    }
+}
+
+// Commits 100 empty batches, and answers their numbers.
+fn commit_empty<J: Naming, W: Wait + Drop, R: Threads + Wait + Sync>(
+    rt: &R,
+    alloc: Global,
+    graph: &SharedGraph<J, W>,
+    me: &mut Reader<J>,
+) -> Result<Vec<u64>, SharedError> {
+    let mut numbers = Vec::new(alloc);
+    for _ in 0..100u32 {
+        numbers.push(graph.commit(rt, alloc, me, Batch::new(alloc))?)?;
+    }
+    Ok(numbers)
+}
+
+#[test]
+fn what_a_token_tells_and_what_none_told(rt: HostRuntime) -> Result<(), Fail> {
+    let told = three_readers::<Brand, _>(&rt, Opening::new())?;
+    assert!(rt; told);
+    Ok(())
+}
+
+fn three_readers<J: Naming, R: Threads + Wait + AllocGlobal + Sync>(
+    rt: &R,
+    opening: Opening,
+) -> Result<bool, SharedError>
+    requires book { opening ≡ J.book }
+    requires base { J.base ≡ opened 3 16777216 }
+{
+    let (graph, mut readers) = SharedGraph::<J, &R>::open(rt, rt.alloc(), opening, 3, 64, 3)?;
+    tell_both(rt, rt.alloc(), &graph, &mut readers)
+}
+
+// Whether a second reader, which learns from the first, and a third, which learns nothing, get what the
+// first commits.
+fn tell_both<J: Naming, W: Wait + Drop, R: Threads + Wait + Sync>(
+    rt: &R,
+    alloc: Global,
+    graph: &SharedGraph<J, W>,
+    readers: &mut Vec<Reader<J>>,
+) -> Result<bool, SharedError> {
+    let mut first = next(readers)?;
+    let told = tell_next(rt, alloc, graph, &mut first, readers);
+    let followed = follow_next(rt, alloc, graph, &mut first, readers);
+    Ok(told? && followed?)
+}
+
+fn tell_next<J: Naming, W: Wait + Drop, R: Threads + Wait + Sync>(
+    rt: &R,
+    alloc: Global,
+    graph: &SharedGraph<J, W>,
+    first: &mut Reader<J>,
+    readers: &mut Vec<Reader<J>>,
+) -> Result<bool, SharedError> {
+    let mut second = next(readers)?;
+    tell(rt, alloc, graph, first, &mut second)
+}
+
+fn follow_next<J: Naming, W: Wait + Drop, R: Threads + Wait + Sync>(
+    rt: &R,
+    alloc: Global,
+    graph: &SharedGraph<J, W>,
+    first: &mut Reader<J>,
+    readers: &mut Vec<Reader<J>>,
+) -> Result<bool, SharedError> {
+    let mut third = next(readers)?;
+    follow(rt, alloc, graph, first, &mut third)
+}
+
+// Whether a reader that learns from another gets what that one commits.
+fn tell<J: Naming, W: Wait + Drop, R: Threads + Wait + Sync>(
+    rt: &R,
+    alloc: Global,
+    graph: &SharedGraph<J, W>,
+    first: &mut Reader<J>,
+    second: &mut Reader<J>,
+) -> Result<bool, SharedError> {
+    let added = add(rt, alloc, graph, first, (0, 1))?;
+    second.learn(&first.token());
+    let seen = look(second)? == (1, 1) && has_edge(second, 0, 1)?;
+    let old = hold_and_release(rt, alloc, graph, second, Which::At(0));
+    let newest = hold_and_release(rt, alloc, graph, second, Which::Newest);
+    let held = old == Err(121) && newest == Ok((1, None));
+    Ok(added == 1 && seen && held)
+}
+
+// Whether a reader that learned nothing gets what another has committed, and each of ten more commits.
+fn follow<J: Naming, W: Wait + Drop, R: Threads + Wait + Sync>(
+    rt: &R,
+    alloc: Global,
+    graph: &SharedGraph<J, W>,
+    writer: &mut Reader<J>,
+    reader: &mut Reader<J>,
+) -> Result<bool, SharedError> {
+    if look(reader)? != (1, 1) {
+        return Ok(false);
+    }
+    for number in 2..=11u64 {
+        let committed = graph.commit(rt, alloc, writer, Batch::new(alloc))?;
+        if committed != number || look(reader)? != (number, 1) {
+            return Ok(false);
+        }
+    }
+    Ok(true)
+}
+
+#[test]
+fn a_hold_of_another_graph_comes_back(rt: HostRuntime) -> Result<(), Fail> {
+    let back = two_graphs::<Brand, Brand, _>(&rt, Opening::new(), Opening::new())?;
+    assert!(rt; back);
+    Ok(())
+}
+
+fn two_graphs<J: Naming, K: Naming, R: Threads + Wait + AllocGlobal + Sync>(
+    rt: &R,
+    first: Opening,
+    second: Opening,
+) -> Result<bool, SharedError>
+    requires first { first ≡ J.book }
+    requires first_base { J.base ≡ opened 2 16777216 }
+    requires second { second ≡ K.book }
+    requires second_base { K.base ≡ opened 2 16777216 }
+{
+    let (one, mut ones) = SharedGraph::<J, &R>::open(rt, rt.alloc(), first, 2, 64, 1)?;
+    two_graphs_beside::<J, K, R>(rt, &one, &mut ones, second)
+}
+
+fn two_graphs_beside<'a, J: Naming, K: Naming, R: Threads + Wait + AllocGlobal + Sync>(
+    rt: &'a R,
+    one: &SharedGraph<J, &'a R>,
+    ones: &mut [Reader<J>],
+    second: Opening,
+) -> Result<bool, SharedError>
+    requires second { second ≡ K.book }
+    requires second_base { K.base ≡ opened 2 16777216 }
+{
+    let (two, mut twos) = SharedGraph::<K, &R>::open(rt, rt.alloc(), second, 2, 64, 1)?;
+    comes_back(rt, rt.alloc(), (one, ones), (&two, &mut twos))
+}
+
+// Whether a version that the first graph holds is refused by the second, and released by the first.
+fn comes_back<J: Naming, K: Naming, W: Wait + Drop, R: Wait>(
+    rt: &R,
+    alloc: Global,
+    (one, ones): (&SharedGraph<J, W>, &mut [Reader<J>]),
+    (two, twos): (&SharedGraph<K, W>, &mut [Reader<K>]),
+) -> Result<bool, SharedError> {
+    let ([mine], [theirs]) = (ones, twos) else {
+        return Err(SharedError::BadSeats);
+    };
+    let held = one.hold(rt, alloc, mine, Which::Newest)?;
+    match two.release(rt, theirs, held) {
+        Ok(()) => Ok(false),
+        Err(Unreleased { error, held }) => {
+            let released = release(rt, one, mine, held);
+            Ok(error.number() == 122 && released.is_none())
+        }
+    }
+}
+
+#[test]
+fn sixty_four_readers_beside_a_writer(rt: HostRuntime) -> Result<(), Fail> {
+    let risen = many_readers::<Brand, _>(&rt, Opening::new())?;
+    assert!(rt; risen);
+    Ok(())
+}
+
+const COMMITS: u64 = 10_000;
+
+fn many_readers<J: Naming + Send + Sync, R: Threads + Wait + Clock + AllocGlobal + Sync>(
+    rt: &R,
+    opening: Opening,
+) -> Result<bool, SharedError>
+    requires book { opening ≡ J.book }
+    requires base { J.base ≡ opened 128 16777216 }
+{
+    let (graph, readers) = SharedGraph::<J, &R>::open(rt, rt.alloc(), opening, 128, 64, 64)?;
+    read_beside(rt, rt.alloc(), &graph, readers)
+}
+
+// Whether the numbers rise for all readers but the last, which commits, and at the end for that one.
+fn read_beside<
+    J: Naming + Send + Sync,
+    W: Wait + Drop + Send + Sync,
+    R: Threads + Wait + Clock + Sync,
+>(
+    rt: &R,
+    alloc: Global,
+    graph: &SharedGraph<J, W>,
+    mut readers: Vec<Reader<J>>,
+) -> Result<bool, SharedError> {
+    let Some(mut writer) = readers.pop() else {
+        return Err(SharedError::BadSeats);
+    };
+    let (added, risen) = join(
+        rt,
+        || add_all(rt, alloc, graph, &mut writer),
+        || read_all(rt, readers),
+    );
+    let at_end = reads_rise(rt, &mut writer);
+    drop(writer);
+    Ok(added? && risen? && at_end?)
+}
+
+// Whether the numbers rise for each of these readers, each on a thread.
+fn read_all<J: Naming + Send + Sync, R: Threads + Clock + Sync>(
+    rt: &R,
+    readers: Vec<Reader<J>>,
+) -> Result<bool, AllocError> {
+    let risen = thread::map_vec(
+        rt,
+        readers,
+        &|mut reader: Reader<J>| { reads_rise(rt, &mut reader) },
+    )?;
+    Ok(risen.iter().all(|it| *it == Ok(true)))
+}
+
+// Whether the numbers never fall until the last version comes, and each snapshot has as many edges as its
+// number says.
+fn reads_rise<J: Naming, C: Clock>(clock: &C, reader: &mut Reader<J>) -> Result<bool, SharedError> {
+    let mut seen = 0;
+    for _ in 0..MOST_READS {
+        let (number, edges) = look(reader)?;
+        if number < seen || edges as u64 != number {
+            return Ok(false);
+        }
+        if number == COMMITS {
+            return Ok(true);
+        }
+        seen = number;
+        thread::sleep(clock, Duration::from_micros(200));
+    }
+    Ok(false)
+}
+
+// Commits one new edge after another, and whether each has the next number.
+fn add_all<J: Naming, W: Wait + Drop, R: Threads + Wait + Sync>(
+    rt: &R,
+    alloc: Global,
+    graph: &SharedGraph<J, W>,
+    me: &mut Reader<J>,
+) -> Result<bool, SharedError> {
+    for edge in 0..COMMITS {
+        let (source, destination) = ((edge / 128) as u32, (edge % 128) as u32);
+        if add(rt, alloc, graph, me, (source, destination))? != edge + 1 {
+            return Ok(false);
+        }
+    }
+    Ok(true)
+}
+
+#[test]
+fn a_room_of_seven(rt: HostRuntime) -> Result<(), Fail> {
+    let found = little_room::<Brand, _>(&rt, Opening::new())?;
+    assert!(rt; found);
+    Ok(())
+}
+
+fn little_room<J: Naming, R: Threads + Wait + AllocGlobal + Sync>(
+    rt: &R,
+    opening: Opening,
+) -> Result<bool, SharedError>
+    requires book { opening ≡ J.book }
+    requires base { J.base ≡ opened 2 7 }
+{
+    let (graph, mut readers) = SharedGraph::<J, &R>::open_with_room(
+        rt,
+        rt.alloc(),
+        opening,
+        2,
+        64,
+        1,
+        7,
+    )?;
+    let [me] = readers.as_mut_slice() else {
+        return Err(SharedError::BadSeats);
+    };
+    Ok(fill(rt, rt.alloc(), &graph, me))
+}
+
+// Whether three holds and a commit are all that is taken beside the releases.
+fn fill<J: Naming, W: Wait + Drop, R: Threads + Wait + Sync>(
+    rt: &R,
+    alloc: Global,
+    graph: &SharedGraph<J, W>,
+    me: &mut Reader<J>,
+) -> bool {
+    let first = graph.hold(rt, alloc, me, Which::Newest);
+    let second = graph.hold(rt, alloc, me, Which::Newest);
+    let third = graph.hold(rt, alloc, me, Which::Newest);
+    let fourth = hold_and_release(rt, alloc, graph, me, Which::Newest);
+    let committed = commit_nothing(rt, alloc, graph, me);
+    let full = commit_nothing(rt, alloc, graph, me);
+    let released = [
+        release_held(rt, graph, me, first),
+        release_held(rt, graph, me, second),
+        release_held(rt, graph, me, third),
+    ];
+    let still_full = commit_nothing(rt, alloc, graph, me);
+    fourth == Err(123)
+        && committed == Ok(1)
+        && full == Err(123)
+        && released == [None; 3]
+        && still_full == Err(123)
+}
