@@ -24,6 +24,14 @@ impl Times {
         }
     }
 
+    /// Turns that took so many nanoseconds.
+    pub fn of(alloc: Global, nanos: &[u64]) -> io::Result<Times> {
+        Ok(Times {
+            turns: nanos.to_vec(alloc)?,
+            found: 0,
+        })
+    }
+
     /// Takes what a turn's work came to into account, so that the work is really done.
     pub fn note(&mut self, found: usize) {
         self.found ^= found;
