@@ -17,6 +17,7 @@ mod lexing;
 mod outcome;
 mod parsing;
 mod random;
+mod readers;
 mod script_times;
 mod sets;
 mod table;
@@ -31,6 +32,7 @@ use random::Random;
 use std::io::Error;
 use std::process::ExitCode;
 use std::rt::Clock;
+use std::sync::Wait;
 use std::thread::Threads;
 use std::{env, io};
 use workload::adds_script;
@@ -42,13 +44,13 @@ fn main(rt: HostRuntime) -> io::Result<ExitCode> {
         return Ok(ExitCode::SUCCESS);
     }
     eprintln!(rt;
-        "usage: bench [--time scripts|lexer|parser|tails|trees|ctrees|sets|commits|flats|vertices|kernels|crew | --script ADDS | --check batches|crew]"
+        "usage: bench [--time scripts|lexer|parser|tails|trees|ctrees|sets|commits|flats|vertices|kernels|crew|readers | --script ADDS | --check batches|crew]"
     )?;
     Ok(ExitCode::from(2))
 }
 
 // Prints what the words ask for, and tells whether they ask for something.
-fn print<R: Print + AllocGlobal + Clock + Threads + Sync>(
+fn print<R: Print + AllocGlobal + Clock + Threads + Wait + Sync>(
     rt: &R,
     words: &[&str],
 ) -> io::Result<bool> {
@@ -64,7 +66,7 @@ fn print<R: Print + AllocGlobal + Clock + Threads + Sync>(
 }
 
 // Prints the times of a subject.
-fn print_times<R: Print + AllocGlobal + Clock + Threads + Sync>(
+fn print_times<R: Print + AllocGlobal + Clock + Threads + Wait + Sync>(
     rt: &R,
     subject: &str,
 ) -> io::Result<()> {
@@ -80,6 +82,7 @@ fn print_times<R: Print + AllocGlobal + Clock + Threads + Sync>(
         "flats" => flats::print_times(rt),
         "crew" => crew_runs::print_times(rt),
         "kernels" => kernel_runs::print_times(rt),
+        "readers" => readers::print_times(rt),
         "vertices" => vertex_set_runs::print_times(rt),
         _ => Err(Error::other("nothing of this name is timed")),
     }
