@@ -100,5 +100,5 @@ not_there xs i next n u k false t up passed a b last l e =
 -- a number past those that have come, and below the next, is not in the list
 pub between_kept : (xs : List ℕ) (i next n u : ℕ) → IsNonDecreasing xs → ((j : ℕ) → j < i → (get_or xs j 0 < next) ⊎ (n ≤ get_or xs j 0))
     → next ≤ u → u < n → (i < length xs → u < get_or xs i 0) → ¬ Contains xs u
-between_kept xs i next n u up passed a b last (k , l , e) =
+between_kept xs i next n u up passed a b last (k, l, e) =
     not_there xs i next n u k (nat_lt k i) refl up passed a b last l (get_or_default xs k 0 u l ∙ e)

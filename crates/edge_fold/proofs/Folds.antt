@@ -3,7 +3,6 @@ use Rattle.std.proofs.Common.{◌≡◌, ℕ, ◌+◌, ◌==◌, ℤ, Bool, true
 use Rattle.std.proofs.lemmas.List.{drop_more}
 use Rattle.syntax.specs.declared.statement.Reduction.{Reduction}
 use Rattle.algorithm_meaning.specs.Arithmetic.{reduced}
-use Rattle.algorithm_meaning.specs.Laws.{IsReduction}
 use Rattle.algorithm_meaning.proofs.Reductions.{reductions}
 use Rattle.edge_fold.specs.Given.{for_vector, given_from, given_on, reduced_at}
 

@@ -1,7 +1,6 @@
 -- Slots in a row.
-use Rattle.std.proofs.Common.{◌≡◌, ℕ, zero, suc, ◌+◌, ◌<◌, ◌≤◌, ◌==◌, ℤ, Bool, true, false, cond, List, [], ◌∷◌, ◌++◌, length, set, get_or, take, refl, sym, ap, ◌∙◌, arith, length-append}
+use Rattle.std.proofs.Common.{◌≡◌, ℕ, suc, ◌+◌, ◌<◌, ◌≤◌, ◌==◌, ℤ, Bool, true, false, cond, List, [], ◌∷◌, ◌++◌, length, set, get_or, take, refl, sym, ap, ◌∙◌, arith, length-append}
 use Rattle.std.proofs.lemmas.Bool.Decides.{nat_tests}
-use Rattle.std.proofs.lemmas.Bool.{false≢true}
 use Rattle.std.proofs.lemmas.List.{take_all, length-take-le, get_or-take}
 use Rattle.std.proofs.Math.Seq.{take-set-lt}
 use Rattle.edge_fold.specs.declared.slot.Slot.{Slot}
@@ -116,8 +115,8 @@ held_in-change f o x k p ss old t d e l few also here others y v was =
     ap (λ (ts : List Slot). held_in ts y v (o y v)) (take-set-lt k ss p t l)
     ∙ ap (λ (q : ℕ). held_in (set (take k ss) q t) y v (o y v)) e
     ∙ held_in-set f o x (take k ss) t d (omega (arith, e, l, long)) also
-      (λ u. here u ∙ ap (λ (s : Slot). f x u (held s.entries u (o x u))) (sym (at p l) ∙ ap (λ (q : ℕ). get_or (take k ss) q d) e))
-      others y v
+    (λ u. here u ∙ ap (λ (s : Slot). f x u (held s.entries u (o x u))) (sym (at p l) ∙ ap (λ (q : ℕ). get_or (take k ss) q d) e))
+    others y v
     ∙ ap (f y v) was
 
 pub first_vector : (ss : List Slot) (x k p : ℕ) (d : Slot) → p ≡ place_in x (take k ss) → p < k → k ≤ length ss → (get_or ss p d).vector ≡ x

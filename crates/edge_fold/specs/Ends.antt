@@ -1,5 +1,5 @@
 -- The ends of an edge.
-use Rattle.std.specs.Prelude.{◌≡◌, ℕ, Bool, true, List, Option, Some, None}
+use Rattle.std.specs.Prelude.{◌≡◌, ℕ, Bool, true, Option, Some, None}
 use Rattle.typed_tree.specs.StepTree.{StepsTree}
 use Rattle.algorithm_meaning.specs.EdgeApply.{is_member}
 use Rattle.algorithm_meaning.specs.Filter.{result_of}

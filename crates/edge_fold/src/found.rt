@@ -38,7 +38,7 @@ impl Scratch {
         ensures changes { IfOk result (λ c. (m : StateValue) (steps : List StepsTree) (edges : List (ℕ × ℕ)) (test : ℕ → Bool) → AreFunctions functions.entry m steps → IsEndTest to.entry m test
             → HasFolded m steps edges self.old → (x : ℕ) (r : Reduction) → IsGivenBy r x steps m.sets m.vectors → functions.entry.vertices ≤ length (slice_index_or m.vectors x [])
             → changes_of x c.vectors.items ≡ changed functions.entry.vertices (entry m.vectors x)
-                (entry (after_edges steps m.sets m.vectors (filter (λ e. test e.1) edges) m.vectors) x)) }
+            (entry (after_edges steps m.sets m.vectors (filter (λ e. test e.1) edges) m.vectors) x)) }
     {
         self.flush(alloc, functions)?;
         let changes = found_in_slots(alloc, functions, to, &mut self.slots, &mut self.block)?;
@@ -74,7 +74,7 @@ fn found_in_slots(
     ensures once { IfOk result (λ c. AreApart c.vectors.items) }
     ensures changes { IfOk result (λ c. (m : StateValue) (test : ℕ → Bool) → functions.entry.vectors.now.vectors ≡ m.vectors → HasSizes functions.entry.sizes.now m → IsEndTest to.entry m test
         → (x : ℕ) → changes_of x c.vectors.items ≡ changed functions.entry.vertices (entry m.vectors x)
-            (λ v. if test v then held_in (active slots.old) x v (entry m.vectors x v) else entry m.vectors x v)) }
+        (λ v. if test v then held_in (active slots.old) x v (entry m.vectors x v) else entry m.vectors x v)) }
 {
     let mut vectors = Vec::new(alloc);
     'slots: for place in 0..slots.used {
@@ -120,7 +120,7 @@ fn found_in_slot(
     ensures vector { IfOk result (λ c. c.vector ≡ slot.old.vector) }
     ensures changes { IfOk result (λ c. (m : StateValue) (test : ℕ → Bool) → functions.entry.vectors.now.vectors ≡ m.vectors → HasSizes functions.entry.sizes.now m → IsEndTest to.entry m test
         → c.changes.items ≡ changed functions.entry.vertices (entry m.vectors slot.old.vector)
-            (λ v. if test v then held slot.old.entries v (entry m.vectors slot.old.vector v) else entry m.vectors slot.old.vector v)) }
+        (λ v. if test v then held slot.old.entries v (entry m.vectors slot.old.vector v) else entry m.vectors slot.old.vector v)) }
 {
     if slot.entries.is_crowded() {
         let walked = slot.entries.walk(alloc, functions.vertices)?;
@@ -147,7 +147,7 @@ fn found_among(
     ensures vector { IfOk result (λ c. c.vector ≡ slot.now.vector) }
     ensures changes { IfOk result (λ c. (m : StateValue) (test : ℕ → Bool) → functions.entry.vectors.now.vectors ≡ m.vectors → HasSizes functions.entry.sizes.now m → IsEndTest to.entry m test
         → c.changes.items ≡ changed functions.entry.vertices (entry m.vectors slot.now.vector)
-            (λ v. if test v then held slot.now.entries v (entry m.vectors slot.now.vector v) else entry m.vectors slot.now.vector v)) }
+        (λ v. if test v then held slot.now.entries v (entry m.vectors slot.now.vector v) else entry m.vectors slot.now.vector v)) }
 {
     let vector = slot.vector;
     match to {
@@ -175,7 +175,9 @@ fn all_changes(
         (λ v. held slot.now.entries v (entry functions.entry.vectors.now.vectors slot.now.vector v))) }
 {
     let old = functions.vectors.lane(slot.vector);
-    let changes = slot.entries.changes(alloc, old, touched, functions.vertices)?;
+    let changes = slot
+        .entries
+        .changes(alloc, old, touched, functions.vertices)?;
     Ok(changes)
 }
 
@@ -192,7 +194,7 @@ fn passing_changes(
     requires covers { (v : ℕ) (old : ℤ) → v < functions.vertices → ¬ Contains touched.now v → held slot.now.entries v old ≡ old }
     ensures { IfOk result (λ cs. (m : StateValue) (test : ℕ → Bool) → functions.entry.vectors.now.vectors ≡ m.vectors → HasSizes functions.entry.sizes.now m → IsTest end.entry m test
         → cs.items ≡ changed functions.entry.vertices (entry m.vectors slot.now.vector)
-            (λ v. if test v then held slot.now.entries v (entry m.vectors slot.now.vector v) else entry m.vectors slot.now.vector v)) }
+        (λ v. if test v then held slot.now.entries v (entry m.vectors slot.now.vector v) else entry m.vectors slot.now.vector v)) }
 {
     let mut kept = Vec::new(alloc);
     keep_passing(functions, end, touched, block, &mut kept)?;

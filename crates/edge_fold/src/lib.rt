@@ -1,4 +1,28 @@
 //! What an edge apply folds: the new entries of the vectors that it writes, from the edges that it goes over.
+//!
+//! A run keeps one [`Scratch`] and lends it to each apply. [`Scratch::begin`] forgets the apply before, in constant
+//! time. An engine then lends it edges in any order: [`Scratch::fold`] takes a source with up to 128 of its
+//! destinations. [`Scratch::changes`] says at the end what has changed, for each vector once, by ascending vertices.
+//!
+//! `HasFolded` (`specs/Folded.antt`) says which edges a scratch has folded: for each vector to which the functions give
+//! by one reduction, the new entries, reduced with what the edges that still wait give, are the old entries reduced with
+//! what those edges give. `changes` then promises the entries after an apply of them (`after_edges` of
+//! `algorithm_meaning`), for each vector that has an entry for each vertex. The functions read the vectors that are
+//! lent, which stay as they are until the changes are written.
+//!
+//! A slot has the new entries of one vector. It knows them by a stamp, a number that goes up with each apply, so nothing
+//! is cleared, and lists the vertices that were given something. So an apply takes time in proportion to its edges, and
+//! to the vertices only for memory that is new, or where more than 1 in 64 of them was given something: then a walk finds
+//! them in order sooner than a sort. Slots keep their memory: 12 bytes a vertex for each vector that one apply writes,
+//! and 4 for each vertex that was given something.
+//!
+//! What depends on the source alone, as an entry of the source with a constant added, is worked out once for a source and
+//! joined to its destinations in one loop. Other edges wait until they are 128, and the kernels of one or two functions
+//! run over them as a block. The numbers that they give are joined column by column and not edge by edge, which the
+//! laws of reductions allow.
+//!
+//! An end of an edge that a filter makes is tested in blocks of 128 too ([`Scratch::keep_passing`]). Destinations are
+//! tested at the end, each once.
 #![tactic(auto)]
 
 mod accumulator;

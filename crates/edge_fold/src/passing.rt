@@ -30,11 +30,7 @@ pub(crate) fn keep_passing(
 }
 
 /// Those that are members.
-fn keep_members(
-    set: &VertexSet,
-    vertices: &[u32],
-    kept: &mut Vec<u32>,
-) -> Result<(), AllocError>
+fn keep_members(set: &VertexSet, vertices: &[u32], kept: &mut Vec<u32>) -> Result<(), AllocError>
     ensures { OnOk result ((test : ℕ → Bool) → ((v : ℕ) → test v ≡ is_member v set.now.members) → kept.new.items ≡ kept.old.items ++ filter test vertices.now) }
 {
     'members: for vertex in vertices {

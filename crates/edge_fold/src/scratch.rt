@@ -3,8 +3,8 @@ ghost use Rattle.std.specs.Prelude.{◌≡◌, ℕ, ◌<◌, ◌≤◌, ◌++◌
 
 use crate::functions::Functions;
 use crate::pairs::Pairs;
-use crate::slot::Slots;
 use crate::run::run_functions;
+use crate::slot::Slots;
 use kernels::Block;
 use std::alloc::{AllocError, Global};
 
@@ -54,7 +54,8 @@ impl Scratch {
             → HasFolded m steps edges self.old → HasFolded m steps (edges ++ row source destinations.now) self.new) }
     {
         if let Some(sent) = functions.sent(source) {
-            self.slots.join_number(alloc, functions, sent, destinations)?;
+            self.slots
+                .join_number(alloc, functions, sent, destinations)?;
             return Ok(());
         }
         self.gather(alloc, functions, source, destinations)
@@ -93,7 +94,14 @@ impl Scratch {
         let pairs = &self.pairs;
         let sources = &pairs.sources[..pairs.count];
         let destinations = &pairs.destinations[..pairs.count];
-        run_functions(alloc, functions, sources, destinations, &mut self.block, &mut self.slots)?;
+        run_functions(
+            alloc,
+            functions,
+            sources,
+            destinations,
+            &mut self.block,
+            &mut self.slots,
+        )?;
         self.pairs.count = 0;
         Ok(())
     }

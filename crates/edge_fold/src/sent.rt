@@ -47,7 +47,11 @@ impl Functions<'_> {
             Shape::EntryPlus(vector, reduction, from, number) => Some(Sent {
                 vector,
                 reduction,
-                number: arithmetic_of(Operator::Add, self.vectors.lane(from).get(source as usize), number),
+                number: arithmetic_of(
+                    Operator::Add,
+                    self.vectors.lane(from).get(source as usize),
+                    number,
+                ),
             }),
             Shape::Constant(vector, reduction, number) => Some(Sent {
                 vector,

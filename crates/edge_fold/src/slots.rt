@@ -93,7 +93,9 @@ impl Slots {
     {
         let place = self.place(alloc, gift.vector, functions.vertices)?;
         let old = functions.vectors.lane(gift.vector);
-        self.slots[place].entries.join_column(old, gift, destinations)?;
+        self.slots[place]
+            .entries
+            .join_column(old, gift, destinations)?;
         Ok(())
     }
 
@@ -108,7 +110,7 @@ impl Slots {
     ) -> Result<(), AllocError>
         ensures { OnOk result ((x v : ℕ) → held_in (active self.new) x v (entry functions.entry.vectors.now.vectors x v)
             ≡ (if sent.vector == x then reduced_at sent.reduction v (held_in (active self.old) x v (entry functions.entry.vectors.now.vectors x v)) (each_given sent.number destinations.now)
-                else held_in (active self.old) x v (entry functions.entry.vectors.now.vectors x v))) }
+            else held_in (active self.old) x v (entry functions.entry.vectors.now.vectors x v))) }
     {
         let place = self.place(alloc, sent.vector, functions.vertices)?;
         let old = functions.vectors.lane(sent.vector);

@@ -1,2 +1,3 @@
 pub mod RowFolds
 pub mod Walked
+pub mod Differences

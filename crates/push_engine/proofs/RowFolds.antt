@@ -1,15 +1,15 @@
 -- The edges of sources, row by row, and all edges of a graph in their order.
-use Rattle.std.proofs.Common.{◌≡◌, ℕ, zero, suc, ◌+◌, ◌<◌, ◌≤◌, ◌==◌, ℤ, Bool, true, false, cond, ◌||◌, ◌&&◌, List, [], ◌∷◌, ◌++◌, length, refl, sym, ap, ◌∙◌, subst, append_assoc, arith}
+use Rattle.std.proofs.Common.{◌≡◌, ℕ, ◌+◌, ◌<◌, ◌≤◌, ◌==◌, ℤ, Bool, true, false, cond, ◌||◌, ◌&&◌, List, [], ◌∷◌, ◌++◌, length, refl, sym, ap, ◌∙◌, append_assoc, arith}
 use Rattle.std.proofs.lemmas.Bool.Decides.{nat_tests}
 use Rattle.std.proofs.lemmas.Bool.{false≢true}
-use Rattle.std.specs.List.{filter, list_any}
+use Rattle.std.specs.List.{filter}
 use Rattle.syntax.specs.declared.statement.Reduction.{Reduction}
 use Rattle.algorithm_meaning.specs.EdgeApply.{is_member}
 use Rattle.edge_fold.specs.Given.{for_vector, given_on, reduced_at, row}
 use Rattle.edge_fold.proofs.Folds.{given_on-append, reduced_at-append, reduced_at-swap}
 use Rattle.tree_batch.specs.Neighbours.{destinations_of}
 use Rattle.vertex_sets.proofs.Ascending.{Rises}
-use Rattle.push_engine.specs.Between.{edges_between, firsts}
+use Rattle.push_engine.specs.Between.{edges_between}
 use Rattle.push_engine.specs.Rows.{rows}
 
 same : (m n : ℕ) → (m == n) ≡ true → m ≡ n
@@ -72,8 +72,8 @@ edge_first r x v g e es low (u ∷ us) up n =
     let line = row u (destinations_of u es) in
     ap (λ (ks : List (ℕ × ℕ)). reduced_at r v n (given_on x g (ks ++ rows (e ∷ es) us))) (row_grows u e es (e.0 == u) refl)
     ∙ more_rows r x v g e n line (rows es us) (rows (e ∷ es) us) (e.0 == u) (is_member e.0 us)
-      (λ is. below_all (u + 1) e.0 us up.1 (let here = same e.0 u is in omega (arith, here)))
-      (λ k. edge_first r x v g e es (u + 1) us up.1 k)
+    (λ is. below_all (u + 1) e.0 us up.1 (let here = same e.0 u is in omega (arith, here)))
+    (λ k. edge_first r x v g e es (u + 1) us up.1 k)
     ∙ ap (λ (b : Bool). cond (b || is_member e.0 us) (reduced_at r v (reduced_at r v n (for_vector x e.1 (g e))) (given_on x g (line ++ rows es us))) (reduced_at r v n (given_on x g (line ++ rows es us)))) (same_back e.0 u)
 
 no_rows : (us : List ℕ) → rows [] us ≡ []

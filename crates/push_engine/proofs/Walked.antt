@@ -1,10 +1,9 @@
 -- How far a walk over sources has come.
-use Rattle.std.proofs.Common.{◌≡◌, ℕ, ◌+◌, ◌<◌, ◌≤◌, ◌==◌, Bool, true, false, cond, ◌||◌, ◌&&◌, List, [], ◌∷◌, ◌++◌, length, take, drop, map, get_or, unwrap_or, Some, refl, sym, ap, ◌∙◌, subst, append_assoc, arith}
+use Rattle.std.proofs.Common.{◌≡◌, ℕ, ◌+◌, ◌<◌, ◌≤◌, ◌==◌, Bool, true, false, cond, ◌||◌, ◌&&◌, List, [], ◌∷◌, ◌++◌, length, take, drop, get_or, unwrap_or, Some, refl, sym, ap, ◌∙◌, subst, append_assoc, arith}
 use Rattle.std.proofs.lemmas.Bool.Decides.{nat_tests}
-use Rattle.std.proofs.lemmas.Bool.{false≢true}
 use Rattle.std.proofs.lemmas.List.{append-nil, map-append, take-append-drop, take_more}
 use Rattle.std.proofs.lemmas.List.Elements.{filter-append}
-use Rattle.std.specs.List.{filter, list_any}
+use Rattle.std.specs.List.{filter}
 use Rattle.typed_tree.specs.StepTree.{StepsTree}
 use Rattle.algorithm_meaning.specs.EdgeApply.{is_member}
 use Rattle.algorithm_meaning.specs.State.{StateValue}
@@ -162,8 +161,8 @@ pass_done from f edges ds left start s none degrees w m steps test are is has =
     let whole = sym (append-nil w.done) ∙ ap (λ ks. w.done ++ ks) (sym none) ∙ w.split in
     let us = filter test (firsts ds) in
     folded_edges m steps test us edges s (rises_filtered test 0 (firsts ds) (sources_rise edges ds degrees))
-      (agree_on_rows test us edges (λ u l. member_filtered test u (firsts ds) ∙ ap (λ (b : Bool). b && test u) (source_listed edges ds u degrees l)))
-      (folded_along m steps (rows edges (filter test w.done)) (rows edges us) s (ap (λ ks. rows edges (filter test ks)) whole) (w.folded m steps test are is has))
+    (agree_on_rows test us edges (λ u l. member_filtered test u (firsts ds) ∙ ap (λ (b : Bool). b && test u) (source_listed edges ds u degrees l)))
+    (folded_along m steps (rows edges (filter test w.done)) (rows edges us) s (ap (λ ks. rows edges (filter test ks)) whole) (w.folded m steps test are is has))
 
 -- the row of the next of some sources
 pub rows_next : (edges es : List (ℕ × ℕ)) (us : List ℕ) (i : ℕ) → i < length us

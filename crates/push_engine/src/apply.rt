@@ -21,7 +21,13 @@ use schedule::Direction;
 use std::alloc::{AllocError, Global};
 use vectors::{Changes, Vectors};
 
-/// What an apply of edge functions changes.
+/// What an apply of edge functions changes, where it goes from the sources to the destinations: for each vector that a
+/// function has given something one list of changes, by ascending vertices, and a vector without one does not change.
+/// It promises so for each vector that has an entry for each vertex and to which the functions give by one reduction.
+/// `sizes` are the sizes of the vertex sets by their places. The vectors stay as they are, and so does the graph. The
+/// scratch serves any apply after this one, whatever became of it.
+///
+/// The only error is out of memory.
 pub fn push(
     alloc: Global,
     apply: &Apply<'_>,
@@ -35,7 +41,7 @@ pub fn push(
         → AreKernels apply.now.first.now apply.now.second steps → IsEndTest apply.now.from m from → IsEndTest apply.now.to m to
         → (x : ℕ) (r : Reduction) → IsGivenBy r x steps m.sets m.vectors → flat.now.vertices ≤ length (slice_index_or m.vectors x [])
         → changes_of x c.vectors.items ≡ changed flat.now.vertices (entry m.vectors x)
-            (entry (after_edges steps m.sets m.vectors (edges_between from to flat.now.edges) m.vectors) x)) }
+        (entry (after_edges steps m.sets m.vectors (edges_between from to flat.now.edges) m.vectors) x)) }
 {
     let functions = Functions {
         first: apply.first,
@@ -68,7 +74,15 @@ fn fold_from(
             Ok(())
         }
         Some(end) => {
-            fold_from_end(alloc, apply.direction, end, flat, functions, &mut block, scratch)?;
+            fold_from_end(
+                alloc,
+                apply.direction,
+                end,
+                flat,
+                functions,
+                &mut block,
+                scratch,
+            )?;
             Ok(())
         }
     }

@@ -1,7 +1,19 @@
 //! Edge applies by push: from the sources to the destinations.
+//!
+//! [`push`] goes over the edges from the sources that pass, in ascending order, and says what an apply of one or two edge
+//! functions to the edges between two ends changes, in the words of `algorithm_meaning` (`after_edges`). Nothing is
+//! written: the functions read the vectors that are lent.
+//!
+//! Sources that are members of a set are gone over in the set, so that an apply costs what these and their edges cost,
+//! and nothing in proportion to the graph. By the direction `DensePush` all vertices with edges are tested. A filter is
+//! run over the vertices with edges, 128 at a time. Neighbours are read in blocks of 128 and folded by `edge_fold`.
+//!
+//! Push and pull are those of Ligra's edge map (Shun, Blelloch, PPoPP 2013).
 #![tactic(auto)]
 
 mod apply;
+mod modified;
 mod sources;
 
 pub use apply::push;
+pub use modified::apply_modified;

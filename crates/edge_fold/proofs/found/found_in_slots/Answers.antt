@@ -1,4 +1,4 @@
-use Rattle.std.proofs.Common.{rules, ◌≡◌, ℕ, ◌<◌, ◌+◌, ◌≤◌, ◌==◌, ◌++◌, ◌∷◌, [], Bool, cond, if◌then◌else◌, ℤ, List, length, take, drop, set, get_or, refl, sym, ap, ◌∙◌, subst, arith}
+use Rattle.std.proofs.Common.{rules, ℕ, ◌<◌, ◌+◌, ◌≤◌, ◌==◌, ◌∷◌, cond, List, length, take, drop, refl, sym, ap, ◌∙◌, subst, arith}
 use Rattle.std.proofs.lemmas.List.{length-take-le, drop_all}
 use Rattle.algorithm_meaning.specs.Value.{entry}
 use Rattle.vectors.specs.declared.change.Change.{Change}
@@ -45,9 +45,9 @@ slots-preserved c =
           let f = λ (ss : List Slot). found_in c.args.functions.vertices (entry m.vectors) test ss x in
           c.in_ok-push_once.ensures.changes x (f rest)
           ∙ ap (λ (r : List Change). changes_or x c.slots.vectors.items r)
-            (ap (λ (y : ℕ). cond (y == x) one.changes.items (f rest)) found.vector
-            ∙ ap (λ (cs : List Change). cond (was.vector == x) cs (f rest)) (found.changes m test vectors sizes is)
-            ∙ ap f (ap (λ (s : Slot). s ∷ rest) c.index_mut.ensures.value ∙ sym (next_left k n xs all was inside here there left)))
+          (ap (λ (y : ℕ). cond (y == x) one.changes.items (f rest)) found.vector
+          ∙ ap (λ (cs : List Change). cond (was.vector == x) cs (f rest)) (found.changes m test vectors sizes is)
+          ∙ ap f (ap (λ (s : Slot). s ∷ rest) c.index_mut.ensures.value ∙ sym (next_left k n xs all was inside here there left)))
           ∙ c.slots.invariant.found m test vectors sizes is x;
     }
 

@@ -1,4 +1,4 @@
-use Rattle.std.proofs.Common.{◌≡◌, ℕ, ◌≤◌, Bool, drop}
+use Rattle.std.proofs.Common.{◌≡◌, ℕ, Bool, drop}
 use Rattle.algorithm_meaning.specs.State.{StateValue}
 use Rattle.algorithm_meaning.specs.Value.{entry}
 use Rattle.stack_code.specs.Cells.{HasSizes}

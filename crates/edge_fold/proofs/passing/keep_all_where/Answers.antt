@@ -1,4 +1,4 @@
-use Rattle.std.proofs.Common.{rules, ◌≡◌, ◌<◌, length, ◌∙◌}
+use Rattle.std.proofs.Common.{◌<◌, length, ◌∙◌}
 use Rattle.edge_fold.proofs.Findings.{one_more_kept}
 use Rattle.edge_fold.proofs.passing.keep_all_where.Goals as goal
 

@@ -1,4 +1,4 @@
-use Rattle.std.proofs.Common.{rules, ◌≡◌, ◌<◌, length, get_or, sym, ◌∙◌}
+use Rattle.std.proofs.Common.{◌<◌, length, get_or, sym, ◌∙◌}
 use Rattle.edge_fold.proofs.Findings.{member_is, one_more_kept}
 use Rattle.edge_fold.proofs.passing.keep_members.Goals as goal
 

@@ -27,10 +27,14 @@ parts-preserved c =
     let kept = c.keep_passing.new.kept.items in
     record {
       room = search rules;
-      walked = (w.0, w.1, pass_more a.from a.functions edges (firsts w.0) (firsts c.parts.sources) c.take_sources.new.part.items (firsts c.take_sources.new.sources) kept a.scratch.now c.parts.scratch c.fold_rows.new.scratch
-        c.in_ok-take_sources.ensures.taken
-        (λ m steps test are is. c.in_ok-keep_passing.ensures.kept m test are.vectors are.sizes is ∙ ap (λ (ks : List ℕ). ks ++ filter test c.deref.result.now) c.clear.ensures.items ∙ ap (filter test) c.deref.ensures.value)
-        (λ m steps es are has. folded_along m steps (es ++ rows edges c.deref-in-parts.result.now) (es ++ rows edges kept) c.fold_rows.new.scratch (ap (λ (ks : List ℕ). es ++ rows edges ks) c.deref-in-parts.ensures.value)
+      walked = (
+        w.0,
+        w.1,
+        pass_more a.from a.functions edges (firsts w.0) (firsts c.parts.sources) c.take_sources.new.part.items (firsts c.take_sources.new.sources) kept a.scratch.now c.parts.scratch c.fold_rows.new.scratch
+            c.in_ok-take_sources.ensures.taken
+            (λ m steps test are is. c.in_ok-keep_passing.ensures.kept m test are.vectors are.sizes is ∙ ap (λ (ks : List ℕ). ks ++ filter test c.deref.result.now) c.clear.ensures.items ∙ ap (filter test) c.deref.ensures.value)
+            (λ m steps es are has. folded_along m steps (es ++ rows edges c.deref-in-parts.result.now) (es ++ rows edges kept) c.fold_rows.new.scratch (ap (λ (ks : List ℕ). es ++ rows edges ks) c.deref-in-parts.ensures.value)
             (c.in_ok-fold_rows.ensures m steps es are (c.in_ok-keep_passing.ensures.folded m steps es has)))
-        w.2);
+            w.2,
+      );
     }

@@ -1,4 +1,4 @@
-use Rattle.std.proofs.Common.{rules, ◌≡◌, ℕ, List, [], length, take, sym, ◌∙◌}
+use Rattle.std.proofs.Common.{rules, ◌≡◌, [], take}
 use Rattle.tree_batch.specs.Neighbours.{destinations_of}
 use Rattle.push_engine.proofs.Walked.{row_done, row_more}
 use Rattle.push_engine.proofs.sources.fold_row.Goals as goal
@@ -10,7 +10,7 @@ rounds-preserved c =
     record {
       room = search rules;
       walked = row_more a.functions a.source n (destinations_of a.source a.flat.now.edges) c.rounds.neighbours (take n c.fill-count.new.block) c.fill-count.new.self a.scratch.now c.rounds.scratch c.fold.new.self
-        c.fill-count.ensures.filled c.fill-count.ensures.rest c.in_ok-fold.ensures c.rounds.invariant.walked;
+          c.fill-count.ensures.filled c.fill-count.ensures.rest c.in_ok-fold.ensures c.rounds.invariant.walked;
     }
 
 pub returns : goal.returns

@@ -1,4 +1,4 @@
-use Rattle.std.proofs.Common.{rules, ◌≡◌, ℕ, ◌<◌, ◌≤◌, ◌++◌, ◌+◌, List, length, get_or, take, ap, arith}
+use Rattle.std.proofs.Common.{rules, ◌<◌, ◌≤◌, ◌++◌, ◌+◌, length, take, ap}
 use Rattle.std.proofs.lemmas.List.{take_all}
 use Rattle.push_engine.specs.Rows.{rows}
 use Rattle.push_engine.proofs.Walked.{folded_along, rows_next}

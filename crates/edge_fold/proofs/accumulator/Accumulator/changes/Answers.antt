@@ -1,4 +1,4 @@
-use Rattle.std.proofs.Common.{rules, ◌≡◌, ℕ, ◌<◌, ◌≤◌, ◌+◌, ◌++◌, ◌⊎◌, inl, ℤ, List, length, get_or, Contains, FitsSigned, to_z, of_z, w64, ap, sym, ◌∙◌, arith}
+use Rattle.std.proofs.Common.{rules, ◌<◌, ◌≤◌, ◌++◌, inl, ℤ, List, length, get_or, FitsSigned, to_z, of_z, w64, ap, sym, ◌∙◌, arith}
 use Rattle.std.proofs.lemmas.Int.{to_z-of_z}
 use Rattle.std.proofs.lemmas.List.Elements.{Contains-get_or}
 use Rattle.vectors.specs.declared.change.Change.{Change}
@@ -48,4 +48,4 @@ returns c up new here there =
     let done = c.kept-test.false in
     c.kept.invariant.found up new here there
     ∙ changed_rest (lane_entry c.args.old) new c.kept.next c.args.vertices c.kept.invariant.inside
-      (λ u a b. there u b (between_kept kept index c.kept.next c.args.vertices u up (c.kept.invariant.passed up) a b (λ l. absurd (omega (arith, done, l)))))
+    (λ u a b. there u b (between_kept kept index c.kept.next c.args.vertices u up (c.kept.invariant.passed up) a b (λ l. absurd (omega (arith, done, l)))))

@@ -1,4 +1,4 @@
-use Rattle.std.proofs.Common.{rules, ◌≡◌, ◌==◌, ℕ, ℤ, ◌∷◌, ◌++◌, [], List, Bool, cond, get_or, pos, ap, ◌∙◌}
+use Rattle.std.proofs.Common.{◌==◌, ℕ, ◌∷◌, ◌++◌, [], Bool, cond, get_or, ap, ◌∙◌}
 use Rattle.edge_fold.proofs.Findings.{ascending_more, below_more, others_more}
 use Rattle.edge_fold.proofs.accumulator.Accumulator.walk.Goals as goal
 

@@ -1,4 +1,4 @@
-use Rattle.std.proofs.Common.{rules, ◌≡◌, ℕ, ◌∷◌, [], ℤ, List, FitsSigned, to_z, of_z, w64, ap, sym, ◌∙◌}
+use Rattle.std.proofs.Common.{rules, ◌∷◌, [], ℤ, List, FitsSigned, to_z, of_z, w64, ap, sym, ◌∙◌}
 use Rattle.std.proofs.lemmas.Int.{to_z-of_z}
 use Rattle.typed_tree.specs.declared.expression.Operator.TheVariants as operator
 use Rattle.algorithm_meaning.specs.Arithmetic.{arithmetic}
@@ -35,6 +35,6 @@ returns-in-EntryPlus c m steps vectors sizes kernel d =
     let plus_fits : FitsSigned w64 plus = search rules in
     let got = to_z-of_z w64 c.get-in-EntryPlus.result got_fits ∙ c.get-in-EntryPlus.ensures ∙ c.lane-in-EntryPlus.ensures s ∙ ap (λ (vs : List (List ℤ)). entry vs y s) vectors in
     let number = to_z-of_z w64 c.arithmetic_of.result fits ∙ c.arithmetic_of.ensures
-        ∙ ap (λ (n : ℤ). arithmetic operator.Add n (to_z w64 (of_z w64 plus))) got
-        ∙ ap (λ (n : ℤ). arithmetic operator.Add (entry m.vectors y s) n) (to_z-of_z w64 plus plus_fits) in
+    ∙ ap (λ (n : ℤ). arithmetic operator.Add n (to_z w64 (of_z w64 plus))) got
+    ∙ ap (λ (n : ℤ). arithmetic operator.Add (entry m.vectors y s) n) (to_z-of_z w64 plus plus_fits) in
     c.in-EntryPlus.ensures steps m c.args.self.sizes.now (s, d) kernel sizes ∙ ap (λ (n : ℤ). (x, r, n) ∷ []) (sym number)

@@ -1,4 +1,4 @@
-use Rattle.std.proofs.Common.{◌≡◌, ℕ, Bool, if◌then◌else◌, ℤ, List, take, refl, sym, ap, ◌∙◌, arith}
+use Rattle.std.proofs.Common.{ℕ, if◌then◌else◌, ℤ, List, take, refl, sym, ap, ◌∙◌, arith}
 use Rattle.std.specs.List.{filter}
 use Rattle.algorithm_meaning.specs.EdgeApply.{after_edges}
 use Rattle.algorithm_meaning.specs.Value.{entry}
@@ -20,4 +20,4 @@ returns-clause-changes c m steps edges test are is has x r by long =
     let folded = λ (v : ℕ). sym (ap (λ (ws : List (ℕ × ℕ)). reduced_at r v (h v) (given_on x g ws)) none) ∙ c.in_ok-flush.ensures.folded m steps edges are has x r own v in
     c.in_ok-changes.ensures.changes m test are.vectors are.sizes is x
     ∙ changed_agree o o (λ v. if test v then h v else o v) (entry (after_edges steps m.sets m.vectors (filter (λ e. test e.1) edges) m.vectors) x)
-      (λ v. refl) 0 n (λ v l. ap (λ (y : ℤ). if test v then y else o v) (folded v) ∙ entries_after r x v m steps test edges by (omega (arith, l, long)))
+    (λ v. refl) 0 n (λ v l. ap (λ (y : ℤ). if test v then y else o v) (folded v) ∙ entries_after r x v m steps test edges by (omega (arith, l, long)))

@@ -1,4 +1,4 @@
-use Rattle.std.proofs.Common.{◌≡◌, ◌∙◌}
+use Rattle.std.proofs.Common.{◌∙◌}
 use Rattle.edge_fold.proofs.scratch.Scratch.flush.Goals as goal
 
 pub returns-clause-folded : goal.returns-clause-folded

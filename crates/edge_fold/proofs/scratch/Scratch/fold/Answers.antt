@@ -1,4 +1,4 @@
-use Rattle.std.proofs.Common.{◌≡◌, ℕ, ◌==◌, if◌then◌else◌, ℤ, List, ap, sym, ◌∙◌}
+use Rattle.std.proofs.Common.{◌==◌, if◌then◌else◌, ℤ, List, ap, sym, ◌∙◌}
 use Rattle.algorithm_meaning.specs.Value.{entry}
 use Rattle.edge_fold.specs.Folded.{waiting}
 use Rattle.edge_fold.specs.Given.{all_given, each_given, given_on, reduced_at, row}
@@ -18,6 +18,6 @@ returns-in-Some c m steps edges are has x r by v =
     let joined = λ (y : ℤ). if sent.vector == x then reduced_at sent.reduction v (held_in (active now.slots) x v y) (each_given sent.number ds) else held_in (active now.slots) x v y in
     let vectors = λ (vs : List (List ℤ)). entry vs x v in
     ap (λ (y : ℤ). reduced_at r v y (given_on x g (waiting now.pairs)))
-      (ap (held_in (active c.join_number.new.self) x v) (ap vectors (sym are.vectors)) ∙ c.in_ok-join_number.ensures x v ∙ ap joined (ap vectors are.vectors)
-      ∙ sent_by_one r sent.reduction x sent.vector source v sent.number h g (c.in-Some.ensures m steps are) (by (source, 0)) ds)
+    (ap (held_in (active c.join_number.new.self) x v) (ap vectors (sym are.vectors)) ∙ c.in_ok-join_number.ensures x v ∙ ap joined (ap vectors are.vectors)
+    ∙ sent_by_one r sent.reduction x sent.vector source v sent.number h g (c.in-Some.ensures m steps are) (by (source, 0)) ds)
     ∙ fold_before r v x h o g (waiting now.pairs) edges (row source ds) (has x r by v)

@@ -1,4 +1,4 @@
-use Rattle.std.proofs.Common.{◌≡◌, ℕ, ◌++◌, ℤ, List, take, drop, ap, sym, ◌∙◌}
+use Rattle.std.proofs.Common.{ℕ, ◌++◌, List, take, drop, ap, ◌∙◌}
 use Rattle.algorithm_meaning.specs.Value.{entry}
 use Rattle.edge_fold.specs.Folded.{waiting}
 use Rattle.edge_fold.specs.Given.{all_given, given_on, reduced_at, row}
@@ -27,9 +27,9 @@ returns c m steps edges are has x r by v =
     let first = row s (take k ds) in
     let h = held_in (active then.slots) x v o in
     let added = λ (y : ℕ) (t : _) (own : _) (u : ℕ).
-        (let n = held_in (active now.slots) y u (entry m.vectors y u) in
-        ap (λ (ws : List (ℕ × ℕ)). reduced_at t u n (given_on y g ws)) (c.add-2.ensures.waiting ∙ ap (λ (es : List ℕ). waiting now.pairs ++ row s es) c.split_at.ensures.front)
-        ∙ fold_more t u y n (entry m.vectors y u) g (waiting now.pairs) edges first (has y t own u)) in
+    (let n = held_in (active now.slots) y u (entry m.vectors y u) in
+    ap (λ (ws : List (ℕ × ℕ)). reduced_at t u n (given_on y g ws)) (c.add-2.ensures.waiting ∙ ap (λ (es : List ℕ). waiting now.pairs ++ row s es) c.split_at.ensures.front)
+    ∙ fold_more t u y n (entry m.vectors y u) g (waiting now.pairs) edges first (has y t own u)) in
     ap (λ (ws : List (ℕ × ℕ)). reduced_at r v h (given_on x g ws)) (c.add-3.ensures.waiting ∙ ap (λ (es : List ℕ). waiting then.pairs ++ row s es) c.split_at.ensures.back)
     ∙ fold_more r v x h o g (waiting then.pairs) (edges ++ first) (row s (drop k ds)) (c.in_ok-flush.ensures.folded m steps (edges ++ first) are added x r by v)
     ∙ ap (λ (es : List (ℕ × ℕ)). reduced_at r v o (given_on x g es)) (row_parts s k ds edges)

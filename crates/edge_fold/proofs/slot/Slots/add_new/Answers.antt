@@ -1,4 +1,4 @@
-use Rattle.std.proofs.Common.{rules, ◌≡◌, ℕ, ◌<◌, ◌≤◌, ◌+◌, length, arith}
+use Rattle.std.proofs.Common.{rules, ◌≤◌, length, arith}
 use Rattle.std.proofs.lemmas.List.{length-take-le}
 use Rattle.edge_fold.specs.Slots.{active}
 use Rattle.edge_fold.proofs.SlotRows.{added_held, added_place, pushed}
@@ -7,15 +7,16 @@ use Rattle.edge_fold.proofs.slot.Slots.add_new.Goals as goal
 pub returns-clause-place : goal.returns-clause-place
 returns-clause-place c =
     let now = c.args.self.now in
-    let inside : now.used ≤ length now.slots.items = search rules in
-    (added_place (active now) _ (record { vector = c.args.vector; entries = c.begin.new.self }) c.args.vector now.used
-        (pushed now.slots.items c.push.new.self.items now.used (record { vector = c.args.vector; entries = c.begin.new.self }) (search rules) c.in_ok-push.ensures.items)
-        (length-take-le now.used now.slots.items inside) (search rules) c.requires.none
-    , omega arith)
+    let inside : now.used ≤ length now.slots.items = search rules in (
+      added_place (active now) _ (record { vector = c.args.vector; entries = c.begin.new.self }) c.args.vector now.used
+          (pushed now.slots.items c.push.new.self.items now.used (record { vector = c.args.vector; entries = c.begin.new.self }) (search rules) c.in_ok-push.ensures.items)
+          (length-take-le now.used now.slots.items inside) (search rules) c.requires.none,
+      omega arith,
+    )
 
 pub returns-clause-held : goal.returns-clause-held
 returns-clause-held c =
     let now = c.args.self.now in
     added_held (active now) _ (record { vector = c.args.vector; entries = c.begin.new.self })
-        (pushed now.slots.items c.push.new.self.items now.used (record { vector = c.args.vector; entries = c.begin.new.self }) (search rules) c.in_ok-push.ensures.items)
-        c.begin.ensures
+    (pushed now.slots.items c.push.new.self.items now.used (record { vector = c.args.vector; entries = c.begin.new.self }) (search rules) c.in_ok-push.ensures.items)
+    c.begin.ensures

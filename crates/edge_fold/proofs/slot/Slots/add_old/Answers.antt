@@ -1,4 +1,4 @@
-use Rattle.std.proofs.Common.{rules, ◌≡◌, ℕ, ◌<◌, ◌+◌, length, arith}
+use Rattle.std.proofs.Common.{rules, ◌<◌, length, arith}
 use Rattle.std.proofs.lemmas.List.{length-take-le, take_more_set}
 use Rattle.edge_fold.specs.Slots.{active}
 use Rattle.edge_fold.proofs.SlotRows.{added_held, added_place}
@@ -7,9 +7,10 @@ use Rattle.edge_fold.proofs.slot.Slots.add_old.Goals as goal
 pub returns-clause-place : goal.returns-clause-place
 returns-clause-place c =
     let now = c.args.self.now in
-    let inside : now.used < length now.slots.items = search rules in
-    (added_place (active now) _ c.begin.new.self c.args.vector now.used (take_more_set now.slots.items now.used c.begin.new.self inside) (length-take-le now.used now.slots.items (search rules)) c.in_ok-begin.ensures.vector c.requires.none
-    , omega arith)
+    let inside : now.used < length now.slots.items = search rules in (
+      added_place (active now) _ c.begin.new.self c.args.vector now.used (take_more_set now.slots.items now.used c.begin.new.self inside) (length-take-le now.used now.slots.items (search rules)) c.in_ok-begin.ensures.vector c.requires.none,
+      omega arith,
+    )
 
 pub returns-clause-held : goal.returns-clause-held
 returns-clause-held c =

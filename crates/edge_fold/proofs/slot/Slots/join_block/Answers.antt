@@ -1,8 +1,7 @@
-use Rattle.std.proofs.Common.{rules, ◌≡◌, ℕ, ◌<◌, ◌+◌, ◌++◌, ℤ, List, length, take, ap, sym, ◌∙◌, subst, arith}
-use Rattle.syntax.specs.declared.statement.Reduction.{Reduction}
+use Rattle.std.proofs.Common.{rules, ℕ, ◌<◌, ◌++◌, ℤ, length, take, ap, sym, ◌∙◌, subst, arith}
 use Rattle.algorithm_meaning.specs.Value.{entry}
 use Rattle.kernels.specs.Columns.{cells_at}
-use Rattle.stack_code.specs.FunctionCode.{given_by, slice_at}
+use Rattle.stack_code.specs.FunctionCode.{given_by}
 use Rattle.kernels.specs.Gifts.{gift_at}
 use Rattle.edge_fold.specs.Given.{IsBy, given_from, reduced_at}
 use Rattle.edge_fold.specs.Slots.{active, held_in}

@@ -12,4 +12,4 @@ abbrev pub invariant-gifts : goal.invariant-gifts
 invariant-gifts l = (x : ℕ) (r : Reduction) → ((i : ℕ) → i < length l.destinations → IsBy r x (given_by l.kernel.gives.items (cells_at l.block.numbers.items i))) → (v : ℕ)
     → held_in (active l.self) x v (entry l.functions.vectors.now.vectors x v)
     ≡ reduced_at r v (held_in (active l.fn.self) x v (entry l.functions.vectors.now.vectors x v))
-        (given_from x (λ i. given_by (take l.place l.kernel.gives.items) (cells_at l.block.numbers.items i)) 0 l.destinations)
+    (given_from x (λ i. given_by (take l.place l.kernel.gives.items) (cells_at l.block.numbers.items i)) 0 l.destinations)

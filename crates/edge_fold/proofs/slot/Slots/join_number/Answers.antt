@@ -1,5 +1,4 @@
-use Rattle.std.proofs.Common.{rules, ◌≡◌, ℕ, ◌<◌, ◌≤◌, ◌==◌, if◌then◌else◌, false, Bool, ℤ, List, length, get_or, FitsSigned, to_z, of_z, w64, refl, ap, sym, ◌∙◌, arith}
-use Rattle.std.proofs.lemmas.Bool.Decides.{nat_tests}
+use Rattle.std.proofs.Common.{rules, ℕ, ◌≤◌, ◌==◌, if◌then◌else◌, Bool, ℤ, length, get_or, FitsSigned, w64, ap, sym, ◌∙◌}
 use Rattle.std.proofs.lemmas.Int.{to_z-of_z}
 use Rattle.algorithm_meaning.specs.Value.{entry}
 use Rattle.vectors.specs.Lanes.{lane_entry}
@@ -26,11 +25,11 @@ returns c x v =
     held_in-change f o sent.vector now.used p now.slots.items (active c.args.self.now) (record { vector = was.vector; entries = c.join_number.new.self }) was at.0 at.1 few
     (ap (λ (s : Slot). s.vector) c.index_mut.ensures.value ∙ first_vector now.slots.items sent.vector now.used p was at.0 at.1 few)
     (λ u.
-        let lane = c.lane-old.ensures u in
-        ap (held c.join_number.new.self u) (sym lane) ∙ c.in_ok-join_number.ensures u
-        ∙ ap (λ (n : ℤ). reduced_at sent.reduction u (held was.entries u (lane_entry c.lane-old.result u)) (each_given n c.args.destinations.now)) (to_z-of_z w64 number fits)
-        ∙ ap (λ (n : ℤ). reduced_at sent.reduction u (held was.entries u n) given) lane
-        ∙ ap (λ (s : Slot). reduced_at sent.reduction u (held s.entries u (o sent.vector u)) given) c.index_mut.ensures.value
-        ∙ sym (ap (λ (b : Bool). if b then reduced_at sent.reduction u (held (get_or now.slots.items p was).entries u (o sent.vector u)) given else held (get_or now.slots.items p was).entries u (o sent.vector u)) (same_test sent.vector)))
+    let lane = c.lane-old.ensures u in
+    ap (held c.join_number.new.self u) (sym lane) ∙ c.in_ok-join_number.ensures u
+    ∙ ap (λ (n : ℤ). reduced_at sent.reduction u (held was.entries u (lane_entry c.lane-old.result u)) (each_given n c.args.destinations.now)) (to_z-of_z w64 number fits)
+    ∙ ap (λ (n : ℤ). reduced_at sent.reduction u (held was.entries u n) given) lane
+    ∙ ap (λ (s : Slot). reduced_at sent.reduction u (held s.entries u (o sent.vector u)) given) c.index_mut.ensures.value
+    ∙ sym (ap (λ (b : Bool). if b then reduced_at sent.reduction u (held (get_or now.slots.items p was).entries u (o sent.vector u)) given else held (get_or now.slots.items p was).entries u (o sent.vector u)) (same_test sent.vector)))
     (λ z u n apart. ap (λ (b : Bool). if b then reduced_at sent.reduction u n given else n) apart)
     x v (c.in_ok-place.ensures.held x v (o x v))
