@@ -1,0 +1,77 @@
+//! The vertices that an apply has changed.
+ghost use Rattle.std.specs.Prelude.{◌≡◌, ℕ, ℤ, List, length, IfOk};
+ghost use Rattle.algorithm_meaning.specs.EdgeApply.{modified};
+ghost use Rattle.algorithm_meaning.specs.Value.{entry};
+ghost use Rattle.edge_fold.specs.Changed.{changed, changes_of};
+ghost use Rattle.vertex_sets.specs.VertexSet.{IsAscendingBelow};
+
+use schedule::DenseVertexSet;
+use std::alloc::{AllocError, Global};
+use vectors::{Change, Changes};
+use vertex_sets::{Form, VertexSet};
+
+/// The vertices of a graph of so many at which an apply has changed a vector: a list where they are few, and else in the
+/// form that the schedule has for dense sets. It takes time in proportion to the changes, and that of a dense form.
+///
+/// The only error is out of memory.
+pub fn apply_modified(
+    alloc: Global,
+    changes: &Changes,
+    vector: usize,
+    vertices: u32,
+    dense: DenseVertexSet,
+) -> Result<VertexSet, AllocError>
+    ensures vertices { IfOk result (λ s. s.vertices ≡ vertices) }
+    ensures members { IfOk result (λ s. (before after : List (List ℤ)) → changes_of vector changes.now.vectors.items ≡ changed vertices (entry before vector) (entry after vector)
+        → s.members ≡ modified vertices vector before after) }
+{
+    let members = changed_vertices(alloc, changes_in(changes, vector), vertices)?;
+    let form = form_for(members.len(), vertices, dense);
+    let set = VertexSet::from_ascending(alloc, vertices, &members, form)?;
+    Ok(set)
+}
+
+/// The changes in a vector.
+fn changes_in(changes: &Changes, vector: usize) -> &[Change]
+    ensures { result.now ≡ changes_of vector changes.now.vectors.items }
+{
+    'vectors: for of_vector in &changes.vectors {
+        if of_vector.vector == vector {
+            return &of_vector.changes;
+        }
+    }
+    &[]
+}
+
+/// Their vertices. One that is no vertex, or does not ascend, is left out.
+fn changed_vertices(
+    alloc: Global,
+    changes: &[Change],
+    vertices: u32,
+) -> Result<Vec<u32>, AllocError>
+    ensures ascending { IfOk result (λ vs. IsAscendingBelow vertices vs.items) }
+    ensures members { IfOk result (λ vs. (before after : List (List ℤ)) (vector : ℕ) → changes.now ≡ changed vertices (entry before vector) (entry after vector)
+        → vs.items ≡ modified vertices vector before after) }
+{
+    let mut members = Vec::new(alloc);
+    let mut next = 0u32;
+    'changes: for change in changes {
+        if change.vertex < next || vertices <= change.vertex {
+            continue;
+        }
+        members.push(change.vertex)?;
+        next = change.vertex + 1;
+    }
+    Ok(members)
+}
+
+/// A list for fewer than one in 16 vertices.
+fn form_for(count: usize, vertices: u32, dense: DenseVertexSet) -> Form {
+    if count < vertices as usize / 16 {
+        return Form::List;
+    }
+    match dense {
+        DenseVertexSet::BoolArray => Form::Flags,
+        DenseVertexSet::Bitvector => Form::Bits,
+    }
+}
