@@ -44,5 +44,13 @@ fn serve(rt: &HostRuntime, words: &[String], session: &mut Session) -> u8 {
     let mut input = Device::new(rt.stdin());
     let mut out = Device::new(rt.stdout());
     let mut err = Device::new(rt.stderr());
-    run(alloc, &words, &Disk(rt), &mut input, &mut out, &mut err, session)
+    run(
+        alloc,
+        &words,
+        &Disk(rt),
+        &mut input,
+        &mut out,
+        &mut err,
+        session,
+    )
 }

@@ -64,7 +64,13 @@ fn run(alloc: Global, bytes: &[u8], room: usize) -> (Result<bool, ScriptError>, 
         is_interrupted: false,
     });
     let mut session = Session::new(alloc);
-    let result = script(alloc, &[], &mut reader, &mut Device::new(&mut writer), &mut session);
+    let result = script(
+        alloc,
+        &[],
+        &mut reader,
+        &mut Device::new(&mut writer),
+        &mut session,
+    );
     (result, writer.bytes)
 }
 

@@ -5,8 +5,8 @@ ghost use Rattle.scripts.specs.Progress.{at_start};
 ghost use Rattle.scripts.specs.Script.{input, taken_by, RunsScript};
 
 use crate::error::ScriptError;
-use crate::session::Session;
 use crate::reply_writer::{BLOCK, ReplyWriter};
+use crate::session::Session;
 use devices::{Drain, Feed};
 use std::alloc::Global;
 use typed_tree::Typed;
@@ -40,14 +40,7 @@ pub fn script<R: Feed, W: Drain>(
         writer,
         kept: &mut kept,
     };
-    let result = read_to_end(
-        alloc,
-        programs,
-        session,
-        &mut block,
-        reader,
-        &mut replies,
-    );
+    let result = read_to_end(alloc, programs, session, &mut block, reader, &mut replies);
     let ReplyWriter { writer, kept: _ } = replies;
     // No effect at run time. The proof reads what the writer holds from this use.
     let _ = &*writer;

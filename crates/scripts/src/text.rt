@@ -6,8 +6,8 @@ ghost use Rattle.scripts.specs.Script.{taken_by};
 ghost use Rattle.scripts.specs.Text.{RunsText};
 
 use crate::error::ScriptError;
-use crate::session::Session;
 use crate::reply_writer::{BLOCK, ReplyWriter};
+use crate::session::Session;
 use devices::Drain;
 use std::alloc::Global;
 use typed_tree::Typed;
