@@ -8,7 +8,8 @@ use devices::Device;
 use driver::{Disk, RequestError, Session, run};
 use std::env;
 use std::io::ErrorKind;
-use std::process::{Abort, ExitCode};
+use std::mem::forget;
+use std::process::ExitCode;
 use std::rt::Env;
 
 fn main(rt: HostRuntime) -> ExitCode {
@@ -22,7 +23,8 @@ fn main(rt: HostRuntime) -> ExitCode {
         }
     };
     // The graph goes with the process: to let go of its nodes one by one takes a quarter of the time of a commit.
-    rt.exit(i32::from(status))
+    forget(session);
+    ExitCode::from(status)
 }
 
 // The words after the program's name.
