@@ -15,7 +15,7 @@ use Rattle.vertex_sets.proofs.Ascending.{contains_first, contains_later, contain
 use Rattle.vectors.specs.declared.change.Change.{Change}
 use Rattle.vectors.specs.declared.change.VectorChanges.{VectorChanges}
 use Rattle.edge_fold.specs.declared.slot.Slot.{Slot}
-use Rattle.edge_fold.specs.Changed.{AreApart, change_at, changed, changed_from, changes_of, changes_or, is_named}
+use Rattle.edge_fold.specs.Changed.{AreApart, change_at, changed, changed_from, changes_or, is_named}
 use Rattle.edge_fold.specs.Held.{held}
 use Rattle.edge_fold.specs.Slots.{held_in}
 use Rattle.edge_fold.proofs.ChangedRows.{nothing_changed}
@@ -59,10 +59,6 @@ pub changes_or-push : (x : ℕ) (cs : List VectorChanges) (c : VectorChanges) (r
     → changes_or x (cs ++ c ∷ []) rest ≡ changes_or x cs (cond (c.vector == x) c.changes.items rest)
 changes_or-push x [] c rest = refl
 changes_or-push x (d ∷ ds) c rest = ap (λ (r : List Change). cond (d.vector == x) d.changes.items r) (changes_or-push x ds c rest)
-
-pub changes_or-nothing : (x : ℕ) (cs : List VectorChanges) → changes_or x cs [] ≡ changes_of x cs
-changes_or-nothing x [] = refl
-changes_or-nothing x (c ∷ cs) = ap (λ (r : List Change). cond (c.vector == x) c.changes.items r) (changes_or-nothing x cs)
 
 -- a vector that is there already
 named_at : (x y : ℕ) (d : VectorChanges) (new rest now was : List Change) (p q : Bool) → (d.vector == y) ≡ p → (d.vector == x) ≡ q → ((p ≡ false) → now ≡ was)

@@ -18,15 +18,14 @@ changed_from old new v (suc n) = change_at old new v ++ changed_from old new (v 
 abbrev pub changed : (n : ℕ) → (old new : ℕ → ℤ) → List Change
 changed n old new = changed_from old new 0 n
 
--- of what an apply changes, that in one vector
-abbrev pub changes_of : (vector : ℕ) → List VectorChanges → List Change
-changes_of x [] = []
-changes_of x (c ∷ cs) = if c.vector == x then c.changes.items else changes_of x cs
-
 -- the changes of a vector, or these where it is not there
 abbrev pub changes_or : (vector : ℕ) → List VectorChanges → List Change → List Change
 changes_or x [] rest = rest
 changes_or x (c ∷ cs) rest = if c.vector == x then c.changes.items else changes_or x cs rest
+
+-- of what an apply changes, that in one vector
+abbrev pub changes_of : (vector : ℕ) → List VectorChanges → List Change
+changes_of x cs = changes_or x cs []
 
 -- whether the vector is there
 abbrev pub is_named : (vector : ℕ) → List VectorChanges → Bool

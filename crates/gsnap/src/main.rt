@@ -22,7 +22,7 @@ fn main(rt: HostRuntime) -> ExitCode {
             error.status()
         }
     };
-    // The graph goes with the process: to let go of its nodes one by one takes a quarter of the time of a commit.
+    // The graph goes with the process: to let go of its nodes one by one takes time, and nobody needs them freed.
     forget(session);
     ExitCode::from(status)
 }

@@ -6,7 +6,7 @@ use Rattle.vectors.specs.declared.change.VectorChanges.{VectorChanges}
 use Rattle.edge_fold.specs.declared.slot.Slot.{Slot}
 use Rattle.edge_fold.specs.Slots.{active}
 use Rattle.edge_fold.specs.Changed.{AreApart, changes_or}
-use Rattle.edge_fold.proofs.Findings.{changes_or-nothing, found_in, found_is, left_after, next_left}
+use Rattle.edge_fold.proofs.Findings.{found_in, found_is, left_after, next_left}
 use Rattle.edge_fold.proofs.found.found_in_slots.Goals as goal
 
 pub slots-init : goal.slots-init
@@ -59,7 +59,6 @@ returns-clause-changes c m test vectors sizes is x =
     let long = length-take-le c.args.slots.now.used c.args.slots.now.slots.items few_then in
     let done = c.slots-test.false in
     let found = c.slots.vectors.items in
-    sym (changes_or-nothing x found)
-    ∙ ap (λ (ss : List Slot). changes_or x found (found_in c.args.functions.vertices (entry m.vectors) test ss x)) (sym (drop_all k all (omega (arith, long, done))))
+    ap (λ (ss : List Slot). changes_or x found (found_in c.args.functions.vertices (entry m.vectors) test ss x)) (sym (drop_all k all (omega (arith, long, done))))
     ∙ c.slots.invariant.found m test vectors sizes is x
     ∙ found_is c.args.functions.vertices (entry m.vectors) test all x
