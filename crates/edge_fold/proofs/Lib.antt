@@ -4,5 +4,7 @@ pub mod Folds
 pub mod Rows
 pub mod SlotRows
 pub mod Edges
+pub mod Columns
 pub mod Findings
 pub mod Meaning
+pub mod Walks

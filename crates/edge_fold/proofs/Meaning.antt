@@ -132,7 +132,7 @@ either_way : (b : Bool) (n : ℤ) → cond b n n ≡ n
 either_way true n = refl
 either_way false n = refl
 
-filtered_edges : (r : Reduction) (x v : ℕ) (n : ℤ) (test : ℕ → Bool) (g : ℕ × ℕ → List (ℕ × Reduction × ℤ)) (es : List (ℕ × ℕ))
+pub filtered_edges : (r : Reduction) (x v : ℕ) (n : ℤ) (test : ℕ → Bool) (g : ℕ × ℕ → List (ℕ × Reduction × ℤ)) (es : List (ℕ × ℕ))
     → reduced_at r v n (given_on x g (filter (λ e. test e.1) es)) ≡ cond (test v) (reduced_at r v n (given_on x g es)) n
 filtered_edges r x v n test g [] = sym (either_way (test v) n)
 filtered_edges r x v n test g (e ∷ es) = filtered_edge r x v n test g e es (test e.1) (e.1 == v) refl refl (λ k. filtered_edges r x v k test g es)

@@ -35,6 +35,10 @@ each_given n (d ∷ ds) = (d, n) ∷ each_given n ds
 abbrev pub row : ℕ → List ℕ → List (ℕ × ℕ)
 row source destinations = map (λ d. (source, d)) destinations
 
+-- the edges from these sources to a destination
+abbrev pub column : ℕ → List ℕ → List (ℕ × ℕ)
+column destination sources = map (λ s. (s, destination)) sources
+
 -- what several functions give on an edge, over the vectors of a state
 abbrev pub all_given : StateValue → List StepsTree → ℕ × ℕ → List (ℕ × Reduction × ℤ)
 all_given m [] edge = []

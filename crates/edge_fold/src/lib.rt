@@ -2,7 +2,8 @@
 //!
 //! A run keeps one [`Scratch`] and lends it to each apply. [`Scratch::begin`] forgets the apply before, in constant
 //! time. An engine then lends it edges in any order: [`Scratch::fold`] takes a source with up to 128 of its
-//! destinations. [`Scratch::changes`] says at the end what has changed, for each vector once, by ascending vertices.
+//! destinations, and [`Scratch::fold_into`] a destination with up to 128 of its sources. [`Scratch::changes`] says at the
+//! end what has changed, for each vector once, by ascending vertices.
 //!
 //! `HasFolded` (`specs/Folded.antt`) says which edges a scratch has folded: for each vector to which the functions give
 //! by one reduction, the new entries, reduced with what the edges that still wait give, are the old entries reduced with
@@ -17,7 +18,8 @@
 //! and 4 for each vertex that was given something.
 //!
 //! What depends on the source alone, as an entry of the source with a constant added, is worked out once for a source and
-//! joined to its destinations in one loop. Other edges wait until they are 128, and the kernels of one or two functions
+//! joined to its destinations in one loop. Where it comes from several sources to one destination, it is first reduced to
+//! one number, with no store, and joined once. Other edges wait until they are 128, and the kernels of one or two functions
 //! run over them as a block. The numbers that they give are joined column by column and not edge by edge, which the
 //! laws of reductions allow.
 //!
@@ -29,7 +31,9 @@ mod accumulator;
 mod changes;
 mod found;
 mod functions;
+mod into;
 mod joins;
+mod numbers;
 mod pairs;
 mod passing;
 mod run;
@@ -37,6 +41,7 @@ mod scratch;
 mod sent;
 mod slot;
 mod slots;
+mod together;
 
 pub use functions::Functions;
 pub use scratch::Scratch;

@@ -12,7 +12,7 @@ pub(crate) struct Pairs {
 
 impl Pairs {
     ghost use Rattle.edge_fold.specs.Folded.{waiting};
-    ghost use Rattle.edge_fold.specs.Given.{row};
+    ghost use Rattle.edge_fold.specs.Given.{column, row};
 
     /// None.
     pub(crate) fn new() -> Pairs
@@ -41,6 +41,18 @@ impl Pairs {
         let end = self.count + destinations.len();
         self.sources[self.count..end].fill(source);
         self.destinations[self.count..end].copy_from_slice(destinations);
+        self.count = end;
+    }
+
+    /// Adds the edges from sources to a destination.
+    pub(crate) fn add_into(&mut self, sources: &[u32], destination: u32)
+        requires { self.old.count + length sources.now ≤ 128 }
+        ensures waiting { waiting self.new ≡ waiting self.old ++ column destination sources.now }
+        ensures count { self.new.count ≡ self.old.count + length sources.now }
+    {
+        let end = self.count + sources.len();
+        self.sources[self.count..end].copy_from_slice(sources);
+        self.destinations[self.count..end].fill(destination);
         self.count = end;
     }
 }

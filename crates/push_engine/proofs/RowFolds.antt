@@ -9,7 +9,7 @@ use Rattle.edge_fold.specs.Given.{for_vector, given_on, reduced_at, row}
 use Rattle.edge_fold.proofs.Folds.{given_on-append, reduced_at-append, reduced_at-swap}
 use Rattle.tree_batch.specs.Neighbours.{destinations_of}
 use Rattle.vertex_sets.proofs.Ascending.{Rises}
-use Rattle.push_engine.specs.Between.{edges_between}
+use Rattle.edge_fold.specs.Between.{edges_between}
 use Rattle.push_engine.specs.Rows.{rows}
 
 same : (m n : ℕ) → (m == n) ≡ true → m ≡ n

@@ -11,7 +11,7 @@ ghost use Rattle.stack_code.specs.Cells.{HasSizes};
 ghost use Rattle.edge_fold.specs.Changed.{AreApart, changed, changes_of};
 ghost use Rattle.edge_fold.specs.Ends.{IsEndTest, IsTest};
 ghost use Rattle.edge_fold.specs.Folded.{AreFunctions, AreKernels, HasFolded};
-ghost use Rattle.push_engine.specs.Between.{edges_between};
+ghost use Rattle.edge_fold.specs.Between.{edges_between};
 
 use crate::sources::{fold_all, fold_members, fold_passing};
 use edge_fold::{Functions, Scratch};

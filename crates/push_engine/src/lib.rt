@@ -13,7 +13,9 @@
 
 mod apply;
 mod modified;
+mod parts;
 mod sources;
 
 pub use apply::push;
 pub use modified::apply_modified;
+pub use parts::take_part;

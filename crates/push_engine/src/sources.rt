@@ -1,5 +1,5 @@
 //! Going over the sources of an apply.
-ghost use Rattle.std.specs.Prelude.{◌≡◌, ℕ, ◌+◌, ◌++◌, Bool, true, List, [], length, vec_len, OnOk};
+ghost use Rattle.std.specs.Prelude.{◌≡◌, ℕ, ◌++◌, Bool, true, List, [], length, OnOk};
 ghost use Rattle.std.specs.List.{filter};
 ghost use Rattle.typed_tree.specs.StepTree.{StepsTree};
 ghost use Rattle.algorithm_meaning.specs.EdgeApply.{is_member};
@@ -8,11 +8,11 @@ ghost use Rattle.edge_fold.specs.Ends.{IsTest};
 ghost use Rattle.edge_fold.specs.Folded.{AreFunctions, HasFolded};
 ghost use Rattle.edge_fold.specs.Given.{row};
 ghost use Rattle.tree_batch.specs.Neighbours.{destinations_of};
-ghost use Rattle.push_engine.specs.Between.{firsts};
 ghost use Rattle.push_engine.specs.Rows.{rows};
 
+use crate::parts::take_part;
 use edge_fold::{Functions, Scratch};
-use flat_snapshot::{Degrees, Flat};
+use flat_snapshot::Flat;
 use kernels::End;
 use std::alloc::{AllocError, Global};
 use vertex_sets::VertexSet;
@@ -71,7 +71,7 @@ pub(crate) fn fold_passing(
     let mut part = Vec::new(alloc);
     let mut kept = Vec::new(alloc);
     'parts: loop {
-        take_sources(&mut sources, &mut part)?;
+        take_part(&mut sources, &mut part)?;
         if part.is_empty() {
             return Ok(());
         }
@@ -79,22 +79,6 @@ pub(crate) fn fold_passing(
         scratch.keep_passing(functions, from, &part, &mut kept)?;
         fold_rows(alloc, flat, functions, &kept, block, scratch)?;
     }
-}
-
-/// Takes the next sources, at most 128, and none where none is left.
-fn take_sources(sources: &mut Degrees<'_>, part: &mut Vec<u32>) -> Result<(), AllocError>
-    ensures taken { OnOk result (part.new.items ++ firsts sources.new ≡ firsts sources.old) }
-    ensures none { OnOk result (part.new.items ≡ [] → sources.new ≡ []) }
-    ensures fewer { OnOk result (length sources.new + vec_len part.new ≡ length sources.old) }
-{
-    part.clear();
-    'places: for _place in 0..128usize {
-        let Some((source, _)) = sources.next() else {
-            return Ok(());
-        };
-        part.push(source)?;
-    }
-    Ok(())
 }
 
 /// Folds the edges from these sources.

@@ -1,25 +1,43 @@
-use Rattle.std.proofs.Common.{rules, ap}
-use Rattle.push_engine.specs.Between.{firsts}
-use Rattle.push_engine.proofs.Walked.{sources_agree, sources_rise, walk_done, walk_more}
+use Rattle.std.proofs.Common.{rules, ℕ, List, [], ◌∷◌, ap, refl, subst, sym}
+use Rattle.edge_fold.specs.Between.{firsts}
+use Rattle.edge_fold.proofs.Walks.{HasWalked, walk_begun, walk_more}
+use Rattle.tree_batch.specs.Neighbours.{destinations_of}
+use Rattle.push_engine.specs.Rows.{rows}
+use Rattle.push_engine.proofs.RowFolds.{rows-append}
+use Rattle.push_engine.proofs.Walked.{degrees_rise, one_source, sources_agree, walked_all}
 use Rattle.push_engine.proofs.sources.fold_all.Goals as goal
+
+pub sources-init : goal.sources-init
+sources-init c =
+    let a = c.args in
+    let edges = a.flat.now.edges in
+    let ds = c.sources-source-items.result in
+    record {
+      room = search rules;
+      walked = (ds, c.sources-source-items.ensures.degrees, subst (λ (is : List (ℕ × ℕ)). HasWalked a.functions (rows edges) (firsts ds) (firsts is) a.scratch.now a.scratch.now) (sym c.into_iter-source-iterator.ensures.into_iter_gives) (walk_begun a.functions (rows edges) (firsts ds) a.scratch.now refl));
+    }
 
 pub sources-preserved : goal.sources-preserved
 sources-preserved c =
     let a = c.args in
+    let edges = a.flat.now.edges in
     let w = c.sources.invariant.walked in
+    let u = c.in-Some.source in
+    let then = c.fold_row.new.scratch in
     record {
       room = search rules;
       walked = (
         w.0,
         w.1,
-        walk_more a.functions a.flat.now.edges (firsts w.0) (firsts c.sources.source-iterator) (firsts c.next.new.self) c.in-Some.source a.scratch.now c.sources.scratch c.fold_row.new.scratch
-            (ap firsts c.in-Some.ensures.steps) c.in_ok-fold_row.ensures w.2,
+        walk_more a.functions (rows edges) (firsts w.0) (firsts c.sources.source-iterator) (u ∷ []) (firsts c.next.new.self) a.scratch.now c.sources.scratch then
+            (rows-append edges) (sym (ap firsts c.in-Some.ensures.steps)) (one_source a.functions edges u c.sources.scratch then c.in_ok-fold_row.ensures) w.2,
       );
     }
 
 pub returns : goal.returns
 returns c m steps from are is =
     let a = c.args in
+    let edges = a.flat.now.edges in
     let w = c.sources.invariant.walked in
-    walk_done a.functions a.flat.now.edges (firsts w.0) (firsts c.sources.source-iterator) a.scratch.now c.sources.scratch from (ap firsts c.in-None.ensures.steps.0)
-    (sources_rise a.flat.now.edges w.0 w.1) (sources_agree a.flat.now.edges w.0 from w.1 is) w.2 m steps are
+    walked_all a.functions edges (firsts w.0) (firsts c.sources.source-iterator) a.scratch.now c.sources.scratch from (ap firsts c.in-None.ensures.steps.0)
+    (degrees_rise (λ u. destinations_of u edges) w.0 w.1) (sources_agree edges w.0 from w.1 is) w.2 m steps are

@@ -1,8 +1,10 @@
 use Rattle.std.proofs.Common.{rules, ◌≡◌, ℕ, ◌++◌, [], ◌∷◌, List, length, refl, ap, sym, ◌∙◌, arith}
 use Rattle.std.specs.List.{filter}
-use Rattle.push_engine.specs.Between.{firsts}
+use Rattle.edge_fold.specs.Between.{firsts}
 use Rattle.push_engine.specs.Rows.{rows}
-use Rattle.push_engine.proofs.Walked.{folded_along, pass_done, pass_more}
+use Rattle.edge_fold.proofs.Walks.{folded_along, pass_more}
+use Rattle.push_engine.proofs.RowFolds.{rows-append}
+use Rattle.push_engine.proofs.Walked.{passed_all}
 use Rattle.push_engine.proofs.sources.fold_passing.Goals as goal
 
 empty : (xs : List ℕ) → length xs ≡ 0 → xs ≡ []
@@ -13,11 +15,11 @@ pub returns-then-is_empty : goal.returns-then-is_empty
 returns-then-is_empty c =
     let a = c.args in
     let w = c.parts.invariant.walked in
-    let taken = c.in_ok-take_sources.ensures in
-    let few : length c.take_sources.new.part.items ≡ 0 = search rules in
-    let part_none = empty c.take_sources.new.part.items few in
-    let none = sym taken.taken ∙ ap (λ ks. ks ++ firsts c.take_sources.new.sources) part_none ∙ ap firsts (taken.none part_none) in
-    pass_done a.from a.functions a.flat.now.edges w.0 (firsts c.parts.sources) a.scratch.now c.parts.scratch none w.1 w.2
+    let taken = c.in_ok-take_part.ensures in
+    let few : length c.take_part.new.part.items ≡ 0 = search rules in
+    let part_none = empty c.take_part.new.part.items few in
+    let none = sym taken.taken ∙ ap (λ ks. ks ++ firsts c.take_part.new.vertices) part_none ∙ ap firsts (taken.none part_none) in
+    passed_all a.from a.functions a.flat.now.edges w.0 (firsts c.parts.sources) a.scratch.now c.parts.scratch none w.1 w.2
 
 pub parts-preserved : goal.parts-preserved
 parts-preserved c =
@@ -30,8 +32,8 @@ parts-preserved c =
       walked = (
         w.0,
         w.1,
-        pass_more a.from a.functions edges (firsts w.0) (firsts c.parts.sources) c.take_sources.new.part.items (firsts c.take_sources.new.sources) kept a.scratch.now c.parts.scratch c.fold_rows.new.scratch
-            c.in_ok-take_sources.ensures.taken
+        pass_more a.from a.functions (rows edges) (firsts w.0) (firsts c.parts.sources) c.take_part.new.part.items (firsts c.take_part.new.vertices) kept a.scratch.now c.parts.scratch c.fold_rows.new.scratch (rows-append edges)
+            c.in_ok-take_part.ensures.taken
             (λ m steps test are is. c.in_ok-keep_passing.ensures.kept m test are.vectors are.sizes is ∙ ap (λ (ks : List ℕ). ks ++ filter test c.deref.result.now) c.clear.ensures.items ∙ ap (filter test) c.deref.ensures.value)
             (λ m steps es are has. folded_along m steps (es ++ rows edges c.deref-in-parts.result.now) (es ++ rows edges kept) c.fold_rows.new.scratch (ap (λ (ks : List ℕ). es ++ rows edges ks) c.deref-in-parts.ensures.value)
             (c.in_ok-fold_rows.ensures m steps es are (c.in_ok-keep_passing.ensures.folded m steps es has)))
