@@ -1,10 +1,9 @@
 -- Runs that reach a limit.
-use Rattle.std.proofs.Common.{◌≡◌, ◌≢◌, ℕ, zero, suc, ◌+◌, ◌-◌, ◌<◌, ◌≤◌, ◌==◌, nat_le, Bool, true, false, cond, List, [], ◌∷◌, ◌++◌, length, take, drop, get_or, slice_range, refl, sym, ap, ◌∙◌, subst, arith, length-drop}
+use Rattle.std.proofs.Common.{◌≡◌, ℕ, zero, suc, ◌+◌, ◌-◌, ◌<◌, ◌≤◌, ◌==◌, nat_le, Bool, true, false, cond, List, [], ◌∷◌, length, take, drop, get_or, slice_range, refl, sym, ap, ◌∙◌, subst, arith, length-drop}
 use Rattle.std.proofs.lemmas.Bool.Decides.{nat_tests}
-use Rattle.std.proofs.lemmas.List.{drop-take, take-append-drop, take-take, take_more, get_or-drop, drop-drop}
+use Rattle.std.proofs.lemmas.List.{drop-take, take-append-drop, take-take, get_or-drop, drop-drop}
 use Rattle.std.proofs.lemmas.List.Sums.{sum_by-append, sum_by-cons, sum_by_more}
-use Rattle.std.specs.List.{sum_by}
-use Rattle.piece_cuts.specs.Limits.{EachEndsAtLimit, EndsAtLimit, limited_ends, weight}
+use Rattle.piece_cuts.specs.Limits.{EachEndsAtLimit, limited_ends, weight}
 use Rattle.piece_cuts.specs.Pieces.{AreEnds}
 
 -- where the runs end
@@ -76,11 +75,13 @@ some_are_between xs s p low some = grind (arith, weight_none)
 last_at_limit : (limit s r p : ℕ) (all : List ℕ) (b : Bool) → (r == 0) ≡ b → p ≡ length all → HasReached limit s r p all → EachEndsAtLimit limit s (cond b [] (p ∷ [])) all
 last_at_limit limit s r p all true none whole has = tt
 last_at_limit limit s r p all false some whole has =
-    let positive : 0 < weight (slice_range all s p) = (let e : 0 < r = grind (arith, nat_tests) in let f = has.reached in omega (arith, e, f)) in
-    (record {
-      reaches = λ other. absurd (other whole);
-      first = before_last limit s p all (some_are_between all s p has.low positive) (omega (arith, whole)) (let e = has.reached in let f = has.below in omega (arith, e, f));
-    }, tt)
+    let positive : 0 < weight (slice_range all s p) = (let e : 0 < r = grind (arith, nat_tests) in let f = has.reached in omega (arith, e, f)) in (
+      record {
+        reaches = λ other. absurd (other whole);
+        first = before_last limit s p all (some_are_between all s p has.low positive) (omega (arith, whole)) (let e = has.reached in let f = has.below in omega (arith, e, f));
+      },
+      tt,
+    )
 
 -- one vertex more
 next_at_limit : (limit s r p d : ℕ) (all ds : List ℕ) (b : Bool) → nat_le limit (r + (d + 1)) ≡ b → p < length all → get_or all p 0 ≡ d → HasReached limit s r p all
@@ -91,11 +92,13 @@ next_at_limit limit s r p d all ds true reached inside at has more =
     let h = has.reached in
     let limit_reached : limit ≤ r + (d + 1) = grind (arith, nat_tests) in
     let e : p + 1 - 1 ≡ p = omega arith in
-    let z = weight_none all (p + 1) in
-    (record {
-      reaches = λ other. omega (arith, m, h, limit_reached, at);
-      first = subst (λ k. weight (slice_range all s k) < limit) (sym e) (let b = has.below in omega (arith, b, h));
-    }, more (p + 1) 0 (record { low = omega arith; reached = sym z; below = (let b = has.below in omega (arith, b)) }))
+    let z = weight_none all (p + 1) in (
+      record {
+        reaches = λ other. omega (arith, m, h, limit_reached, at);
+        first = subst (λ k. weight (slice_range all s k) < limit) (sym e) (let b = has.below in omega (arith, b, h));
+      },
+      more (p + 1) 0 (record { low = omega arith; reached = sym z; below = (let b = has.below in omega (arith, b)) }),
+    )
 next_at_limit limit s r p d all ds false not_reached inside at has more =
     let m = weight_more all s p has.low inside in
     let h = has.reached in

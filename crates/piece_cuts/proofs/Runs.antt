@@ -1,12 +1,12 @@
 -- Runs of as many vertices each.
-use Rattle.std.proofs.Common.{◌≡◌, ℕ, zero, suc, ◌+◌, ◌-◌, ◌*◌, ◌/◌, ◌%◌, ◌<◌, ◌≤◌, ◌==◌, min, Bool, true, false, cond, List, [], ◌∷◌, ◌++◌, length, replicate, refl, sym, ap, ◌∙◌, subst, arith, length-append}
+use Rattle.std.proofs.Common.{◌≡◌, ℕ, zero, suc, ◌+◌, ◌-◌, ◌*◌, ◌/◌, ◌%◌, ◌<◌, ◌≤◌, ◌==◌, min, Bool, true, false, cond, List, [], ◌∷◌, ◌++◌, length, replicate, refl, sym, ap, ◌∙◌, subst, arith, append_assoc, length-append}
 use Rattle.std.proofs.Math.Nat.{suc-mul, add-mul, mul-add, mul-one, one-mul, zero-mul, zero-div, zero-mod, mul_comm}
 use Rattle.std.proofs.lemmas.Grind.{replicate_next, div_ceil_times}
 use Rattle.std.proofs.lemmas.List.{append-nil, length-replicate}
 use Rattle.std.proofs.lemmas.Nat.{div-add-mod', mod_below, le-div}
 use Rattle.std.proofs.lemmas.Bool.Decides.{nat_tests}
 use Rattle.std.specs.Int.{div_ceil}
-use Rattle.piece_cuts.specs.Ends.{dynamic_ends, ends_from, rest_of, serial_ends, static_ends}
+use Rattle.piece_cuts.specs.Ends.{dynamic_ends, ends_from, rest_of, static_ends}
 use Rattle.piece_cuts.specs.Pieces.{AreEnds}
 
 -- a run before others
@@ -64,7 +64,7 @@ shared_are_ends p c some few =
     let below : a < p = mod_below c p some in
     let whole : middle + (p - a) * r ≡ c = two_lengths p a r c (omega (arith, below)) (div-add-mod' c p) in
     let second : AreEnds middle c (ends_from middle (replicate (p - a) r)) =
-        subst (AreEnds middle c) (append-nil (ends_from middle (replicate (p - a) r))) (runs_are_ends middle (p - a) r c [] (some_each p c some few) whole) in
+    subst (AreEnds middle c) (append-nil (ends_from middle (replicate (p - a) r))) (runs_are_ends middle (p - a) r c [] (some_each p c some few) whole) in
     subst (AreEnds 0 c) (sym (ends_of_runs-append 0 a (r + 1) (replicate (p - a) r)))
     (runs_are_ends 0 a (r + 1) c (ends_from middle (replicate (p - a) r)) (omega arith) second)
 
@@ -142,3 +142,37 @@ pub dynamic_are_ends : (w c : ℕ) → 0 < w → AreEnds 0 c (dynamic_ends w c)
 dynamic_are_ends w zero some = subst (AreEnds 0 0) (sym (dynamic_none w)) refl
 dynamic_are_ends w (suc c) some =
     subst (AreEnds 0 (suc c)) (sym (dynamic_is w (suc c))) (equal_are_ends (div_ceil (suc c) (4 * w)) (suc c) (part_is_some (suc c) (4 * w) (omega arith) (omega (arith, some))))
+
+-- the same in parts, behind others
+parts_behind : (before first second both part after : List ℕ) → part ≡ before ++ first → after ≡ part ++ second → first ++ second ≡ both → after ≡ before ++ both
+parts_behind before first second both part after d e f = e ∙ ap (λ es. es ++ second) d ∙ append_assoc before first second ∙ ap (λ es. before ++ es) f
+
+shared_is : (p c : ℕ) → ends_from 0 (replicate (c % p) (c / p + 1) ++ replicate (p - c % p) (c / p)) ≡ shared_ends p c
+unfolding shared_ends
+shared_is p c = refl
+
+pub static_in_parts : (w c p middle : ℕ) (before part after : List ℕ) → p ≡ min w c → middle ≡ 0 + c % p * (c / p + 1)
+    → part ≡ before ++ ends_from 0 (replicate (c % p) (c / p + 1)) → after ≡ part ++ ends_from middle (replicate (p - c % p) (c / p)) → after ≡ before ++ static_ends w c
+static_in_parts w c p middle before part after least at d e =
+    let a = c % p in
+    let r = c / p in
+    parts_behind before (ends_from 0 (replicate a (r + 1))) (ends_from middle (replicate (p - a) r)) (static_ends w c) part after d e
+    (ap (λ k. ends_from 0 (replicate a (r + 1)) ++ ends_from k (replicate (p - a) r)) at
+    ∙ sym (ends_of_runs-append 0 a (r + 1) (replicate (p - a) r))
+    ∙ shared_is p c
+    ∙ ap (λ k. shared_ends k c) least
+    ∙ sym (static_is w c))
+
+equal_is : (r c : ℕ) → ends_from 0 (replicate (c / r) r ++ rest_of (c % r)) ≡ equal_ends r c
+unfolding equal_ends
+equal_is r c = refl
+
+pub dynamic_in_parts : (w c r last : ℕ) (before part after : List ℕ) → r ≡ div_ceil c (4 * w) → last ≡ 0 + c / r * r
+    → part ≡ before ++ ends_from 0 (replicate (c / r) r) → after ≡ part ++ ends_from last (rest_of (c % r)) → after ≡ before ++ dynamic_ends w c
+dynamic_in_parts w c r last before part after run at d e =
+    parts_behind before (ends_from 0 (replicate (c / r) r)) (ends_from last (rest_of (c % r))) (dynamic_ends w c) part after d e
+    (ap (λ k. ends_from 0 (replicate (c / r) r) ++ ends_from k (rest_of (c % r))) at
+    ∙ sym (ends_of_runs-append 0 (c / r) r (rest_of (c % r)))
+    ∙ equal_is r c
+    ∙ ap (λ k. equal_ends k c) run
+    ∙ sym (dynamic_is w c))

@@ -1,5 +1,5 @@
 -- Pieces of vertices that have with their edges about as much as one another.
-use Rattle.std.specs.Prelude.{◌≡◌, ◌≢◌, ℕ, ◌+◌, ◌-◌, ◌<◌, ◌≤◌, ◌==◌, nat_le, if◌then◌else◌, List, [], ◌∷◌, length, slice_range}
+use Rattle.std.specs.Prelude.{◌≢◌, ℕ, ◌+◌, ◌-◌, ◌<◌, ◌≤◌, ◌==◌, nat_le, if◌then◌else◌, List, [], ◌∷◌, length, slice_range}
 use Rattle.std.specs.List.{sum_by}
 
 -- how many vertices of these degrees and edges of theirs there are

@@ -38,17 +38,16 @@ impl Cuts {
         degrees: &[u32],
     ) -> Result<Cuts, AllocError>
         requires workers { (1 ≤ workers) × (workers ≤ 64) }
-        requires few { length degrees.now < 2 ^ 32 }
+        requires few { count < 2 ^ 32 }
         requires degrees { parallelization ≡ EdgeAwareDynamicVertex → length degrees.now ≡ count }
         ensures ends { IfOk result (λ c. c ≡ ends_by parallelization workers count degrees.now) }
         ensures whole { IfOk result (λ c. AreEnds 0 count c) }
     {
-        match parallelization {
-            Parallelization::Serial => Cuts::serial(alloc, count),
-            Parallelization::StaticVertex => Cuts::fixed(alloc, workers, count),
-            Parallelization::DynamicVertex => Cuts::dynamic(alloc, workers, count),
-            Parallelization::EdgeAwareDynamicVertex => Cuts::edge_aware(alloc, workers, degrees),
+        let mut ends = Vec::new(alloc);
+        if count > 0 {
+            push_ends(&mut ends, parallelization, workers, count, degrees)?;
         }
+        Ok(Cuts { ends })
     }
 
     /// How many pieces there are.
@@ -65,58 +64,74 @@ impl Cuts {
         ensures start { result.start ≡ end_of self.now (number - 1) }
         ensures end { result.end ≡ end_of self.now number }
     {
-        let start = if number == 1 { 0 } else { self.ends[number - 2] };
+        let start = if number == 1 {
+            0
+        } else {
+            self.ends[number - 2]
+        };
         start..self.ends[number - 1]
     }
+}
 
-    fn serial(alloc: Global, count: usize) -> Result<Cuts, AllocError>
-        ensures { IfOk result (λ c. c ≡ serial_ends count) }
-    {
-        let mut ends = Vec::new(alloc);
-        push_rest(&mut ends, 0, count)?;
-        Ok(Cuts { ends })
+/// Adds the ends of the pieces of so many vertices.
+fn push_ends(
+    ends: &mut Vec<usize>,
+    parallelization: Parallelization,
+    workers: usize,
+    count: usize,
+    degrees: &[u32],
+) -> Result<(), AllocError>
+    requires workers { (1 ≤ workers) × (workers ≤ 64) }
+    requires some { 0 < count }
+    requires few { count < 2 ^ 32 }
+    requires degrees { parallelization ≡ EdgeAwareDynamicVertex → length degrees.now ≡ count }
+    ensures { OnOk result (ends.new.items ≡ ends.old.items ++ ends_by parallelization workers count degrees.now) }
+{
+    match parallelization {
+        Parallelization::Serial => push_rest(ends, 0, count),
+        Parallelization::StaticVertex => push_static(ends, workers, count),
+        Parallelization::DynamicVertex => push_dynamic(ends, workers, count),
+        Parallelization::EdgeAwareDynamicVertex => push_edge_aware(ends, workers, degrees),
     }
+}
 
-    fn fixed(alloc: Global, workers: usize, count: usize) -> Result<Cuts, AllocError>
-        requires { 0 < workers }
-        ensures { IfOk result (λ c. c ≡ static_ends workers count) }
-    {
-        let mut ends = Vec::new(alloc);
-        if count == 0 {
-            return Ok(Cuts { ends });
-        }
-        let pieces = workers.min(count);
-        let longer = count % pieces;
-        let run = count / pieces;
-        let middle = push_runs(&mut ends, 0, longer, run + 1)?;
-        push_runs(&mut ends, middle, pieces - longer, run)?;
-        Ok(Cuts { ends })
-    }
+/// Those of a piece for each worker.
+fn push_static(ends: &mut Vec<usize>, workers: usize, count: usize) -> Result<(), AllocError>
+    requires workers { 0 < workers }
+    requires some { 0 < count }
+    requires few { count < 2 ^ 32 }
+    ensures { OnOk result (ends.new.items ≡ ends.old.items ++ static_ends workers count) }
+{
+    let pieces = workers.min(count);
+    let longer = count % pieces;
+    let run = count / pieces;
+    let middle = push_runs(ends, 0, longer, run + 1)?;
+    push_runs(ends, middle, pieces - longer, run)?;
+    Ok(())
+}
 
-    fn dynamic(alloc: Global, workers: usize, count: usize) -> Result<Cuts, AllocError>
-        requires { (0 < workers) × (workers ≤ 64) }
-        ensures { IfOk result (λ c. c ≡ dynamic_ends workers count) }
-    {
-        let mut ends = Vec::new(alloc);
-        if count == 0 {
-            return Ok(Cuts { ends });
-        }
-        let run = count.div_ceil(4 * workers);
-        let last = push_runs(&mut ends, 0, count / run, run)?;
-        push_rest(&mut ends, last, count % run)?;
-        Ok(Cuts { ends })
-    }
+/// Those of four pieces for each worker.
+fn push_dynamic(ends: &mut Vec<usize>, workers: usize, count: usize) -> Result<(), AllocError>
+    requires workers { (1 ≤ workers) × (workers ≤ 64) }
+    requires some { 0 < count }
+    requires few { count < 2 ^ 32 }
+    ensures { OnOk result (ends.new.items ≡ ends.old.items ++ dynamic_ends workers count) }
+{
+    let run = count.div_ceil(4 * workers);
+    let last = push_runs(ends, 0, count / run, run)?;
+    push_rest(ends, last, count % run)?;
+    Ok(())
+}
 
-    fn edge_aware(alloc: Global, workers: usize, degrees: &[u32]) -> Result<Cuts, AllocError>
-        requires workers { (0 < workers) × (workers ≤ 64) }
-        requires few { length degrees.now < 2 ^ 32 }
-        ensures { IfOk result (λ c. c ≡ edge_aware_ends workers degrees.now) }
-    {
-        let limit = weight_of(degrees).div_ceil(4 * workers);
-        let mut ends = Vec::new(alloc);
-        push_limited(&mut ends, limit, degrees)?;
-        Ok(Cuts { ends })
-    }
+/// Those of four pieces for each worker, by vertices and edges.
+fn push_edge_aware(ends: &mut Vec<usize>, workers: usize, degrees: &[u32]) -> Result<(), AllocError>
+    requires workers { (1 ≤ workers) × (workers ≤ 64) }
+    requires few { length degrees.now < 2 ^ 32 }
+    ensures { OnOk result (ends.new.items ≡ ends.old.items ++ edge_aware_ends workers degrees.now) }
+{
+    let limit = weight_of(degrees).div_ceil(4 * workers);
+    push_limited(ends, limit, degrees)?;
+    Ok(())
 }
 
 /// Adds the ends of so many runs that have so many vertices each, and gives the last one.

@@ -1,4 +1,4 @@
-use Rattle.std.proofs.Common.{◌≡◌, ℕ, ◌≤◌, ◌++◌, drop}
+use Rattle.std.proofs.Common.{◌≡◌, ◌≤◌, ◌++◌, drop}
 use Rattle.piece_cuts.specs.Limits.{limited_ends}
 use Rattle.piece_cuts.proofs.cuts.push_limited.Given as goal
 

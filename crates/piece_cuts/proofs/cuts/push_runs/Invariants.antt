@@ -1,4 +1,4 @@
-use Rattle.std.proofs.Common.{◌≡◌, ℕ, ◌+◌, ◌*◌, ◌++◌, replicate}
+use Rattle.std.proofs.Common.{◌≡◌, ◌+◌, ◌*◌, ◌++◌, replicate}
 use Rattle.piece_cuts.specs.Ends.{ends_from}
 use Rattle.piece_cuts.proofs.cuts.push_runs.Given as goal
 

@@ -1,4 +1,4 @@
-use Rattle.std.proofs.Common.{◌≡◌, ℕ, ◌*◌, ◌^◌, ◌≤◌, take}
+use Rattle.std.proofs.Common.{◌≡◌, ◌*◌, ◌^◌, ◌≤◌, take}
 use Rattle.piece_cuts.specs.Limits.{weight}
 use Rattle.piece_cuts.proofs.cuts.weight_of.Given as goal
 
