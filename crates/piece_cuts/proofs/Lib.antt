@@ -1,0 +1,4 @@
+pub mod Runs
+pub mod Reaching
+pub mod PieceLists
+pub mod AllCuts
