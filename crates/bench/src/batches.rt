@@ -1,7 +1,6 @@
 //! Random batches on a graph, beside a plain set of pairs.
 
-use crate::graphs::told;
-use crate::random::Random;
+use measuring::{Random, told};
 use std::alloc::{AllocError, Global};
 use std::collections::BTreeSet;
 use std::io;

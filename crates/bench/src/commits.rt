@@ -1,9 +1,8 @@
 //! Batches on random graphs of growing size, on one thread and with forks.
 
-use crate::graphs::{random_batch, random_graph, told};
-use crate::random::Random;
-use crate::table::{print_head, print_row};
-use crate::timing::{Times, nanos_since};
+use measuring::{
+    Random, Times, nanos_since, print_head, print_row, random_batch, random_graph, told,
+};
 use std::io;
 use std::rt::Clock;
 use std::thread::Threads;

@@ -1,9 +1,7 @@
 //! Sets in chunks: how long they take to make and to walk, beside their bytes alone.
 
-use crate::random::Random;
-use crate::table::{print_head, print_row};
-use crate::timing::{Job, TURNS, times_of};
 use c_tree::{CTree, CTreeError};
+use measuring::{Job, Random, TURNS, print_head, print_row, times_of};
 use std::alloc::{AllocError, Global};
 use std::io;
 use std::io::Error;

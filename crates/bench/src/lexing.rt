@@ -1,7 +1,6 @@
 //! How long the lexer takes for a long source, beside a plain loop over its bytes.
 
-use crate::table::{print_head, print_row};
-use crate::timing::{Job, TURNS, times_of};
+use measuring::{Job, TURNS, print_head, print_row, times_of};
 use std::alloc::{AllocError, Global};
 use std::io;
 use std::io::Error;

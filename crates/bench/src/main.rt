@@ -1,4 +1,4 @@
-//! The benchmark: how long the engine takes for work of known size.
+//! The benchmark of what graphs, versions and texts are made of: how long work of known size takes.
 //!
 //! With no word it does small work and prints what came of it, the same on every machine. With
 //! `--time` and a subject it prints a table of times, and with `--script N` the script of N `add`
@@ -8,27 +8,19 @@
 
 mod batches;
 mod commits;
-mod crew_runs;
 mod ctrees;
-mod flats;
-mod graphs;
-mod kernel_runs;
 mod lexing;
 mod outcome;
 mod parsing;
-mod random;
 mod readers;
 mod script_times;
 mod sets;
-mod table;
 mod tails;
-mod timing;
 mod trees;
-mod vertex_set_runs;
 mod workload;
 
+use measuring::Random;
 use outcome::hash_of;
-use random::Random;
 use std::io::Error;
 use std::process::ExitCode;
 use std::rt::Clock;
@@ -44,7 +36,7 @@ fn main(rt: HostRuntime) -> io::Result<ExitCode> {
         return Ok(ExitCode::SUCCESS);
     }
     eprintln!(rt;
-        "usage: bench [--time scripts|lexer|parser|tails|trees|ctrees|sets|commits|flats|vertices|kernels|crew|readers | --script ADDS | --check batches|crew]"
+        "usage: bench [--time scripts|lexer|parser|tails|trees|ctrees|sets|commits|readers | --script ADDS | --check batches]"
     )?;
     Ok(ExitCode::from(2))
 }
@@ -59,7 +51,6 @@ fn print<R: Print + AllocGlobal + Clock + Threads + Wait + Sync>(
         ["--time", subject] => print_times(rt, subject),
         ["--script", adds] => print_script(rt, adds),
         ["--check", "batches"] => batches::print_agreement(rt, 100_000),
-        ["--check", "crew"] => crew_runs::print_found(rt),
         _ => return Ok(false),
     };
     printed.map(|()| true)
@@ -79,11 +70,7 @@ fn print_times<R: Print + AllocGlobal + Clock + Threads + Wait + Sync>(
         "ctrees" => ctrees::print_times(rt),
         "sets" => sets::print_times(rt),
         "commits" => commits::print_times(rt),
-        "flats" => flats::print_times(rt),
-        "crew" => crew_runs::print_times(rt),
-        "kernels" => kernel_runs::print_times(rt),
         "readers" => readers::print_times(rt),
-        "vertices" => vertex_set_runs::print_times(rt),
         _ => Err(Error::other("nothing of this name is timed")),
     }
 }

@@ -1,8 +1,7 @@
 //! How long the parser takes for long sources of statements, beside the lexer alone.
 
 use crate::lexing::{HEADS, Lexing, print_of};
-use crate::table::print_head;
-use crate::timing::Job;
+use measuring::{Job, print_head};
 use std::alloc::{AllocError, Global};
 use std::io;
 use std::io::Error;

@@ -4,8 +4,7 @@
 ghost use Rattle.std.specs.Prelude.{◌≡◌};
 ghost use Rattle.version_list.specs.Machine.{opened};
 
-use crate::table::{print_head, print_row};
-use crate::timing::{Times, nanos_since};
+use measuring::{Times, nanos_since, print_head, print_row};
 use shared_graph::{Naming, Opening, Reader, SharedError, SharedGraph};
 use std::alloc::{AllocError, Global};
 use std::io::{self, Error};

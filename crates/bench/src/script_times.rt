@@ -1,9 +1,8 @@
 //! How long a script takes.
 
 use crate::outcome::{hash_of, replies_to};
-use crate::table::{print_head, print_row};
-use crate::timing::{Job, TURNS, times_of};
 use crate::workload::adds_script;
+use measuring::{Job, TURNS, print_head, print_row, times_of};
 use std::alloc::Global;
 use std::io;
 use std::rt::Clock;

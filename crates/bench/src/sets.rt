@@ -1,9 +1,7 @@
 //! Unions and differences of sets in chunks, beside a look-up and a merge of two sorted lists.
 
-use crate::random::Random;
-use crate::table::{print_head, print_row};
-use crate::timing::{TURNS, nanos_since};
 use c_tree::{CTree, CTreeError};
+use measuring::{Random, TURNS, nanos_since, print_head, print_row};
 use set_ops::{Quiet, SetError, difference, difference_forked, union, union_forked};
 use std::alloc::{AllocError, Global};
 use std::io;

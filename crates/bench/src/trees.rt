@@ -1,8 +1,6 @@
 //! Persistent trees beside the `BTreeMap` of std, on the same work.
 
-use crate::random::Random;
-use crate::table::{print_head, print_row};
-use crate::timing::{Job, TURNS, times_of};
+use measuring::{Job, Random, TURNS, print_head, print_row, times_of};
 use shared_tree::{Share, Tree, TreeError};
 use std::alloc::Global;
 use std::collections::BTreeMap;

@@ -1,6 +1,6 @@
 //! The scripts that are timed.
 
-use crate::random::Random;
+use measuring::Random;
 use std::alloc::{AllocError, Global};
 use std::fmt::Write;
 

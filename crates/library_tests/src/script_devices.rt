@@ -64,13 +64,9 @@ fn run(alloc: Global, bytes: &[u8], room: usize) -> (Result<bool, ScriptError>, 
         is_interrupted: false,
     });
     let mut session = Session::new(alloc);
-    let result = script(
-        alloc,
-        &[],
-        &mut reader,
-        &mut Device::new(&mut writer),
-        &mut session,
-    );
+    let mut out = Device::new(&mut writer);
+    let result = script(alloc, &[], &mut reader, &mut out, &mut session);
+    drop(out);
     (result, writer.bytes)
 }
 
@@ -154,18 +150,14 @@ impl Write for CountingWriter<'_> {
 #[test]
 fn replies_before_it_reads_on(rt: HostRuntime) {
     let (taken, missed) = (AtomicUsize::new(0), AtomicUsize::new(0));
-    let reader = WaitingReader {
+    let mut reader = Device::new(WaitingReader {
         given: 0,
         taken: &taken,
         missed: &missed,
-    };
-    let ended = script(
-        rt.alloc(),
-        &[],
-        &mut Device::new(reader),
-        &mut Device::new(CountingWriter(&taken)),
-        &mut Session::new(rt.alloc()),
-    );
+    });
+    let mut writer = Device::new(CountingWriter(&taken));
+    let mut session = Session::new(rt.alloc());
+    let ended = script(rt.alloc(), &[], &mut reader, &mut writer, &mut session);
     assert_eq!(rt; ended, Ok(false));
     assert_eq!(rt; taken.load(Ordering::SeqCst), FIRST_REPLIES.len());
     assert_eq!(rt; missed.load(Ordering::SeqCst), 0);

@@ -1,8 +1,6 @@
 //! Sets of vertices: how long they take to go over, to look in and to make.
 
-use crate::random::Random;
-use crate::table::{print_head, print_row};
-use crate::timing::{Job, times_of};
+use measuring::{Job, Random, print_head, print_row, times_of};
 use std::alloc::{AllocError, Global};
 use std::io;
 use std::rt::Clock;

@@ -10,6 +10,8 @@ const CHUNK_SIZE: u32 = 64;
 
 const SEED: u64 = 2026;
 
+const RMAT_SEED: u64 = 20_240_601;
+
 // How many edges a batch adds.
 const BATCH: u32 = 1 << 20;
 
@@ -25,6 +27,43 @@ pub fn random_graph(alloc: Global, vertices: u32, edges: u32) -> io::Result<Grap
         left = left.wrapping_sub(count);
     }
     Ok(graph)
+}
+
+/// The RMAT graph (Chakrabarti, Zhan, Faloutsos, SDM 2004) with probabilities of 0.57, 0.19, 0.19 and 0.05 to 16 bits:
+/// 2 to the power of `vertices` vertices and 2 to the power of `edges` edges, the first that are drawn. No power is above 24.
+pub fn rmat_graph(alloc: Global, vertices: u32, edges: u32) -> io::Result<Graph> {
+    let (scale, count) = (vertices.min(24), 1usize << edges.min(24));
+    let mut random = Random::new(RMAT_SEED);
+    let mut graph = Graph::new(1 << scale, CHUNK_SIZE).map_err(told)?;
+    for _ in 0..64u32 {
+        let left = count.saturating_sub(graph.edge_count());
+        let mut batch = Batch::new(alloc);
+        for _ in 0..left.min(BATCH as usize) {
+            let (source, destination) = rmat_edge(&mut random, scale);
+            batch.push(Entry::Add(source, destination)).map_err(told)?;
+        }
+        graph = graph.apply(alloc, &batch).map_err(told)?;
+    }
+    Ok(graph)
+}
+
+// An edge of it. Four levels take 64 random bits.
+fn rmat_edge(random: &mut Random, scale: u32) -> (u32, u32) {
+    let (mut source, mut destination, mut bits) = (0u32, 0u32, 0u64);
+    for level in 0..scale {
+        if level % 4 == 0 {
+            bits = random.next();
+        }
+        let part = bits % (1 << 16);
+        bits >>= 16;
+        let (down, right) = (
+            part >= 49_807,
+            part >= 62_259 || (37_356..49_807).contains(&part),
+        );
+        source = source.wrapping_mul(2) + u32::from(down);
+        destination = destination.wrapping_mul(2) + u32::from(right);
+    }
+    (source, destination)
 }
 
 /// A batch that adds so many edges between so many vertices.

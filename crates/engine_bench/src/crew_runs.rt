@@ -2,9 +2,8 @@
 
 ghost use Rattle.std.specs.Prelude.{◌≡◌};
 
-use crate::table::{print_head, print_row};
-use crate::timing::nanos_since;
 use crew::{CrewError, Found, Open, Share, Work, run_pieces};
+use measuring::{nanos_since, print_head, print_row};
 use std::alloc::{AllocError, Global};
 use std::io;
 use std::io::Error;

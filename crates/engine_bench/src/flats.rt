@@ -1,9 +1,7 @@
 //! Flat snapshots: how long they take to make and to walk, beside tails in a plain list.
 
-use crate::graphs::random_graph;
-use crate::table::{print_head, print_row};
-use crate::timing::{Job, TURNS, times_of};
 use flat_snapshot::Flat;
+use measuring::{Job, TURNS, print_head, print_row, random_graph, times_of};
 use std::alloc::Global;
 use std::io;
 use std::io::Error;

@@ -1,10 +1,8 @@
 //! Edge functions over the pairs of a random graph: a loop of Rust beside a loop by the kernel's shape, and blocks.
 
-use crate::random::Random;
-use crate::table::{print_head, print_row};
-use crate::timing::{Job, times_of};
 use algorithm_meaning::reduce;
 use kernels::{Around, Block, EdgeKernel, Gift, Shape};
+use measuring::{Job, Random, print_head, print_row, times_of};
 use std::alloc::{AllocError, Global};
 use std::io;
 use std::io::Error;

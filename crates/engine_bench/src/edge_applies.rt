@@ -1,0 +1,251 @@
+//! Random edge applies, by every direction and with every kind of end, beside the slow run.
+
+use algorithm_meaning::{Outcome, plain_run};
+use compiler::compile;
+use edge_fold::Scratch;
+use flat_snapshot::Flat;
+use kernels::{Apply, EdgeKernel, End, FilterKernel};
+use measuring::{Random, told};
+use push_engine::{apply_modified, push};
+use schedule::{DenseVertexSet, Direction, Parallelization};
+use std::alloc::Global;
+use std::fmt::Write;
+use std::io;
+use std::io::Error;
+use tree_batch::{Batch, Entry, Graph};
+use typed_tree::{Sequence, Typed};
+use vectors::Vectors;
+use vertex_sets::{Form, VertexSet};
+
+const SEED: u64 = 2026;
+
+const CHUNK_SIZE: u32 = 4;
+
+// How many vertices the graphs have, and about how many edges.
+const SIZES: [(u32, u32); 5] = [(1, 2), (3, 4), (60, 40), (60, 900), (400, 2000)];
+
+// What stands before the function that is applied.
+const HEAD: &str = "element Vertex end\nelement Edge end\n\
+    const edges : edgeset{Edge}(Vertex, Vertex) = load(argv[1]);\n\
+    const all : vertexset{Vertex} = edges.getVertices();\n\
+    const x : vector{Vertex}(int) = 0; const y : vector{Vertex}(int) = 0;\n\
+    func first(v : Vertex) x[v] = v * 7919 % 31; y[v] = 5 - v; end\n\
+    func some(v : Vertex) -> o : bool o = x[v] % 3 != 0; end\n";
+
+// The functions that are applied: of each shape, with a test, and to two vectors.
+const FUNCTIONS: [&str; 8] = [
+    "x[d] min= y[s];",
+    "x[d] += y[s] + 2;",
+    "x[d] max= s;",
+    "x[d] += 1;",
+    "x[d] min= x[s] - x[d]; y[d] += s;",
+    "if s < d x[d] += y[s]; end",
+    "var t : int = x[s] * 3 - y[d]; if t % 2 == 0 x[d] max= t; else y[d] min= t; end",
+    "y[d] max= s;",
+];
+
+// An end of an edge: none is given, the members of a set, or what a filter lets through.
+#[derive(Clone, Copy)]
+enum Side {
+    None,
+    Members,
+    Filter,
+}
+
+const SIDES: [Side; 3] = [Side::None, Side::Members, Side::Filter];
+
+const DIRECTIONS: [Direction; 2] = [Direction::SparsePush, Direction::DensePush];
+
+impl Side {
+    // How a program says it.
+    fn text(self, word: &str, alloc: Global) -> io::Result<String> {
+        Ok(match self {
+            Side::None => String::new(alloc),
+            Side::Members => format!(in alloc; ".{word}(s)")?,
+            Side::Filter => format!(in alloc; ".{word}(some)")?,
+        })
+    }
+
+    fn end<'a>(self, set: &'a VertexSet, filter: &'a FilterKernel) -> Option<End<'a>> {
+        match self {
+            Side::None => None,
+            Side::Members => Some(End::Members(set)),
+            Side::Filter => Some(End::Filter(filter)),
+        }
+    }
+}
+
+/// Applies each function on random graphs with every pair of ends, and prints how many applies agree with the slow run.
+/// Fails where one does not.
+pub fn print_agreement<R: Print + AllocGlobal>(rt: &R) -> io::Result<()> {
+    let mut random = Random::new(SEED);
+    let mut scratch = Scratch::new(rt.alloc());
+    for (vertices, edges) in SIZES {
+        let work = Work::new(rt.alloc(), &mut random, vertices, edges)?;
+        let mut count = 0u32;
+        for body in FUNCTIONS {
+            count = count.wrapping_add(work.compare_all(rt.alloc(), body, &mut scratch)?);
+        }
+        println!(rt; "{vertices} vertices: {count} edge applies as by the slow run")?;
+    }
+    Ok(())
+}
+
+// A random graph and a random set.
+#[derive(Drop)]
+struct Work {
+    vertices: u32,
+    edges: Vec<(u32, u32)>,
+    flat: Flat,
+    set: VertexSet,
+}
+
+impl Work {
+    fn new(alloc: Global, random: &mut Random, vertices: u32, edges: u32) -> io::Result<Work> {
+        let bound = u64::from(vertices).max(1);
+        let mut batch = Batch::new(alloc);
+        for _ in 0..edges {
+            let (source, destination) = (random.below(bound), random.below(bound));
+            batch
+                .push(Entry::Add(source as u32, destination as u32))
+                .map_err(told)?;
+        }
+        let graph = Graph::new(vertices, CHUNK_SIZE).map_err(told)?;
+        let graph = graph.apply(alloc, &batch).map_err(told)?;
+        let kept = random.below(1 << 20);
+        Ok(Work {
+            vertices,
+            edges: graph.edges().collect(alloc)?,
+            flat: Flat::of(alloc, &graph)?,
+            set: VertexSet::from_test(alloc, vertices, Form::List, |vertex| is_kept(vertex, kept))?,
+        })
+    }
+
+    // Compares the applies of a function with every pair of ends, and gives how many there were.
+    fn compare_all(&self, alloc: Global, body: &str, scratch: &mut Scratch) -> io::Result<u32> {
+        let mut count = 0u32;
+        for from in SIDES {
+            for to in SIDES {
+                let program = self.program(alloc, body, from, to)?;
+                let vector = vector_of(body);
+                self.compare(alloc, &program, vector, (from, to), scratch)?;
+                count = count.wrapping_add(DIRECTIONS.len() as u32);
+            }
+        }
+        Ok(count)
+    }
+
+    // The program that fills the vectors and the set and applies the function once.
+    fn program(&self, alloc: Global, body: &str, from: Side, to: Side) -> io::Result<Typed> {
+        let mut text = format!(in alloc; "{HEAD}func f(s : Vertex, d : Vertex) {body} end\n")?;
+        write!(text, "func main()\n  all.apply(first);\n")?;
+        write!(
+            text,
+            "  var s : vertexset{{Vertex}} = new vertexset{{Vertex}}(0);\n"
+        )?;
+        for vertex in self.set.iter() {
+            write!(text, "  s.addVertex({vertex});\n")?;
+        }
+        let (from, to) = (from.text("from", alloc)?, to.text("to", alloc)?);
+        let vector = ["x", "y"][vector_of(body)];
+        write!(
+            text,
+            "  var m : vertexset{{Vertex}} = edges{from}{to}.applyModified(f, {vector});\nend\n"
+        )?;
+        compile(alloc, text.as_bytes()).map_err(|_| Error::other("a program is refused"))
+    }
+
+    // Compares the apply of a program by every direction with the slow run of the program.
+    fn compare(
+        &self,
+        alloc: Global,
+        program: &Typed,
+        vector: usize,
+        sides: (Side, Side),
+        scratch: &mut Scratch,
+    ) -> io::Result<()> {
+        let outcome = plain_run(alloc, program, self.vertices, &self.edges, 0)?;
+        let (Some(function), Some(filter)) = (
+            program.edge_functions.first(),
+            program.filters.first(),
+        ) else {
+            return Err(Error::other("a program has no function"));
+        };
+        let kernel = EdgeKernel::of_function(alloc, function)?;
+        let filter = FilterKernel::of_function(alloc, filter)?;
+        for direction in DIRECTIONS {
+            let apply = Apply {
+                from: sides.0.end(&self.set, &filter),
+                to: sides.1.end(&self.set, &filter),
+                first: &kernel,
+                second: None,
+                direction,
+                parallelization: Parallelization::Serial,
+                dense_vertex_set: DenseVertexSet::BoolArray,
+            };
+            if !self.agrees(alloc, &apply, vector, &outcome, scratch)? {
+                return Err(Error::other("an edge apply differs from the slow run"));
+            }
+        }
+        Ok(())
+    }
+
+    // Whether an apply leaves the vectors of the slow run, and changes a vector at the vertices of the run's last set.
+    fn agrees(
+        &self,
+        alloc: Global,
+        apply: &Apply<'_>,
+        vector: usize,
+        outcome: &Outcome,
+        scratch: &mut Scratch,
+    ) -> io::Result<bool> {
+        let mut vectors = self.vectors(alloc)?;
+        let sizes = [i64::from(self.vertices), self.set.len() as i64];
+        let changes = push(alloc, apply, &self.flat, &vectors, &sizes, scratch)?;
+        let dense = apply.dense_vertex_set;
+        let modified = apply_modified(alloc, &changes, vector, self.vertices, dense)?;
+        vectors.write(&changes);
+        Ok(has_entries(&vectors, outcome) && has_members(&modified, outcome))
+    }
+
+    // The vectors as the program fills them.
+    fn vectors(&self, alloc: Global) -> io::Result<Vectors> {
+        let (mut first, mut second) = (Vec::new(alloc), Vec::new(alloc));
+        for vertex in 0..self.vertices {
+            first.push(i64::from(vertex).wrapping_mul(7919) % 31)?;
+            second.push(5i64.wrapping_sub(i64::from(vertex)))?;
+        }
+        let mut arrays = Vec::new(alloc);
+        arrays.push(Sequence::new(first))?;
+        arrays.push(Sequence::new(second))?;
+        Ok(Vectors::new(alloc, arrays)?)
+    }
+}
+
+// The place of the vector that a function writes first.
+fn vector_of(body: &str) -> usize {
+    usize::from(body.starts_with("y"))
+}
+
+fn is_kept(vertex: u32, kept: u64) -> bool {
+    (kept >> (vertex % 20)) % 2 == 0
+}
+
+// Whether the last set that the slow run shows has the members of a set.
+fn has_members(set: &VertexSet, outcome: &Outcome) -> bool {
+    match outcome.sets.as_slice().last() {
+        Some(last) => set.iter().eq(last.members.as_slice().iter().copied()),
+        None => false,
+    }
+}
+
+// Whether each vector has the entries that the slow run shows.
+fn has_entries(vectors: &Vectors, outcome: &Outcome) -> bool {
+    outcome.vectors.as_slice().iter().enumerate().all(|(place, vector)| {
+        let lane = vectors.lane(place);
+        let entries = vector.entries.as_slice().iter().enumerate();
+        entries
+            .map(|(vertex, entry)| lane.get(vertex) == *entry)
+            .all(|same| same)
+    })
+}
