@@ -13,7 +13,7 @@ use std::io::Error;
 use std::rt::Clock;
 use tree_batch::{Batch, Entry, Graph};
 use typed_tree::{Sequence, Typed};
-use vectors::Vectors;
+use vectors::{Changes, Vectors};
 use vertex_sets::{Form, VertexSet};
 
 // How often a row is timed.
@@ -166,19 +166,26 @@ impl<'a> Run<'a> {
         })
     }
 
+    // What the function changes from the frontier.
+    fn changes(&mut self) -> Result<Changes, AllocError> {
+        let apply = apply_of(self.row, self.kernels, &self.frontier);
+        push(
+            self.alloc,
+            &apply,
+            self.flat,
+            &self.vectors,
+            &[],
+            &mut self.scratch,
+        )
+    }
+
+    fn go_on_from(&mut self, frontier: VertexSet) {
+        self.frontier = frontier;
+    }
+
     // Applies the function once to the frontier, which then is what was changed.
     fn turn(&mut self) -> Result<(), AllocError> {
-        let changes = {
-            let apply = apply_of(self.row, self.kernels, &self.frontier);
-            push(
-                self.alloc,
-                &apply,
-                self.flat,
-                &self.vectors,
-                &[],
-                &mut self.scratch,
-            )?
-        };
+        let changes = self.changes()?;
         let form = DenseVertexSet::Bitvector;
         self.frontier = apply_modified(self.alloc, &changes, 0, self.flat.vertices(), form)?;
         self.vectors.write(&changes);
@@ -250,9 +257,11 @@ fn print_few<R: Print + AllocGlobal + Clock>(rt: &R, vertices: u32) -> io::Resul
     let members = ten_vertices(alloc, vertices, &mut random)?;
     let graph = graph_from(alloc, &members, &mut random)?;
     let flat = Flat::of(alloc, &graph)?;
-    let mut few = Few(Run::new(alloc, &flat, &kernels, Row::Labels(Direction::SparsePush))?);
-    few.0.begin()?;
-    few.0.frontier = members;
+    let row = Row::Labels(Direction::SparsePush);
+    let mut run = Run::new(alloc, &flat, &kernels, row)?;
+    run.begin()?;
+    run.go_on_from(members);
+    let mut few = Few(run);
     let times = times_of(rt, 1000, &mut few)?;
     let numbers = [
         u64::from(vertices),
@@ -297,16 +306,7 @@ struct Few<'a>(Run<'a>);
 
 impl Job for Few<'_> {
     fn run(&mut self) -> io::Result<u64> {
-        let run = &mut self.0;
-        let apply = apply_of(run.row, run.kernels, &run.frontier);
-        let changes = push(
-            run.alloc,
-            &apply,
-            run.flat,
-            &run.vectors,
-            &[],
-            &mut run.scratch,
-        )?;
+        let changes = self.0.changes()?;
         Ok(
             changes
                 .vectors

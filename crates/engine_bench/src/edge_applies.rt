@@ -147,7 +147,7 @@ impl Work {
             write!(text, "  s.addVertex({vertex});\n")?;
         }
         let (from, to) = (from.text("from", alloc)?, to.text("to", alloc)?);
-        let vector = ["x", "y"][vector_of(body)];
+        let vector = if vector_of(body) == 0 { "x" } else { "y" };
         write!(
             text,
             "  var m : vertexset{{Vertex}} = edges{from}{to}.applyModified(f, {vector});\nend\n"
@@ -165,24 +165,9 @@ impl Work {
         scratch: &mut Scratch,
     ) -> io::Result<()> {
         let outcome = plain_run(alloc, program, self.vertices, &self.edges, 0)?;
-        let (Some(function), Some(filter)) = (
-            program.edge_functions.first(),
-            program.filters.first(),
-        ) else {
-            return Err(Error::other("a program has no function"));
-        };
-        let kernel = EdgeKernel::of_function(alloc, function)?;
-        let filter = FilterKernel::of_function(alloc, filter)?;
+        let functions = Functions::of(alloc, program)?;
         for direction in DIRECTIONS {
-            let apply = Apply {
-                from: sides.0.end(&self.set, &filter),
-                to: sides.1.end(&self.set, &filter),
-                first: &kernel,
-                second: None,
-                direction,
-                parallelization: Parallelization::Serial,
-                dense_vertex_set: DenseVertexSet::BoolArray,
-            };
+            let apply = apply_of(direction, sides, &self.set, &functions);
             if !self.agrees(alloc, &apply, vector, &outcome, scratch)? {
                 return Err(Error::other("an edge apply differs from the slow run"));
             }
@@ -200,7 +185,8 @@ impl Work {
         scratch: &mut Scratch,
     ) -> io::Result<bool> {
         let mut vectors = self.vectors(alloc)?;
-        let sizes = [i64::from(self.vertices), self.set.len() as i64];
+        let size = i64::try_from(self.set.len()).unwrap_or(0);
+        let sizes = [i64::from(self.vertices), size];
         let changes = push(alloc, apply, &self.flat, &vectors, &sizes, scratch)?;
         let dense = apply.dense_vertex_set;
         let modified = apply_modified(alloc, &changes, vector, self.vertices, dense)?;
@@ -219,6 +205,43 @@ impl Work {
         arrays.push(Sequence::new(first))?;
         arrays.push(Sequence::new(second))?;
         Ok(Vectors::new(alloc, arrays)?)
+    }
+}
+
+// The kernels of the functions of a program.
+#[derive(Drop)]
+struct Functions {
+    edge: EdgeKernel,
+    filter: FilterKernel,
+}
+
+impl Functions {
+    fn of(alloc: Global, program: &Typed) -> io::Result<Functions> {
+        let (Some(edge), Some(filter)) = (program.edge_functions.first(), program.filters.first())
+        else {
+            return Err(Error::other("a program has no function"));
+        };
+        Ok(Functions {
+            edge: EdgeKernel::of_function(alloc, edge)?,
+            filter: FilterKernel::of_function(alloc, filter)?,
+        })
+    }
+}
+
+fn apply_of<'a>(
+    direction: Direction,
+    sides: (Side, Side),
+    set: &'a VertexSet,
+    functions: &'a Functions,
+) -> Apply<'a> {
+    Apply {
+        from: sides.0.end(set, &functions.filter),
+        to: sides.1.end(set, &functions.filter),
+        first: &functions.edge,
+        second: None,
+        direction,
+        parallelization: Parallelization::Serial,
+        dense_vertex_set: DenseVertexSet::BoolArray,
     }
 }
 
