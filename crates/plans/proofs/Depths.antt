@@ -1,0 +1,89 @@
+-- What is visible in a state, and states without the rest.
+use Rattle.std.proofs.Common.{◌≡◌, ℕ, zero, suc, ◌+◌, ◌≤◌, List, [], ◌∷◌, length, take, ap, sym, ◌∙◌, refl, arith}
+use Rattle.std.proofs.Math.Seq.{take-length}
+use Rattle.std.proofs.lemmas.List.{length-take-le}
+use Rattle.typed_tree.specs.BlockTree.{ActionTree, DeclareInteger, DeclareCondition, SetInteger, SetCondition, ReduceInteger, SetEntry, ReduceEntry, DeclareSet, AssignSet, AddVertex, PrintInteger, PrintCondition, ApplyVertex, ApplyEdges, If, IfElse, While, For, BlockTree, Empty, Then}
+use Rattle.algorithm_meaning.specs.State.{StateValue}
+use Rattle.plans.specs.declared.depth.Depth.{Depth}
+use Rattle.plans.specs.Plan.{behind, behind_all}
+use Rattle.plans.specs.Machine.{forgotten}
+
+abbrev pub visible : StateValue → Depth
+visible s = record { integers = length s.scope.integers; conditions = length s.scope.conditions; sets = length s.sets }
+
+-- no more is visible at the first than at the second
+pub record IsWithin (d e : Depth) : Type 0 where
+  pub integers : d.integers ≤ e.integers
+  pub conditions : d.conditions ≤ e.conditions
+  pub sets : d.sets ≤ e.sets
+
+pub within_itself : (d : Depth) → IsWithin d d
+within_itself d = record { integers = omega arith; conditions = omega arith; sets = omega arith }
+
+pub within_both : (d e f : Depth) → IsWithin d e → IsWithin e f → IsWithin d f
+within_both d e f h k = record {
+  integers = omega (arith, h.integers, k.integers);
+  conditions = omega (arith, h.conditions, k.conditions);
+  sets = omega (arith, h.sets, k.sets);
+}
+
+pub within_behind : (a : ActionTree) (d : Depth) → IsWithin d (behind a d)
+within_behind (DeclareInteger name e) d = record { integers = omega arith; conditions = omega arith; sets = omega arith }
+within_behind (DeclareCondition name c) d = record { integers = omega arith; conditions = omega arith; sets = omega arith }
+within_behind (DeclareSet name set) d = record { integers = omega arith; conditions = omega arith; sets = omega arith }
+within_behind (SetInteger slot e) d = within_itself d
+within_behind (SetCondition slot c) d = within_itself d
+within_behind (ReduceInteger slot reduction e) d = within_itself d
+within_behind (SetEntry vector index e) d = within_itself d
+within_behind (ReduceEntry vector index reduction e) d = within_itself d
+within_behind (AssignSet slot set) d = within_itself d
+within_behind (AddVertex slot e) d = within_itself d
+within_behind (PrintInteger e) d = within_itself d
+within_behind (PrintCondition c) d = within_itself d
+within_behind (ApplyVertex set function) d = within_itself d
+within_behind (ApplyEdges ends function) d = within_itself d
+within_behind (If c body) d = within_itself d
+within_behind (IfElse c body other) d = within_itself d
+within_behind (While c body) d = within_itself d
+within_behind (For name first end body) d = within_itself d
+
+pub within_behind_all : (b : BlockTree) (d : Depth) → IsWithin d (behind_all b d)
+within_behind_all Empty d = within_itself d
+within_behind_all (Then number label action rest) d =
+    within_both d (behind action d) (behind_all rest (behind action d)) (within_behind action d) (within_behind_all rest (behind action d))
+
+take_less : {A : Type 0} (m n : ℕ) (xs : List A) → m ≤ n → take m (take n xs) ≡ take m xs
+take_less zero n xs h = refl
+take_less (suc m) zero xs h = absurd (omega (arith, h))
+take_less (suc m) (suc n) [] h = refl
+take_less {A} (suc m) (suc n) (x ∷ xs) h = ap (λ (ys : List A). x ∷ ys) (take_less m n xs (omega (arith, h)))
+
+-- nothing is forgotten
+all_kept : (s : StateValue) → forgotten (visible s) s ≡ s
+all_kept s = λ i. record s {
+  sets = take-length s.sets i;
+  scope = record s.scope { integers = take-length s.scope.integers i; conditions = take-length s.scope.conditions i };
+}
+
+pub forgotten-all : (d : Depth) (s : StateValue) → visible s ≡ d → forgotten d s ≡ s
+forgotten-all d s e = ap (λ (d : Depth). forgotten d s) (sym e) ∙ all_kept s
+
+-- to forget twice
+pub forgotten-less : (d e : Depth) (s : StateValue) → IsWithin d e → forgotten d (forgotten e s) ≡ forgotten d s
+forgotten-less d e s h = λ i. record s {
+  sets = take_less d.sets e.sets s.sets h.sets i;
+  scope = record s.scope {
+    integers = take_less d.integers e.integers s.scope.integers h.integers i;
+    conditions = take_less d.conditions e.conditions s.scope.conditions h.conditions i;
+  };
+}
+
+visible-less : (d : Depth) (s : StateValue) → IsWithin d (visible s) → visible (forgotten d s) ≡ d
+visible-less d s h = λ i. record {
+  integers = length-take-le d.integers s.scope.integers h.integers i;
+  conditions = length-take-le d.conditions s.scope.conditions h.conditions i;
+  sets = length-take-le d.sets s.sets h.sets i;
+}
+
+pub visible-forgotten : (d e : Depth) (s : StateValue) → visible s ≡ e → IsWithin d e → visible (forgotten d s) ≡ d
+visible-forgotten d e s deep h = visible-less d s (rw deep h)

@@ -1,0 +1,188 @@
+-- Statements without blocks: what is visible behind them, and that vertex sets stay ascending.
+use Rattle.std.proofs.Common.{◌≡◌, ℕ, zero, suc, ◌+◌, ◌≤◌, ℤ, pos, Bool, List, [], ◌∷◌, ◌++◌, length, take, Option, Some, None, slice_get, slice_set, slice_index_or, ap, sym, ◌∙◌, refl, arith, subst}
+use Rattle.std.proofs.lemmas.List.{length-append, length-set}
+use Rattle.typed_tree.specs.declared.statement.SetValue.{SetValue}
+use Rattle.typed_tree.specs.declared.statement.SetValue.TheVariants as set
+use Rattle.typed_tree.specs.BlockTree.{ActionTree, DeclareInteger, DeclareCondition, SetInteger, SetCondition, ReduceInteger, SetEntry, ReduceEntry, DeclareSet, AssignSet, AddVertex, PrintInteger, PrintCondition, ApplyVertex, ApplyEdges, If, IfElse, While, For}
+use Rattle.typed_tree.specs.ProgramTree.{ProgramTree}
+use Rattle.algorithm_meaning.specs.declared.outcome.End.{End}
+use Rattle.algorithm_meaning.specs.State.{GraphValue, StateValue}
+use Rattle.algorithm_meaning.specs.Value.{members_of}
+use Rattle.algorithm_meaning.specs.Stand.{Stand, Live, Over, with_value, number_in, choice_in, vertex_in}
+use Rattle.algorithm_meaning.specs.Filter.{lets_through}
+use Rattle.algorithm_meaning.specs.EdgeApply.{is_modified, after_edge_apply}
+use Rattle.algorithm_meaning.specs.VertexSets.{members_for, set_members, inserted, vectors_after, with_new_set, with_members}
+use Rattle.algorithm_meaning.specs.Entries.{with_vectors}
+use Rattle.algorithm_meaning.specs.Arithmetic.{reduced}
+use Rattle.algorithm_meaning.specs.Meaning.{after}
+use Rattle.plans.specs.declared.depth.Depth.{Depth}
+use Rattle.plans.specs.Plan.{behind, with_set}
+use Rattle.plans.specs.Machine.{forgotten}
+use Rattle.plans.proofs.Depths.{visible, IsWithin, visible-forgotten}
+use Rattle.plans.proofs.Ascending.{AscendsFrom, AreAscending, ascends_range, ascends_filter, ascends_inserted}
+
+-- what a run keeps at a depth with no more turns left than these
+pub record IsProper (d : Depth) (turns : ℕ) (s : StateValue) : Type 0 where
+  pub deep : visible s ≡ d
+  pub sets : AreAscending s
+  pub fewer : s.turns ≤ turns
+
+pub length-set_members : (sets : _) (place : ℕ) (members : List ℕ) → length (set_members sets place members) ≡ length sets
+length-set_members [] place members = refl
+length-set_members (x ∷ xs) zero members = refl
+length-set_members (x ∷ xs) (suc n) members = ap suc (length-set_members xs n members)
+
+-- the members at a place of a list with one more set
+new_members : (P : List ℕ → Type 0) (sets : _) (x : _) (place : ℕ) → P [] → P (members_of (Some x)) → ((place : ℕ) → P (members_of (slice_get sets place)))
+    → P (members_of (slice_get (sets ++ x ∷ []) place))
+new_members P [] x zero none here all = here
+new_members P [] x (suc n) none here all = none
+new_members P (y ∷ ys) x zero none here all = all zero
+new_members P (y ∷ ys) x (suc n) none here all = new_members P ys x n none here (λ place. all (suc place))
+
+-- of a list in which one set has others
+put_members : (P : List ℕ → Type 0) (sets : _) (at : ℕ) (members : List ℕ) (place : ℕ) → P members → ((place : ℕ) → P (members_of (slice_get sets place)))
+    → P (members_of (slice_get (set_members sets at members) place))
+put_members P [] at members place here all = all place
+put_members P (y ∷ ys) zero members zero here all = here
+put_members P (y ∷ ys) zero members (suc n) here all = all (suc n)
+put_members P (y ∷ ys) (suc m) members zero here all = all zero
+put_members P (y ∷ ys) (suc m) members (suc n) here all = put_members P ys m members n here (λ place. all (suc place))
+
+-- of the first ones
+first_members : (P : List ℕ → Type 0) (sets : _) (count place : ℕ) → P [] → ((place : ℕ) → P (members_of (slice_get sets place)))
+    → P (members_of (slice_get (take count sets) place))
+first_members P sets zero place none all = none
+first_members P [] (suc n) place none all = none
+first_members P (y ∷ ys) (suc n) zero none all = all zero
+first_members P (y ∷ ys) (suc n) (suc m) none all = first_members P ys n m none (λ place. all (suc place))
+
+pub proper-forgotten : (d e : Depth) (turns : ℕ) (s : StateValue) → IsWithin d e → IsProper e turns s → IsProper d turns (forgotten d s)
+proper-forgotten d e turns s h k = record {
+  deep = visible-forgotten d e s k.deep h;
+  sets = λ place. first_members (AscendsFrom 0) s.sets d.sets place tt k.sets;
+  fewer = k.fewer;
+}
+
+members-ascend : (p : ProgramTree) (g : GraphValue) (set : SetValue) (s : StateValue) → AreAscending s → AscendsFrom 0 (members_for p g set s)
+members-ascend p g set.Empty s h = tt
+members-ascend p g set.All s h = ascends_range 0 g.vertices
+members-ascend p g (set.Copy slot) s h = h slot.place
+members-ascend p g (set.Filter slot function) s h =
+    ascends_filter (lets_through p.filters function s.sets s.vectors) 0 (members_of (slice_get s.sets slot.place)) (h slot.place)
+members-ascend p g (set.Modified ends function vector) s h =
+    ascends_filter (is_modified vector s.vectors (after_edge_apply p.filters p.edge_functions g ends (function ∷ []) s)) 0 _ (ascends_range 0 g.vertices)
+
+-- a statement without a block
+abbrev pub HasNoBlock : ActionTree → Type 0
+HasNoBlock (If c body) = ⊥
+HasNoBlock (IfElse c body other) = ⊥
+HasNoBlock (While c body) = ⊥
+HasNoBlock (For name first end body) = ⊥
+HasNoBlock a = Unit {0}
+
+-- where a statement leaves a run: it goes on at the second depth, or it has ended at the first
+abbrev pub Leaves : (d e : Depth) → (turns : ℕ) → Stand → Type 0
+Leaves d e turns (Live t) = IsProper e turns t
+Leaves d e turns (Over t end) = visible t ≡ d
+
+by_value : {A : Type 0} (o : Option A) (d e : Depth) (turns number : ℕ) (s : StateValue) (go : A → Stand) → visible s ≡ d → ((x : A) → Leaves d e turns (go x))
+    → Leaves d e turns (with_value o number s go)
+by_value None d e turns number s go deep h = deep
+by_value (Some x) d e turns number s go deep h = h x
+
+one_more : {A : Type 0} (xs : List A) (x : A) (n : ℕ) → length xs ≡ n → length (xs ++ x ∷ []) ≡ n + 1
+one_more xs x n e = length-append xs (x ∷ []) ∙ ap (λ (m : ℕ). m + 1) e
+
+-- a set that is declared, and one that is assigned, with other vectors
+pub declared-proper : (d : Depth) (turns : ℕ) (s : StateValue) → IsProper d turns s → (name : ℕ) (members : List ℕ) (vectors : List (List ℤ)) → AscendsFrom 0 members
+    → IsProper (with_set d) turns (with_new_set (with_vectors s vectors) name members)
+declared-proper d turns s proper name members vectors ascending = record {
+  deep = λ i. record {
+    integers = ap (λ (d : Depth). d.integers) proper.deep i;
+    conditions = ap (λ (d : Depth). d.conditions) proper.deep i;
+    sets = one_more s.sets (record { name = name; members = members }) d.sets (ap (λ (d : Depth). d.sets) proper.deep) i;
+  };
+  sets = λ place. new_members (AscendsFrom 0) s.sets (record { name = name; members = members }) place tt ascending proper.sets;
+  fewer = proper.fewer;
+}
+
+pub assigned-proper : (d : Depth) (turns : ℕ) (s : StateValue) → IsProper d turns s → (place : ℕ) (members : List ℕ) (vectors : List (List ℤ)) → AscendsFrom 0 members
+    → IsProper d turns (with_members (with_vectors s vectors) place members)
+assigned-proper d turns s proper place members vectors ascending = record {
+  deep = λ i. record {
+    integers = ap (λ (d : Depth). d.integers) proper.deep i;
+    conditions = ap (λ (d : Depth). d.conditions) proper.deep i;
+    sets = (length-set_members s.sets place members ∙ ap (λ (d : Depth). d.sets) proper.deep) i;
+  };
+  sets = λ at. put_members (AscendsFrom 0) s.sets place members at ascending proper.sets;
+  fewer = proper.fewer;
+}
+
+module _ (p : ProgramTree) (g : GraphValue) (number : ℕ) (d : Depth) (turns : ℕ) (s : StateValue) (proper : IsProper d turns s) where
+  integers_here : length s.scope.integers ≡ d.integers
+  integers_here = ap (λ (d : Depth). d.integers) proper.deep
+
+  conditions_here : length s.scope.conditions ≡ d.conditions
+  conditions_here = ap (λ (d : Depth). d.conditions) proper.deep
+
+  sets_here : length s.sets ≡ d.sets
+  sets_here = ap (λ (d : Depth). d.sets) proper.deep
+
+  pub alone-leaves : (a : ActionTree) → HasNoBlock a → Leaves d (behind a d) turns (after p g number a s)
+  alone-leaves (DeclareInteger name e) alone =
+      by_value (number_in g.vertices e s) d (behind (DeclareInteger name e) d) turns number s _ proper.deep (λ n. record {
+        deep = λ i. record { integers = one_more s.scope.integers n d.integers integers_here i; conditions = conditions_here i; sets = sets_here i };
+        sets = proper.sets;
+        fewer = proper.fewer;
+      })
+  alone-leaves (DeclareCondition name c) alone =
+      by_value (choice_in g.vertices c s) d (behind (DeclareCondition name c) d) turns number s _ proper.deep (λ b. record {
+        deep = λ i. record { integers = integers_here i; conditions = one_more s.scope.conditions b d.conditions conditions_here i; sets = sets_here i };
+        sets = proper.sets;
+        fewer = proper.fewer;
+      })
+  alone-leaves (SetInteger slot e) alone =
+      by_value (number_in g.vertices e s) d d turns number s _ proper.deep (λ n. record {
+        deep = λ i. record { integers = (length-set s.scope.integers slot.place n ∙ integers_here) i; conditions = conditions_here i; sets = sets_here i };
+        sets = proper.sets;
+        fewer = proper.fewer;
+      })
+  alone-leaves (SetCondition slot c) alone =
+      by_value (choice_in g.vertices c s) d d turns number s _ proper.deep (λ b. record {
+        deep = λ i. record { integers = integers_here i; conditions = (length-set s.scope.conditions slot.place b ∙ conditions_here) i; sets = sets_here i };
+        sets = proper.sets;
+        fewer = proper.fewer;
+      })
+  alone-leaves (ReduceInteger slot reduction e) alone =
+      by_value (number_in g.vertices e s) d d turns number s _ proper.deep (λ n.
+      let x : ℤ = reduced reduction (slice_index_or s.scope.integers slot.place (pos 0)) n in record {
+        deep = λ i. record { integers = (length-set s.scope.integers slot.place x ∙ integers_here) i; conditions = conditions_here i; sets = sets_here i };
+        sets = proper.sets;
+        fewer = proper.fewer;
+      })
+  alone-leaves (SetEntry vector index e) alone =
+      by_value (vertex_in g.vertices index s) d d turns number s _ proper.deep (λ v.
+      by_value (number_in g.vertices e s) d d turns number s _ proper.deep (λ n.
+      record { deep = proper.deep; sets = proper.sets; fewer = proper.fewer }))
+  alone-leaves (ReduceEntry vector index reduction e) alone =
+      by_value (vertex_in g.vertices index s) d d turns number s _ proper.deep (λ v.
+      by_value (number_in g.vertices e s) d d turns number s _ proper.deep (λ n.
+      record { deep = proper.deep; sets = proper.sets; fewer = proper.fewer }))
+  alone-leaves (DeclareSet name set) alone = declared-proper d turns s proper name (members_for p g set s) (vectors_after p g set s) (members-ascend p g set s proper.sets)
+  alone-leaves (AssignSet slot set) alone = assigned-proper d turns s proper slot.place (members_for p g set s) (vectors_after p g set s) (members-ascend p g set s proper.sets)
+  alone-leaves (AddVertex slot e) alone =
+      by_value (vertex_in g.vertices e s) d d turns number s _ proper.deep (λ v.
+      assigned-proper d turns s proper slot.place (inserted v (members_of (slice_get s.sets slot.place))) s.vectors (ascends_inserted v 0 (members_of (slice_get s.sets slot.place)) (omega arith) (proper.sets slot.place)))
+  alone-leaves (PrintInteger e) alone =
+      by_value (number_in g.vertices e s) d d turns number s _ proper.deep (λ n.
+      record { deep = proper.deep; sets = proper.sets; fewer = proper.fewer })
+  alone-leaves (PrintCondition c) alone =
+      by_value (choice_in g.vertices c s) d d turns number s _ proper.deep (λ b.
+      record { deep = proper.deep; sets = proper.sets; fewer = proper.fewer })
+  alone-leaves (ApplyVertex set function) alone = record { deep = proper.deep; sets = proper.sets; fewer = proper.fewer }
+  alone-leaves (ApplyEdges ends function) alone = record { deep = proper.deep; sets = proper.sets; fewer = proper.fewer }
+  alone-leaves (If c body) alone = absurd alone
+  alone-leaves (IfElse c body other) alone = absurd alone
+  alone-leaves (While c body) alone = absurd alone
+  alone-leaves (For name first end body) alone = absurd alone

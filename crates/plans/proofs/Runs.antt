@@ -1,0 +1,2 @@
+-- For proofs only.
+use Rattle.std.proofs.Common.{◌≡◌, ℕ}

@@ -1,0 +1,246 @@
+-- Two applies that are done together.
+use Rattle.std.specs.Prelude.{ℕ, nat_eq, Bool, true, false, ◌&&◌, List, [], ◌∷◌, ◌++◌, if◌then◌else◌, Option, Some, None, slice_get}
+use Rattle.typed_tree.specs.declared.expression.Slot.{Slot}
+use Rattle.typed_tree.specs.declared.statement.EndFilter.{EndFilter}
+use Rattle.typed_tree.specs.declared.statement.EndFilter.TheVariants as end
+use Rattle.typed_tree.specs.declared.statement.Ends.{Ends}
+use Rattle.typed_tree.specs.declared.statement.SetValue.{SetValue}
+use Rattle.typed_tree.specs.declared.statement.SetValue.TheVariants as set
+use Rattle.typed_tree.specs.IntegerTree as integer
+use Rattle.typed_tree.specs.IntegerTree.{IntegerTree}
+use Rattle.typed_tree.specs.ConditionTree as condition
+use Rattle.typed_tree.specs.ConditionTree.{ConditionTree}
+use Rattle.typed_tree.specs.StepTree.{FunctionTree, StepTree, StepsTree, DeclareInteger, DeclareCondition, SetInteger, SetCondition, ReduceInteger, SetEntry, ReduceEntry, If, IfElse, NoStep, StepThen}
+use Rattle.typed_tree.specs.BlockTree as block
+use Rattle.typed_tree.specs.BlockTree.{ActionTree, BlockTree, Empty, Then}
+use Rattle.typed_tree.specs.ProgramTree.{ProgramTree}
+use Rattle.plans.specs.declared.depth.Depth.{Depth}
+use Rattle.schedule.specs.declared.choice.Fused.{Fused}
+use Rattle.schedule.specs.declared.choice.Fused.TheVariants.{With, Into}
+use Rattle.schedule.specs.declared.site.Apply.{Apply}
+use Rattle.schedule.specs.declared.site.Apply.TheVariants.{Edges}
+use Rattle.schedule.specs.Access.{are_apart, function_writes}
+use Rattle.schedule.specs.Rules.{are_independent}
+use Rattle.schedule.specs.Schedule.{ScheduleTree, choice_at}
+use Rattle.plans.specs.Instruction.{ResultTree, Dropped, Declared, Assigned, EdgePartTree, OperationTree, ApplyEdgesTogether, ApplyVerticesTogether}
+
+-- an edge apply, and a vertex apply
+pub record EdgeApplyTree : Type 0 where
+  pub ends : Ends
+  pub part : EdgePartTree
+
+pub record VertexApplyTree : Type 0 where
+  pub set : Slot
+  pub function : ℕ
+
+-- the edge apply of which a set gets what it changed
+abbrev pub modifying : (ℕ → ResultTree) → SetValue → Option EdgeApplyTree
+modifying result (set.Modified ends function vector) = Some (record { ends = ends; part = record { function = function; result = result vector } })
+modifying result set.Empty = None
+modifying result set.All = None
+modifying result (set.Copy slot) = None
+modifying result (set.Filter slot function) = None
+
+-- the edge apply, or the vertex apply, that a statement is
+abbrev pub edge_apply_of : ActionTree → Option EdgeApplyTree
+edge_apply_of (block.ApplyEdges ends function) = Some (record { ends = ends; part = record { function = function; result = Dropped } })
+edge_apply_of (block.DeclareSet name value) = modifying (Declared name) value
+edge_apply_of (block.AssignSet slot value) = modifying (Assigned slot) value
+edge_apply_of _ = None
+
+abbrev pub vertex_apply_of : ActionTree → Option VertexApplyTree
+vertex_apply_of (block.ApplyVertex set function) = Some (record { set = set; function = function })
+vertex_apply_of _ = None
+
+-- the place of the set that gets what an edge apply changed, where so many sets are visible; its name; and the vector
+abbrev pub result_places : Depth → ResultTree → List ℕ
+result_places d Dropped = []
+result_places d (Declared name vector) = d.sets ∷ []
+result_places d (Assigned slot vector) = slot.place ∷ []
+
+abbrev pub result_name : ResultTree → Option ℕ
+result_name Dropped = None
+result_name (Declared name vector) = Some name
+result_name (Assigned slot vector) = Some slot.name
+
+abbrev pub result_vectors : ResultTree → List ℕ
+result_vectors Dropped = []
+result_vectors (Declared name vector) = vector ∷ []
+result_vectors (Assigned slot vector) = vector ∷ []
+
+-- the vertex sets of which an expression reads the size
+abbrev pub integer_sizes : IntegerTree → List ℕ
+integer_sizes (integer.Number n) = []
+integer_sizes (integer.Constant name n) = []
+integer_sizes (integer.Variable slot) = []
+integer_sizes (integer.Parameter at) = []
+integer_sizes (integer.EntryAt vector at) = []
+integer_sizes (integer.Entry vector index) = integer_sizes index
+integer_sizes (integer.SetSize slot) = slot.place ∷ []
+integer_sizes (integer.Negative e) = integer_sizes e
+integer_sizes (integer.Arithmetic operator a b) = integer_sizes a ++ integer_sizes b
+
+abbrev pub condition_sizes : ConditionTree → List ℕ
+condition_sizes (condition.Literal b) = []
+condition_sizes (condition.Constant name b) = []
+condition_sizes (condition.Variable slot) = []
+condition_sizes (condition.Not c) = condition_sizes c
+condition_sizes (condition.Compare comparison a b) = integer_sizes a ++ integer_sizes b
+condition_sizes (condition.Connect connective a b) = condition_sizes a ++ condition_sizes b
+
+abbrev mutual
+  -- the same of statements of functions
+  pub step_sizes : StepTree → List ℕ
+  step_sizes (DeclareInteger name e) = integer_sizes e
+  step_sizes (DeclareCondition name c) = condition_sizes c
+  step_sizes (SetInteger slot e) = integer_sizes e
+  step_sizes (SetCondition slot c) = condition_sizes c
+  step_sizes (ReduceInteger slot reduction e) = integer_sizes e
+  step_sizes (SetEntry vector e) = integer_sizes e
+  step_sizes (ReduceEntry vector reduction e) = integer_sizes e
+  step_sizes (If c body) = condition_sizes c ++ steps_sizes body
+  step_sizes (IfElse c body other) = condition_sizes c ++ (steps_sizes body ++ steps_sizes other)
+
+  pub steps_sizes : StepsTree → List ℕ
+  steps_sizes NoStep = []
+  steps_sizes (StepThen step rest) = step_sizes step ++ steps_sizes rest
+
+-- the same of the function at a place; one that is not there does nothing
+abbrev pub steps_sizes_where : Option FunctionTree → List ℕ
+steps_sizes_where None = []
+steps_sizes_where (Some f) = steps_sizes f.steps
+
+abbrev pub function_sizes : List FunctionTree → ℕ → List ℕ
+function_sizes functions place = steps_sizes_where (slice_get functions place)
+
+-- the vertex sets that an end of an edge apply depends on
+abbrev pub end_sets : List FunctionTree → Option EndFilter → List ℕ
+end_sets filters None = []
+end_sets filters (Some (end.Members slot)) = slot.place ∷ []
+end_sets filters (Some (end.Function function)) = function_sizes filters function
+
+-- the vertex sets that an edge apply depends on
+abbrev pub sets_read : ProgramTree → EdgeApplyTree → List ℕ
+sets_read p x = end_sets p.filters x.ends.from ++ (end_sets p.filters x.ends.to ++ function_sizes p.edge_functions x.part.function)
+
+-- two ends are the set, or the filter, at the same place, or none is given
+abbrev pub is_same_end : Option EndFilter → Option EndFilter → Bool
+is_same_end None None = true
+is_same_end None (Some b) = false
+is_same_end (Some a) None = false
+is_same_end (Some (end.Members a)) (Some (end.Members b)) = nat_eq a.place b.place
+is_same_end (Some (end.Members a)) (Some (end.Function g)) = false
+is_same_end (Some (end.Function f)) (Some (end.Members b)) = false
+is_same_end (Some (end.Function f)) (Some (end.Function g)) = nat_eq f g
+
+-- an edge apply as the rules of schedules speak of it
+abbrev pub apply_tree : EdgeApplyTree → Apply
+apply_tree x = Edges x.ends x.part.function (result_name x.part.result)
+
+-- The second of two edge applies gives the same behind the first as beside it: the ends are the same, the two are independent, the second
+-- depends on no set that the first changes, and neither is asked for a vector that the other writes.
+abbrev pub edges_fit : ProgramTree → Depth → EdgeApplyTree → EdgeApplyTree → Bool
+edges_fit p d x y =
+    (is_same_end x.ends.from y.ends.from && is_same_end x.ends.to y.ends.to)
+    && (are_independent p (apply_tree x) (apply_tree y)
+    && (are_apart (sets_read p y) (result_places d x.part.result)
+    && (are_apart (result_vectors x.part.result) (function_writes p.edge_functions y.part.function)
+    && are_apart (result_vectors y.part.result) (function_writes p.edge_functions x.part.function))))
+
+-- an expression reads no entry at an index, and so none but those of the vertex that its function works on
+abbrev pub integer_is_local : IntegerTree → Bool
+integer_is_local (integer.Number n) = true
+integer_is_local (integer.Constant name n) = true
+integer_is_local (integer.Variable slot) = true
+integer_is_local (integer.Parameter at) = true
+integer_is_local (integer.EntryAt vector at) = true
+integer_is_local (integer.Entry vector index) = false
+integer_is_local (integer.SetSize slot) = true
+integer_is_local (integer.Negative e) = integer_is_local e
+integer_is_local (integer.Arithmetic operator a b) = integer_is_local a && integer_is_local b
+
+abbrev pub condition_is_local : ConditionTree → Bool
+condition_is_local (condition.Literal b) = true
+condition_is_local (condition.Constant name b) = true
+condition_is_local (condition.Variable slot) = true
+condition_is_local (condition.Not c) = condition_is_local c
+condition_is_local (condition.Compare comparison a b) = integer_is_local a && integer_is_local b
+condition_is_local (condition.Connect connective a b) = condition_is_local a && condition_is_local b
+
+abbrev mutual
+  -- the same of statements of vertex functions
+  pub step_is_local : StepTree → Bool
+  step_is_local (DeclareInteger name e) = integer_is_local e
+  step_is_local (DeclareCondition name c) = condition_is_local c
+  step_is_local (SetInteger slot e) = integer_is_local e
+  step_is_local (SetCondition slot c) = condition_is_local c
+  step_is_local (ReduceInteger slot reduction e) = integer_is_local e
+  step_is_local (SetEntry vector e) = integer_is_local e
+  step_is_local (ReduceEntry vector reduction e) = integer_is_local e
+  step_is_local (If c body) = condition_is_local c && steps_are_local body
+  step_is_local (IfElse c body other) = condition_is_local c && (steps_are_local body && steps_are_local other)
+
+  pub steps_are_local : StepsTree → Bool
+  steps_are_local NoStep = true
+  steps_are_local (StepThen step rest) = step_is_local step && steps_are_local rest
+
+abbrev pub steps_are_local_where : Option FunctionTree → Bool
+steps_are_local_where None = true
+steps_are_local_where (Some f) = steps_are_local f.steps
+
+abbrev pub function_is_local : List FunctionTree → ℕ → Bool
+function_is_local functions place = steps_are_local_where (slice_get functions place)
+
+-- two vertex applies to the same set, of functions that work on their own vertex alone
+abbrev pub vertices_fit : ProgramTree → VertexApplyTree → VertexApplyTree → Bool
+vertices_fit p x y =
+    nat_eq x.set.place y.set.place
+    && (function_is_local p.vertex_functions x.function && function_is_local p.vertex_functions y.function)
+
+-- two applies together, where they fit
+abbrev pub edges_together : ProgramTree → Depth → Option EdgeApplyTree → Option EdgeApplyTree → Option OperationTree
+edges_together p d None b = None
+edges_together p d (Some x) None = None
+edges_together p d (Some x) (Some y) = if edges_fit p d x y then Some (ApplyEdgesTogether x.ends x.part y.part) else None
+
+abbrev pub vertices_together : ProgramTree → Option VertexApplyTree → Option VertexApplyTree → Option OperationTree
+vertices_together p None b = None
+vertices_together p (Some x) None = None
+vertices_together p (Some x) (Some y) = if vertices_fit p x y then Some (ApplyVerticesTogether x.set x.function y.function) else None
+
+abbrev pub either : Option OperationTree → Option OperationTree → Option OperationTree
+either (Some o) other = Some o
+either None other = other
+
+abbrev pub together : ProgramTree → Depth → ActionTree → ActionTree → Option OperationTree
+together p d a b = either (edges_together p d (edge_apply_of a) (edge_apply_of b)) (vertices_together p (vertex_apply_of a) (vertex_apply_of b))
+
+-- the schedule fuses a statement with the one of a label
+abbrev pub is_with : Option Fused → Option ℕ → Bool
+is_with None label = false
+is_with (Some (Into first)) label = false
+is_with (Some (With second)) None = false
+is_with (Some (With second)) (Some label) = nat_eq second label
+
+-- how a statement of a block is done: alone, together with the next, or with the one before it
+pub data Company : Type 0 where
+  Alone : Company
+  WithNext : OperationTree → Company
+  WithPrevious : Company
+
+abbrev pub with_next : Option OperationTree → Company
+with_next None = Alone
+with_next (Some o) = WithNext o
+
+-- the first statement of a block that is not done already, where so much is visible
+abbrev pub company_of : ProgramTree → ScheduleTree → Depth → (is_done : Bool) → (label : Option ℕ) → ActionTree → BlockTree → Company
+company_of p s d true label action rest = WithPrevious
+company_of p s d false label action Empty = Alone
+company_of p s d false label action (Then number other next rest) =
+    if is_with (choice_at label s).fused other then with_next (together p d action next) else Alone
+
+-- the next statement is done with it
+abbrev pub takes_next : Company → Bool
+takes_next Alone = false
+takes_next (WithNext o) = true
+takes_next WithPrevious = false

@@ -1,0 +1,49 @@
+-- Instructions of plans, without kernels.
+use Rattle.std.specs.Prelude.{ℕ}
+use Rattle.typed_tree.specs.declared.expression.Slot.{Slot}
+use Rattle.typed_tree.specs.declared.statement.Ends.{Ends}
+use Rattle.typed_tree.specs.IntegerTree.{IntegerTree}
+use Rattle.typed_tree.specs.ConditionTree.{ConditionTree}
+use Rattle.typed_tree.specs.BlockTree.{ActionTree}
+use Rattle.plans.specs.declared.depth.Depth.{Depth}
+use Rattle.schedule.specs.declared.choice.Choice.{Choice}
+
+-- what is done with the vertices where an edge apply changed a vector: nothing, or a set gets them, a new variable of this name or one that is there
+pub data ResultTree : Type 0 where
+  Dropped : ResultTree
+  Declared : (name vector : ℕ) → ResultTree
+  Assigned : Slot → (vector : ℕ) → ResultTree
+
+-- the edge function at this place, and what is done with what it changed
+pub record EdgePartTree : Type 0 where
+  pub function : ℕ
+  pub result : ResultTree
+
+-- what an instruction does; a place that it may go to is that of an instruction
+pub data OperationTree : Type 0 where
+  -- a statement without a block
+  Do : ActionTree → OperationTree
+  -- two edge applies between the same ends, and two vertex applies to the same set
+  ApplyEdgesTogether : Ends → (first second : EdgePartTree) → OperationTree
+  ApplyVerticesTogether : (set : Slot) → (first second : ℕ) → OperationTree
+  -- goes on at the place unless the condition holds
+  Unless : ConditionTree → (to : ℕ) → OperationTree
+  -- `for` whose name, the last variable, has its first value: the second bound, which stands behind the name
+  Enter : (name : ℕ) → (end : IntegerTree) → OperationTree
+  -- leaves the loop for the place unless the name is below the bound
+  UnlessBelow : (name to : ℕ) → OperationTree
+  -- the name of the loop gets its next value
+  Advance : (name : ℕ) → OperationTree
+  -- uses a turn, or ends the run
+  Turn : OperationTree
+  Jump : (to : ℕ) → OperationTree
+  End : OperationTree
+
+-- An instruction, with the number of the statement that it came from. A step first forgets what is beyond `keep`. A run that ends there
+-- shows what is visible at the statement, `shown`. What the schedule says of an edge apply decides only how it is done.
+pub record InstructionTree : Type 0 where
+  pub number : ℕ
+  pub keep : Depth
+  pub shown : Depth
+  pub choice : Choice
+  pub operation : OperationTree

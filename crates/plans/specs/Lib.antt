@@ -1,0 +1,5 @@
+pub mod Instruction
+pub mod Plan
+pub mod Fusing
+pub mod Machine
+pub mod Laws

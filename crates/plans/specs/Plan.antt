@@ -1,0 +1,114 @@
+-- The plan of a program.
+use Rattle.std.specs.Prelude.{ℕ, ◌+◌, Bool, false, List, [], ◌∷◌, ◌++◌, length, Option}
+use Rattle.typed_tree.specs.ConditionTree.{ConditionTree}
+use Rattle.typed_tree.specs.BlockTree.{ActionTree, DeclareInteger, DeclareCondition, SetInteger, SetCondition, ReduceInteger, SetEntry, ReduceEntry, DeclareSet, AssignSet, AddVertex, PrintInteger, PrintCondition, ApplyVertex, ApplyEdges, If, IfElse, While, For, BlockTree, Empty, Then}
+use Rattle.typed_tree.specs.ProgramTree.{ProgramTree}
+use Rattle.plans.specs.declared.depth.Depth.{Depth}
+use Rattle.schedule.specs.Schedule.{ScheduleTree, choice_at, no_choice}
+use Rattle.plans.specs.Instruction.{OperationTree, Do, Unless, Enter, UnlessBelow, Advance, Turn, Jump, End, InstructionTree}
+use Rattle.plans.specs.Fusing.{Company, Alone, WithNext, WithPrevious, company_of, takes_next}
+
+-- one more of each kind
+abbrev pub with_integer : Depth → Depth
+with_integer d = record d { integers = d.integers + 1 }
+
+abbrev pub with_condition : Depth → Depth
+with_condition d = record d { conditions = d.conditions + 1 }
+
+abbrev pub with_set : Depth → Depth
+with_set d = record d { sets = d.sets + 1 }
+
+-- in the body of `for`: the name, and the bound behind it
+abbrev pub in_loop : Depth → Depth
+in_loop d = with_integer (with_integer d)
+
+-- at the first statement of main only the constant sets are visible
+abbrev pub main_depth : ProgramTree → Depth
+main_depth p = record { integers = 0; conditions = 0; sets = length p.sets }
+
+-- behind a statement of main, and behind all of a block
+abbrev pub behind : ActionTree → Depth → Depth
+behind (DeclareInteger name e) d = with_integer d
+behind (DeclareCondition name c) d = with_condition d
+behind (DeclareSet name value) d = with_set d
+behind _ d = d
+
+abbrev pub behind_all : BlockTree → Depth → Depth
+behind_all Empty d = d
+behind_all (Then number label action rest) d = behind_all rest (behind action d)
+
+-- an instruction at what is visible
+abbrev pub plain : (number : ℕ) → Depth → OperationTree → InstructionTree
+plain number d operation = record { number = number; keep = d; shown = d; choice = no_choice; operation = operation }
+
+-- an instruction of `for`, which keeps more than it shows
+abbrev pub loop_step : (number : ℕ) → (keep shown : Depth) → OperationTree → InstructionTree
+loop_step number keep shown operation = record { number = number; keep = keep; shown = shown; choice = no_choice; operation = operation }
+
+-- an instruction with what the schedule says of a label
+abbrev pub chosen : ScheduleTree → (number : ℕ) → Option ℕ → Depth → OperationTree → InstructionTree
+chosen s number label d operation = record { number = number; keep = d; shown = d; choice = choice_at label s; operation = operation }
+
+-- of a statement in such company: how many instructions there are, and which
+abbrev pub size_in : Company → ℕ → ℕ
+size_in Alone n = n
+size_in (WithNext operation) n = 1
+size_in WithPrevious n = 0
+
+abbrev pub plan_in : Company → ScheduleTree → (number : ℕ) → Option ℕ → Depth → List InstructionTree → List InstructionTree
+plan_in Alone s number label d is = is
+plan_in (WithNext operation) s number label d is = chosen s number label d operation ∷ []
+plan_in WithPrevious s number label d is = []
+
+abbrev mutual
+  -- how many instructions a statement has
+  pub size : ProgramTree → ScheduleTree → Depth → ActionTree → ℕ
+  size p s d (If c body) = 1 + size_all p s d false body
+  size p s d (IfElse c body other) = 1 + size_all p s d false body + 1 + size_all p s d false other
+  size p s d (While c body) = 2 + size_all p s d false body + 1
+  size p s d (For name first end body) = 4 + size_all p s (in_loop d) false body + 2
+  size p s d _ = 1
+
+  -- and those of a block, whose first one may be done already
+  pub size_all : ProgramTree → ScheduleTree → Depth → (is_done : Bool) → BlockTree → ℕ
+  size_all p s d is_done Empty = 0
+  size_all p s d is_done (Then number label action rest) =
+      size_in (company_of p s d is_done label action rest) (size p s d action)
+      + size_all p s (behind action d) (takes_next (company_of p s d is_done label action rest)) rest
+
+abbrev mutual
+  -- the instructions of a statement, of which the first stands at this place
+  pub plan : ProgramTree → ScheduleTree → (place : ℕ) → Depth → (number : ℕ) → Option ℕ → ActionTree → List InstructionTree
+  plan p s place d number label (If c body) =
+      plain number d (Unless c (place + 1 + size_all p s d false body))
+      ∷ plan_all p s (place + 1) d false body
+  plan p s place d number label (IfElse c body other) =
+      plain number d (Unless c (place + 1 + size_all p s d false body + 1))
+      ∷ (plan_all p s (place + 1) d false body
+      ++ plain number d (Jump (place + 1 + size_all p s d false body + 1 + size_all p s d false other))
+      ∷ plan_all p s (place + 1 + size_all p s d false body + 1) d false other)
+  plan p s place d number label (While c body) =
+      plain number d (Unless c (place + 2 + size_all p s d false body + 1))
+      ∷ plain number d Turn
+      ∷ (plan_all p s (place + 2) d false body
+      ++ plain number d (Jump place) ∷ [])
+  plan p s place d number label (For name first end body) =
+      plain number d (Do (DeclareInteger name first))
+      ∷ loop_step number (with_integer d) d (Enter name end)
+      ∷ loop_step number (in_loop d) d (UnlessBelow name (place + 4 + size_all p s (in_loop d) false body + 2))
+      ∷ loop_step number (in_loop d) d Turn
+      ∷ (plan_all p s (place + 4) (in_loop d) false body
+      ++ plain number d (Advance name)
+      ∷ loop_step number (in_loop d) d (Jump (place + 2)) ∷ [])
+  plan p s place d number label action = chosen s number label d (Do action) ∷ []
+
+  -- the instructions of a block
+  pub plan_all : ProgramTree → ScheduleTree → (place : ℕ) → Depth → (is_done : Bool) → BlockTree → List InstructionTree
+  plan_all p s place d is_done Empty = []
+  plan_all p s place d is_done (Then number label action rest) =
+      plan_in (company_of p s d is_done label action rest) s number label d (plan p s place d number label action)
+      ++ plan_all p s (place + size_in (company_of p s d is_done label action rest) (size p s d action)) (behind action d) (takes_next (company_of p s d is_done label action rest)) rest
+
+-- the instructions of main, and the end
+abbrev pub plan_of : ProgramTree → ScheduleTree → List InstructionTree
+plan_of p s = plan_all p s 0 (main_depth p) false p.main ++ plain 0 (behind_all p.main (main_depth p)) End ∷ []
