@@ -4,4 +4,6 @@ pub mod Proper
 pub mod Places
 pub mod Reaching
 pub mod Whiles
+pub mod Fors
+pub mod Joined
 pub mod Runs

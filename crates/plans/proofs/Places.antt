@@ -39,7 +39,7 @@ has_all (i ∷ is) pre =
     let rest' = subst (λ l. HasAt l (length (pre ++ i ∷ [])) is) (append_assoc pre (i ∷ []) is) rest in
     (here, subst (λ m. HasAt (pre ++ i ∷ is) m is) n rest')
 
-length_in : (company : Company) (s : ScheduleTree) (number : ℕ) (label : Option ℕ) (d : Depth) (is : List InstructionTree) (n : ℕ) → length is ≡ n
+pub length_in : (company : Company) (s : ScheduleTree) (number : ℕ) (label : Option ℕ) (d : Depth) (is : List InstructionTree) (n : ℕ) → length is ≡ n
     → length (plan_in company s number label d is) ≡ size_in company n
 length_in Alone s number label d is n e = e
 length_in (WithNext operation) s number label d is n e = refl

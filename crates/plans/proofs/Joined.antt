@@ -1,0 +1,40 @@
+-- What a pair of statements that one instruction does owes.
+use Rattle.std.proofs.Common.{◌≡◌, ℕ, ◌+◌, Bool, true, false, List, [], ◌∷◌, Option, Some, None, ap, sym, ◌∙◌, refl, subst}
+use Rattle.typed_tree.specs.BlockTree.{ActionTree, BlockTree, Empty, Then}
+use Rattle.typed_tree.specs.ProgramTree.{ProgramTree}
+use Rattle.algorithm_meaning.specs.State.{GraphValue, StateValue}
+use Rattle.algorithm_meaning.specs.Stand.{Stand, Live, then_do}
+use Rattle.algorithm_meaning.specs.Meaning.{after}
+use Rattle.plans.specs.declared.depth.Counter.{Counter}
+use Rattle.plans.specs.declared.depth.Depth.{Depth}
+use Rattle.plans.specs.Instruction.{OperationTree}
+use Rattle.plans.specs.Fusing.{Company, Alone, WithNext, WithPrevious}
+use Rattle.plans.specs.Plan.{behind}
+use Rattle.plans.specs.Machine.{At, act}
+use Rattle.plans.proofs.Proper.{IsProper, HasNoBlock, Leaves, alone-leaves}
+
+module _ (p : ProgramTree) (g : GraphValue) where
+  -- a statement without a block that always goes on, in this state
+  pub record IsFaultless (a : ActionTree) (f : StateValue → StateValue) : Type 0 where
+    pub alone : HasNoBlock a
+    pub means : (number : ℕ) (s : StateValue) → after p g number a s ≡ Live (f s)
+
+  -- an operation does two statements
+  pub record DoesBoth (operation : OperationTree) (d : Depth) (a b : ActionTree) : Type 0 where
+    pub first : StateValue → StateValue
+    pub second : StateValue → StateValue
+    pub first_means : IsFaultless a first
+    pub second_means : IsFaultless b second
+    pub acts : (number : ℕ) (shown : Depth) (place : ℕ) (loops : List Counter) (turns : ℕ) (s : StateValue) → IsProper d turns s
+        → act p g operation number shown place loops s ≡ At (place + 1) loops (second (first s))
+
+  -- what holds of a statement in such company
+  abbrev pub IsInGood : Company → Depth → ActionTree → BlockTree → Type 0
+  IsInGood Alone d a rest = Unit {0}
+  IsInGood WithPrevious d a rest = ⊥
+  IsInGood (WithNext operation) d a Empty = ⊥
+  IsInGood (WithNext operation) d a (Then number label b rest) = DoesBoth operation d a b
+
+  pub faultless-proper : (a : ActionTree) (f : StateValue → StateValue) (d : Depth) (turns : ℕ) (s : StateValue) → IsFaultless a f → IsProper d turns s → IsProper (behind a d) turns (f s)
+  faultless-proper a f d turns s faultless q =
+      subst (Leaves d (behind a d) turns) (faultless.means 0 s) (alone-leaves p g 0 d turns s q a faultless.alone)
