@@ -14,17 +14,11 @@ use Rattle.plans.specs.declared.depth.Depth.{Depth}
 use Rattle.plans.specs.Instruction.{Do, Enter, UnlessBelow, Advance, Turn, Jump, InstructionTree}
 use Rattle.plans.specs.Plan.{with_integer, in_loop, plain, loop_step}
 use Rattle.plans.specs.Machine.{Configuration, At, Ended, forgotten, go_on, after_turn, after_enter, after_advance, step}
+use Rattle.plans.proofs.Types.{Bounds}
 use Rattle.plans.proofs.Depths.{visible, IsWithin, forgotten-all, forgotten-less}
 use Rattle.plans.proofs.Proper.{IsProper}
 use Rattle.plans.proofs.Reaching.{Reaches, here, and_reaches, by_step, Lands, Follows, follows_from, follows_more, takes, leaving, LeadsOn, leads_from, RunsLoop, loop_runs, proper_more}
 use Rattle.plans.proofs.Whiles.{pushed, proper-integer, proper-pushed, forgotten-integer, forgotten-pushed}
-
-abbrev Domain : {A B : Type 0} → (A → B) → Type 0
-Domain {A} f = A
-
--- the bounds of a `for` in the meaning, whose type has no name here
-abbrev pub Bounds : Type 0
-Bounds = Domain following_bounds
 
 -- the counter of a loop with these bounds
 abbrev pub counter : Bounds → Counter

@@ -1,3 +1,4 @@
+pub mod Types
 pub mod Depths
 pub mod Ascending
 pub mod Proper
@@ -7,3 +8,10 @@ pub mod Whiles
 pub mod Fors
 pub mod Joined
 pub mod Runs
+pub mod Columns
+pub mod Local
+pub mod OtherColumns
+pub mod VertexPairs
+pub mod Pairs
+pub mod Counting
+pub mod Whole

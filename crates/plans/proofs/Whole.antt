@@ -1,0 +1,69 @@
+-- Whole runs of plans.
+use Rattle.std.proofs.Common.{◌≡◌, ℕ, zero, suc, ◌+◌, false, List, [], ◌∷◌, ◌++◌, length, map, Option, Some, None, slice_get, ap, sym, ◌∙◌, refl, arith, subst}
+use Rattle.std.specs.List.{range_with_len}
+use Rattle.typed_tree.specs.BlockTree.{ActionTree, BlockTree}
+use Rattle.typed_tree.specs.ProgramTree.{ProgramTree}
+use Rattle.algorithm_meaning.specs.declared.outcome.End.TheVariants.{Finished}
+use Rattle.algorithm_meaning.specs.State.{GraphValue, StateValue}
+use Rattle.algorithm_meaning.specs.Value.{members_of}
+use Rattle.algorithm_meaning.specs.Stand.{Stand, Live, Over}
+use Rattle.algorithm_meaning.specs.Meaning.{after_all, opening, all_vertices}
+use Rattle.schedule.specs.Schedule.{ScheduleTree}
+use Rattle.plans.specs.declared.depth.Depth.{Depth}
+use Rattle.plans.specs.Instruction.{End, InstructionTree}
+use Rattle.plans.specs.Plan.{behind_all, main_depth, plain, size_all, plan_all, plan_of}
+use Rattle.plans.specs.Machine.{Configuration, At, Ended, first_configuration, finish}
+use Rattle.plans.specs.Laws.{RunsAs}
+use Rattle.plans.proofs.Depths.{forgotten-all}
+use Rattle.plans.proofs.Ascending.{AscendsFrom, ascends_range}
+use Rattle.plans.proofs.Proper.{IsProper}
+use Rattle.plans.proofs.Places.{has_front, has_behind, has_all, length-plan_all}
+use Rattle.plans.proofs.Reaching.{Reaches, here, and_reaches, by_step, Follows, takes}
+use Rattle.plans.proofs.Runs.{block_runs}
+use Rattle.plans.proofs.Pairs.{in_good}
+use Rattle.plans.proofs.Counting.{takes_steps}
+
+length-all_vertices : (g : GraphValue) (sets : List ℕ) → length (map (all_vertices g) sets) ≡ length sets
+length-all_vertices g [] = refl
+length-all_vertices g (x ∷ xs) = ap suc (length-all_vertices g xs)
+
+constant_sets_ascend : (g : GraphValue) (sets : List ℕ) (place : ℕ) → AscendsFrom 0 (members_of (slice_get (map (all_vertices g) sets) place))
+constant_sets_ascend g [] place = tt
+constant_sets_ascend g (x ∷ xs) zero = ascends_range 0 g.vertices
+constant_sets_ascend g (x ∷ xs) (suc n) = constant_sets_ascend g xs n
+
+opening-proper : (p : ProgramTree) (g : GraphValue) (turns : ℕ) → IsProper (main_depth p) turns (opening p g turns)
+opening-proper p g turns = record {
+  deep = λ i. record { integers = 0; conditions = 0; sets = length-all_vertices g p.sets i };
+  sets = constant_sets_ascend g p.sets;
+  fewer = omega arith;
+}
+
+-- the last instruction
+comes_to_end : (p : ProgramTree) (g : GraphValue) (code : List InstructionTree) (st : Stand) (to : ℕ) (d : Depth) (turns : ℕ) (c : Configuration) → slice_get code to ≡ Some (plain 0 d End)
+    → Follows p g code to [] d turns st c → Reaches p g code c (finish st)
+comes_to_end p g code (Live s) to d turns c at f =
+    and_reaches p g code f.reaches
+    (by_step p g code (At to [] f.there) (Ended s Finished) (Ended s Finished)
+    (takes p g code to [] f.there (plain 0 d End) s at f.same ∙ ap (λ (t : StateValue). Ended t Finished) (forgotten-all d s f.proper.deep)) here)
+comes_to_end p g code (Over s end) to d turns c at f = f
+
+reaches_end : (p : ProgramTree) (sch : ScheduleTree) (g : GraphValue) (turns : ℕ)
+    → Reaches p g (plan_of p sch) (first_configuration (opening p g turns)) (finish (after_all p g p.main (opening p g turns)))
+reaches_end p sch g turns =
+    let code = plan_of p sch in
+    let d = main_depth p in
+    let s = opening p g turns in
+    let main = plan_all p sch 0 d false p.main in
+    let to = size_all p sch d false p.main in
+    let last = plain 0 (behind_all p.main d) End ∷ [] in
+    let stands = has_all code [] in
+    let q = opening-proper p g turns in
+    comes_to_end p g code (after_all p g p.main s) (0 + to) (behind_all p.main d) turns (At 0 [] s)
+    (has_behind code 0 to (0 + to) main last (length-plan_all p sch p.main 0 d false) refl stands).0
+    (block_runs p g sch code (in_good p g sch) p.main false 0 d turns [] s s (has_front code 0 main last stands) (forgotten-all d s q.deep) q)
+
+pub runs_as : (p : ProgramTree) (sch : ScheduleTree) (g : GraphValue) (turns : ℕ) → RunsAs p g turns (plan_of p sch)
+runs_as p sch g turns =
+    let t = takes_steps p g (plan_of p sch) (first_configuration (opening p g turns)) (finish (after_all p g p.main (opening p g turns))) (reaches_end p sch g turns) in
+    record { count = t.count; ends = t.ends; goes_on = t.goes_on }
