@@ -12,6 +12,7 @@ pub mod Columns
 pub mod Local
 pub mod OtherColumns
 pub mod VertexPairs
+pub mod Beside
 pub mod Pairs
 pub mod Counting
 pub mod Whole
