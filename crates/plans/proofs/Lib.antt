@@ -13,6 +13,8 @@ pub mod Local
 pub mod OtherColumns
 pub mod VertexPairs
 pub mod Beside
+pub mod GivenVectors
+pub mod Giving
 pub mod Pairs
 pub mod Counting
 pub mod Whole
