@@ -15,6 +15,8 @@ pub mod VertexPairs
 pub mod Beside
 pub mod GivenVectors
 pub mod Giving
+pub mod EdgeFunctions
+pub mod Results
 pub mod Pairs
 pub mod Counting
 pub mod Whole
