@@ -17,6 +17,8 @@ pub mod GivenVectors
 pub mod Giving
 pub mod EdgeFunctions
 pub mod Results
+pub mod Matching
+pub mod EdgePairs
 pub mod Pairs
 pub mod Counting
 pub mod Whole

@@ -1,12 +1,127 @@
 -- Two applies that one instruction does.
-use Rattle.std.proofs.Common.{◌≡◌, ℕ, ◌+◌, Bool, true, false, List, [], ◌∷◌, Option, Some, None, ap, sym, ◌∙◌, refl, subst}
-use Rattle.typed_tree.specs.BlockTree.{ActionTree, BlockTree, Empty, Then}
+use Rattle.std.proofs.Common.{◌≡◌, ℕ, ◌+◌, nat_eq, ◌&&◌, Bool, true, false, if◌then◌else◌, List, [], ◌∷◌, length, Option, Some, None, slice_get, ap, sym, ◌∙◌, refl, subst}
+use Rattle.std.proofs.lemmas.Bool.{eqb-true}
+use Rattle.typed_tree.specs.declared.expression.Slot.{Slot}
+use Rattle.typed_tree.specs.declared.statement.SetValue.{SetValue}
+use Rattle.typed_tree.specs.declared.statement.SetValue.TheVariants as set
+use Rattle.typed_tree.specs.BlockTree.{ActionTree, DeclareInteger, DeclareCondition, SetInteger, SetCondition, ReduceInteger, SetEntry, ReduceEntry, DeclareSet, AssignSet, AddVertex, PrintInteger, PrintCondition, ApplyVertex, ApplyEdges, If, IfElse, While, For, BlockTree, Empty, Then}
+use Rattle.typed_tree.specs.StepTree.{FunctionTree}
 use Rattle.typed_tree.specs.ProgramTree.{ProgramTree}
 use Rattle.algorithm_meaning.specs.State.{GraphValue, StateValue}
-use Rattle.schedule.specs.Schedule.{ScheduleTree}
+use Rattle.algorithm_meaning.specs.Value.{members_of}
+use Rattle.algorithm_meaning.specs.Entries.{with_vectors}
+use Rattle.algorithm_meaning.specs.Function.{steps_of}
+use Rattle.algorithm_meaning.specs.VertexApply.{after_vertices, after_apply_vertex}
+use Rattle.schedule.specs.Schedule.{ScheduleTree, choice_at}
+use Rattle.schedule.proofs.Uses.{of_and}
+use Rattle.plans.specs.declared.depth.Counter.{Counter}
 use Rattle.plans.specs.declared.depth.Depth.{Depth}
-use Rattle.plans.specs.Fusing.{Company, company_of}
-use Rattle.plans.proofs.Joined.{IsInGood}
+use Rattle.plans.specs.Instruction.{OperationTree, ApplyEdgesTogether, ApplyVerticesTogether}
+use Rattle.plans.specs.Fusing.{EdgeApplyTree, VertexApplyTree, edge_apply_of, vertex_apply_of, steps_are_local, steps_are_local_where, function_is_local, edges_fit, vertices_fit, edges_together, vertices_together, either, together, is_with, Company, Alone, with_next, company_of}
+use Rattle.plans.specs.Machine.{At, after_both, after_apply_both}
+use Rattle.plans.proofs.Proper.{IsProper}
+use Rattle.plans.proofs.Joined.{IsFaultless, DoesBoth, IsInGood}
+use Rattle.plans.proofs.VertexPairs.{both_at_each}
+use Rattle.plans.proofs.EdgePairs.{after_part, edges_at_once}
 
-pub in_good : (p : ProgramTree) (g : GraphValue) (sch : ScheduleTree) (d : Depth) (label : Option ℕ) (a : ActionTree) (rest : BlockTree) → IsInGood p g (company_of p sch d false label a rest) d a rest
-in_good p g sch d label a rest = ?
+module _ (p : ProgramTree) (g : GraphValue) where
+  -- the statement is this apply
+  abbrev IsEdgeApply : ActionTree → Option EdgeApplyTree → Type 0
+  IsEdgeApply a None = Unit {0}
+  IsEdgeApply a (Some x) = IsFaultless p g a (after_part p g x)
+
+  is_edge_apply : (a : ActionTree) → IsEdgeApply a (edge_apply_of a)
+  is_edge_apply (ApplyEdges ends function) = record { alone = tt; means = λ number s. refl }
+  is_edge_apply (DeclareSet name (set.Modified ends function vector)) = record { alone = tt; means = λ number s. refl }
+  is_edge_apply (AssignSet slot (set.Modified ends function vector)) = record { alone = tt; means = λ number s. refl }
+  is_edge_apply a = tt
+
+  abbrev after_vertex_apply : VertexApplyTree → StateValue → StateValue
+  after_vertex_apply x s = after_apply_vertex p.vertex_functions x.set.place x.function s
+
+  abbrev IsVertexApply : ActionTree → Option VertexApplyTree → Type 0
+  IsVertexApply a None = Unit {0}
+  IsVertexApply a (Some x) = IsFaultless p g a (after_vertex_apply x)
+
+  is_vertex_apply : (a : ActionTree) → IsVertexApply a (vertex_apply_of a)
+  is_vertex_apply (ApplyVertex set function) = record { alone = tt; means = λ number s. refl }
+  is_vertex_apply a = tt
+
+  local_steps : (f : Option FunctionTree) → steps_are_local_where f ≡ true → steps_are_local (steps_of f) ≡ true
+  local_steps None h = refl
+  local_steps (Some f) h = h
+
+  vertices_at_once : (x y : VertexApplyTree) (d : Depth) (turns : ℕ) (s : StateValue) → vertices_fit p x y ≡ true → IsProper d turns s
+      → after_apply_both p x.set.place x.function y.function s ≡ after_vertex_apply y (after_vertex_apply x s)
+  vertices_at_once x y d turns s fit q =
+      let fits = of_and (nat_eq x.set.place y.set.place) (function_is_local p.vertex_functions x.function && function_is_local p.vertex_functions y.function) fit in
+      let local = of_and (function_is_local p.vertex_functions x.function) (function_is_local p.vertex_functions y.function) fits.1 in
+      let f = steps_of (slice_get p.vertex_functions x.function) in
+      let h = steps_of (slice_get p.vertex_functions y.function) in
+      ap (with_vectors s) (both_at_each f h (local_steps (slice_get p.vertex_functions x.function) local.0) (local_steps (slice_get p.vertex_functions y.function) local.1) 0 s
+        (members_of (slice_get s.sets x.set.place)) s.vectors (q.sets x.set.place))
+      ∙ ap (λ (n : ℕ). with_vectors s (after_vertices h s.sets (members_of (slice_get s.sets n)) (after_vertices f s.sets (members_of (slice_get s.sets x.set.place)) s.vectors)))
+        (eqb-true x.set.place y.set.place fits.0)
+
+  -- an operation, if there is one, does both
+  abbrev DoesBothIf : Option OperationTree → Depth → ActionTree → ActionTree → Type 0
+  DoesBothIf None d a b = Unit {0}
+  DoesBothIf (Some operation) d a b = DoesBoth p g operation d a b
+
+  edges_if : (d : Depth) (a b : ActionTree) (x y : EdgeApplyTree) (fits : Bool) → edges_fit p d x y ≡ fits → IsFaultless p g a (after_part p g x) → IsFaultless p g b (after_part p g y)
+      → DoesBothIf (if fits then Some (ApplyEdgesTogether x.ends x.part y.part) else None) d a b
+  edges_if d a b x y false e h k = tt
+  edges_if d a b x y true e h k = record {
+    first = after_part p g x;
+    second = after_part p g y;
+    first_means = h;
+    second_means = k;
+    acts = λ number shown place loops turns s q. ap (At (place + 1) loops) (edges_at_once p g d x y s e (ap (λ (d : Depth). d.sets) q.deep));
+  }
+
+  vertices_if : (d : Depth) (a b : ActionTree) (x y : VertexApplyTree) (fits : Bool) → vertices_fit p x y ≡ fits → IsFaultless p g a (after_vertex_apply x) → IsFaultless p g b (after_vertex_apply y)
+      → DoesBothIf (if fits then Some (ApplyVerticesTogether x.set x.function y.function) else None) d a b
+  vertices_if d a b x y false e h k = tt
+  vertices_if d a b x y true e h k = record {
+    first = after_vertex_apply x;
+    second = after_vertex_apply y;
+    first_means = h;
+    second_means = k;
+    acts = λ number shown place loops turns s q. ap (At (place + 1) loops) (vertices_at_once x y d turns s e q);
+  }
+
+  edges_do_both : (d : Depth) (a b : ActionTree) (x y : Option EdgeApplyTree) → IsEdgeApply a x → IsEdgeApply b y → DoesBothIf (edges_together p d x y) d a b
+  edges_do_both d a b None y h k = tt
+  edges_do_both d a b (Some x) None h k = tt
+  edges_do_both d a b (Some x) (Some y) h k = edges_if d a b x y (edges_fit p d x y) refl h k
+
+  vertices_do_both : (d : Depth) (a b : ActionTree) (x y : Option VertexApplyTree) → IsVertexApply a x → IsVertexApply b y → DoesBothIf (vertices_together p x y) d a b
+  vertices_do_both d a b None y h k = tt
+  vertices_do_both d a b (Some x) None h k = tt
+  vertices_do_both d a b (Some x) (Some y) h k = vertices_if d a b x y (vertices_fit p x y) refl h k
+
+  either_does_both : (o other : Option OperationTree) (d : Depth) (a b : ActionTree) → DoesBothIf o d a b → DoesBothIf other d a b → DoesBothIf (either o other) d a b
+  either_does_both None other d a b h k = k
+  either_does_both (Some operation) other d a b h k = h
+
+  together_does_both : (d : Depth) (a b : ActionTree) → DoesBothIf (together p d a b) d a b
+  together_does_both d a b =
+      either_does_both (edges_together p d (edge_apply_of a) (edge_apply_of b)) (vertices_together p (vertex_apply_of a) (vertex_apply_of b)) d a b
+      (edges_do_both d a b (edge_apply_of a) (edge_apply_of b) (is_edge_apply a) (is_edge_apply b))
+      (vertices_do_both d a b (vertex_apply_of a) (vertex_apply_of b) (is_vertex_apply a) (is_vertex_apply b))
+
+  good_with_next : (o : Option OperationTree) (d : Depth) (a b : ActionTree) (number : ℕ) (label : Option ℕ) (rest : BlockTree) → DoesBothIf o d a b
+      → IsInGood p g (with_next o) d a (Then number label b rest)
+  good_with_next None d a b number label rest h = tt
+  good_with_next (Some operation) d a b number label rest h = h
+
+  good_if_fused : (fused : Bool) (o : Option OperationTree) (d : Depth) (a b : ActionTree) (number : ℕ) (label : Option ℕ) (rest : BlockTree) → DoesBothIf o d a b
+      → IsInGood p g (if fused then with_next o else Alone) d a (Then number label b rest)
+  good_if_fused true o d a b number label rest h = good_with_next o d a b number label rest h
+  good_if_fused false o d a b number label rest h = tt
+
+  -- each statement is in good company
+  pub in_good : (sch : ScheduleTree) (d : Depth) (label : Option ℕ) (a : ActionTree) (rest : BlockTree) → IsInGood p g (company_of p sch d false label a rest) d a rest
+  in_good sch d label a Empty = tt
+  in_good sch d label a (Then number other b rest) =
+      good_if_fused (is_with (choice_at label sch).fused other) (together p d a b) d a b number other rest (together_does_both d a b)
