@@ -17,7 +17,7 @@ use Rattle.plans.specs.Machine.{Configuration, At, Ended, forgotten, go_on, afte
 use Rattle.plans.proofs.Types.{Bounds}
 use Rattle.plans.proofs.Depths.{visible, IsWithin, forgotten-all, forgotten-less}
 use Rattle.plans.proofs.Proper.{IsProper}
-use Rattle.plans.proofs.Reaching.{Reaches, here, and_reaches, by_step, Lands, Follows, follows_from, follows_more, takes, leaving, LeadsOn, leads_from, RunsLoop, loop_runs, proper_more}
+use Rattle.plans.proofs.Reaching.{Reaches, here, and_reaches, by_step, Moves, moves_on, moves_from, Lands, Follows, follows_from, follows_more, takes, leaving, LeadsOn, leads_from, RunsLoop, loop_runs, proper_more}
 use Rattle.plans.proofs.Whiles.{pushed, proper-integer, proper-pushed, forgotten-integer, forgotten-pushed}
 
 -- the counter of a loop with these bounds
@@ -42,19 +42,19 @@ module _ (p : ProgramTree) (g : GraphValue) (code : List InstructionTree) (place
   IsAtFor r s c = (m : StateValue) × (forgotten (in_loop d) m ≡ pushed s r.next r.end) × (c ≡ At (place + 2) (counter r ∷ loops) m)
 
   tested : (r : Bounds) (t : StateValue) (x : Configuration) (b : Bool) → IsAtFor r t x → int_lt r.next r.end ≡ b
-      → step p g code x ≡ (if b then At (place + 3) (counter r ∷ loops) (pushed t r.next r.end) else At to loops (pushed t r.next r.end))
+      → Moves p g code x (if b then At (place + 3) (counter r ∷ loops) (pushed t r.next r.end) else At to loops (pushed t r.next r.end))
   tested r t x b head e =
-      ap (step p g code) head.2
-      ∙ takes p g code (place + 2) (counter r ∷ loops) head.0 (loop_step number (in_loop d) d (UnlessBelow name to)) (pushed t r.next r.end) stands.at_test head.1
-      ∙ ap (λ (y : ℕ). if int_lt r.next r.end then At y (counter r ∷ loops) (pushed t r.next r.end) else At to loops (pushed t r.next r.end)) (omega arith)
-      ∙ ap (λ (c : Bool). if c then At (place + 3) (counter r ∷ loops) (pushed t r.next r.end) else At to loops (pushed t r.next r.end)) e
+      moves_from p g code head.2
+      (moves_on p g code (takes p g code (place + 2) (counter r ∷ loops) head.0 (loop_step number (in_loop d) d (UnlessBelow name to)) (pushed t r.next r.end) stands.at_test head.1)
+      (ap (λ (y : ℕ). if int_lt r.next r.end then At y (counter r ∷ loops) (pushed t r.next r.end) else At to loops (pushed t r.next r.end)) (omega arith)
+      ∙ ap (λ (c : Bool). if c then At (place + 3) (counter r ∷ loops) (pushed t r.next r.end) else At to loops (pushed t r.next r.end)) e))
 
   turned : (r : Bounds) (turns : ℕ) (t : StateValue) → IsProper d turns t
-      → step p g code (At (place + 3) (counter r ∷ loops) (pushed t r.next r.end)) ≡ after_turn t.turns (place + 4) (counter r ∷ loops) d (pushed t r.next r.end)
+      → Moves p g code (At (place + 3) (counter r ∷ loops) (pushed t r.next r.end)) (after_turn t.turns (place + 4) (counter r ∷ loops) d (pushed t r.next r.end))
   turned r turns t q =
-      takes p g code (place + 3) (counter r ∷ loops) (pushed t r.next r.end) (loop_step number (in_loop d) d Turn) (pushed t r.next r.end) stands.at_turn
-      (forgotten-all (in_loop d) (pushed t r.next r.end) (proper-pushed d turns t r.next r.end q).deep)
-      ∙ ap (λ (x : ℕ). after_turn t.turns x (counter r ∷ loops) d (pushed t r.next r.end)) (omega arith)
+      moves_on p g code (takes p g code (place + 3) (counter r ∷ loops) (pushed t r.next r.end) (loop_step number (in_loop d) d Turn) (pushed t r.next r.end) stands.at_turn
+      (forgotten-all (in_loop d) (pushed t r.next r.end) (proper-pushed d turns t r.next r.end q).deep))
+      (ap (λ (x : ℕ). after_turn t.turns x (counter r ∷ loops) d (pushed t r.next r.end)) (omega arith))
 
   for_leads : (st : Stand) (r : Bounds) (turns : ℕ) (c : Configuration) → Follows p g code back (counter r ∷ loops) d turns st c
       → LeadsOn p g code d turns (IsAtFor (following_bounds r)) st c
@@ -87,9 +87,9 @@ module _ (p : ProgramTree) (g : GraphValue) (code : List InstructionTree) (place
     is_over = λ r n t x q head holds none.
         by_step p g code x (At (place + 3) (counter r ∷ loops) (pushed t r.next r.end)) (Ended t TurnsOver) (tested r t x true head (of_some (int_lt r.next r.end) true holds))
         (by_step p g code (At (place + 3) (counter r ∷ loops) (pushed t r.next r.end)) (Ended t TurnsOver) (Ended t TurnsOver)
-        (turned r n t q
-        ∙ ap (λ (y : ℕ). after_turn y (place + 4) (counter r ∷ loops) d (pushed t r.next r.end)) none
-        ∙ ap (λ (u : StateValue). Ended u TurnsOver) (forgotten-pushed d n t r.next r.end q)) here);
+        (moves_on p g code (turned r n t q)
+        (ap (λ (y : ℕ). after_turn y (place + 4) (counter r ∷ loops) d (pushed t r.next r.end)) none
+        ∙ ap (λ (u : StateValue). Ended u TurnsOver) (forgotten-pushed d n t r.next r.end q))) here);
     turn = λ r n t x q head holds k left.
         let u : StateValue = record t { turns = k } in
         let proper : IsProper d k u = record { deep = q.deep; sets = q.sets; fewer = omega arith } in
@@ -97,7 +97,7 @@ module _ (p : ProgramTree) (g : GraphValue) (code : List InstructionTree) (place
         leads_from p g code d k (IsAtFor (following_bounds r)) (for_body block r u) x (At (place + 4) (counter r ∷ loops) inner)
         (by_step p g code x (At (place + 3) (counter r ∷ loops) (pushed t r.next r.end)) (At (place + 4) (counter r ∷ loops) inner) (tested r t x true head (of_some (int_lt r.next r.end) true holds))
         (by_step p g code (At (place + 3) (counter r ∷ loops) (pushed t r.next r.end)) (At (place + 4) (counter r ∷ loops) inner) (At (place + 4) (counter r ∷ loops) inner)
-        (turned r n t q ∙ ap (λ (y : ℕ). after_turn y (place + 4) (counter r ∷ loops) d (pushed t r.next r.end)) left) here))
+        (moves_on p g code (turned r n t q) (ap (λ (y : ℕ). after_turn y (place + 4) (counter r ∷ loops) d (pushed t r.next r.end)) left)) here))
         (for_leads (for_body block r u) r k (At (place + 4) (counter r ∷ loops) inner)
         (leaving p g code (block inner) back (counter r ∷ loops) d e k u (At (place + 4) (counter r ∷ loops) inner) q.deep within
         (block_runs r k inner (proper-pushed d k u r.next r.end proper))));
@@ -105,12 +105,12 @@ module _ (p : ProgramTree) (g : GraphValue) (code : List InstructionTree) (place
 
   -- the second bound does not see the name
   entered : (turns : ℕ) (s : StateValue) (x : ℤ) → IsProper d turns s
-      → step p g code (At (place + 1) loops (with_new_integer s x)) ≡ after_enter (number_in g.vertices end s) (place + 2) loops number d (with_new_integer s x)
+      → Moves p g code (At (place + 1) loops (with_new_integer s x)) (after_enter (number_in g.vertices end s) (place + 2) loops number d (with_new_integer s x))
   entered turns s x q =
-      takes p g code (place + 1) loops (with_new_integer s x) (loop_step number (with_integer d) d (Enter name end)) (with_new_integer s x) stands.at_end
-      (forgotten-all (with_integer d) (with_new_integer s x) (proper-integer d turns s x q).deep)
-      ∙ ap (λ (t : StateValue). after_enter (number_in g.vertices end t) (place + 1 + 1) loops number d (with_new_integer s x)) (forgotten-integer d turns s x q)
-      ∙ ap (λ (y : ℕ). after_enter (number_in g.vertices end s) y loops number d (with_new_integer s x)) (omega arith)
+      moves_on p g code (takes p g code (place + 1) loops (with_new_integer s x) (loop_step number (with_integer d) d (Enter name end)) (with_new_integer s x) stands.at_end
+      (forgotten-all (with_integer d) (with_new_integer s x) (proper-integer d turns s x q).deep))
+      (ap (λ (t : StateValue). after_enter (number_in g.vertices end t) (place + 1 + 1) loops number d (with_new_integer s x)) (forgotten-integer d turns s x q)
+      ∙ ap (λ (y : ℕ). after_enter (number_in g.vertices end s) y loops number d (with_new_integer s x)) (omega arith))
 
   first_value : (turns : ℕ) (s : StateValue) (x : ℤ) → IsProper d turns s → slice_index_or (s.scope.integers ++ x ∷ []) d.integers (pos 0) ≡ x
   first_value turns s x q =
@@ -118,10 +118,10 @@ module _ (p : ProgramTree) (g : GraphValue) (code : List InstructionTree) (place
       ∙ get_or-append_seam s.scope.integers x [] (pos 0)
 
   begun : (s m : StateValue) (o : Option ℤ) → forgotten d m ≡ s → number_in g.vertices first s ≡ o
-      → step p g code (At place loops m) ≡ go_on (place + 1) loops d (with_value o number s (λ n. Live (with_new_integer s n)))
+      → Moves p g code (At place loops m) (go_on (place + 1) loops d (with_value o number s (λ n. Live (with_new_integer s n))))
   begun s m o same e =
-      takes p g code place loops m (plain number d (Do (DeclareInteger name first))) s stands.at_first same
-      ∙ ap (λ (o : Option ℤ). go_on (place + 1) loops d (with_value o number s (λ n. Live (with_new_integer s n)))) e
+      moves_on p g code (takes p g code place loops m (plain number d (Do (DeclareInteger name first))) s stands.at_first same)
+      (ap (λ (o : Option ℤ). go_on (place + 1) loops d (with_value o number s (λ n. Live (with_new_integer s n)))) e)
 
   with_bounds : (block : StateValue → Stand) (turns : ℕ) (s m : StateValue) (a b : Option ℤ) → IsWithin d e
       → ((r : Bounds) (n : ℕ) (t : StateValue) → IsProper (in_loop d) n t → Follows p g code back (counter r ∷ loops) e n (block t) (At (place + 4) (counter r ∷ loops) t))
@@ -129,13 +129,13 @@ module _ (p : ProgramTree) (g : GraphValue) (code : List InstructionTree) (place
       → Follows p g code to loops d turns (with_value (both_bounds a b) number s (λ r. after_for number block r s)) (At place loops m)
   with_bounds block turns s m None b within block_runs same q e_first e_end =
       by_step p g code (At place loops m) (Ended s (Fault 401 number)) (Ended s (Fault 401 number))
-      (begun s m None same e_first ∙ ap (λ (t : StateValue). Ended t (Fault 401 number)) (forgotten-all d s q.deep)) here
+      (moves_on p g code (begun s m None same e_first) (ap (λ (t : StateValue). Ended t (Fault 401 number)) (forgotten-all d s q.deep))) here
   with_bounds block turns s m (Some x) None within block_runs same q e_first e_end =
       by_step p g code (At place loops m) (At (place + 1) loops (with_new_integer s x)) (Ended s (Fault 401 number)) (begun s m (Some x) same e_first)
       (by_step p g code (At (place + 1) loops (with_new_integer s x)) (Ended s (Fault 401 number)) (Ended s (Fault 401 number))
-      (entered turns s x q
-      ∙ ap (λ (o : Option ℤ). after_enter o (place + 2) loops number d (with_new_integer s x)) e_end
-      ∙ ap (λ (t : StateValue). Ended t (Fault 401 number)) (forgotten-integer d turns s x q)) here)
+      (moves_on p g code (entered turns s x q)
+      (ap (λ (o : Option ℤ). after_enter o (place + 2) loops number d (with_new_integer s x)) e_end
+      ∙ ap (λ (t : StateValue). Ended t (Fault 401 number)) (forgotten-integer d turns s x q))) here)
   with_bounds block turns s m (Some x) (Some y) within block_runs same q e_first e_end =
       let r : Bounds = record { next = x; end = y } in
       let head : Configuration = At (place + 2) (counter r ∷ loops) (pushed s x y) in
@@ -143,9 +143,9 @@ module _ (p : ProgramTree) (g : GraphValue) (code : List InstructionTree) (place
       follows_from p g code st to loops d turns (At place loops m) head
       (by_step p g code (At place loops m) (At (place + 1) loops (with_new_integer s x)) head (begun s m (Some x) same e_first)
       (by_step p g code (At (place + 1) loops (with_new_integer s x)) head head
-      (entered turns s x q
-      ∙ ap (λ (o : Option ℤ). after_enter o (place + 2) loops number d (with_new_integer s x)) e_end
-      ∙ ap (λ (n : ℤ). At (place + 2) (record { next = n; end = y } ∷ loops) (pushed s x y)) (first_value turns s x q)) here))
+      (moves_on p g code (entered turns s x q)
+      (ap (λ (o : Option ℤ). after_enter o (place + 2) loops number d (with_new_integer s x)) e_end
+      ∙ ap (λ (n : ℤ). At (place + 2) (record { next = n; end = y } ∷ loops) (pushed s x y)) (first_value turns s x q))) here))
       (follows_more p g code st to loops d s.turns turns head q.fewer
       (loop_runs p g code Bounds for_test (for_body block) following_bounds number to loops d IsAtFor (for_loop block within block_runs) s.turns r s head
       (record { deep = q.deep; sets = q.sets; fewer = omega arith })

@@ -1,5 +1,5 @@
 -- The steps of the machine, one after the other.
-use Rattle.std.proofs.Common.{◌≡◌, ℕ, zero, suc, ◌+◌, ◌≤◌, ℤ, pos, Bool, true, false, List, [], ◌∷◌, ◌++◌, length, Option, Some, None, slice_get, slice_index_or, ap, sym, ◌∙◌, refl, arith, subst}
+use Rattle.std.proofs.Common.{◌≡◌, ℕ, zero, suc, ◌+◌, ◌<◌, ◌≤◌, ℤ, pos, Bool, true, false, List, [], ◌∷◌, ◌++◌, length, Option, Some, None, slice_get, slice_index_or, ap, sym, ◌∙◌, refl, arith, subst}
 use Rattle.std.proofs.lemmas.List.{take-append-le}
 use Rattle.typed_tree.specs.BlockTree.{ActionTree}
 use Rattle.typed_tree.specs.ProgramTree.{ProgramTree}
@@ -15,6 +15,7 @@ use Rattle.plans.specs.declared.depth.Depth.{Depth}
 use Rattle.plans.specs.Instruction.{Do, Jump, InstructionTree}
 use Rattle.plans.specs.Plan.{behind, loop_step}
 use Rattle.plans.specs.Machine.{Configuration, At, Ended, forgotten, go_on, act, act_at, step}
+use Rattle.plans.specs.Laws.{GoesOn}
 use Rattle.plans.proofs.Depths.{visible, IsWithin, forgotten-all, forgotten-less}
 use Rattle.plans.proofs.Proper.{IsProper, HasNoBlock, Leaves, alone-leaves, proper-forgotten}
 
@@ -27,18 +28,34 @@ forgotten-new d s n h = λ i. record (forgotten d s) {
   scope = record (forgotten d s).scope { integers = take-append-le d.integers s.scope.integers (n ∷ []) h i };
 }
 
+is_inside : (code : List InstructionTree) (place : ℕ) (i : InstructionTree) → slice_get code place ≡ Some i → place < length code
+is_inside [] place i h = let bad : None ≡ Some i = h in cc
+is_inside (x ∷ xs) zero i h = omega arith
+is_inside (x ∷ xs) (suc n) i h = let within = is_inside xs n i h in omega (arith, within)
+
 module _ (p : ProgramTree) (g : GraphValue) (code : List InstructionTree) where
   -- the machine goes from one configuration to another
   pub data Reaches : Configuration → Configuration → Type 0 where
     here : {c : Configuration} → Reaches c c
-    next : {c d : Configuration} → Reaches (step p g code c) d → Reaches c d
+    next : {c d : Configuration} → GoesOn code c → Reaches (step p g code c) d → Reaches c d
 
   pub and_reaches : {a b c : Configuration} → Reaches a b → Reaches b c → Reaches a c
   and_reaches here r = r
-  and_reaches (next q) r = next (and_reaches q r)
+  and_reaches (next h q) r = next h (and_reaches q r)
 
-  pub by_step : (c d e : Configuration) → step p g code c ≡ d → Reaches d e → Reaches c e
-  by_step c d e h r = next (subst (λ (x : Configuration). Reaches x e) (sym h) r)
+  -- one step, from a configuration that has a next one
+  pub record Moves (c d : Configuration) : Type 0 where
+    pub goes_on : GoesOn code c
+    pub leads : step p g code c ≡ d
+
+  pub moves_on : {c d e : Configuration} → Moves c d → d ≡ e → Moves c e
+  moves_on m h = record { goes_on = m.goes_on; leads = m.leads ∙ h }
+
+  pub moves_from : {b c d : Configuration} → b ≡ c → Moves c d → Moves b d
+  moves_from h m = record { goes_on = subst (GoesOn code) (sym h) m.goes_on; leads = ap (step p g code) h ∙ m.leads }
+
+  pub by_step : (c d e : Configuration) → Moves c d → Reaches d e → Reaches c e
+  by_step c d e h r = next h.goes_on (subst (λ (x : Configuration). Reaches x e) (sym h.leads) r)
 
   -- it comes to a place with a state that is, without what is beyond a depth, this one
   pub record Lands (to : ℕ) (loops : List Counter) (d : Depth) (turns : ℕ) (s : StateValue) (c : Configuration) : Type 0 where
@@ -62,17 +79,19 @@ module _ (p : ProgramTree) (g : GraphValue) (code : List InstructionTree) where
 
   -- one instruction
   pub takes : (place : ℕ) (loops : List Counter) (m : StateValue) (i : InstructionTree) (s : StateValue) → slice_get code place ≡ Some i → forgotten i.keep m ≡ s
-      → step p g code (At place loops m) ≡ act p g i.operation i.number i.shown place loops s
+      → Moves (At place loops m) (act p g i.operation i.number i.shown place loops s)
   takes place loops m i s h e =
-      ap (λ (o : Option InstructionTree). act_at p g o place loops m) h
-      ∙ ap (λ (t : StateValue). act p g i.operation i.number i.shown place loops t) e
+      record {
+        goes_on = is_inside code place i h;
+        leads = ap (λ (o : Option InstructionTree). act_at p g o place loops m) h ∙ ap (λ (t : StateValue). act p g i.operation i.number i.shown place loops t) e;
+      }
 
   alone_stands : (st : Stand) (to : ℕ) (loops : List Counter) (d e : Depth) (turns : ℕ) (c : Configuration) → Leaves d e turns st
-      → step p g code c ≡ go_on to loops d st → Follows to loops e turns st c
+      → Moves c (go_on to loops d st) → Follows to loops e turns st c
   alone_stands (Live t) to loops d e turns c leaves h =
       record { there = t; reaches = by_step c (At to loops t) (At to loops t) h here; same = forgotten-all e t leaves.deep; proper = leaves }
   alone_stands (Over t end) to loops d e turns c leaves h =
-      by_step c (Ended t end) (Ended t end) (h ∙ ap (λ (u : StateValue). Ended u end) (forgotten-all d t leaves)) here
+      by_step c (Ended t end) (Ended t end) (moves_on h (ap (λ (u : StateValue). Ended u end) (forgotten-all d t leaves))) here
 
   -- a statement without a block
   pub alone_runs : (a : ActionTree) → HasNoBlock a → (place number : ℕ) (choice : Choice) (d : Depth) (turns : ℕ) (loops : List Counter) (m s : StateValue)

@@ -18,7 +18,7 @@ use Rattle.plans.specs.Machine.{Configuration, At, Ended, forgotten, act, step}
 use Rattle.plans.proofs.Depths.{visible, IsWithin, within_behind_all, within_both, forgotten-all}
 use Rattle.plans.proofs.Proper.{IsProper, HasNoBlock}
 use Rattle.plans.proofs.Places.{HasAt, has_front, has_behind, length_in, length-plan, length-plan_all}
-use Rattle.plans.proofs.Reaching.{Reaches, here, and_reaches, by_step, Lands, Follows, follows_from, takes, alone_runs, leaving, jumps, lands_at}
+use Rattle.plans.proofs.Reaching.{Reaches, here, and_reaches, by_step, Moves, moves_on, Lands, Follows, follows_from, takes, alone_runs, leaving, jumps, lands_at}
 use Rattle.plans.proofs.Whiles.{unless_faults, unless_chooses, while_runs}
 use Rattle.plans.proofs.Fors.{counter, StandsFor, for_runs}
 use Rattle.plans.proofs.Joined.{IsFaultless, DoesBoth, IsInGood, faultless-proper}
@@ -49,7 +49,7 @@ module _ (p : ProgramTree) (g : GraphValue) (sch : ScheduleTree) (code : List In
 
   -- a block inside a statement, at its first instruction
   block_inside : (st : Stand) (to : ℕ) (loops : List Counter) (b : BlockTree) (d : Depth) (turns : ℕ) (s : StateValue) (c c' : Configuration) → IsProper d turns s
-      → step p g code c ≡ c' → Follows p g code to loops (behind_all b d) turns st c' → Follows p g code to loops d turns (leave (depth_of s) st) c
+      → Moves p g code c c' → Follows p g code to loops (behind_all b d) turns st c' → Follows p g code to loops d turns (leave (depth_of s) st) c
   block_inside st to loops b d turns s c c' q e f =
       follows_from p g code (leave (depth_of s) st) to loops d turns c c' (by_step p g code c c' c' e here)
       (leaving p g code st to loops d (behind_all b d) turns s c' q.deep (within_behind_all b d) f)
@@ -93,7 +93,7 @@ module _ (p : ProgramTree) (g : GraphValue) (sch : ScheduleTree) (code : List In
       record {
         there = both.second (both.first s);
         reaches = by_step p g code (At place loops m) (At (place + 1) loops (both.second (both.first s))) (At (place + 1) loops (both.second (both.first s)))
-            (takes p g code place loops m (chosen sch number label d operation) s at same ∙ both.acts number d place loops turns s q) here;
+            (moves_on p g code (takes p g code place loops m (chosen sch number label d operation) s at same) (both.acts number d place loops turns s q)) here;
         same = forgotten-all (behind b (behind a d)) (both.second (both.first s)) proper.deep;
         proper = proper;
       }

@@ -18,7 +18,7 @@ use Rattle.plans.specs.Plan.{with_integer, in_loop, plain, loop_step}
 use Rattle.plans.specs.Machine.{Configuration, At, Ended, forgotten, act, after_unless, after_unless_below, after_turn, after_enter, next_of, step}
 use Rattle.plans.proofs.Depths.{visible, IsWithin, forgotten-all}
 use Rattle.plans.proofs.Proper.{IsProper}
-use Rattle.plans.proofs.Reaching.{Reaches, here, and_reaches, by_step, Lands, Follows, follows_more, takes, leaving, LeadsOn, leads_from, RunsLoop, loop_runs, proper_more, forgotten-new}
+use Rattle.plans.proofs.Reaching.{Reaches, here, and_reaches, by_step, Moves, moves_on, moves_from, Lands, Follows, follows_more, takes, leaving, LeadsOn, leads_from, RunsLoop, loop_runs, proper_more, forgotten-new}
 
 -- the state with the variables of a `for`
 abbrev pub pushed : StateValue → (next end : ℤ) → StateValue
@@ -56,16 +56,16 @@ module _ (p : ProgramTree) (g : GraphValue) (code : List InstructionTree) where
       → Reaches p g code (At place loops m) (Ended s (Fault 401 number))
   unless_faults c place number to d turns loops m s at same proper e =
       by_step p g code (At place loops m) (Ended s (Fault 401 number)) (Ended s (Fault 401 number))
-      (takes p g code place loops m (plain number d (Unless c to)) s at same
-      ∙ ap (λ (o : Option Bool). after_unless o (place + 1) to loops number d s) e
-      ∙ ap (λ (t : StateValue). Ended t (Fault 401 number)) (forgotten-all d s proper.deep)) here
+      (moves_on p g code (takes p g code place loops m (plain number d (Unless c to)) s at same)
+      (ap (λ (o : Option Bool). after_unless o (place + 1) to loops number d s) e
+      ∙ ap (λ (t : StateValue). Ended t (Fault 401 number)) (forgotten-all d s proper.deep))) here
 
   pub unless_chooses : (c : ConditionTree) (place number to : ℕ) (d : Depth) (loops : List Counter) (m s : StateValue) (b : Bool)
       → slice_get code place ≡ Some (plain number d (Unless c to)) → forgotten d m ≡ s → choice_in g.vertices c s ≡ Some b
-      → step p g code (At place loops m) ≡ At (if b then place + 1 else to) loops s
+      → Moves p g code (At place loops m) (At (if b then place + 1 else to) loops s)
   unless_chooses c place number to d loops m s b at same e =
-      takes p g code place loops m (plain number d (Unless c to)) s at same
-      ∙ ap (λ (o : Option Bool). after_unless o (place + 1) to loops number d s) e
+      moves_on p g code (takes p g code place loops m (plain number d (Unless c to)) s at same)
+      (ap (λ (o : Option Bool). after_unless o (place + 1) to loops number d s) e)
 
   -- at the head of `while`
   abbrev IsAtWhile : ℕ → List Counter → Depth → ℕ → StateValue → Configuration → Type 0
@@ -93,11 +93,12 @@ module _ (p : ProgramTree) (g : GraphValue) (code : List InstructionTree) where
       (record { deep = proper.deep; sets = proper.sets; fewer = omega arith }) (m, same, refl))
     where
       chosen : (b : Bool) (t : StateValue) (x : Configuration) → IsAtWhile place loops d 0 t x → choice_in g.vertices c t ≡ Some b
-          → step p g code x ≡ At (if b then place + 1 else to) loops t
-      chosen b t x head e = ap (step p g code) head.2 ∙ unless_chooses c place number to d loops head.0 t b at_test head.1 e
+          → Moves p g code x (At (if b then place + 1 else to) loops t)
+      chosen b t x head e = moves_from p g code head.2 (unless_chooses c place number to d loops head.0 t b at_test head.1 e)
 
-      turned : (t : StateValue) → visible t ≡ d → step p g code (At (place + 1) loops t) ≡ after_turn t.turns (place + 2) loops d t
-      turned t deep = takes p g code (place + 1) loops t (plain number d Turn) t at_turn (forgotten-all d t deep) ∙ ap (λ (x : ℕ). after_turn t.turns x loops d t) (omega arith)
+      turned : (t : StateValue) → visible t ≡ d → Moves p g code (At (place + 1) loops t) (after_turn t.turns (place + 2) loops d t)
+      turned t deep =
+          moves_on p g code (takes p g code (place + 1) loops t (plain number d Turn) t at_turn (forgotten-all d t deep)) (ap (λ (x : ℕ). after_turn t.turns x loops d t) (omega arith))
 
       runs : RunsLoop p g code ℕ (while_test g.vertices c) (while_body block) (λ (n : ℕ). n) number to loops d (IsAtWhile place loops d)
       runs = record {
@@ -112,14 +113,14 @@ module _ (p : ProgramTree) (g : GraphValue) (code : List InstructionTree) where
         is_over = λ a n t x q head e none.
             by_step p g code x (At (place + 1) loops t) (Ended t TurnsOver) (chosen true t x head e)
             (by_step p g code (At (place + 1) loops t) (Ended t TurnsOver) (Ended t TurnsOver)
-            (turned t q.deep ∙ ap (λ (y : ℕ). after_turn y (place + 2) loops d t) none ∙ ap (λ (u : StateValue). Ended u TurnsOver) (forgotten-all d t q.deep)) here);
+            (moves_on p g code (turned t q.deep) (ap (λ (y : ℕ). after_turn y (place + 2) loops d t) none ∙ ap (λ (u : StateValue). Ended u TurnsOver) (forgotten-all d t q.deep))) here);
         turn = λ a n t x q head holds k left.
             let u : StateValue = record t { turns = k } in
             let proper : IsProper d k u = record { deep = q.deep; sets = q.sets; fewer = omega arith } in
             leads_from p g code d k (IsAtWhile place loops d 0) (inside block u) x (At (place + 2) loops u)
             (by_step p g code x (At (place + 1) loops t) (At (place + 2) loops u) (chosen true t x head holds)
             (by_step p g code (At (place + 1) loops t) (At (place + 2) loops u) (At (place + 2) loops u)
-            (turned t q.deep ∙ ap (λ (y : ℕ). after_turn y (place + 2) loops d t) left) here))
+            (moves_on p g code (turned t q.deep) (ap (λ (y : ℕ). after_turn y (place + 2) loops d t) left)) here))
             (while_leads (inside block u) place number back d k loops (At (place + 2) loops u) at_back
             (leaving p g code (block u) back loops d e k u (At (place + 2) loops u) q.deep within (block_runs k u proper)));
       }

@@ -8,17 +8,18 @@ use Rattle.algorithm_meaning.specs.State.{GraphValue, StateValue}
 use Rattle.algorithm_meaning.specs.Value.{members_of}
 use Rattle.algorithm_meaning.specs.Stand.{Stand, Live, Over}
 use Rattle.algorithm_meaning.specs.Meaning.{after_all, opening, all_vertices}
+use Rattle.algorithm_meaning.specs.Shown.{outcome_of, meaning}
 use Rattle.schedule.specs.Schedule.{ScheduleTree}
 use Rattle.plans.specs.declared.depth.Depth.{Depth}
 use Rattle.plans.specs.Instruction.{End, InstructionTree}
 use Rattle.plans.specs.Plan.{behind_all, main_depth, plain, size_all, plan_all, plan_of}
 use Rattle.plans.specs.Machine.{Configuration, At, Ended, first_configuration, finish}
-use Rattle.plans.specs.Laws.{RunsAs}
+use Rattle.plans.specs.Laws.{Shows, RunsAs}
 use Rattle.plans.proofs.Depths.{forgotten-all}
 use Rattle.plans.proofs.Ascending.{AscendsFrom, ascends_range}
 use Rattle.plans.proofs.Proper.{IsProper}
 use Rattle.plans.proofs.Places.{has_front, has_behind, has_all, length-plan_all}
-use Rattle.plans.proofs.Reaching.{Reaches, here, and_reaches, by_step, Follows, takes}
+use Rattle.plans.proofs.Reaching.{Reaches, here, and_reaches, by_step, moves_on, Follows, takes}
 use Rattle.plans.proofs.Runs.{block_runs}
 use Rattle.plans.proofs.Pairs.{in_good}
 use Rattle.plans.proofs.Counting.{takes_steps}
@@ -45,7 +46,7 @@ comes_to_end : (p : ProgramTree) (g : GraphValue) (code : List InstructionTree) 
 comes_to_end p g code (Live s) to d turns c at f =
     and_reaches p g code f.reaches
     (by_step p g code (At to [] f.there) (Ended s Finished) (Ended s Finished)
-    (takes p g code to [] f.there (plain 0 d End) s at f.same ∙ ap (λ (t : StateValue). Ended t Finished) (forgotten-all d s f.proper.deep)) here)
+    (moves_on p g code (takes p g code to [] f.there (plain 0 d End) s at f.same) (ap (λ (t : StateValue). Ended t Finished) (forgotten-all d s f.proper.deep))) here)
 comes_to_end p g code (Over s end) to d turns c at f = f
 
 reaches_end : (p : ProgramTree) (sch : ScheduleTree) (g : GraphValue) (turns : ℕ)
@@ -63,7 +64,16 @@ reaches_end p sch g turns =
     (has_behind code 0 to (0 + to) main last (length-plan_all p sch p.main 0 d false) refl stands).0
     (block_runs p g sch code (in_good p g sch) p.main false 0 d turns [] s s (has_front code 0 main last stands) (forgotten-all d s q.deep) q)
 
+shows_meaning : (p : ProgramTree) (turns : ℕ) (st : Stand) → Shows p turns (finish st) (outcome_of p turns st)
+shows_meaning p turns (Live s) = refl
+shows_meaning p turns (Over s end) = refl
+
 pub runs_as : (p : ProgramTree) (sch : ScheduleTree) (g : GraphValue) (turns : ℕ) → RunsAs p g turns (plan_of p sch)
 runs_as p sch g turns =
     let t = takes_steps p g (plan_of p sch) (first_configuration (opening p g turns)) (finish (after_all p g p.main (opening p g turns))) (reaches_end p sch g turns) in
-    record { count = t.count; ends = t.ends; goes_on = t.goes_on }
+    record {
+      count = t.count;
+      ends = t.ends;
+      means = subst (λ (c : Configuration). Shows p turns c (meaning p g turns)) (sym t.ends) (shows_meaning p turns (after_all p g p.main (opening p g turns)));
+      goes_on = t.goes_on;
+    }
