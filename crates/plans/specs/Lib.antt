@@ -3,3 +3,4 @@ pub mod Plan
 pub mod Fusing
 pub mod Machine
 pub mod Laws
+pub mod Examples

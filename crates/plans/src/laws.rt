@@ -1,12 +1,30 @@
 //! Laws of plans. The calls do nothing.
 ghost use Rattle.std.specs.Prelude.{ℕ};
+ghost use Rattle.typed_tree.specs.declared.expression.Slot.{Slot};
+ghost use Rattle.typed_tree.specs.declared.statement.Ends.{Ends};
+ghost use Rattle.typed_tree.specs.ConditionTree.{ConditionTree};
+ghost use Rattle.typed_tree.specs.IntegerTree.{IntegerTree};
 ghost use Rattle.typed_tree.specs.ProgramTree.{ProgramTree};
 ghost use Rattle.algorithm_meaning.specs.State.{GraphValue};
 ghost use Rattle.schedule.specs.Schedule.{ScheduleTree};
-ghost use Rattle.plans.specs.Plan.{plan_of};
+ghost use Rattle.plans.specs.Examples.{HasPlanOfApartEdges, HasPlanOfEdgePair, HasPlanOfLoop, HasPlanOfSearch, HasPlanOfVertexPair};
 ghost use Rattle.plans.specs.Laws.{RunsAs};
+ghost use Rattle.plans.specs.Plan.{plan_of};
 
-/// The law.
+/// For every program, schedule, graph and bound of turns the plan does what the program does: run from the opening
+/// state it ends after some number of steps, and there it has the state and the end of the program's own run and
+/// shows what the program means. Before that it always has a next step.
 pub fn plans_do_what_programs_do()
     ensures { (p : ProgramTree) (s : ScheduleTree) (g : GraphValue) (turns : ℕ) → RunsAs p g turns (plan_of p s) }
+{}
+
+/// Plans of examples, instruction by instruction: a breadth-first search, a loop with a choice in it and another behind
+/// it, two vertex applies and two edge applies that the schedule fuses, and two edge applies that cannot be done together.
+pub fn examples_have_their_plans()
+    ensures search { (p : ProgramTree) (s : ScheduleTree) (frontier : Slot) (ends : Ends) (visit parent : ℕ) → HasPlanOfSearch p s frontier ends visit parent }
+    ensures loop_with_choice { (p : ProgramTree) (s : ScheduleTree) (i : ℕ) (first end : IntegerTree) (c : ConditionTree) (e f : IntegerTree)
+        → HasPlanOfLoop p s i first end c e f }
+    ensures vertex_pair { (p : ProgramTree) (name : ℕ) → HasPlanOfVertexPair p name }
+    ensures edge_pair { (p : ProgramTree) → HasPlanOfEdgePair p }
+    ensures apart { (p : ProgramTree) → HasPlanOfApartEdges p }
 {}

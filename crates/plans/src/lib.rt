@@ -1,8 +1,23 @@
-//! Plans.
+//! Plans: what programs are lowered to, as definitions, and the law that a plan does what its program does.
+//!
+//! A plan is a list of instructions, one for each step of a run. An instruction does a statement without a block, goes
+//! on at another place, or does two applies that the schedule fuses (`specs/Instruction.antt`). `specs/Plan.antt` has the
+//! plan of a program under a schedule, `specs/Fusing.antt` which two applies are done together, and
+//! `specs/Machine.antt` the machine that runs a plan, one instruction a step.
+//!
+//! The law (`specs/Laws.antt`): for every program, schedule, graph and bound of turns the machine ends after some number
+//! of steps, and there it stands where the program's own run stands and shows what the program means; before that it
+//! always has a next step. It needs no premise, neither that the program is checked nor that the schedule is accepted:
+//! two applies are done together only where they fit, a `for` keeps its value and its bound beside the variables, and
+//! what is outside a list reads as 0 or as nothing, as in the meaning. `specs/Examples.antt` has plans whole.
+//!
+//! The crate has no code that computes: its types and definitions are for the lowering, which makes plans, and for the
+//! runner, which runs them. The simulation in the proofs goes by the tree, as that of a compiler to a machine with jumps
+//! (Leroy, "Formal verification of a realistic compiler", CACM 2009).
 #![tactic(auto)]
 
 mod depth;
 mod laws;
 
 pub use depth::{Counter, Depth};
-pub use laws::plans_do_what_programs_do;
+pub use laws::{examples_have_their_plans, plans_do_what_programs_do};

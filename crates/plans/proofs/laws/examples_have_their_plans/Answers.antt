@@ -1,0 +1,11 @@
+use Rattle.std.proofs.Common.{refl}
+use Rattle.plans.proofs.laws.examples_have_their_plans.Goals as goal
+
+pub returns : goal.returns
+returns c = record {
+  search = λ p s frontier ends visit parent. refl;
+  loop_with_choice = λ p s i first end c e f. refl;
+  vertex_pair = λ p name. refl;
+  edge_pair = λ p. refl;
+  apart = λ p. refl;
+}

@@ -1,0 +1,134 @@
+-- Programs whose plans are told.
+use Rattle.std.specs.Prelude.{◌≡◌, ℕ, pos, List, [], ◌∷◌, map, Option, Some, None}
+use Rattle.syntax.specs.declared.statement.Reduction.TheVariants.{Plus}
+use Rattle.typed_tree.specs.declared.expression.Comparison.TheVariants.{Less, NotEqual}
+use Rattle.typed_tree.specs.declared.expression.Endpoint.TheVariants.{Source, Destination}
+use Rattle.typed_tree.specs.declared.expression.Slot.{Slot}
+use Rattle.typed_tree.specs.declared.statement.EndFilter.TheVariants as end
+use Rattle.typed_tree.specs.declared.statement.Ends.{Ends}
+use Rattle.typed_tree.specs.declared.statement.SetValue.TheVariants as set
+use Rattle.typed_tree.specs.IntegerTree.{IntegerTree, Number, EntryAt, SetSize}
+use Rattle.typed_tree.specs.ConditionTree.{ConditionTree, Compare}
+use Rattle.typed_tree.specs.StepTree as step
+use Rattle.typed_tree.specs.StepTree.{FunctionTree}
+use Rattle.typed_tree.specs.BlockTree.{DeclareInteger, SetEntry, DeclareSet, AssignSet, AddVertex, PrintInteger, ApplyVertex, ApplyEdges, If, IfElse, While, For, BlockTree, Empty, Then}
+use Rattle.typed_tree.specs.ProgramTree.{ProgramTree}
+use Rattle.schedule.specs.declared.choice.Fused.TheVariants.{With, Into}
+use Rattle.schedule.specs.Schedule.{ScheduleTree, fused_as, no_choice}
+use Rattle.plans.specs.Instruction.{OperationTree, Do, ApplyEdgesTogether, ApplyVerticesTogether, Unless, Enter, UnlessBelow, Advance, Turn, Jump, End, InstructionTree, Dropped}
+use Rattle.plans.specs.Plan.{plan_of}
+
+-- what the instructions of a plan do
+abbrev pub operations : List InstructionTree → List OperationTree
+operations plan = map (λ i. i.operation) plan
+
+abbrev pub with_main : ProgramTree → BlockTree → ProgramTree
+with_main p main = record p { main = main }
+
+-- a breadth-first search from vertex 0: the frontier goes on as long as it has members
+abbrev pub breadth_first : (frontier : Slot) → Ends → (visit parent : ℕ) → BlockTree
+breadth_first frontier ends visit parent =
+    Then 1 None (DeclareSet frontier.name set.Empty)
+    (Then 2 None (AddVertex frontier (Number (pos 0)))
+    (Then 3 None (SetEntry parent (Number (pos 0)) (Number (pos 0)))
+    (Then 4 None (While (Compare NotEqual (SetSize frontier) (Number (pos 0)))
+      (Then 5 (Some 0) (AssignSet frontier (set.Modified ends visit parent)) Empty))
+    Empty)))
+
+abbrev pub HasPlanOfSearch : ProgramTree → ScheduleTree → (frontier : Slot) → Ends → (visit parent : ℕ) → Type 0
+HasPlanOfSearch p s frontier ends visit parent =
+    operations (plan_of (with_main p (breadth_first frontier ends visit parent)) s)
+    ≡ Do (DeclareSet frontier.name set.Empty)
+    ∷ Do (AddVertex frontier (Number (pos 0)))
+    ∷ Do (SetEntry parent (Number (pos 0)) (Number (pos 0)))
+    ∷ Unless (Compare NotEqual (SetSize frontier) (Number (pos 0))) 7
+    ∷ Turn
+    ∷ Do (AssignSet frontier (set.Modified ends visit parent))
+    ∷ Jump 3
+    ∷ End
+    ∷ []
+
+-- a loop over i with a choice in it, and a choice without `else` behind it
+abbrev pub loop_with_choice : (i : ℕ) → (first end : IntegerTree) → ConditionTree → (e f : IntegerTree) → BlockTree
+loop_with_choice i first end c e f =
+    Then 1 None (For i first end
+      (Then 2 None (IfElse c (Then 3 None (PrintInteger e) Empty) (Then 4 None (PrintInteger f) Empty))
+      Empty))
+    (Then 5 None (If c (Then 6 None (PrintInteger f) Empty))
+    Empty)
+
+abbrev pub HasPlanOfLoop : ProgramTree → ScheduleTree → (i : ℕ) → (first end : IntegerTree) → ConditionTree → (e f : IntegerTree) → Type 0
+HasPlanOfLoop p s i first end c e f =
+    operations (plan_of (with_main p (loop_with_choice i first end c e f)) s)
+    ≡ Do (DeclareInteger i first)
+    ∷ Enter i end
+    ∷ UnlessBelow i 10
+    ∷ Turn
+    ∷ Unless c 7
+    ∷ Do (PrintInteger e)
+    ∷ Jump 8
+    ∷ Do (PrintInteger f)
+    ∷ Advance i
+    ∷ Jump 2
+    ∷ Unless c 12
+    ∷ Do (PrintInteger f)
+    ∷ End
+    ∷ []
+
+-- labels 0 and 1 are fused
+abbrev pub fuses_two : ScheduleTree
+fuses_two = record { choices = (0, fused_as (With 1) no_choice) ∷ (1, fused_as (Into 0) no_choice) ∷ []; groups = [] }
+
+-- vertex functions that set the entry of their vertex in vector 0, and in vector 1 to that of vector 0
+abbrev pub sets_entries : List FunctionTree
+sets_entries =
+    record { name = 0; steps = step.StepThen (step.SetEntry 0 (Number (pos 1))) step.NoStep }
+    ∷ record { name = 1; steps = step.StepThen (step.SetEntry 1 (EntryAt 0 Source)) step.NoStep }
+    ∷ []
+
+abbrev pub vertex_applies : (vertices : Slot) → BlockTree
+vertex_applies vertices = Then 1 (Some 0) (ApplyVertex vertices 0) (Then 2 (Some 1) (ApplyVertex vertices 1) Empty)
+
+-- the first constant set, of this name
+abbrev pub first_set : (name : ℕ) → Slot
+first_set name = record { place = 0; name = name }
+
+abbrev pub HasPlanOfVertexPair : ProgramTree → (name : ℕ) → Type 0
+HasPlanOfVertexPair p name =
+    operations (plan_of (with_main (record p { vertex_functions = sets_entries }) (vertex_applies (first_set name))) fuses_two)
+    ≡ ApplyVerticesTogether (first_set name) 0 1
+    ∷ End
+    ∷ []
+
+-- the filter reads vector 0, and the edge function at a place writes the vector at this place
+abbrev pub reads_first : FunctionTree
+reads_first = record { name = 0; steps = step.StepThen (step.DeclareCondition 1 (Compare Less (EntryAt 0 Source) (Number (pos 1)))) step.NoStep }
+
+abbrev pub adds_to : ℕ → FunctionTree
+adds_to vector = record { name = 0; steps = step.StepThen (step.ReduceEntry vector Plus (Number (pos 1))) step.NoStep }
+
+abbrev pub with_edge_functions : ProgramTree → ProgramTree
+with_edge_functions p = record p { filters = reads_first ∷ []; edge_functions = adds_to 0 ∷ adds_to 1 ∷ adds_to 2 ∷ [] }
+
+-- to the vertices that the filter lets through
+abbrev pub filtered : Ends
+filtered = record { from = None; to = Some (end.Function 0) }
+
+abbrev pub edge_applies : (f g : ℕ) → BlockTree
+edge_applies f g = Then 1 (Some 0) (ApplyEdges filtered f) (Then 2 (Some 1) (ApplyEdges filtered g) Empty)
+
+abbrev pub HasPlanOfEdgePair : ProgramTree → Type 0
+HasPlanOfEdgePair p =
+    operations (plan_of (with_main (with_edge_functions p) (edge_applies 1 2)) fuses_two)
+    ≡ ApplyEdgesTogether filtered (record { function = 1; result = Dropped }) (record { function = 2; result = Dropped })
+    ∷ End
+    ∷ []
+
+-- where the first writes what the filter reads, the two stay apart
+abbrev pub HasPlanOfApartEdges : ProgramTree → Type 0
+HasPlanOfApartEdges p =
+    operations (plan_of (with_main (with_edge_functions p) (edge_applies 0 1)) fuses_two)
+    ≡ Do (ApplyEdges filtered 0)
+    ∷ Do (ApplyEdges filtered 1)
+    ∷ End
+    ∷ []
