@@ -1,10 +1,10 @@
 -- Vertex sets are ascending, in each state of a run.
-use Rattle.std.proofs.Common.{◌≡◌, ℕ, zero, suc, ◌+◌, ◌<◌, ◌≤◌, nat_lt, ◌==◌, Bool, true, false, cond, List, [], ◌∷◌, ◌++◌, take, Option, Some, None, slice_get, ap, sym, ◌∙◌, refl, arith, subst}
+use Rattle.std.proofs.Common.{◌≡◌, ℕ, zero, suc, ◌+◌, ◌≤◌, nat_lt, ◌==◌, Bool, true, false, cond, List, [], ◌∷◌, slice_get, refl, arith}
 use Rattle.std.proofs.lemmas.Bool.Decides.{nat_tests}
 use Rattle.std.specs.List.{filter, range_with_len}
 use Rattle.algorithm_meaning.specs.State.{StateValue}
 use Rattle.algorithm_meaning.specs.Value.{members_of}
-use Rattle.algorithm_meaning.specs.VertexSets.{inserted, set_members}
+use Rattle.algorithm_meaning.specs.VertexSets.{inserted}
 
 -- each number is greater than the one before it, and none is below this
 abbrev pub AscendsFrom : ℕ → List ℕ → Type 0

@@ -1,5 +1,5 @@
 -- Functions over vectors and sets that differ in what they do not read.
-use Rattle.std.proofs.Common.{◌≡◌, ℕ, ◌==◌, ◌&&◌, ℤ, pos, negsuc, Bool, true, false, not, cond, List, [], ◌∷◌, ◌++◌, length, Option, Some, None, slice_get, slice_index_or, ap, sym, ◌∙◌, refl, subst}
+use Rattle.std.proofs.Common.{◌≡◌, ℕ, ℤ, pos, negsuc, Bool, true, false, not, cond, List, [], ◌∷◌, ◌++◌, length, slice_get, slice_index_or, ap, sym, ◌∙◌, refl, subst}
 use Rattle.std.specs.Int.{cast_signed, w64}
 use Rattle.std.specs.List.{list_all}
 use Rattle.std.proofs.lemmas.List.Folds.{list_all-append}
@@ -11,7 +11,7 @@ use Rattle.typed_tree.specs.ConditionTree.{ConditionTree}
 use Rattle.typed_tree.specs.StepTree.{StepTree, DeclareInteger, DeclareCondition, SetInteger, SetCondition, ReduceInteger, SetEntry, ReduceEntry, If, IfElse, StepsTree, NoStep, StepThen}
 use Rattle.algorithm_meaning.specs.Arithmetic.{negative, arithmetic, compared, connected}
 use Rattle.algorithm_meaning.specs.State.{ScopeValue, edge_scope, filter_scope}
-use Rattle.algorithm_meaning.specs.Value.{vertex_at, entry, entry_at, members_of, value, truth}
+use Rattle.algorithm_meaning.specs.Value.{vertex_at, entry_at, members_of, value, truth}
 use Rattle.algorithm_meaning.specs.Variables.{new_integer, new_condition, set_integer, set_condition, reduce_integer, forget_new}
 use Rattle.algorithm_meaning.specs.Function.{WorkValue, first_work, after_set, after_reduce, after_step, after_steps, after_block}
 use Rattle.algorithm_meaning.specs.Filter.{result_of}
@@ -19,7 +19,7 @@ use Rattle.algorithm_meaning.specs.EdgeApply.{gives}
 use Rattle.schedule.specs.Access.{is_none_of, are_apart, integer_reads, condition_reads, step_uses, steps_use}
 use Rattle.schedule.proofs.Uses.{of_and}
 use Rattle.plans.specs.Fusing.{integer_sizes, condition_sizes, step_sizes, steps_sizes}
-use Rattle.plans.proofs.Types.{VertexSet, Contribution}
+use Rattle.plans.proofs.Types.{VertexSet}
 
 pub both_parts : (P : ℕ → Bool) (xs ys : List ℕ) → list_all P (xs ++ ys) ≡ true → (list_all P xs ≡ true) × (list_all P ys ≡ true)
 both_parts P xs ys h = of_and (list_all P xs) (list_all P ys) (sym (list_all-append P xs ys) ∙ h)

@@ -1,5 +1,5 @@
 -- The entries that the vectors have at one vertex.
-use Rattle.std.proofs.Common.{◌≡◌, ℕ, zero, suc, ◌==◌, ℤ, pos, Bool, true, false, List, [], ◌∷◌, Option, Some, None, slice_get, slice_index_or, slice_set, ap, sym, ◌∙◌, refl, arith}
+use Rattle.std.proofs.Common.{◌≡◌, ℕ, zero, suc, ◌==◌, ℤ, pos, false, List, [], ◌∷◌, Option, Some, None, slice_get, slice_index_or, slice_set, ap, refl, arith}
 use Rattle.std.proofs.lemmas.Bool.Decides.{nat_tests}
 use Rattle.algorithm_meaning.specs.Value.{entry, with_entry}
 

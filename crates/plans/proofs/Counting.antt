@@ -1,9 +1,9 @@
 -- How many steps a run takes, and that it goes on before its end.
-use Rattle.std.proofs.Common.{◌≡◌, ℕ, zero, suc, ◌+◌, ◌<◌, List, [], ◌∷◌, refl, arith}
+use Rattle.std.proofs.Common.{◌≡◌, ℕ, zero, suc, ◌<◌, List, refl, arith}
 use Rattle.typed_tree.specs.ProgramTree.{ProgramTree}
 use Rattle.algorithm_meaning.specs.State.{GraphValue}
 use Rattle.plans.specs.Instruction.{InstructionTree}
-use Rattle.plans.specs.Machine.{Configuration, At, Ended, step, steps}
+use Rattle.plans.specs.Machine.{Configuration, step, steps}
 use Rattle.plans.specs.Laws.{GoesOn}
 use Rattle.plans.proofs.Reaching.{Reaches, here, next}
 

@@ -1,9 +1,8 @@
 -- Two edge functions along the same edges.
-use Rattle.std.proofs.Common.{◌≡◌, ℕ, ◌==◌, ℤ, Bool, true, false, not, List, [], ◌∷◌, ◌++◌, slice_index_or, ap, sym, ◌∙◌, refl, subst}
-use Rattle.std.specs.List.{list_all}
+use Rattle.std.proofs.Common.{◌≡◌, ℕ, ◌==◌, ℤ, true, not, List, [], ◌∷◌, ◌++◌, slice_index_or, ap, sym, ◌∙◌}
 use Rattle.std.proofs.lemmas.List.{append-nil}
 use Rattle.typed_tree.specs.StepTree.{StepsTree}
-use Rattle.algorithm_meaning.specs.EdgeApply.{gives, all_give, after_edges}
+use Rattle.algorithm_meaning.specs.EdgeApply.{gives, after_edges}
 use Rattle.schedule.specs.Access.{is_none_of, are_apart, steps_write}
 use Rattle.plans.proofs.Types.{VertexSet, Contribution}
 use Rattle.plans.proofs.Beside.{AgreeBut}

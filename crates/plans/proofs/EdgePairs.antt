@@ -1,5 +1,5 @@
 -- Two edge applies together.
-use Rattle.std.proofs.Common.{◌≡◌, ℕ, ◌&&◌, not, ◌||◌, ℤ, Bool, true, false, List, [], ◌∷◌, ◌++◌, length, Option, Some, None, slice_get, slice_index_or, ap, sym, ◌∙◌, refl, subst}
+use Rattle.std.proofs.Common.{◌≡◌, ℕ, ℤ, true, List, [], ◌∷◌, ◌++◌, length, slice_get, slice_index_or, ap, sym, ◌∙◌, refl}
 use Rattle.typed_tree.specs.StepTree.{StepsTree}
 use Rattle.typed_tree.specs.ProgramTree.{ProgramTree}
 use Rattle.algorithm_meaning.specs.State.{GraphValue, StateValue}
@@ -7,11 +7,9 @@ use Rattle.algorithm_meaning.specs.Entries.{with_vectors}
 use Rattle.algorithm_meaning.specs.Function.{steps_of}
 use Rattle.algorithm_meaning.specs.EdgeApply.{after_edge_apply, after_edges, matching, gives}
 use Rattle.schedule.specs.Access.{is_none_of, are_apart, end_reads, function_uses, function_writes, steps_use, steps_write}
-use Rattle.schedule.specs.Rules.{are_independent, is_end}
 use Rattle.schedule.proofs.Uses.{of_and}
 use Rattle.plans.specs.declared.depth.Depth.{Depth}
-use Rattle.plans.specs.Instruction.{ResultTree}
-use Rattle.plans.specs.Fusing.{EdgeApplyTree, apply_tree, result_name, result_places, result_vectors, end_sets, function_sizes, steps_sizes, is_same_end, edges_fit}
+use Rattle.plans.specs.Fusing.{EdgeApplyTree, result_places, result_vectors, end_sets, function_sizes, is_same_end, edges_fit}
 use Rattle.plans.specs.Machine.{with_result, after_parts}
 use Rattle.plans.proofs.Beside.{AgreeBut, SetsAgreeBut, both_parts, gives_same}
 use Rattle.plans.proofs.GivenVectors.{writes_of_steps}
@@ -129,11 +127,11 @@ module _ (p : ProgramTree) (g : GraphValue) (d : Depth) (x y : EdgeApplyTree) (s
   one_after_other =
       (λ i. with_result g.vertices between.vectors (behind_second i) y.part.result (with_vectors between (behind_second i)))
       ∙ result_agrees g.vertices (steps_write first) between.vectors behind_both s.vectors behind_both y.part.result (with_vectors between behind_both)
-        (first_writes (result_vectors y.part.result) fit.second_result) rows_first (λ vector h. refl)
+      (first_writes (result_vectors y.part.result) fit.second_result) rows_first (λ vector h. refl)
       ∙ ap (with_result g.vertices s.vectors behind_both y.part.result) (result_beside_vectors g.vertices s.vectors behind_first behind_first behind_both x.part.result s)
       ∙ ap (with_result g.vertices s.vectors behind_both y.part.result)
-        (result_agrees g.vertices (steps_write second) s.vectors behind_first s.vectors behind_both x.part.result (with_vectors s behind_both)
-        (second_writes (result_vectors x.part.result) fit.first_result) (λ vector h. refl) (second_leaves first second writes_apart s.sets s.vectors edges))
+      (result_agrees g.vertices (steps_write second) s.vectors behind_first s.vectors behind_both x.part.result (with_vectors s behind_both)
+      (second_writes (result_vectors x.part.result) fit.first_result) (λ vector h. refl) (second_leaves first second writes_apart s.sets s.vectors edges))
 
 -- the second behind the first, or both at once
 pub edges_at_once : (p : ProgramTree) (g : GraphValue) (d : Depth) (x y : EdgeApplyTree) (s : StateValue) → edges_fit p d x y ≡ true → length s.sets ≡ d.sets

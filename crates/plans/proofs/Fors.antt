@@ -1,5 +1,5 @@
 -- `for` on the machine.
-use Rattle.std.proofs.Common.{◌≡◌, ℕ, zero, suc, ◌+◌, ◌≤◌, ℤ, pos, int_lt, Bool, true, false, if◌then◌else◌, List, [], ◌∷◌, ◌++◌, length, Option, Some, None, slice_get, slice_index_or, ap, sym, ◌∙◌, refl, arith, subst}
+use Rattle.std.proofs.Common.{◌≡◌, ℕ, ◌+◌, ℤ, pos, int_lt, Bool, true, false, if◌then◌else◌, List, [], ◌∷◌, ◌++◌, Option, Some, None, slice_get, slice_index_or, ap, sym, ◌∙◌, refl, arith}
 use Rattle.std.proofs.Math.Seq.{get_or-append_seam}
 use Rattle.typed_tree.specs.IntegerTree.{IntegerTree}
 use Rattle.typed_tree.specs.BlockTree.{DeclareInteger}
@@ -13,11 +13,11 @@ use Rattle.plans.specs.declared.depth.Counter.{Counter}
 use Rattle.plans.specs.declared.depth.Depth.{Depth}
 use Rattle.plans.specs.Instruction.{Do, Enter, UnlessBelow, Advance, Turn, Jump, InstructionTree}
 use Rattle.plans.specs.Plan.{with_integer, in_loop, plain, loop_step}
-use Rattle.plans.specs.Machine.{Configuration, At, Ended, forgotten, go_on, after_turn, after_enter, after_advance, step}
+use Rattle.plans.specs.Machine.{Configuration, At, Ended, forgotten, go_on, after_turn, after_enter}
 use Rattle.plans.proofs.Types.{Bounds}
-use Rattle.plans.proofs.Depths.{visible, IsWithin, forgotten-all, forgotten-less}
+use Rattle.plans.proofs.Depths.{IsWithin, forgotten-all}
 use Rattle.plans.proofs.Proper.{IsProper}
-use Rattle.plans.proofs.Reaching.{Reaches, here, and_reaches, by_step, Moves, moves_on, moves_from, Lands, Follows, follows_from, follows_more, takes, leaving, LeadsOn, leads_from, RunsLoop, loop_runs, proper_more}
+use Rattle.plans.proofs.Reaching.{here, and_reaches, by_step, Moves, moves_on, moves_from, Follows, follows_from, follows_more, takes, leaving, LeadsOn, leads_from, RunsLoop, loop_runs}
 use Rattle.plans.proofs.Whiles.{pushed, proper-integer, proper-pushed, forgotten-integer, forgotten-pushed}
 
 -- the counter of a loop with these bounds
@@ -64,10 +64,10 @@ module _ (p : ProgramTree) (g : GraphValue) (code : List InstructionTree) (place
       let kept = forgotten-all (in_loop d) there (proper-pushed d turns u n.next n.end f.proper).deep in (
         At (place + 2) (counter n ∷ loops) there,
         and_reaches p g code f.reaches
-        (by_step p g code (At back (counter r ∷ loops) f.there) (At (back + 1) (counter n ∷ loops) there) (At (place + 2) (counter n ∷ loops) there)
-        (takes p g code back (counter r ∷ loops) f.there (plain number d (Advance name)) u stands.at_advance f.same)
-        (by_step p g code (At (back + 1) (counter n ∷ loops) there) (At (place + 2) (counter n ∷ loops) there) (At (place + 2) (counter n ∷ loops) there)
-        (takes p g code (back + 1) (counter n ∷ loops) there (loop_step number (in_loop d) d (Jump (place + 2))) there stands.at_jump kept) here)),
+            (by_step p g code (At back (counter r ∷ loops) f.there) (At (back + 1) (counter n ∷ loops) there) (At (place + 2) (counter n ∷ loops) there)
+            (takes p g code back (counter r ∷ loops) f.there (plain number d (Advance name)) u stands.at_advance f.same)
+            (by_step p g code (At (back + 1) (counter n ∷ loops) there) (At (place + 2) (counter n ∷ loops) there) (At (place + 2) (counter n ∷ loops) there)
+            (takes p g code (back + 1) (counter n ∷ loops) there (loop_step number (in_loop d) d (Jump (place + 2))) there stands.at_jump kept) here)),
         (there, kept, refl),
         f.proper,
       )

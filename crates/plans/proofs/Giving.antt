@@ -1,5 +1,5 @@
 -- Numbers that are given to the ends of edges, by two functions for vectors that differ.
-use Rattle.std.proofs.Common.{◌≡◌, ℕ, zero, suc, ◌==◌, ℤ, pos, Bool, true, false, not, List, [], ◌∷◌, ◌++◌, slice_index_or, slice_set, ap, sym, ◌∙◌, refl, arith}
+use Rattle.std.proofs.Common.{◌≡◌, ℕ, zero, suc, ◌==◌, ℤ, pos, true, false, not, List, [], ◌∷◌, ◌++◌, slice_index_or, slice_set, ap, sym, ◌∙◌, refl, arith}
 use Rattle.std.proofs.lemmas.Bool.Decides.{nat_tests}
 use Rattle.typed_tree.specs.StepTree.{StepsTree}
 use Rattle.algorithm_meaning.specs.Arithmetic.{reduced}

@@ -1,9 +1,9 @@
 -- What a pair of statements that one instruction does owes.
-use Rattle.std.proofs.Common.{◌≡◌, ℕ, ◌+◌, Bool, true, false, List, [], ◌∷◌, Option, Some, None, ap, sym, ◌∙◌, refl, subst}
+use Rattle.std.proofs.Common.{◌≡◌, ℕ, ◌+◌, List, subst}
 use Rattle.typed_tree.specs.BlockTree.{ActionTree, BlockTree, Empty, Then}
 use Rattle.typed_tree.specs.ProgramTree.{ProgramTree}
 use Rattle.algorithm_meaning.specs.State.{GraphValue, StateValue}
-use Rattle.algorithm_meaning.specs.Stand.{Stand, Live, then_do}
+use Rattle.algorithm_meaning.specs.Stand.{Live}
 use Rattle.algorithm_meaning.specs.Meaning.{after}
 use Rattle.plans.specs.declared.depth.Counter.{Counter}
 use Rattle.plans.specs.declared.depth.Depth.{Depth}

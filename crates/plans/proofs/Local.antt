@@ -1,5 +1,5 @@
 -- Functions that work on their own vertex alone.
-use Rattle.std.proofs.Common.{◌≡◌, ℕ, zero, suc, ◌+◌, ◌==◌, ◌≤◌, ◌&&◌, ℤ, pos, Bool, true, false, not, cond, List, [], ◌∷◌, Option, Some, None, slice_get, slice_index_or, ap, sym, ◌∙◌, refl, arith, subst}
+use Rattle.std.proofs.Common.{◌≡◌, ℕ, ◌&&◌, ℤ, pos, Bool, true, false, not, cond, List, Option, slice_index_or, ap, sym, ◌∙◌, refl, subst}
 use Rattle.syntax.specs.declared.statement.Reduction.{Reduction}
 use Rattle.typed_tree.specs.declared.expression.Endpoint.{Endpoint}
 use Rattle.typed_tree.specs.declared.expression.Endpoint.TheVariants as endpoint
@@ -17,7 +17,7 @@ use Rattle.algorithm_meaning.specs.VertexApply.{after_vertex}
 use Rattle.schedule.proofs.Uses.{of_and}
 use Rattle.plans.specs.Fusing.{integer_is_local, condition_is_local, step_is_local, steps_are_local}
 use Rattle.plans.proofs.Types.{VertexSet}
-use Rattle.plans.proofs.Columns.{column, entry_in, put, entry-column, column-here, column-elsewhere}
+use Rattle.plans.proofs.Columns.{column, entry_in, put, entry-column, column-here}
 
 -- what a function at this vertex cannot tell apart
 pub record IsAlike (u : ℕ) (v w : WorkValue) : Type 0 where

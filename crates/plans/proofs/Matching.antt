@@ -1,5 +1,5 @@
 -- The edges that two edge applies look at.
-use Rattle.std.proofs.Common.{◌≡◌, ℕ, nat_eq, nat_lt, ◌&&◌, ℤ, Bool, true, false, List, [], ◌∷◌, ◌++◌, Option, Some, None, slice_get, ap, sym, ◌∙◌, refl, subst}
+use Rattle.std.proofs.Common.{◌≡◌, ℕ, nat_lt, ◌&&◌, true, List, Option, Some, None, slice_get, ap, ◌∙◌, refl}
 use Rattle.std.proofs.lemmas.Bool.{eqb-true}
 use Rattle.std.specs.List.{filter}
 use Rattle.typed_tree.specs.declared.statement.EndFilter.{EndFilter}
@@ -10,7 +10,7 @@ use Rattle.algorithm_meaning.specs.State.{GraphValue, StateValue}
 use Rattle.algorithm_meaning.specs.Value.{members_of}
 use Rattle.algorithm_meaning.specs.Function.{steps_of}
 use Rattle.algorithm_meaning.specs.Filter.{result_of}
-use Rattle.algorithm_meaning.specs.EdgeApply.{is_member, passes, is_end, matching}
+use Rattle.algorithm_meaning.specs.EdgeApply.{is_member, passes, matching}
 use Rattle.schedule.specs.Access.{is_none_of, are_apart, steps_use, steps_use_where, steps_write, steps_write_where, end_reads}
 use Rattle.schedule.proofs.Uses.{of_and}
 use Rattle.plans.specs.Fusing.{steps_sizes, steps_sizes_where, end_sets, is_same_end}
@@ -57,4 +57,4 @@ module _ (filters : List FunctionTree) (vectors places : List ℕ) (s t : StateV
       → matching filters g s a ≡ matching filters g t b
   matching_same g a b from to from_reads from_sets to_reads to_sets =
       λ i. filter (λ e. (nat_lt e.0 g.vertices && passes_same a.from b.from e.0 from from_reads from_sets i)
-          && (nat_lt e.1 g.vertices && passes_same a.to b.to e.1 to to_reads to_sets i)) g.edges
+      && (nat_lt e.1 g.vertices && passes_same a.to b.to e.1 to to_reads to_sets i)) g.edges

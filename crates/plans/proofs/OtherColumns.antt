@@ -1,5 +1,5 @@
 -- Functions that work on their own vertex leave other vertices alone.
-use Rattle.std.proofs.Common.{◌≡◌, ℕ, ◌==◌, ◌&&◌, ℤ, Bool, true, false, cond, List, Option, ap, sym, ◌∙◌, refl}
+use Rattle.std.proofs.Common.{◌≡◌, ℕ, ◌==◌, ◌&&◌, ℤ, Bool, true, false, cond, List, Option, ap, ◌∙◌, refl}
 use Rattle.syntax.specs.declared.statement.Reduction.{Reduction}
 use Rattle.typed_tree.specs.StepTree.{StepTree, DeclareInteger, DeclareCondition, SetInteger, SetCondition, ReduceInteger, SetEntry, ReduceEntry, If, IfElse, StepsTree, NoStep, StepThen}
 use Rattle.algorithm_meaning.specs.Arithmetic.{reduced}

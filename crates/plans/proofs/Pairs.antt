@@ -1,10 +1,8 @@
 -- Two applies that one instruction does.
-use Rattle.std.proofs.Common.{◌≡◌, ℕ, ◌+◌, nat_eq, ◌&&◌, Bool, true, false, if◌then◌else◌, List, [], ◌∷◌, length, Option, Some, None, slice_get, ap, sym, ◌∙◌, refl, subst}
+use Rattle.std.proofs.Common.{◌≡◌, ℕ, ◌+◌, nat_eq, ◌&&◌, Bool, true, false, if◌then◌else◌, Option, Some, None, slice_get, ap, ◌∙◌, refl}
 use Rattle.std.proofs.lemmas.Bool.{eqb-true}
-use Rattle.typed_tree.specs.declared.expression.Slot.{Slot}
-use Rattle.typed_tree.specs.declared.statement.SetValue.{SetValue}
 use Rattle.typed_tree.specs.declared.statement.SetValue.TheVariants as set
-use Rattle.typed_tree.specs.BlockTree.{ActionTree, DeclareInteger, DeclareCondition, SetInteger, SetCondition, ReduceInteger, SetEntry, ReduceEntry, DeclareSet, AssignSet, AddVertex, PrintInteger, PrintCondition, ApplyVertex, ApplyEdges, If, IfElse, While, For, BlockTree, Empty, Then}
+use Rattle.typed_tree.specs.BlockTree.{ActionTree, DeclareSet, AssignSet, ApplyVertex, ApplyEdges, BlockTree, Empty, Then}
 use Rattle.typed_tree.specs.StepTree.{FunctionTree}
 use Rattle.typed_tree.specs.ProgramTree.{ProgramTree}
 use Rattle.algorithm_meaning.specs.State.{GraphValue, StateValue}
@@ -14,11 +12,10 @@ use Rattle.algorithm_meaning.specs.Function.{steps_of}
 use Rattle.algorithm_meaning.specs.VertexApply.{after_vertices, after_apply_vertex}
 use Rattle.schedule.specs.Schedule.{ScheduleTree, choice_at}
 use Rattle.schedule.proofs.Uses.{of_and}
-use Rattle.plans.specs.declared.depth.Counter.{Counter}
 use Rattle.plans.specs.declared.depth.Depth.{Depth}
 use Rattle.plans.specs.Instruction.{OperationTree, ApplyEdgesTogether, ApplyVerticesTogether}
-use Rattle.plans.specs.Fusing.{EdgeApplyTree, VertexApplyTree, edge_apply_of, vertex_apply_of, steps_are_local, steps_are_local_where, function_is_local, edges_fit, vertices_fit, edges_together, vertices_together, either, together, is_with, Company, Alone, with_next, company_of}
-use Rattle.plans.specs.Machine.{At, after_both, after_apply_both}
+use Rattle.plans.specs.Fusing.{EdgeApplyTree, VertexApplyTree, edge_apply_of, vertex_apply_of, steps_are_local, steps_are_local_where, function_is_local, edges_fit, vertices_fit, edges_together, vertices_together, either, together, is_with, Alone, with_next, company_of}
+use Rattle.plans.specs.Machine.{At, after_apply_both}
 use Rattle.plans.proofs.Proper.{IsProper}
 use Rattle.plans.proofs.Joined.{IsFaultless, DoesBoth, IsInGood}
 use Rattle.plans.proofs.VertexPairs.{both_at_each}
@@ -59,9 +56,9 @@ module _ (p : ProgramTree) (g : GraphValue) where
       let f = steps_of (slice_get p.vertex_functions x.function) in
       let h = steps_of (slice_get p.vertex_functions y.function) in
       ap (with_vectors s) (both_at_each f h (local_steps (slice_get p.vertex_functions x.function) local.0) (local_steps (slice_get p.vertex_functions y.function) local.1) 0 s
-        (members_of (slice_get s.sets x.set.place)) s.vectors (q.sets x.set.place))
+      (members_of (slice_get s.sets x.set.place)) s.vectors (q.sets x.set.place))
       ∙ ap (λ (n : ℕ). with_vectors s (after_vertices h s.sets (members_of (slice_get s.sets n)) (after_vertices f s.sets (members_of (slice_get s.sets x.set.place)) s.vectors)))
-        (eqb-true x.set.place y.set.place fits.0)
+      (eqb-true x.set.place y.set.place fits.0)
 
   -- an operation, if there is one, does both
   abbrev DoesBothIf : Option OperationTree → Depth → ActionTree → ActionTree → Type 0

@@ -1,5 +1,5 @@
 -- Where the instructions of a plan stand.
-use Rattle.std.proofs.Common.{◌≡◌, ℕ, zero, suc, ◌+◌, ◌<◌, Bool, true, false, List, [], ◌∷◌, ◌++◌, length, Option, Some, None, slice_get, slice_index_or, ap, sym, ◌∙◌, refl, arith, subst, append_assoc, length-append}
+use Rattle.std.proofs.Common.{◌≡◌, ℕ, ◌+◌, ◌<◌, Bool, false, List, [], ◌∷◌, ◌++◌, length, Option, Some, slice_get, ap, ◌∙◌, refl, arith, subst, append_assoc, length-append}
 use Rattle.std.proofs.Math.Seq.{get_or-append_seam}
 use Rattle.std.proofs.lemmas.Option.{slice_get-get_or}
 use Rattle.typed_tree.specs.BlockTree.{ActionTree, DeclareInteger, DeclareCondition, SetInteger, SetCondition, ReduceInteger, SetEntry, ReduceEntry, DeclareSet, AssignSet, AddVertex, PrintInteger, PrintCondition, ApplyVertex, ApplyEdges, If, IfElse, While, For, BlockTree, Empty, Then}
@@ -52,13 +52,20 @@ module _ (p : ProgramTree) (s : ScheduleTree) where
     length-plan (If c body) place d number label = omega (arith, length-plan_all body (place + 1) d false)
     length-plan (IfElse c body other) place d number label =
         let to = place + 1 + size_all p s d false body + 1 in
-        omega (arith, length-plan_all body (place + 1) d false, length-plan_all other to d false,
-        length-append (plan_all p s (place + 1) d false body) (plain number d (Jump (to + size_all p s d false other)) ∷ plan_all p s to d false other))
+        omega (
+          arith,
+          length-plan_all body (place + 1) d false,
+          length-plan_all other to d false,
+          length-append (plan_all p s (place + 1) d false body) (plain number d (Jump (to + size_all p s d false other)) ∷ plan_all p s to d false other),
+        )
     length-plan (While c body) place d number label =
         omega (arith, length-plan_all body (place + 2) d false, length-append (plan_all p s (place + 2) d false body) (plain number d (Jump place) ∷ []))
     length-plan (For name first end body) place d number label =
-        omega (arith, length-plan_all body (place + 4) (in_loop d) false,
-        length-append (plan_all p s (place + 4) (in_loop d) false body) (plain number d (Advance name) ∷ loop_step number (in_loop d) d (Jump (place + 2)) ∷ []))
+        omega (
+          arith,
+          length-plan_all body (place + 4) (in_loop d) false,
+          length-append (plan_all p s (place + 4) (in_loop d) false body) (plain number d (Advance name) ∷ loop_step number (in_loop d) d (Jump (place + 2)) ∷ []),
+        )
     length-plan (DeclareInteger name e) place d number label = refl
     length-plan (DeclareCondition name c) place d number label = refl
     length-plan (SetInteger slot e) place d number label = refl

@@ -1,5 +1,5 @@
 -- The steps of the machine, one after the other.
-use Rattle.std.proofs.Common.{◌≡◌, ℕ, zero, suc, ◌+◌, ◌<◌, ◌≤◌, ℤ, pos, Bool, true, false, List, [], ◌∷◌, ◌++◌, length, Option, Some, None, slice_get, slice_index_or, ap, sym, ◌∙◌, refl, arith, subst}
+use Rattle.std.proofs.Common.{◌≡◌, ℕ, zero, suc, ◌+◌, ◌<◌, ◌≤◌, ℤ, Bool, true, false, List, [], ◌∷◌, length, Option, Some, None, slice_get, ap, sym, ◌∙◌, refl, arith, subst}
 use Rattle.std.proofs.lemmas.List.{take-append-le}
 use Rattle.typed_tree.specs.BlockTree.{ActionTree}
 use Rattle.typed_tree.specs.ProgramTree.{ProgramTree}

@@ -1,6 +1,5 @@
 -- Statements and blocks on the machine.
-use Rattle.std.proofs.Common.{◌≡◌, ℕ, zero, suc, ◌+◌, ◌≤◌, Bool, true, false, List, [], ◌∷◌, ◌++◌, length, Option, Some, None, slice_get, ap, sym, ◌∙◌, refl, arith, subst}
-use Rattle.typed_tree.specs.IntegerTree.{IntegerTree}
+use Rattle.std.proofs.Common.{◌≡◌, ℕ, ◌+◌, Bool, true, false, List, [], ◌∷◌, ◌++◌, Option, Some, None, slice_get, ap, sym, ◌∙◌, refl, arith, subst}
 use Rattle.typed_tree.specs.ConditionTree.{ConditionTree}
 use Rattle.typed_tree.specs.BlockTree.{ActionTree, DeclareInteger, DeclareCondition, SetInteger, SetCondition, ReduceInteger, SetEntry, ReduceEntry, DeclareSet, AssignSet, AddVertex, PrintInteger, PrintCondition, ApplyVertex, ApplyEdges, If, IfElse, While, For, BlockTree, Empty, Then}
 use Rattle.typed_tree.specs.ProgramTree.{ProgramTree}
@@ -14,11 +13,11 @@ use Rattle.plans.specs.declared.depth.Depth.{Depth}
 use Rattle.plans.specs.Instruction.{OperationTree, Do, Unless, UnlessBelow, Turn, Jump, Advance, InstructionTree}
 use Rattle.plans.specs.Fusing.{Company, Alone, WithNext, WithPrevious, company_of, takes_next}
 use Rattle.plans.specs.Plan.{behind, behind_all, in_loop, plain, loop_step, chosen, size_in, plan_in, size, size_all, plan, plan_all}
-use Rattle.plans.specs.Machine.{Configuration, At, Ended, forgotten, act, step}
-use Rattle.plans.proofs.Depths.{visible, IsWithin, within_behind_all, within_both, forgotten-all}
+use Rattle.plans.specs.Machine.{Configuration, At, forgotten}
+use Rattle.plans.proofs.Depths.{IsWithin, within_behind_all, within_both, forgotten-all}
 use Rattle.plans.proofs.Proper.{IsProper, HasNoBlock}
-use Rattle.plans.proofs.Places.{HasAt, has_front, has_behind, length_in, length-plan, length-plan_all}
-use Rattle.plans.proofs.Reaching.{Reaches, here, and_reaches, by_step, Moves, moves_on, Lands, Follows, follows_from, takes, alone_runs, leaving, jumps, lands_at}
+use Rattle.plans.proofs.Places.{HasAt, has_front, has_behind, length-plan, length-plan_all}
+use Rattle.plans.proofs.Reaching.{here, by_step, Moves, moves_on, Lands, Follows, follows_from, takes, alone_runs, leaving, jumps, lands_at}
 use Rattle.plans.proofs.Whiles.{unless_faults, unless_chooses, while_runs}
 use Rattle.plans.proofs.Fors.{counter, StandsFor, for_runs}
 use Rattle.plans.proofs.Joined.{IsFaultless, DoesBoth, IsInGood, faultless-proper}
@@ -122,14 +121,14 @@ module _ (p : ProgramTree) (g : GraphValue) (sch : ScheduleTree) (code : List In
   -- a statement in such company, and what stands behind it
   joined_runs : (company : Company) (action : ActionTree) (rest : BlockTree) (place number : ℕ) (label : Option ℕ) (d : Depth) (turns : ℕ) (loops : List Counter) (m s : StateValue) → IsInGood p g company d action rest
       → HasAt code place (plan_in company sch number label d (plan p sch place d number label action)
-          ++ plan_all p sch (place + size_in company (size p sch d action)) (behind action d) (takes_next company) rest)
+      ++ plan_all p sch (place + size_in company (size p sch d action)) (behind action d) (takes_next company) rest)
       → forgotten d m ≡ s → IsProper d turns s
       → (HasAt code place (plan p sch place d number label action) → Follows p g code (place + size p sch d action) loops (behind action d) turns (after p g number action s) (At place loops m))
       → ((is_done : Bool) (from : ℕ) (m t : StateValue) → HasAt code from (plan_all p sch from (behind action d) is_done rest)
-          → forgotten (at_rest is_done rest (behind action d)) m ≡ t → IsProper (at_rest is_done rest (behind action d)) turns t
-          → Follows p g code (from + size_all p sch (behind action d) is_done rest) loops (behind_all rest (behind action d)) turns (after_rest p g is_done rest t) (At from loops m))
+      → forgotten (at_rest is_done rest (behind action d)) m ≡ t → IsProper (at_rest is_done rest (behind action d)) turns t
+      → Follows p g code (from + size_all p sch (behind action d) is_done rest) loops (behind_all rest (behind action d)) turns (after_rest p g is_done rest t) (At from loops m))
       → Follows p g code (place + (size_in company (size p sch d action) + size_all p sch (behind action d) (takes_next company) rest)) loops (behind_all rest (behind action d)) turns
-          (then_do (after p g number action s) (after_all p g rest)) (At place loops m)
+      (then_do (after p g number action s) (after_all p g rest)) (At place loops m)
   joined_runs Alone action rest place number label d turns loops m s good at same q run_action run_rest =
       let n = size p sch d action in
       let e = behind action d in
@@ -151,7 +150,7 @@ module _ (p : ProgramTree) (g : GraphValue) (sch : ScheduleTree) (code : List In
       let to = place + 1 + size_all p sch e true block in
       let st = after_all p g rest t in
       let ran = follows_from p g code st to loops (behind_all block e) turns (At place loops m) (At (place + 1) loops lands.there) lands.reaches
-          (run_rest true (place + 1) lands.there t at.1 lands.same lands.proper) in
+      (run_rest true (place + 1) lands.there t at.1 lands.same lands.proper) in
       let same_stand = both_mean action next number other rest second s good.first good.second good.first_means good.second_means in
       lands_at p g code (then_do (after p g number action s) (after_all p g block)) to (place + (1 + size_all p sch e true block)) loops (behind_all block e) turns (At place loops m) (omega arith)
       (subst (λ (st : Stand). Follows p g code to loops (behind_all block e) turns st (At place loops m)) same_stand ran)
@@ -163,78 +162,78 @@ module _ (p : ProgramTree) (g : GraphValue) (sch : ScheduleTree) (code : List In
       subst (λ (x : ℕ). Lands p g code x loops d turns s (At place loops m)) e (record { there = m; reaches = here; same = same; proper = q })
 
   module _ (good : (d : Depth) (label : Option ℕ) (a : ActionTree) (rest : BlockTree) → IsInGood p g (company_of p sch d false label a rest) d a rest) where
-   mutual
-    pub action_runs : (a : ActionTree) (place number : ℕ) (label : Option ℕ) (d : Depth) (turns : ℕ) (loops : List Counter) (m s : StateValue)
-        → HasAt code place (plan p sch place d number label a) → forgotten d m ≡ s → IsProper d turns s
-        → Follows p g code (place + size p sch d a) loops (behind a d) turns (after p g number a s) (At place loops m)
-    action_runs (DeclareInteger name e) place number label d turns loops m s at same q = single (DeclareInteger name e) tt place number label d turns loops m s at same q
-    action_runs (DeclareCondition name c) place number label d turns loops m s at same q = single (DeclareCondition name c) tt place number label d turns loops m s at same q
-    action_runs (SetInteger slot e) place number label d turns loops m s at same q = single (SetInteger slot e) tt place number label d turns loops m s at same q
-    action_runs (SetCondition slot c) place number label d turns loops m s at same q = single (SetCondition slot c) tt place number label d turns loops m s at same q
-    action_runs (ReduceInteger slot reduction e) place number label d turns loops m s at same q = single (ReduceInteger slot reduction e) tt place number label d turns loops m s at same q
-    action_runs (SetEntry vector index e) place number label d turns loops m s at same q = single (SetEntry vector index e) tt place number label d turns loops m s at same q
-    action_runs (ReduceEntry vector index reduction e) place number label d turns loops m s at same q = single (ReduceEntry vector index reduction e) tt place number label d turns loops m s at same q
-    action_runs (DeclareSet name set) place number label d turns loops m s at same q = single (DeclareSet name set) tt place number label d turns loops m s at same q
-    action_runs (AssignSet slot set) place number label d turns loops m s at same q = single (AssignSet slot set) tt place number label d turns loops m s at same q
-    action_runs (AddVertex slot e) place number label d turns loops m s at same q = single (AddVertex slot e) tt place number label d turns loops m s at same q
-    action_runs (PrintInteger e) place number label d turns loops m s at same q = single (PrintInteger e) tt place number label d turns loops m s at same q
-    action_runs (PrintCondition c) place number label d turns loops m s at same q = single (PrintCondition c) tt place number label d turns loops m s at same q
-    action_runs (ApplyVertex set function) place number label d turns loops m s at same q = single (ApplyVertex set function) tt place number label d turns loops m s at same q
-    action_runs (ApplyEdges ends function) place number label d turns loops m s at same q = single (ApplyEdges ends function) tt place number label d turns loops m s at same q
-    action_runs (If c body) place number label d turns loops m s at same q =
-        let to = place + 1 + size_all p sch d false body in
-        lands_at p g code (after p g number (If c body) s) to (place + size p sch d (If c body)) loops d turns (At place loops m) (omega arith)
-        (if_runs c body place number to d turns loops m s (choice_in g.vertices c s) at.0 same q refl
-        (block_runs body false (place + 1) d turns loops s s at.1 (forgotten-all d s q.deep) q))
-    action_runs (IfElse c body other) place number label d turns loops m s at same q =
-        let back = place + 1 + size_all p sch d false body in
-        let from = back + 1 in
-        let to = from + size_all p sch d false other in
-        let others = behind_block (place + 1) back d body (plain number d (Jump to) ∷ plan_all p sch from d false other) refl at.1 in
-        lands_at p g code (after p g number (IfElse c body other) s) to (place + size p sch d (IfElse c body other)) loops d turns (At place loops m) (omega arith)
-        (if_else_runs c body other place number back from to d turns loops m s (choice_in g.vertices c s) at.0 others.0 same q refl
-        (block_runs body false (place + 1) d turns loops s s (has_front code (place + 1) (plan_all p sch (place + 1) d false body) (plain number d (Jump to) ∷ plan_all p sch from d false other) at.1) (forgotten-all d s q.deep) q)
-        (block_runs other false from d turns loops s s others.1 (forgotten-all d s q.deep) q))
-    action_runs (While c body) place number label d turns loops m s at same q =
-        let back = place + 2 + size_all p sch d false body in
-        let to = back + 1 in
-        let jump = plain number d (Jump place) ∷ [] in
-        let inner : HasBlock (place + 2) d false body jump = subst (λ (x : ℕ). HasAt code x (plan_all p sch (place + 2) d false body ++ jump)) (omega arith) at.1.1 in
-        lands_at p g code (after p g number (While c body) s) to (place + size p sch d (While c body)) loops d turns (At place loops m) (omega arith)
-        (while_runs p g code c (after_all p g body) place number back to d (behind_all body d) turns loops m s at.0 at.1.0 (behind_block (place + 2) back d body jump refl inner).0 (within_behind_all body d)
-        (λ n t proper. block_runs body false (place + 2) d n loops t t (has_front code (place + 2) (plan_all p sch (place + 2) d false body) jump inner) (forgotten-all d t proper.deep) proper)
-        same q)
-    action_runs (For name first end body) place number label d turns loops m s at same q =
-        let deep = in_loop d in
-        let back = place + 4 + size_all p sch deep false body in
-        let to = back + 2 in
-        let last = plain number d (Advance name) ∷ loop_step number deep d (Jump (place + 2)) ∷ [] in
-        let inner : HasBlock (place + 4) deep false body last = subst (λ (x : ℕ). HasAt code x (plan_all p sch (place + 4) deep false body ++ last)) (omega arith) at.1.1.1.1 in
-        let others = behind_block (place + 4) back deep body last refl inner in
-        let stands : StandsFor code place number name back to first end d = record {
-          at_first = at.0;
-          at_end = at.1.0;
-          at_test = subst (λ (x : ℕ). slice_get code x ≡ Some (loop_step number deep d (UnlessBelow name to))) (omega arith) at.1.1.0;
-          at_turn = subst (λ (x : ℕ). slice_get code x ≡ Some (loop_step number deep d Turn)) (omega arith) at.1.1.1.0;
-          at_advance = others.0;
-          at_jump = others.1.0;
-        } in
-        lands_at p g code (after p g number (For name first end body) s) to (place + size p sch d (For name first end body)) loops d turns (At place loops m) (omega arith)
-        (for_runs p g code place number name back to first end d (behind_all body deep) loops stands (after_all p g body) turns s m
-        (within_both d deep (behind_all body deep) (within_loop d) (within_behind_all body deep))
-        (λ r n t proper. block_runs body false (place + 4) deep n (counter r ∷ loops) t t (has_front code (place + 4) (plan_all p sch (place + 4) deep false body) last inner) (forgotten-all deep t proper.deep) proper)
-        same q)
+    mutual
+      pub action_runs : (a : ActionTree) (place number : ℕ) (label : Option ℕ) (d : Depth) (turns : ℕ) (loops : List Counter) (m s : StateValue)
+          → HasAt code place (plan p sch place d number label a) → forgotten d m ≡ s → IsProper d turns s
+          → Follows p g code (place + size p sch d a) loops (behind a d) turns (after p g number a s) (At place loops m)
+      action_runs (DeclareInteger name e) place number label d turns loops m s at same q = single (DeclareInteger name e) tt place number label d turns loops m s at same q
+      action_runs (DeclareCondition name c) place number label d turns loops m s at same q = single (DeclareCondition name c) tt place number label d turns loops m s at same q
+      action_runs (SetInteger slot e) place number label d turns loops m s at same q = single (SetInteger slot e) tt place number label d turns loops m s at same q
+      action_runs (SetCondition slot c) place number label d turns loops m s at same q = single (SetCondition slot c) tt place number label d turns loops m s at same q
+      action_runs (ReduceInteger slot reduction e) place number label d turns loops m s at same q = single (ReduceInteger slot reduction e) tt place number label d turns loops m s at same q
+      action_runs (SetEntry vector index e) place number label d turns loops m s at same q = single (SetEntry vector index e) tt place number label d turns loops m s at same q
+      action_runs (ReduceEntry vector index reduction e) place number label d turns loops m s at same q = single (ReduceEntry vector index reduction e) tt place number label d turns loops m s at same q
+      action_runs (DeclareSet name set) place number label d turns loops m s at same q = single (DeclareSet name set) tt place number label d turns loops m s at same q
+      action_runs (AssignSet slot set) place number label d turns loops m s at same q = single (AssignSet slot set) tt place number label d turns loops m s at same q
+      action_runs (AddVertex slot e) place number label d turns loops m s at same q = single (AddVertex slot e) tt place number label d turns loops m s at same q
+      action_runs (PrintInteger e) place number label d turns loops m s at same q = single (PrintInteger e) tt place number label d turns loops m s at same q
+      action_runs (PrintCondition c) place number label d turns loops m s at same q = single (PrintCondition c) tt place number label d turns loops m s at same q
+      action_runs (ApplyVertex set function) place number label d turns loops m s at same q = single (ApplyVertex set function) tt place number label d turns loops m s at same q
+      action_runs (ApplyEdges ends function) place number label d turns loops m s at same q = single (ApplyEdges ends function) tt place number label d turns loops m s at same q
+      action_runs (If c body) place number label d turns loops m s at same q =
+          let to = place + 1 + size_all p sch d false body in
+          lands_at p g code (after p g number (If c body) s) to (place + size p sch d (If c body)) loops d turns (At place loops m) (omega arith)
+          (if_runs c body place number to d turns loops m s (choice_in g.vertices c s) at.0 same q refl
+          (block_runs body false (place + 1) d turns loops s s at.1 (forgotten-all d s q.deep) q))
+      action_runs (IfElse c body other) place number label d turns loops m s at same q =
+          let back = place + 1 + size_all p sch d false body in
+          let from = back + 1 in
+          let to = from + size_all p sch d false other in
+          let others = behind_block (place + 1) back d body (plain number d (Jump to) ∷ plan_all p sch from d false other) refl at.1 in
+          lands_at p g code (after p g number (IfElse c body other) s) to (place + size p sch d (IfElse c body other)) loops d turns (At place loops m) (omega arith)
+          (if_else_runs c body other place number back from to d turns loops m s (choice_in g.vertices c s) at.0 others.0 same q refl
+          (block_runs body false (place + 1) d turns loops s s (has_front code (place + 1) (plan_all p sch (place + 1) d false body) (plain number d (Jump to) ∷ plan_all p sch from d false other) at.1) (forgotten-all d s q.deep) q)
+          (block_runs other false from d turns loops s s others.1 (forgotten-all d s q.deep) q))
+      action_runs (While c body) place number label d turns loops m s at same q =
+          let back = place + 2 + size_all p sch d false body in
+          let to = back + 1 in
+          let jump = plain number d (Jump place) ∷ [] in
+          let inner : HasBlock (place + 2) d false body jump = subst (λ (x : ℕ). HasAt code x (plan_all p sch (place + 2) d false body ++ jump)) (omega arith) at.1.1 in
+          lands_at p g code (after p g number (While c body) s) to (place + size p sch d (While c body)) loops d turns (At place loops m) (omega arith)
+          (while_runs p g code c (after_all p g body) place number back to d (behind_all body d) turns loops m s at.0 at.1.0 (behind_block (place + 2) back d body jump refl inner).0 (within_behind_all body d)
+          (λ n t proper. block_runs body false (place + 2) d n loops t t (has_front code (place + 2) (plan_all p sch (place + 2) d false body) jump inner) (forgotten-all d t proper.deep) proper)
+          same q)
+      action_runs (For name first end body) place number label d turns loops m s at same q =
+          let deep = in_loop d in
+          let back = place + 4 + size_all p sch deep false body in
+          let to = back + 2 in
+          let last = plain number d (Advance name) ∷ loop_step number deep d (Jump (place + 2)) ∷ [] in
+          let inner : HasBlock (place + 4) deep false body last = subst (λ (x : ℕ). HasAt code x (plan_all p sch (place + 4) deep false body ++ last)) (omega arith) at.1.1.1.1 in
+          let others = behind_block (place + 4) back deep body last refl inner in
+          let stands : StandsFor code place number name back to first end d = record {
+            at_first = at.0;
+            at_end = at.1.0;
+            at_test = subst (λ (x : ℕ). slice_get code x ≡ Some (loop_step number deep d (UnlessBelow name to))) (omega arith) at.1.1.0;
+            at_turn = subst (λ (x : ℕ). slice_get code x ≡ Some (loop_step number deep d Turn)) (omega arith) at.1.1.1.0;
+            at_advance = others.0;
+            at_jump = others.1.0;
+          } in
+          lands_at p g code (after p g number (For name first end body) s) to (place + size p sch d (For name first end body)) loops d turns (At place loops m) (omega arith)
+          (for_runs p g code place number name back to first end d (behind_all body deep) loops stands (after_all p g body) turns s m
+          (within_both d deep (behind_all body deep) (within_loop d) (within_behind_all body deep))
+          (λ r n t proper. block_runs body false (place + 4) deep n (counter r ∷ loops) t t (has_front code (place + 4) (plan_all p sch (place + 4) deep false body) last inner) (forgotten-all deep t proper.deep) proper)
+          same q)
 
-    pub block_runs : (b : BlockTree) (is_done : Bool) (place : ℕ) (d : Depth) (turns : ℕ) (loops : List Counter) (m s : StateValue)
-        → HasAt code place (plan_all p sch place d is_done b) → forgotten (at_rest is_done b d) m ≡ s → IsProper (at_rest is_done b d) turns s
-        → Follows p g code (place + size_all p sch d is_done b) loops (behind_all b d) turns (after_rest p g is_done b s) (At place loops m)
-    block_runs Empty true place d turns loops m s at same q = lands_here place loops d turns m s same q
-    block_runs Empty false place d turns loops m s at same q = lands_here place loops d turns m s same q
-    block_runs (Then number label action rest) true place d turns loops m s at same q =
-        let e : place + 0 ≡ place = omega arith in
-        lands_at p g code (after_all p g rest s) (place + size_all p sch (behind action d) false rest) (place + size_all p sch d true (Then number label action rest)) loops (behind_all rest (behind action d)) turns (At place loops m) (omega arith)
-        (block_runs rest false place (behind action d) turns loops m s (subst (λ (x : ℕ). HasAt code place (plan_all p sch x (behind action d) false rest)) e at) same q)
-    block_runs (Then number label action rest) false place d turns loops m s at same q =
-        joined_runs (company_of p sch d false label action rest) action rest place number label d turns loops m s (good d label action rest) at same q
-        (λ own. action_runs action place number label d turns loops m s own same q)
-        (λ is_done from m t others kept proper. block_runs rest is_done from (behind action d) turns loops m t others kept proper)
+      pub block_runs : (b : BlockTree) (is_done : Bool) (place : ℕ) (d : Depth) (turns : ℕ) (loops : List Counter) (m s : StateValue)
+          → HasAt code place (plan_all p sch place d is_done b) → forgotten (at_rest is_done b d) m ≡ s → IsProper (at_rest is_done b d) turns s
+          → Follows p g code (place + size_all p sch d is_done b) loops (behind_all b d) turns (after_rest p g is_done b s) (At place loops m)
+      block_runs Empty true place d turns loops m s at same q = lands_here place loops d turns m s same q
+      block_runs Empty false place d turns loops m s at same q = lands_here place loops d turns m s same q
+      block_runs (Then number label action rest) true place d turns loops m s at same q =
+          let e : place + 0 ≡ place = omega arith in
+          lands_at p g code (after_all p g rest s) (place + size_all p sch (behind action d) false rest) (place + size_all p sch d true (Then number label action rest)) loops (behind_all rest (behind action d)) turns (At place loops m) (omega arith)
+          (block_runs rest false place (behind action d) turns loops m s (subst (λ (x : ℕ). HasAt code place (plan_all p sch x (behind action d) false rest)) e at) same q)
+      block_runs (Then number label action rest) false place d turns loops m s at same q =
+          joined_runs (company_of p sch d false label action rest) action rest place number label d turns loops m s (good d label action rest) at same q
+          (λ own. action_runs action place number label d turns loops m s own same q)
+          (λ is_done from m t others kept proper. block_runs rest is_done from (behind action d) turns loops m t others kept proper)

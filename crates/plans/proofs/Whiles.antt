@@ -1,24 +1,21 @@
 -- `while` and `for` on the machine.
-use Rattle.std.proofs.Common.{◌≡◌, ℕ, zero, suc, ◌+◌, ◌≤◌, ℤ, pos, int_lt, Bool, true, false, if◌then◌else◌, List, [], ◌∷◌, ◌++◌, length, Option, Some, None, slice_get, slice_index_or, ap, sym, ◌∙◌, refl, arith, subst}
-use Rattle.std.proofs.Math.Seq.{get_or-append_seam}
+use Rattle.std.proofs.Common.{◌≡◌, ℕ, ◌+◌, ℤ, Bool, true, false, if◌then◌else◌, List, [], ◌∷◌, Option, Some, None, slice_get, ap, sym, ◌∙◌, refl, arith, subst}
 use Rattle.std.proofs.lemmas.List.{length-append}
-use Rattle.typed_tree.specs.IntegerTree.{IntegerTree}
 use Rattle.typed_tree.specs.ConditionTree.{ConditionTree}
 use Rattle.typed_tree.specs.ProgramTree.{ProgramTree}
-use Rattle.algorithm_meaning.specs.declared.outcome.End.{End}
 use Rattle.algorithm_meaning.specs.declared.outcome.End.TheVariants.{TurnsOver, Fault}
 use Rattle.algorithm_meaning.specs.State.{GraphValue, StateValue}
-use Rattle.algorithm_meaning.specs.Stand.{Stand, Live, Over, choice_in, number_in, with_value}
+use Rattle.algorithm_meaning.specs.Stand.{Stand, Live, Over, choice_in}
 use Rattle.algorithm_meaning.specs.Variables.{with_new_integer}
-use Rattle.algorithm_meaning.specs.Loop.{depth_of, leave, inside, loop, while_test, while_body, after_while, for_test, for_body, after_for, both_bounds, next_of as following_bounds}
+use Rattle.algorithm_meaning.specs.Loop.{inside, while_test, while_body, after_while}
 use Rattle.plans.specs.declared.depth.Counter.{Counter}
 use Rattle.plans.specs.declared.depth.Depth.{Depth}
-use Rattle.plans.specs.Instruction.{Do, Unless, Enter, UnlessBelow, Advance, Turn, Jump, InstructionTree}
-use Rattle.plans.specs.Plan.{with_integer, in_loop, plain, loop_step}
-use Rattle.plans.specs.Machine.{Configuration, At, Ended, forgotten, act, after_unless, after_unless_below, after_turn, after_enter, next_of, step}
+use Rattle.plans.specs.Instruction.{Unless, Turn, Jump, InstructionTree}
+use Rattle.plans.specs.Plan.{with_integer, in_loop, plain}
+use Rattle.plans.specs.Machine.{Configuration, At, Ended, forgotten, after_unless, after_turn}
 use Rattle.plans.proofs.Depths.{visible, IsWithin, forgotten-all}
 use Rattle.plans.proofs.Proper.{IsProper}
-use Rattle.plans.proofs.Reaching.{Reaches, here, and_reaches, by_step, Moves, moves_on, moves_from, Lands, Follows, follows_more, takes, leaving, LeadsOn, leads_from, RunsLoop, loop_runs, proper_more, forgotten-new}
+use Rattle.plans.proofs.Reaching.{Reaches, here, and_reaches, by_step, Moves, moves_on, moves_from, Follows, follows_more, takes, leaving, LeadsOn, leads_from, RunsLoop, loop_runs, forgotten-new}
 
 -- the state with the variables of a `for`
 abbrev pub pushed : StateValue → (next end : ℤ) → StateValue
@@ -76,7 +73,7 @@ module _ (p : ProgramTree) (g : GraphValue) (code : List InstructionTree) where
   while_leads (Live u) place number back d turns loops c at f = (
     At place loops u,
     and_reaches p g code f.reaches
-    (by_step p g code (At back loops f.there) (At place loops u) (At place loops u) (takes p g code back loops f.there (plain number d (Jump place)) u at f.same) here),
+        (by_step p g code (At back loops f.there) (At place loops u) (At place loops u) (takes p g code back loops f.there (plain number d (Jump place)) u at f.same) here),
     (u, forgotten-all d u f.proper.deep, refl),
     f.proper,
   )

@@ -1,7 +1,5 @@
 -- Whole runs of plans.
-use Rattle.std.proofs.Common.{◌≡◌, ℕ, zero, suc, ◌+◌, false, List, [], ◌∷◌, ◌++◌, length, map, Option, Some, None, slice_get, ap, sym, ◌∙◌, refl, arith, subst}
-use Rattle.std.specs.List.{range_with_len}
-use Rattle.typed_tree.specs.BlockTree.{ActionTree, BlockTree}
+use Rattle.std.proofs.Common.{◌≡◌, ℕ, zero, suc, ◌+◌, false, List, [], ◌∷◌, length, map, Some, slice_get, ap, sym, refl, arith, subst}
 use Rattle.typed_tree.specs.ProgramTree.{ProgramTree}
 use Rattle.algorithm_meaning.specs.declared.outcome.End.TheVariants.{Finished}
 use Rattle.algorithm_meaning.specs.State.{GraphValue, StateValue}

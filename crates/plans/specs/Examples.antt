@@ -1,8 +1,8 @@
 -- Programs whose plans are told.
-use Rattle.std.specs.Prelude.{◌≡◌, ℕ, pos, List, [], ◌∷◌, map, Option, Some, None}
+use Rattle.std.specs.Prelude.{◌≡◌, ℕ, pos, List, [], ◌∷◌, map, Some, None}
 use Rattle.syntax.specs.declared.statement.Reduction.TheVariants.{Plus}
 use Rattle.typed_tree.specs.declared.expression.Comparison.TheVariants.{Less, NotEqual}
-use Rattle.typed_tree.specs.declared.expression.Endpoint.TheVariants.{Source, Destination}
+use Rattle.typed_tree.specs.declared.expression.Endpoint.TheVariants.{Source}
 use Rattle.typed_tree.specs.declared.expression.Slot.{Slot}
 use Rattle.typed_tree.specs.declared.statement.EndFilter.TheVariants as end
 use Rattle.typed_tree.specs.declared.statement.Ends.{Ends}
@@ -32,7 +32,7 @@ breadth_first frontier ends visit parent =
     (Then 2 None (AddVertex frontier (Number (pos 0)))
     (Then 3 None (SetEntry parent (Number (pos 0)) (Number (pos 0)))
     (Then 4 None (While (Compare NotEqual (SetSize frontier) (Number (pos 0)))
-      (Then 5 (Some 0) (AssignSet frontier (set.Modified ends visit parent)) Empty))
+    (Then 5 (Some 0) (AssignSet frontier (set.Modified ends visit parent)) Empty))
     Empty)))
 
 abbrev pub HasPlanOfSearch : ProgramTree → ScheduleTree → (frontier : Slot) → Ends → (visit parent : ℕ) → Type 0
@@ -52,8 +52,8 @@ HasPlanOfSearch p s frontier ends visit parent =
 abbrev pub loop_with_choice : (i : ℕ) → (first end : IntegerTree) → ConditionTree → (e f : IntegerTree) → BlockTree
 loop_with_choice i first end c e f =
     Then 1 None (For i first end
-      (Then 2 None (IfElse c (Then 3 None (PrintInteger e) Empty) (Then 4 None (PrintInteger f) Empty))
-      Empty))
+    (Then 2 None (IfElse c (Then 3 None (PrintInteger e) Empty) (Then 4 None (PrintInteger f) Empty))
+    Empty))
     (Then 5 None (If c (Then 6 None (PrintInteger f) Empty))
     Empty)
 

@@ -1,7 +1,6 @@
 -- The plan of a program.
 use Rattle.std.specs.Prelude.{ℕ, ◌+◌, Bool, false, List, [], ◌∷◌, ◌++◌, length, Option}
-use Rattle.typed_tree.specs.ConditionTree.{ConditionTree}
-use Rattle.typed_tree.specs.BlockTree.{ActionTree, DeclareInteger, DeclareCondition, SetInteger, SetCondition, ReduceInteger, SetEntry, ReduceEntry, DeclareSet, AssignSet, AddVertex, PrintInteger, PrintCondition, ApplyVertex, ApplyEdges, If, IfElse, While, For, BlockTree, Empty, Then}
+use Rattle.typed_tree.specs.BlockTree.{ActionTree, DeclareInteger, DeclareCondition, DeclareSet, If, IfElse, While, For, BlockTree, Empty, Then}
 use Rattle.typed_tree.specs.ProgramTree.{ProgramTree}
 use Rattle.plans.specs.declared.depth.Depth.{Depth}
 use Rattle.schedule.specs.Schedule.{ScheduleTree, choice_at, no_choice}
