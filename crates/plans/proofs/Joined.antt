@@ -29,11 +29,11 @@ module _ (p : ProgramTree) (g : GraphValue) where
         → act p g operation number shown place loops s ≡ At (place + 1) loops (second (first s))
 
   -- what holds of a statement in such company
-  abbrev pub IsInGood : Company → Depth → ActionTree → BlockTree → Type 0
-  IsInGood Alone d a rest = Unit {0}
-  IsInGood WithPrevious d a rest = ⊥
-  IsInGood (WithNext operation) d a Empty = ⊥
-  IsInGood (WithNext operation) d a (Then number label b rest) = DoesBoth operation d a b
+  abbrev pub IsGoodCompany : Company → Depth → ActionTree → BlockTree → Type 0
+  IsGoodCompany Alone d a rest = Unit {0}
+  IsGoodCompany WithPrevious d a rest = ⊥
+  IsGoodCompany (WithNext operation) d a Empty = ⊥
+  IsGoodCompany (WithNext operation) d a (Then number label b rest) = DoesBoth operation d a b
 
   pub faultless-proper : (a : ActionTree) (f : StateValue → StateValue) (d : Depth) (turns : ℕ) (s : StateValue) → IsFaultless a f → IsProper d turns s → IsProper (behind a d) turns (f s)
   faultless-proper a f d turns s faultless q =

@@ -17,7 +17,7 @@ use Rattle.plans.specs.Instruction.{OperationTree, ApplyEdgesTogether, ApplyVert
 use Rattle.plans.specs.Fusing.{EdgeApplyTree, VertexApplyTree, edge_apply_of, vertex_apply_of, steps_are_local, steps_are_local_where, function_is_local, edges_fit, vertices_fit, edges_together, vertices_together, either, together, is_with, Alone, with_next, company_of}
 use Rattle.plans.specs.Machine.{At, after_apply_both}
 use Rattle.plans.proofs.Proper.{IsProper}
-use Rattle.plans.proofs.Joined.{IsFaultless, DoesBoth, IsInGood}
+use Rattle.plans.proofs.Joined.{IsFaultless, DoesBoth, IsGoodCompany}
 use Rattle.plans.proofs.VertexPairs.{both_at_each}
 use Rattle.plans.proofs.EdgePairs.{after_part, edges_at_once}
 
@@ -108,17 +108,17 @@ module _ (p : ProgramTree) (g : GraphValue) where
       (vertices_do_both d a b (vertex_apply_of a) (vertex_apply_of b) (is_vertex_apply a) (is_vertex_apply b))
 
   good_with_next : (o : Option OperationTree) (d : Depth) (a b : ActionTree) (number : ℕ) (label : Option ℕ) (rest : BlockTree) → DoesBothIf o d a b
-      → IsInGood p g (with_next o) d a (Then number label b rest)
+      → IsGoodCompany p g (with_next o) d a (Then number label b rest)
   good_with_next None d a b number label rest h = tt
   good_with_next (Some operation) d a b number label rest h = h
 
   good_if_fused : (fused : Bool) (o : Option OperationTree) (d : Depth) (a b : ActionTree) (number : ℕ) (label : Option ℕ) (rest : BlockTree) → DoesBothIf o d a b
-      → IsInGood p g (if fused then with_next o else Alone) d a (Then number label b rest)
+      → IsGoodCompany p g (if fused then with_next o else Alone) d a (Then number label b rest)
   good_if_fused true o d a b number label rest h = good_with_next o d a b number label rest h
   good_if_fused false o d a b number label rest h = tt
 
   -- each statement is in good company
-  pub in_good : (sch : ScheduleTree) (d : Depth) (label : Option ℕ) (a : ActionTree) (rest : BlockTree) → IsInGood p g (company_of p sch d false label a rest) d a rest
-  in_good sch d label a Empty = tt
-  in_good sch d label a (Then number other b rest) =
-      good_if_fused (is_with (choice_at label sch).fused other) (together p d a b) d a b number other rest (together_does_both d a b)
+  pub company_is_good : (schedule : ScheduleTree) (d : Depth) (label : Option ℕ) (a : ActionTree) (rest : BlockTree) → IsGoodCompany p g (company_of p schedule d false label a rest) d a rest
+  company_is_good schedule d label a Empty = tt
+  company_is_good schedule d label a (Then number other b rest) =
+      good_if_fused (is_with (choice_at label schedule).fused other) (together p d a b) d a b number other rest (together_does_both d a b)

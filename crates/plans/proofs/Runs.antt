@@ -20,7 +20,7 @@ use Rattle.plans.proofs.Places.{HasAt, has_front, has_behind, length-plan, lengt
 use Rattle.plans.proofs.Reaching.{here, by_step, Moves, moves_on, Lands, Follows, follows_from, takes, alone_runs, leaving, jumps, lands_at}
 use Rattle.plans.proofs.Whiles.{unless_faults, unless_chooses, while_runs}
 use Rattle.plans.proofs.Fors.{counter, StandsFor, for_runs}
-use Rattle.plans.proofs.Joined.{IsFaultless, DoesBoth, IsInGood, faultless-proper}
+use Rattle.plans.proofs.Joined.{IsFaultless, DoesBoth, IsGoodCompany, faultless-proper}
 
 -- what is left of a block whose first statement may be done already, and what is visible there
 abbrev pub after_rest : ProgramTree → GraphValue → (is_done : Bool) → BlockTree → StateValue → Stand
@@ -36,7 +36,7 @@ at_rest true (Then number label action rest) d = behind action d
 within_loop : (d : Depth) → IsWithin d (in_loop d)
 within_loop d = record { integers = omega arith; conditions = omega arith; sets = omega arith }
 
-module _ (p : ProgramTree) (g : GraphValue) (sch : ScheduleTree) (code : List InstructionTree) where
+module _ (p : ProgramTree) (g : GraphValue) (schedule : ScheduleTree) (code : List InstructionTree) where
   -- one statement after the other
   then_follows : (st : Stand) (go : StateValue → Stand) (at to : ℕ) (loops : List Counter) (d e : Depth) (turns : ℕ) (c : Configuration)
       → Follows p g code at loops d turns st c
@@ -85,14 +85,14 @@ module _ (p : ProgramTree) (g : GraphValue) (sch : ScheduleTree) (code : List In
 
   -- two statements that one instruction does
   both_run : (operation : OperationTree) (a b : ActionTree) (place number : ℕ) (label : Option ℕ) (d : Depth) (turns : ℕ) (loops : List Counter) (m s : StateValue) (both : DoesBoth p g operation d a b)
-      → slice_get code place ≡ Some (chosen sch number label d operation) → forgotten d m ≡ s → IsProper d turns s
+      → slice_get code place ≡ Some (chosen schedule number label d operation) → forgotten d m ≡ s → IsProper d turns s
       → Lands p g code (place + 1) loops (behind b (behind a d)) turns (both.second (both.first s)) (At place loops m)
   both_run operation a b place number label d turns loops m s both at same q =
       let proper = faultless-proper p g b both.second (behind a d) turns (both.first s) both.second_means (faultless-proper p g a both.first d turns s both.first_means q) in
       record {
         there = both.second (both.first s);
         reaches = by_step p g code (At place loops m) (At (place + 1) loops (both.second (both.first s))) (At (place + 1) loops (both.second (both.first s)))
-            (moves_on p g code (takes p g code place loops m (chosen sch number label d operation) s at same) (both.acts number d place loops turns s q)) here;
+            (moves_on p g code (takes p g code place loops m (chosen schedule number label d operation) s at same) (both.acts number d place loops turns s q)) here;
         same = forgotten-all (behind b (behind a d)) (both.second (both.first s)) proper.deep;
         proper = proper;
       }
@@ -106,40 +106,40 @@ module _ (p : ProgramTree) (g : GraphValue) (sch : ScheduleTree) (code : List In
 
   -- the instruction of a statement without a block
   single : (a : ActionTree) → HasNoBlock a → (place number : ℕ) (label : Option ℕ) (d : Depth) (turns : ℕ) (loops : List Counter) (m s : StateValue)
-      → HasAt code place (chosen sch number label d (Do a) ∷ []) → forgotten d m ≡ s → IsProper d turns s
+      → HasAt code place (chosen schedule number label d (Do a) ∷ []) → forgotten d m ≡ s → IsProper d turns s
       → Follows p g code (place + 1) loops (behind a d) turns (after p g number a s) (At place loops m)
-  single a alone place number label d turns loops m s at same q = alone_runs p g code a alone place number (choice_at label sch) d turns loops m s at.0 same q
+  single a alone place number label d turns loops m s at same q = alone_runs p g code a alone place number (choice_at label schedule) d turns loops m s at.0 same q
 
   -- the instructions of a block behind others
   abbrev HasBlock : (place : ℕ) → Depth → (is_done : Bool) → BlockTree → List InstructionTree → Type 0
-  HasBlock place d is_done b rest = HasAt code place (plan_all p sch place d is_done b ++ rest)
+  HasBlock place d is_done b rest = HasAt code place (plan_all p schedule place d is_done b ++ rest)
 
-  behind_block : (place to : ℕ) (d : Depth) (b : BlockTree) (rest : List InstructionTree) → place + size_all p sch d false b ≡ to → HasBlock place d false b rest → HasAt code to rest
+  behind_block : (place to : ℕ) (d : Depth) (b : BlockTree) (rest : List InstructionTree) → place + size_all p schedule d false b ≡ to → HasBlock place d false b rest → HasAt code to rest
   behind_block place to d b rest e at =
-      has_behind code place (size_all p sch d false b) to (plan_all p sch place d false b) rest (length-plan_all p sch b place d false) e at
+      has_behind code place (size_all p schedule d false b) to (plan_all p schedule place d false b) rest (length-plan_all p schedule b place d false) e at
 
   -- a statement in such company, and what stands behind it
-  joined_runs : (company : Company) (action : ActionTree) (rest : BlockTree) (place number : ℕ) (label : Option ℕ) (d : Depth) (turns : ℕ) (loops : List Counter) (m s : StateValue) → IsInGood p g company d action rest
-      → HasAt code place (plan_in company sch number label d (plan p sch place d number label action)
-      ++ plan_all p sch (place + size_in company (size p sch d action)) (behind action d) (takes_next company) rest)
+  joined_runs : (company : Company) (action : ActionTree) (rest : BlockTree) (place number : ℕ) (label : Option ℕ) (d : Depth) (turns : ℕ) (loops : List Counter) (m s : StateValue) → IsGoodCompany p g company d action rest
+      → HasAt code place (plan_in company schedule number label d (plan p schedule place d number label action)
+      ++ plan_all p schedule (place + size_in company (size p schedule d action)) (behind action d) (takes_next company) rest)
       → forgotten d m ≡ s → IsProper d turns s
-      → (HasAt code place (plan p sch place d number label action) → Follows p g code (place + size p sch d action) loops (behind action d) turns (after p g number action s) (At place loops m))
-      → ((is_done : Bool) (from : ℕ) (m t : StateValue) → HasAt code from (plan_all p sch from (behind action d) is_done rest)
+      → (HasAt code place (plan p schedule place d number label action) → Follows p g code (place + size p schedule d action) loops (behind action d) turns (after p g number action s) (At place loops m))
+      → ((is_done : Bool) (from : ℕ) (m t : StateValue) → HasAt code from (plan_all p schedule from (behind action d) is_done rest)
       → forgotten (at_rest is_done rest (behind action d)) m ≡ t → IsProper (at_rest is_done rest (behind action d)) turns t
-      → Follows p g code (from + size_all p sch (behind action d) is_done rest) loops (behind_all rest (behind action d)) turns (after_rest p g is_done rest t) (At from loops m))
-      → Follows p g code (place + (size_in company (size p sch d action) + size_all p sch (behind action d) (takes_next company) rest)) loops (behind_all rest (behind action d)) turns
+      → Follows p g code (from + size_all p schedule (behind action d) is_done rest) loops (behind_all rest (behind action d)) turns (after_rest p g is_done rest t) (At from loops m))
+      → Follows p g code (place + (size_in company (size p schedule d action) + size_all p schedule (behind action d) (takes_next company) rest)) loops (behind_all rest (behind action d)) turns
       (then_do (after p g number action s) (after_all p g rest)) (At place loops m)
   joined_runs Alone action rest place number label d turns loops m s good at same q run_action run_rest =
-      let n = size p sch d action in
+      let n = size p schedule d action in
       let e = behind action d in
-      let to = place + n + size_all p sch e false rest in
-      let own = plan p sch place d number label action in
-      let others = plan_all p sch (place + n) e false rest in
+      let to = place + n + size_all p schedule e false rest in
+      let own = plan p schedule place d number label action in
+      let others = plan_all p schedule (place + n) e false rest in
       let st = then_do (after p g number action s) (after_all p g rest) in
-      lands_at p g code st to (place + (n + size_all p sch e false rest)) loops (behind_all rest e) turns (At place loops m) (omega arith)
+      lands_at p g code st to (place + (n + size_all p schedule e false rest)) loops (behind_all rest e) turns (At place loops m) (omega arith)
       (then_follows (after p g number action s) (after_all p g rest) (place + n) to loops e (behind_all rest e) turns (At place loops m)
       (run_action (has_front code place own others at))
-      (λ t there kept proper. run_rest false (place + n) there t (has_behind code place n (place + n) own others (length-plan p sch action place d number label) refl at) kept proper))
+      (λ t there kept proper. run_rest false (place + n) there t (has_behind code place n (place + n) own others (length-plan p schedule action place d number label) refl at) kept proper))
   joined_runs WithPrevious action rest place number label d turns loops m s good at same q run_action run_rest = absurd good
   joined_runs (WithNext operation) action Empty place number label d turns loops m s good at same q run_action run_rest = absurd good
   joined_runs (WithNext operation) action (Then other second next rest) place number label d turns loops m s good at same q run_action run_rest =
@@ -147,12 +147,12 @@ module _ (p : ProgramTree) (g : GraphValue) (sch : ScheduleTree) (code : List In
       let block = Then other second next rest in
       let t = good.second (good.first s) in
       let lands = both_run operation action next place number label d turns loops m s good at.0 same q in
-      let to = place + 1 + size_all p sch e true block in
+      let to = place + 1 + size_all p schedule e true block in
       let st = after_all p g rest t in
       let ran = follows_from p g code st to loops (behind_all block e) turns (At place loops m) (At (place + 1) loops lands.there) lands.reaches
       (run_rest true (place + 1) lands.there t at.1 lands.same lands.proper) in
       let same_stand = both_mean action next number other rest second s good.first good.second good.first_means good.second_means in
-      lands_at p g code (then_do (after p g number action s) (after_all p g block)) to (place + (1 + size_all p sch e true block)) loops (behind_all block e) turns (At place loops m) (omega arith)
+      lands_at p g code (then_do (after p g number action s) (after_all p g block)) to (place + (1 + size_all p schedule e true block)) loops (behind_all block e) turns (At place loops m) (omega arith)
       (subst (λ (st : Stand). Follows p g code to loops (behind_all block e) turns st (At place loops m)) same_stand ran)
 
   lands_here : (place : ℕ) (loops : List Counter) (d : Depth) (turns : ℕ) (m s : StateValue) → forgotten d m ≡ s → IsProper d turns s
@@ -161,11 +161,11 @@ module _ (p : ProgramTree) (g : GraphValue) (sch : ScheduleTree) (code : List In
       let e : place ≡ place + 0 = omega arith in
       subst (λ (x : ℕ). Lands p g code x loops d turns s (At place loops m)) e (record { there = m; reaches = here; same = same; proper = q })
 
-  module _ (good : (d : Depth) (label : Option ℕ) (a : ActionTree) (rest : BlockTree) → IsInGood p g (company_of p sch d false label a rest) d a rest) where
+  module _ (good : (d : Depth) (label : Option ℕ) (a : ActionTree) (rest : BlockTree) → IsGoodCompany p g (company_of p schedule d false label a rest) d a rest) where
     mutual
       pub action_runs : (a : ActionTree) (place number : ℕ) (label : Option ℕ) (d : Depth) (turns : ℕ) (loops : List Counter) (m s : StateValue)
-          → HasAt code place (plan p sch place d number label a) → forgotten d m ≡ s → IsProper d turns s
-          → Follows p g code (place + size p sch d a) loops (behind a d) turns (after p g number a s) (At place loops m)
+          → HasAt code place (plan p schedule place d number label a) → forgotten d m ≡ s → IsProper d turns s
+          → Follows p g code (place + size p schedule d a) loops (behind a d) turns (after p g number a s) (At place loops m)
       action_runs (DeclareInteger name e) place number label d turns loops m s at same q = single (DeclareInteger name e) tt place number label d turns loops m s at same q
       action_runs (DeclareCondition name c) place number label d turns loops m s at same q = single (DeclareCondition name c) tt place number label d turns loops m s at same q
       action_runs (SetInteger slot e) place number label d turns loops m s at same q = single (SetInteger slot e) tt place number label d turns loops m s at same q
@@ -181,34 +181,34 @@ module _ (p : ProgramTree) (g : GraphValue) (sch : ScheduleTree) (code : List In
       action_runs (ApplyVertex set function) place number label d turns loops m s at same q = single (ApplyVertex set function) tt place number label d turns loops m s at same q
       action_runs (ApplyEdges ends function) place number label d turns loops m s at same q = single (ApplyEdges ends function) tt place number label d turns loops m s at same q
       action_runs (If c body) place number label d turns loops m s at same q =
-          let to = place + 1 + size_all p sch d false body in
-          lands_at p g code (after p g number (If c body) s) to (place + size p sch d (If c body)) loops d turns (At place loops m) (omega arith)
+          let to = place + 1 + size_all p schedule d false body in
+          lands_at p g code (after p g number (If c body) s) to (place + size p schedule d (If c body)) loops d turns (At place loops m) (omega arith)
           (if_runs c body place number to d turns loops m s (choice_in g.vertices c s) at.0 same q refl
           (block_runs body false (place + 1) d turns loops s s at.1 (forgotten-all d s q.deep) q))
       action_runs (IfElse c body other) place number label d turns loops m s at same q =
-          let back = place + 1 + size_all p sch d false body in
+          let back = place + 1 + size_all p schedule d false body in
           let from = back + 1 in
-          let to = from + size_all p sch d false other in
-          let others = behind_block (place + 1) back d body (plain number d (Jump to) ∷ plan_all p sch from d false other) refl at.1 in
-          lands_at p g code (after p g number (IfElse c body other) s) to (place + size p sch d (IfElse c body other)) loops d turns (At place loops m) (omega arith)
+          let to = from + size_all p schedule d false other in
+          let others = behind_block (place + 1) back d body (plain number d (Jump to) ∷ plan_all p schedule from d false other) refl at.1 in
+          lands_at p g code (after p g number (IfElse c body other) s) to (place + size p schedule d (IfElse c body other)) loops d turns (At place loops m) (omega arith)
           (if_else_runs c body other place number back from to d turns loops m s (choice_in g.vertices c s) at.0 others.0 same q refl
-          (block_runs body false (place + 1) d turns loops s s (has_front code (place + 1) (plan_all p sch (place + 1) d false body) (plain number d (Jump to) ∷ plan_all p sch from d false other) at.1) (forgotten-all d s q.deep) q)
+          (block_runs body false (place + 1) d turns loops s s (has_front code (place + 1) (plan_all p schedule (place + 1) d false body) (plain number d (Jump to) ∷ plan_all p schedule from d false other) at.1) (forgotten-all d s q.deep) q)
           (block_runs other false from d turns loops s s others.1 (forgotten-all d s q.deep) q))
       action_runs (While c body) place number label d turns loops m s at same q =
-          let back = place + 2 + size_all p sch d false body in
+          let back = place + 2 + size_all p schedule d false body in
           let to = back + 1 in
           let jump = plain number d (Jump place) ∷ [] in
-          let inner : HasBlock (place + 2) d false body jump = subst (λ (x : ℕ). HasAt code x (plan_all p sch (place + 2) d false body ++ jump)) (omega arith) at.1.1 in
-          lands_at p g code (after p g number (While c body) s) to (place + size p sch d (While c body)) loops d turns (At place loops m) (omega arith)
+          let inner : HasBlock (place + 2) d false body jump = subst (λ (x : ℕ). HasAt code x (plan_all p schedule (place + 2) d false body ++ jump)) (omega arith) at.1.1 in
+          lands_at p g code (after p g number (While c body) s) to (place + size p schedule d (While c body)) loops d turns (At place loops m) (omega arith)
           (while_runs p g code c (after_all p g body) place number back to d (behind_all body d) turns loops m s at.0 at.1.0 (behind_block (place + 2) back d body jump refl inner).0 (within_behind_all body d)
-          (λ n t proper. block_runs body false (place + 2) d n loops t t (has_front code (place + 2) (plan_all p sch (place + 2) d false body) jump inner) (forgotten-all d t proper.deep) proper)
+          (λ n t proper. block_runs body false (place + 2) d n loops t t (has_front code (place + 2) (plan_all p schedule (place + 2) d false body) jump inner) (forgotten-all d t proper.deep) proper)
           same q)
       action_runs (For name first end body) place number label d turns loops m s at same q =
           let deep = in_loop d in
-          let back = place + 4 + size_all p sch deep false body in
+          let back = place + 4 + size_all p schedule deep false body in
           let to = back + 2 in
           let last = plain number d (Advance name) ∷ loop_step number deep d (Jump (place + 2)) ∷ [] in
-          let inner : HasBlock (place + 4) deep false body last = subst (λ (x : ℕ). HasAt code x (plan_all p sch (place + 4) deep false body ++ last)) (omega arith) at.1.1.1.1 in
+          let inner : HasBlock (place + 4) deep false body last = subst (λ (x : ℕ). HasAt code x (plan_all p schedule (place + 4) deep false body ++ last)) (omega arith) at.1.1.1.1 in
           let others = behind_block (place + 4) back deep body last refl inner in
           let stands : StandsFor code place number name back to first end d = record {
             at_first = at.0;
@@ -218,22 +218,22 @@ module _ (p : ProgramTree) (g : GraphValue) (sch : ScheduleTree) (code : List In
             at_advance = others.0;
             at_jump = others.1.0;
           } in
-          lands_at p g code (after p g number (For name first end body) s) to (place + size p sch d (For name first end body)) loops d turns (At place loops m) (omega arith)
+          lands_at p g code (after p g number (For name first end body) s) to (place + size p schedule d (For name first end body)) loops d turns (At place loops m) (omega arith)
           (for_runs p g code place number name back to first end d (behind_all body deep) loops stands (after_all p g body) turns s m
           (within_both d deep (behind_all body deep) (within_loop d) (within_behind_all body deep))
-          (λ r n t proper. block_runs body false (place + 4) deep n (counter r ∷ loops) t t (has_front code (place + 4) (plan_all p sch (place + 4) deep false body) last inner) (forgotten-all deep t proper.deep) proper)
+          (λ r n t proper. block_runs body false (place + 4) deep n (counter r ∷ loops) t t (has_front code (place + 4) (plan_all p schedule (place + 4) deep false body) last inner) (forgotten-all deep t proper.deep) proper)
           same q)
 
       pub block_runs : (b : BlockTree) (is_done : Bool) (place : ℕ) (d : Depth) (turns : ℕ) (loops : List Counter) (m s : StateValue)
-          → HasAt code place (plan_all p sch place d is_done b) → forgotten (at_rest is_done b d) m ≡ s → IsProper (at_rest is_done b d) turns s
-          → Follows p g code (place + size_all p sch d is_done b) loops (behind_all b d) turns (after_rest p g is_done b s) (At place loops m)
+          → HasAt code place (plan_all p schedule place d is_done b) → forgotten (at_rest is_done b d) m ≡ s → IsProper (at_rest is_done b d) turns s
+          → Follows p g code (place + size_all p schedule d is_done b) loops (behind_all b d) turns (after_rest p g is_done b s) (At place loops m)
       block_runs Empty true place d turns loops m s at same q = lands_here place loops d turns m s same q
       block_runs Empty false place d turns loops m s at same q = lands_here place loops d turns m s same q
       block_runs (Then number label action rest) true place d turns loops m s at same q =
           let e : place + 0 ≡ place = omega arith in
-          lands_at p g code (after_all p g rest s) (place + size_all p sch (behind action d) false rest) (place + size_all p sch d true (Then number label action rest)) loops (behind_all rest (behind action d)) turns (At place loops m) (omega arith)
-          (block_runs rest false place (behind action d) turns loops m s (subst (λ (x : ℕ). HasAt code place (plan_all p sch x (behind action d) false rest)) e at) same q)
+          lands_at p g code (after_all p g rest s) (place + size_all p schedule (behind action d) false rest) (place + size_all p schedule d true (Then number label action rest)) loops (behind_all rest (behind action d)) turns (At place loops m) (omega arith)
+          (block_runs rest false place (behind action d) turns loops m s (subst (λ (x : ℕ). HasAt code place (plan_all p schedule x (behind action d) false rest)) e at) same q)
       block_runs (Then number label action rest) false place d turns loops m s at same q =
-          joined_runs (company_of p sch d false label action rest) action rest place number label d turns loops m s (good d label action rest) at same q
+          joined_runs (company_of p schedule d false label action rest) action rest place number label d turns loops m s (good d label action rest) at same q
           (λ own. action_runs action place number label d turns loops m s own same q)
           (λ is_done from m t others kept proper. block_runs rest is_done from (behind action d) turns loops m t others kept proper)

@@ -19,7 +19,7 @@ use Rattle.plans.proofs.Proper.{IsProper}
 use Rattle.plans.proofs.Places.{has_front, has_behind, has_all, length-plan_all}
 use Rattle.plans.proofs.Reaching.{Reaches, here, and_reaches, by_step, moves_on, Follows, takes}
 use Rattle.plans.proofs.Runs.{block_runs}
-use Rattle.plans.proofs.Pairs.{in_good}
+use Rattle.plans.proofs.Pairs.{company_is_good}
 use Rattle.plans.proofs.Counting.{takes_steps}
 
 length-all_vertices : (g : GraphValue) (sets : List ℕ) → length (map (all_vertices g) sets) ≡ length sets
@@ -47,28 +47,28 @@ comes_to_end p g code (Live s) to d turns c at f =
     (moves_on p g code (takes p g code to [] f.there (plain 0 d End) s at f.same) (ap (λ (t : StateValue). Ended t Finished) (forgotten-all d s f.proper.deep))) here)
 comes_to_end p g code (Over s end) to d turns c at f = f
 
-reaches_end : (p : ProgramTree) (sch : ScheduleTree) (g : GraphValue) (turns : ℕ)
-    → Reaches p g (plan_of p sch) (first_configuration (opening p g turns)) (finish (after_all p g p.main (opening p g turns)))
-reaches_end p sch g turns =
-    let code = plan_of p sch in
+reaches_end : (p : ProgramTree) (schedule : ScheduleTree) (g : GraphValue) (turns : ℕ)
+    → Reaches p g (plan_of p schedule) (first_configuration (opening p g turns)) (finish (after_all p g p.main (opening p g turns)))
+reaches_end p schedule g turns =
+    let code = plan_of p schedule in
     let d = main_depth p in
     let s = opening p g turns in
-    let main = plan_all p sch 0 d false p.main in
-    let to = size_all p sch d false p.main in
+    let main = plan_all p schedule 0 d false p.main in
+    let to = size_all p schedule d false p.main in
     let last = plain 0 (behind_all p.main d) End ∷ [] in
     let stands = has_all code [] in
     let q = opening-proper p g turns in
     comes_to_end p g code (after_all p g p.main s) (0 + to) (behind_all p.main d) turns (At 0 [] s)
-    (has_behind code 0 to (0 + to) main last (length-plan_all p sch p.main 0 d false) refl stands).0
-    (block_runs p g sch code (in_good p g sch) p.main false 0 d turns [] s s (has_front code 0 main last stands) (forgotten-all d s q.deep) q)
+    (has_behind code 0 to (0 + to) main last (length-plan_all p schedule p.main 0 d false) refl stands).0
+    (block_runs p g schedule code (company_is_good p g schedule) p.main false 0 d turns [] s s (has_front code 0 main last stands) (forgotten-all d s q.deep) q)
 
 shows_meaning : (p : ProgramTree) (turns : ℕ) (st : Stand) → Shows p turns (finish st) (outcome_of p turns st)
 shows_meaning p turns (Live s) = refl
 shows_meaning p turns (Over s end) = refl
 
-pub runs_as : (p : ProgramTree) (sch : ScheduleTree) (g : GraphValue) (turns : ℕ) → RunsAs p g turns (plan_of p sch)
-runs_as p sch g turns =
-    let t = takes_steps p g (plan_of p sch) (first_configuration (opening p g turns)) (finish (after_all p g p.main (opening p g turns))) (reaches_end p sch g turns) in
+pub runs_as : (p : ProgramTree) (schedule : ScheduleTree) (g : GraphValue) (turns : ℕ) → RunsAs p g turns (plan_of p schedule)
+runs_as p schedule g turns =
+    let t = takes_steps p g (plan_of p schedule) (first_configuration (opening p g turns)) (finish (after_all p g p.main (opening p g turns))) (reaches_end p schedule g turns) in
     record {
       count = t.count;
       ends = t.ends;

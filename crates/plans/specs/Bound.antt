@@ -1,0 +1,35 @@
+-- How many steps a run takes at most.
+use Rattle.std.specs.Prelude.{ℕ, ◌+◌, ◌*◌, ◌-◌, Bool, true, false, List, length, slice_get, Option, Some, None}
+use Rattle.algorithm_meaning.specs.State.{StateValue}
+use Rattle.plans.specs.Instruction.{OperationTree, Unless, UnlessBelow, Turn, InstructionTree}
+use Rattle.plans.specs.Machine.{Configuration, At, Ended}
+
+-- an instruction uses a turn
+abbrev pub uses_turn : OperationTree → Bool
+uses_turn Turn = true
+uses_turn _ = false
+
+abbrev pub is_turn : Option InstructionTree → Bool
+is_turn None = false
+is_turn (Some i) = uses_turn i.operation
+
+-- The rank of a place in a plan of so many instructions, by what stands there and whether `turn` stands behind it: each step but a turn leads
+-- to a lower rank. A place has a lower rank than those before it. The head of a loop, to which the loop's last instruction jumps, has a
+-- rank between this instruction and what stands behind the loop.
+abbrev pub rank_by : (count place : ℕ) → OperationTree → (before_turn : Bool) → ℕ
+rank_by count place (Unless c to) true = 2 * (count - to) + 1
+rank_by count place (UnlessBelow name to) true = 2 * (count - to) + 1
+rank_by count place Turn before_turn = 0
+rank_by count place _ before_turn = 2 * (count - place)
+
+abbrev pub rank_where : List InstructionTree → (place : ℕ) → Option InstructionTree → ℕ
+rank_where plan place None = 0
+rank_where plan place (Some i) = rank_by (length plan) place i.operation (is_turn (slice_get plan (place + 1)))
+
+abbrev pub rank : List InstructionTree → (place : ℕ) → ℕ
+rank plan place = rank_where plan place (slice_get plan place)
+
+-- no run that stands so takes more steps than these: for each turn that is left as many as there are ranks, and those before the next turn
+abbrev pub most_steps : List InstructionTree → Configuration → ℕ
+most_steps plan (At place loops s) = s.turns * (2 * length plan + 2) + rank plan place + 1
+most_steps plan (Ended s end) = 0
