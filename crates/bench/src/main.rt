@@ -1,4 +1,4 @@
-//! The benchmark of what graphs, versions and texts are made of: how long work of known size takes.
+//! The benchmark of texts, scripts and versions: how long work of known size takes.
 //!
 //! With no word it does small work and prints what came of it, the same on every machine. With
 //! `--time` and a subject it prints a table of times, and with `--script N` the script of N `add`
@@ -6,17 +6,12 @@
 //! and no more. Nothing stands on this crate.
 #![tactic(auto)]
 
-mod batches;
 mod commits;
-mod ctrees;
 mod lexing;
 mod outcome;
 mod parsing;
 mod readers;
 mod script_times;
-mod sets;
-mod tails;
-mod trees;
 mod workload;
 
 use measuring::Random;
@@ -35,9 +30,7 @@ fn main(rt: HostRuntime) -> io::Result<ExitCode> {
     if print(&rt, &words)? {
         return Ok(ExitCode::SUCCESS);
     }
-    eprintln!(rt;
-        "usage: bench [--time scripts|lexer|parser|tails|trees|ctrees|sets|commits|readers | --script ADDS | --check batches]"
-    )?;
+    eprintln!(rt; "usage: bench [--time scripts|lexer|parser|commits|readers | --script ADDS]")?;
     Ok(ExitCode::from(2))
 }
 
@@ -50,7 +43,6 @@ fn print<R: Print + AllocGlobal + Clock + Threads + Wait + Sync>(
         [] => print_outcomes(rt),
         ["--time", subject] => print_times(rt, subject),
         ["--script", adds] => print_script(rt, adds),
-        ["--check", "batches"] => batches::print_agreement(rt, 100_000),
         _ => return Ok(false),
     };
     printed.map(|()| true)
@@ -65,10 +57,6 @@ fn print_times<R: Print + AllocGlobal + Clock + Threads + Wait + Sync>(
         "scripts" => script_times::print_times(rt),
         "lexer" => lexing::print_times(rt),
         "parser" => parsing::print_times(rt),
-        "tails" => tails::print_times(rt),
-        "trees" => trees::print_times(rt),
-        "ctrees" => ctrees::print_times(rt),
-        "sets" => sets::print_times(rt),
         "commits" => commits::print_times(rt),
         "readers" => readers::print_times(rt),
         _ => Err(Error::other("nothing of this name is timed")),
@@ -76,10 +64,9 @@ fn print_times<R: Print + AllocGlobal + Clock + Threads + Wait + Sync>(
 }
 
 // Prints what comes of small work.
-fn print_outcomes<R: Print + AllocGlobal + Threads + Sync>(rt: &R) -> io::Result<()> {
+fn print_outcomes<R: Print + AllocGlobal>(rt: &R) -> io::Result<()> {
     print_known(rt)?;
-    script_times::print_outcomes(rt)?;
-    batches::print_agreement(rt, 1000)
+    script_times::print_outcomes(rt)
 }
 
 // Prints what the generator and the hash give where their authors have published it.
