@@ -54,7 +54,10 @@ impl<'a> Lines<'a> {
     fn put_part(self, out: &mut Vec<u8>, part: Part) -> Result<(), AllocError>
         ensures { OnOk result (out.new.items ≡ out.old.items ++ spaced (part_words (program_tree self.entry.program.now) part)) }
     {
-        put_word(out, self.function(&self.program.edge_functions, part.function))?;
+        put_word(
+            out,
+            self.function(&self.program.edge_functions, part.function),
+        )?;
         self.put_changed(out, part.changed)
     }
 

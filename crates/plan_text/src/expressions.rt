@@ -47,11 +47,7 @@ pub(crate) fn put_integer(
 
 /// Puts operands, each with its operator behind it.
 #[cycle(integers)]
-fn put_operands(
-    out: &mut Vec<u8>,
-    lines: Lines<'_>,
-    operands: &[Operand],
-) -> Result<(), AllocError>
+fn put_operands(out: &mut Vec<u8>, lines: Lines<'_>, operands: &[Operand]) -> Result<(), AllocError>
     ensures { OnOk result (out.new.items ≡ out.old.items ++ spaced (operand_words (program_tree lines.entry.program.now) operands.now)) }
 {
     'operands: for operand in operands {

@@ -123,12 +123,7 @@ impl Lines<'_> {
     }
 
     /// `set x [e]`
-    fn put_set_integer(
-        self,
-        out: &mut Vec<u8>,
-        name: usize,
-        e: &Integer,
-    ) -> Result<(), AllocError>
+    fn put_set_integer(self, out: &mut Vec<u8>, name: usize, e: &Integer) -> Result<(), AllocError>
         ensures { OnOk result (out.new.items ≡ out.old.items ++ spaced (set_words (name_at (program_tree self.entry.program.now) name) (integer_words (program_tree self.entry.program.now) (integer_tree e.now)))) }
     {
         self.put_target(out, name)?;
@@ -237,12 +232,7 @@ impl Lines<'_> {
     }
 
     /// `addvertex s [e]`
-    fn put_add_vertex(
-        self,
-        out: &mut Vec<u8>,
-        name: usize,
-        e: &Integer,
-    ) -> Result<(), AllocError>
+    fn put_add_vertex(self, out: &mut Vec<u8>, name: usize, e: &Integer) -> Result<(), AllocError>
         ensures { OnOk result (out.new.items ≡ out.old.items
             ++ spaced (codes "addvertex" ∷ name_at (program_tree self.entry.program.now) name ∷ bracketed (integer_words (program_tree self.entry.program.now) (integer_tree e.now)) ∷ [])) }
     {
