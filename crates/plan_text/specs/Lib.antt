@@ -1,0 +1,4 @@
+pub mod Words
+pub mod Expressions
+pub mod Rows
+pub mod Lines

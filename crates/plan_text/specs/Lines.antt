@@ -1,0 +1,169 @@
+-- The words of instructions.
+use Rattle.std.specs.Prelude.{ℕ, List, [], ◌∷◌, ◌++◌, Option, Some, None, codes, map, slice_get}
+use Rattle.syntax.specs.declared.statement.Reduction.{Reduction}
+use Rattle.syntax.specs.declared.statement.Reduction.TheVariants as reduction
+use Rattle.typed_tree.specs.declared.expression.Slot.{Slot}
+use Rattle.typed_tree.specs.declared.statement.EndFilter.{EndFilter}
+use Rattle.typed_tree.specs.declared.statement.EndFilter.TheVariants as end
+use Rattle.typed_tree.specs.declared.statement.Ends.{Ends}
+use Rattle.typed_tree.specs.declared.statement.SetValue.{SetValue}
+use Rattle.typed_tree.specs.declared.statement.SetValue.TheVariants as set
+use Rattle.typed_tree.specs.IntegerTree.{IntegerTree}
+use Rattle.typed_tree.specs.ConditionTree.{ConditionTree}
+use Rattle.typed_tree.specs.StepTree.{FunctionTree}
+use Rattle.typed_tree.specs.BlockTree.{ActionTree, DeclareInteger, DeclareCondition, SetInteger, SetCondition, ReduceInteger, SetEntry, ReduceEntry, DeclareSet, AssignSet, AddVertex, PrintInteger, PrintCondition, ApplyVertex, ApplyEdges, If, IfElse, While, For}
+use Rattle.typed_tree.specs.ProgramTree.{ProgramTree}
+use Rattle.schedule.specs.declared.choice.Choice.{Choice}
+use Rattle.schedule.specs.declared.choice.DenseVertexSet.{DenseVertexSet}
+use Rattle.schedule.specs.declared.choice.DenseVertexSet.TheVariants as dense
+use Rattle.schedule.specs.declared.choice.Direction.{Direction}
+use Rattle.schedule.specs.declared.choice.Direction.TheVariants as direction
+use Rattle.schedule.specs.declared.choice.Parallelization.{Parallelization}
+use Rattle.schedule.specs.declared.choice.Parallelization.TheVariants as parallelization
+use Rattle.plan_text.specs.declared.part.Part.{Part}
+use Rattle.plan_text.specs.declared.part.ChangedSet.{ChangedSet}
+use Rattle.plan_text.specs.Words.{bracketed}
+use Rattle.plan_text.specs.Expressions.{name_at, vector_at, integer_words, condition_words}
+
+-- how a reduction of an entry is spelled, and the operator that it is
+abbrev pub reduction_word : Reduction → List ℕ
+reduction_word reduction.Min = codes "min="
+reduction_word reduction.Max = codes "max="
+reduction_word reduction.Plus = codes "+="
+
+abbrev pub reducing_word : Reduction → List ℕ
+reducing_word reduction.Min = codes "min"
+reducing_word reduction.Max = codes "max"
+reducing_word reduction.Plus = codes "+"
+
+abbrev pub direction_word : Option Direction → List ℕ
+direction_word None = codes "SparsePush"
+direction_word (Some direction.SparsePush) = codes "SparsePush"
+direction_word (Some direction.DensePush) = codes "DensePush"
+direction_word (Some direction.DensePull) = codes "DensePull"
+direction_word (Some direction.Hybrid) = codes "DensePull-SparsePush"
+
+abbrev pub parallelization_word : Option Parallelization → List ℕ
+parallelization_word None = codes "serial"
+parallelization_word (Some parallelization.Serial) = codes "serial"
+parallelization_word (Some parallelization.StaticVertex) = codes "static-vertex-parallel"
+parallelization_word (Some parallelization.DynamicVertex) = codes "dynamic-vertex-parallel"
+parallelization_word (Some parallelization.EdgeAwareDynamicVertex) = codes "edge-aware-dynamic-vertex-parallel"
+
+abbrev pub dense_word : Option DenseVertexSet → List ℕ
+dense_word None = codes "bool-array"
+dense_word (Some dense.BoolArray) = codes "bool-array"
+dense_word (Some dense.Bitvector) = codes "bitvector"
+
+-- the name of the function at a place, without a byte where there is none
+abbrev pub function_name : ProgramTree → Option FunctionTree → List ℕ
+function_name p None = []
+function_name p (Some f) = name_at p f.name
+
+abbrev pub function_at : ProgramTree → List FunctionTree → ℕ → List ℕ
+function_at p functions place = function_name p (slice_get functions place)
+
+-- set x [e]
+abbrev pub set_words : (target : List ℕ) → (words : List (List ℕ)) → List (List ℕ)
+set_words target words = codes "set" ∷ target ∷ bracketed words ∷ []
+
+-- put v [i] = [e]
+abbrev pub put_words : ProgramTree → (vector : ℕ) → (index : IntegerTree) → (word : List ℕ) → (value : IntegerTree) → List (List ℕ)
+put_words p vector index word value =
+    codes "put" ∷ vector_at p vector ∷ bracketed (integer_words p index) ∷ word ∷ bracketed (integer_words p value) ∷ []
+
+-- an end of an edge apply, `-` where it is not given
+abbrev pub end_word : ProgramTree → Option EndFilter → List ℕ
+end_word p None = codes "-"
+end_word p (Some (end.Members slot)) = name_at p slot.name
+end_word p (Some (end.Function place)) = function_at p p.filters place
+
+-- f, or f -> s v
+abbrev pub changed_words : ProgramTree → Option ChangedSet → List (List ℕ)
+changed_words p None = []
+changed_words p (Some c) = codes "->" ∷ name_at p c.name ∷ vector_at p c.vector ∷ []
+
+abbrev pub part_words : ProgramTree → Part → List (List ℕ)
+part_words p part = function_at p p.edge_functions part.function ∷ changed_words p part.changed
+
+abbrev pub second_words : ProgramTree → Option Part → List (List ℕ)
+second_words p None = []
+second_words p (Some part) = part_words p part
+
+-- eapply FROM TO f g : DIRECTION PARALLELIZATION DENSE
+abbrev pub edges_words : ProgramTree → Ends → Part → Option Part → Choice → List (List ℕ)
+edges_words p ends first second choice =
+    codes "eapply" ∷ end_word p ends.from ∷ end_word p ends.to
+    ∷ (part_words p first ++ (second_words p second
+    ++ codes ":" ∷ direction_word choice.direction ∷ parallelization_word choice.parallelization ∷ dense_word choice.dense_vertex_set ∷ []))
+
+-- vapply s f g
+abbrev pub second_function_words : ProgramTree → Option ℕ → List (List ℕ)
+second_function_words p None = []
+second_function_words p (Some place) = function_at p p.vertex_functions place ∷ []
+
+abbrev pub vertices_words : ProgramTree → (set : Slot) → (first : ℕ) → (second : Option ℕ) → List (List ℕ)
+vertices_words p set first second =
+    codes "vapply" ∷ name_at p set.name ∷ function_at p p.vertex_functions first ∷ second_function_words p second
+
+-- a set that gets a value, which is not what an apply changes
+abbrev pub set_value_words : ProgramTree → (name : ℕ) → SetValue → List (List ℕ)
+set_value_words p name set.Empty = codes "newset" ∷ name_at p name ∷ []
+set_value_words p name set.All = codes "allset" ∷ name_at p name ∷ []
+set_value_words p name (set.Copy slot) = codes "copyset" ∷ name_at p name ∷ name_at p slot.name ∷ []
+set_value_words p name (set.Filter slot place) = codes "filter" ∷ name_at p name ∷ name_at p slot.name ∷ function_at p p.filters place ∷ []
+set_value_words p name (set.Modified ends function vector) = []
+
+-- an apply of one edge function
+abbrev pub one_part : (function : ℕ) → Option ChangedSet → Part
+one_part function changed = record { function = function; changed = changed }
+
+-- a set that gets a value; what an apply changes is that apply, as the schedule says
+abbrev pub set_line : ProgramTree → (name : ℕ) → SetValue → Choice → List (List ℕ)
+set_line p name (set.Modified ends function vector) choice = edges_words p ends (one_part function (Some (record { name = name; vector = vector }))) None choice
+set_line p name set.Empty choice = set_value_words p name set.Empty
+set_line p name set.All choice = set_value_words p name set.All
+set_line p name (set.Copy slot) choice = set_value_words p name (set.Copy slot)
+set_line p name (set.Filter slot place) choice = set_value_words p name (set.Filter slot place)
+
+-- a statement without a block; what stands for one with a block is no instruction of its own
+abbrev pub statement_words : ProgramTree → ActionTree → Choice → List (List ℕ)
+statement_words p (DeclareInteger name e) choice = set_words (name_at p name) (integer_words p e)
+statement_words p (DeclareCondition name c) choice = set_words (name_at p name) (condition_words p c)
+statement_words p (SetInteger slot e) choice = set_words (name_at p slot.name) (integer_words p e)
+statement_words p (SetCondition slot c) choice = set_words (name_at p slot.name) (condition_words p c)
+statement_words p (ReduceInteger slot r e) choice = set_words (name_at p slot.name) (name_at p slot.name ∷ integer_words p e ++ reducing_word r ∷ [])
+statement_words p (SetEntry vector index e) choice = put_words p vector index (codes "=") e
+statement_words p (ReduceEntry vector index r e) choice = put_words p vector index (reduction_word r) e
+statement_words p (DeclareSet name value) choice = set_line p name value choice
+statement_words p (AssignSet slot value) choice = set_line p slot.name value choice
+statement_words p (AddVertex slot e) choice = codes "addvertex" ∷ name_at p slot.name ∷ bracketed (integer_words p e) ∷ []
+statement_words p (PrintInteger e) choice = codes "print" ∷ bracketed (integer_words p e) ∷ []
+statement_words p (PrintCondition c) choice = codes "print" ∷ bracketed (condition_words p c) ∷ []
+statement_words p (ApplyVertex set function) choice = vertices_words p set function None
+statement_words p (ApplyEdges ends function) choice = edges_words p ends (one_part function None) None choice
+statement_words p (If c body) choice = []
+statement_words p (IfElse c body other) choice = []
+statement_words p (While c body) choice = []
+statement_words p (For name first last body) choice = []
+
+-- unless [c], before the place that it goes to
+abbrev pub unless_words : ProgramTree → ConditionTree → List (List ℕ)
+unless_words p c = codes "unless" ∷ bracketed (condition_words p c) ∷ []
+
+-- of `for i`: set i.end [e], unless [i i.end <], set i [i 1 +]
+abbrev pub end_name : ProgramTree → (name : ℕ) → List ℕ
+end_name p name = name_at p name ++ codes ".end"
+
+abbrev pub bound_words : ProgramTree → (name : ℕ) → IntegerTree → List (List ℕ)
+bound_words p name e = set_words (end_name p name) (integer_words p e)
+
+abbrev pub below_words : ProgramTree → (name : ℕ) → List (List ℕ)
+below_words p name = codes "unless" ∷ bracketed (name_at p name ∷ end_name p name ∷ codes "<" ∷ []) ∷ []
+
+abbrev pub advance_words : ProgramTree → (name : ℕ) → List (List ℕ)
+advance_words p name = set_words (name_at p name) (name_at p name ∷ codes "1" ∷ codes "+" ∷ [])
+
+-- fields v w
+abbrev pub group_words : ProgramTree → (vectors : List ℕ) → List (List ℕ)
+group_words p vectors = codes "fields" ∷ map (vector_at p) vectors

@@ -1,0 +1,168 @@
+//! Expressions of `main` as words.
+ghost use Rattle.std.specs.Fmt.{signed_decimal};
+ghost use Rattle.std.specs.Prelude.{◌≡◌, ◌++◌, ◌∷◌, [], OnOk};
+ghost use Rattle.typed_tree.specs.IntegerTree.{integer_tree};
+ghost use Rattle.typed_tree.specs.ConditionTree.{condition_tree};
+ghost use Rattle.typed_tree.specs.ProgramTree.{program_tree};
+ghost use Rattle.plan_text.specs.Expressions.{comparison_word, condition_words, connective_word, entry_word, integer_words, operator_word, size_word, truth_word};
+ghost use Rattle.plan_text.specs.Rows.{connected_words, operand_words};
+ghost use Rattle.plan_text.specs.Words.{spaced};
+
+use crate::names::Lines;
+use crate::words::{put_marked, put_times, put_word};
+use decimal::push_integer;
+use std::alloc::AllocError;
+use typed_tree::{Comparison, Condition, Connective, Integer, Operand, Operator};
+
+/// Puts the words of an expression of type `int`.
+#[cycle(integers)]
+pub(crate) fn put_integer(
+    out: &mut Vec<u8>,
+    lines: Lines<'_>,
+    e: &Integer,
+) -> Result<(), AllocError>
+    ensures { OnOk result (out.new.items ≡ out.old.items ++ spaced (integer_words (program_tree lines.entry.program.now) (integer_tree e.now))) }
+{
+    match e {
+        Integer::Number(n) => put_number(out, *n),
+        Integer::Constant(name, _) => put_word(out, lines.name(*name)),
+        Integer::Variable(slot) => put_word(out, lines.name(slot.name)),
+        Integer::Parameter(_) => put_word(out, b"vertex"),
+        Integer::EntryAt(vector, _) => put_entry(out, lines, *vector),
+        Integer::Entry(vector, index) => {
+            put_integer(out, lines, index)?;
+            put_entry(out, lines, *vector)
+        }
+        Integer::SetSize(slot) => put_size(out, lines, slot.name),
+        Integer::Negative(signs, e) => {
+            put_integer(out, lines, e)?;
+            put_times(out, b"neg", *signs)
+        }
+        Integer::Arithmetic(first, operands) => {
+            put_integer(out, lines, first)?;
+            put_operands(out, lines, operands)
+        }
+    }
+}
+
+/// Puts operands, each with its operator behind it.
+#[cycle(integers)]
+fn put_operands(out: &mut Vec<u8>, lines: Lines<'_>, operands: &[Operand]) -> Result<(), AllocError>
+    ensures { OnOk result (out.new.items ≡ out.old.items ++ spaced (operand_words (program_tree lines.entry.program.now) operands.now)) }
+{
+    'operands: for operand in operands {
+        put_integer(out, lines, &operand.integer)?;
+        put_word(out, operator_text(operand.operator))?;
+    }
+    Ok(())
+}
+
+/// Puts the words of an expression of type `bool`.
+#[cycle(conditions)]
+pub(crate) fn put_condition(
+    out: &mut Vec<u8>,
+    lines: Lines<'_>,
+    c: &Condition,
+) -> Result<(), AllocError>
+    ensures { OnOk result (out.new.items ≡ out.old.items ++ spaced (condition_words (program_tree lines.entry.program.now) (condition_tree c.now))) }
+{
+    match c {
+        Condition::Literal(b) => put_word(out, truth_text(*b)),
+        Condition::Constant(name, _) => put_word(out, lines.name(*name)),
+        Condition::Variable(slot) => put_word(out, lines.name(slot.name)),
+        Condition::Not(turns, c) => {
+            put_condition(out, lines, c)?;
+            put_times(out, b"not", *turns)
+        }
+        Condition::Compare(comparison, left, right) => {
+            put_integer(out, lines, left)?;
+            put_integer(out, lines, right)?;
+            put_word(out, comparison_text(*comparison))
+        }
+        Condition::Connect(connective, first, others) => {
+            put_condition(out, lines, first)?;
+            put_connected(out, lines, *connective, others)
+        }
+    }
+}
+
+/// Puts conditions, each with the connective behind it.
+#[cycle(conditions)]
+fn put_connected(
+    out: &mut Vec<u8>,
+    lines: Lines<'_>,
+    connective: Connective,
+    conditions: &[Condition],
+) -> Result<(), AllocError>
+    ensures { OnOk result (out.new.items ≡ out.old.items ++ spaced (connected_words (program_tree lines.entry.program.now) connective conditions.now)) }
+{
+    'conditions: for condition in conditions {
+        put_condition(out, lines, condition)?;
+        put_word(out, connective_text(connective))?;
+    }
+    Ok(())
+}
+
+/// Puts a number.
+fn put_number(out: &mut Vec<u8>, n: i64) -> Result<(), AllocError>
+    ensures { OnOk result (out.new.items ≡ out.old.items ++ spaced (signed_decimal n ∷ [])) }
+{
+    push_integer(out, n)?;
+    put_word(out, b"")
+}
+
+/// Puts that the entry of a vector is read.
+fn put_entry(out: &mut Vec<u8>, lines: Lines<'_>, vector: usize) -> Result<(), AllocError>
+    ensures { OnOk result (out.new.items ≡ out.old.items ++ spaced (entry_word (program_tree lines.entry.program.now) vector ∷ [])) }
+{
+    put_marked(out, lines.vector(vector), b"@")
+}
+
+/// Puts that the size of a set is read.
+fn put_size(out: &mut Vec<u8>, lines: Lines<'_>, name: usize) -> Result<(), AllocError>
+    ensures { OnOk result (out.new.items ≡ out.old.items ++ spaced (size_word (program_tree lines.entry.program.now) name ∷ [])) }
+{
+    put_marked(out, lines.name(name), b"#")
+}
+
+fn truth_text(b: bool) -> &'static [u8]
+    ensures { result.now ≡ truth_word b }
+{
+    if b { b"true" } else { b"false" }
+}
+
+fn operator_text(operator: Operator) -> &'static [u8]
+    ensures { result.now ≡ operator_word operator }
+{
+    match operator {
+        Operator::Add => b"+",
+        Operator::Subtract => b"-",
+        Operator::Multiply => b"*",
+        Operator::Divide => b"/",
+        Operator::Remainder => b"%",
+    }
+}
+
+fn comparison_text(comparison: Comparison) -> &'static [u8]
+    ensures { result.now ≡ comparison_word comparison }
+{
+    match comparison {
+        Comparison::Equal => b"==",
+        Comparison::NotEqual => b"!=",
+        Comparison::Less => b"<",
+        Comparison::LessOrEqual => b"<=",
+        Comparison::Greater => b">",
+        Comparison::GreaterOrEqual => b">=",
+    }
+}
+
+fn connective_text(connective: Connective) -> &'static [u8]
+    ensures { result.now ≡ connective_word connective }
+{
+    match connective {
+        Connective::And => b"and",
+        Connective::Or => b"or",
+        Connective::Equal => b"==",
+        Connective::NotEqual => b"!=",
+    }
+}

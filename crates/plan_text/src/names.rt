@@ -1,0 +1,46 @@
+//! The names that instructions speak of.
+ghost use Rattle.std.specs.Prelude.{◌≡◌, map};
+ghost use Rattle.typed_tree.specs.ProgramTree.{program_tree};
+ghost use Rattle.typed_tree.specs.StepTree.{function_tree};
+ghost use Rattle.plan_text.specs.Expressions.{name_at, vector_at};
+ghost use Rattle.plan_text.specs.Lines.{function_at};
+
+use typed_tree::{Function, Typed};
+
+/// Puts the words of a program's instructions.
+#[derive(Clone, Copy)]
+pub struct Lines<'a> {
+    pub program: &'a Typed,
+}
+
+impl<'a> Lines<'a> {
+    /// The name at a place, without a byte where there is none.
+    pub(crate) fn name(self, place: usize) -> &'a [u8]
+        ensures { result.now ≡ name_at (program_tree self.entry.program.now) place }
+    {
+        match self.program.names.get(place) {
+            Some(name) => name.as_slice(),
+            None => b"",
+        }
+    }
+
+    /// The name of a vector.
+    pub(crate) fn vector(self, place: usize) -> &'a [u8]
+        ensures { result.now ≡ vector_at (program_tree self.entry.program.now) place }
+    {
+        match self.program.vectors.get(place) {
+            Some(vector) => self.name(vector.name),
+            None => b"",
+        }
+    }
+
+    /// The name of a function of these.
+    pub(crate) fn function(self, functions: &'a [Function], place: usize) -> &'a [u8]
+        ensures { result.now ≡ function_at (program_tree self.entry.program.now) (map function_tree functions.now) place }
+    {
+        match functions.get(place) {
+            Some(function) => self.name(function.name),
+            None => b"",
+        }
+    }
+}

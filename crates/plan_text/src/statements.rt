@@ -1,0 +1,324 @@
+//! Instructions as words.
+ghost use Rattle.std.specs.Prelude.{◌≡◌, ◌++◌, ◌∷◌, [], map, codes, OnOk};
+ghost use Rattle.typed_tree.specs.BlockTree.{action_tree};
+ghost use Rattle.typed_tree.specs.ConditionTree.{condition_tree};
+ghost use Rattle.typed_tree.specs.IntegerTree.{integer_tree};
+ghost use Rattle.typed_tree.specs.ProgramTree.{program_tree};
+ghost use Rattle.plan_text.specs.Expressions.{condition_words, integer_words, name_at};
+ghost use Rattle.plan_text.specs.Lines.{advance_words, below_words, bound_words, end_name, put_words, reducing_word, reduction_word, set_line, set_words, statement_words, unless_words, vertices_words};
+ghost use Rattle.plan_text.specs.Words.{bracketed, spaced};
+
+use crate::expressions::{put_condition, put_integer};
+use crate::names::Lines;
+use crate::part::{ChangedSet, Part};
+use crate::words::{close_bracket, open_bracket, put_marked, put_word};
+use schedule::Choice;
+use std::alloc::AllocError;
+use syntax::Reduction;
+use typed_tree::{Action, Condition, Integer, SetValue, Slot};
+
+impl Lines<'_> {
+    /// Puts the words of a statement without a block, an apply as the schedule says; none for one with a block. The only
+    /// error is out of memory.
+    pub fn put_statement(
+        self,
+        out: &mut Vec<u8>,
+        action: &Action,
+        choice: Choice,
+    ) -> Result<(), AllocError>
+        ensures { OnOk result (out.new.items ≡ out.old.items ++ spaced (statement_words (program_tree self.entry.program.now) (action_tree action.now) choice)) }
+    {
+        match action {
+            Action::DeclareInteger(name, e) => self.put_set_integer(out, *name, e),
+            Action::DeclareCondition(name, c) => self.put_set_condition(out, *name, c),
+            Action::SetInteger(slot, e) => self.put_set_integer(out, slot.name, e),
+            Action::SetCondition(slot, c) => self.put_set_condition(out, slot.name, c),
+            Action::ReduceInteger(slot, reduction, e) => {
+                self.put_reduction(out, slot.name, *reduction, e)
+            }
+            Action::SetEntry(vector, index, e) => self.put_put(out, *vector, index, b"=", e),
+            Action::ReduceEntry(vector, index, reduction, e) => {
+                self.put_put(out, *vector, index, reduction_text(*reduction), e)
+            }
+            Action::DeclareSet(name, value) => self.put_set(out, *name, *value, choice),
+            Action::AssignSet(slot, value) => self.put_set(out, slot.name, *value, choice),
+            Action::AddVertex(slot, e) => self.put_add_vertex(out, slot.name, e),
+            Action::PrintInteger(e) => self.put_print(out, e),
+            Action::PrintCondition(c) => self.put_condition_behind(out, b"print", c),
+            Action::ApplyVertex(set, function) => self.put_vertices(out, *set, *function, None),
+            Action::ApplyEdges(ends, function) => {
+                let part = Part {
+                    function: *function,
+                    changed: None,
+                };
+                self.put_edges(out, *ends, part, None, choice)
+            }
+            Action::If(_, _)
+            | Action::IfElse(_, _, _)
+            | Action::While(_, _)
+            | Action::For(_, _, _, _) => Ok(()),
+        }
+    }
+
+    /// Puts `unless` and a test, before the place that it goes to.
+    pub fn put_unless(self, out: &mut Vec<u8>, c: &Condition) -> Result<(), AllocError>
+        ensures { OnOk result (out.new.items ≡ out.old.items ++ spaced (unless_words (program_tree self.entry.program.now) (condition_tree c.now))) }
+    {
+        self.put_condition_behind(out, b"unless", c)
+    }
+
+    /// Puts that the bound of a `for` gets its value.
+    pub fn put_bound(self, out: &mut Vec<u8>, name: usize, e: &Integer) -> Result<(), AllocError>
+        ensures { OnOk result (out.new.items ≡ out.old.items ++ spaced (bound_words (program_tree self.entry.program.now) name (integer_tree e.now))) }
+    {
+        put_word(out, b"set")?;
+        put_marked(out, self.name(name), b".end")?;
+        self.put_bracketed(out, e)
+    }
+
+    /// Puts the test of a `for`, before the place that it goes to.
+    pub fn put_below(self, out: &mut Vec<u8>, name: usize) -> Result<(), AllocError>
+        ensures { OnOk result (out.new.items ≡ out.old.items ++ spaced (below_words (program_tree self.entry.program.now) name)) }
+    {
+        put_word(out, b"unless")?;
+        open_bracket(out)?;
+        self.put_test(out, name)?;
+        close_bracket(out)
+    }
+
+    /// `i i.end <`
+    fn put_test(self, out: &mut Vec<u8>, name: usize) -> Result<(), AllocError>
+        ensures { OnOk result (out.new.items ≡ out.old.items ++ spaced (name_at (program_tree self.entry.program.now) name ∷ end_name (program_tree self.entry.program.now) name ∷ codes "<" ∷ [])) }
+    {
+        put_word(out, self.name(name))?;
+        put_marked(out, self.name(name), b".end")?;
+        put_word(out, b"<")
+    }
+
+    /// Puts that the name of a `for` gets its next value.
+    pub fn put_advance(self, out: &mut Vec<u8>, name: usize) -> Result<(), AllocError>
+        ensures { OnOk result (out.new.items ≡ out.old.items ++ spaced (advance_words (program_tree self.entry.program.now) name)) }
+    {
+        self.put_target(out, name)?;
+        open_bracket(out)?;
+        self.put_sum(out, name)?;
+        close_bracket(out)
+    }
+
+    /// `i 1 +`
+    fn put_sum(self, out: &mut Vec<u8>, name: usize) -> Result<(), AllocError>
+        ensures { OnOk result (out.new.items ≡ out.old.items ++ spaced (name_at (program_tree self.entry.program.now) name ∷ codes "1" ∷ codes "+" ∷ [])) }
+    {
+        put_word(out, self.name(name))?;
+        put_word(out, b"1")?;
+        put_word(out, b"+")
+    }
+
+    /// `set x`
+    fn put_target(self, out: &mut Vec<u8>, name: usize) -> Result<(), AllocError>
+        ensures { OnOk result (out.new.items ≡ out.old.items ++ spaced (codes "set" ∷ name_at (program_tree self.entry.program.now) name ∷ [])) }
+    {
+        put_word(out, b"set")?;
+        put_word(out, self.name(name))
+    }
+
+    /// `set x [e]`
+    fn put_set_integer(self, out: &mut Vec<u8>, name: usize, e: &Integer) -> Result<(), AllocError>
+        ensures { OnOk result (out.new.items ≡ out.old.items ++ spaced (set_words (name_at (program_tree self.entry.program.now) name) (integer_words (program_tree self.entry.program.now) (integer_tree e.now)))) }
+    {
+        self.put_target(out, name)?;
+        self.put_bracketed(out, e)
+    }
+
+    /// `set x [c]`
+    fn put_set_condition(
+        self,
+        out: &mut Vec<u8>,
+        name: usize,
+        c: &Condition,
+    ) -> Result<(), AllocError>
+        ensures { OnOk result (out.new.items ≡ out.old.items ++ spaced (set_words (name_at (program_tree self.entry.program.now) name) (condition_words (program_tree self.entry.program.now) (condition_tree c.now)))) }
+    {
+        self.put_target(out, name)?;
+        self.put_bracketed_condition(out, c)
+    }
+
+    /// `set x [x e OPERATOR]`
+    fn put_reduction(
+        self,
+        out: &mut Vec<u8>,
+        name: usize,
+        reduction: Reduction,
+        e: &Integer,
+    ) -> Result<(), AllocError>
+        ensures { OnOk result (out.new.items ≡ out.old.items ++ spaced (set_words (name_at (program_tree self.entry.program.now) name)
+            (name_at (program_tree self.entry.program.now) name ∷ integer_words (program_tree self.entry.program.now) (integer_tree e.now) ++ reducing_word reduction ∷ []))) }
+    {
+        self.put_target(out, name)?;
+        open_bracket(out)?;
+        self.put_reduced(out, name, reduction, e)?;
+        close_bracket(out)
+    }
+
+    /// `x e OPERATOR`
+    fn put_reduced(
+        self,
+        out: &mut Vec<u8>,
+        name: usize,
+        reduction: Reduction,
+        e: &Integer,
+    ) -> Result<(), AllocError>
+        ensures { OnOk result (out.new.items ≡ out.old.items
+            ++ spaced (name_at (program_tree self.entry.program.now) name ∷ integer_words (program_tree self.entry.program.now) (integer_tree e.now) ++ reducing_word reduction ∷ [])) }
+    {
+        put_word(out, self.name(name))?;
+        put_integer(out, self, e)?;
+        put_word(out, reducing_text(reduction))
+    }
+
+    /// `put v [i] = [e]`, or with a reduction.
+    fn put_put(
+        self,
+        out: &mut Vec<u8>,
+        vector: usize,
+        index: &Integer,
+        word: &[u8],
+        e: &Integer,
+    ) -> Result<(), AllocError>
+        ensures { OnOk result (out.new.items ≡ out.old.items ++ spaced (put_words (program_tree self.entry.program.now) vector (integer_tree index.now) word.now (integer_tree e.now))) }
+    {
+        put_word(out, b"put")?;
+        put_word(out, self.vector(vector))?;
+        self.put_bracketed(out, index)?;
+        put_word(out, word)?;
+        self.put_bracketed(out, e)
+    }
+
+    /// A set that gets a value.
+    fn put_set(
+        self,
+        out: &mut Vec<u8>,
+        name: usize,
+        value: SetValue,
+        choice: Choice,
+    ) -> Result<(), AllocError>
+        ensures { OnOk result (out.new.items ≡ out.old.items ++ spaced (set_line (program_tree self.entry.program.now) name value choice)) }
+    {
+        match value {
+            SetValue::Modified(ends, function, vector) => {
+                let changed = Some(ChangedSet { name, vector });
+                self.put_edges(out, ends, Part { function, changed }, None, choice)
+            }
+            SetValue::Empty => self.put_words(out, b"newset", name),
+            SetValue::All => self.put_words(out, b"allset", name),
+            SetValue::Copy(from) => {
+                self.put_words(out, b"copyset", name)?;
+                put_word(out, self.name(from.name))
+            }
+            SetValue::Filter(from, place) => {
+                self.put_words(out, b"filter", name)?;
+                put_word(out, self.name(from.name))?;
+                put_word(out, self.function(&self.program.filters, place))
+            }
+        }
+    }
+
+    /// A word and a name.
+    fn put_words(self, out: &mut Vec<u8>, word: &[u8], name: usize) -> Result<(), AllocError>
+        ensures { OnOk result (out.new.items ≡ out.old.items ++ spaced (word.now ∷ name_at (program_tree self.entry.program.now) name ∷ [])) }
+    {
+        put_word(out, word)?;
+        put_word(out, self.name(name))
+    }
+
+    /// `addvertex s [e]`
+    fn put_add_vertex(self, out: &mut Vec<u8>, name: usize, e: &Integer) -> Result<(), AllocError>
+        ensures { OnOk result (out.new.items ≡ out.old.items
+            ++ spaced (codes "addvertex" ∷ name_at (program_tree self.entry.program.now) name ∷ bracketed (integer_words (program_tree self.entry.program.now) (integer_tree e.now)) ∷ [])) }
+    {
+        self.put_words(out, b"addvertex", name)?;
+        self.put_bracketed(out, e)
+    }
+
+    /// `print [e]`
+    fn put_print(self, out: &mut Vec<u8>, e: &Integer) -> Result<(), AllocError>
+        ensures { OnOk result (out.new.items ≡ out.old.items
+            ++ spaced (codes "print" ∷ bracketed (integer_words (program_tree self.entry.program.now) (integer_tree e.now)) ∷ [])) }
+    {
+        put_word(out, b"print")?;
+        self.put_bracketed(out, e)
+    }
+
+    /// A word and a test.
+    fn put_condition_behind(
+        self,
+        out: &mut Vec<u8>,
+        word: &[u8],
+        c: &Condition,
+    ) -> Result<(), AllocError>
+        ensures { OnOk result (out.new.items ≡ out.old.items
+            ++ spaced (word.now ∷ bracketed (condition_words (program_tree self.entry.program.now) (condition_tree c.now)) ∷ [])) }
+    {
+        put_word(out, word)?;
+        self.put_bracketed_condition(out, c)
+    }
+
+    /// `[e]`
+    fn put_bracketed(self, out: &mut Vec<u8>, e: &Integer) -> Result<(), AllocError>
+        ensures { OnOk result (out.new.items ≡ out.old.items ++ spaced (bracketed (integer_words (program_tree self.entry.program.now) (integer_tree e.now)) ∷ [])) }
+    {
+        open_bracket(out)?;
+        put_integer(out, self, e)?;
+        close_bracket(out)
+    }
+
+    /// The same of an expression of type `bool`.
+    fn put_bracketed_condition(self, out: &mut Vec<u8>, c: &Condition) -> Result<(), AllocError>
+        ensures { OnOk result (out.new.items ≡ out.old.items ++ spaced (bracketed (condition_words (program_tree self.entry.program.now) (condition_tree c.now)) ∷ [])) }
+    {
+        open_bracket(out)?;
+        put_condition(out, self, c)?;
+        close_bracket(out)
+    }
+
+    /// Puts the words of a vertex apply, of one function or of two that are done together. The only error is out of memory.
+    pub fn put_vertices(
+        self,
+        out: &mut Vec<u8>,
+        set: Slot,
+        first: usize,
+        second: Option<usize>,
+    ) -> Result<(), AllocError>
+        ensures { OnOk result (out.new.items ≡ out.old.items ++ spaced (vertices_words (program_tree self.entry.program.now) set first second)) }
+    {
+        let functions = &self.program.vertex_functions;
+        self.put_words(out, b"vapply", set.name)?;
+        put_word(out, self.function(functions, first))?;
+        match second {
+            None => Ok(()),
+            Some(second) => put_word(out, self.function(functions, second)),
+        }
+    }
+}
+
+/// How a reduction of an entry is spelled.
+fn reduction_text(reduction: Reduction) -> &'static [u8]
+    ensures { result.now ≡ reduction_word reduction }
+{
+    match reduction {
+        Reduction::Min => b"min=",
+        Reduction::Max => b"max=",
+        Reduction::Plus => b"+=",
+    }
+}
+
+/// The operator that a reduction is.
+fn reducing_text(reduction: Reduction) -> &'static [u8]
+    ensures { result.now ≡ reducing_word reduction }
+{
+    match reduction {
+        Reduction::Min => b"min",
+        Reduction::Max => b"max",
+        Reduction::Plus => b"+",
+    }
+}
