@@ -1,0 +1,4 @@
+pub mod Filtered
+pub mod Bits
+pub mod ColumnFolds
+pub mod Walked
