@@ -27,6 +27,16 @@ filter_agree p q (e ∷ es) same =
     filtered_alike p q e (filter p es) (filter q es) (q e) (same e (has_first e es)) refl
     (filter_agree p q es (λ f has. same f (has_later (edge_eq e f) (has_edge es f) has)))
 
+-- ends that let the same vertices through
+pub between_same : (from other to : ℕ → Bool) (es : List (ℕ × ℕ)) → ((v : ℕ) → from v ≡ other v) → edges_between from to es ≡ edges_between other to es
+between_same from other to es same =
+    filter_agree (λ e. from e.0 && to e.1) (λ e. other e.0 && to e.1) es (λ e has. ap (λ (b : Bool). b && to e.1) (same e.0))
+
+-- edges that all pass
+pub all_pass : (es : List (ℕ × ℕ)) → filter (λ e. true) es ≡ es
+all_pass [] = refl
+all_pass (e ∷ es) = ap (λ (ks : List (ℕ × ℕ)). e ∷ ks) (all_pass es)
+
 -- ends that let the same vertices of a graph through
 pub between_agree : (g : Digraph) (from other to : ℕ → Bool) → IsDigraph g → ((v : ℕ) → v < g.vertices → from v ≡ other v) → edges_between from to g.edges ≡ edges_between other to g.edges
 between_agree g from other to is same =
