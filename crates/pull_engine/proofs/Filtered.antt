@@ -1,10 +1,14 @@
 -- The edges between ends that agree on the vertices of a graph.
-use Rattle.std.proofs.Common.{◌≡◌, ℕ, ◌<◌, ◌==◌, Bool, true, false, cond, ◌||◌, ◌&&◌, List, [], ◌∷◌, refl, sym, ap, ◌∙◌, arith}
+use Rattle.std.proofs.Common.{◌≡◌, ℕ, ◌<◌, ◌==◌, Bool, true, false, cond, ◌||◌, ◌&&◌, List, [], ◌∷◌, refl, sym, ap, ◌∙◌, subst, arith}
 use Rattle.std.proofs.lemmas.Bool.Decides.{nat_tests}
 use Rattle.std.specs.List.{filter}
+use Rattle.typed_tree.specs.StepTree.{StepsTree}
+use Rattle.algorithm_meaning.specs.State.{StateValue}
 use Rattle.tree_batch.specs.Edge.{edge_eq, has_edge, IsWithin}
 use Rattle.tree_batch.specs.Digraph.{Digraph, IsDigraph}
+use Rattle.vectors.specs.declared.change.VectorChanges.{VectorChanges}
 use Rattle.edge_fold.specs.Between.{edges_between}
+use Rattle.pull_engine.specs.Applied.{AreChangesOn}
 
 filtered_alike : (p q : ℕ × ℕ → Bool) (e : ℕ × ℕ) (ks ls : List (ℕ × ℕ)) (b : Bool) → p e ≡ b → q e ≡ b → ks ≡ ls → cond (p e) (e ∷ ks) ks ≡ cond (q e) (e ∷ ls) ls
 filtered_alike p q e ks ls b here there more =
@@ -41,3 +45,7 @@ all_pass (e ∷ es) = ap (λ (ks : List (ℕ × ℕ)). e ∷ ks) (all_pass es)
 pub between_agree : (g : Digraph) (from other to : ℕ → Bool) → IsDigraph g → ((v : ℕ) → v < g.vertices → from v ≡ other v) → edges_between from to g.edges ≡ edges_between other to g.edges
 between_agree g from other to is same =
     filter_agree (λ e. from e.0 && to e.1) (λ e. other e.0 && to e.1) g.edges (λ e has. ap (λ (b : Bool). b && to e.1) (same e.0 (is.within e has).0))
+
+-- the changes of an apply to the same edges
+pub changes_along : (n : ℕ) (es fs : List (ℕ × ℕ)) (m : StateValue) (steps : List StepsTree) (cs : List VectorChanges) → fs ≡ es → AreChangesOn n es m steps cs → AreChangesOn n fs m steps cs
+changes_along n es fs m steps cs same are = subst (λ (ks : List (ℕ × ℕ)). AreChangesOn n ks m steps cs) (sym same) are

@@ -6,7 +6,6 @@ ghost use Rattle.pull_engine.specs.Work.{work_from};
 
 use crate::changes::pull;
 use crate::passing::passing_set;
-
 use edge_fold::{Functions, Scratch};
 use flat_snapshot::Flat;
 use kernels::{Apply, End};
@@ -57,12 +56,12 @@ fn apply_cheaper(
     ensures once { IfOk result (λ c. AreApart c.vectors.items) }
     ensures changes { IfOk result (λ c. AreChangesOf apply.now flat.now vectors.now.vectors sizes.now c.vectors.items) }
 {
-    match apply.from {
-        None => pull(alloc, apply, flat, vectors, sizes, scratch),
-        Some(End::Members(set)) => {
-            apply_from(alloc, apply, flat, vectors, sizes, set, scratch)
-        }
-        Some(end) => {
+    let Some(end) = apply.from else {
+        return pull(alloc, apply, flat, vectors, sizes, scratch);
+    };
+    match end {
+        End::Members(set) => apply_from(alloc, apply, flat, vectors, sizes, set, scratch),
+        End::Filter(_) => {
             let functions = Functions {
                 first: apply.first,
                 second: apply.second,

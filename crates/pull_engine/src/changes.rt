@@ -46,10 +46,12 @@ pub fn pull(
         sizes,
         vertices: flat.vertices(),
     };
-    match apply.from {
-        None => pull_from(alloc, flat, functions, None, apply.to, scratch),
-        Some(End::Members(set)) => pull_members(alloc, flat, functions, set, apply.to, scratch),
-        Some(end) => {
+    let Some(end) = apply.from else {
+        return pull_from(alloc, flat, functions, None, apply.to, scratch);
+    };
+    match end {
+        End::Members(set) => pull_members(alloc, flat, functions, set, apply.to, scratch),
+        End::Filter(_) => {
             let passing = passing_set(alloc, functions, end, scratch)?;
             pull_members(alloc, flat, functions, &passing, apply.to, scratch)
         }

@@ -34,16 +34,16 @@ pub(crate) fn fold_to(
         → HasFolded m steps [] scratch.old → HasFolded m steps (edges_between (passes_words from.entry) test flat.now.edges) scratch.new) }
 {
     let mut block = [0u32; 128];
-    match to {
-        None => {
-            fold_all(alloc, flat, functions, from, &mut block, scratch)?;
-            Ok(())
-        }
-        Some(End::Members(set)) => {
+    let Some(end) = to else {
+        fold_all(alloc, flat, functions, from, &mut block, scratch)?;
+        return Ok(());
+    };
+    match end {
+        End::Members(set) => {
             fold_members(alloc, flat, functions, from, set, &mut block, scratch)?;
             Ok(())
         }
-        Some(end) => {
+        End::Filter(_) => {
             fold_passing(alloc, flat, functions, from, end, &mut block, scratch)?;
             Ok(())
         }
