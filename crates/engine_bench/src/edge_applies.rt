@@ -22,16 +22,33 @@ const SEED: u64 = 2026;
 
 const CHUNK_SIZE: u32 = 4;
 
-// How many vertices the graphs have, about how many edges, and the form of the set and of how many vertices one may be
-// its member.
-const SIZES: [(u32, u32, Form, u32); 6] = [
-    (1, 2, Form::List, 1),
-    (3, 4, Form::Bits, 1),
-    (60, 40, Form::Flags, 1),
-    (60, 900, Form::Bits, 1),
-    (400, 2000, Form::List, 1),
-    (400, 2000, Form::Flags, 80),
+// A random graph of so many vertices and about so many edges, and the form of a random set, of which only vertices that
+// `every` divides are members.
+#[derive(Clone, Copy)]
+struct Case {
+    vertices: u32,
+    edges: u32,
+    form: Form,
+    every: u32,
+}
+
+const CASES: [Case; 6] = [
+    case(1, 2, Form::List, 1),
+    case(3, 4, Form::Bits, 1),
+    case(60, 40, Form::Flags, 1),
+    case(60, 900, Form::Bits, 1),
+    case(400, 2000, Form::List, 1),
+    case(400, 2000, Form::Flags, 80),
 ];
+
+const fn case(vertices: u32, edges: u32, form: Form, every: u32) -> Case {
+    Case {
+        vertices,
+        edges,
+        form,
+        every,
+    }
+}
 
 // What stands before the function that is applied.
 const HEAD: &str = "element Vertex end\nelement Edge end\n\
@@ -114,13 +131,13 @@ impl Side {
 pub fn print_agreement<R: Print + AllocGlobal>(rt: &R) -> io::Result<()> {
     let mut random = Random::new(SEED);
     let mut scratch = Scratch::new(rt.alloc());
-    for (vertices, edges, form, every) in SIZES {
-        let work = Work::new(rt.alloc(), &mut random, (vertices, edges), (form, every))?;
+    for case in CASES {
+        let work = Work::new(rt.alloc(), &mut random, case)?;
         let mut count = 0u32;
         for body in FUNCTIONS {
             count = count.wrapping_add(work.compare_all(rt.alloc(), body, &mut scratch)?);
         }
-        println!(rt; "{vertices} vertices: {count} edge applies as by the slow run")?;
+        println!(rt; "{} vertices: {count} edge applies as by the slow run", case.vertices)?;
     }
     Ok(())
 }
@@ -135,15 +152,11 @@ struct Work {
 }
 
 impl Work {
-    fn new(
-        alloc: Global,
-        random: &mut Random,
-        (vertices, edges): (u32, u32),
-        (form, every): (Form, u32),
-    ) -> io::Result<Work> {
+    fn new(alloc: Global, random: &mut Random, case: Case) -> io::Result<Work> {
+        let vertices = case.vertices;
         let bound = u64::from(vertices).max(1);
         let mut batch = Batch::new(alloc);
-        for _ in 0..edges {
+        for _ in 0..case.edges {
             let (source, destination) = (random.below(bound), random.below(bound));
             batch
                 .push(Entry::Add(source as u32, destination as u32))
@@ -152,11 +165,12 @@ impl Work {
         let graph = Graph::new(vertices, CHUNK_SIZE).map_err(told)?;
         let graph = graph.apply(alloc, &batch).map_err(told)?;
         let kept = random.below(1 << 20);
+        let keeps = |vertex: u32| is_kept(vertex, kept, case.every);
         Ok(Work {
             vertices,
             edges: graph.edges().collect(alloc)?,
             flat: Flat::of(alloc, &graph)?,
-            set: VertexSet::from_test(alloc, vertices, form, |vertex| is_kept(vertex, kept, every))?,
+            set: VertexSet::from_test(alloc, vertices, case.form, keeps)?,
         })
     }
 

@@ -1,6 +1,7 @@
 -- Bits of words, and the vertices that pass among the first ones.
-use Rattle.std.proofs.Common.{◌≡◌, ◌↔◌, ℕ, zero, suc, ◌+◌, ◌-◌, ◌/◌, ◌%◌, ◌<◌, ◌≤◌, ◌==◌, nat_lt, nat_le, Bool, true, false, cond, ◌||◌, ◌&&◌, List, [], ◌∷◌, ◌++◌, length, IsTrue, Contains, refl, sym, ap, ◌∙◌, subst, arith}
-use Rattle.std.proofs.lemmas.Bool.Decides.{nat_tests}
+use Rattle.std.proofs.Common.{◌≡◌, ◌↔◌, ℕ, zero, suc, ◌+◌, ◌-◌, ◌/◌, ◌%◌, ◌<◌, ◌≤◌, ◌==◌, nat_lt, nat_le, Bool, true, false, cond, ◌||◌, ◌&&◌, slice_index, List, [], ◌∷◌, ◌++◌, length, IsTrue, Contains, refl, sym, ap, ◌∙◌, subst, arith}
+use Rattle.std.proofs.lemmas.Bool.Decides.{Decides-eqb, nat_tests}
+use Rattle.std.specs.Int.{bit_at}
 use Rattle.std.specs.List.{filter, range_with_len}
 use Rattle.algorithm_meaning.specs.EdgeApply.{is_member}
 use Rattle.vertex_sets.specs.VertexSet.{AreWordsOf, VertexSubset}
@@ -8,17 +9,11 @@ use Rattle.edge_fold.proofs.Findings.{member_is}
 use Rattle.push_engine.proofs.Walked.{member_filtered}
 use Rattle.pull_engine.specs.Words.{is_set}
 
-true_test : (m n : ℕ) → (m == n) ≡ true → m ≡ n
-true_test m n h = grind (arith, nat_tests)
-
-test_true : (m n : ℕ) → m ≡ n → (m == n) ≡ true
-test_true m n h = grind (arith, nat_tests)
-
 -- the bits of a set's words are those of its members
 pub words_have_members : (s : VertexSubset) (words : List ℕ) → AreWordsOf s words → (v : ℕ) → is_set words v ≡ is_member v s.members
 words_have_members s words are v =
-    member_is v s.members (is_set words v)
-    (λ on. (are.members v).1 (true_test _ 1 on), λ has. test_true _ 1 ((are.members v).0 has))
+    let is_one = Decides-eqb (bit_at (slice_index words (v / 64)) (v % 64)) 1 in
+    member_is v s.members (is_set words v) (λ on. (are.members v).1 (is_one.0 on), λ has. is_one.1 ((are.members v).0 has))
 
 -- the numbers in a row
 in_row_at : (v a n : ℕ) (b : Bool) → (a == v) ≡ b → b || (nat_le (a + 1) v && nat_lt v (a + 1 + n)) ≡ nat_le a v && nat_lt v (a + suc n)

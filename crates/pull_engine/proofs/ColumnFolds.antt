@@ -1,6 +1,6 @@
 -- The edges into destinations, column by column, and all edges between two ends in their order.
 use Rattle.std.proofs.Common.{◌≡◌, ℕ, ◌+◌, ◌<◌, ◌≤◌, ◌==◌, ℤ, Bool, true, false, cond, ◌||◌, ◌&&◌, List, [], ◌∷◌, ◌++◌, length, refl, sym, ap, ◌∙◌, append_assoc, arith}
-use Rattle.std.proofs.lemmas.Bool.Decides.{nat_tests}
+use Rattle.std.proofs.lemmas.Bool.Decides.{Decides-eqb}
 use Rattle.std.proofs.lemmas.List.{append-nil, map-append}
 use Rattle.std.proofs.lemmas.List.Elements.{filter-append}
 use Rattle.std.specs.List.{filter}
@@ -22,12 +22,6 @@ use Rattle.pull_engine.specs.Columns.{columns}
 -- the edges into a vertex
 abbrev into : ℕ → List (ℕ × ℕ) → List (ℕ × ℕ)
 into v es = filter (λ e. e.1 == v) es
-
-same : (m n : ℕ) → (m == n) ≡ true → m ≡ n
-same m n h = grind (arith, nat_tests)
-
-itself : (n : ℕ) → (n == n) ≡ true
-itself n = grind (arith, nat_tests)
 
 nothing_either : (b : Bool) (none : List (ℕ × ℕ)) → none ≡ [] → [] ≡ cond b none []
 nothing_either true none e = sym e
@@ -62,7 +56,7 @@ first_column from es u v true m is once =
     let C = column v (filter from (sources_of v es)) in
     ap (λ (c : Bool). column u (filter from (sources_of u es)) ++ cond c C []) (once refl)
     ∙ append-nil (column u (filter from (sources_of u es)))
-    ∙ ap (λ (k : ℕ). column k (filter from (sources_of k es))) (same u v is)
+    ∙ ap (λ (k : ℕ). column k (filter from (sources_of k es))) ((Decides-eqb u v).0 is)
 first_column from es u v false m is once = refl
 
 into_columns : (v : ℕ) (from : ℕ → Bool) (es : List (ℕ × ℕ)) (low : ℕ) (us : List ℕ) → Rises low us → into v (columns from es us) ≡ cond (is_member v us) (column v (filter from (sources_of v es))) []
@@ -72,23 +66,23 @@ into_columns v from es low (u ∷ us) up =
     filter-append (λ (e : ℕ × ℕ). e.1 == v) here (columns from es us)
     ∙ ap (λ (ks : List (ℕ × ℕ)). ks ++ into v (columns from es us)) (into_column v u (filter from (sources_of u es)))
     ∙ ap (λ (ks : List (ℕ × ℕ)). cond (u == v) here [] ++ ks) (into_columns v from es (u + 1) us up.1)
-    ∙ first_column from es u v (u == v) (is_member v us) refl (λ is. below_all (u + 1) v us up.1 (let at = same u v is in omega (arith, at)))
+    ∙ first_column from es u v (u == v) (is_member v us) refl (λ is. below_all (u + 1) v us up.1 (let at = (Decides-eqb u v).0 is in omega (arith, at)))
 
 -- of the edges between two ends those into a vertex are all or none
 between_one : (from to : ℕ → Bool) (v : ℕ) (e : ℕ × ℕ) (rest : List (ℕ × ℕ)) (S : List ℕ) (p q b : Bool) → from e.0 ≡ p → to e.1 ≡ q → (e.1 == v) ≡ b
     → into v rest ≡ cond (to v) (column v (filter from S)) []
     → into v (cond (p && q) (e ∷ rest) rest) ≡ cond (to v) (column v (filter from (cond b (e.0 ∷ S) S))) []
 between_one from to v e rest S true true true passes is at more =
-    let on : to v ≡ true = ap to (sym (same e.1 v at)) ∙ is in
+    let on : to v ≡ true = ap to (sym ((Decides-eqb e.1 v).0 at)) ∙ is in
     ap (λ (c : Bool). cond c (e ∷ into v rest) (into v rest)) at
     ∙ ap (λ (ks : List (ℕ × ℕ)). e ∷ ks) (more ∙ ap (λ (c : Bool). cond c (column v (filter from S)) []) on)
-    ∙ ap (λ (k : ℕ). (e.0, k) ∷ column v (filter from S)) (same e.1 v at)
+    ∙ ap (λ (k : ℕ). (e.0, k) ∷ column v (filter from S)) ((Decides-eqb e.1 v).0 at)
     ∙ sym (ap (λ (c : Bool). column v (cond c (e.0 ∷ filter from S) (filter from S))) passes)
     ∙ sym (ap (λ (c : Bool). cond c (column v (filter from (e.0 ∷ S))) []) on)
 between_one from to v e rest S true true false passes is at more =
     ap (λ (c : Bool). cond c (e ∷ into v rest) (into v rest)) at ∙ more
 between_one from to v e rest S true false true passes is at more =
-    let off : to v ≡ false = ap to (sym (same e.1 v at)) ∙ is in
+    let off : to v ≡ false = ap to (sym ((Decides-eqb e.1 v).0 at)) ∙ is in
     more ∙ ap (λ (c : Bool). cond c (column v (filter from S)) []) off ∙ sym (ap (λ (c : Bool). cond c (column v (filter from (e.0 ∷ S))) []) off)
 between_one from to v e rest S true false false passes is at more = more
 between_one from to v e rest S false q true passes is at more =
@@ -102,7 +96,7 @@ into_between v from to (e ∷ es) =
 
 -- only the edges into a vertex count for it
 only_into : (r : Reduction) (x v : ℕ) (n : ℤ) (g : ℕ × ℕ → List (ℕ × Reduction × ℤ)) (es : List (ℕ × ℕ)) → reduced_at r v n (given_on x g (into v es)) ≡ reduced_at r v n (given_on x g es)
-only_into r x v n g es = filtered_edges r x v n (λ u. u == v) g es ∙ ap (λ (b : Bool). cond b (reduced_at r v n (given_on x g es)) n) (itself v)
+only_into r x v n g es = filtered_edges r x v n (λ u. u == v) g es ∙ ap (λ (b : Bool). cond b (reduced_at r v n (given_on x g es)) n) ((Decides-eqb v v).1 refl)
 
 agree_at : (from : ℕ → Bool) (v : ℕ) (S : List ℕ) (a b : Bool) → (0 < length S → a ≡ b) → cond a (column v (filter from S)) [] ≡ cond b (column v (filter from S)) []
 agree_at from v [] a b same = sym (nothing_either a [] refl) ∙ nothing_either b [] refl

@@ -1,6 +1,6 @@
 -- The edges between ends that agree on the vertices of a graph.
 use Rattle.std.proofs.Common.{◌≡◌, ℕ, ◌<◌, ◌==◌, Bool, true, false, cond, ◌||◌, ◌&&◌, List, [], ◌∷◌, refl, sym, ap, ◌∙◌, subst, arith}
-use Rattle.std.proofs.lemmas.Bool.Decides.{nat_tests}
+use Rattle.std.proofs.lemmas.Bool.Decides.{Decides-eqb}
 use Rattle.std.specs.List.{filter}
 use Rattle.typed_tree.specs.StepTree.{StepsTree}
 use Rattle.algorithm_meaning.specs.State.{StateValue}
@@ -14,12 +14,9 @@ filtered_alike : (p q : ℕ × ℕ → Bool) (e : ℕ × ℕ) (ks ls : List (ℕ
 filtered_alike p q e ks ls b here there more =
     ap (λ (c : Bool). cond c (e ∷ ks) ks) (here ∙ sym there) ∙ ap (λ (ms : List (ℕ × ℕ)). cond (q e) (e ∷ ms) ms) more
 
-itself : (n : ℕ) → (n == n) ≡ true
-itself n = grind (arith, nat_tests)
-
 has_first : (e : ℕ × ℕ) (es : List (ℕ × ℕ)) → has_edge (e ∷ es) e ≡ true
 has_first e es =
-    ap (λ (b : Bool). (b && (e.1 == e.1)) || has_edge es e) (itself e.0) ∙ ap (λ (b : Bool). (true && b) || has_edge es e) (itself e.1)
+    ap (λ (b : Bool). (b && (e.1 == e.1)) || has_edge es e) ((Decides-eqb e.0 e.0).1 refl) ∙ ap (λ (b : Bool). (true && b) || has_edge es e) ((Decides-eqb e.1 e.1).1 refl)
 
 has_later : (b c : Bool) → c ≡ true → b || c ≡ true
 has_later true c e = refl
@@ -36,10 +33,10 @@ pub between_same : (from other to : ℕ → Bool) (es : List (ℕ × ℕ)) → (
 between_same from other to es same =
     filter_agree (λ e. from e.0 && to e.1) (λ e. other e.0 && to e.1) es (λ e has. ap (λ (b : Bool). b && to e.1) (same e.0))
 
--- edges that all pass
-pub all_pass : (es : List (ℕ × ℕ)) → filter (λ e. true) es ≡ es
+-- a filter that lets all through
+pub all_pass : {A : Type 0} (xs : List A) → filter (λ x. true) xs ≡ xs
 all_pass [] = refl
-all_pass (e ∷ es) = ap (λ (ks : List (ℕ × ℕ)). e ∷ ks) (all_pass es)
+all_pass (x ∷ xs) = ap (λ ys. x ∷ ys) (all_pass xs)
 
 -- ends that let the same vertices of a graph through
 pub between_agree : (g : Digraph) (from other to : ℕ → Bool) → IsDigraph g → ((v : ℕ) → v < g.vertices → from v ≡ other v) → edges_between from to g.edges ≡ edges_between other to g.edges

@@ -1,6 +1,7 @@
 -- Members of sets that get more of them.
 use Rattle.std.proofs.Common.{◌≡◌, ◌↔◌, ◌⊎◌, inl, inr, ℕ, ◌+◌, ◌<◌, ◌≤◌, ◌==◌, Bool, true, false, ◌||◌, List, [], ◌∷◌, ◌++◌, length, take, get_or, Contains, refl, sym, ap, ◌∙◌, subst, arith}
-use Rattle.std.proofs.lemmas.Bool.Decides.{nat_tests}
+use Rattle.std.proofs.lemmas.Bool.{ne_eqb}
+use Rattle.std.proofs.lemmas.Bool.Decides.{Decides-eqb}
 use Rattle.std.proofs.lemmas.List.{take_more}
 use Rattle.std.proofs.lemmas.List.Folds.{Any-from_list_any, list_any-append, list_any_at}
 use Rattle.algorithm_meaning.specs.EdgeApply.{is_member}
@@ -8,17 +9,8 @@ use Rattle.vertex_sets.proofs.Ascending.{contains_first, contains_later, first_o
 use Rattle.vertex_sets.specs.VertexSet.{Adds, VertexSubset}
 use Rattle.edge_fold.proofs.Findings.{member_is}
 
-same : (m n : ℕ) → (m == n) ≡ true → m ≡ n
-same m n h = grind (arith, nat_tests)
-
-same_test : (m n : ℕ) → m ≡ n → (m == n) ≡ true
-same_test m n h = grind (arith, nat_tests)
-
-apart_test : (m n : ℕ) → n < m → (m == n) ≡ false
-apart_test m n l = grind (arith, nat_tests)
-
 contained : (v : ℕ) (xs : List ℕ) → is_member v xs ≡ true → Contains xs v
-contained v xs e = let any = Any-from_list_any (λ m. m == v) xs e in subst (λ (y : ℕ). Contains xs y) (same any.1 v any.4) (any.0, any.2, any.3)
+contained v xs e = let any = Any-from_list_any (λ m. m == v) xs e in subst (λ (y : ℕ). Contains xs y) ((Decides-eqb any.1 v).0 any.4) (any.0, any.2, any.3)
 
 -- a list with a number in front
 first_counts : (u v : ℕ) (xs : List ℕ) → (v ≡ u) ⊎ Contains xs v → Contains (u ∷ xs) v
@@ -30,7 +22,7 @@ pub member_added : (u v : ℕ) (old new : VertexSubset) → Adds u old new → i
 member_added u v old new adds =
     sym (member_is v new.members (is_member v (u ∷ old.members)) (
       λ e. (adds.members v).1 (first_or_later u v old.members (contained v (u ∷ old.members) e)),
-      λ has. let at = first_counts u v old.members ((adds.members v).0 has) in list_any_at (λ m. m == v) (u ∷ old.members) at.0 v at.1 (same_test _ v at.2),
+      λ has. let at = first_counts u v old.members ((adds.members v).0 has) in list_any_at (λ m. m == v) (u ∷ old.members) at.0 v at.1 ((Decides-eqb (get_or (u ∷ old.members) at.0 v) v).1 at.2),
     ))
 
 -- the next of some vertices
@@ -62,7 +54,7 @@ member_inserted v us i was before now l so added =
 pub member_left_out : (v : ℕ) (us : List ℕ) (i : ℕ) (was now : List ℕ) → i < length us → v < get_or us i 0 → is_member v now ≡ is_member v was || is_member v (take i us)
     → is_member v now ≡ is_member v was || is_member v (take (i + 1) us)
 member_left_out v us i was now l above so =
-    so ∙ ap (λ (b : Bool). is_member v was || b) (or_nothing (is_member v (take i us)) (get_or us i 0 == v) (apart_test (get_or us i 0) v above) ∙ sym (next_member v us i l))
+    so ∙ ap (λ (b : Bool). is_member v was || b) (or_nothing (is_member v (take i us)) (get_or us i 0 == v) (ne_eqb (get_or us i 0) v (λ e. omega (arith, e, above))) ∙ sym (next_member v us i l))
   where
     or_nothing : (a b : Bool) → b ≡ false → a ≡ a || b
     or_nothing true b e = refl

@@ -17,8 +17,9 @@ use vertex_sets::VertexSet;
 
 /// What an apply of edge functions changes, by the direction that its schedule has for it: for each vector that a
 /// function has given something one list of changes, by ascending vertices, and a vector without one does not change.
-/// No change depends on the direction. `sizes` are the sizes of the vertex sets by their places. The vectors stay as
-/// they are, and so does the graph. The scratch serves any apply after this one, whatever became of it.
+/// It promises so for each vector that has an entry for each vertex and to which the functions give by one reduction;
+/// no change in such a vector depends on the direction. `sizes` are the sizes of the vertex sets by their places. The
+/// vectors stay as they are, and so does the graph. The scratch serves any apply after this one, whatever became of it.
 ///
 /// The hybrid pulls where that is cheaper ([`is_pull_cheaper`]) and where all sources pass, and else pushes. A filter of
 /// sources is then run for each vertex, once.

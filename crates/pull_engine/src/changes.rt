@@ -19,13 +19,15 @@ use std::alloc::{AllocError, Global};
 use vectors::{Changes, Vectors};
 use vertex_sets::{Form, VertexSet};
 
-/// What an apply of edge functions changes, where it goes over the destinations and their sources: the same as by push,
-/// for each vector that a function has given something one list of changes, by ascending vertices, and a vector without
-/// one does not change. `sizes` are the sizes of the vertex sets by their places. The vectors stay as they are, and so
-/// does the graph. The scratch serves any apply after this one, whatever became of it.
+/// What an apply of edge functions changes, where it goes over the destinations and their sources: for each vector that
+/// a function has given something one list of changes, by ascending vertices, and a vector without one does not change.
+/// It promises so for each vector that has an entry for each vertex and to which the functions give by one reduction,
+/// in the words of [`push_engine::push`]. `sizes` are the sizes of the vertex sets by their places. The vectors stay as
+/// they are, and so does the graph. The scratch serves any apply after this one, whatever became of it.
 ///
 /// It takes time in proportion to the vertices with edges to them and to those edges, or, where the destinations are
-/// members of a set, to these and the edges to them; a filter of sources is run for each vertex.
+/// members of a set, to these and the edges to them. A filter of sources is run for each vertex, and sources that are
+/// members of a list or of flags are put into bits first.
 ///
 /// The only error is out of memory.
 pub fn pull(
