@@ -1,10 +1,10 @@
 -- The edges between ends that agree on the vertices of a graph.
-use Rattle.std.proofs.Common.{◌≡◌, ℕ, ◌<◌, ◌==◌, Bool, true, false, cond, ◌||◌, ◌&&◌, List, [], ◌∷◌, refl, sym, ap, ◌∙◌, subst, arith}
+use Rattle.std.proofs.Common.{◌≡◌, ℕ, ◌<◌, ◌==◌, Bool, true, false, cond, ◌||◌, ◌&&◌, List, [], ◌∷◌, refl, sym, ap, ◌∙◌, subst}
 use Rattle.std.proofs.lemmas.Bool.Decides.{Decides-eqb}
 use Rattle.std.specs.List.{filter}
 use Rattle.typed_tree.specs.StepTree.{StepsTree}
 use Rattle.algorithm_meaning.specs.State.{StateValue}
-use Rattle.tree_batch.specs.Edge.{edge_eq, has_edge, IsWithin}
+use Rattle.tree_batch.specs.Edge.{edge_eq, has_edge}
 use Rattle.tree_batch.specs.Digraph.{Digraph, IsDigraph}
 use Rattle.vectors.specs.declared.change.VectorChanges.{VectorChanges}
 use Rattle.edge_fold.specs.Between.{edges_between}

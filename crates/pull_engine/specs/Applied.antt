@@ -1,6 +1,5 @@
 -- What an apply of edge functions changes.
-use Rattle.std.specs.Prelude.{◌≡◌, ℕ, ◌≤◌, ℤ, Bool, Option, List, [], length, slice_index_or}
-use Rattle.std.specs.Borrow.{Bor}
+use Rattle.std.specs.Prelude.{◌≡◌, ℕ, ◌≤◌, ℤ, Bool, List, [], length, slice_index_or}
 use Rattle.syntax.specs.declared.statement.Reduction.{Reduction}
 use Rattle.typed_tree.specs.StepTree.{StepsTree}
 use Rattle.algorithm_meaning.specs.EdgeApply.{after_edges}
@@ -14,8 +13,7 @@ use Rattle.vectors.specs.declared.change.VectorChanges.{VectorChanges}
 use Rattle.edge_fold.specs.Between.{edges_between}
 use Rattle.edge_fold.specs.Changed.{changed, changes_of}
 use Rattle.edge_fold.specs.Ends.{IsEndTest}
-use Rattle.edge_fold.specs.Folded.{AreFunctions, AreKernels}
-use Rattle.edge_fold.specs.declared.functions.Functions.{Functions}
+use Rattle.edge_fold.specs.Folded.{AreKernels}
 
 -- for each vector that has an entry for each vertex and to which the functions give by one reduction, the vertices whose
 -- entry an apply to these edges of a graph of n vertices changes, ascending, with the entries after it

@@ -14,8 +14,8 @@ returns-in_ok-passing-in-Filter-clause-changes c =
     let is_passing = λ (v : ℕ). is_member v found.passing.members in
     IfOk-weaker c.apply_from-in-Filter.result _ _
     (λ cs changes m steps from to vectors sizes kernels is_from is_to.
-        let passes = subst (λ (o : Option End). IsEndTest o m from) c.in-Some.is is_from in
-        changes_along g.vertices _ _ m steps cs.vectors.items
-        (between_agree g from is_passing to c.vertices.ensures.graph (λ v l. sym (found.ensures.members m from vectors sizes passes v (omega (arith, count, l)))))
-        (changes m steps is_passing to vectors sizes kernels (λ v. refl) is_to))
+    let passes = subst (λ (o : Option End). IsEndTest o m from) c.in-Some.is is_from in
+    changes_along g.vertices _ _ m steps cs.vectors.items
+    (between_agree g from is_passing to c.vertices.ensures.graph (λ v l. sym (found.ensures.members m from vectors sizes passes v (omega (arith, count, l)))))
+    (changes m steps is_passing to vectors sizes kernels (λ v. refl) is_to))
     c.apply_from-in-Filter.ensures.changes

@@ -1,4 +1,4 @@
-use Rattle.std.proofs.Common.{rules, ◌≡◌, ℕ, List, [], ◌∷◌, ap, refl, subst, sym}
+use Rattle.std.proofs.Common.{rules, ℕ, List, [], ◌∷◌, ap, refl, subst, sym}
 use Rattle.edge_fold.specs.Between.{firsts}
 use Rattle.edge_fold.proofs.Walks.{HasWalked, walk_begun, walk_more}
 use Rattle.push_engine.proofs.Walked.{degrees_rise}

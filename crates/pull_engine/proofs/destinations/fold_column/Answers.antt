@@ -1,5 +1,4 @@
-use Rattle.std.proofs.Common.{rules, ◌≡◌, ◌++◌, [], ap, take, ◌∙◌}
-use Rattle.std.specs.List.{filter}
+use Rattle.std.proofs.Common.{rules, ◌≡◌, ◌++◌, [], ap, take}
 use Rattle.edge_fold.specs.Given.{column}
 use Rattle.edge_fold.proofs.Walks.{folded_along, parts_of, walk_done, walk_more}
 use Rattle.tree_batch.specs.Neighbours.{sources_of}

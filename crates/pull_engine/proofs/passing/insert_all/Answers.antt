@@ -1,4 +1,4 @@
-use Rattle.std.proofs.Common.{rules, ◌≡◌, ℕ, ◌+◌, ◌<◌, ◌≤◌, ◌||◌, length, take, get_or, sym, ap, ◌∙◌, subst, arith}
+use Rattle.std.proofs.Common.{◌<◌, length, get_or, ap, ◌∙◌, arith}
 use Rattle.algorithm_meaning.specs.EdgeApply.{is_member}
 use Rattle.vertex_sets.specs.VertexSet.{VertexSubset}
 use Rattle.pull_engine.proofs.Inserted.{member_added, member_inserted, member_left_out}
