@@ -1,11 +1,13 @@
-//! Breadth-first search and component labels as loops of edge applies, and an apply to a few vertices.
+//! Breadth-first search and component labels as loops of edge applies, by push and by the hybrid, and an apply to a few
+//! vertices.
 
 use compiler::compile;
 use edge_fold::Scratch;
 use flat_snapshot::Flat;
 use kernels::{Apply, EdgeKernel, End, FilterKernel};
 use measuring::{Job, Random, print_head, print_row, rmat_graph, times_of, told};
-use push_engine::{apply_modified, push};
+use pull_engine::apply_edges;
+use push_engine::apply_modified;
 use schedule::{DenseVertexSet, Direction, Parallelization};
 use std::alloc::{AllocError, Global};
 use std::io;
@@ -46,9 +48,11 @@ enum Row {
     Labels(Direction),
 }
 
-const ROWS: [Row; 2] = [
+const ROWS: [Row; 4] = [
     Row::Search(Direction::SparsePush),
+    Row::Search(Direction::Hybrid),
     Row::Labels(Direction::SparsePush),
+    Row::Labels(Direction::Hybrid),
 ];
 
 impl Row {
@@ -169,7 +173,7 @@ impl<'a> Run<'a> {
     // What the function changes from the frontier.
     fn changes(&mut self) -> Result<Changes, AllocError> {
         let apply = apply_of(self.row, self.kernels, &self.frontier);
-        push(
+        apply_edges(
             self.alloc,
             &apply,
             self.flat,

@@ -1,4 +1,4 @@
-//! Random edge applies, by every direction and with every kind of end, beside the slow run.
+//! Random edge applies by push, by pull and by each direction of a schedule, with every kind of end, beside the slow run.
 
 use algorithm_meaning::{Outcome, plain_run};
 use compiler::compile;
@@ -6,6 +6,7 @@ use edge_fold::Scratch;
 use flat_snapshot::Flat;
 use kernels::{Apply, EdgeKernel, End, FilterKernel};
 use measuring::{Random, told};
+use pull_engine::{apply_edges, pull};
 use push_engine::{apply_modified, push};
 use schedule::{DenseVertexSet, Direction, Parallelization};
 use std::alloc::Global;
@@ -14,15 +15,40 @@ use std::io;
 use std::io::Error;
 use tree_batch::{Batch, Entry, Graph};
 use typed_tree::{Sequence, Typed};
-use vectors::Vectors;
+use vectors::{Changes, Vectors};
 use vertex_sets::{Form, VertexSet};
 
 const SEED: u64 = 2026;
 
 const CHUNK_SIZE: u32 = 4;
 
-// How many vertices the graphs have, and about how many edges.
-const SIZES: [(u32, u32); 5] = [(1, 2), (3, 4), (60, 40), (60, 900), (400, 2000)];
+// A random graph of so many vertices and about so many edges, and the form of a random set, of which only vertices that
+// `every` divides are members.
+#[derive(Clone, Copy)]
+struct Case {
+    vertices: u32,
+    edges: u32,
+    form: Form,
+    every: u32,
+}
+
+const CASES: [Case; 6] = [
+    case(1, 2, Form::List, 1),
+    case(3, 4, Form::Bits, 1),
+    case(60, 40, Form::Flags, 1),
+    case(60, 900, Form::Bits, 1),
+    case(400, 2000, Form::List, 1),
+    case(400, 2000, Form::Flags, 80),
+];
+
+const fn case(vertices: u32, edges: u32, form: Form, every: u32) -> Case {
+    Case {
+        vertices,
+        edges,
+        form,
+        every,
+    }
+}
 
 // What stands before the function that is applied.
 const HEAD: &str = "element Vertex end\nelement Edge end\n\
@@ -54,7 +80,32 @@ enum Side {
 
 const SIDES: [Side; 3] = [Side::None, Side::Members, Side::Filter];
 
-const DIRECTIONS: [Direction; 2] = [Direction::SparsePush, Direction::DensePush];
+// How an apply is done: by an engine, or by what its schedule names.
+#[derive(Clone, Copy)]
+enum Way {
+    Push(Direction),
+    Pull,
+    Scheduled(Direction),
+}
+
+const WAYS: [Way; 7] = [
+    Way::Push(Direction::SparsePush),
+    Way::Push(Direction::DensePush),
+    Way::Pull,
+    Way::Scheduled(Direction::SparsePush),
+    Way::Scheduled(Direction::DensePush),
+    Way::Scheduled(Direction::DensePull),
+    Way::Scheduled(Direction::Hybrid),
+];
+
+impl Way {
+    fn direction(self) -> Direction {
+        match self {
+            Way::Push(direction) | Way::Scheduled(direction) => direction,
+            Way::Pull => Direction::DensePull,
+        }
+    }
+}
 
 impl Side {
     // How a program says it.
@@ -80,13 +131,13 @@ impl Side {
 pub fn print_agreement<R: Print + AllocGlobal>(rt: &R) -> io::Result<()> {
     let mut random = Random::new(SEED);
     let mut scratch = Scratch::new(rt.alloc());
-    for (vertices, edges) in SIZES {
-        let work = Work::new(rt.alloc(), &mut random, vertices, edges)?;
+    for case in CASES {
+        let work = Work::new(rt.alloc(), &mut random, case)?;
         let mut count = 0u32;
         for body in FUNCTIONS {
             count = count.wrapping_add(work.compare_all(rt.alloc(), body, &mut scratch)?);
         }
-        println!(rt; "{vertices} vertices: {count} edge applies as by the slow run")?;
+        println!(rt; "{} vertices: {count} edge applies as by the slow run", case.vertices)?;
     }
     Ok(())
 }
@@ -101,10 +152,11 @@ struct Work {
 }
 
 impl Work {
-    fn new(alloc: Global, random: &mut Random, vertices: u32, edges: u32) -> io::Result<Work> {
+    fn new(alloc: Global, random: &mut Random, case: Case) -> io::Result<Work> {
+        let vertices = case.vertices;
         let bound = u64::from(vertices).max(1);
         let mut batch = Batch::new(alloc);
-        for _ in 0..edges {
+        for _ in 0..case.edges {
             let (source, destination) = (random.below(bound), random.below(bound));
             batch
                 .push(Entry::Add(source as u32, destination as u32))
@@ -113,11 +165,12 @@ impl Work {
         let graph = Graph::new(vertices, CHUNK_SIZE).map_err(told)?;
         let graph = graph.apply(alloc, &batch).map_err(told)?;
         let kept = random.below(1 << 20);
+        let keeps = |vertex: u32| is_kept(vertex, kept, case.every);
         Ok(Work {
             vertices,
             edges: graph.edges().collect(alloc)?,
             flat: Flat::of(alloc, &graph)?,
-            set: VertexSet::from_test(alloc, vertices, Form::List, |vertex| is_kept(vertex, kept))?,
+            set: VertexSet::from_test(alloc, vertices, case.form, keeps)?,
         })
     }
 
@@ -129,7 +182,7 @@ impl Work {
                 let program = self.program(alloc, body, from, to)?;
                 let vector = vector_of(body);
                 self.compare(alloc, &program, vector, (from, to), scratch)?;
-                count = count.wrapping_add(DIRECTIONS.len() as u32);
+                count = count.wrapping_add(WAYS.len() as u32);
             }
         }
         Ok(count)
@@ -155,7 +208,7 @@ impl Work {
         compile(alloc, text.as_bytes()).map_err(|_| Error::other("a program is refused"))
     }
 
-    // Compares the apply of a program by every direction with the slow run of the program.
+    // Compares the apply of a program in every way with the slow run of the program.
     fn compare(
         &self,
         alloc: Global,
@@ -166,9 +219,9 @@ impl Work {
     ) -> io::Result<()> {
         let outcome = plain_run(alloc, program, self.vertices, &self.edges, 0)?;
         let functions = Functions::of(alloc, program)?;
-        for direction in DIRECTIONS {
-            let apply = apply_of(direction, sides, &self.set, &functions);
-            if !self.agrees(alloc, &apply, vector, &outcome, scratch)? {
+        for way in WAYS {
+            let apply = apply_of(way.direction(), sides, &self.set, &functions);
+            if !self.agrees(alloc, way, &apply, vector, &outcome, scratch)? {
                 return Err(Error::other("an edge apply differs from the slow run"));
             }
         }
@@ -179,19 +232,36 @@ impl Work {
     fn agrees(
         &self,
         alloc: Global,
+        way: Way,
         apply: &Apply<'_>,
         vector: usize,
         outcome: &Outcome,
         scratch: &mut Scratch,
     ) -> io::Result<bool> {
         let mut vectors = self.vectors(alloc)?;
-        let size = i64::try_from(self.set.len()).unwrap_or(0);
-        let sizes = [i64::from(self.vertices), size];
-        let changes = push(alloc, apply, &self.flat, &vectors, &sizes, scratch)?;
+        let changes = self.changes(alloc, way, apply, &vectors, scratch)?;
         let dense = apply.dense_vertex_set;
         let modified = apply_modified(alloc, &changes, vector, self.vertices, dense)?;
         vectors.write(&changes);
         Ok(has_entries(&vectors, outcome) && has_members(&modified, outcome))
+    }
+
+    // What an apply changes, done in this way.
+    fn changes(
+        &self,
+        alloc: Global,
+        way: Way,
+        apply: &Apply<'_>,
+        vectors: &Vectors,
+        scratch: &mut Scratch,
+    ) -> io::Result<Changes> {
+        let size = i64::try_from(self.set.len()).unwrap_or(0);
+        let sizes = [i64::from(self.vertices), size];
+        Ok(match way {
+            Way::Push(_) => push(alloc, apply, &self.flat, vectors, &sizes, scratch)?,
+            Way::Pull => pull(alloc, apply, &self.flat, vectors, &sizes, scratch)?,
+            Way::Scheduled(_) => apply_edges(alloc, apply, &self.flat, vectors, &sizes, scratch)?,
+        })
     }
 
     // The vectors as the program fills them.
@@ -250,8 +320,8 @@ fn vector_of(body: &str) -> usize {
     usize::from(body.starts_with("y"))
 }
 
-fn is_kept(vertex: u32, kept: u64) -> bool {
-    (kept >> (vertex % 20)) % 2 == 0
+fn is_kept(vertex: u32, kept: u64, every: u32) -> bool {
+    vertex % every.max(1) == 0 && (kept >> (vertex % 19)) % 2 == 0
 }
 
 // Whether the last set that the slow run shows has the members of a set.

@@ -1,0 +1,5 @@
+pub mod Filtered
+pub mod Bits
+pub mod Inserted
+pub mod ColumnFolds
+pub mod Walked

@@ -1,0 +1,16 @@
+use Rattle.std.proofs.Common.{◌≡◌, ℕ, List, length}
+use Rattle.edge_fold.specs.Between.{firsts}
+use Rattle.edge_fold.proofs.Walks.{HasWalked}
+use Rattle.flat_snapshot.specs.Neighbours.{AreDegreesOf}
+use Rattle.tree_batch.specs.Neighbours.{sources_of}
+use Rattle.pull_engine.specs.Columns.{columns}
+use Rattle.pull_engine.specs.Words.{passes_words}
+use Rattle.pull_engine.proofs.destinations.fold_all.Given as goal
+
+-- some of the vertices with edges to them are done, and the rest is left
+abbrev pub invariant-destinations : goal.invariant-destinations
+invariant-destinations l = record {
+  room : length l.block ≡ 128;
+  walked : (ds : List (ℕ × ℕ)) × AreDegreesOf (λ u. sources_of u l.flat.edges) ds
+      × HasWalked l.functions (columns (passes_words l.from) l.flat.edges) (firsts ds) (firsts l.destination-iterator) l.fn.scratch l.scratch;
+}

@@ -1,0 +1,31 @@
+use Rattle.std.proofs.Common.{rules, ◌≡◌, ◌++◌, [], ap, take}
+use Rattle.edge_fold.specs.Given.{column}
+use Rattle.edge_fold.proofs.Walks.{folded_along, parts_of, walk_done, walk_more}
+use Rattle.tree_batch.specs.Neighbours.{sources_of}
+use Rattle.pull_engine.specs.Words.{passes_words}
+use Rattle.pull_engine.proofs.ColumnFolds.{column_from, column_in_row}
+use Rattle.pull_engine.proofs.destinations.fold_column.Goals as goal
+
+pub rounds-preserved : goal.rounds-preserved
+rounds-preserved c =
+    let a = c.args in
+    let from = passes_words a.from in
+    let d = a.destination in
+    let n = c.fill-count.result in
+    let part = take n c.fill-count.new.block in
+    let rest = c.fill-count.new.self in
+    let kept = take c.keep_sources-kept.result c.keep_sources-kept.new.block in
+    let then = c.fold_into.new.self in
+    record {
+      room = search rules;
+      walked = walk_more a.functions (column_from from d) (sources_of d a.flat.now.edges) c.rounds.neighbours part rest a.scratch.now c.rounds.scratch then
+          (column_in_row from d) (parts_of n c.rounds.neighbours part rest c.fill-count.ensures.filled c.fill-count.ensures.rest)
+          (λ m steps es are has. folded_along m steps (es ++ column d kept) (es ++ column_from from d part) then (ap (λ ks. es ++ column d ks) c.keep_sources-kept.ensures.kept) (c.in_ok-fold_into.ensures m steps es are has))
+          c.rounds.invariant.walked;
+    }
+
+pub returns : goal.returns
+returns c =
+    let a = c.args in
+    let none : c.rounds.neighbours ≡ [] = search rules in
+    walk_done a.functions (column_from (passes_words a.from) a.destination) (sources_of a.destination a.flat.now.edges) c.rounds.neighbours a.scratch.now c.rounds.scratch none c.rounds.invariant.walked

@@ -1,0 +1,16 @@
+use Rattle.std.proofs.Common.{◌≡◌, length}
+use Rattle.edge_fold.proofs.Walks.{HasWalked}
+use Rattle.tree_batch.specs.Neighbours.{sources_of}
+use Rattle.pull_engine.specs.Words.{passes_words}
+use Rattle.pull_engine.proofs.ColumnFolds.{column_from}
+use Rattle.pull_engine.proofs.destinations.fold_column.Given as goal
+
+-- some neighbours are folded, and the rest is left
+abbrev pub invariant-rounds : goal.invariant-rounds
+invariant-rounds l = record {
+  room : length l.block ≡ 128;
+  walked : HasWalked l.functions (column_from (passes_words l.from) l.destination) (sources_of l.destination l.flat.edges) l.neighbours l.fn.scratch l.scratch;
+}
+
+abbrev pub decreases-rounds : goal.decreases-rounds
+decreases-rounds l = length l.neighbours

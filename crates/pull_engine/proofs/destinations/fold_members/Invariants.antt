@@ -1,0 +1,12 @@
+use Rattle.std.proofs.Common.{◌≡◌, length}
+use Rattle.edge_fold.proofs.Walks.{HasWalked}
+use Rattle.pull_engine.specs.Columns.{columns}
+use Rattle.pull_engine.specs.Words.{passes_words}
+use Rattle.pull_engine.proofs.destinations.fold_members.Given as goal
+
+-- some members are done, and the rest is left
+abbrev pub invariant-destinations : goal.invariant-destinations
+invariant-destinations l = record {
+  room : length l.block ≡ 128;
+  walked : HasWalked l.functions (columns (passes_words l.from) l.flat.edges) l.set.members l.destination-iterator l.fn.scratch l.scratch;
+}

@@ -1,0 +1,44 @@
+use Rattle.std.proofs.Common.{rules, ◌≡◌, ℕ, ◌++◌, [], ◌∷◌, List, length, refl, ap, sym, ◌∙◌, arith}
+use Rattle.std.specs.List.{filter}
+use Rattle.edge_fold.specs.Between.{firsts}
+use Rattle.edge_fold.proofs.Walks.{folded_along, pass_more}
+use Rattle.pull_engine.specs.Columns.{columns}
+use Rattle.pull_engine.specs.Words.{passes_words}
+use Rattle.pull_engine.proofs.ColumnFolds.{columns-append}
+use Rattle.pull_engine.proofs.Walked.{passed_all}
+use Rattle.pull_engine.proofs.destinations.fold_passing.Goals as goal
+
+empty : (xs : List ℕ) → length xs ≡ 0 → xs ≡ []
+empty [] e = refl
+empty (x ∷ xs) e = absurd (omega (arith, e))
+
+pub returns-then-is_empty : goal.returns-then-is_empty
+returns-then-is_empty c =
+    let a = c.args in
+    let w = c.parts.invariant.walked in
+    let taken = c.in_ok-take_part.ensures in
+    let few : length c.take_part.new.part.items ≡ 0 = search rules in
+    let part_none = empty c.take_part.new.part.items few in
+    let none = sym taken.taken ∙ ap (λ ks. ks ++ firsts c.take_part.new.vertices) part_none ∙ ap firsts (taken.none part_none) in
+    passed_all a.to a.functions (passes_words a.from) a.flat.now.edges w.0 (firsts c.parts.destinations) a.scratch.now c.parts.scratch none w.1 w.2
+
+pub parts-preserved : goal.parts-preserved
+parts-preserved c =
+    let a = c.args in
+    let from = passes_words a.from in
+    let edges = a.flat.now.edges in
+    let w = c.parts.invariant.walked in
+    let kept = c.keep_passing.new.kept.items in
+    record {
+      room = search rules;
+      walked = (
+        w.0,
+        w.1,
+        pass_more a.to a.functions (columns from edges) (firsts w.0) (firsts c.parts.destinations) c.take_part.new.part.items (firsts c.take_part.new.vertices) kept a.scratch.now c.parts.scratch c.fold_columns.new.scratch (columns-append from edges)
+            c.in_ok-take_part.ensures.taken
+            (λ m steps test are is. c.in_ok-keep_passing.ensures.kept m test are.vectors are.sizes is ∙ ap (λ (ks : List ℕ). ks ++ filter test c.deref.result.now) c.clear.ensures.items ∙ ap (filter test) c.deref.ensures.value)
+            (λ m steps es are has. folded_along m steps (es ++ columns from edges c.deref-in-parts.result.now) (es ++ columns from edges kept) c.fold_columns.new.scratch (ap (λ (ks : List ℕ). es ++ columns from edges ks) c.deref-in-parts.ensures.value)
+            (c.in_ok-fold_columns.ensures m steps es are (c.in_ok-keep_passing.ensures.folded m steps es has)))
+            w.2,
+      );
+    }

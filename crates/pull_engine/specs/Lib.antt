@@ -1,0 +1,4 @@
+pub mod Applied
+pub mod Work
+pub mod Words
+pub mod Columns

@@ -1,0 +1,103 @@
+//! A whole apply, into the destinations.
+ghost use Rattle.std.specs.Prelude.{◌≡◌, ℕ, Bool, List, IfOk};
+ghost use Rattle.typed_tree.specs.StepTree.{StepsTree};
+ghost use Rattle.algorithm_meaning.specs.EdgeApply.{is_member};
+ghost use Rattle.algorithm_meaning.specs.State.{StateValue};
+ghost use Rattle.edge_fold.specs.Between.{edges_between};
+ghost use Rattle.edge_fold.specs.Changed.{AreApart};
+ghost use Rattle.edge_fold.specs.Ends.{IsEndTest};
+ghost use Rattle.edge_fold.specs.Folded.{AreFunctions};
+ghost use Rattle.pull_engine.specs.Applied.{AreChangesOf, AreChangesOn};
+ghost use Rattle.pull_engine.specs.Words.{passes_words};
+
+use crate::destinations::fold_to;
+use crate::passing::passing_set;
+use edge_fold::{Functions, Scratch};
+use flat_snapshot::Flat;
+use kernels::{Apply, End};
+use std::alloc::{AllocError, Global};
+use vectors::{Changes, Vectors};
+use vertex_sets::{Form, VertexSet};
+
+/// What an apply of edge functions changes, where it goes over the destinations and their sources: for each vector that
+/// a function has given something one list of changes, by ascending vertices, and a vector without one does not change.
+/// It promises so for each vector that has an entry for each vertex and to which the functions give by one reduction,
+/// in the words of [`push_engine::push`]. `sizes` are the sizes of the vertex sets by their places. The vectors stay as
+/// they are, and so does the graph. The scratch serves any apply after this one, whatever became of it.
+///
+/// It takes time in proportion to the vertices with edges to them and to those edges, or, where the destinations are
+/// members of a set, to these and the edges to them. A filter of sources is run for each vertex, and sources that are
+/// members of a list or of flags are put into bits first.
+///
+/// The only error is out of memory.
+pub fn pull(
+    alloc: Global,
+    apply: &Apply<'_>,
+    flat: &Flat,
+    vectors: &Vectors,
+    sizes: &[i64],
+    scratch: &mut Scratch,
+) -> Result<Changes, AllocError>
+    ensures once { IfOk result (λ c. AreApart c.vectors.items) }
+    ensures changes { IfOk result (λ c. AreChangesOf apply.now flat.now vectors.now.vectors sizes.now c.vectors.items) }
+{
+    let functions = Functions {
+        first: apply.first,
+        second: apply.second,
+        vectors,
+        sizes,
+        vertices: flat.vertices(),
+    };
+    let Some(end) = apply.from else {
+        return pull_from(alloc, flat, functions, None, apply.to, scratch);
+    };
+    match end {
+        End::Members(set) => pull_members(alloc, flat, functions, set, apply.to, scratch),
+        End::Filter(_) => {
+            let passing = passing_set(alloc, functions, end, scratch)?;
+            pull_members(alloc, flat, functions, &passing, apply.to, scratch)
+        }
+    }
+}
+
+/// The same from the members of a set.
+fn pull_members(
+    alloc: Global,
+    flat: &Flat,
+    functions: Functions<'_>,
+    set: &VertexSet,
+    to: Option<End<'_>>,
+    scratch: &mut Scratch,
+) -> Result<Changes, AllocError>
+    ensures once { IfOk result (λ c. AreApart c.vectors.items) }
+    ensures changes { IfOk result (λ c. (m : StateValue) (steps : List StepsTree) (from test : ℕ → Bool) → AreFunctions functions.entry m steps → functions.entry.vertices ≡ flat.now.vertices
+        → ((v : ℕ) → from v ≡ is_member v set.now.members) → IsEndTest to.entry m test → AreChangesOn flat.now.vertices (edges_between from test flat.now.edges) m steps c.vectors.items) }
+{
+    if let Some(words) = set.words() {
+        return pull_from(alloc, flat, functions, Some(words), to, scratch);
+    }
+    let bits = set.to_form(alloc, Form::Bits)?;
+    let Some(words) = bits.words() else {
+        unreachable!();
+    };
+    pull_from(alloc, flat, functions, Some(words), to, scratch)
+}
+
+/// The same from the sources whose bits are set, or from all.
+fn pull_from(
+    alloc: Global,
+    flat: &Flat,
+    functions: Functions<'_>,
+    from: Option<&[u64]>,
+    to: Option<End<'_>>,
+    scratch: &mut Scratch,
+) -> Result<Changes, AllocError>
+    ensures once { IfOk result (λ c. AreApart c.vectors.items) }
+    ensures changes { IfOk result (λ c. (m : StateValue) (steps : List StepsTree) (test : ℕ → Bool) → AreFunctions functions.entry m steps → functions.entry.vertices ≡ flat.now.vertices → IsEndTest to.entry m test
+        → AreChangesOn flat.now.vertices (edges_between (passes_words from.entry) test flat.now.edges) m steps c.vectors.items) }
+{
+    scratch.begin();
+    fold_to(alloc, flat, functions, from, to, scratch)?;
+    let changes = scratch.changes(alloc, functions, None)?;
+    Ok(changes)
+}

@@ -1,0 +1,162 @@
+//! Going over the destinations of an apply.
+ghost use Rattle.std.specs.Prelude.{◌≡◌, ℕ, ◌++◌, Bool, true, List, [], length, OnOk};
+ghost use Rattle.std.specs.List.{filter};
+ghost use Rattle.typed_tree.specs.StepTree.{StepsTree};
+ghost use Rattle.algorithm_meaning.specs.EdgeApply.{is_member};
+ghost use Rattle.algorithm_meaning.specs.State.{StateValue};
+ghost use Rattle.edge_fold.specs.Between.{edges_between};
+ghost use Rattle.edge_fold.specs.Ends.{IsEndTest, IsTest};
+ghost use Rattle.edge_fold.specs.Folded.{AreFunctions, HasFolded};
+ghost use Rattle.edge_fold.specs.Given.{column};
+ghost use Rattle.tree_batch.specs.Neighbours.{sources_of};
+ghost use Rattle.pull_engine.specs.Columns.{columns};
+ghost use Rattle.pull_engine.specs.Words.{passes_words};
+
+use crate::members::keep_sources;
+use edge_fold::{Functions, Scratch};
+use flat_snapshot::Flat;
+use kernels::End;
+use push_engine::take_part;
+use std::alloc::{AllocError, Global};
+use vertex_sets::VertexSet;
+
+/// Folds the edges from the sources whose bits are set to the destinations that an end lets through; words or an end
+/// that are not given let all through.
+pub(crate) fn fold_to(
+    alloc: Global,
+    flat: &Flat,
+    functions: Functions<'_>,
+    from: Option<&[u64]>,
+    to: Option<End<'_>>,
+    scratch: &mut Scratch,
+) -> Result<(), AllocError>
+    ensures { OnOk result ((m : StateValue) (steps : List StepsTree) (test : ℕ → Bool) → AreFunctions functions.entry m steps → IsEndTest to.entry m test
+        → HasFolded m steps [] scratch.old → HasFolded m steps (edges_between (passes_words from.entry) test flat.now.edges) scratch.new) }
+{
+    let mut block = [0u32; 128];
+    let Some(end) = to else {
+        fold_all(alloc, flat, functions, from, &mut block, scratch)?;
+        return Ok(());
+    };
+    match end {
+        End::Members(set) => {
+            fold_members(alloc, flat, functions, from, set, &mut block, scratch)?;
+            Ok(())
+        }
+        End::Filter(_) => {
+            fold_passing(alloc, flat, functions, from, end, &mut block, scratch)?;
+            Ok(())
+        }
+    }
+}
+
+/// The same to all destinations.
+fn fold_all(
+    alloc: Global,
+    flat: &Flat,
+    functions: Functions<'_>,
+    from: Option<&[u64]>,
+    block: &mut [u32],
+    scratch: &mut Scratch,
+) -> Result<(), AllocError>
+    requires { length block.old ≡ 128 }
+    ensures { OnOk result ((m : StateValue) (steps : List StepsTree) (to : ℕ → Bool) → AreFunctions functions.entry m steps → ((v : ℕ) → to v ≡ true)
+        → HasFolded m steps [] scratch.old → HasFolded m steps (edges_between (passes_words from.entry) to flat.now.edges) scratch.new) }
+{
+    'destinations: for (destination, _) in flat.destinations() {
+        fold_column(alloc, flat, functions, from, destination, block, scratch)?;
+    }
+    Ok(())
+}
+
+/// The same to the members of a set.
+fn fold_members(
+    alloc: Global,
+    flat: &Flat,
+    functions: Functions<'_>,
+    from: Option<&[u64]>,
+    set: &VertexSet,
+    block: &mut [u32],
+    scratch: &mut Scratch,
+) -> Result<(), AllocError>
+    requires { length block.old ≡ 128 }
+    ensures { OnOk result ((m : StateValue) (steps : List StepsTree) (to : ℕ → Bool) → AreFunctions functions.entry m steps → ((v : ℕ) → to v ≡ is_member v set.now.members)
+        → HasFolded m steps [] scratch.old → HasFolded m steps (edges_between (passes_words from.entry) to flat.now.edges) scratch.new) }
+{
+    'destinations: for destination in set.iter() {
+        fold_column(alloc, flat, functions, from, destination, block, scratch)?;
+    }
+    Ok(())
+}
+
+/// The same to the destinations that an end lets through. Each vertex with an edge to it is tested once.
+fn fold_passing(
+    alloc: Global,
+    flat: &Flat,
+    functions: Functions<'_>,
+    from: Option<&[u64]>,
+    to: End<'_>,
+    block: &mut [u32],
+    scratch: &mut Scratch,
+) -> Result<(), AllocError>
+    requires { length block.old ≡ 128 }
+    ensures { OnOk result ((m : StateValue) (steps : List StepsTree) (test : ℕ → Bool) → AreFunctions functions.entry m steps → IsTest to.entry m test
+        → HasFolded m steps [] scratch.old → HasFolded m steps (edges_between (passes_words from.entry) test flat.now.edges) scratch.new) }
+{
+    let mut destinations = flat.destinations();
+    let mut part = Vec::new(alloc);
+    let mut kept = Vec::new(alloc);
+    'parts: loop {
+        take_part(&mut destinations, &mut part)?;
+        if part.is_empty() {
+            return Ok(());
+        }
+        kept.clear();
+        scratch.keep_passing(functions, to, &part, &mut kept)?;
+        fold_columns(alloc, flat, functions, from, &kept, block, scratch)?;
+    }
+}
+
+/// The same to these destinations.
+fn fold_columns(
+    alloc: Global,
+    flat: &Flat,
+    functions: Functions<'_>,
+    from: Option<&[u64]>,
+    destinations: &[u32],
+    block: &mut [u32],
+    scratch: &mut Scratch,
+) -> Result<(), AllocError>
+    requires { length block.old ≡ 128 }
+    ensures { OnOk result ((m : StateValue) (steps : List StepsTree) (edges : List (ℕ × ℕ)) → AreFunctions functions.entry m steps
+        → HasFolded m steps edges scratch.old → HasFolded m steps (edges ++ columns (passes_words from.entry) flat.now.edges destinations.now) scratch.new) }
+{
+    'destinations: for destination in destinations {
+        fold_column(alloc, flat, functions, from, *destination, block, scratch)?;
+    }
+    Ok(())
+}
+
+/// The same to a destination.
+#[inline]
+fn fold_column(
+    alloc: Global,
+    flat: &Flat,
+    functions: Functions<'_>,
+    from: Option<&[u64]>,
+    destination: u32,
+    block: &mut [u32],
+    scratch: &mut Scratch,
+) -> Result<(), AllocError>
+    requires { length block.old ≡ 128 }
+    ensures { OnOk result ((m : StateValue) (steps : List StepsTree) (edges : List (ℕ × ℕ)) → AreFunctions functions.entry m steps
+        → HasFolded m steps edges scratch.old → HasFolded m steps (edges ++ column destination (filter (passes_words from.entry) (sources_of destination flat.now.edges))) scratch.new) }
+{
+    let mut neighbours = flat.in_(destination);
+    'rounds: while !neighbours.is_empty() {
+        let count = neighbours.fill(block);
+        let kept = keep_sources(from, block, count);
+        scratch.fold_into(alloc, functions, &block[..kept], destination)?;
+    }
+    Ok(())
+}

@@ -1,0 +1,65 @@
+//! The vertices that an end lets through, in bits.
+ghost use Rattle.std.specs.Prelude.{◌≡◌, ◌-◌, ◌<◌, ◌≤◌, ◌||◌, ℕ, Bool, IfOk, OnOk};
+ghost use Rattle.std.specs.List.{range_with_len};
+ghost use Rattle.algorithm_meaning.specs.EdgeApply.{is_member};
+ghost use Rattle.algorithm_meaning.specs.State.{StateValue};
+ghost use Rattle.stack_code.specs.Cells.{HasSizes};
+ghost use Rattle.edge_fold.specs.Ends.{IsTest};
+
+use edge_fold::{Functions, Scratch};
+use kernels::End;
+use std::alloc::{AllocError, Global};
+use vertex_sets::{Form, VertexSet};
+
+/// The vertices that an end lets through, as bits. Each vertex is tested once. The only error is out of memory.
+pub(crate) fn passing_set(
+    alloc: Global,
+    functions: Functions<'_>,
+    end: End<'_>,
+    scratch: &mut Scratch,
+) -> Result<VertexSet, AllocError>
+    ensures form { IfOk result (λ s. s.form ≡ Form.Bits) }
+    ensures members { IfOk result (λ s. (m : StateValue) (test : ℕ → Bool) → functions.entry.vectors.now.vectors ≡ m.vectors → HasSizes functions.entry.sizes.now m → IsTest end.entry m test
+        → (v : ℕ) → v < functions.entry.vertices → is_member v s.members ≡ test v) }
+{
+    let vertices = functions.vertices;
+    let mut set = VertexSet::empty(alloc, vertices, Form::Bits)?;
+    let mut part = Vec::new(alloc);
+    let mut kept = Vec::new(alloc);
+    let mut next = 0u32;
+    'parts: while next < vertices {
+        let stop = next + (vertices - next).min(128);
+        number_between(next, stop, &mut part)?;
+        kept.clear();
+        scratch.keep_passing(functions, end, &part, &mut kept)?;
+        insert_all(&kept, &mut set)?;
+        next = stop;
+    }
+    Ok(set)
+}
+
+/// The numbers from one on up to another, in place of what the part has.
+fn number_between(first: u32, stop: u32, part: &mut Vec<u32>) -> Result<(), AllocError>
+    requires { first ≤ stop }
+    ensures { OnOk result (part.new.items ≡ range_with_len first (stop - first)) }
+{
+    part.clear();
+    'vertices: for vertex in first..stop {
+        part.push(vertex)?;
+    }
+    Ok(())
+}
+
+/// Makes those vertices members that the set may have.
+fn insert_all(vertices: &[u32], set: &mut VertexSet) -> Result<(), AllocError>
+    ensures vertices { OnOk result (set.new.vertices ≡ set.old.vertices) }
+    ensures form { OnOk result (set.new.form ≡ set.old.form) }
+    ensures members { OnOk result ((v : ℕ) → v < set.old.vertices → is_member v set.new.members ≡ is_member v set.old.members || is_member v vertices.now) }
+{
+    'vertices: for vertex in vertices {
+        if *vertex < set.vertices() {
+            set.insert(*vertex)?;
+        }
+    }
+    Ok(())
+}
