@@ -3,6 +3,7 @@ pub mod Entries
 pub mod Folds
 pub mod Rows
 pub mod SlotRows
+pub mod JoinedSlots
 pub mod Edges
 pub mod Columns
 pub mod Findings

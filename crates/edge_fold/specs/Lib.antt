@@ -1,5 +1,6 @@
 pub mod Given
 pub mod Between
+pub mod Seeds
 pub mod Held
 pub mod Changed
 pub mod Slots

@@ -34,6 +34,7 @@ mod functions;
 mod into;
 mod joins;
 mod numbers;
+mod opening;
 mod pairs;
 mod passing;
 mod run;
@@ -43,5 +44,5 @@ mod slot;
 mod slots;
 mod together;
 
-pub use functions::Functions;
+pub use functions::{Functions, Start};
 pub use scratch::Scratch;
