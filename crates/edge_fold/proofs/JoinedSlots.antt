@@ -91,19 +91,24 @@ joined_slot f x y p r before now after was t gs is place inside few slot vector 
           ∙ kept has;
     }
 
--- edges that are joined at once, before those that wait
-pub folded_before : (f : Functions) (m : StateValue) (steps : List StepsTree) (es more : List (ℕ × ℕ)) (a b : Scratch) (x : ℕ) (r : Reduction) → waiting b.pairs ≡ waiting a.pairs
-    → HaveJoined f x r a.slots b.slots (given_on x (all_given m steps) more) → HasFoldedFor f m steps es a x r → HasFoldedFor f m steps (es ++ more) b x r
-folded_before f m steps es more a b x r same joined has = record {
+-- edges that are joined at once, before those that wait, where what is joined comes to what they give
+pub folded_before_alike : (f : Functions) (m : StateValue) (steps : List StepsTree) (es more : List (ℕ × ℕ)) (a b : Scratch) (x : ℕ) (r : Reduction) (gs : List (ℕ × ℤ)) → waiting b.pairs ≡ waiting a.pairs
+    → HaveJoined f x r a.slots b.slots gs → ((v : ℕ) (n : ℤ) → v < f.vertices → reduced_at r v n gs ≡ reduced_at r v n (given_on x (all_given m steps) more))
+    → HasFoldedFor f m steps es a x r → HasFoldedFor f m steps (es ++ more) b x r
+folded_before_alike f m steps es more a b x r gs same joined alike has = record {
   entries = λ v h l.
       let g = all_given m steps in
       let o = first_entry f x v h in
       let n = held_in_with (combined f.start r) (active a.slots) x v o in
       ap (λ (ws : List (ℕ × ℕ)). reduced_at r v (held_in_with (combined f.start r) (active b.slots) x v o) (given_on x g ws)) same
-      ∙ ap (λ (y : ℤ). reduced_at r v y (given_on x g (waiting a.pairs))) (joined.entries v h)
+      ∙ ap (λ (y : ℤ). reduced_at r v y (given_on x g (waiting a.pairs))) (joined.entries v h ∙ alike v n l)
       ∙ fold_before r v x n o g (waiting a.pairs) es more (has.entries v h l);
   reduction = joined.reduction has.reduction;
 }
+
+pub folded_before : (f : Functions) (m : StateValue) (steps : List StepsTree) (es more : List (ℕ × ℕ)) (a b : Scratch) (x : ℕ) (r : Reduction) → waiting b.pairs ≡ waiting a.pairs
+    → HaveJoined f x r a.slots b.slots (given_on x (all_given m steps) more) → HasFoldedFor f m steps es a x r → HasFoldedFor f m steps (es ++ more) b x r
+folded_before f m steps es more a b x r same joined has = folded_before_alike f m steps es more a b x r (given_on x (all_given m steps) more) same joined (λ v n l. refl) has
 
 -- edges that wait
 pub folded_later : (f : Functions) (m : StateValue) (steps : List StepsTree) (es more : List (ℕ × ℕ)) (a b : Scratch) (x : ℕ) (r : Reduction) → b.slots ≡ a.slots → waiting b.pairs ≡ waiting a.pairs ++ more
@@ -127,3 +132,11 @@ old_entries f m x v r ss gs hs old vectors has =
     let o = entry m.vectors x v in
     let then = subst (λ (k : Start). reduced_at r v (held_in_with (combined k r) ss x v (seed k (entry f.vectors.now.vectors x v) o)) gs ≡ reduced_at r v (seed k (entry f.vectors.now.vectors x v) o) hs) old has in
     subst (λ (vs : List (List ℤ)). reduced_at r v (held_in ss x v (entry vs x v)) gs ≡ reduced_at r v (entry vs x v) hs) vectors then
+
+-- new entries that began with the unit, and are combined with a number
+pub unit_entries : (f : Functions) (x v : ℕ) (h : ℤ) (r : Reduction) (ss : List Slot) (gs hs : List (ℕ × ℤ)) → f.start ≡ start.Unit
+    → reduced_at r v (held_in_with (combined f.start r) ss x v (first_entry f x v h)) gs ≡ reduced_at r v (first_entry f x v h) hs
+    → reduced_at r v (held_in_with (combined start.Unit r) ss x v h) gs ≡ reduced_at r v h hs
+unit_entries f x v h r ss gs hs unit has =
+    let o = entry f.vectors.now.vectors x v in
+    subst (λ (k : Start). reduced_at r v (held_in_with (combined k r) ss x v (seed k o h)) gs ≡ reduced_at r v (seed k o h) hs) unit has

@@ -7,5 +7,6 @@ pub mod JoinedSlots
 pub mod Edges
 pub mod Columns
 pub mod Findings
+pub mod Gathering
 pub mod Meaning
 pub mod Walks

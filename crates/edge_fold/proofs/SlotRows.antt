@@ -23,6 +23,27 @@ of_slot-append : {A : Type 0} (of : Slot → A) (ss : List Slot) (s : Slot) (x :
 of_slot-append of [] s x d clean = alike (s.vector == x) (of s) d clean
 of_slot-append of (t ∷ ts) s x d clean = ap (λ y. cond (t.vector == x) (of t) y) (of_slot-append of ts s x d clean)
 
+-- a slot behind the others has it only where there was none
+pub of_slot-push : {A : Type 0} (of : Slot → A) (ss : List Slot) (s : Slot) (x : ℕ) (d : A) → of_slot of (ss ++ s ∷ []) x d ≡ of_slot of ss x (cond (s.vector == x) (of s) d)
+of_slot-push of [] s x d = refl
+of_slot-push of (t ∷ ts) s x d = ap (λ y. cond (t.vector == x) (of t) y) (of_slot-push of ts s x d)
+
+there_at : {A : Type 0} (n m : ℕ) (own a b : A) (q : Bool) → cond q 0 (suc m) < suc n → (m < n → a ≡ b) → cond q own a ≡ cond q own b
+there_at n m own a b true l more = refl
+there_at n m own a b false l more = more (omega (arith, l))
+
+pub of_slot-there : {A : Type 0} (of : Slot → A) (ss : List Slot) (x : ℕ) (d e : A) → place_in x ss < length ss → of_slot of ss x d ≡ of_slot of ss x e
+of_slot-there of [] x d e l = absurd (omega (arith, l))
+of_slot-there of (s ∷ ss) x d e l = there_at (length ss) (place_in x ss) (of s) (of_slot of ss x d) (of_slot of ss x e) (s.vector == x) l (of_slot-there of ss x d e)
+
+none_at : {A : Type 0} (n m : ℕ) (own a d : A) (q : Bool) → suc n ≤ cond q 0 (suc m) → (n ≤ m → a ≡ d) → cond q own a ≡ d
+none_at n m own a d true l more = absurd (omega (arith, l))
+none_at n m own a d false l more = more (omega (arith, l))
+
+pub of_slot-none : {A : Type 0} (of : Slot → A) (ss : List Slot) (x : ℕ) (d : A) → length ss ≤ place_in x ss → of_slot of ss x d ≡ d
+of_slot-none of [] x d l = refl
+of_slot-none of (s ∷ ss) x d l = none_at (length ss) (place_in x ss) (of s) (of_slot of ss x d) d (s.vector == x) l (of_slot-none of ss x d)
+
 -- it is the first of its vector, where there was none
 none_here : (n m : ℕ) (b : Bool) → suc n ≤ cond b 0 (suc m) → b ≡ false
 none_here n m true h = absurd (omega (arith, h))

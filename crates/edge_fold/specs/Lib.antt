@@ -5,5 +5,6 @@ pub mod Held
 pub mod Changed
 pub mod Slots
 pub mod Folded
+pub mod Gathered
 pub mod Ends
 pub mod Together

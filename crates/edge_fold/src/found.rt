@@ -15,7 +15,7 @@ ghost use Rattle.edge_fold.specs.declared.functions.Functions.{Functions};
 ghost use Rattle.edge_fold.specs.declared.functions.Start.TheVariants.{OldEntry};
 ghost use Rattle.edge_fold.specs.Ends.{IsEndTest, IsTest};
 ghost use Rattle.edge_fold.specs.Folded.{AreFunctions, HasFolded};
-ghost use Rattle.edge_fold.specs.Held.{held};
+ghost use Rattle.edge_fold.specs.Held.{held, held_with};
 ghost use Rattle.edge_fold.specs.Slots.{active, held_in};
 
 use crate::functions::Functions;
@@ -145,7 +145,7 @@ fn found_among(
     block: &mut Block,
 ) -> Result<VectorChanges, AllocError>
     requires ascending { IsNonDecreasing touched.now }
-    requires covers { (v : ℕ) (old : ℤ) → v < functions.vertices → ¬ Contains touched.now v → held slot.now.entries v old ≡ old }
+    requires covers { (combine : ℤ → ℤ → ℤ) (v : ℕ) (h : ℤ) → v < functions.vertices → ¬ Contains touched.now v → held_with combine slot.now.entries v h ≡ h }
     ensures vector { IfOk result (λ c. c.vector ≡ slot.now.vector) }
     ensures changes { IfOk result (λ c. (m : StateValue) (test : ℕ → Bool) → functions.entry.vectors.now.vectors ≡ m.vectors → HasSizes functions.entry.sizes.now m → IsEndTest to.entry m test
         → c.changes.items ≡ changed functions.entry.vertices (entry m.vectors slot.now.vector)
@@ -172,7 +172,7 @@ fn all_changes(
     touched: &[u32],
 ) -> Result<Vec<Change>, AllocError>
     requires ascending { IsNonDecreasing touched.now }
-    requires covers { (v : ℕ) (old : ℤ) → v < functions.vertices → ¬ Contains touched.now v → held slot.now.entries v old ≡ old }
+    requires covers { (combine : ℤ → ℤ → ℤ) (v : ℕ) (h : ℤ) → v < functions.vertices → ¬ Contains touched.now v → held_with combine slot.now.entries v h ≡ h }
     ensures { IfOk result (λ cs. cs.items ≡ changed functions.entry.vertices (entry functions.entry.vectors.now.vectors slot.now.vector)
         (λ v. held slot.now.entries v (entry functions.entry.vectors.now.vectors slot.now.vector v))) }
 {
@@ -193,7 +193,7 @@ fn passing_changes(
     block: &mut Block,
 ) -> Result<Vec<Change>, AllocError>
     requires ascending { IsNonDecreasing touched.now }
-    requires covers { (v : ℕ) (old : ℤ) → v < functions.vertices → ¬ Contains touched.now v → held slot.now.entries v old ≡ old }
+    requires covers { (combine : ℤ → ℤ → ℤ) (v : ℕ) (h : ℤ) → v < functions.vertices → ¬ Contains touched.now v → held_with combine slot.now.entries v h ≡ h }
     ensures { IfOk result (λ cs. (m : StateValue) (test : ℕ → Bool) → functions.entry.vectors.now.vectors ≡ m.vectors → HasSizes functions.entry.sizes.now m → IsTest end.entry m test
         → cs.items ≡ changed functions.entry.vertices (entry m.vectors slot.now.vector)
         (λ v. if test v then held slot.now.entries v (entry m.vectors slot.now.vector v) else entry m.vectors slot.now.vector v)) }

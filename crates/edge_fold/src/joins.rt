@@ -1,6 +1,7 @@
 //! Joining what is given to vertices.
 ghost use Rattle.std.specs.Prelude.{◌≡◌, ℕ, ℤ, pos, ◌==◌, ◌∷◌, [], ◌<◌, ◌≤◌, true, false, Contains, length, slice_index_or, vec_len, IfOk, OnOk};
 ghost use Rattle.std.specs.List.Sorted.{IsNonDecreasing};
+ghost use Rattle.edge_fold.specs.Gathered.{numbers_of};
 ghost use Rattle.edge_fold.specs.Given.{each_given, for_vector, given_from};
 ghost use Rattle.edge_fold.specs.Held.{AreJoined, held, held_with, room};
 ghost use Rattle.kernels.specs.Gifts.{gift_at, truth_at};
@@ -12,6 +13,7 @@ use algorithm_meaning::reduce;
 use kernels::Gift;
 use std::alloc::{AllocError, Global};
 use syntax::Reduction;
+use vectors::Change;
 
 impl Accumulator {
     /// No new entry, and room for no vertex.
@@ -145,6 +147,21 @@ impl Accumulator {
         Ok(())
     }
 
+    /// Reduces the entries at vertices with a number each. The only error is out of memory, after which a part was done.
+    pub(crate) fn join_changes(
+        &mut self,
+        reduction: Reduction,
+        opening: Opening<'_>,
+        numbers: &[Change],
+    ) -> Result<(), AllocError>
+        ensures { OnOk result (AreJoined opening.entry reduction self.old self.new (numbers_of numbers.now)) }
+    {
+        'numbers: for change in numbers {
+            self.join(reduction, opening, change.vertex, change.number)?;
+        }
+        Ok(())
+    }
+
     /// Reduces the entry at a vertex with a number.
     #[inline(always)]
     fn join(
@@ -217,7 +234,7 @@ impl Accumulator {
     /// Puts the vertices that were given something in ascending order.
     pub(crate) fn sort_touched(&mut self)
         ensures ascending { IsNonDecreasing self.new.touched.items }
-        ensures held { (v : ℕ) (old : ℤ) → held self.new v old ≡ held self.old v old }
+        ensures held { (combine : ℤ → ℤ → ℤ) (v : ℕ) (h : ℤ) → held_with combine self.new v h ≡ held_with combine self.old v h }
     {
         self.touched.sort_unstable();
     }
@@ -242,7 +259,7 @@ impl Accumulator {
     /// only error is out of memory.
     pub(crate) fn walk(&self, alloc: Global, vertices: u32) -> Result<Vec<u32>, AllocError>
         ensures ascending { IfOk result (λ found. IsNonDecreasing found.items) }
-        ensures covers { IfOk result (λ found. (v : ℕ) (old : ℤ) → v < vertices → ¬ Contains found.items v → held self.now v old ≡ old) }
+        ensures covers { IfOk result (λ found. (combine : ℤ → ℤ → ℤ) (v : ℕ) (h : ℤ) → v < vertices → ¬ Contains found.items v → held_with combine self.now v h ≡ h) }
     {
         let mut found = Vec::with_capacity(alloc, self.touched.len())?;
         'vertices: for vertex in 0..vertices {
@@ -254,7 +271,7 @@ impl Accumulator {
     /// The vertices that were given something. All others have no new entry.
     pub(crate) fn touched(&self) -> &[u32]
         ensures list { result.now ≡ self.now.touched.items }
-        ensures covers { (v : ℕ) (old : ℤ) → ¬ Contains result.now v → held self.now v old ≡ old }
+        ensures covers { (combine : ℤ → ℤ → ℤ) (v : ℕ) (h : ℤ) → ¬ Contains result.now v → held_with combine self.now v h ≡ h }
     {
         &self.touched
     }

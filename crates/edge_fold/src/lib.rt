@@ -31,6 +31,7 @@ mod accumulator;
 mod changes;
 mod found;
 mod functions;
+mod gathered;
 mod into;
 mod joins;
 mod numbers;
@@ -45,4 +46,5 @@ mod slots;
 mod together;
 
 pub use functions::{Functions, Start};
+pub use gathered::{Gathered, GatheredIn};
 pub use scratch::Scratch;

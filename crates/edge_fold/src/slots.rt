@@ -1,5 +1,6 @@
 //! The vectors that an apply writes, found by their places.
 ghost use Rattle.std.specs.Prelude.{◌≡◌, ℕ, ℤ, ◌==◌, if◌then◌else◌, ◌<◌, ◌≤◌, [], length, vec_len, IfOk, OnOk};
+ghost use Rattle.edge_fold.specs.Gathered.{IsGatheredBy, gathered_for, numbers_of};
 ghost use Rattle.edge_fold.specs.Given.{IsBy, each_given, given_from};
 ghost use Rattle.edge_fold.specs.Held.{held_with};
 ghost use Rattle.edge_fold.specs.Slots.{HaveJoined, active, held_in_with, place_in, reduction_in};
@@ -9,6 +10,7 @@ ghost use Rattle.syntax.specs.declared.statement.Reduction.{Reduction};
 
 use crate::accumulator::Accumulator;
 use crate::functions::{Functions, Sent};
+use crate::gathered::GatheredIn;
 use crate::joins::gives_some;
 use crate::slot::{Slot, Slots};
 use kernels::{Block, EdgeKernel, Gift};
@@ -28,7 +30,7 @@ impl Slots {
 
     /// The place of a vector's slot. One that is new has this reduction, and no entry yet. The only error is out of
     /// memory, after which the entries are as they were.
-    pub(crate) fn place(
+    fn place(
         &mut self,
         alloc: Global,
         vector: usize,
@@ -150,6 +152,41 @@ impl Slots {
         let opening = functions.opening(sent.vector);
         let entries = &mut self.slots[place].entries;
         entries.join_number(sent.reduction, opening, sent.number, destinations)?;
+        Ok(())
+    }
+
+    /// Reduces the entries of vectors with what was gathered for them. The only error is out of memory, after which a
+    /// part was done.
+    pub(crate) fn join_gathered(
+        &mut self,
+        alloc: Global,
+        functions: Functions<'_>,
+        gathered: &[GatheredIn],
+    ) -> Result<(), AllocError>
+        ensures { OnOk result ((x : ℕ) (r : Reduction) → IsGatheredBy r x gathered.now → HaveJoined functions.entry x r self.old self.new (gathered_for x gathered.now)) }
+    {
+        'vectors: for of_vector in gathered {
+            self.join_numbers(alloc, functions, of_vector)?;
+        }
+        Ok(())
+    }
+
+    /// The same of one vector.
+    fn join_numbers(
+        &mut self,
+        alloc: Global,
+        functions: Functions<'_>,
+        of_vector: &GatheredIn,
+    ) -> Result<(), AllocError>
+        ensures { OnOk result ((x : ℕ) (r : Reduction) → (of_vector.now.vector ≡ x → of_vector.now.reduction ≡ r)
+            → HaveJoined functions.entry x r self.old self.new (if of_vector.now.vector == x then numbers_of of_vector.now.numbers.items else [])) }
+    {
+        let vector = of_vector.vector;
+        let reduction = of_vector.reduction;
+        let place = self.place(alloc, vector, reduction, functions.vertices)?;
+        let opening = functions.opening(vector);
+        let entries = &mut self.slots[place].entries;
+        entries.join_changes(reduction, opening, &of_vector.numbers)?;
         Ok(())
     }
 
