@@ -9,4 +9,5 @@ pub mod Columns
 pub mod Findings
 pub mod Gathering
 pub mod Meaning
+pub mod Orders
 pub mod Walks
