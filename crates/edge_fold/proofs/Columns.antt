@@ -8,7 +8,7 @@ use Rattle.syntax.specs.declared.statement.Reduction.{Reduction}
 use Rattle.algorithm_meaning.specs.Arithmetic.{reduced}
 use Rattle.algorithm_meaning.proofs.Reductions.{reductions}
 use Rattle.edge_fold.specs.declared.functions.Sent.{Sent}
-use Rattle.edge_fold.specs.Given.{IsBy, column, each_given, for_vector, given_on, pairs, reduced_at}
+use Rattle.edge_fold.specs.Given.{column, each_given, for_vector, given_on, pairs, reduced_at}
 use Rattle.edge_fold.specs.Together.{IsReducedTo, IsTogether, numbers_given, reduced_with}
 use Rattle.edge_fold.proofs.Edges.{pairs-append}
 
@@ -49,21 +49,15 @@ given_by_column x y d r number g same (s ∷ ss) =
 equal : (m n : ℕ) → (m == n) ≡ true → m ≡ n
 equal m n h = grind (arith, nat_tests)
 
-joined_at : (r s : Reduction) (x y d v : ℕ) (n h : ℤ) (gs : List (ℕ × ℤ)) (b : Bool) → (y == x) ≡ b → IsBy r x ((y, s, n) ∷ []) → reduced_at s v h ((d, n) ∷ []) ≡ reduced_at s v h gs
-    → cond b (reduced_at s v h ((d, n) ∷ [])) h ≡ reduced_at r v h (cond b gs [])
-joined_at r s x y d v n h gs true e by all = all ∙ ap (λ (t : Reduction). reduced_at t v h gs) (by.0 (equal y x e))
-joined_at r s x y d v n h gs false e by all = refl
-
-other_number : (r s : Reduction) (x y : ℕ) (n m : ℤ) → IsBy r x ((y, s, n) ∷ []) → IsBy r x ((y, s, m) ∷ [])
-other_number r s x y n m by = (by.0, tt)
+joined_at : (r s : Reduction) (v : ℕ) (h : ℤ) (gs hs : List (ℕ × ℤ)) (b : Bool) → (b ≡ true → s ≡ r) → reduced_at s v h gs ≡ reduced_at s v h hs → reduced_at r v h (cond b gs []) ≡ reduced_at r v h (cond b hs [])
+joined_at r s v h gs hs true own all = subst (λ (t : Reduction). reduced_at t v h gs ≡ reduced_at t v h hs) (own refl) all
+joined_at r s v h gs hs false own all = refl
 
 -- to join what is sent is to join what the edges give
-pub together_by_one : (r : Reduction) (x d v : ℕ) (h : ℤ) (sent : Sent) (g : ℕ × ℕ → List (ℕ × Reduction × ℤ)) (ss : List ℕ) → IsTogether sent g ss → IsBy r x (g (0, d))
-    → cond (sent.vector == x) (reduced_at sent.reduction v h (each_given sent.number (d ∷ []))) h ≡ reduced_at r v h (given_on x g (column d ss))
-together_by_one r x d v h sent g ss is by =
-    let own = subst (λ (gs : List (ℕ × Reduction × ℤ)). IsBy r x gs) (is.each 0 d) by in
-    joined_at r sent.reduction x sent.vector d v sent.number h (numbers_given is.number d ss) (sent.vector == x) refl
-    (other_number r sent.reduction x sent.vector (is.number 0) sent.number own) (is.all d v h)
+pub together_given : (r : Reduction) (x d v : ℕ) (h : ℤ) (sent : Sent) (g : ℕ × ℕ → List (ℕ × Reduction × ℤ)) (ss : List ℕ) → IsTogether sent g ss → (sent.vector ≡ x → sent.reduction ≡ r)
+    → reduced_at r v h (cond (sent.vector == x) (each_given sent.number (d ∷ [])) []) ≡ reduced_at r v h (given_on x g (column d ss))
+together_given r x d v h sent g ss is own =
+    joined_at r sent.reduction v h (each_given sent.number (d ∷ [])) (numbers_given is.number d ss) (sent.vector == x) (λ at. own (equal sent.vector x at)) (is.all d v h)
     ∙ sym (ap (λ (gs : List (ℕ × ℤ)). reduced_at r v h gs) (given_by_column x sent.vector d sent.reduction is.number g is.each ss))
 
 -- a column in two parts

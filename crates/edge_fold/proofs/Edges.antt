@@ -1,6 +1,5 @@
 -- What is given on edges.
 use Rattle.std.proofs.Common.{◌≡◌, ℕ, suc, ◌+◌, ◌<◌, ◌≤◌, ◌==◌, ℤ, Bool, true, false, cond, List, [], ◌∷◌, ◌++◌, length, get_or, take, drop, replicate, append_assoc, Option, Some, None, refl, sym, ap, ◌∙◌, subst, arith}
-use Rattle.std.proofs.lemmas.Bool.Decides.{nat_tests}
 use Rattle.std.proofs.lemmas.List.{length-take-le, map-append, take-append-drop}
 use Rattle.std.proofs.lemmas.Slice.{take-put_mid}
 use borrow.Rule.Slice.PartMut.{put_mid}
@@ -10,7 +9,7 @@ use Rattle.typed_tree.specs.StepTree.{StepsTree}
 use Rattle.kernels.specs.declared.kernel.EdgeKernel.{EdgeKernel}
 use Rattle.kernels.specs.Kernels.{IsEdgeKernel}
 use Rattle.edge_fold.specs.Folded.{AreKernels}
-use Rattle.edge_fold.specs.Given.{IsBy, each_given, for_vector, given_from, given_on, pairs, reduced_at, row}
+use Rattle.edge_fold.specs.Given.{each_given, for_vector, given_from, given_on, pairs, reduced_at, row}
 use Rattle.edge_fold.proofs.Folds.{for_vector-append, given_on-append, reduced_at-append, reduced_at-swap}
 
 -- what a block's pairs are given, by the pairs
@@ -90,20 +89,6 @@ sent_row x y source r n g same [] = nothing_either n (y == x)
 sent_row x y source r n g same (d ∷ ds) =
     ap (λ (gs : List (ℕ × Reduction × ℤ)). for_vector x d gs ++ given_on x g (row source ds)) (same d)
     ∙ one_for x y r n d ds (y == x) (given_on x g (row source ds)) (sent_row x y source r n g same ds)
-
-equal : (m n : ℕ) → (m == n) ≡ true → m ≡ n
-equal m n h = grind (arith, nat_tests)
-
-sent_at : (r s : Reduction) (x y v : ℕ) (n h : ℤ) (ds : List ℕ) (b : Bool) → (y == x) ≡ b → IsBy r x ((y, s, n) ∷ [])
-    → cond b (reduced_at s v h (each_given n ds)) h ≡ reduced_at r v h (cond b (each_given n ds) [])
-sent_at r s x y v n h ds true e by = ap (λ (t : Reduction). reduced_at t v h (each_given n ds)) (by.0 (equal y x e))
-sent_at r s x y v n h ds false e by = refl
-
-pub sent_by_one : (r s : Reduction) (x y source v : ℕ) (n h : ℤ) (g : ℕ × ℕ → List (ℕ × Reduction × ℤ)) → ((d : ℕ) → g (source, d) ≡ (y, s, n) ∷ []) → IsBy r x (g (source, 0)) → (ds : List ℕ)
-    → cond (y == x) (reduced_at s v h (each_given n ds)) h ≡ reduced_at r v h (given_on x g (row source ds))
-sent_by_one r s x y source v n h g same by ds =
-    sent_at r s x y v n h ds (y == x) refl (subst (λ (gs : List (ℕ × Reduction × ℤ)). IsBy r x gs) (same 0) by)
-    ∙ sym (ap (λ (gs : List (ℕ × ℤ)). reduced_at r v h gs) (sent_row x y source s n g same ds))
 
 -- one function, or two
 pub record IsOne (first : EdgeKernel) (steps : List StepsTree) : Type 0 where

@@ -7,9 +7,9 @@ use Rattle.std.proofs.lemmas.List.{get_or-set_same, get_or-set_other}
 use Rattle.syntax.specs.declared.statement.Reduction.{Reduction}
 use Rattle.algorithm_meaning.specs.Arithmetic.{reduced}
 
--- the entry at a vertex that has the stamp, else the old one
-abbrev entry_in : (values : List ℤ) (stamps : List ℕ) (stamp v : ℕ) → ℤ → ℤ
-entry_in values stamps stamp v old = if get_or stamps v 0 == stamp then get_or values v (pos 0) else old
+-- a number combined with the entry at a vertex that has the stamp, else the number
+abbrev entry_in : (ℤ → ℤ → ℤ) → (values : List ℤ) (stamps : List ℕ) (stamp v : ℕ) → ℤ → ℤ
+entry_in combine values stamps stamp v h = if get_or stamps v 0 == stamp then combine h (get_or values v (pos 0)) else h
 
 same : (m n : ℕ) → (m == n) ≡ true → m ≡ n
 same m n h = grind (arith, nat_tests)
@@ -20,24 +20,24 @@ apart m n h e = absurd (false≢true (sym h ∙ ap (λ k. k == n) e ∙ grind (a
 same_test : (n : ℕ) → (n == n) ≡ true
 same_test n = grind (arith, nat_tests)
 
-again_at : (r : Reduction) (values : List ℤ) (stamps : List ℕ) (stamp p v : ℕ) (x old n : ℤ) (b : Bool) → (p == v) ≡ b → p < length values → get_or stamps p 0 ≡ stamp
-    → x ≡ reduced r (get_or values p (pos 0)) n
-    → entry_in (set values p x) stamps stamp v old ≡ cond b (reduced r (entry_in values stamps stamp v old) n) (entry_in values stamps stamp v old)
-again_at r values stamps stamp p v x old n true t l s e =
+again_at : (r : Reduction) (combine : ℤ → ℤ → ℤ) (values : List ℤ) (stamps : List ℕ) (stamp p v : ℕ) (x h n : ℤ) (b : Bool) → (p == v) ≡ b → p < length values → get_or stamps p 0 ≡ stamp
+    → combine h x ≡ reduced r (combine h (get_or values p (pos 0))) n
+    → entry_in combine (set values p x) stamps stamp v h ≡ cond b (reduced r (entry_in combine values stamps stamp v h) n) (entry_in combine values stamps stamp v h)
+again_at r combine values stamps stamp p v x h n true t l s e =
     let i = same p v t in
     let here : get_or stamps v 0 ≡ stamp = ap (λ k. get_or stamps k 0) (sym i) ∙ s in
     let stamped : (get_or stamps v 0 == stamp) ≡ true = ap (λ k. k == stamp) here ∙ same_test stamp in
     let new : get_or (set values p x) v (pos 0) ≡ x = ap (λ k. get_or (set values p x) k (pos 0)) (sym i) ∙ get_or-set_same values p x (pos 0) l in
     let old_here : get_or values p (pos 0) ≡ get_or values v (pos 0) = ap (λ k. get_or values k (pos 0)) i in
-    ap (λ (c : Bool). if c then get_or (set values p x) v (pos 0) else old) stamped ∙ new ∙ e
-    ∙ ap (λ (y : ℤ). reduced r y n) (old_here ∙ ap (λ (c : Bool). if c then get_or values v (pos 0) else old) (sym stamped))
-again_at r values stamps stamp p v x old n false t l s e =
-    ap (λ (y : ℤ). if get_or stamps v 0 == stamp then y else old) (get_or-set_other values p v x (pos 0) (λ e. apart p v t (sym e)))
+    ap (λ (c : Bool). if c then combine h (get_or (set values p x) v (pos 0)) else h) stamped ∙ ap (combine h) new ∙ e
+    ∙ ap (λ (y : ℤ). reduced r y n) (ap (combine h) old_here ∙ ap (λ (c : Bool). if c then combine h (get_or values v (pos 0)) else h) (sym stamped))
+again_at r combine values stamps stamp p v x h n false t l s e =
+    ap (λ (y : ℤ). if get_or stamps v 0 == stamp then combine h y else h) (get_or-set_other values p v x (pos 0) (λ e. apart p v t (sym e)))
 
-pub joined_again : (r : Reduction) (values : List ℤ) (stamps : List ℕ) (stamp p v : ℕ) (x old n : ℤ) → p < length values → get_or stamps p 0 ≡ stamp
-    → x ≡ reduced r (get_or values p (pos 0)) n
-    → entry_in (set values p x) stamps stamp v old ≡ if p == v then reduced r (entry_in values stamps stamp v old) n else entry_in values stamps stamp v old
-joined_again r values stamps stamp p v x old n l s e = again_at r values stamps stamp p v x old n (p == v) refl l s e
+pub joined_again : (r : Reduction) (combine : ℤ → ℤ → ℤ) (values : List ℤ) (stamps : List ℕ) (stamp p v : ℕ) (x h n : ℤ) → p < length values → get_or stamps p 0 ≡ stamp
+    → combine h x ≡ reduced r (combine h (get_or values p (pos 0))) n
+    → entry_in combine (set values p x) stamps stamp v h ≡ if p == v then reduced r (entry_in combine values stamps stamp v h) n else entry_in combine values stamps stamp v h
+joined_again r combine values stamps stamp p v x h n l s e = again_at r combine values stamps stamp p v x h n (p == v) refl l s e
 
 -- stamps after one was set to the greatest
 stays_at : (stamps : List ℕ) (stamp p v : ℕ) (b : Bool) → (p == v) ≡ b → p < length stamps → ((u : ℕ) → get_or stamps u 0 ≤ stamp) → get_or (set stamps p stamp) v 0 ≤ stamp
@@ -64,25 +64,26 @@ pub still_listed : (stamps touched : List ℕ) (stamp p v : ℕ) → ((u : ℕ) 
 still_listed stamps touched stamp p v covers absent = listed_at stamps touched stamp p v (p == v) refl covers absent
 
 -- the entry at a vertex without the stamp
-new_at : (r : Reduction) (o : ℕ → ℤ) (values : List ℤ) (stamps : List ℕ) (stamp p v : ℕ) (x n : ℤ) (b : Bool) → (p == v) ≡ b → p < length values → p < length stamps → (get_or stamps p 0 == stamp) ≡ false
-    → x ≡ reduced r (o p) n
-    → entry_in (set values p x) (set stamps p stamp) stamp v (o v) ≡ cond b (reduced r (entry_in values stamps stamp v (o v)) n) (entry_in values stamps stamp v (o v))
-new_at r o values stamps stamp p v x n true t l m off e =
+new_at : (r : Reduction) (combine : ℤ → ℤ → ℤ) (o : ℕ → ℤ) (values : List ℤ) (stamps : List ℕ) (stamp p v : ℕ) (x n : ℤ) (b : Bool) → (p == v) ≡ b → p < length values → p < length stamps → (get_or stamps p 0 == stamp) ≡ false
+    → combine (o p) x ≡ reduced r (o p) n
+    → entry_in combine (set values p x) (set stamps p stamp) stamp v (o v) ≡ cond b (reduced r (entry_in combine values stamps stamp v (o v)) n) (entry_in combine values stamps stamp v (o v))
+new_at r combine o values stamps stamp p v x n true t l m off e =
     let i = same p v t in
     let stamped = ap (λ k. get_or (set stamps p stamp) k 0 == stamp) (sym i) ∙ ap (λ k. k == stamp) (get_or-set_same stamps p stamp 0 m) ∙ same_test stamp in
     let new = ap (λ k. get_or (set values p x) k (pos 0)) (sym i) ∙ get_or-set_same values p x (pos 0) l in
-    let was = ap (λ (c : Bool). if c then get_or values v (pos 0) else o v) (ap (λ k. get_or stamps k 0 == stamp) (sym i) ∙ off) in
-    ap (λ (c : Bool). if c then get_or (set values p x) v (pos 0) else o v) stamped ∙ new ∙ e
+    let was = ap (λ (c : Bool). if c then combine (o v) (get_or values v (pos 0)) else o v) (ap (λ k. get_or stamps k 0 == stamp) (sym i) ∙ off) in
+    ap (λ (c : Bool). if c then combine (o v) (get_or (set values p x) v (pos 0)) else o v) stamped
+    ∙ ap (combine (o v)) new ∙ ap (λ k. combine (o k) x) (sym i) ∙ e
     ∙ ap (λ k. reduced r (o k) n) i ∙ ap (λ (y : ℤ). reduced r y n) (sym was)
-new_at r o values stamps stamp p v x n false t l m off e =
+new_at r combine o values stamps stamp p v x n false t l m off e =
     let other = λ (w : v ≡ p). apart p v t (sym w) in
-    ap (λ (y : ℤ). if get_or (set stamps p stamp) v 0 == stamp then y else o v) (get_or-set_other values p v x (pos 0) other)
-    ∙ ap (λ k. if k == stamp then get_or values v (pos 0) else o v) (get_or-set_other stamps p v stamp 0 other)
+    ap (λ (y : ℤ). if get_or (set stamps p stamp) v 0 == stamp then combine (o v) y else o v) (get_or-set_other values p v x (pos 0) other)
+    ∙ ap (λ k. if k == stamp then combine (o v) (get_or values v (pos 0)) else o v) (get_or-set_other stamps p v stamp 0 other)
 
-pub joined_new : (r : Reduction) (o : ℕ → ℤ) (values : List ℤ) (stamps : List ℕ) (stamp p v : ℕ) (x n : ℤ) → p < length values → p < length stamps → (get_or stamps p 0 == stamp) ≡ false
-    → x ≡ reduced r (o p) n
-    → entry_in (set values p x) (set stamps p stamp) stamp v (o v) ≡ if p == v then reduced r (entry_in values stamps stamp v (o v)) n else entry_in values stamps stamp v (o v)
-joined_new r o values stamps stamp p v x n l m off e = new_at r o values stamps stamp p v x n (p == v) refl l m off e
+pub joined_new : (r : Reduction) (combine : ℤ → ℤ → ℤ) (o : ℕ → ℤ) (values : List ℤ) (stamps : List ℕ) (stamp p v : ℕ) (x n : ℤ) → p < length values → p < length stamps → (get_or stamps p 0 == stamp) ≡ false
+    → combine (o p) x ≡ reduced r (o p) n
+    → entry_in combine (set values p x) (set stamps p stamp) stamp v (o v) ≡ if p == v then reduced r (entry_in combine values stamps stamp v (o v)) n else entry_in combine values stamps stamp v (o v)
+joined_new r combine o values stamps stamp p v x n l m off e = new_at r combine o values stamps stamp p v x n (p == v) refl l m off e
 
 pub unequal : (m n : ℕ) → ¬ (m ≡ n) → (m == n) ≡ false
 unequal m n h = grind (arith, nat_tests)

@@ -3,8 +3,11 @@ pub mod Entries
 pub mod Folds
 pub mod Rows
 pub mod SlotRows
+pub mod JoinedSlots
 pub mod Edges
 pub mod Columns
 pub mod Findings
+pub mod Gathering
 pub mod Meaning
+pub mod Orders
 pub mod Walks

@@ -11,8 +11,8 @@ use Rattle.edge_fold.specs.declared.scratch.Scratch.{Scratch}
 use Rattle.edge_fold.specs.Ends.{IsTest}
 use Rattle.edge_fold.specs.Folded.{AreFunctions, HasFolded}
 
-pub folded_along : (m : StateValue) (steps : List StepsTree) (es fs : List (ℕ × ℕ)) (s : Scratch) → es ≡ fs → HasFolded m steps es s → HasFolded m steps fs s
-folded_along m steps es fs s e has = subst (λ (ks : List (ℕ × ℕ)). HasFolded m steps ks s) e has
+pub folded_along : (f : Functions) (m : StateValue) (steps : List StepsTree) (es fs : List (ℕ × ℕ)) (s : Scratch) → es ≡ fs → HasFolded f m steps es s → HasFolded f m steps fs s
+folded_along f m steps es fs s e has = subst (λ (ks : List (ℕ × ℕ)). HasFolded f m steps ks s) e has
 
 -- the first numbers, and what is left behind them
 pub parts_of : (n : ℕ) (all part rest : List ℕ) → part ≡ take n all → rest ≡ drop n all → part ++ rest ≡ all
@@ -20,7 +20,7 @@ parts_of n all part rest first behind = ap (λ ks. ks ++ rest) first ∙ ap (λ 
 
 -- after a call the scratch has folded these edges too
 abbrev pub FoldsMore : Functions → List (ℕ × ℕ) → (before after : Scratch) → Type 0
-FoldsMore f more s t = (m : StateValue) (steps : List StepsTree) (es : List (ℕ × ℕ)) → AreFunctions f m steps → HasFolded m steps es s → HasFolded m steps (es ++ more) t
+FoldsMore f more s t = (m : StateValue) (steps : List StepsTree) (es : List (ℕ × ℕ)) → AreFunctions f m steps → HasFolded f m steps es s → HasFolded f m steps (es ++ more) t
 
 -- the edges of numbers in a row are those of the first ones, and then those of the others
 abbrev pub InRow : (edges_of : List ℕ → List (ℕ × ℕ)) → Type 0
@@ -36,7 +36,7 @@ pub walk_begun : (f : Functions) (edges_of : List ℕ → List (ℕ × ℕ)) (al
 walk_begun f edges_of all s none = record {
   done = [];
   split = refl;
-  folded = λ m steps es are has. folded_along m steps es (es ++ edges_of []) s (sym (ap (λ ks. es ++ ks) none ∙ append-nil es)) has;
+  folded = λ m steps es are has. folded_along f m steps es (es ++ edges_of []) s (sym (ap (λ ks. es ++ ks) none ∙ append-nil es)) has;
 }
 
 pub walk_more : (f : Functions) (edges_of : List ℕ → List (ℕ × ℕ)) (all left part rest : List ℕ) (start s t : Scratch) → InRow edges_of → part ++ rest ≡ left
@@ -45,7 +45,7 @@ walk_more f edges_of all left part rest start s t in_row parts more w = record {
   done = w.done ++ part;
   split = append_assoc w.done part rest ∙ ap (λ ks. w.done ++ ks) parts ∙ w.split;
   folded = λ m steps es are has.
-      folded_along m steps ((es ++ edges_of w.done) ++ edges_of part) (es ++ edges_of (w.done ++ part)) t
+      folded_along f m steps ((es ++ edges_of w.done) ++ edges_of part) (es ++ edges_of (w.done ++ part)) t
       (append_assoc es (edges_of w.done) (edges_of part) ∙ ap (λ ks. es ++ ks) (sym (in_row w.done part)))
       (more m steps (es ++ edges_of w.done) are (w.folded m steps es are has));
 }
@@ -53,12 +53,12 @@ walk_more f edges_of all left part rest start s t in_row parts more w = record {
 pub walk_done : (f : Functions) (edges_of : List ℕ → List (ℕ × ℕ)) (all left : List ℕ) (start s : Scratch) → left ≡ [] → HasWalked f edges_of all left start s → FoldsMore f (edges_of all) start s
 walk_done f edges_of all left start s none w m steps es are has =
     let whole = sym (append-nil w.done) ∙ ap (λ ks. w.done ++ ks) (sym none) ∙ w.split in
-    folded_along m steps (es ++ edges_of w.done) (es ++ edges_of all) s (ap (λ ks. es ++ edges_of ks) whole) (w.folded m steps es are has)
+    folded_along f m steps (es ++ edges_of w.done) (es ++ edges_of all) s (ap (λ ks. es ++ edges_of ks) whole) (w.folded m steps es are has)
 
 -- the same where only those that an end lets through bring edges
 abbrev pub FoldsPassing : End → Functions → (edges_of : List ℕ → List (ℕ × ℕ)) → List ℕ → (before after : Scratch) → Type 0
 FoldsPassing end f edges_of us s t = (m : StateValue) (steps : List StepsTree) (test : ℕ → Bool) (es : List (ℕ × ℕ)) → AreFunctions f m steps → IsTest end m test
-    → HasFolded m steps es s → HasFolded m steps (es ++ edges_of (filter test us)) t
+    → HasFolded f m steps es s → HasFolded f m steps (es ++ edges_of (filter test us)) t
 
 pub record HasPassed (end : End) (f : Functions) (edges_of : List ℕ → List (ℕ × ℕ)) (all left : List ℕ) (start s : Scratch) : Type 0 where
   pub done : List ℕ
@@ -69,7 +69,7 @@ pub pass_begun : (end : End) (f : Functions) (edges_of : List ℕ → List (ℕ 
 pass_begun end f edges_of all s none = record {
   done = [];
   split = refl;
-  folded = λ m steps test es are is has. folded_along m steps es (es ++ edges_of []) s (sym (ap (λ ks. es ++ ks) none ∙ append-nil es)) has;
+  folded = λ m steps test es are is has. folded_along f m steps es (es ++ edges_of []) s (sym (ap (λ ks. es ++ ks) none ∙ append-nil es)) has;
 }
 
 pub pass_more : (end : End) (f : Functions) (edges_of : List ℕ → List (ℕ × ℕ)) (all left part rest kept : List ℕ) (start s t : Scratch) → InRow edges_of → part ++ rest ≡ left
@@ -79,7 +79,7 @@ pass_more end f edges_of all left part rest kept start s t in_row parts are_kept
   done = w.done ++ part;
   split = append_assoc w.done part rest ∙ ap (λ ks. w.done ++ ks) parts ∙ w.split;
   folded = λ m steps test es are is has.
-      folded_along m steps ((es ++ edges_of (filter test w.done)) ++ edges_of kept) (es ++ edges_of (filter test (w.done ++ part))) t
+      folded_along f m steps ((es ++ edges_of (filter test w.done)) ++ edges_of kept) (es ++ edges_of (filter test (w.done ++ part))) t
       (append_assoc es (edges_of (filter test w.done)) (edges_of kept)
       ∙ ap (λ ks. es ++ ks) (ap (λ ks. edges_of (filter test w.done) ++ edges_of ks) (are_kept m steps test are is)
       ∙ sym (in_row (filter test w.done) (filter test part)) ∙ ap edges_of (sym (filter-append test w.done part))))
@@ -90,4 +90,4 @@ pub pass_done : (end : End) (f : Functions) (edges_of : List ℕ → List (ℕ �
     → FoldsPassing end f edges_of all start s
 pass_done end f edges_of all left start s none w m steps test es are is has =
     let whole = sym (append-nil w.done) ∙ ap (λ ks. w.done ++ ks) (sym none) ∙ w.split in
-    folded_along m steps (es ++ edges_of (filter test w.done)) (es ++ edges_of (filter test all)) s (ap (λ ks. es ++ edges_of (filter test ks)) whole) (w.folded m steps test es are is has)
+    folded_along f m steps (es ++ edges_of (filter test w.done)) (es ++ edges_of (filter test all)) s (ap (λ ks. es ++ edges_of (filter test ks)) whole) (w.folded m steps test es are is has)

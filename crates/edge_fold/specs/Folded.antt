@@ -1,10 +1,9 @@
 -- What a scratch has folded.
-use Rattle.std.specs.Prelude.{◌≡◌, ℕ, Option, Some, None, List, [], ◌∷◌, take}
+use Rattle.std.specs.Prelude.{◌≡◌, ℕ, ◌<◌, ℤ, Option, Some, None, List, [], ◌∷◌, take}
 use Rattle.std.specs.Borrow.{Bor}
 use Rattle.syntax.specs.declared.statement.Reduction.{Reduction}
 use Rattle.typed_tree.specs.StepTree.{StepsTree}
 use Rattle.algorithm_meaning.specs.State.{StateValue}
-use Rattle.algorithm_meaning.specs.Value.{entry}
 use Rattle.kernels.specs.declared.kernel.EdgeKernel.{EdgeKernel}
 use Rattle.stack_code.specs.Cells.{HasSizes}
 use Rattle.kernels.specs.Kernels.{IsEdgeKernel}
@@ -12,7 +11,8 @@ use Rattle.edge_fold.specs.declared.functions.Functions.{Functions}
 use Rattle.edge_fold.specs.declared.pairs.Pairs.{Pairs}
 use Rattle.edge_fold.specs.declared.scratch.Scratch.{Scratch}
 use Rattle.edge_fold.specs.Given.{IsReducedBy, all_given, given_on, pairs, reduced_at}
-use Rattle.edge_fold.specs.Slots.{active, held_in}
+use Rattle.edge_fold.specs.Seeds.{combined, first_entry}
+use Rattle.edge_fold.specs.Slots.{active, held_in_with, reduction_in}
 
 -- the kernels are those of these functions, in order
 abbrev pub AreKernels : EdgeKernel → Option (Bor EdgeKernel) → List StepsTree → Type 0
@@ -31,9 +31,14 @@ pub record AreFunctions (f : Functions) (m : StateValue) (steps : List StepsTree
 abbrev pub waiting : Pairs → List (ℕ × ℕ)
 waiting p = pairs (take p.count p.sources) (take p.count p.destinations)
 
--- the new entries reduced with what the pairs that wait give are the old ones reduced with what these edges give, for
--- each vector to which the functions give by one reduction
-abbrev pub HasFolded : StateValue → List StepsTree → List (ℕ × ℕ) → Scratch → Type 0
-HasFolded m steps edges s = (x : ℕ) (r : Reduction) → IsReducedBy r x m steps → (v : ℕ)
-    → reduced_at r v (held_in (active s.slots) x v (entry m.vectors x v)) (given_on x (all_given m steps) (waiting s.pairs))
-    ≡ reduced_at r v (entry m.vectors x v) (given_on x (all_given m steps) edges)
+-- for a vector to which the functions give by one reduction: the new entries of the graph's vertices, reduced with what the
+-- pairs that wait give, are the first ones reduced with what these edges give
+pub record HasFoldedFor (f : Functions) (m : StateValue) (steps : List StepsTree) (edges : List (ℕ × ℕ)) (s : Scratch) (x : ℕ) (r : Reduction) : Type 0 where
+  pub entries : (v : ℕ) (h : ℤ) → v < f.vertices
+      → reduced_at r v (held_in_with (combined f.start r) (active s.slots) x v (first_entry f x v h)) (given_on x (all_given m steps) (waiting s.pairs))
+      ≡ reduced_at r v (first_entry f x v h) (given_on x (all_given m steps) edges)
+  pub reduction : reduction_in (active s.slots) x r ≡ r
+
+-- so it is for each such vector
+abbrev pub HasFolded : Functions → StateValue → List StepsTree → List (ℕ × ℕ) → Scratch → Type 0
+HasFolded f m steps edges s = (x : ℕ) (r : Reduction) → IsReducedBy r x m steps → HasFoldedFor f m steps edges s x r

@@ -1,11 +1,24 @@
 -- What an accumulator has.
-use Rattle.std.specs.Prelude.{ℕ, ℤ, pos, ◌==◌, if◌then◌else◌, slice_index_or, vec_len}
+use Rattle.std.specs.Prelude.{◌≡◌, ℕ, ℤ, pos, ◌==◌, if◌then◌else◌, List, slice_index_or, vec_len}
+use Rattle.syntax.specs.declared.statement.Reduction.{Reduction}
 use Rattle.edge_fold.specs.declared.accumulator.Accumulator.{Accumulator}
+use Rattle.edge_fold.specs.declared.opening.Opening.{Opening}
+use Rattle.edge_fold.specs.Given.{reduced_at}
+use Rattle.edge_fold.specs.Seeds.{combined, opening_seed, start_of}
+
+-- a number combined with the new entry at a vertex, or the number where nothing was given
+abbrev pub held_with : (ℤ → ℤ → ℤ) → Accumulator → ℕ → ℤ → ℤ
+held_with combine a v h = if slice_index_or a.stamps.items v 0 == a.stamp then combine h (slice_index_or a.values.items v (pos 0)) else h
 
 -- the new entry at a vertex, or this one where nothing was given
 abbrev pub held : Accumulator → ℕ → ℤ → ℤ
-held a v old = if slice_index_or a.stamps.items v 0 == a.stamp then slice_index_or a.values.items v (pos 0) else old
+held a v old = held_with (λ h y. y) a v old
 
 -- for how many vertices there is room
 abbrev pub room : Accumulator → ℕ
 room a = vec_len a.stamps
+
+-- after a join an accumulator has what was given to vertices, too
+abbrev pub AreJoined : Opening → Reduction → (before after : Accumulator) → List (ℕ × ℤ) → Type 0
+AreJoined o r a b gs = (v : ℕ) (h : ℤ) → held_with (combined (start_of o) r) b v (opening_seed o v h)
+    ≡ reduced_at r v (held_with (combined (start_of o) r) a v (opening_seed o v h)) gs

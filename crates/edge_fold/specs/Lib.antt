@@ -1,8 +1,10 @@
 pub mod Given
 pub mod Between
+pub mod Seeds
 pub mod Held
 pub mod Changed
 pub mod Slots
 pub mod Folded
+pub mod Gathered
 pub mod Ends
 pub mod Together

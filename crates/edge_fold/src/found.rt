@@ -11,9 +11,11 @@ ghost use Rattle.algorithm_meaning.specs.Value.{entry};
 ghost use Rattle.stack_code.specs.Cells.{HasSizes};
 ghost use Rattle.edge_fold.specs.Changed.{AreApart, changed, changes_of, changes_or, is_named};
 ghost use Rattle.vectors.specs.declared.change.Change.{Change};
+ghost use Rattle.edge_fold.specs.declared.functions.Functions.{Functions};
+ghost use Rattle.edge_fold.specs.declared.functions.Start.TheVariants.{OldEntry};
 ghost use Rattle.edge_fold.specs.Ends.{IsEndTest, IsTest};
 ghost use Rattle.edge_fold.specs.Folded.{AreFunctions, HasFolded};
-ghost use Rattle.edge_fold.specs.Held.{held};
+ghost use Rattle.edge_fold.specs.Held.{held, held_with};
 ghost use Rattle.edge_fold.specs.Slots.{active, held_in};
 
 use crate::functions::Functions;
@@ -26,7 +28,7 @@ use vectors::{Change, Changes, VectorChanges};
 
 impl Scratch {
     /// What the edges that were folded change, at the vertices that an end lets through; one that is not given lets all
-    /// through. There is one list for each vector that a function has given something, and a vector without one does
+    /// through. It promises so where new entries began with the old ones. There is one list for each vector that a function has given something, and a vector without one does
     /// not change. The next call must be `begin`. The only error is out of memory.
     pub fn changes(
         &mut self,
@@ -36,7 +38,7 @@ impl Scratch {
     ) -> Result<Changes, AllocError>
         ensures once { IfOk result (λ c. AreApart c.vectors.items) }
         ensures changes { IfOk result (λ c. (m : StateValue) (steps : List StepsTree) (edges : List (ℕ × ℕ)) (test : ℕ → Bool) → AreFunctions functions.entry m steps → IsEndTest to.entry m test
-            → HasFolded m steps edges self.old → (x : ℕ) (r : Reduction) → IsGivenBy r x steps m.sets m.vectors → functions.entry.vertices ≤ length (slice_index_or m.vectors x [])
+            → HasFolded functions.entry m steps edges self.old → functions.entry.start ≡ OldEntry → (x : ℕ) (r : Reduction) → IsGivenBy r x steps m.sets m.vectors → functions.entry.vertices ≤ length (slice_index_or m.vectors x [])
             → changes_of x c.vectors.items ≡ changed functions.entry.vertices (entry m.vectors x)
             (entry (after_edges steps m.sets m.vectors (filter (λ e. test e.1) edges) m.vectors) x)) }
     {
@@ -56,7 +58,7 @@ impl Scratch {
     ) -> Result<(), AllocError>
         ensures kept { OnOk result ((m : StateValue) (test : ℕ → Bool) → functions.entry.vectors.now.vectors ≡ m.vectors → HasSizes functions.entry.sizes.now m → IsTest end.entry m test
             → kept.new.items ≡ kept.old.items ++ filter test vertices.now) }
-        ensures folded { (m : StateValue) (steps : List StepsTree) (edges : List (ℕ × ℕ)) → HasFolded m steps edges self.old → HasFolded m steps edges self.new }
+        ensures folded { (f : Functions) (m : StateValue) (steps : List StepsTree) (edges : List (ℕ × ℕ)) → HasFolded f m steps edges self.old → HasFolded f m steps edges self.new }
     {
         keep_passing(functions, end, vertices, &mut self.block, kept)?;
         Ok(())
@@ -143,7 +145,7 @@ fn found_among(
     block: &mut Block,
 ) -> Result<VectorChanges, AllocError>
     requires ascending { IsNonDecreasing touched.now }
-    requires covers { (v : ℕ) (old : ℤ) → v < functions.vertices → ¬ Contains touched.now v → held slot.now.entries v old ≡ old }
+    requires covers { (combine : ℤ → ℤ → ℤ) (v : ℕ) (h : ℤ) → v < functions.vertices → ¬ Contains touched.now v → held_with combine slot.now.entries v h ≡ h }
     ensures vector { IfOk result (λ c. c.vector ≡ slot.now.vector) }
     ensures changes { IfOk result (λ c. (m : StateValue) (test : ℕ → Bool) → functions.entry.vectors.now.vectors ≡ m.vectors → HasSizes functions.entry.sizes.now m → IsEndTest to.entry m test
         → c.changes.items ≡ changed functions.entry.vertices (entry m.vectors slot.now.vector)
@@ -170,7 +172,7 @@ fn all_changes(
     touched: &[u32],
 ) -> Result<Vec<Change>, AllocError>
     requires ascending { IsNonDecreasing touched.now }
-    requires covers { (v : ℕ) (old : ℤ) → v < functions.vertices → ¬ Contains touched.now v → held slot.now.entries v old ≡ old }
+    requires covers { (combine : ℤ → ℤ → ℤ) (v : ℕ) (h : ℤ) → v < functions.vertices → ¬ Contains touched.now v → held_with combine slot.now.entries v h ≡ h }
     ensures { IfOk result (λ cs. cs.items ≡ changed functions.entry.vertices (entry functions.entry.vectors.now.vectors slot.now.vector)
         (λ v. held slot.now.entries v (entry functions.entry.vectors.now.vectors slot.now.vector v))) }
 {
@@ -191,7 +193,7 @@ fn passing_changes(
     block: &mut Block,
 ) -> Result<Vec<Change>, AllocError>
     requires ascending { IsNonDecreasing touched.now }
-    requires covers { (v : ℕ) (old : ℤ) → v < functions.vertices → ¬ Contains touched.now v → held slot.now.entries v old ≡ old }
+    requires covers { (combine : ℤ → ℤ → ℤ) (v : ℕ) (h : ℤ) → v < functions.vertices → ¬ Contains touched.now v → held_with combine slot.now.entries v h ≡ h }
     ensures { IfOk result (λ cs. (m : StateValue) (test : ℕ → Bool) → functions.entry.vectors.now.vectors ≡ m.vectors → HasSizes functions.entry.sizes.now m → IsTest end.entry m test
         → cs.items ≡ changed functions.entry.vertices (entry m.vectors slot.now.vector)
         (λ v. if test v then held slot.now.entries v (entry m.vectors slot.now.vector v) else entry m.vectors slot.now.vector v)) }

@@ -1,10 +1,23 @@
 //! The functions of an edge apply.
+ghost use Rattle.std.specs.Prelude.{◌≡◌, ℕ, ℤ};
+ghost use Rattle.edge_fold.specs.Seeds.{first_entry, opening_seed, start_of};
+
+use crate::opening::Opening;
 use kernels::EdgeKernel;
 use syntax::Reduction;
 use vectors::Vectors;
 
+/// What the new entry of a vertex begins with, when the vertex is first given something.
+#[derive(Clone, Copy)]
+pub enum Start {
+    /// The old entry: the new ones are those after an apply.
+    OldEntry,
+    /// The unit of the reduction: the new ones are what a piece of an apply gives, for an old entry to be reduced with.
+    Unit,
+}
+
 /// One edge function, or two that are applied together, and what they read: the vectors, the sizes of the vertex sets
-/// by their places, and how many vertices there are.
+/// by their places, and how many vertices there are. `start` says what new entries begin with.
 #[derive(Clone, Copy)]
 pub struct Functions<'a> {
     pub first: &'a EdgeKernel,
@@ -12,6 +25,21 @@ pub struct Functions<'a> {
     pub vectors: &'a Vectors,
     pub sizes: &'a [i64],
     pub vertices: u32,
+    pub start: Start,
+}
+
+impl<'a> Functions<'a> {
+    /// What the new entries of a vector begin with.
+    #[inline]
+    pub(crate) fn opening(self, vector: usize) -> Opening<'a>
+        ensures start { start_of result ≡ self.entry.start }
+        ensures seed { (v : ℕ) (h : ℤ) → opening_seed result v h ≡ first_entry self.entry vector v h }
+    {
+        match self.start {
+            Start::OldEntry => Opening::Entries(self.vectors.lane(vector)),
+            Start::Unit => Opening::Unit,
+        }
+    }
 }
 
 /// What is given on every edge from a source: the place of a vector, the reduction and the number.

@@ -20,7 +20,7 @@ impl Scratch {
     ) -> Result<(), AllocError>
         requires { length sources.now ≤ 128 }
         ensures { OnOk result ((m : StateValue) (steps : List StepsTree) (edges : List (ℕ × ℕ)) → AreFunctions functions.entry m steps
-            → HasFolded m steps edges self.old → HasFolded m steps (edges ++ column destination sources.now) self.new) }
+            → HasFolded functions.entry m steps edges self.old → HasFolded functions.entry m steps (edges ++ column destination sources.now) self.new) }
     {
         if let Some(sent) = functions.sent_together(sources) {
             self.slots
@@ -40,7 +40,7 @@ impl Scratch {
     ) -> Result<(), AllocError>
         requires { length sources.now ≤ 128 }
         ensures { OnOk result ((m : StateValue) (steps : List StepsTree) (edges : List (ℕ × ℕ)) → AreFunctions functions.entry m steps
-            → HasFolded m steps edges self.old → HasFolded m steps (edges ++ column destination sources.now) self.new) }
+            → HasFolded functions.entry m steps edges self.old → HasFolded functions.entry m steps (edges ++ column destination sources.now) self.new) }
     {
         let room = self.pairs.room();
         if sources.len() <= room {

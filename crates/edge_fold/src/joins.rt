@@ -1,24 +1,24 @@
 //! Joining what is given to vertices.
-ghost use Rattle.std.specs.Prelude.{◌≡◌, ℕ, ℤ, pos, ◌==◌, if◌then◌else◌, ◌<◌, ◌≤◌, Contains, length, slice_index_or, vec_len, IfOk, OnOk};
+ghost use Rattle.std.specs.Prelude.{◌≡◌, ℕ, ℤ, pos, ◌==◌, ◌∷◌, [], ◌<◌, ◌≤◌, true, false, Contains, length, slice_index_or, vec_len, IfOk, OnOk};
 ghost use Rattle.std.specs.List.Sorted.{IsNonDecreasing};
-ghost use Rattle.algorithm_meaning.specs.Arithmetic.{reduced};
-ghost use Rattle.edge_fold.specs.Given.{each_given, for_vector, given_from, reduced_at};
-ghost use Rattle.edge_fold.specs.Held.{held, room};
+ghost use Rattle.edge_fold.specs.Gathered.{numbers_of};
+ghost use Rattle.edge_fold.specs.Given.{each_given, for_vector, given_from};
+ghost use Rattle.edge_fold.specs.Held.{AreJoined, held, held_with, room};
 ghost use Rattle.kernels.specs.Gifts.{gift_at, truth_at};
-ghost use Rattle.vectors.specs.Lanes.{lane_entry};
 
 use crate::accumulator::Accumulator;
+use crate::opening::Opening;
 use crate::passing::keep_where;
 use algorithm_meaning::reduce;
 use kernels::Gift;
 use std::alloc::{AllocError, Global};
 use syntax::Reduction;
-use vectors::Lane;
+use vectors::Change;
 
 impl Accumulator {
     /// No new entry, and room for no vertex.
     pub(crate) fn new(alloc: Global) -> Accumulator
-        ensures { (v : ℕ) (old : ℤ) → held result v old ≡ old }
+        ensures { (combine : ℤ → ℤ → ℤ) (v : ℕ) (h : ℤ) → held_with combine result v h ≡ h }
     {
         Accumulator {
             values: Vec::new(alloc),
@@ -31,7 +31,7 @@ impl Accumulator {
     /// Forgets all entries, and makes room for so many vertices. It takes constant time where the room is there, but
     /// once in 2^32 times. The only error is out of memory, after which it has no entry too.
     pub(crate) fn begin(&mut self, vertices: u32) -> Result<(), AllocError>
-        ensures { (v : ℕ) (old : ℤ) → held self.new v old ≡ old }
+        ensures { (combine : ℤ → ℤ → ℤ) (v : ℕ) (h : ℤ) → held_with combine self.new v h ≡ h }
     {
         self.clear();
         self.make_room(vertices as usize)
@@ -39,7 +39,7 @@ impl Accumulator {
 
     /// Forgets all entries.
     fn clear(&mut self)
-        ensures { (v : ℕ) (old : ℤ) → held self.new v old ≡ old }
+        ensures { (combine : ℤ → ℤ → ℤ) (v : ℕ) (h : ℤ) → held_with combine self.new v h ≡ h }
     {
         self.touched.clear();
         if self.stamp == u32::MAX {
@@ -51,7 +51,7 @@ impl Accumulator {
 
     /// Makes room for so many vertices, where it is not there. The entries stay, after an error too.
     fn make_room(&mut self, vertices: usize) -> Result<(), AllocError>
-        ensures held { (v : ℕ) (old : ℤ) → held self.new v old ≡ held self.old v old }
+        ensures held { (combine : ℤ → ℤ → ℤ) (v : ℕ) (h : ℤ) → held_with combine self.new v h ≡ held_with combine self.old v h }
         ensures room { OnOk result (vertices ≤ room self.new) }
     {
         lengthen_numbers(&mut self.values, vertices)?;
@@ -60,21 +60,20 @@ impl Accumulator {
     }
 
     /// Reduces the entries at the destinations of pairs with a column of what is given to them. Where there is no
-    /// entry yet, the old one is read. The only error is out of memory, after which a part was done.
+    /// entry yet, one begins. The only error is out of memory, after which a part was done.
     pub(crate) fn join_column(
         &mut self,
-        old: Lane<'_>,
+        opening: Opening<'_>,
         gift: Gift<'_>,
         destinations: &[u32],
     ) -> Result<(), AllocError>
         requires { length destinations.now ≤ length gift.numbers.now }
-        ensures { OnOk result ((v : ℕ) → held self.new v (lane_entry old.entry v)
-            ≡ reduced_at gift.entry.reduction v (held self.old v (lane_entry old.entry v)) (given_from gift.entry.vector (gift_at gift.entry) 0 destinations.now)) }
+        ensures { OnOk result (AreJoined opening.entry gift.entry.reduction self.old self.new (given_from gift.entry.vector (gift_at gift.entry) 0 destinations.now)) }
     {
         match gift.reduction {
-            Reduction::Min => self.join_all(Reduction::Min, old, gift, destinations),
-            Reduction::Max => self.join_all(Reduction::Max, old, gift, destinations),
-            Reduction::Plus => self.join_all(Reduction::Plus, old, gift, destinations),
+            Reduction::Min => self.join_all(Reduction::Min, opening, gift, destinations),
+            Reduction::Max => self.join_all(Reduction::Max, opening, gift, destinations),
+            Reduction::Plus => self.join_all(Reduction::Plus, opening, gift, destinations),
         }
     }
 
@@ -82,16 +81,15 @@ impl Accumulator {
     fn join_all(
         &mut self,
         reduction: Reduction,
-        old: Lane<'_>,
+        opening: Opening<'_>,
         gift: Gift<'_>,
         destinations: &[u32],
     ) -> Result<(), AllocError>
         requires { length destinations.now ≤ length gift.numbers.now }
-        ensures { OnOk result ((v : ℕ) → held self.new v (lane_entry old.entry v)
-            ≡ reduced_at reduction v (held self.old v (lane_entry old.entry v)) (given_from gift.entry.vector (gift_at gift.entry) 0 destinations.now)) }
+        ensures { OnOk result (AreJoined opening.entry reduction self.old self.new (given_from gift.entry.vector (gift_at gift.entry) 0 destinations.now)) }
     {
         'pairs: for (k, vertex) in destinations.iter().enumerate() {
-            self.join_pair(reduction, old, gift, k, *vertex)?;
+            self.join_pair(reduction, opening, gift, k, *vertex)?;
         }
         Ok(())
     }
@@ -101,17 +99,16 @@ impl Accumulator {
     fn join_pair(
         &mut self,
         reduction: Reduction,
-        old: Lane<'_>,
+        opening: Opening<'_>,
         gift: Gift<'_>,
         place: usize,
         vertex: u32,
     ) -> Result<(), AllocError>
         requires { place < length gift.numbers.now }
-        ensures { OnOk result ((v : ℕ) → held self.new v (lane_entry old.entry v)
-            ≡ reduced_at reduction v (held self.old v (lane_entry old.entry v)) (for_vector gift.entry.vector vertex (gift_at gift.entry place))) }
+        ensures { OnOk result (AreJoined opening.entry reduction self.old self.new (for_vector gift.entry.vector vertex (gift_at gift.entry place))) }
     {
         if is_given(gift, place) {
-            self.join(reduction, old, vertex, gift.numbers[place])?;
+            self.join(reduction, opening, vertex, gift.numbers[place])?;
         }
         Ok(())
     }
@@ -121,17 +118,16 @@ impl Accumulator {
     pub(crate) fn join_number(
         &mut self,
         reduction: Reduction,
-        old: Lane<'_>,
+        opening: Opening<'_>,
         number: i64,
         destinations: &[u32],
     ) -> Result<(), AllocError>
-        ensures { OnOk result ((v : ℕ) → held self.new v (lane_entry old.entry v)
-            ≡ reduced_at reduction v (held self.old v (lane_entry old.entry v)) (each_given number destinations.now)) }
+        ensures { OnOk result (AreJoined opening.entry reduction self.old self.new (each_given number destinations.now)) }
     {
         match reduction {
-            Reduction::Min => self.join_each(Reduction::Min, old, number, destinations),
-            Reduction::Max => self.join_each(Reduction::Max, old, number, destinations),
-            Reduction::Plus => self.join_each(Reduction::Plus, old, number, destinations),
+            Reduction::Min => self.join_each(Reduction::Min, opening, number, destinations),
+            Reduction::Max => self.join_each(Reduction::Max, opening, number, destinations),
+            Reduction::Plus => self.join_each(Reduction::Plus, opening, number, destinations),
         }
     }
 
@@ -139,15 +135,29 @@ impl Accumulator {
     fn join_each(
         &mut self,
         reduction: Reduction,
-        old: Lane<'_>,
+        opening: Opening<'_>,
         number: i64,
         destinations: &[u32],
     ) -> Result<(), AllocError>
-        ensures { OnOk result ((v : ℕ) → held self.new v (lane_entry old.entry v)
-            ≡ reduced_at reduction v (held self.old v (lane_entry old.entry v)) (each_given number destinations.now)) }
+        ensures { OnOk result (AreJoined opening.entry reduction self.old self.new (each_given number destinations.now)) }
     {
         'each: for vertex in destinations {
-            self.join(reduction, old, *vertex, number)?;
+            self.join(reduction, opening, *vertex, number)?;
+        }
+        Ok(())
+    }
+
+    /// Reduces the entries at vertices with a number each. The only error is out of memory, after which a part was done.
+    pub(crate) fn join_changes(
+        &mut self,
+        reduction: Reduction,
+        opening: Opening<'_>,
+        numbers: &[Change],
+    ) -> Result<(), AllocError>
+        ensures { OnOk result (AreJoined opening.entry reduction self.old self.new (numbers_of numbers.now)) }
+    {
+        'numbers: for change in numbers {
+            self.join(reduction, opening, change.vertex, change.number)?;
         }
         Ok(())
     }
@@ -157,17 +167,16 @@ impl Accumulator {
     fn join(
         &mut self,
         reduction: Reduction,
-        old: Lane<'_>,
+        opening: Opening<'_>,
         vertex: u32,
         number: i64,
     ) -> Result<(), AllocError>
-        ensures { OnOk result ((v : ℕ) → held self.new v (lane_entry old.entry v)
-            ≡ (if vertex == v then reduced reduction (held self.old v (lane_entry old.entry v)) number else held self.old v (lane_entry old.entry v))) }
+        ensures { OnOk result (AreJoined opening.entry reduction self.old self.new ((vertex, number) ∷ [])) }
     {
         if vertex as usize >= self.stamps.len() {
-            return self.join_beyond(reduction, old, vertex, number);
+            return self.join_beyond(reduction, opening, vertex, number);
         }
-        self.join_inside(reduction, old, vertex, number)
+        self.join_inside(reduction, opening, vertex, number)
     }
 
     /// The same where there is no room yet.
@@ -176,15 +185,14 @@ impl Accumulator {
     fn join_beyond(
         &mut self,
         reduction: Reduction,
-        old: Lane<'_>,
+        opening: Opening<'_>,
         vertex: u32,
         number: i64,
     ) -> Result<(), AllocError>
-        ensures { OnOk result ((v : ℕ) → held self.new v (lane_entry old.entry v)
-            ≡ (if vertex == v then reduced reduction (held self.old v (lane_entry old.entry v)) number else held self.old v (lane_entry old.entry v))) }
+        ensures { OnOk result (AreJoined opening.entry reduction self.old self.new ((vertex, number) ∷ [])) }
     {
         self.make_room(vertex as usize + 1)?;
-        self.join_inside(reduction, old, vertex, number)
+        self.join_inside(reduction, opening, vertex, number)
     }
 
     /// The same where there is room.
@@ -192,13 +200,12 @@ impl Accumulator {
     fn join_inside(
         &mut self,
         reduction: Reduction,
-        old: Lane<'_>,
+        opening: Opening<'_>,
         vertex: u32,
         number: i64,
     ) -> Result<(), AllocError>
         requires { vertex < room self.old }
-        ensures { OnOk result ((v : ℕ) → held self.new v (lane_entry old.entry v)
-            ≡ (if vertex == v then reduced reduction (held self.old v (lane_entry old.entry v)) number else held self.old v (lane_entry old.entry v))) }
+        ensures { OnOk result (AreJoined opening.entry reduction self.old self.new ((vertex, number) ∷ [])) }
     {
         let place = vertex as usize;
         if self.stamps[place] == self.stamp {
@@ -207,7 +214,7 @@ impl Accumulator {
         }
         self.touched.push(vertex)?;
         self.stamps[place] = self.stamp;
-        self.values[place] = reduce(reduction, old.get(place), number);
+        self.values[place] = opening.first(reduction, place, number);
         Ok(())
     }
 
@@ -227,7 +234,7 @@ impl Accumulator {
     /// Puts the vertices that were given something in ascending order.
     pub(crate) fn sort_touched(&mut self)
         ensures ascending { IsNonDecreasing self.new.touched.items }
-        ensures held { (v : ℕ) (old : ℤ) → held self.new v old ≡ held self.old v old }
+        ensures held { (combine : ℤ → ℤ → ℤ) (v : ℕ) (h : ℤ) → held_with combine self.new v h ≡ held_with combine self.old v h }
     {
         self.touched.sort_unstable();
     }
@@ -252,7 +259,7 @@ impl Accumulator {
     /// only error is out of memory.
     pub(crate) fn walk(&self, alloc: Global, vertices: u32) -> Result<Vec<u32>, AllocError>
         ensures ascending { IfOk result (λ found. IsNonDecreasing found.items) }
-        ensures covers { IfOk result (λ found. (v : ℕ) (old : ℤ) → v < vertices → ¬ Contains found.items v → held self.now v old ≡ old) }
+        ensures covers { IfOk result (λ found. (combine : ℤ → ℤ → ℤ) (v : ℕ) (h : ℤ) → v < vertices → ¬ Contains found.items v → held_with combine self.now v h ≡ h) }
     {
         let mut found = Vec::with_capacity(alloc, self.touched.len())?;
         'vertices: for vertex in 0..vertices {
@@ -264,7 +271,7 @@ impl Accumulator {
     /// The vertices that were given something. All others have no new entry.
     pub(crate) fn touched(&self) -> &[u32]
         ensures list { result.now ≡ self.now.touched.items }
-        ensures covers { (v : ℕ) (old : ℤ) → ¬ Contains result.now v → held self.now v old ≡ old }
+        ensures covers { (combine : ℤ → ℤ → ℤ) (v : ℕ) (h : ℤ) → ¬ Contains result.now v → held_with combine self.now v h ≡ h }
     {
         &self.touched
     }
@@ -307,4 +314,17 @@ fn is_given(gift: Gift<'_>, place: usize) -> bool
             None => false,
         },
     }
+}
+
+/// Whether a column gives one of the first pairs something.
+pub(crate) fn gives_some(gift: Gift<'_>, count: usize) -> bool
+    ensures some { result ≡ true → (i : ℕ) × (i < count) × (truth_at gift.entry.when i ≡ true) }
+    ensures none { result ≡ false → (i : ℕ) → i < count → truth_at gift.entry.when i ≡ false }
+{
+    'pairs: for place in 0..count {
+        if is_given(gift, place) {
+            return true;
+        }
+    }
+    false
 }

@@ -19,12 +19,13 @@ pub struct Scratch {
 impl Scratch {
     ghost use Rattle.typed_tree.specs.StepTree.{StepsTree};
     ghost use Rattle.algorithm_meaning.specs.State.{StateValue};
+    ghost use Rattle.edge_fold.specs.declared.functions.Functions.{Functions};
     ghost use Rattle.edge_fold.specs.Folded.{AreFunctions, HasFolded};
     ghost use Rattle.edge_fold.specs.Given.{row};
 
     /// Memory for applies, of which none is taken yet.
     pub fn new(alloc: Global) -> Scratch
-        ensures { (m : StateValue) (steps : List StepsTree) → HasFolded m steps [] result }
+        ensures { (f : Functions) (m : StateValue) (steps : List StepsTree) → HasFolded f m steps [] result }
     {
         Scratch {
             slots: Slots::new(alloc),
@@ -35,7 +36,7 @@ impl Scratch {
 
     /// Begins an apply, whatever became of the one before. It takes constant time.
     pub fn begin(&mut self)
-        ensures { (m : StateValue) (steps : List StepsTree) → HasFolded m steps [] self.new }
+        ensures { (f : Functions) (m : StateValue) (steps : List StepsTree) → HasFolded f m steps [] self.new }
     {
         self.slots.used = 0;
         self.pairs.count = 0;
@@ -51,7 +52,7 @@ impl Scratch {
     ) -> Result<(), AllocError>
         requires { length destinations.now ≤ 128 }
         ensures { OnOk result ((m : StateValue) (steps : List StepsTree) (edges : List (ℕ × ℕ)) → AreFunctions functions.entry m steps
-            → HasFolded m steps edges self.old → HasFolded m steps (edges ++ row source destinations.now) self.new) }
+            → HasFolded functions.entry m steps edges self.old → HasFolded functions.entry m steps (edges ++ row source destinations.now) self.new) }
     {
         if let Some(sent) = functions.sent(source) {
             self.slots
@@ -71,7 +72,7 @@ impl Scratch {
     ) -> Result<(), AllocError>
         requires { length destinations.now ≤ 128 }
         ensures { OnOk result ((m : StateValue) (steps : List StepsTree) (edges : List (ℕ × ℕ)) → AreFunctions functions.entry m steps
-            → HasFolded m steps edges self.old → HasFolded m steps (edges ++ row source destinations.now) self.new) }
+            → HasFolded functions.entry m steps edges self.old → HasFolded functions.entry m steps (edges ++ row source destinations.now) self.new) }
     {
         let room = self.pairs.room();
         if destinations.len() <= room {
@@ -88,7 +89,7 @@ impl Scratch {
     /// Lets the kernels run over the pairs that wait. The only error is out of memory.
     pub fn flush(&mut self, alloc: Global, functions: Functions<'_>) -> Result<(), AllocError>
         ensures folded { OnOk result ((m : StateValue) (steps : List StepsTree) (edges : List (ℕ × ℕ)) → AreFunctions functions.entry m steps
-            → HasFolded m steps edges self.old → HasFolded m steps edges self.new) }
+            → HasFolded functions.entry m steps edges self.old → HasFolded functions.entry m steps edges self.new) }
         ensures none { OnOk result (self.new.pairs.count ≡ 0) }
     {
         let pairs = &self.pairs;

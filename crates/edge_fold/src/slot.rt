@@ -2,11 +2,13 @@
 ghost use Rattle.std.specs.Prelude.{◌≤◌, vec_len};
 
 use crate::accumulator::Accumulator;
+use syntax::Reduction;
 
-/// A vector that an apply writes, by its place, and its new entries.
+/// A vector that an apply writes, by its place, the reduction by which it was first given something, and its new entries.
 #[derive(Drop)]
 pub(crate) struct Slot {
     pub(crate) vector: usize,
+    pub(crate) reduction: Reduction,
     pub(crate) entries: Accumulator,
 }
 

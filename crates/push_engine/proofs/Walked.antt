@@ -27,20 +27,22 @@ row_in_row source us vs = map-append (λ d. (source, d)) us vs
 
 pub one_source : (f : Functions) (edges : List (ℕ × ℕ)) (u : ℕ) (s t : Scratch) → FoldsMore f (row u (destinations_of u edges)) s t → FoldsMore f (rows edges (u ∷ [])) s t
 one_source f edges u s t more m steps es are has =
-    folded_along m steps (es ++ row u (destinations_of u edges)) (es ++ rows edges (u ∷ [])) t (ap (λ ks. es ++ ks) (sym (append-nil (row u (destinations_of u edges))))) (more m steps es are has)
+    folded_along f m steps (es ++ row u (destinations_of u edges)) (es ++ rows edges (u ∷ [])) t (ap (λ ks. es ++ ks) (sym (append-nil (row u (destinations_of u edges))))) (more m steps es are has)
 
 one_row : (edges : List (ℕ × ℕ)) (done : List ℕ) (u : ℕ) → rows edges done ++ row u (destinations_of u edges) ≡ rows edges (done ++ u ∷ [])
 one_row edges done u = ap (λ ks. rows edges done ++ ks) (sym (append-nil (row u (destinations_of u edges)))) ∙ sym (rows-append edges done (u ∷ []))
 
 -- the edges from all sources that pass
-folded_edges : (m : StateValue) (steps : List StepsTree) (from : ℕ → Bool) (us : List ℕ) (es : List (ℕ × ℕ)) (s : Scratch) → Rises 0 us → Agree from us es
-    → HasFolded m steps (rows es us) s → HasFolded m steps (filter (λ e. from e.0) es) s
-folded_edges m steps from us es s up agree has = λ x r by v. has x r by v ∙ rows_are_edges r x v _ from us up es agree _
+folded_edges : (f : Functions) (m : StateValue) (steps : List StepsTree) (from : ℕ → Bool) (us : List ℕ) (es : List (ℕ × ℕ)) (s : Scratch) → Rises 0 us → Agree from us es
+    → HasFolded f m steps (rows es us) s → HasFolded f m steps (filter (λ e. from e.0) es) s
+folded_edges f m steps from us es s up agree has = λ x r by.
+    let was = has x r by in
+    record { entries = λ v h l. was.entries v h l ∙ rows_are_edges r x v _ from us up es agree _; reduction = was.reduction }
 
 pub walked_all : (f : Functions) (edges : List (ℕ × ℕ)) (all left : List ℕ) (start s : Scratch) (from : ℕ → Bool) → left ≡ [] → Rises 0 all → Agree from all edges → HasWalked f (rows edges) all left start s
-    → (m : StateValue) (steps : List StepsTree) → AreFunctions f m steps → HasFolded m steps [] start → HasFolded m steps (filter (λ e. from e.0) edges) s
+    → (m : StateValue) (steps : List StepsTree) → AreFunctions f m steps → HasFolded f m steps [] start → HasFolded f m steps (filter (λ e. from e.0) edges) s
 walked_all f edges all left start s from none up agree w m steps are has =
-    folded_edges m steps from all edges s up agree (walk_done f (rows edges) all left start s none w m steps [] are has)
+    folded_edges f m steps from all edges s up agree (walk_done f (rows edges) all left start s none w m steps [] are has)
 
 -- the vertices with edges
 rises_firsts : (low high : ℕ) (ds : List (ℕ × ℕ)) → Climbs low high ds → Rises low (firsts ds)
@@ -94,11 +96,11 @@ rises_filtered test low [] up = tt
 rises_filtered test low (x ∷ us) up = rises_filtered_at test low x us (test x) up.0 (rises_filtered test (x + 1) us up.1)
 
 pub passed_all : (from : End) (f : Functions) (edges ds : List (ℕ × ℕ)) (left : List ℕ) (start s : Scratch) → left ≡ [] → AreDegreesOf (λ u. destinations_of u edges) ds → HasPassed from f (rows edges) (firsts ds) left start s
-    → (m : StateValue) (steps : List StepsTree) (test : ℕ → Bool) → AreFunctions f m steps → IsTest from m test → HasFolded m steps [] start → HasFolded m steps (filter (λ e. test e.0) edges) s
+    → (m : StateValue) (steps : List StepsTree) (test : ℕ → Bool) → AreFunctions f m steps → IsTest from m test → HasFolded f m steps [] start → HasFolded f m steps (filter (λ e. test e.0) edges) s
 passed_all from f edges ds left start s none degrees w m steps test are is has =
     let neighbours = λ (u : ℕ). destinations_of u edges in
     let us = filter test (firsts ds) in
-    folded_edges m steps test us edges s (rises_filtered test 0 (firsts ds) (degrees_rise neighbours ds degrees))
+    folded_edges f m steps test us edges s (rises_filtered test 0 (firsts ds) (degrees_rise neighbours ds degrees))
     (agree_on_rows test us edges (λ u l. member_filtered test u (firsts ds) ∙ ap (λ (b : Bool). b && test u) (degree_listed neighbours ds u degrees l)))
     (pass_done from f (rows edges) (firsts ds) left start s none w m steps test [] are is has)
 

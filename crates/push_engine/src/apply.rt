@@ -14,7 +14,7 @@ ghost use Rattle.edge_fold.specs.Folded.{AreFunctions, AreKernels, HasFolded};
 ghost use Rattle.edge_fold.specs.Between.{edges_between};
 
 use crate::sources::{fold_all, fold_members, fold_passing};
-use edge_fold::{Functions, Scratch};
+use edge_fold::{Functions, Scratch, Start};
 use flat_snapshot::Flat;
 use kernels::{Apply, End};
 use schedule::Direction;
@@ -49,6 +49,7 @@ pub fn push(
         vectors,
         sizes,
         vertices: flat.vertices(),
+        start: Start::OldEntry,
     };
     scratch.begin();
     fold_from(alloc, apply, flat, functions, scratch)?;
@@ -65,7 +66,7 @@ fn fold_from(
     scratch: &mut Scratch,
 ) -> Result<(), AllocError>
     ensures { OnOk result ((m : StateValue) (steps : List StepsTree) (from : ℕ → Bool) → AreFunctions functions.entry m steps → IsEndTest apply.now.from m from
-        → HasFolded m steps [] scratch.old → HasFolded m steps (filter (λ e. from e.0) flat.now.edges) scratch.new) }
+        → HasFolded functions.entry m steps [] scratch.old → HasFolded functions.entry m steps (filter (λ e. from e.0) flat.now.edges) scratch.new) }
 {
     let mut block = [0u32; 128];
     match apply.from {
@@ -100,7 +101,7 @@ fn fold_from_end(
 ) -> Result<(), AllocError>
     requires { length block.old ≡ 128 }
     ensures { OnOk result ((m : StateValue) (steps : List StepsTree) (test : ℕ → Bool) → AreFunctions functions.entry m steps → IsTest from.entry m test
-        → HasFolded m steps [] scratch.old → HasFolded m steps (filter (λ e. test e.0) flat.now.edges) scratch.new) }
+        → HasFolded functions.entry m steps [] scratch.old → HasFolded functions.entry m steps (filter (λ e. test e.0) flat.now.edges) scratch.new) }
 {
     if let End::Members(set) = from {
         if direction != Direction::DensePush {

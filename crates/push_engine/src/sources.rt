@@ -27,7 +27,7 @@ pub(crate) fn fold_all(
 ) -> Result<(), AllocError>
     requires { length block.old ≡ 128 }
     ensures { OnOk result ((m : StateValue) (steps : List StepsTree) (from : ℕ → Bool) → AreFunctions functions.entry m steps → ((v : ℕ) → from v ≡ true)
-        → HasFolded m steps [] scratch.old → HasFolded m steps (filter (λ e. from e.0) flat.now.edges) scratch.new) }
+        → HasFolded functions.entry m steps [] scratch.old → HasFolded functions.entry m steps (filter (λ e. from e.0) flat.now.edges) scratch.new) }
 {
     'sources: for (source, _) in flat.sources() {
         fold_row(alloc, flat, functions, source, block, scratch)?;
@@ -46,7 +46,7 @@ pub(crate) fn fold_members(
 ) -> Result<(), AllocError>
     requires { length block.old ≡ 128 }
     ensures { OnOk result ((m : StateValue) (steps : List StepsTree) (from : ℕ → Bool) → AreFunctions functions.entry m steps → ((v : ℕ) → from v ≡ is_member v set.now.members)
-        → HasFolded m steps [] scratch.old → HasFolded m steps (filter (λ e. from e.0) flat.now.edges) scratch.new) }
+        → HasFolded functions.entry m steps [] scratch.old → HasFolded functions.entry m steps (filter (λ e. from e.0) flat.now.edges) scratch.new) }
 {
     'sources: for source in set.iter() {
         fold_row(alloc, flat, functions, source, block, scratch)?;
@@ -65,7 +65,7 @@ pub(crate) fn fold_passing(
 ) -> Result<(), AllocError>
     requires { length block.old ≡ 128 }
     ensures { OnOk result ((m : StateValue) (steps : List StepsTree) (test : ℕ → Bool) → AreFunctions functions.entry m steps → IsTest from.entry m test
-        → HasFolded m steps [] scratch.old → HasFolded m steps (filter (λ e. test e.0) flat.now.edges) scratch.new) }
+        → HasFolded functions.entry m steps [] scratch.old → HasFolded functions.entry m steps (filter (λ e. test e.0) flat.now.edges) scratch.new) }
 {
     let mut sources = flat.sources();
     let mut part = Vec::new(alloc);
@@ -92,7 +92,7 @@ fn fold_rows(
 ) -> Result<(), AllocError>
     requires { length block.old ≡ 128 }
     ensures { OnOk result ((m : StateValue) (steps : List StepsTree) (edges : List (ℕ × ℕ)) → AreFunctions functions.entry m steps
-        → HasFolded m steps edges scratch.old → HasFolded m steps (edges ++ rows flat.now.edges sources.now) scratch.new) }
+        → HasFolded functions.entry m steps edges scratch.old → HasFolded functions.entry m steps (edges ++ rows flat.now.edges sources.now) scratch.new) }
 {
     'sources: for source in sources {
         fold_row(alloc, flat, functions, *source, block, scratch)?;
@@ -112,7 +112,7 @@ fn fold_row(
 ) -> Result<(), AllocError>
     requires { length block.old ≡ 128 }
     ensures { OnOk result ((m : StateValue) (steps : List StepsTree) (edges : List (ℕ × ℕ)) → AreFunctions functions.entry m steps
-        → HasFolded m steps edges scratch.old → HasFolded m steps (edges ++ row source (destinations_of source flat.now.edges)) scratch.new) }
+        → HasFolded functions.entry m steps edges scratch.old → HasFolded functions.entry m steps (edges ++ row source (destinations_of source flat.now.edges)) scratch.new) }
 {
     let mut neighbours = flat.out(source);
     'rounds: while !neighbours.is_empty() {

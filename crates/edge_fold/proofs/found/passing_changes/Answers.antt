@@ -25,6 +25,6 @@ returns c m test vectors sizes is =
     (let passes = kept_passes test touched v (subst (λ (ks : List ℕ). Contains ks v) same has) in
     ap (λ (b : Bool). if b then held slot.entries v (lane v) else lane v) passes) in
     let there = λ (v : ℕ) (l : v < n) (absent : ¬ Contains c.deref.result.now v).
-    not_kept test touched v (test v) (held slot.entries v (lane v)) (lane v) refl (λ h. absent (subst (λ (ks : List ℕ). Contains ks v) (sym same) h)) (λ h. c.requires.covers v (lane v) l h) in
+    not_kept test touched v (test v) (held slot.entries v (lane v)) (lane v) refl (λ h. absent (subst (λ (ks : List ℕ). Contains ks v) (sym same) h)) (λ h. c.requires.covers (λ h y. y) v (lane v) l h) in
     c.in_ok-changes.ensures up new here there
     ∙ changed_agree lane e new (λ v. if test v then held slot.entries v (e v) else e v) old 0 n (λ v l. ap (λ (x : ℤ). if test v then held slot.entries v x else x) (old v))

@@ -1,5 +1,5 @@
-use Rattle.std.proofs.Common.{rules, [], ◌∷◌, sym}
-use Rattle.edge_fold.proofs.Walks.{walk_more}
+use Rattle.std.proofs.Common.{rules, ℕ, List, [], ◌∷◌, refl, sym, ◌∙◌, subst}
+use Rattle.edge_fold.proofs.Walks.{HasWalked, walk_begun, walk_more}
 use Rattle.vertex_sets.proofs.Ascending.{rises}
 use Rattle.push_engine.specs.Rows.{rows}
 use Rattle.push_engine.proofs.RowFolds.{agree_on_rows, rows-append}
@@ -24,3 +24,12 @@ returns c m steps from are is =
     let members = a.set.now.members in
     walked_all a.functions a.flat.now.edges members c.sources.source-iterator a.scratch.now c.sources.scratch from c.in-None.ensures.steps.0
     (rises a.set.now.vertices members c.iter-source-items.ensures.valid) (agree_on_rows from members a.flat.now.edges (λ u l. sym (is u))) c.sources.invariant.walked m steps are
+
+pub sources-init : goal.sources-init
+sources-init c =
+    let a = c.args in
+    let rows_of = rows a.flat.now.edges in
+    record {
+      room = search rules;
+      walked = subst (λ (left : List ℕ). HasWalked a.functions rows_of a.set.now.members left a.scratch.now a.scratch.now) (sym (c.into_iter-source-iterator.ensures.into_iter_gives ∙ c.iter-source-items.ensures.members)) (walk_begun a.functions rows_of a.set.now.members a.scratch.now refl);
+    }

@@ -2,7 +2,7 @@ use Rattle.std.proofs.Common.{rules, ◌≡◌, ℕ, ◌++◌, [], ◌∷◌, Li
 use Rattle.std.specs.List.{filter}
 use Rattle.edge_fold.specs.Between.{firsts}
 use Rattle.push_engine.specs.Rows.{rows}
-use Rattle.edge_fold.proofs.Walks.{folded_along, pass_more}
+use Rattle.edge_fold.proofs.Walks.{folded_along, pass_begun, pass_more}
 use Rattle.push_engine.proofs.RowFolds.{rows-append}
 use Rattle.push_engine.proofs.Walked.{passed_all}
 use Rattle.push_engine.proofs.sources.fold_passing.Goals as goal
@@ -35,8 +35,18 @@ parts-preserved c =
         pass_more a.from a.functions (rows edges) (firsts w.0) (firsts c.parts.sources) c.take_part.new.part.items (firsts c.take_part.new.vertices) kept a.scratch.now c.parts.scratch c.fold_rows.new.scratch (rows-append edges)
             c.in_ok-take_part.ensures.taken
             (λ m steps test are is. c.in_ok-keep_passing.ensures.kept m test are.vectors are.sizes is ∙ ap (λ (ks : List ℕ). ks ++ filter test c.deref.result.now) c.clear.ensures.items ∙ ap (filter test) c.deref.ensures.value)
-            (λ m steps es are has. folded_along m steps (es ++ rows edges c.deref-in-parts.result.now) (es ++ rows edges kept) c.fold_rows.new.scratch (ap (λ (ks : List ℕ). es ++ rows edges ks) c.deref-in-parts.ensures.value)
-            (c.in_ok-fold_rows.ensures m steps es are (c.in_ok-keep_passing.ensures.folded m steps es has)))
+            (λ m steps es are has. folded_along c.args.functions m steps (es ++ rows edges c.deref-in-parts.result.now) (es ++ rows edges kept) c.fold_rows.new.scratch (ap (λ (ks : List ℕ). es ++ rows edges ks) c.deref-in-parts.ensures.value)
+            (c.in_ok-fold_rows.ensures m steps es are (c.in_ok-keep_passing.ensures.folded a.functions m steps es has)))
             w.2,
       );
+    }
+
+pub parts-init : goal.parts-init
+parts-init c =
+    let a = c.args in
+    let rows_of = rows a.flat.now.edges in
+    let ds = c.sources-sources.result in
+    record {
+      room = search rules;
+      walked = (ds, c.sources-sources.ensures.degrees, pass_begun a.from a.functions rows_of (firsts ds) a.scratch.now refl);
     }

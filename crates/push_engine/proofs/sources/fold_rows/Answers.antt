@@ -13,7 +13,7 @@ sources-preserved c =
     let inside : i < length us = c.sources-test.true in
     record {
       room = search rules;
-      folded = λ m steps es are has. folded_along m steps _ (es ++ rows edges (take (i + 1) us)) c.fold_row.new.scratch (rows_next edges es us i inside)
+      folded = λ m steps es are has. folded_along c.args.functions m steps _ (es ++ rows edges (take (i + 1) us)) c.fold_row.new.scratch (rows_next edges es us i inside)
           (c.in_ok-fold_row.ensures m steps (es ++ rows edges (take i us)) are (c.sources.invariant.folded m steps es are has));
     }
 
@@ -23,4 +23,4 @@ returns c m steps es are has =
     let i = c.sources.source-index in
     let edges = c.args.flat.now.edges in
     let all : length us ≤ i = c.sources-test.false in
-    folded_along m steps (es ++ rows edges (take i us)) (es ++ rows edges us) c.sources.scratch (ap (λ ks. es ++ rows edges ks) (take_all i us all)) (c.sources.invariant.folded m steps es are has)
+    folded_along c.args.functions m steps (es ++ rows edges (take i us)) (es ++ rows edges us) c.sources.scratch (ap (λ ks. es ++ rows edges ks) (take_all i us all)) (c.sources.invariant.folded m steps es are has)

@@ -10,5 +10,5 @@ abbrev pub invariant-sources : goal.invariant-sources
 invariant-sources l = record {
   room : length l.block ≡ 128;
   folded : (m : StateValue) (steps : List StepsTree) (edges : List (ℕ × ℕ)) → AreFunctions l.functions m steps
-      → HasFolded m steps edges l.fn.scratch → HasFolded m steps (edges ++ rows l.flat.edges (take l.source-index l.sources)) l.scratch;
+      → HasFolded l.functions m steps edges l.fn.scratch → HasFolded l.functions m steps (edges ++ rows l.flat.edges (take l.source-index l.sources)) l.scratch;
 }

@@ -1,19 +1,18 @@
 use Rattle.std.proofs.Common.{◌<◌, ◌+◌, ℤ, length, drop, ap, ◌∙◌}
 use Rattle.kernels.specs.Gifts.{gift_at}
-use Rattle.vectors.specs.Lanes.{lane_entry}
 use Rattle.edge_fold.specs.Given.{given_from, reduced_at}
-use Rattle.edge_fold.specs.Held.{held}
+use Rattle.edge_fold.specs.Held.{held_with}
+use Rattle.edge_fold.specs.Seeds.{combined, opening_seed, start_of}
 use Rattle.edge_fold.proofs.Folds.{one_pair_more}
 use Rattle.edge_fold.proofs.accumulator.Accumulator.join_all.Goals as goal
 
 pub pairs-preserved : goal.pairs-preserved
-pairs-preserved c = λ v.
+pairs-preserved c = λ v h.
     let a = c.args in
-    let old = lane_entry a.old in
     let k = c.pairs.k in
     let row = gift_at a.gift in
     let ds = a.destinations.now in
     let inside : k < length ds = c.pairs-test.true in
-    ap (λ (n : ℤ). reduced_at a.reduction v n (given_from a.gift.vector row (k + 1) (drop (k + 1) ds))) (c.in_ok-join_pair.ensures v)
-    ∙ one_pair_more a.reduction v a.gift.vector (held c.pairs.self v (old v)) row k ds inside
-    ∙ c.pairs.invariant v
+    ap (λ (n : ℤ). reduced_at a.reduction v n (given_from a.gift.vector row (k + 1) (drop (k + 1) ds))) (c.in_ok-join_pair.ensures v h)
+    ∙ one_pair_more a.reduction v a.gift.vector (held_with (combined (start_of a.opening) a.reduction) c.pairs.self v (opening_seed a.opening v h)) row k ds inside
+    ∙ c.pairs.invariant v h

@@ -2,12 +2,13 @@ use Rattle.std.proofs.Common.{rules, ◌≡◌, ℕ, ◌<◌, ◌++◌, ◌∷�
 use Rattle.std.proofs.lemmas.Int.{to_z-of_z}
 use Rattle.std.proofs.lemmas.List.{get_or_default}
 use Rattle.algorithm_meaning.specs.Arithmetic.{reduced}
-use Rattle.vectors.specs.Lanes.{lane_entry}
+use Rattle.edge_fold.specs.Seeds.{combined, opening_seed, start_of}
 use Rattle.edge_fold.proofs.Entries.{joined_again, joined_new, stays_most, still_listed, unequal}
+use Rattle.edge_fold.proofs.JoinedSlots.{combined_more}
 use Rattle.edge_fold.proofs.accumulator.Accumulator.join_inside.Goals as goal
 
 pub returns-then-index-self : goal.returns-then-index-self
-returns-then-index-self c v =
+returns-then-index-self c v h =
     let now = c.args.self.now in
     let fits : FitsSigned w64 c.reduce.result = search rules in
     let inside : c.args.vertex < length now.values.items = search rules in
@@ -21,8 +22,10 @@ returns-then-index-self c v =
     let number = c.reduce.ensures
     ∙ ap (λ (y : ℤ). reduced c.args.reduction y (to_z w64 (of_z w64 c.args.number))) value
     ∙ ap (λ (y : ℤ). reduced c.args.reduction (get_or now.values.items c.args.vertex (pos 0)) y) (to_z-of_z w64 c.args.number number_fits) in
-    joined_again c.args.reduction now.values.items now.stamps.items now.stamp c.args.vertex v _ (lane_entry c.args.old v) c.args.number inside stamped
-    (to_z-of_z w64 c.reduce.result fits ∙ number)
+    let o = opening_seed c.args.opening v h in
+    let combine = combined (start_of c.args.opening) c.args.reduction in
+    joined_again c.args.reduction combine now.values.items now.stamps.items now.stamp c.args.vertex v _ o c.args.number inside stamped
+    (ap (combine o) (to_z-of_z w64 c.reduce.result fits ∙ number) ∙ combined_more (start_of c.args.opening) c.args.reduction o (get_or now.values.items c.args.vertex (pos 0)) c.args.number)
 
 pub invariant_of-self-2-clause-past : goal.invariant_of-self-2-clause-past
 invariant_of-self-2-clause-past c v =
@@ -37,18 +40,16 @@ invariant_of-self-2-clause-covers c v absent =
     still_listed now.stamps.items now.touched.items now.stamp c.args.vertex v now.covers (subst (λ (xs : List ℕ). Contains xs v → ⊥) items absent)
 
 pub returns : goal.returns
-returns c v =
+returns c v h =
     let now = c.args.self.now in
     let p = c.args.vertex in
-    let o = lane_entry c.args.old in
-    let fits : FitsSigned w64 c.reduce-2.result = search rules in
+    let o = λ (u : ℕ). opening_seed c.args.opening u h in
+    let combine = combined (start_of c.args.opening) c.args.reduction in
+    let fits : FitsSigned w64 c.first.result = search rules in
     let number_fits : FitsSigned w64 c.args.number = search rules in
-    let old_fits : FitsSigned w64 c.get.result = search rules in
     let inside : p < length now.values.items = search rules in
     let inside_stamps : p < length now.stamps.items = search rules in
     let off : ¬ (get_or now.stamps.items p 0 ≡ now.stamp) = λ h. (let e = c.index.ensures in let t = c.if-index-self.false in let any = get_or_default now.stamps.items p 0 c.index.result.now inside_stamps in t (e ∙ sym any ∙ h)) in
-    let number = c.reduce-2.ensures
-    ∙ ap (λ (y : ℤ). reduced c.args.reduction y (to_z w64 (of_z w64 c.args.number))) (to_z-of_z w64 c.get.result old_fits ∙ c.get.ensures)
+    let number = ap (combine (o p)) (to_z-of_z w64 c.first.result fits) ∙ c.first.ensures h
     ∙ ap (λ (y : ℤ). reduced c.args.reduction (o p) y) (to_z-of_z w64 c.args.number number_fits) in
-    joined_new c.args.reduction o now.values.items now.stamps.items now.stamp p v _ c.args.number inside inside_stamps (unequal (get_or now.stamps.items p 0) now.stamp off)
-    (to_z-of_z w64 c.reduce-2.result fits ∙ number)
+    joined_new c.args.reduction combine o now.values.items now.stamps.items now.stamp p v _ c.args.number inside inside_stamps (unequal (get_or now.stamps.items p 0) now.stamp off) number

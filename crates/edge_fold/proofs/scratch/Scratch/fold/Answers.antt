@@ -1,23 +1,22 @@
-use Rattle.std.proofs.Common.{◌==◌, if◌then◌else◌, ℤ, List, ap, sym, ◌∙◌}
-use Rattle.algorithm_meaning.specs.Value.{entry}
-use Rattle.edge_fold.specs.Folded.{waiting}
-use Rattle.edge_fold.specs.Given.{all_given, each_given, given_on, reduced_at, row}
-use Rattle.edge_fold.specs.Slots.{active, held_in}
-use Rattle.edge_fold.proofs.Edges.{fold_before, sent_by_one}
+use Rattle.std.proofs.Common.{◌≡◌, ◌==◌, ℕ, ℤ, List, [], ◌∷◌, cond, refl, ap, sym, subst}
+use Rattle.syntax.specs.declared.statement.Reduction.{Reduction}
+use Rattle.edge_fold.specs.Given.{IsBy, all_given, each_given, given_on, reduced_at, row}
+use Rattle.edge_fold.proofs.Edges.{sent_row}
+use Rattle.edge_fold.proofs.JoinedSlots.{folded_before, joined_alike}
 use Rattle.edge_fold.proofs.scratch.Scratch.fold.Goals as goal
 
 pub returns-in-Some : goal.returns-in-Some
-returns-in-Some c m steps edges are has x r by v =
+returns-in-Some c m steps edges are has x r by =
     let now = c.args.self.now in
+    let f = c.args.functions in
     let ds = c.args.destinations.now in
     let source = c.args.source in
     let sent = c.in-Some.sent in
     let g = all_given m steps in
-    let o = entry m.vectors x v in
-    let h = held_in (active now.slots) x v o in
-    let joined = λ (y : ℤ). if sent.vector == x then reduced_at sent.reduction v (held_in (active now.slots) x v y) (each_given sent.number ds) else held_in (active now.slots) x v y in
-    let vectors = λ (vs : List (List ℤ)). entry vs x v in
-    ap (λ (y : ℤ). reduced_at r v y (given_on x g (waiting now.pairs)))
-    (ap (held_in (active c.join_number.new.self) x v) (ap vectors (sym are.vectors)) ∙ c.in_ok-join_number.ensures x v ∙ ap joined (ap vectors are.vectors)
-    ∙ sent_by_one r sent.reduction x sent.vector source v sent.number h g (c.in-Some.ensures m steps are) (by (source, 0)) ds)
-    ∙ fold_before r v x h o g (waiting now.pairs) edges (row source ds) (has x r by v)
+    let gives = c.in-Some.ensures m steps are in
+    let own : IsBy r x ((sent.vector, sent.reduction, sent.number) ∷ []) = subst (λ (gs : List (ℕ × Reduction × ℤ)). IsBy r x gs) (gives 0) (by (source, 0)) in
+    folded_before f m steps edges (row source ds) now _ x r refl
+    (joined_alike f x r now.slots c.join_number.new.self (cond (sent.vector == x) (each_given sent.number ds) []) (given_on x g (row source ds))
+    (λ v n. sym (ap (λ gs. reduced_at r v n gs) (sent_row x sent.vector source sent.reduction sent.number g gives ds)))
+    (c.in_ok-join_number.ensures x r own.0))
+    (has x r by)

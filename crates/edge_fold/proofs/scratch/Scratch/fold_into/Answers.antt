@@ -1,24 +1,22 @@
-use Rattle.std.proofs.Common.{◌==◌, ◌∷◌, [], if◌then◌else◌, ℤ, List, ap, sym, ◌∙◌}
-use Rattle.algorithm_meaning.specs.Value.{entry}
-use Rattle.edge_fold.specs.Folded.{waiting}
-use Rattle.edge_fold.specs.Given.{all_given, column, each_given, given_on, reduced_at}
-use Rattle.edge_fold.specs.Slots.{active, held_in}
-use Rattle.edge_fold.proofs.Columns.{together_by_one}
-use Rattle.edge_fold.proofs.Edges.{fold_before}
+use Rattle.std.proofs.Common.{◌≡◌, ◌==◌, ℕ, ℤ, List, [], ◌∷◌, cond, refl, subst}
+use Rattle.syntax.specs.declared.statement.Reduction.{Reduction}
+use Rattle.edge_fold.specs.Given.{IsBy, all_given, column, each_given, given_on}
+use Rattle.edge_fold.proofs.Columns.{together_given}
+use Rattle.edge_fold.proofs.JoinedSlots.{folded_before, joined_alike}
 use Rattle.edge_fold.proofs.scratch.Scratch.fold_into.Goals as goal
 
 pub returns-in-Some : goal.returns-in-Some
-returns-in-Some c m steps edges are has x r by v =
+returns-in-Some c m steps edges are has x r by =
     let now = c.args.self.now in
+    let f = c.args.functions in
     let d = c.args.destination in
     let ss = c.args.sources.now in
     let sent = c.in-Some.sent in
     let g = all_given m steps in
-    let o = entry m.vectors x v in
-    let h = held_in (active now.slots) x v o in
-    let joined = λ (y : ℤ). if sent.vector == x then reduced_at sent.reduction v (held_in (active now.slots) x v y) (each_given sent.number (d ∷ [])) else held_in (active now.slots) x v y in
-    let vectors = λ (vs : List (List ℤ)). entry vs x v in
-    ap (λ (y : ℤ). reduced_at r v y (given_on x g (waiting now.pairs)))
-    (ap (held_in (active c.join_number.new.self) x v) (ap vectors (sym are.vectors)) ∙ c.in_ok-join_number.ensures x v ∙ ap joined (ap vectors are.vectors)
-    ∙ together_by_one r x d v h sent g ss (c.in-Some.ensures m steps are) (by (0, d)))
-    ∙ fold_before r v x h o g (waiting now.pairs) edges (column d ss) (has x r by v)
+    let is = c.in-Some.ensures m steps are in
+    let own : IsBy r x ((sent.vector, sent.reduction, is.number 0) ∷ []) = subst (λ (gs : List (ℕ × Reduction × ℤ)). IsBy r x gs) (is.each 0 d) (by (0, d)) in
+    folded_before f m steps edges (column d ss) now _ x r refl
+    (joined_alike f x r now.slots c.join_number.new.self (cond (sent.vector == x) (each_given sent.number (d ∷ [])) []) (given_on x g (column d ss))
+    (λ v n. together_given r x d v n sent g ss is own.0)
+    (c.in_ok-join_number.ensures x r own.0))
+    (has x r by)

@@ -1,7 +1,7 @@
 use Rattle.std.proofs.Common.{rules, ◌<◌, length, arith}
 use Rattle.std.proofs.lemmas.List.{length-take-le, take_more_set}
 use Rattle.edge_fold.specs.Slots.{active}
-use Rattle.edge_fold.proofs.SlotRows.{added_held, added_place}
+use Rattle.edge_fold.proofs.SlotRows.{added_held, added_place, added_reduction}
 use Rattle.edge_fold.proofs.slot.Slots.add_old.Goals as goal
 
 pub returns-clause-place : goal.returns-clause-place
@@ -17,3 +17,9 @@ returns-clause-held c =
     let now = c.args.self.now in
     let inside : now.used < length now.slots.items = search rules in
     added_held (active now) _ c.begin.new.self (take_more_set now.slots.items now.used c.begin.new.self inside) c.in_ok-begin.ensures.clean
+
+pub returns-clause-reduction : goal.returns-clause-reduction
+returns-clause-reduction c x r =
+    let now = c.args.self.now in
+    let inside : now.used < length now.slots.items = search rules in
+    added_reduction (active now) _ c.begin.new.self c.args.vector x c.args.reduction r (take_more_set now.slots.items now.used c.begin.new.self inside) c.in_ok-begin.ensures.vector c.in_ok-begin.ensures.reduction

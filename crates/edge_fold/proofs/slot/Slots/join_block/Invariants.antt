@@ -1,15 +1,12 @@
-use Rattle.std.proofs.Common.{◌≡◌, ℕ, ◌<◌, length, take}
+use Rattle.std.proofs.Common.{ℕ, ◌<◌, length, take}
 use Rattle.syntax.specs.declared.statement.Reduction.{Reduction}
-use Rattle.algorithm_meaning.specs.Value.{entry}
 use Rattle.kernels.specs.Columns.{cells_at}
 use Rattle.stack_code.specs.FunctionCode.{given_by}
-use Rattle.edge_fold.specs.Given.{IsBy, given_from, reduced_at}
-use Rattle.edge_fold.specs.Slots.{active, held_in}
+use Rattle.edge_fold.specs.Given.{IsBy, given_from}
+use Rattle.edge_fold.specs.Slots.{HaveJoined}
 use Rattle.edge_fold.proofs.slot.Slots.join_block.Given as goal
 
 -- what the first gifts came to
 abbrev pub invariant-gifts : goal.invariant-gifts
-invariant-gifts l = (x : ℕ) (r : Reduction) → ((i : ℕ) → i < length l.destinations → IsBy r x (given_by l.kernel.gives.items (cells_at l.block.numbers.items i))) → (v : ℕ)
-    → held_in (active l.self) x v (entry l.functions.vectors.now.vectors x v)
-    ≡ reduced_at r v (held_in (active l.fn.self) x v (entry l.functions.vectors.now.vectors x v))
-    (given_from x (λ i. given_by (take l.place l.kernel.gives.items) (cells_at l.block.numbers.items i)) 0 l.destinations)
+invariant-gifts l = (x : ℕ) (r : Reduction) → ((i : ℕ) → i < length l.destinations → IsBy r x (given_by l.kernel.gives.items (cells_at l.block.numbers.items i)))
+    → HaveJoined l.functions x r l.fn.self l.self (given_from x (λ i. given_by (take l.place l.kernel.gives.items) (cells_at l.block.numbers.items i)) 0 l.destinations)

@@ -1,0 +1,39 @@
+-- What a piece of an apply gives.
+use Rattle.std.specs.Prelude.{◌≡◌, ℕ, ◌<◌, ℤ, pos, ◌==◌, if◌then◌else◌, List, [], ◌∷◌, ◌++◌, slice_index_or}
+use Rattle.syntax.specs.declared.statement.Reduction.{Reduction}
+use Rattle.typed_tree.specs.StepTree.{StepsTree}
+use Rattle.algorithm_meaning.specs.State.{StateValue}
+use Rattle.vectors.specs.declared.change.Change.{Change}
+use Rattle.edge_fold.specs.declared.accumulator.Accumulator.{Accumulator}
+use Rattle.edge_fold.specs.declared.gathered.Gathered.{Gathered}
+use Rattle.edge_fold.specs.declared.gathered.GatheredIn.{GatheredIn}
+use Rattle.edge_fold.specs.Given.{IsReducedBy, all_given, given_on, reduced_at}
+
+-- the numbers, each given to its vertex
+abbrev pub numbers_of : List Change → List (ℕ × ℤ)
+numbers_of [] = []
+numbers_of (c ∷ cs) = (c.vertex, c.number) ∷ numbers_of cs
+
+-- what an accumulator has at a vertex
+abbrev pub number_at : Accumulator → ℕ → List Change
+number_at a v = if slice_index_or a.stamps.items v 0 == a.stamp then record { vertex = v; number = slice_index_or a.values.items v (pos 0) } ∷ [] else []
+
+-- what is gathered for a vector
+abbrev pub gathered_for : (vector : ℕ) → List GatheredIn → List (ℕ × ℤ)
+gathered_for x [] = []
+gathered_for x (g ∷ gs) = (if g.vector == x then numbers_of g.numbers.items else []) ++ gathered_for x gs
+
+-- what is gathered for the vector is by this reduction
+abbrev pub IsGatheredBy : Reduction → (vector : ℕ) → List GatheredIn → Type 0
+IsGatheredBy r x [] = Unit {0}
+IsGatheredBy r x (g ∷ gs) = (g.vector ≡ x → g.reduction ≡ r) × IsGatheredBy r x gs
+
+-- for a vector to which the functions give by one reduction: to reduce a number with what is gathered is to reduce it with
+-- what these edges give, at each of so many vertices
+pub record AreGatheredFor (vertices : ℕ) (m : StateValue) (steps : List StepsTree) (edges : List (ℕ × ℕ)) (g : Gathered) (x : ℕ) (r : Reduction) : Type 0 where
+  pub reduction : IsGatheredBy r x g.vectors.items
+  pub numbers : (v : ℕ) (h : ℤ) → v < vertices → reduced_at r v h (gathered_for x g.vectors.items) ≡ reduced_at r v h (given_on x (all_given m steps) edges)
+
+-- so it is for each such vector
+abbrev pub AreGathered : (vertices : ℕ) → StateValue → List StepsTree → List (ℕ × ℕ) → Gathered → Type 0
+AreGathered vertices m steps edges g = (x : ℕ) (r : Reduction) → IsReducedBy r x m steps → AreGatheredFor vertices m steps edges g x r

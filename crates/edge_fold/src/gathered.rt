@@ -1,0 +1,190 @@
+//! What a piece of an apply gives.
+ghost use Rattle.std.specs.Prelude.{◌≡◌, ℕ, ℤ, ◌<◌, ◌++◌, Bool, Contains, List, if◌then◌else◌, IfOk, OnOk};
+ghost use Rattle.std.specs.List.{filter};
+ghost use Rattle.std.specs.List.Sorted.{IsNonDecreasing};
+ghost use Rattle.syntax.specs.declared.statement.Reduction.{Reduction};
+ghost use Rattle.typed_tree.specs.StepTree.{StepsTree};
+ghost use Rattle.algorithm_meaning.specs.State.{StateValue};
+ghost use Rattle.stack_code.specs.Cells.{HasSizes};
+ghost use Rattle.edge_fold.specs.declared.functions.Start.TheVariants.{Unit as FromUnit};
+ghost use Rattle.edge_fold.specs.Ends.{IsEndTest};
+ghost use Rattle.edge_fold.specs.Folded.{AreFunctions, HasFolded};
+ghost use Rattle.edge_fold.specs.Gathered.{AreGathered, IsGatheredBy, gathered_for, number_at, numbers_of};
+ghost use Rattle.edge_fold.specs.Given.{reduced_at};
+ghost use Rattle.edge_fold.specs.Held.{held_with};
+ghost use Rattle.edge_fold.specs.Seeds.{combined};
+ghost use Rattle.edge_fold.specs.Slots.{active, held_in_with, reduction_in};
+
+use crate::accumulator::Accumulator;
+use crate::functions::Functions;
+use crate::passing::keep_passing;
+use crate::scratch::Scratch;
+use crate::slot::{Slot, Slots};
+use crate::slots::find;
+use kernels::{Block, End};
+use std::alloc::{AllocError, Global};
+use syntax::Reduction;
+use vectors::Change;
+
+/// What edges give one vector, by its place: the reduction, and for each vertex that is given something one number, by
+/// ascending vertices. It is the unit of the reduction reduced with all that the edges give the vertex.
+#[derive(Drop)]
+pub struct GatheredIn {
+    pub vector: usize,
+    pub reduction: Reduction,
+    pub numbers: Vec<Change>,
+}
+
+/// What edges give, each vector once.
+#[derive(Drop)]
+pub struct Gathered {
+    pub vectors: Vec<GatheredIn>,
+}
+
+impl Scratch {
+    /// What the edges that were folded give, at the vertices that an end lets through; one that is not given lets all
+    /// through. It promises so where new entries began with the unit. The next call must be `begin`. The only error is
+    /// out of memory.
+    pub fn gathered(
+        &mut self,
+        alloc: Global,
+        functions: Functions<'_>,
+        to: Option<End<'_>>,
+    ) -> Result<Gathered, AllocError>
+        ensures { IfOk result (λ g. (m : StateValue) (steps : List StepsTree) (edges : List (ℕ × ℕ)) (test : ℕ → Bool) → AreFunctions functions.entry m steps → IsEndTest to.entry m test
+            → HasFolded functions.entry m steps edges self.old → functions.entry.start ≡ FromUnit → AreGathered functions.entry.vertices m steps (filter (λ e. test e.1) edges) g) }
+    {
+        self.flush(alloc, functions)?;
+        let gathered = gathered_in_slots(alloc, functions, to, &self.slots, &mut self.block)?;
+        Ok(gathered)
+    }
+
+    /// Folds all edges of which another scratch has gathered what they give, from vertices of the same graph. The only
+    /// error is out of memory.
+    pub fn join_gathered(
+        &mut self,
+        alloc: Global,
+        functions: Functions<'_>,
+        gathered: &Gathered,
+    ) -> Result<(), AllocError>
+        ensures { OnOk result ((m : StateValue) (steps : List StepsTree) (edges more : List (ℕ × ℕ)) → HasFolded functions.entry m steps edges self.old
+            → AreGathered functions.entry.vertices m steps more gathered.now → HasFolded functions.entry m steps (edges ++ more) self.new) }
+    {
+        self.slots
+            .join_gathered(alloc, functions, &gathered.vectors)?;
+        Ok(())
+    }
+}
+
+/// What the slots have for their vectors.
+fn gathered_in_slots(
+    alloc: Global,
+    functions: Functions<'_>,
+    to: Option<End<'_>>,
+    slots: &Slots,
+    block: &mut Block,
+) -> Result<Gathered, AllocError>
+    ensures reduction { IfOk result (λ g. (x : ℕ) (r : Reduction) → reduction_in (active slots.now) x r ≡ r → IsGatheredBy r x g.vectors.items) }
+    ensures numbers { IfOk result (λ g. (m : StateValue) (test : ℕ → Bool) → functions.entry.vectors.now.vectors ≡ m.vectors → HasSizes functions.entry.sizes.now m → IsEndTest to.entry m test
+        → (x v : ℕ) (r : Reduction) (h : ℤ) → v < functions.entry.vertices → reduced_at r v h (gathered_for x g.vectors.items)
+        ≡ (if test v then held_in_with (combined FromUnit r) (active slots.now) x v h else h)) }
+{
+    let mut vectors = Vec::new(alloc);
+    'slots: for place in 0..slots.used {
+        let slot = &slots.slots[place];
+        if find(&slots.slots[..place], slot.vector) < place {
+            continue;
+        }
+        let numbers = numbers_in_slot(alloc, functions, to, slot, block)?;
+        vectors.push(GatheredIn {
+            vector: slot.vector,
+            reduction: slot.reduction,
+            numbers,
+        })?;
+    }
+    Ok(Gathered { vectors })
+}
+
+/// What a slot has for its vector.
+fn numbers_in_slot(
+    alloc: Global,
+    functions: Functions<'_>,
+    to: Option<End<'_>>,
+    slot: &Slot,
+    block: &mut Block,
+) -> Result<Vec<Change>, AllocError>
+    ensures { IfOk result (λ cs. (m : StateValue) (test : ℕ → Bool) → functions.entry.vectors.now.vectors ≡ m.vectors → HasSizes functions.entry.sizes.now m → IsEndTest to.entry m test
+        → (r : Reduction) (v : ℕ) (h : ℤ) → v < functions.entry.vertices
+        → reduced_at r v h (numbers_of cs.items) ≡ (if test v then held_with (combined FromUnit r) slot.now.entries v h else h)) }
+{
+    let touched = slot.entries.ascending(alloc, functions.vertices)?;
+    match to {
+        None => {
+            let numbers = slot.entries.numbers(alloc, &touched, functions.vertices)?;
+            Ok(numbers)
+        }
+        Some(end) => {
+            let mut kept = Vec::new(alloc);
+            keep_passing(functions, end, &touched, block, &mut kept)?;
+            let numbers = slot.entries.numbers(alloc, &kept, functions.vertices)?;
+            Ok(numbers)
+        }
+    }
+}
+
+impl Accumulator {
+    /// The vertices of a graph that were given something, ascending. All others of the graph have no new entry. The
+    /// only error is out of memory.
+    fn ascending(&self, alloc: Global, vertices: u32) -> Result<Vec<u32>, AllocError>
+        ensures ascending { IfOk result (λ found. IsNonDecreasing found.items) }
+        ensures covers { IfOk result (λ found. (combine : ℤ → ℤ → ℤ) (v : ℕ) (h : ℤ) → v < vertices → ¬ Contains found.items v → held_with combine self.now v h ≡ h) }
+    {
+        if self.is_crowded() {
+            let walked = self.walk(alloc, vertices)?;
+            return Ok(walked);
+        }
+        let mut touched = Vec::with_capacity(alloc, self.touched.len())?;
+        touched.extend_from_slice(&self.touched)?;
+        touched.sort_unstable();
+        Ok(touched)
+    }
+
+    /// What these vertices of the graph were given, which do not fall, each named once; `new` is any account of a
+    /// number that is combined with that at these vertices, and stays at all others of the graph. The only error is out
+    /// of memory.
+    fn numbers(
+        &self,
+        alloc: Global,
+        kept: &[u32],
+        vertices: u32,
+    ) -> Result<Vec<Change>, AllocError>
+        ensures { IsNonDecreasing kept.now → (r : Reduction) (h : ℤ) (new : ℕ → ℤ) → ((v : ℕ) → Contains kept.now v → new v ≡ held_with (combined FromUnit r) self.now v h)
+            → ((v : ℕ) → v < vertices → ¬ Contains kept.now v → new v ≡ h)
+            → IfOk result (λ cs. (v : ℕ) → v < vertices → reduced_at r v h (numbers_of cs.items) ≡ new v) }
+    {
+        let mut numbers = Vec::new(alloc);
+        let mut next = 0u32;
+        'kept: for vertex in kept {
+            if *vertex < next || vertices <= *vertex {
+                continue;
+            }
+            self.push_number(*vertex, &mut numbers)?;
+            next = *vertex + 1;
+        }
+        Ok(numbers)
+    }
+
+    /// Adds what a vertex was given, if it was.
+    fn push_number(&self, vertex: u32, numbers: &mut Vec<Change>) -> Result<(), AllocError>
+        ensures { OnOk result (numbers.new.items ≡ numbers.old.items ++ number_at self.now vertex) }
+    {
+        let place = vertex as usize;
+        if place < self.stamps.len() && self.stamps[place] == self.stamp {
+            numbers.push(Change {
+                vertex,
+                number: self.values[place],
+            })?;
+        }
+        Ok(())
+    }
+}
