@@ -24,7 +24,7 @@ use Rattle.pull_engine.proofs.ColumnFolds.{columns-append, folded_columns}
 pub one_destination : (f : Functions) (from : ℕ → Bool) (edges : List (ℕ × ℕ)) (v : ℕ) (s t : Scratch) → FoldsMore f (column v (filter from (sources_of v edges))) s t → FoldsMore f (columns from edges (v ∷ [])) s t
 one_destination f from edges v s t more m steps es are has =
     let here = column v (filter from (sources_of v edges)) in
-    folded_along m steps (es ++ here) (es ++ columns from edges (v ∷ [])) t (ap (λ ks. es ++ ks) (sym (append-nil here))) (more m steps es are has)
+    folded_along f m steps (es ++ here) (es ++ columns from edges (v ∷ [])) t (ap (λ ks. es ++ ks) (sym (append-nil here))) (more m steps es are has)
 
 -- the next of some destinations
 pub columns_next : (from : ℕ → Bool) (edges es : List (ℕ × ℕ)) (us : List ℕ) (i : ℕ) → i < length us
@@ -38,19 +38,19 @@ columns_next from edges es us i l =
 -- the edges into all destinations that pass
 pub walked_all : (f : Functions) (from to : ℕ → Bool) (edges : List (ℕ × ℕ)) (all left : List ℕ) (start s : Scratch) → left ≡ [] → Rises 0 all → ((u : ℕ) → 0 < length (sources_of u edges) → is_member u all ≡ to u)
     → HasWalked f (columns from edges) all left start s
-    → (m : StateValue) (steps : List StepsTree) → AreFunctions f m steps → HasFolded m steps [] start → HasFolded m steps (edges_between from to edges) s
+    → (m : StateValue) (steps : List StepsTree) → AreFunctions f m steps → HasFolded f m steps [] start → HasFolded f m steps (edges_between from to edges) s
 walked_all f from to edges all left start s none up agree w m steps are has =
-    folded_columns m steps from to all edges s up agree (walk_done f (columns from edges) all left start s none w m steps [] are has)
+    folded_columns f m steps from to all edges s up agree (walk_done f (columns from edges) all left start s none w m steps [] are has)
 
 pub destinations_agree : (edges ds : List (ℕ × ℕ)) (to : ℕ → Bool) → AreDegreesOf (λ u. sources_of u edges) ds → ((v : ℕ) → to v ≡ true) → (u : ℕ) → 0 < length (sources_of u edges) → is_member u (firsts ds) ≡ to u
 destinations_agree edges ds to are all u l = degree_listed (λ u. sources_of u edges) ds u are l ∙ sym (all u)
 
 pub passed_all : (to : End) (f : Functions) (from : ℕ → Bool) (edges ds : List (ℕ × ℕ)) (left : List ℕ) (start s : Scratch) → left ≡ [] → AreDegreesOf (λ u. sources_of u edges) ds
     → HasPassed to f (columns from edges) (firsts ds) left start s
-    → (m : StateValue) (steps : List StepsTree) (test : ℕ → Bool) → AreFunctions f m steps → IsTest to m test → HasFolded m steps [] start → HasFolded m steps (edges_between from test edges) s
+    → (m : StateValue) (steps : List StepsTree) (test : ℕ → Bool) → AreFunctions f m steps → IsTest to m test → HasFolded f m steps [] start → HasFolded f m steps (edges_between from test edges) s
 passed_all to f from edges ds left start s none degrees w m steps test are is has =
     let neighbours = λ (u : ℕ). sources_of u edges in
     let us = filter test (firsts ds) in
-    folded_columns m steps from test us edges s (rises_filtered test 0 (firsts ds) (degrees_rise neighbours ds degrees))
+    folded_columns f m steps from test us edges s (rises_filtered test 0 (firsts ds) (degrees_rise neighbours ds degrees))
     (λ u l. member_filtered test u (firsts ds) ∙ ap (λ (b : Bool). b && test u) (degree_listed neighbours ds u degrees l))
     (pass_done to f (columns from edges) (firsts ds) left start s none w m steps test [] are is has)

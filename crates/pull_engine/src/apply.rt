@@ -6,7 +6,7 @@ ghost use Rattle.pull_engine.specs.Work.{work_from};
 
 use crate::changes::pull;
 use crate::passing::passing_set;
-use edge_fold::{Functions, Scratch};
+use edge_fold::{Functions, Scratch, Start};
 use flat_snapshot::Flat;
 use kernels::{Apply, End};
 use push_engine::push;
@@ -69,6 +69,7 @@ fn apply_cheaper(
                 vectors,
                 sizes,
                 vertices: flat.vertices(),
+                start: Start::OldEntry,
             };
             let passing = passing_set(alloc, functions, end, scratch)?;
             let among = Apply {

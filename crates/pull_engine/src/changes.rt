@@ -6,13 +6,14 @@ ghost use Rattle.algorithm_meaning.specs.State.{StateValue};
 ghost use Rattle.edge_fold.specs.Between.{edges_between};
 ghost use Rattle.edge_fold.specs.Changed.{AreApart};
 ghost use Rattle.edge_fold.specs.Ends.{IsEndTest};
+ghost use Rattle.edge_fold.specs.declared.functions.Start.TheVariants.{OldEntry};
 ghost use Rattle.edge_fold.specs.Folded.{AreFunctions};
 ghost use Rattle.pull_engine.specs.Applied.{AreChangesOf, AreChangesOn};
 ghost use Rattle.pull_engine.specs.Words.{passes_words};
 
 use crate::destinations::fold_to;
 use crate::passing::passing_set;
-use edge_fold::{Functions, Scratch};
+use edge_fold::{Functions, Scratch, Start};
 use flat_snapshot::Flat;
 use kernels::{Apply, End};
 use std::alloc::{AllocError, Global};
@@ -47,6 +48,7 @@ pub fn pull(
         vectors,
         sizes,
         vertices: flat.vertices(),
+        start: Start::OldEntry,
     };
     let Some(end) = apply.from else {
         return pull_from(alloc, flat, functions, None, apply.to, scratch);
@@ -70,7 +72,7 @@ fn pull_members(
     scratch: &mut Scratch,
 ) -> Result<Changes, AllocError>
     ensures once { IfOk result (λ c. AreApart c.vectors.items) }
-    ensures changes { IfOk result (λ c. (m : StateValue) (steps : List StepsTree) (from test : ℕ → Bool) → AreFunctions functions.entry m steps → functions.entry.vertices ≡ flat.now.vertices
+    ensures changes { IfOk result (λ c. (m : StateValue) (steps : List StepsTree) (from test : ℕ → Bool) → AreFunctions functions.entry m steps → functions.entry.vertices ≡ flat.now.vertices → functions.entry.start ≡ OldEntry
         → ((v : ℕ) → from v ≡ is_member v set.now.members) → IsEndTest to.entry m test → AreChangesOn flat.now.vertices (edges_between from test flat.now.edges) m steps c.vectors.items) }
 {
     if let Some(words) = set.words() {
@@ -93,7 +95,7 @@ fn pull_from(
     scratch: &mut Scratch,
 ) -> Result<Changes, AllocError>
     ensures once { IfOk result (λ c. AreApart c.vectors.items) }
-    ensures changes { IfOk result (λ c. (m : StateValue) (steps : List StepsTree) (test : ℕ → Bool) → AreFunctions functions.entry m steps → functions.entry.vertices ≡ flat.now.vertices → IsEndTest to.entry m test
+    ensures changes { IfOk result (λ c. (m : StateValue) (steps : List StepsTree) (test : ℕ → Bool) → AreFunctions functions.entry m steps → functions.entry.vertices ≡ flat.now.vertices → functions.entry.start ≡ OldEntry → IsEndTest to.entry m test
         → AreChangesOn flat.now.vertices (edges_between (passes_words from.entry) test flat.now.edges) m steps c.vectors.items) }
 {
     scratch.begin();

@@ -31,7 +31,7 @@ pub(crate) fn fold_to(
     scratch: &mut Scratch,
 ) -> Result<(), AllocError>
     ensures { OnOk result ((m : StateValue) (steps : List StepsTree) (test : ℕ → Bool) → AreFunctions functions.entry m steps → IsEndTest to.entry m test
-        → HasFolded m steps [] scratch.old → HasFolded m steps (edges_between (passes_words from.entry) test flat.now.edges) scratch.new) }
+        → HasFolded functions.entry m steps [] scratch.old → HasFolded functions.entry m steps (edges_between (passes_words from.entry) test flat.now.edges) scratch.new) }
 {
     let mut block = [0u32; 128];
     let Some(end) = to else {
@@ -61,7 +61,7 @@ fn fold_all(
 ) -> Result<(), AllocError>
     requires { length block.old ≡ 128 }
     ensures { OnOk result ((m : StateValue) (steps : List StepsTree) (to : ℕ → Bool) → AreFunctions functions.entry m steps → ((v : ℕ) → to v ≡ true)
-        → HasFolded m steps [] scratch.old → HasFolded m steps (edges_between (passes_words from.entry) to flat.now.edges) scratch.new) }
+        → HasFolded functions.entry m steps [] scratch.old → HasFolded functions.entry m steps (edges_between (passes_words from.entry) to flat.now.edges) scratch.new) }
 {
     'destinations: for (destination, _) in flat.destinations() {
         fold_column(alloc, flat, functions, from, destination, block, scratch)?;
@@ -81,7 +81,7 @@ fn fold_members(
 ) -> Result<(), AllocError>
     requires { length block.old ≡ 128 }
     ensures { OnOk result ((m : StateValue) (steps : List StepsTree) (to : ℕ → Bool) → AreFunctions functions.entry m steps → ((v : ℕ) → to v ≡ is_member v set.now.members)
-        → HasFolded m steps [] scratch.old → HasFolded m steps (edges_between (passes_words from.entry) to flat.now.edges) scratch.new) }
+        → HasFolded functions.entry m steps [] scratch.old → HasFolded functions.entry m steps (edges_between (passes_words from.entry) to flat.now.edges) scratch.new) }
 {
     'destinations: for destination in set.iter() {
         fold_column(alloc, flat, functions, from, destination, block, scratch)?;
@@ -101,7 +101,7 @@ fn fold_passing(
 ) -> Result<(), AllocError>
     requires { length block.old ≡ 128 }
     ensures { OnOk result ((m : StateValue) (steps : List StepsTree) (test : ℕ → Bool) → AreFunctions functions.entry m steps → IsTest to.entry m test
-        → HasFolded m steps [] scratch.old → HasFolded m steps (edges_between (passes_words from.entry) test flat.now.edges) scratch.new) }
+        → HasFolded functions.entry m steps [] scratch.old → HasFolded functions.entry m steps (edges_between (passes_words from.entry) test flat.now.edges) scratch.new) }
 {
     let mut destinations = flat.destinations();
     let mut part = Vec::new(alloc);
@@ -129,7 +129,7 @@ fn fold_columns(
 ) -> Result<(), AllocError>
     requires { length block.old ≡ 128 }
     ensures { OnOk result ((m : StateValue) (steps : List StepsTree) (edges : List (ℕ × ℕ)) → AreFunctions functions.entry m steps
-        → HasFolded m steps edges scratch.old → HasFolded m steps (edges ++ columns (passes_words from.entry) flat.now.edges destinations.now) scratch.new) }
+        → HasFolded functions.entry m steps edges scratch.old → HasFolded functions.entry m steps (edges ++ columns (passes_words from.entry) flat.now.edges destinations.now) scratch.new) }
 {
     'destinations: for destination in destinations {
         fold_column(alloc, flat, functions, from, *destination, block, scratch)?;
@@ -150,7 +150,7 @@ fn fold_column(
 ) -> Result<(), AllocError>
     requires { length block.old ≡ 128 }
     ensures { OnOk result ((m : StateValue) (steps : List StepsTree) (edges : List (ℕ × ℕ)) → AreFunctions functions.entry m steps
-        → HasFolded m steps edges scratch.old → HasFolded m steps (edges ++ column destination (filter (passes_words from.entry) (sources_of destination flat.now.edges))) scratch.new) }
+        → HasFolded functions.entry m steps edges scratch.old → HasFolded functions.entry m steps (edges ++ column destination (filter (passes_words from.entry) (sources_of destination flat.now.edges))) scratch.new) }
 {
     let mut neighbours = flat.in_(destination);
     'rounds: while !neighbours.is_empty() {

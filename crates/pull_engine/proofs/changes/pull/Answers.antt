@@ -12,7 +12,7 @@ returns-in_default-clause-changes c =
     IfOk-weaker c.pull_from.result _ _
     (λ cs changes m steps from to vectors sizes kernels is_from is_to.
     let all = subst (λ (o : Option End). IsEndTest o m from) c.in_default.is is_from in
-    changes_along g.vertices _ _ m steps cs.vectors.items (between_same from (λ v. true) to g.edges all) (changes m steps to (record { vectors = vectors; sizes = sizes; kernels = kernels }) c.vertices.ensures.count is_to))
+    changes_along g.vertices _ _ m steps cs.vectors.items (between_same from (λ v. true) to g.edges all) (changes m steps to (record { vectors = vectors; sizes = sizes; kernels = kernels }) c.vertices.ensures.count refl is_to))
     c.pull_from.ensures.changes
 
 pub returns-in-Members-clause-changes : goal.returns-in-Members-clause-changes
@@ -20,7 +20,7 @@ returns-in-Members-clause-changes c =
     IfOk-weaker c.pull_members.result _ _
     (λ cs changes m steps from to vectors sizes kernels is_from is_to.
     let members = subst (λ (e : End). IsTest e m from) c.in-Members.is (subst (λ (o : Option End). IsEndTest o m from) c.in-Some.is is_from) in
-    changes m steps from to (record { vectors = vectors; sizes = sizes; kernels = kernels }) c.vertices.ensures.count members is_to)
+    changes m steps from to (record { vectors = vectors; sizes = sizes; kernels = kernels }) c.vertices.ensures.count refl members is_to)
     c.pull_members.ensures.changes
 
 pub returns-in_ok-passing-in-Filter-clause-changes : goal.returns-in_ok-passing-in-Filter-clause-changes
@@ -34,5 +34,5 @@ returns-in_ok-passing-in-Filter-clause-changes c =
     let passes = subst (λ (o : Option End). IsEndTest o m from) c.in-Some.is is_from in
     changes_along g.vertices _ _ m steps cs.vectors.items
     (between_agree g from is_passing to c.vertices.ensures.graph (λ v l. sym (found.ensures.members m from vectors sizes passes v (omega (arith, count, l)))))
-    (changes m steps is_passing to (record { vectors = vectors; sizes = sizes; kernels = kernels }) count (λ v. refl) is_to))
+    (changes m steps is_passing to (record { vectors = vectors; sizes = sizes; kernels = kernels }) count refl (λ v. refl) is_to))
     c.pull_members-in-Filter.ensures.changes

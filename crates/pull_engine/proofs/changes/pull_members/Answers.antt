@@ -13,8 +13,8 @@ returns-in-Some-clause-changes c =
     let words = c.in-Some.words.now in
     let bits = words_have_members c.args.set.now words c.in-Some.ensures.members in
     IfOk-weaker c.pull_from.result _ _
-    (λ cs changes m steps from to are count is_from is_to. changes_along g.vertices _ _ m steps cs.vectors.items
-    (between_same from (is_set words) to g.edges (λ v. is_from v ∙ sym (bits v))) (changes m steps to are count is_to))
+    (λ cs changes m steps from to are count starts is_from is_to. changes_along g.vertices _ _ m steps cs.vectors.items
+    (between_same from (is_set words) to g.edges (λ v. is_from v ∙ sym (bits v))) (changes m steps to are count starts is_to))
     c.pull_from.ensures.changes
 
 pub returns-clause-changes : goal.returns-clause-changes
@@ -24,6 +24,6 @@ returns-clause-changes c =
     let bits = words_have_members c.in_ok-bits.bits words c.in-Some-words.ensures.members in
     let same = λ (v : ℕ). bits v ∙ ap (λ (s : VertexSubset). is_member v s.members) c.in_ok-bits.ensures in
     IfOk-weaker c.pull_from-2.result _ _
-    (λ cs changes m steps from to are count is_from is_to. changes_along g.vertices _ _ m steps cs.vectors.items
-    (between_same from (is_set words) to g.edges (λ v. is_from v ∙ sym (same v))) (changes m steps to are count is_to))
+    (λ cs changes m steps from to are count starts is_from is_to. changes_along g.vertices _ _ m steps cs.vectors.items
+    (between_same from (is_set words) to g.edges (λ v. is_from v ∙ sym (same v))) (changes m steps to are count starts is_to))
     c.pull_from-2.ensures.changes

@@ -1,6 +1,6 @@
-use Rattle.std.proofs.Common.{rules, ◌≡◌, ◌++◌, [], ap, take}
+use Rattle.std.proofs.Common.{rules, ◌≡◌, ℕ, List, ◌++◌, [], ap, refl, subst, sym, take}
 use Rattle.edge_fold.specs.Given.{column}
-use Rattle.edge_fold.proofs.Walks.{folded_along, parts_of, walk_done, walk_more}
+use Rattle.edge_fold.proofs.Walks.{HasWalked, folded_along, parts_of, walk_begun, walk_done, walk_more}
 use Rattle.tree_batch.specs.Neighbours.{sources_of}
 use Rattle.pull_engine.specs.Words.{passes_words}
 use Rattle.pull_engine.proofs.ColumnFolds.{column_from, column_in_row}
@@ -20,7 +20,7 @@ rounds-preserved c =
       room = search rules;
       walked = walk_more a.functions (column_from from d) (sources_of d a.flat.now.edges) c.rounds.neighbours part rest a.scratch.now c.rounds.scratch then
           (column_in_row from d) (parts_of n c.rounds.neighbours part rest c.fill-count.ensures.filled c.fill-count.ensures.rest)
-          (λ m steps es are has. folded_along m steps (es ++ column d kept) (es ++ column_from from d part) then (ap (λ ks. es ++ column d ks) c.keep_sources-kept.ensures.kept) (c.in_ok-fold_into.ensures m steps es are has))
+          (λ m steps es are has. folded_along a.functions m steps (es ++ column d kept) (es ++ column_from from d part) then (ap (λ ks. es ++ column d ks) c.keep_sources-kept.ensures.kept) (c.in_ok-fold_into.ensures m steps es are has))
           c.rounds.invariant.walked;
     }
 
@@ -29,3 +29,13 @@ returns c =
     let a = c.args in
     let none : c.rounds.neighbours ≡ [] = search rules in
     walk_done a.functions (column_from (passes_words a.from) a.destination) (sources_of a.destination a.flat.now.edges) c.rounds.neighbours a.scratch.now c.rounds.scratch none c.rounds.invariant.walked
+
+pub rounds-init : goal.rounds-init
+rounds-init c =
+    let a = c.args in
+    let all = sources_of a.destination a.flat.now.edges in
+    let column_of = column_from (passes_words a.from) a.destination in
+    record {
+      room = search rules;
+      walked = subst (λ (left : List ℕ). HasWalked a.functions column_of all left a.scratch.now a.scratch.now) (sym c.in_-neighbours.ensures) (walk_begun a.functions column_of all a.scratch.now refl);
+    }

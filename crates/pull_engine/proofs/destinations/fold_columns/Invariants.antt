@@ -11,5 +11,5 @@ abbrev pub invariant-destinations : goal.invariant-destinations
 invariant-destinations l = record {
   room : length l.block ≡ 128;
   folded : (m : StateValue) (steps : List StepsTree) (edges : List (ℕ × ℕ)) → AreFunctions l.functions m steps
-      → HasFolded m steps edges l.fn.scratch → HasFolded m steps (edges ++ columns (passes_words l.from) l.flat.edges (take l.destination-index l.destinations)) l.scratch;
+      → HasFolded l.functions m steps edges l.fn.scratch → HasFolded l.functions m steps (edges ++ columns (passes_words l.from) l.flat.edges (take l.destination-index l.destinations)) l.scratch;
 }

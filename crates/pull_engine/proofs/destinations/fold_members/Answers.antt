@@ -1,5 +1,5 @@
-use Rattle.std.proofs.Common.{rules, [], ◌∷◌, sym}
-use Rattle.edge_fold.proofs.Walks.{walk_more}
+use Rattle.std.proofs.Common.{rules, ℕ, List, [], ◌∷◌, refl, sym, ◌∙◌, subst}
+use Rattle.edge_fold.proofs.Walks.{HasWalked, walk_begun, walk_more}
 use Rattle.vertex_sets.proofs.Ascending.{rises}
 use Rattle.pull_engine.specs.Columns.{columns}
 use Rattle.pull_engine.specs.Words.{passes_words}
@@ -26,3 +26,12 @@ returns c m steps to are is =
     let members = a.set.now.members in
     walked_all a.functions (passes_words a.from) to a.flat.now.edges members c.destinations.destination-iterator a.scratch.now c.destinations.scratch c.in-None.ensures.steps.0
     (rises a.set.now.vertices members c.iter-destination-items.ensures.valid) (λ u l. sym (is u)) c.destinations.invariant.walked m steps are
+
+pub destinations-init : goal.destinations-init
+destinations-init c =
+    let a = c.args in
+    let columns_of = columns (passes_words a.from) a.flat.now.edges in
+    record {
+      room = search rules;
+      walked = subst (λ (left : List ℕ). HasWalked a.functions columns_of a.set.now.members left a.scratch.now a.scratch.now) (sym (c.into_iter-destination-iterator.ensures.into_iter_gives ∙ c.iter-destination-items.ensures.members)) (walk_begun a.functions columns_of a.set.now.members a.scratch.now refl);
+    }

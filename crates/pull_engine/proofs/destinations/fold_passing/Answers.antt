@@ -1,7 +1,7 @@
 use Rattle.std.proofs.Common.{rules, ◌≡◌, ℕ, ◌++◌, [], ◌∷◌, List, length, refl, ap, sym, ◌∙◌, arith}
 use Rattle.std.specs.List.{filter}
 use Rattle.edge_fold.specs.Between.{firsts}
-use Rattle.edge_fold.proofs.Walks.{folded_along, pass_more}
+use Rattle.edge_fold.proofs.Walks.{folded_along, pass_begun, pass_more}
 use Rattle.pull_engine.specs.Columns.{columns}
 use Rattle.pull_engine.specs.Words.{passes_words}
 use Rattle.pull_engine.proofs.ColumnFolds.{columns-append}
@@ -37,8 +37,18 @@ parts-preserved c =
         pass_more a.to a.functions (columns from edges) (firsts w.0) (firsts c.parts.destinations) c.take_part.new.part.items (firsts c.take_part.new.vertices) kept a.scratch.now c.parts.scratch c.fold_columns.new.scratch (columns-append from edges)
             c.in_ok-take_part.ensures.taken
             (λ m steps test are is. c.in_ok-keep_passing.ensures.kept m test are.vectors are.sizes is ∙ ap (λ (ks : List ℕ). ks ++ filter test c.deref.result.now) c.clear.ensures.items ∙ ap (filter test) c.deref.ensures.value)
-            (λ m steps es are has. folded_along m steps (es ++ columns from edges c.deref-in-parts.result.now) (es ++ columns from edges kept) c.fold_columns.new.scratch (ap (λ (ks : List ℕ). es ++ columns from edges ks) c.deref-in-parts.ensures.value)
-            (c.in_ok-fold_columns.ensures m steps es are (c.in_ok-keep_passing.ensures.folded m steps es has)))
+            (λ m steps es are has. folded_along a.functions m steps (es ++ columns from edges c.deref-in-parts.result.now) (es ++ columns from edges kept) c.fold_columns.new.scratch (ap (λ (ks : List ℕ). es ++ columns from edges ks) c.deref-in-parts.ensures.value)
+            (c.in_ok-fold_columns.ensures m steps es are (c.in_ok-keep_passing.ensures.folded a.functions m steps es has)))
             w.2,
       );
+    }
+
+pub parts-init : goal.parts-init
+parts-init c =
+    let a = c.args in
+    let columns_of = columns (passes_words a.from) a.flat.now.edges in
+    let ds = c.destinations-destinations.result in
+    record {
+      room = search rules;
+      walked = (ds, c.destinations-destinations.ensures.degrees, pass_begun a.to a.functions columns_of (firsts ds) a.scratch.now refl);
     }
