@@ -1,4 +1,4 @@
--- For proofs only: the edges from some sources.
+-- The edges from some sources.
 use Rattle.std.specs.Prelude.{ℕ, List, [], ◌∷◌, ◌++◌}
 use Rattle.edge_fold.specs.Given.{row}
 use Rattle.tree_batch.specs.Neighbours.{destinations_of}

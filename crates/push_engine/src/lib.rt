@@ -12,10 +12,14 @@
 #![tactic(auto)]
 
 mod apply;
+mod listed;
+mod merge;
 mod modified;
 mod parts;
 mod sources;
+mod work;
 
 pub use apply::push;
 pub use modified::apply_modified;
 pub use parts::take_part;
+pub use work::PushWork;

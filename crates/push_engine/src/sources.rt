@@ -82,7 +82,7 @@ pub(crate) fn fold_passing(
 }
 
 /// Folds the edges from these sources.
-fn fold_rows(
+pub(crate) fn fold_rows(
     alloc: Global,
     flat: &Flat,
     functions: Functions<'_>,

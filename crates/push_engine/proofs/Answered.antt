@@ -1,0 +1,18 @@
+-- What the pieces of an apply answer, for one state.
+use Rattle.std.proofs.Common.{◌≡◌, ℕ, Bool, List, [], ◌∷◌}
+use Rattle.typed_tree.specs.StepTree.{StepsTree}
+use Rattle.algorithm_meaning.specs.State.{StateValue}
+use Rattle.stack_code.specs.Cells.{HasSizes}
+use Rattle.crew.specs.declared.found.Found.{Found}
+use Rattle.edge_fold.specs.declared.gathered.Gathered.{Gathered}
+use Rattle.edge_fold.specs.Ends.{IsEndTest}
+use Rattle.edge_fold.specs.Folded.{AreKernels}
+use Rattle.push_engine.specs.declared.work.PushWork.{PushWork}
+use Rattle.push_engine.specs.Pieces.{AreAnswers, EachGathered, edges_of_piece}
+
+pub each_gathered : (w : PushWork) (fs : List (Found Gathered)) (m : StateValue) (steps : List StepsTree) (from to : ℕ → Bool) → AreAnswers w fs
+    → w.vectors.now.vectors ≡ m.vectors → HasSizes w.sizes.now m → AreKernels w.apply.first.now w.apply.second steps → IsEndTest w.apply.from m from → IsEndTest w.apply.to m to
+    → EachGathered w.flat.now.vertices m steps (edges_of_piece w from to) fs
+each_gathered w [] m steps from to answers vectors sizes kernels is_from is_to = tt
+each_gathered w (f ∷ fs) m steps from to answers vectors sizes kernels is_from is_to =
+    (answers.0 m steps from to vectors sizes kernels is_from is_to, each_gathered w fs m steps from to answers.1 vectors sizes kernels is_from is_to)

@@ -1,0 +1,97 @@
+-- The pieces of an apply, put together.
+use Rattle.std.proofs.Common.{◌≡◌, ℕ, zero, suc, ◌+◌, ◌<◌, ◌==◌, ℤ, Bool, true, false, cond, List, [], ◌∷◌, ◌++◌, length, get_or, take, map, refl, sym, ap, ◌∙◌, subst, arith, append_assoc}
+use Rattle.std.proofs.lemmas.List.{append-nil, take_more}
+use Rattle.std.proofs.lemmas.List.Elements.{filter-append}
+use Rattle.std.specs.List.{filter, flat_map, range_with_len}
+use Rattle.std.specs.List.Sorted.{IsPermutation}
+use Rattle.syntax.specs.declared.statement.Reduction.{Reduction}
+use Rattle.typed_tree.specs.StepTree.{StepsTree}
+use Rattle.algorithm_meaning.specs.EdgeApply.{is_member}
+use Rattle.algorithm_meaning.specs.State.{StateValue}
+use Rattle.crew.specs.declared.found.Found.{Found}
+use Rattle.edge_fold.specs.declared.functions.Functions.{Functions}
+use Rattle.edge_fold.specs.declared.gathered.Gathered.{Gathered}
+use Rattle.edge_fold.specs.declared.scratch.Scratch.{Scratch}
+use Rattle.edge_fold.specs.Between.{edges_between}
+use Rattle.edge_fold.specs.Folded.{HasFolded}
+use Rattle.edge_fold.specs.Gathered.{AreGathered}
+use Rattle.edge_fold.specs.Given.{all_given, given_on, reduced_at}
+use Rattle.edge_fold.proofs.Meaning.{filtered_edges}
+use Rattle.edge_fold.proofs.Orders.{folded_alike, folded_in_any_order}
+use Rattle.edge_fold.proofs.Walks.{folded_along}
+use Rattle.piece_cuts.specs.Pieces.{AreEnds, all_pieces, piece_of}
+use Rattle.piece_cuts.proofs.PieceLists.{pieces_are_the_list}
+use Rattle.tree_batch.specs.Neighbours.{destinations_of}
+use Rattle.push_engine.specs.Pieces.{EachGathered, pieces_of}
+use Rattle.push_engine.specs.Rows.{rows}
+use Rattle.push_engine.specs.Sources.{AreSources, passing_in}
+use Rattle.push_engine.proofs.RowFolds.{agree_on_rows, ends_one_by_one, rows-append, rows_are_edges}
+use Rattle.push_engine.proofs.SourceLists.{rising}
+use Rattle.push_engine.proofs.Walked.{rises_filtered}
+use Rattle.vertex_sets.proofs.Ascending.{Rises}
+
+-- what is found of one piece more
+pub gathered_at : (n : ℕ) (m : StateValue) (steps : List StepsTree) (edges_of : ℕ → List (ℕ × ℕ)) (fs : List (Found Gathered)) (i : ℕ) (f : Found Gathered)
+    → EachGathered n m steps edges_of fs → i < length fs → f ≡ get_or fs i f → AreGathered n m steps (edges_of f.piece) f.out
+gathered_at n m steps edges_of [] i f each l is = absurd (omega (arith, l))
+gathered_at n m steps edges_of (g ∷ fs) zero f each l is = subst (λ (h : Found Gathered). AreGathered n m steps (edges_of h.piece) h.out) (sym is) each.0
+gathered_at n m steps edges_of (g ∷ fs) (suc i) f each l is = gathered_at n m steps edges_of fs i f each.1 (omega (arith, l)) is
+
+pieces_of-push : (edges_of : ℕ → List (ℕ × ℕ)) (fs : List (Found Gathered)) (f : Found Gathered) → flat_map edges_of (pieces_of (fs ++ f ∷ [])) ≡ flat_map edges_of (pieces_of fs) ++ edges_of f.piece
+pieces_of-push edges_of [] f = append-nil (edges_of f.piece)
+pieces_of-push edges_of (g ∷ fs) f =
+    ap (λ es. edges_of g.piece ++ es) (pieces_of-push edges_of fs f) ∙ sym (append_assoc (edges_of g.piece) (flat_map edges_of (pieces_of fs)) (edges_of f.piece))
+
+pub next_piece : (edges_of : ℕ → List (ℕ × ℕ)) (fs : List (Found Gathered)) (i : ℕ) (f : Found Gathered) → i < length fs → f ≡ get_or fs i f
+    → flat_map edges_of (pieces_of (take i fs)) ++ edges_of f.piece ≡ flat_map edges_of (pieces_of (take (i + 1) fs))
+next_piece edges_of fs i f l is =
+    sym (ap (λ gs. flat_map edges_of (pieces_of gs)) (take_more fs i f l ∙ ap (λ (g : Found Gathered). take i fs ++ g ∷ []) (sym is)) ∙ pieces_of-push edges_of (take i fs) f)
+
+-- the edges of all pieces
+passing_in-append : (tested : Bool) (from : ℕ → Bool) (us vs : List ℕ) → passing_in tested from (us ++ vs) ≡ passing_in tested from us ++ passing_in tested from vs
+passing_in-append true from us vs = filter-append from us vs
+passing_in-append false from us vs = refl
+
+nothing_passes : (tested : Bool) (from : ℕ → Bool) → passing_in tested from [] ≡ []
+nothing_passes true from = refl
+nothing_passes false from = refl
+
+abbrev edges_in : (edges : List (ℕ × ℕ)) (tested : Bool) (from to : ℕ → Bool) → List ℕ → List (ℕ × ℕ)
+edges_in edges tested from to us = filter (λ e. to e.1) (rows edges (passing_in tested from us))
+
+edges_in-append : (edges : List (ℕ × ℕ)) (tested : Bool) (from to : ℕ → Bool) (us vs : List ℕ) → edges_in edges tested from to (us ++ vs) ≡ edges_in edges tested from to us ++ edges_in edges tested from to vs
+edges_in-append edges tested from to us vs =
+    ap (λ ks. filter (λ (e : ℕ × ℕ). to e.1) (rows edges ks)) (passing_in-append tested from us vs)
+    ∙ ap (filter (λ (e : ℕ × ℕ). to e.1)) (rows-append edges (passing_in tested from us) (passing_in tested from vs))
+    ∙ filter-append (λ (e : ℕ × ℕ). to e.1) (rows edges (passing_in tested from us)) (rows edges (passing_in tested from vs))
+
+edges_of_all : (edges : List (ℕ × ℕ)) (tested : Bool) (from to : ℕ → Bool) (part : ℕ → List ℕ) (ks : List ℕ)
+    → flat_map (λ k. edges_in edges tested from to (part k)) ks ≡ edges_in edges tested from to (flat_map part ks)
+edges_of_all edges tested from to part [] = sym (ap (λ ks. filter (λ (e : ℕ × ℕ). to e.1) (rows edges ks)) (nothing_passes tested from))
+edges_of_all edges tested from to part (k ∷ ks) =
+    ap (λ es. edges_in edges tested from to (part k) ++ es) (edges_of_all edges tested from to part ks) ∙ sym (edges_in-append edges tested from to (part k) (flat_map part ks))
+
+rises_passing : (tested : Bool) (from : ℕ → Bool) (us : List ℕ) → Rises 0 us → Rises 0 (passing_in tested from us)
+rises_passing true from us up = rises_filtered from 0 us up
+rises_passing false from us up = up
+
+-- those of all sources are the edges between the ends
+all_alike : (r : Reduction) (x v : ℕ) (g : ℕ × ℕ → List (ℕ × Reduction × ℤ)) (edges : List (ℕ × ℕ)) (tested : Bool) (from to : ℕ → Bool) (us : List ℕ) → AreSources edges from tested us → (n : ℤ)
+    → reduced_at r v n (given_on x g (edges_in edges tested from to us)) ≡ reduced_at r v n (given_on x g (edges_between from to edges))
+all_alike r x v g edges tested from to us are n =
+    let ks = passing_in tested from us in
+    filtered_edges r x v n to g (rows edges ks)
+    ∙ ap (λ (y : ℤ). cond (to v) y n) (rows_are_edges r x v g from ks (rises_passing tested from us (rising 0 us are.ascending)) edges (agree_on_rows from ks edges are.passing) n)
+    ∙ sym (filtered_edges r x v n to g (filter (λ e. from e.0) edges))
+    ∙ ap (λ es. reduced_at r v n (given_on x g es)) (ends_one_by_one from to edges)
+
+pub merged : (f : Functions) (m : StateValue) (steps : List StepsTree) (edges : List (ℕ × ℕ)) (tested : Bool) (from to : ℕ → Bool) (ends us ks : List ℕ) (s : Scratch) → AreEnds 0 (length us) ends → AreSources edges from tested us
+    → IsPermutation ks (range_with_len 1 (length ends))
+    → HasFolded f m steps (flat_map (λ k. edges_in edges tested from to (piece_of ends us k)) ks) s → HasFolded f m steps (edges_between from to edges) s
+merged f m steps edges tested from to ends us ks s whole are same has =
+    let part = piece_of ends us in
+    let edges_of = λ (k : ℕ). edges_in edges tested from to (part k) in
+    let all = edges_of_all edges tested from to part (range_with_len 1 (length ends)) ∙ ap (edges_in edges tested from to) (pieces_are_the_list ends us whole) in
+    folded_alike f m steps (edges_in edges tested from to us) (edges_between from to edges) s (λ x v r n. all_alike r x v (all_given m steps) edges tested from to us are n)
+    (folded_along f m steps (flat_map edges_of (range_with_len 1 (length ends))) (edges_in edges tested from to us) s all
+    (folded_in_any_order f m steps edges_of ks (range_with_len 1 (length ends)) s same has))

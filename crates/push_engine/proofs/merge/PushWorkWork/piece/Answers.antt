@@ -1,0 +1,41 @@
+use Rattle.std.proofs.Common.{rules, ◌≡◌, ◌≤◌, ◌<◌, ◌-◌, ℕ, List, length, slice_range, refl, sym, ap, ◌∙◌, subst, arith}
+use Rattle.std.specs.List.{filter}
+use Rattle.edge_fold.specs.Gathered.{AreGatheredFor}
+use Rattle.piece_cuts.specs.Pieces.{end_of, piece_of}
+use Rattle.push_engine.specs.Rows.{rows}
+use Rattle.push_engine.specs.Sources.{passing_in}
+use Rattle.push_engine.proofs.SourceLists.{piece_inside}
+use Rattle.push_engine.proofs.merge.PushWorkWork.piece.Goals as goal
+
+pub part_between-part-requires-clause-order : goal.part_between-part-requires-clause-order
+part_between-part-requires-clause-order c =
+    let w = c.args.self.now in
+    let inside = piece_inside (length w.sources.items) w.cuts c.args.piece w.whole c.requires.piece.0 c.requires.piece.1 in
+    let order = inside.0 in
+    let start = c.piece-places.ensures.start in
+    let end = c.piece-places.ensures.end in
+    omega (arith, order, start, end)
+
+pub part_between-part-requires-clause-inside : goal.part_between-part-requires-clause-inside
+part_between-part-requires-clause-inside c =
+    let w = c.args.self.now in
+    let inside = piece_inside (length w.sources.items) w.cuts c.args.piece w.whole c.requires.piece.0 c.requires.piece.1 in
+    let last = inside.1 in
+    let end = c.piece-places.ensures.end in
+    let long = ap length c.deref.ensures.value in
+    omega (arith, last, end, long)
+
+pub returns-clause-out : goal.returns-clause-out
+returns-clause-out c m steps from to vectors sizes kernels is_from is_to x r by =
+    let w = c.args.self.now in
+    let edges = w.flat.now.edges in
+    let k = c.args.piece in
+    let g = c.in_ok-gathered.gathered in
+    let part = c.part_between-part.ensures
+    ∙ ap (λ (us : List ℕ). slice_range us c.piece-places.result.start c.piece-places.result.end) c.deref.ensures.value
+    ∙ ap (λ (s : ℕ). slice_range w.sources.items s c.piece-places.result.end) c.piece-places.ensures.start
+    ∙ ap (λ (e : ℕ). slice_range w.sources.items (end_of w.cuts (k - 1)) e) c.piece-places.ensures.end in
+    let has = c.in_ok-fold_part.ensures m steps from (record { vectors = vectors; sizes = sizes; kernels = kernels }) is_from (c.begin.ensures _ m steps) in
+    let gathered = c.in_ok-gathered.ensures m steps (rows edges (passing_in w.tested from c.part_between-part.result.now)) to (record { vectors = vectors; sizes = sizes; kernels = kernels }) is_to has refl x r by in
+    subst (λ (n : ℕ). AreGatheredFor n m steps (filter (λ e. to e.1) (rows edges (passing_in w.tested from (piece_of w.cuts w.sources.items k)))) g x r) c.vertices.ensures.count
+    (subst (λ (us : List ℕ). AreGatheredFor c.vertices.result m steps (filter (λ e. to e.1) (rows edges (passing_in w.tested from us))) g x r) part gathered)

@@ -1,0 +1,12 @@
+use Rattle.std.proofs.Common.{ℕ, List, [], take}
+use Rattle.std.specs.List.{flat_map}
+use Rattle.typed_tree.specs.StepTree.{StepsTree}
+use Rattle.algorithm_meaning.specs.State.{StateValue}
+use Rattle.edge_fold.specs.Folded.{HasFolded}
+use Rattle.push_engine.specs.Pieces.{EachGathered, pieces_of}
+use Rattle.push_engine.proofs.merge.join_all.Given as goal
+
+-- the edges of the pieces that have come are folded
+abbrev pub invariant-found : goal.invariant-found
+invariant-found l = (m : StateValue) (steps : List StepsTree) (edges_of : ℕ → List (ℕ × ℕ)) → EachGathered l.functions.vertices m steps edges_of l.found
+    → HasFolded l.functions m steps [] l.fn.scratch → HasFolded l.functions m steps (flat_map edges_of (pieces_of (take l.one-index l.found))) l.scratch

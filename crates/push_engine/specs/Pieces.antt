@@ -1,0 +1,39 @@
+-- What the pieces of an apply answer.
+use Rattle.std.specs.Prelude.{◌≡◌, ℕ, Bool, List, [], ◌∷◌, map}
+use Rattle.std.specs.List.{filter}
+use Rattle.typed_tree.specs.StepTree.{StepsTree}
+use Rattle.algorithm_meaning.specs.State.{StateValue}
+use Rattle.stack_code.specs.Cells.{HasSizes}
+use Rattle.crew.specs.declared.found.Found.{Found}
+use Rattle.edge_fold.specs.declared.gathered.Gathered.{Gathered}
+use Rattle.edge_fold.specs.Ends.{IsEndTest}
+use Rattle.edge_fold.specs.Folded.{AreKernels}
+use Rattle.edge_fold.specs.Gathered.{AreGathered}
+use Rattle.piece_cuts.specs.Pieces.{piece_of}
+use Rattle.push_engine.specs.declared.work.PushWork.{PushWork}
+use Rattle.push_engine.specs.Rows.{rows}
+use Rattle.push_engine.specs.Sources.{passing_in}
+
+-- the edges of an apply from the sources of a piece, where these tests are those of its ends
+abbrev pub edges_of_piece : PushWork → (from to : ℕ → Bool) → (piece : ℕ) → List (ℕ × ℕ)
+edges_of_piece w from to k = filter (λ e. to e.1) (rows w.flat.now.edges (passing_in w.tested from (piece_of w.cuts w.sources.items k)))
+
+-- a piece answers what its edges give
+abbrev pub Answers : PushWork → (piece : ℕ) → Gathered → Type 0
+Answers w k g = (m : StateValue) (steps : List StepsTree) (from to : ℕ → Bool) → w.vectors.now.vectors ≡ m.vectors → HasSizes w.sizes.now m
+    → AreKernels w.apply.first.now w.apply.second steps → IsEndTest w.apply.from m from → IsEndTest w.apply.to m to
+    → AreGathered w.flat.now.vertices m steps (edges_of_piece w from to k) g
+
+-- so each of these does
+abbrev pub AreAnswers : PushWork → List (Found Gathered) → Type 0
+AreAnswers w [] = Unit {0}
+AreAnswers w (f ∷ fs) = Answers w f.piece f.out × AreAnswers w fs
+
+-- the pieces that are found
+abbrev pub pieces_of : List (Found Gathered) → List ℕ
+pieces_of fs = map (λ f. f.piece) fs
+
+-- what is found of pieces is what these edges give
+abbrev pub EachGathered : (vertices : ℕ) → StateValue → List StepsTree → (edges_of : ℕ → List (ℕ × ℕ)) → List (Found Gathered) → Type 0
+EachGathered n m steps edges_of [] = Unit {0}
+EachGathered n m steps edges_of (f ∷ fs) = AreGathered n m steps (edges_of f.piece) f.out × EachGathered n m steps edges_of fs

@@ -1,0 +1,152 @@
+//! The sources of an apply, listed.
+ghost use Rattle.std.specs.Prelude.{◌≡◌, ℕ, ◌<◌, Bool, true, false, List, length, map, IfOk};
+ghost use Rattle.algorithm_meaning.specs.EdgeApply.{is_member};
+ghost use Rattle.algorithm_meaning.specs.State.{StateValue};
+ghost use Rattle.schedule.specs.declared.choice.Parallelization.TheVariants.{EdgeAwareDynamicVertex};
+ghost use Rattle.stack_code.specs.Cells.{HasSizes};
+ghost use Rattle.edge_fold.specs.Ends.{IsEndTest, IsTest};
+ghost use Rattle.tree_batch.specs.Neighbours.{destinations_of};
+ghost use Rattle.push_engine.specs.Sources.{AreSources, AscendsFrom};
+
+use edge_fold::{Functions, Scratch};
+use flat_snapshot::Flat;
+use kernels::{Apply, End};
+use schedule::{Direction, Parallelization};
+use std::alloc::{AllocError, Global};
+use vertex_sets::VertexSet;
+
+/// Sources, ascending, and whether each piece is to test its own.
+#[derive(Drop)]
+pub(crate) struct Listed {
+    pub(crate) sources: Vec<u32>,
+    pub(crate) tested: bool,
+}
+
+/// The sources of an apply. By the direction `DensePush` all vertices with edges are listed, and tested in their pieces.
+/// The only error is out of memory.
+pub(crate) fn list_sources(
+    alloc: Global,
+    apply: &Apply<'_>,
+    flat: &Flat,
+    functions: Functions<'_>,
+    scratch: &mut Scratch,
+) -> Result<Listed, AllocError>
+    ensures { IfOk result (λ l. (m : StateValue) (from : ℕ → Bool) → functions.entry.vectors.now.vectors ≡ m.vectors → HasSizes functions.entry.sizes.now m → IsEndTest apply.now.from m from
+        → AreSources flat.now.edges from l.tested l.sources.items) }
+{
+    match apply.from {
+        None => {
+            let sources = all_sources(alloc, flat)?;
+            Ok(Listed {
+                sources,
+                tested: false,
+            })
+        }
+        Some(end) => {
+            let listed = list_from(alloc, apply.direction, end, flat, functions, scratch)?;
+            Ok(listed)
+        }
+    }
+}
+
+/// The same where only some pass.
+fn list_from(
+    alloc: Global,
+    direction: Direction,
+    from: End<'_>,
+    flat: &Flat,
+    functions: Functions<'_>,
+    scratch: &mut Scratch,
+) -> Result<Listed, AllocError>
+    ensures { IfOk result (λ l. (m : StateValue) (test : ℕ → Bool) → functions.entry.vectors.now.vectors ≡ m.vectors → HasSizes functions.entry.sizes.now m → IsTest from.entry m test
+        → AreSources flat.now.edges test l.tested l.sources.items) }
+{
+    if direction == Direction::DensePush {
+        let sources = all_sources(alloc, flat)?;
+        return Ok(Listed {
+            sources,
+            tested: true,
+        });
+    }
+    let sources = passing_sources(alloc, from, flat, functions, scratch)?;
+    Ok(Listed {
+        sources,
+        tested: false,
+    })
+}
+
+/// The sources that pass.
+fn passing_sources(
+    alloc: Global,
+    from: End<'_>,
+    flat: &Flat,
+    functions: Functions<'_>,
+    scratch: &mut Scratch,
+) -> Result<Vec<u32>, AllocError>
+    ensures { IfOk result (λ us. (m : StateValue) (test : ℕ → Bool) → functions.entry.vectors.now.vectors ≡ m.vectors → HasSizes functions.entry.sizes.now m → IsTest from.entry m test
+        → AreSources flat.now.edges test false us.items) }
+{
+    match from {
+        End::Members(set) => {
+            let members = members_of(alloc, set)?;
+            Ok(members)
+        }
+        End::Filter(_) => {
+            let all = all_sources(alloc, flat)?;
+            let mut kept = Vec::new(alloc);
+            scratch.keep_passing(functions, from, &all, &mut kept)?;
+            Ok(kept)
+        }
+    }
+}
+
+/// All vertices with edges from them.
+fn all_sources(alloc: Global, flat: &Flat) -> Result<Vec<u32>, AllocError>
+    ensures ascending { IfOk result (λ us. AscendsFrom 0 us.items) }
+    ensures all { IfOk result (λ us. (u : ℕ) → 0 < length (destinations_of u flat.now.edges) → is_member u us.items ≡ true) }
+{
+    let mut found = Vec::new(alloc);
+    'sources: for (source, _) in flat.sources() {
+        found.push(source)?;
+    }
+    Ok(found)
+}
+
+/// The members of a set.
+fn members_of(alloc: Global, set: &VertexSet) -> Result<Vec<u32>, AllocError>
+    ensures ascending { IfOk result (λ us. AscendsFrom 0 us.items) }
+    ensures members { IfOk result (λ us. us.items ≡ set.now.members) }
+{
+    let mut found = Vec::new(alloc);
+    'members: for member in set.iter() {
+        found.push(member)?;
+    }
+    Ok(found)
+}
+
+/// How many edges there are from each source, where a schedule asks for it, and else none.
+pub(crate) fn degrees_for(
+    alloc: Global,
+    parallelization: Parallelization,
+    flat: &Flat,
+    sources: &[u32],
+) -> Result<Vec<u32>, AllocError>
+    ensures { IfOk result (λ ds. parallelization ≡ EdgeAwareDynamicVertex → ds.items ≡ map (λ u. length (destinations_of u flat.now.edges)) sources.now) }
+{
+    if parallelization == Parallelization::EdgeAwareDynamicVertex {
+        let degrees = degrees_of(alloc, flat, sources)?;
+        return Ok(degrees);
+    }
+    Ok(Vec::new(alloc))
+}
+
+/// The same of any schedule.
+fn degrees_of(alloc: Global, flat: &Flat, sources: &[u32]) -> Result<Vec<u32>, AllocError>
+    ensures { IfOk result (λ ds. ds.items ≡ map (λ u. length (destinations_of u flat.now.edges)) sources.now) }
+{
+    let mut degrees = Vec::with_capacity(alloc, sources.len())?;
+    'sources: for source in sources {
+        degrees.push(flat.out_degree(*source))?;
+    }
+    Ok(degrees)
+}

@@ -1,0 +1,93 @@
+//! An apply in pieces.
+ghost use Rattle.std.specs.Prelude.{◌≡◌, ℕ, Bool, Err, length, map, vec_len, IfOk};
+ghost use Rattle.algorithm_meaning.specs.State.{StateValue};
+ghost use Rattle.stack_code.specs.Cells.{HasSizes};
+ghost use Rattle.crew.specs.declared.error.CrewError.TheVariants.{BadWorkers};
+ghost use Rattle.crew.specs.Outcome.{AreWorkers};
+ghost use Rattle.edge_fold.specs.Ends.{IsEndTest};
+ghost use Rattle.piece_cuts.specs.Ends.{ends_by};
+ghost use Rattle.piece_cuts.specs.Pieces.{AreEnds};
+ghost use Rattle.tree_batch.specs.Neighbours.{destinations_of};
+ghost use Rattle.std.proofs.Props.{props};
+ghost use Rattle.push_engine.specs.Propositions.{AreEnds-prop, AscendsFrom-prop};
+ghost use Rattle.push_engine.specs.Sources.{AreSources};
+
+use crate::listed::{degrees_for, list_sources};
+use crew::CrewError;
+use edge_fold::{Functions, Scratch, Start};
+use flat_snapshot::Flat;
+use kernels::Apply;
+use piece_cuts::Cuts;
+use std::alloc::Global;
+use vectors::Vectors;
+
+/// An apply in pieces, which workers may do side by side: the sources are cut as its schedule says, and a piece answers
+/// what the edges from its sources give. [`PushWork::merge`] makes the changes of the whole apply of it.
+#[derive(Drop)]
+pub struct PushWork<'a> {
+    pub(crate) apply: Apply<'a>,
+    pub(crate) flat: &'a Flat,
+    pub(crate) vectors: &'a Vectors,
+    pub(crate) sizes: &'a [i64],
+    pub(crate) sources: Vec<u32>,
+    pub(crate) tested: bool,
+    pub(crate) cuts: Cuts,
+    ghost whole: { AreEnds 0 (length sources.items) cuts } by { AreEnds-prop 0 (length sources.items) cuts },
+    ghost passing: { (m : StateValue) (from : ℕ → Bool) → vectors.now.vectors ≡ m.vectors → HasSizes sizes.now m → IsEndTest apply.from m from
+        → AreSources flat.now.edges from tested sources.items } by { Prim.hlevel (AscendsFrom-prop, props) },
+}
+
+impl<'a> PushWork<'a> {
+    /// The pieces of an apply for so many workers, 1 to 64. The sources are listed, and where the schedule cuts by
+    /// edges, their degrees are read: it takes time in proportion to the sources, and where a filter or the direction
+    /// `DensePush` asks for it, to the vertices with edges. `sizes` are the sizes of the vertex sets by their places.
+    /// The scratch serves any apply after this one.
+    ///
+    /// Errors: `BadWorkers` where the number of workers is not 1 to 64, else `NoMemory`.
+    pub fn new(
+        alloc: Global,
+        apply: &Apply<'a>,
+        flat: &'a Flat,
+        vectors: &'a Vectors,
+        sizes: &'a [i64],
+        workers: usize,
+        scratch: &mut Scratch,
+    ) -> Result<PushWork<'a>, CrewError>
+        ensures workers { IfOk result (λ _. AreWorkers workers) }
+        ensures refused { result ≡ Err BadWorkers → ¬ AreWorkers workers }
+        ensures apply { IfOk result (λ w. w.apply ≡ apply.now) }
+        ensures flat { IfOk result (λ w. w.flat.now ≡ flat.now) }
+        ensures vectors { IfOk result (λ w. w.vectors.now ≡ vectors.now) }
+        ensures sizes { IfOk result (λ w. w.sizes.now ≡ sizes.now) }
+        ensures cuts { IfOk result (λ w. w.cuts ≡ ends_by apply.now.parallelization workers (vec_len w.sources) (map (λ u. length (destinations_of u flat.now.edges)) w.sources.items)) }
+    {
+        if workers < 1 || 64 < workers {
+            return Err(CrewError::BadWorkers);
+        }
+        let functions = Functions {
+            first: apply.first,
+            second: apply.second,
+            vectors,
+            sizes,
+            vertices: flat.vertices(),
+            start: Start::Unit,
+        };
+        let listed = list_sources(alloc, apply, flat, functions, scratch)?;
+        let count = listed.sources.len();
+        // A graph has fewer vertices.
+        if count > u32::MAX as usize {
+            return Err(CrewError::NoMemory);
+        }
+        let degrees = degrees_for(alloc, apply.parallelization, flat, &listed.sources)?;
+        let cuts = Cuts::of(alloc, apply.parallelization, workers, count, &degrees)?;
+        Ok(PushWork {
+            apply: *apply,
+            flat,
+            vectors,
+            sizes,
+            sources: listed.sources,
+            tested: listed.tested,
+            cuts,
+        })
+    }
+}
