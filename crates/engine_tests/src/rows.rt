@@ -1,0 +1,191 @@
+//! Applies on small graphs, in every direction and in pieces.
+
+use compiler::compile;
+use crew::{Found, Work};
+use edge_fold::{Gathered, Scratch};
+use flat_snapshot::Flat;
+use kernels::{Apply, EdgeKernel};
+use pull_engine::{is_pull_cheaper, pull};
+use push_engine::{PushWork, push};
+use schedule::{DenseVertexSet, Direction, Parallelization};
+use std::alloc::Global;
+use std::io::Error;
+use std::test::Fail;
+use tree_batch::{Batch, Entry, Graph};
+use typed_tree::{Sequence, Typed};
+use vectors::{Change, Changes, Vectors};
+use vertex_sets::{Form, VertexSet};
+
+// The vectors w and x, which programs declare in this order.
+const X: usize = 1;
+
+// How an apply is done: by an engine alone, or in pieces for so many workers, whose answers come in order or turned round.
+#[derive(Clone, Copy)]
+enum Way {
+    Push,
+    Pull,
+    Pieces(Parallelization, usize),
+    PiecesTurned(Parallelization, usize),
+}
+
+const WAYS: [Way; 8] = [
+    Way::Push,
+    Way::Pull,
+    Way::Pieces(Parallelization::Serial, 1),
+    Way::Pieces(Parallelization::StaticVertex, 1),
+    Way::Pieces(Parallelization::StaticVertex, 2),
+    Way::PiecesTurned(Parallelization::StaticVertex, 3),
+    Way::PiecesTurned(Parallelization::DynamicVertex, 2),
+    Way::PiecesTurned(Parallelization::EdgeAwareDynamicVertex, 3),
+];
+
+// A graph of so many vertices with these edges.
+fn graph_of(alloc: Global, vertices: u32, edges: &[(u32, u32)]) -> Result<Flat, Fail> {
+    let mut batch = Batch::new(alloc);
+    for (source, destination) in edges {
+        batch.push(Entry::Add(*source, *destination))?;
+    }
+    let graph = Graph::new(vertices, 64)?.apply(alloc, &batch)?;
+    Ok(Flat::of(alloc, &graph)?)
+}
+
+// The kernel of an edge function with this body.
+fn kernel_of(alloc: Global, body: &str) -> Result<EdgeKernel, Fail> {
+    let text = format!(in alloc; "element Vertex end element Edge end \
+        const edges : edgeset{{Edge}}(Vertex, Vertex) = load(argv[1]); \
+        const w : vector{{Vertex}}(int) = 0; const x : vector{{Vertex}}(int) = 0; \
+        func give(s : Vertex, d : Vertex) {body} end func main() end")?;
+    let program = compile(alloc, text.as_bytes())?;
+    first_kernel(alloc, &program)
+}
+
+fn first_kernel(alloc: Global, program: &Typed) -> Result<EdgeKernel, Fail> {
+    match program.edge_functions.first() {
+        Some(function) => Ok(EdgeKernel::of_function(alloc, function)?),
+        None => Err(Error::other("the program has no edge function"))?,
+    }
+}
+
+fn vectors_of(alloc: Global, w: &[i64], x: &[i64]) -> Result<Vectors, Fail> {
+    let mut arrays = Vec::new(alloc);
+    arrays.push(Sequence::new(Vec::from_slice(alloc, w)?))?;
+    arrays.push(Sequence::new(Vec::from_slice(alloc, x)?))?;
+    Ok(Vectors::new(alloc, arrays)?)
+}
+
+// The apply to all edges, cut as a schedule says.
+fn apply_of<'a>(kernel: &'a EdgeKernel, parallelization: Parallelization) -> Apply<'a> {
+    Apply {
+        from: None,
+        to: None,
+        first: kernel,
+        second: None,
+        direction: Direction::SparsePush,
+        parallelization,
+        dense_vertex_set: DenseVertexSet::BoolArray,
+    }
+}
+
+// What an apply to all edges changes, done in this way.
+fn changes_of(
+    alloc: Global,
+    way: Way,
+    kernel: &EdgeKernel,
+    flat: &Flat,
+    vectors: &Vectors,
+) -> Result<Changes, Fail> {
+    let mut scratch = Scratch::new(alloc);
+    match way {
+        Way::Push => {
+            let apply = apply_of(kernel, Parallelization::Serial);
+            Ok(push(alloc, &apply, flat, vectors, &[], &mut scratch)?)
+        }
+        Way::Pull => {
+            let apply = apply_of(kernel, Parallelization::Serial);
+            Ok(pull(alloc, &apply, flat, vectors, &[], &mut scratch)?)
+        }
+        Way::Pieces(cut, workers) => {
+            let apply = apply_of(kernel, cut);
+            let work = PushWork::new(alloc, &apply, flat, vectors, &[], workers, &mut scratch)?;
+            let found = pieces_of(alloc, &work, &mut scratch)?;
+            Ok(work.merge(alloc, &found, &mut scratch)?)
+        }
+        Way::PiecesTurned(cut, workers) => {
+            let apply = apply_of(kernel, cut);
+            let work = PushWork::new(alloc, &apply, flat, vectors, &[], workers, &mut scratch)?;
+            let mut found = pieces_of(alloc, &work, &mut scratch)?;
+            found.reverse();
+            Ok(work.merge(alloc, &found, &mut scratch)?)
+        }
+    }
+}
+
+// What each piece answers, in order.
+fn pieces_of(
+    alloc: Global,
+    work: &PushWork<'_>,
+    scratch: &mut Scratch,
+) -> Result<Vec<Found<Gathered>>, Fail> {
+    let mut found = Vec::new(alloc);
+    for place in 0..work.pieces() {
+        let piece = place + 1;
+        let out = work.piece(alloc, scratch, piece)?;
+        found.push(Found { piece, out })?;
+    }
+    Ok(found)
+}
+
+// The changes in x, and none in another vector.
+fn in_x(changes: &Changes) -> &[Change] {
+    match changes.vectors.first() {
+        Some(of_vector) if of_vector.vector == X => of_vector.changes.as_slice(),
+        _ => &[],
+    }
+}
+
+#[test]
+fn a_turn_reads_what_was_before_it(rt: HostRuntime) -> Result<(), Fail> {
+    let alloc = rt.alloc();
+    let flat = graph_of(alloc, 3, &[(0, 1), (1, 2)])?;
+    let kernel = kernel_of(alloc, "x[d] max= x[s];")?;
+    for way in WAYS {
+        let mut vectors = vectors_of(alloc, &[0, 0, 0], &[1, 0, 0])?;
+        for vertex in [1, 2] {
+            let changes = changes_of(alloc, way, &kernel, &flat, &vectors)?;
+            assert!(rt; in_x(&changes) == [Change { vertex, number: 1 }].as_slice());
+            vectors.write(&changes);
+        }
+        let changes = changes_of(alloc, way, &kernel, &flat, &vectors)?;
+        assert!(rt; in_x(&changes).is_empty());
+    }
+    Ok(())
+}
+
+#[test]
+fn what_cancels_changes_nothing(rt: HostRuntime) -> Result<(), Fail> {
+    let alloc = rt.alloc();
+    let flat = graph_of(alloc, 3, &[(0, 2), (1, 2)])?;
+    let kernel = kernel_of(alloc, "x[d] += w[s];")?;
+    let vectors = vectors_of(alloc, &[5, -5, 0], &[0, 0, 7])?;
+    for way in WAYS {
+        let changes = changes_of(alloc, way, &kernel, &flat, &vectors)?;
+        assert!(rt; in_x(&changes).is_empty());
+    }
+    Ok(())
+}
+
+#[test]
+fn the_hybrid_pulls_from_many_edges(rt: HostRuntime) -> Result<(), Fail> {
+    let alloc = rt.alloc();
+    let mut edges = Vec::new(alloc);
+    for destination in 1..50u32 {
+        edges.push((0, destination))?;
+    }
+    let flat = graph_of(alloc, 50, &edges)?;
+    for (source, pulls) in [(0, true), (1, false)] {
+        let mut sources = VertexSet::empty(alloc, 50, Form::List)?;
+        sources.insert(source)?;
+        assert!(rt; is_pull_cheaper(&flat, &sources) == pulls);
+    }
+    Ok(())
+}
