@@ -1,6 +1,5 @@
 -- Edges may come in any order.
-use Rattle.std.proofs.Common.{◌≡◌, ℕ, ◌<◌, ℤ, List, [], ◌∷◌, ◌++◌, refl, sym, ap, ◌∙◌}
-use Rattle.std.proofs.lemmas.List.{append-nil}
+use Rattle.std.proofs.Common.{◌≡◌, ℕ, ℤ, List, [], ◌∷◌, refl, sym, ap, ◌∙◌}
 use Rattle.std.specs.List.{flat_map, fold}
 use Rattle.std.specs.List.Sorted.{IsPermutation}
 use Rattle.syntax.specs.declared.statement.Reduction.{Reduction}
@@ -9,8 +8,8 @@ use Rattle.algorithm_meaning.specs.State.{StateValue}
 use Rattle.algorithm_meaning.proofs.Lists.{fold-permutation}
 use Rattle.edge_fold.specs.declared.functions.Functions.{Functions}
 use Rattle.edge_fold.specs.declared.scratch.Scratch.{Scratch}
-use Rattle.edge_fold.specs.Folded.{HasFolded, HasFoldedFor}
-use Rattle.edge_fold.specs.Given.{IsReducedBy, all_given, given_on, reduced_at}
+use Rattle.edge_fold.specs.Folded.{HasFolded}
+use Rattle.edge_fold.specs.Given.{all_given, given_on, reduced_at}
 use Rattle.edge_fold.specs.Seeds.{first_entry}
 use Rattle.edge_fold.proofs.Folds.{given_on-append, reduced_at-append, reduced_at-swap}
 

@@ -152,12 +152,7 @@ impl Accumulator {
     /// What these vertices of the graph were given, which do not fall, each named once; `new` is any account of a
     /// number that is combined with that at these vertices, and stays at all others of the graph. The only error is out
     /// of memory.
-    fn numbers(
-        &self,
-        alloc: Global,
-        kept: &[u32],
-        vertices: u32,
-    ) -> Result<Vec<Change>, AllocError>
+    fn numbers(&self, alloc: Global, kept: &[u32], vertices: u32) -> Result<Vec<Change>, AllocError>
         ensures { IsNonDecreasing kept.now → (r : Reduction) (h : ℤ) (new : ℕ → ℤ) → ((v : ℕ) → Contains kept.now v → new v ≡ held_with (combined FromUnit r) self.now v h)
             → ((v : ℕ) → v < vertices → ¬ Contains kept.now v → new v ≡ h)
             → IfOk result (λ cs. (v : ℕ) → v < vertices → reduced_at r v h (numbers_of cs.items) ≡ new v) }

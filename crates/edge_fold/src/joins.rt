@@ -321,8 +321,8 @@ pub(crate) fn gives_some(gift: Gift<'_>, count: usize) -> bool
     ensures some { result ≡ true → (i : ℕ) × (i < count) × (truth_at gift.entry.when i ≡ true) }
     ensures none { result ≡ false → (i : ℕ) → i < count → truth_at gift.entry.when i ≡ false }
 {
-    'pairs: for place in 0..count {
-        if is_given(gift, place) {
+    'pairs: for pair in 0..count {
+        if is_given(gift, pair) {
             return true;
         }
     }

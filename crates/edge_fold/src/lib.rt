@@ -5,9 +5,14 @@
 //! destinations, and [`Scratch::fold_into`] a destination with up to 128 of its sources. [`Scratch::changes`] says at the
 //! end what has changed, for each vector once, by ascending vertices.
 //!
+//! A worker that does a piece of an apply lets new entries begin with the unit of the reduction ([`Start`]).
+//! [`Scratch::gathered`] then says what its edges give, one number for each vertex that is given something, and
+//! [`Scratch::join_gathered`] joins that to the entries of the whole, piece by piece in any order.
+//!
 //! `HasFolded` (`specs/Folded.antt`) says which edges a scratch has folded: for each vector to which the functions give
 //! by one reduction, the new entries, reduced with what the edges that still wait give, are the old entries reduced with
-//! what those edges give. `changes` then promises the entries after an apply of them (`after_edges` of
+//! what those edges give. Where new entries begin with the unit, a number that is
+//! reduced with one is that number reduced with what those edges give (`specs/Seeds.antt`). `changes` then promises the entries after an apply of them (`after_edges` of
 //! `algorithm_meaning`), for each vector that has an entry for each vertex. The functions read the vectors that are
 //! lent, which stay as they are until the changes are written.
 //!

@@ -1,16 +1,15 @@
 -- The sources of an apply, in a list.
-use Rattle.std.proofs.Common.{◌≡◌, append_assoc, ℕ, zero, suc, ◌+◌, ◌-◌, ◌<◌, ◌≤◌, Bool, true, cond, ◌&&◌, Option, Some, None, List, [], ◌∷◌, ◌++◌, length, get_or, refl, sym, ap, ◌∙◌, arith}
+use Rattle.std.proofs.Common.{◌≡◌, append_assoc, ℕ, zero, suc, ◌+◌, ◌-◌, ◌<◌, ◌≤◌, Bool, true, cond, ◌&&◌, List, [], ◌∷◌, ◌++◌, length, get_or, refl, sym, ap, ◌∙◌, arith}
 use Rattle.std.proofs.lemmas.List.{append-nil}
 use Rattle.std.specs.List.{filter}
 use Rattle.algorithm_meaning.specs.EdgeApply.{is_member}
-use Rattle.kernels.specs.declared.apply.End.{End}
 use Rattle.schedule.specs.declared.choice.Parallelization.{Parallelization}
 use Rattle.schedule.specs.declared.choice.Parallelization.TheVariants.{Serial, StaticVertex, DynamicVertex, EdgeAwareDynamicVertex}
 use Rattle.piece_cuts.specs.Ends.{edge_aware_ends, ends_by}
 use Rattle.piece_cuts.specs.Pieces.{AreEnds, end_of}
 use Rattle.tree_batch.specs.Neighbours.{destinations_of}
 use Rattle.vertex_sets.proofs.Ascending.{Rises}
-use Rattle.push_engine.specs.Sources.{AreSources, AscendsFrom}
+use Rattle.push_engine.specs.Sources.{AscendsFrom}
 use Rattle.push_engine.proofs.Walked.{member_filtered, rises_filtered}
 
 pub ascends : (low : ℕ) (us : List ℕ) → Rises low us → AscendsFrom low us

@@ -8,6 +8,10 @@
 //! and nothing in proportion to the graph. By the direction `DensePush` all vertices with edges are tested. A filter is
 //! run over the vertices with edges, 128 at a time. Neighbours are read in blocks of 128 and folded by `edge_fold`.
 //!
+//! [`PushWork`] is an apply in pieces, for the workers of `crew`: the sources are listed once and cut as the schedule says
+//! (`piece_cuts`), a piece answers what the edges from its sources give, and [`PushWork::merge`] makes the changes of the
+//! whole of all answers, in whatever order they come. Its promise is that of [`push`].
+//!
 //! Push and pull are those of Ligra's edge map (Shun, Blelloch, PPoPP 2013).
 #![tactic(auto)]
 

@@ -20,9 +20,9 @@ ghost use Rattle.push_engine.specs.Sources.{passing_in};
 use crate::sources::fold_rows;
 use crate::work::PushWork;
 use crew::{Found, Work};
+use edge_fold::{Functions, Gathered, Scratch, Start};
 use flat_snapshot::Flat;
 use kernels::End;
-use edge_fold::{Functions, Gathered, Scratch, Start};
 use std::alloc::{AllocError, Global};
 use vectors::Changes;
 
@@ -106,7 +106,7 @@ impl<'a> Work for PushWork<'a> {
     fn piece(
         &self,
         alloc: Global,
-        scratch: &mut Scratch,
+        state: &mut Scratch,
         piece: usize,
     ) -> Result<Gathered, AllocError> {
         let functions = Functions {
@@ -119,9 +119,9 @@ impl<'a> Work for PushWork<'a> {
         };
         let places = self.cuts.piece(piece);
         let part = part_between(&self.sources, places.start, places.end);
-        scratch.begin();
-        self.fold_part(alloc, functions, part, scratch)?;
-        let gathered = scratch.gathered(alloc, functions, self.apply.to)?;
+        state.begin();
+        self.fold_part(alloc, functions, part, state)?;
+        let gathered = state.gathered(alloc, functions, self.apply.to)?;
         Ok(gathered)
     }
 }

@@ -1,4 +1,4 @@
-use Rattle.std.proofs.Common.{◌≡◌, ◌++◌, ℕ, List, ap, ◌∙◌, sym, subst, true}
+use Rattle.std.proofs.Common.{◌++◌, ℕ, List, ap, ◌∙◌, sym, subst}
 use Rattle.algorithm_meaning.specs.EdgeApply.{is_member}
 use Rattle.edge_fold.specs.Between.{firsts}
 use Rattle.tree_batch.specs.Neighbours.{destinations_of}

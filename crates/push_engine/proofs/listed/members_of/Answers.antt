@@ -1,4 +1,4 @@
-use Rattle.std.proofs.Common.{◌≡◌, ◌++◌, ℕ, List, ap, ◌∙◌, sym, subst}
+use Rattle.std.proofs.Common.{◌++◌, ℕ, List, ap, ◌∙◌, sym, subst}
 use Rattle.vertex_sets.proofs.Ascending.{rises}
 use Rattle.push_engine.specs.Sources.{AscendsFrom}
 use Rattle.push_engine.proofs.SourceLists.{all_found, ascends, one_more_found}

@@ -1,4 +1,4 @@
-use Rattle.std.proofs.Common.{rules, ◌≡◌, ℤ, FitsSigned, w64, OnOk, sym, subst}
+use Rattle.std.proofs.Common.{rules, ℤ, FitsSigned, w64, OnOk, sym, subst}
 use Rattle.std.proofs.lemmas.Int.{to_z-of_z}
 use Rattle.syntax.specs.declared.statement.Reduction.{Reduction}
 use Rattle.syntax.specs.declared.statement.Reduction.TheVariants as reduction

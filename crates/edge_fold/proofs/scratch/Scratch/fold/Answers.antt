@@ -1,4 +1,4 @@
-use Rattle.std.proofs.Common.{◌≡◌, ◌==◌, ℕ, ℤ, List, [], ◌∷◌, cond, refl, ap, sym, subst}
+use Rattle.std.proofs.Common.{◌==◌, ℕ, ℤ, List, [], ◌∷◌, cond, refl, ap, sym, subst}
 use Rattle.syntax.specs.declared.statement.Reduction.{Reduction}
 use Rattle.edge_fold.specs.Given.{IsBy, all_given, each_given, given_on, reduced_at, row}
 use Rattle.edge_fold.proofs.Edges.{sent_row}

@@ -1,4 +1,4 @@
-use Rattle.std.proofs.Common.{rules, ℕ, ◌<◌, ◌++◌, ℤ, List, [], length, take, refl, ap, sym, ◌∙◌, subst, arith}
+use Rattle.std.proofs.Common.{rules, ℕ, ◌<◌, ◌++◌, [], length, take, ap, sym, ◌∙◌, subst}
 use Rattle.kernels.specs.Columns.{cells_at}
 use Rattle.stack_code.specs.FunctionCode.{given_by}
 use Rattle.kernels.specs.Gifts.{gift_at}

@@ -1,9 +1,9 @@
-use Rattle.std.proofs.Common.{rules, ◌≡◌, ◌<◌, ◌≤◌, ◌==◌, ◌++◌, ◌+◌, ℕ, List, [], cond, length, get_or, take, refl, sym, ap, ◌∙◌, subst}
+use Rattle.std.proofs.Common.{◌≡◌, ◌<◌, ◌≤◌, ◌==◌, ◌++◌, ◌+◌, [], cond, length, get_or, take, sym, ap, ◌∙◌}
 use Rattle.std.proofs.lemmas.List.{take_all}
 use Rattle.edge_fold.specs.Gathered.{gathered_for, numbers_of}
 use Rattle.edge_fold.specs.Given.{reduced_at}
 use Rattle.edge_fold.proofs.Gathering.{gathered_for_next, is_gathered_at}
-use Rattle.edge_fold.proofs.JoinedSlots.{joined_alike, joined_more, joined_nothing}
+use Rattle.edge_fold.proofs.JoinedSlots.{joined_alike, joined_more}
 use Rattle.edge_fold.proofs.slot.Slots.join_gathered.Goals as goal
 
 pub vectors-preserved : goal.vectors-preserved

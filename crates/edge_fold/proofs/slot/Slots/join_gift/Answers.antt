@@ -1,8 +1,8 @@
-use Rattle.std.proofs.Common.{rules, ◌≡◌, ◌<◌, ◌≤◌, ℕ, ℤ, Bool, true, false, List, [], length, refl, sym, ap, ◌∙◌, arith}
+use Rattle.std.proofs.Common.{rules, ◌≡◌, ◌≤◌, ℕ, ℤ, false, List, [], length, refl, sym, ap, arith}
 use Rattle.edge_fold.specs.declared.slot.Slot.{Slot}
 use Rattle.edge_fold.specs.Given.{given_from, reduced_at}
 use Rattle.edge_fold.specs.Seeds.{start_of}
-use Rattle.kernels.specs.Gifts.{gift_at, truth_at}
+use Rattle.kernels.specs.Gifts.{gift_at}
 use Rattle.edge_fold.proofs.JoinedSlots.{along, equal, joined_alike, joined_nothing, joined_slot}
 use Rattle.edge_fold.proofs.Rows.{none_given, others_get_nothing, own_reduction}
 use Rattle.edge_fold.proofs.slot.Slots.join_gift.Goals as goal

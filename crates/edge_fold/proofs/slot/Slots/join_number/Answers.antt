@@ -1,4 +1,4 @@
-use Rattle.std.proofs.Common.{rules, ◌≡◌, ◌≤◌, ◌==◌, ℕ, ℤ, Bool, List, [], ◌∷◌, cond, length, FitsSigned, w64, refl, sym, ap, ◌∙◌}
+use Rattle.std.proofs.Common.{rules, ◌≤◌, ◌==◌, ℕ, ℤ, Bool, [], cond, length, FitsSigned, w64, refl, sym, ap, ◌∙◌}
 use Rattle.std.proofs.lemmas.Int.{to_z-of_z}
 use Rattle.edge_fold.specs.declared.slot.Slot.{Slot}
 use Rattle.edge_fold.specs.Given.{each_given, reduced_at}

@@ -1,4 +1,4 @@
-use Rattle.std.proofs.Common.{rules, ◌≡◌, ◌≤◌, ◌==◌, ℕ, ℤ, Bool, List, [], cond, length, refl, sym, ap, ◌∙◌}
+use Rattle.std.proofs.Common.{rules, ◌≤◌, ◌==◌, ℕ, ℤ, Bool, List, [], cond, length, refl, sym, ap, ◌∙◌}
 use Rattle.vectors.specs.declared.change.Change.{Change}
 use Rattle.edge_fold.specs.declared.slot.Slot.{Slot}
 use Rattle.edge_fold.specs.Gathered.{numbers_of}
