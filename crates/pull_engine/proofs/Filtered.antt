@@ -14,11 +14,11 @@ filtered_alike : (p q : ℕ × ℕ → Bool) (e : ℕ × ℕ) (ks ls : List (ℕ
 filtered_alike p q e ks ls b here there more =
     ap (λ (c : Bool). cond c (e ∷ ks) ks) (here ∙ sym there) ∙ ap (λ (ms : List (ℕ × ℕ)). cond (q e) (e ∷ ms) ms) more
 
-has_first : (e : ℕ × ℕ) (es : List (ℕ × ℕ)) → has_edge (e ∷ es) e ≡ true
+pub has_first : (e : ℕ × ℕ) (es : List (ℕ × ℕ)) → has_edge (e ∷ es) e ≡ true
 has_first e es =
     ap (λ (b : Bool). (b && (e.1 == e.1)) || has_edge es e) ((Decides-eqb e.0 e.0).1 refl) ∙ ap (λ (b : Bool). (true && b) || has_edge es e) ((Decides-eqb e.1 e.1).1 refl)
 
-has_later : (b c : Bool) → c ≡ true → b || c ≡ true
+pub has_later : (b c : Bool) → c ≡ true → b || c ≡ true
 has_later true c e = refl
 has_later false c e = e
 

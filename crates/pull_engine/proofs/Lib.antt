@@ -1,5 +1,6 @@
-pub mod Filtered
+mod Merging
 pub mod Bits
-pub mod Inserted
 pub mod ColumnFolds
+pub mod Filtered
+pub mod Inserted
 pub mod Walked

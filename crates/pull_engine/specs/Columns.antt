@@ -1,4 +1,4 @@
--- For proofs only: the edges into some destinations.
+-- The edges into some destinations.
 use Rattle.std.specs.Prelude.{ℕ, Bool, List, [], ◌∷◌, ◌++◌}
 use Rattle.std.specs.List.{filter}
 use Rattle.edge_fold.specs.Given.{column}

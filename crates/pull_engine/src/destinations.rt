@@ -118,7 +118,7 @@ fn fold_passing(
 }
 
 /// The same to these destinations.
-fn fold_columns(
+pub(crate) fn fold_columns(
     alloc: Global,
     flat: &Flat,
     functions: Functions<'_>,

@@ -11,14 +11,22 @@
 //! [`apply_edges`] does an apply by the direction that it names. The hybrid pulls where the sources and the edges from
 //! them are more than a twentieth of all edges ([`is_pull_cheaper`]), and else pushes.
 //!
+//! [`PullWork`] is an apply in pieces, which workers may do side by side: the destinations are cut as the schedule says
+//! (`piece_cuts`), a piece answers what the edges into its destinations give, and [`PullWork::merge`] makes the changes of
+//! the whole of all answers, in whatever order they come. Its promise is that of [`pull`].
+//!
 //! Push and pull, and the rule of the hybrid, are those of Ligra's edge map (Shun, Blelloch, PPoPP 2013).
 #![tactic(auto)]
 
 mod apply;
 mod changes;
 mod destinations;
+mod listed;
 mod members;
 mod passing;
+mod pieces;
+mod work;
 
 pub use apply::{apply_edges, is_pull_cheaper};
 pub use changes::pull;
+pub use work::PullWork;

@@ -24,6 +24,8 @@ mod sources;
 mod work;
 
 pub use apply::push;
+pub use listed::members_of;
+pub use merge::{join_all, part_between};
 pub use modified::apply_modified;
 pub use parts::take_part;
 pub use work::PushWork;

@@ -126,8 +126,8 @@ impl<'a> Work for PushWork<'a> {
     }
 }
 
-/// A part of a list.
-fn part_between(vertices: &[u32], start: usize, end: usize) -> &[u32]
+/// A part of a list, from one place on up to another.
+pub fn part_between(vertices: &[u32], start: usize, end: usize) -> &[u32]
     requires order { start ≤ end }
     requires inside { end ≤ length vertices.now }
     ensures { result.now ≡ slice_range vertices.now start end }
@@ -162,8 +162,8 @@ fn fold_passing_part(
     }
 }
 
-/// Folds the edges of which pieces have gathered what they give.
-fn join_all(
+/// Folds the edges of which pieces have gathered what they give. The only error is out of memory.
+pub fn join_all(
     alloc: Global,
     functions: Functions<'_>,
     found: &[Found<Gathered>],

@@ -1,0 +1,72 @@
+-- The pieces of an apply, put together.
+use Rattle.std.proofs.Common.{◌≡◌, ℕ, ◌<◌, ◌==◌, Bool, true, false, cond, List, [], ◌∷◌, ◌++◌, length, refl, sym, ap, ◌∙◌}
+use Rattle.std.specs.List.{filter, flat_map, range_with_len}
+use Rattle.std.specs.List.Sorted.{IsPermutation}
+use Rattle.typed_tree.specs.StepTree.{StepsTree}
+use Rattle.algorithm_meaning.specs.State.{StateValue}
+use Rattle.stack_code.specs.Cells.{HasSizes}
+use Rattle.crew.specs.declared.found.Found.{Found}
+use Rattle.edge_fold.specs.declared.functions.Functions.{Functions}
+use Rattle.edge_fold.specs.declared.gathered.Gathered.{Gathered}
+use Rattle.edge_fold.specs.declared.scratch.Scratch.{Scratch}
+use Rattle.edge_fold.specs.Between.{edges_between}
+use Rattle.edge_fold.specs.Ends.{IsEndTest}
+use Rattle.edge_fold.specs.Folded.{AreKernels, HasFolded}
+use Rattle.edge_fold.specs.Given.{column}
+use Rattle.edge_fold.proofs.Orders.{folded_in_any_order}
+use Rattle.edge_fold.proofs.Walks.{folded_along}
+use Rattle.piece_cuts.specs.Pieces.{AreEnds, all_pieces, piece_of}
+use Rattle.piece_cuts.proofs.PieceLists.{pieces_are_the_list}
+use Rattle.tree_batch.specs.Digraph.{Digraph, IsDigraph}
+use Rattle.tree_batch.specs.Edge.{edge_eq, has_edge}
+use Rattle.tree_batch.specs.Neighbours.{sources_of}
+use Rattle.push_engine.specs.Pieces.{EachGathered}
+use Rattle.push_engine.proofs.SourceLists.{rising}
+use Rattle.pull_engine.specs.declared.work.PullWork.{PullWork}
+use Rattle.pull_engine.specs.Columns.{columns}
+use Rattle.pull_engine.specs.Destinations.{AreDestinations}
+use Rattle.pull_engine.specs.Pieces.{AreAnswers, edges_into_piece}
+use Rattle.pull_engine.proofs.ColumnFolds.{columns-append, folded_columns}
+use Rattle.pull_engine.proofs.Filtered.{has_first, has_later}
+
+-- tests that agree on the sources of a graph let the same through
+agree_one : (p q : ℕ → Bool) (u : ℕ) (S : List ℕ) (b : Bool) → p u ≡ q u → filter p S ≡ filter q S → filter p (cond b (u ∷ S) S) ≡ filter q (cond b (u ∷ S) S)
+agree_one p q u S true here more = ap (λ (c : Bool). cond c (u ∷ filter p S) (filter p S)) here ∙ ap (λ (ks : List ℕ). cond (q u) (u ∷ ks) ks) more
+agree_one p q u S false here more = more
+
+sources_agree : (p q : ℕ → Bool) (v : ℕ) (es : List (ℕ × ℕ)) → ((e : ℕ × ℕ) → has_edge es e ≡ true → p e.0 ≡ q e.0) → filter p (sources_of v es) ≡ filter q (sources_of v es)
+sources_agree p q v [] same = refl
+sources_agree p q v (e ∷ es) same =
+    agree_one p q e.0 (sources_of v es) (e.1 == v) (same e (has_first e es))
+    (sources_agree p q v es (λ f has. same f (has_later (edge_eq e f) (has_edge es f) has)))
+
+pub columns_agree : (g : Digraph) (p q : ℕ → Bool) → IsDigraph g → ((v : ℕ) → v < g.vertices → p v ≡ q v) → (us : List ℕ) → columns p g.edges us ≡ columns q g.edges us
+columns_agree g p q is same [] = refl
+columns_agree g p q is same (u ∷ us) =
+    ap (λ (ss : List ℕ). column u ss ++ columns p g.edges us) (sources_agree p q u g.edges (λ e has. same e.0 (is.within e has).0))
+    ∙ ap (λ (ks : List (ℕ × ℕ)). column u (filter q (sources_of u g.edges)) ++ ks) (columns_agree g p q is same us)
+
+-- the edges into the destinations of all pieces
+columns_of_all : (from : ℕ → Bool) (edges : List (ℕ × ℕ)) (part : ℕ → List ℕ) (ks : List ℕ) → flat_map (λ k. columns from edges (part k)) ks ≡ columns from edges (flat_map part ks)
+columns_of_all from edges part [] = refl
+columns_of_all from edges part (k ∷ ks) =
+    ap (λ (es : List (ℕ × ℕ)). columns from edges (part k) ++ es) (columns_of_all from edges part ks) ∙ sym (columns-append from edges (part k) (flat_map part ks))
+
+pub merged : (f : Functions) (m : StateValue) (steps : List StepsTree) (edges : List (ℕ × ℕ)) (from to : ℕ → Bool) (ends us ks : List ℕ) (s : Scratch) → AreEnds 0 (length us) ends → AreDestinations edges to us
+    → IsPermutation ks (range_with_len 1 (length ends))
+    → HasFolded f m steps (flat_map (λ k. columns from edges (piece_of ends us k)) ks) s → HasFolded f m steps (edges_between from to edges) s
+merged f m steps edges from to ends us ks s whole are same has =
+    let part = piece_of ends us in
+    let edges_of = λ (k : ℕ). columns from edges (part k) in
+    let all = columns_of_all from edges part (range_with_len 1 (length ends)) ∙ ap (columns from edges) (pieces_are_the_list ends us whole) in
+    folded_columns f m steps from to us edges s (rising 0 us are.ascending) are.passing
+    (folded_along f m steps (flat_map edges_of (range_with_len 1 (length ends))) (columns from edges us) s all
+    (folded_in_any_order f m steps edges_of ks (range_with_len 1 (length ends)) s same has))
+
+-- what the pieces answer, for one state
+pub each_gathered : (w : PullWork) (fs : List (Found Gathered)) (m : StateValue) (steps : List StepsTree) (from to : ℕ → Bool) → AreAnswers w fs
+    → w.vectors.now.vectors ≡ m.vectors → HasSizes w.sizes.now m → AreKernels w.apply.first.now w.apply.second steps → IsEndTest w.apply.from m from → IsEndTest w.apply.to m to
+    → EachGathered w.flat.now.vertices m steps (edges_into_piece w from) fs
+each_gathered w [] m steps from to answers vectors sizes kernels is_from is_to = tt
+each_gathered w (f ∷ fs) m steps from to answers vectors sizes kernels is_from is_to =
+    (answers.0 m steps from to vectors sizes kernels is_from is_to, each_gathered w fs m steps from to answers.1 vectors sizes kernels is_from is_to)

@@ -1,0 +1,36 @@
+use Rattle.std.proofs.Common.{◌++◌, ℕ, List, ap, ◌∙◌, sym, subst}
+use Rattle.algorithm_meaning.specs.EdgeApply.{is_member}
+use Rattle.edge_fold.specs.Between.{firsts}
+use Rattle.tree_batch.specs.Neighbours.{sources_of}
+use Rattle.push_engine.specs.Sources.{AscendsFrom}
+use Rattle.push_engine.proofs.SourceLists.{all_found, ascends, one_more_found}
+use Rattle.push_engine.proofs.Walked.{degree_listed, degrees_rise}
+use Rattle.pull_engine.proofs.listed.all_destinations.Goals as goal
+
+pub destinations-init : goal.destinations-init
+destinations-init c =
+    let ds = c.destinations-destination-items.result in (
+      ds,
+      c.destinations-destination-items.ensures.degrees,
+      ap (λ (us : List ℕ). us ++ firsts c.into_iter-destination-iterator.result) c.new-found.ensures.items ∙ ap firsts c.into_iter-destination-iterator.ensures.into_iter_gives,
+    )
+
+pub destinations-preserved : goal.destinations-preserved
+destinations-preserved c =
+    let w = c.destinations.invariant in (
+      w.0,
+      w.1,
+      one_more_found c.destinations.found.items c.push.new.self.items (firsts w.0) (firsts c.destinations.destination-iterator) (firsts c.next.new.self) c.in-Some.destination c.in_ok-push.ensures.items (ap firsts c.in-Some.ensures.steps) w.2,
+    )
+
+pub returns-clause-ascending : goal.returns-clause-ascending
+returns-clause-ascending c =
+    let w = c.destinations.invariant in
+    let found = all_found c.destinations.found.items (firsts w.0) (firsts c.destinations.destination-iterator) (ap firsts c.in-None.ensures.steps.0) w.2 in
+    subst (λ (us : List ℕ). AscendsFrom 0 us) (sym found) (ascends 0 (firsts w.0) (degrees_rise (λ u. sources_of u c.args.flat.now.edges) w.0 w.1))
+
+pub returns-clause-all : goal.returns-clause-all
+returns-clause-all c u l =
+    let w = c.destinations.invariant in
+    let found = all_found c.destinations.found.items (firsts w.0) (firsts c.destinations.destination-iterator) (ap firsts c.in-None.ensures.steps.0) w.2 in
+    ap (is_member u) found ∙ degree_listed (λ u. sources_of u c.args.flat.now.edges) w.0 u w.1 l

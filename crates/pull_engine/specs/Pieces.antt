@@ -1,0 +1,28 @@
+-- What the pieces of an apply answer.
+use Rattle.std.specs.Prelude.{◌≡◌, ℕ, Bool, List, [], ◌∷◌}
+use Rattle.typed_tree.specs.StepTree.{StepsTree}
+use Rattle.algorithm_meaning.specs.State.{StateValue}
+use Rattle.stack_code.specs.Cells.{HasSizes}
+use Rattle.crew.specs.declared.found.Found.{Found}
+use Rattle.edge_fold.specs.declared.gathered.Gathered.{Gathered}
+use Rattle.edge_fold.specs.Ends.{IsEndTest}
+use Rattle.edge_fold.specs.Folded.{AreKernels}
+use Rattle.edge_fold.specs.Gathered.{AreGathered}
+use Rattle.piece_cuts.specs.Pieces.{piece_of}
+use Rattle.pull_engine.specs.declared.work.PullWork.{PullWork}
+use Rattle.pull_engine.specs.Columns.{columns}
+
+-- the edges of an apply into the destinations of a piece, where this test is that of its sources
+abbrev pub edges_into_piece : PullWork → (from : ℕ → Bool) → (piece : ℕ) → List (ℕ × ℕ)
+edges_into_piece w from k = columns from w.flat.now.edges (piece_of w.cuts w.destinations.items k)
+
+-- a piece answers what its edges give
+abbrev pub Answers : PullWork → (piece : ℕ) → Gathered → Type 0
+Answers w k g = (m : StateValue) (steps : List StepsTree) (from to : ℕ → Bool) → w.vectors.now.vectors ≡ m.vectors → HasSizes w.sizes.now m
+    → AreKernels w.apply.first.now w.apply.second steps → IsEndTest w.apply.from m from → IsEndTest w.apply.to m to
+    → AreGathered w.flat.now.vertices m steps (edges_into_piece w from k) g
+
+-- so each of these does
+abbrev pub AreAnswers : PullWork → List (Found Gathered) → Type 0
+AreAnswers w [] = Unit {0}
+AreAnswers w (f ∷ fs) = Answers w f.piece f.out × AreAnswers w fs

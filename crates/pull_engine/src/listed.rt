@@ -1,0 +1,143 @@
+//! The destinations of an apply, listed, and its sources as bits.
+ghost use Rattle.std.specs.Prelude.{◌≡◌, ℕ, ◌<◌, Bool, true, List, length, map, IfOk, IfSome};
+ghost use Rattle.algorithm_meaning.specs.EdgeApply.{is_member};
+ghost use Rattle.algorithm_meaning.specs.State.{StateValue};
+ghost use Rattle.schedule.specs.declared.choice.Parallelization.TheVariants.{EdgeAwareDynamicVertex};
+ghost use Rattle.stack_code.specs.Cells.{HasSizes};
+ghost use Rattle.edge_fold.specs.Ends.{IsEndTest, IsTest};
+ghost use Rattle.tree_batch.specs.Neighbours.{sources_of};
+ghost use Rattle.push_engine.specs.Sources.{AscendsFrom};
+ghost use Rattle.pull_engine.specs.Destinations.{AreDestinations, passes_set};
+ghost use Rattle.pull_engine.specs.Words.{passes_words};
+
+use crate::passing::passing_set;
+use edge_fold::{Functions, Scratch};
+use flat_snapshot::Flat;
+use kernels::End;
+use push_engine::members_of;
+use schedule::Parallelization;
+use std::alloc::{AllocError, Global};
+use vertex_sets::{Form, VertexSet};
+
+/// The destinations of an apply: the members of a set, or the vertices with edges to them, of which a filter lets some
+/// through. The only error is out of memory.
+pub(crate) fn list_destinations(
+    alloc: Global,
+    to: Option<End<'_>>,
+    flat: &Flat,
+    functions: Functions<'_>,
+    scratch: &mut Scratch,
+) -> Result<Vec<u32>, AllocError>
+    ensures { IfOk result (λ vs. (m : StateValue) (test : ℕ → Bool) → functions.entry.vectors.now.vectors ≡ m.vectors → HasSizes functions.entry.sizes.now m → IsEndTest to.entry m test
+        → AreDestinations flat.now.edges test vs.items) }
+{
+    match to {
+        None => {
+            let all = all_destinations(alloc, flat)?;
+            Ok(all)
+        }
+        Some(end) => {
+            let passing = passing_destinations(alloc, end, flat, functions, scratch)?;
+            Ok(passing)
+        }
+    }
+}
+
+/// Those that pass.
+fn passing_destinations(
+    alloc: Global,
+    to: End<'_>,
+    flat: &Flat,
+    functions: Functions<'_>,
+    scratch: &mut Scratch,
+) -> Result<Vec<u32>, AllocError>
+    ensures { IfOk result (λ vs. (m : StateValue) (test : ℕ → Bool) → functions.entry.vectors.now.vectors ≡ m.vectors → HasSizes functions.entry.sizes.now m → IsTest to.entry m test
+        → AreDestinations flat.now.edges test vs.items) }
+{
+    match to {
+        End::Members(set) => {
+            let members = members_of(alloc, set)?;
+            Ok(members)
+        }
+        End::Filter(_) => {
+            let all = all_destinations(alloc, flat)?;
+            let mut kept = Vec::new(alloc);
+            scratch.keep_passing(functions, to, &all, &mut kept)?;
+            Ok(kept)
+        }
+    }
+}
+
+/// All vertices with edges to them.
+fn all_destinations(alloc: Global, flat: &Flat) -> Result<Vec<u32>, AllocError>
+    ensures ascending { IfOk result (λ vs. AscendsFrom 0 vs.items) }
+    ensures all { IfOk result (λ vs. (v : ℕ) → 0 < length (sources_of v flat.now.edges) → is_member v vs.items ≡ true) }
+{
+    let mut found = Vec::new(alloc);
+    'destinations: for (destination, _) in flat.destinations() {
+        found.push(destination)?;
+    }
+    Ok(found)
+}
+
+/// How many edges there are to each destination, where a schedule asks for it, and else none.
+pub(crate) fn degrees_for(
+    alloc: Global,
+    parallelization: Parallelization,
+    flat: &Flat,
+    destinations: &[u32],
+) -> Result<Vec<u32>, AllocError>
+    ensures { IfOk result (λ ds. parallelization ≡ EdgeAwareDynamicVertex → ds.items ≡ map (λ v. length (sources_of v flat.now.edges)) destinations.now) }
+{
+    if parallelization == Parallelization::EdgeAwareDynamicVertex {
+        let degrees = degrees_of(alloc, flat, destinations)?;
+        return Ok(degrees);
+    }
+    Ok(Vec::new(alloc))
+}
+
+/// The same of any schedule.
+fn degrees_of(alloc: Global, flat: &Flat, destinations: &[u32]) -> Result<Vec<u32>, AllocError>
+    ensures { IfOk result (λ ds. ds.items ≡ map (λ v. length (sources_of v flat.now.edges)) destinations.now) }
+{
+    let mut degrees = Vec::with_capacity(alloc, destinations.len())?;
+    'destinations: for destination in destinations {
+        degrees.push(flat.in_degree(*destination))?;
+    }
+    Ok(degrees)
+}
+
+/// The sources that pass, as bits, where not all do. The only error is out of memory.
+pub(crate) fn source_bits(
+    alloc: Global,
+    from: Option<End<'_>>,
+    functions: Functions<'_>,
+    scratch: &mut Scratch,
+) -> Result<Option<VertexSet>, AllocError>
+    ensures form { IfOk result (λ b. IfSome b (λ s. s.form ≡ Form.Bits)) }
+    ensures passing { IfOk result (λ b. (m : StateValue) (test : ℕ → Bool) → functions.entry.vectors.now.vectors ≡ m.vectors → HasSizes functions.entry.sizes.now m → IsEndTest from.entry m test
+        → (v : ℕ) → v < functions.entry.vertices → passes_set b v ≡ test v) }
+{
+    match from {
+        None => Ok(None),
+        Some(End::Members(set)) => {
+            let bits = set.to_form(alloc, Form::Bits)?;
+            Ok(Some(bits))
+        }
+        Some(end) => {
+            let bits = passing_set(alloc, functions, end, scratch)?;
+            Ok(Some(bits))
+        }
+    }
+}
+
+/// The words of a set in bits, where one is given.
+pub(crate) fn words_of(bits: &Option<VertexSet>) -> Option<&[u64]>
+    requires { IfSome bits.now (λ s. s.form ≡ Form.Bits) }
+    ensures { (v : ℕ) → passes_words result v ≡ passes_set bits.now v }
+{
+    match bits {
+        None => None,
+        Some(set) => set.words(),
+    }
+}

@@ -1,0 +1,95 @@
+//! The pieces of an apply, and their merge.
+ghost use Rattle.std.specs.Prelude.{◌≡◌, ℕ, List, [], length, IfOk};
+ghost use Rattle.std.specs.List.{range_with_len};
+ghost use Rattle.std.specs.List.Sorted.{IsPermutation};
+ghost use Rattle.edge_fold.specs.Changed.{AreApart};
+ghost use Rattle.push_engine.specs.Pieces.{pieces_of};
+ghost use Rattle.pull_engine.specs.Applied.{AreChangesOf};
+ghost use Rattle.pull_engine.specs.Pieces.{Answers, AreAnswers};
+
+use crate::destinations::fold_columns;
+use crate::listed::words_of;
+use crate::work::PullWork;
+use crew::{Found, Work};
+use edge_fold::{Functions, Gathered, Scratch, Start};
+use push_engine::{join_all, part_between};
+use std::alloc::{AllocError, Global};
+use vectors::Changes;
+
+impl PullWork<'_> {
+    /// How many pieces there are: none where there is no destination.
+    pub fn pieces(&self) -> usize
+        ensures { result ≡ length self.now.cuts }
+    {
+        self.cuts.pieces()
+    }
+
+    /// What the whole apply changes, from what was found of all its pieces, in whatever order. It is what a pull says:
+    /// for each vector that a function has given something one list of changes, by ascending vertices, and a vector
+    /// without one does not change. The scratch serves any apply after this one, whatever became of it.
+    ///
+    /// The only error is out of memory.
+    pub fn merge(
+        &self,
+        alloc: Global,
+        found: &[Found<Gathered>],
+        scratch: &mut Scratch,
+    ) -> Result<Changes, AllocError>
+        ensures once { IfOk result (λ c. AreApart c.vectors.items) }
+        ensures changes { IfOk result (λ c. AreAnswers self.now found.now → IsPermutation (pieces_of found.now) (range_with_len 1 (length self.now.cuts))
+            → AreChangesOf self.now.apply self.now.flat.now self.now.vectors.now.vectors self.now.sizes.now c.vectors.items) }
+    {
+        let functions = Functions {
+            first: self.apply.first,
+            second: self.apply.second,
+            vectors: self.vectors,
+            sizes: self.sizes,
+            vertices: self.flat.vertices(),
+            start: Start::OldEntry,
+        };
+        scratch.begin();
+        join_all(alloc, functions, found, scratch)?;
+        let changes = scratch.changes(alloc, functions, None)?;
+        Ok(changes)
+    }
+}
+
+impl<'a> Work for PullWork<'a> {
+    type Out = Gathered;
+
+    type State = Scratch;
+
+    ghost pieces = { λ w. length w.cuts };
+
+    ghost keeps = { λ _ _. Unit {0} };
+
+    ghost answers = { Answers };
+
+    fn state(&self, alloc: Global) -> Result<Scratch, AllocError> {
+        Ok(Scratch::new(alloc))
+    }
+
+    fn piece(
+        &self,
+        alloc: Global,
+        scratch: &mut Scratch,
+        piece: usize,
+    ) -> Result<Gathered, AllocError> {
+        let functions = Functions {
+            first: self.apply.first,
+            second: self.apply.second,
+            vectors: self.vectors,
+            sizes: self.sizes,
+            vertices: self.flat.vertices(),
+            start: Start::Unit,
+        };
+        let places = self.cuts.piece(piece);
+        let part = part_between(&self.destinations, places.start, places.end);
+        let words = words_of(&self.bits);
+        let mut block = [0u32; 128];
+        scratch.begin();
+        fold_columns(alloc, self.flat, functions, words, part, &mut block, scratch)?;
+        let gathered = scratch.gathered(alloc, functions, None)?;
+        Ok(gathered)
+    }
+}

@@ -1,0 +1,99 @@
+//! An apply in pieces.
+ghost use Rattle.std.specs.Prelude.{◌≡◌, ℕ, ◌<◌, Bool, Err, length, map, vec_len, IfOk, IfSome};
+ghost use Rattle.std.proofs.Props.{props};
+ghost use Rattle.algorithm_meaning.specs.State.{StateValue};
+ghost use Rattle.stack_code.specs.Cells.{HasSizes};
+ghost use Rattle.crew.specs.declared.error.CrewError.TheVariants.{BadWorkers};
+ghost use Rattle.crew.specs.Outcome.{AreWorkers};
+ghost use Rattle.edge_fold.specs.Ends.{IsEndTest};
+ghost use Rattle.piece_cuts.specs.Ends.{ends_by};
+ghost use Rattle.piece_cuts.specs.Pieces.{AreEnds};
+ghost use Rattle.push_engine.specs.Propositions.{AreEnds-prop, AscendsFrom-prop};
+ghost use Rattle.tree_batch.specs.Neighbours.{sources_of};
+ghost use Rattle.vertex_sets.specs.declared.form.Form.TheVariants as Form;
+ghost use Rattle.pull_engine.specs.Destinations.{AreDestinations, passes_set};
+
+use crate::listed::{degrees_for, list_destinations, source_bits};
+use crew::CrewError;
+use edge_fold::{Functions, Scratch, Start};
+use flat_snapshot::Flat;
+use kernels::Apply;
+use piece_cuts::Cuts;
+use std::alloc::Global;
+use vectors::Vectors;
+use vertex_sets::VertexSet;
+
+/// An apply in pieces, which workers may do side by side: the destinations are cut as its schedule says, and a piece
+/// answers what the edges into its destinations give. [`PullWork::merge`] makes the changes of the whole apply of it.
+#[derive(Drop)]
+pub struct PullWork<'a> {
+    pub(crate) apply: Apply<'a>,
+    pub(crate) flat: &'a Flat,
+    pub(crate) vectors: &'a Vectors,
+    pub(crate) sizes: &'a [i64],
+    pub(crate) bits: Option<VertexSet>,
+    pub(crate) destinations: Vec<u32>,
+    pub(crate) cuts: Cuts,
+    ghost whole: { AreEnds 0 (length destinations.items) cuts } by { AreEnds-prop 0 (length destinations.items) cuts },
+    ghost form: { IfSome bits (λ s. s.form ≡ Form.Bits) } by { Prim.hlevel (props) },
+    ghost sources: { (m : StateValue) (from : ℕ → Bool) → vectors.now.vectors ≡ m.vectors → HasSizes sizes.now m → IsEndTest apply.from m from
+        → (v : ℕ) → v < flat.now.vertices → passes_set bits v ≡ from v } by { Prim.hlevel (props) },
+    ghost passing: { (m : StateValue) (to : ℕ → Bool) → vectors.now.vectors ≡ m.vectors → HasSizes sizes.now m → IsEndTest apply.to m to
+        → AreDestinations flat.now.edges to destinations.items } by { Prim.hlevel (AscendsFrom-prop, props) },
+}
+
+impl<'a> PullWork<'a> {
+    /// The pieces of an apply for so many workers, 1 to 64. The destinations are listed, and where the schedule cuts by
+    /// edges, their degrees are read; the sources that pass are put into bits. It takes time in proportion to the
+    /// destinations and to the graph's vertices. `sizes` are the sizes of the vertex sets by their places. The scratch
+    /// serves any apply after this one.
+    ///
+    /// Errors: `BadWorkers` where the number of workers is not 1 to 64, else `NoMemory`.
+    pub fn new(
+        alloc: Global,
+        apply: &Apply<'a>,
+        flat: &'a Flat,
+        vectors: &'a Vectors,
+        sizes: &'a [i64],
+        workers: usize,
+        scratch: &mut Scratch,
+    ) -> Result<PullWork<'a>, CrewError>
+        ensures workers { IfOk result (λ _. AreWorkers workers) }
+        ensures refused { result ≡ Err BadWorkers → ¬ AreWorkers workers }
+        ensures apply { IfOk result (λ w. w.apply ≡ apply.now) }
+        ensures flat { IfOk result (λ w. w.flat.now ≡ flat.now) }
+        ensures vectors { IfOk result (λ w. w.vectors.now ≡ vectors.now) }
+        ensures sizes { IfOk result (λ w. w.sizes.now ≡ sizes.now) }
+        ensures cuts { IfOk result (λ w. w.cuts ≡ ends_by apply.now.parallelization workers (vec_len w.destinations) (map (λ v. length (sources_of v flat.now.edges)) w.destinations.items)) }
+    {
+        if workers < 1 || 64 < workers {
+            return Err(CrewError::BadWorkers);
+        }
+        let functions = Functions {
+            first: apply.first,
+            second: apply.second,
+            vectors,
+            sizes,
+            vertices: flat.vertices(),
+            start: Start::Unit,
+        };
+        let destinations = list_destinations(alloc, apply.to, flat, functions, scratch)?;
+        let bits = source_bits(alloc, apply.from, functions, scratch)?;
+        let count = destinations.len();
+        // A graph has fewer vertices.
+        if count > u32::MAX as usize {
+            return Err(CrewError::NoMemory);
+        }
+        let degrees = degrees_for(alloc, apply.parallelization, flat, &destinations)?;
+        let cuts = Cuts::of(alloc, apply.parallelization, workers, count, &degrees)?;
+        Ok(PullWork {
+            apply: *apply,
+            flat,
+            vectors,
+            sizes,
+            bits,
+            destinations,
+            cuts,
+        })
+    }
+}
