@@ -23,32 +23,17 @@ const SEED: u64 = 2026;
 const CHUNK_SIZE: u32 = 4;
 
 // A random graph of so many vertices and about so many edges, and the form of a random set, of which only vertices that
-// `every` divides are members.
-#[derive(Clone, Copy)]
-struct Case {
-    vertices: u32,
-    edges: u32,
-    form: Form,
-    every: u32,
-}
+// the last number divides are members.
+type Case = (u32, u32, Form, u32);
 
 const CASES: [Case; 6] = [
-    case(1, 2, Form::List, 1),
-    case(3, 4, Form::Bits, 1),
-    case(60, 40, Form::Flags, 1),
-    case(60, 900, Form::Bits, 1),
-    case(400, 2000, Form::List, 1),
-    case(400, 2000, Form::Flags, 80),
+    (1, 2, Form::List, 1),
+    (3, 4, Form::Bits, 1),
+    (60, 40, Form::Flags, 1),
+    (60, 900, Form::Bits, 1),
+    (400, 2000, Form::List, 1),
+    (400, 2000, Form::Flags, 80),
 ];
-
-const fn case(vertices: u32, edges: u32, form: Form, every: u32) -> Case {
-    Case {
-        vertices,
-        edges,
-        form,
-        every,
-    }
-}
 
 // What stands before the function that is applied.
 const HEAD: &str = "element Vertex end\nelement Edge end\n\
@@ -137,7 +122,8 @@ pub fn print_agreement<R: Print + AllocGlobal>(rt: &R) -> io::Result<()> {
         for body in FUNCTIONS {
             count = count.wrapping_add(work.compare_all(rt.alloc(), body, &mut scratch)?);
         }
-        println!(rt; "{} vertices: {count} edge applies as by the slow run", case.vertices)?;
+        let vertices = work.vertices;
+        println!(rt; "{vertices} vertices: {count} edge applies as by the slow run")?;
     }
     Ok(())
 }
@@ -153,10 +139,10 @@ struct Work {
 
 impl Work {
     fn new(alloc: Global, random: &mut Random, case: Case) -> io::Result<Work> {
-        let vertices = case.vertices;
+        let (vertices, edges, form, every) = case;
         let bound = u64::from(vertices).max(1);
         let mut batch = Batch::new(alloc);
-        for _ in 0..case.edges {
+        for _ in 0..edges {
             let (source, destination) = (random.below(bound), random.below(bound));
             batch
                 .push(Entry::Add(source as u32, destination as u32))
@@ -165,12 +151,12 @@ impl Work {
         let graph = Graph::new(vertices, CHUNK_SIZE).map_err(told)?;
         let graph = graph.apply(alloc, &batch).map_err(told)?;
         let kept = random.below(1 << 20);
-        let keeps = |vertex: u32| is_kept(vertex, kept, case.every);
+        let keeps = |vertex: u32| is_kept(vertex, kept, every);
         Ok(Work {
             vertices,
             edges: graph.edges().collect(alloc)?,
             flat: Flat::of(alloc, &graph)?,
-            set: VertexSet::from_test(alloc, vertices, case.form, keeps)?,
+            set: VertexSet::from_test(alloc, vertices, form, keeps)?,
         })
     }
 
