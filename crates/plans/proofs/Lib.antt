@@ -20,5 +20,8 @@ pub mod Results
 pub mod Matching
 pub mod EdgePairs
 pub mod Pairs
+pub mod Targets
+pub mod Ranks
+pub mod Falls
 pub mod Counting
 pub mod Whole

@@ -3,4 +3,5 @@ pub mod Plan
 pub mod Fusing
 pub mod Machine
 pub mod Laws
+pub mod Bound
 pub mod Examples

@@ -7,7 +7,8 @@
 //!
 //! The law (`specs/Laws.antt`): for every program, schedule, graph and bound of turns the machine ends after some number
 //! of steps, and there it stands where the program's own run stands and shows what the program means; before that it
-//! always has a next step. It needs no premise, neither that the program is checked nor that the schedule is accepted:
+//! always has a next step. `specs/Bound.antt` has a bound on the steps that are left, which each step lowers: the measure
+//! of a loop that runs a plan. The law needs no premise, neither that the program is checked nor that the schedule is accepted:
 //! two applies are done together only where they fit, a `for` keeps its value and its bound beside the variables, and
 //! what is outside a list reads as 0 or as nothing, as in the meaning. `specs/Examples.antt` has plans whole.
 //!
@@ -20,4 +21,4 @@ mod depth;
 mod laws;
 
 pub use depth::{Counter, Depth};
-pub use laws::{examples_have_their_plans, plans_do_what_programs_do};
+pub use laws::{examples_have_their_plans, plans_do_what_programs_do, steps_lower_their_bound};
