@@ -7,7 +7,7 @@ ghost use Rattle.typed_tree.specs.IntegerTree.{IntegerTree};
 ghost use Rattle.typed_tree.specs.ProgramTree.{ProgramTree};
 ghost use Rattle.algorithm_meaning.specs.State.{GraphValue};
 ghost use Rattle.schedule.specs.Schedule.{ScheduleTree};
-ghost use Rattle.plans.specs.Examples.{HasPlanOfApartEdges, HasPlanOfEdgePair, HasPlanOfLoop, HasPlanOfSearch, HasPlanOfVertexPair};
+ghost use Rattle.plans.specs.Examples.{HasPlanOfApartEdges, HasPlanOfEdgePair, HasPlanOfLoop, HasPlanOfModifyingPair, HasPlanOfSearch, HasPlanOfVertexPair};
 ghost use Rattle.plans.specs.Laws.{RunsAs, StepsLowerTheBound};
 ghost use Rattle.plans.specs.Plan.{plan_of};
 
@@ -26,12 +26,14 @@ pub fn steps_lower_their_bound()
 {}
 
 /// Plans of examples, instruction by instruction: a breadth-first search, a loop with a choice in it and another behind
-/// it, two vertex applies and two edge applies that the schedule fuses, and two edge applies that cannot be done together.
+/// it, pairs of vertex applies, of edge applies and of edge applies with results that the schedule fuses, and two edge
+/// applies that cannot be done together.
 pub fn examples_have_their_plans()
     ensures search { (p : ProgramTree) (s : ScheduleTree) (frontier : Slot) (ends : Ends) (visit parent : ℕ) → HasPlanOfSearch p s frontier ends visit parent }
     ensures loop_with_choice { (p : ProgramTree) (s : ScheduleTree) (i : ℕ) (first end : IntegerTree) (c : ConditionTree) (e f : IntegerTree)
         → HasPlanOfLoop p s i first end c e f }
     ensures vertex_pair { (p : ProgramTree) (name : ℕ) → HasPlanOfVertexPair p name }
     ensures edge_pair { (p : ProgramTree) → HasPlanOfEdgePair p }
+    ensures modifying_pair { (p : ProgramTree) (m n : ℕ) → HasPlanOfModifyingPair p m n }
     ensures apart { (p : ProgramTree) → HasPlanOfApartEdges p }
 {}
