@@ -23,5 +23,6 @@ pub mod Pairs
 pub mod Targets
 pub mod Ranks
 pub mod Falls
+pub mod Origins
 pub mod Counting
 pub mod Whole

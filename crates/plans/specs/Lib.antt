@@ -4,4 +4,5 @@ pub mod Fusing
 pub mod Machine
 pub mod Laws
 pub mod Bound
+pub mod Choices
 pub mod Examples

@@ -7,6 +7,7 @@ ghost use Rattle.typed_tree.specs.IntegerTree.{IntegerTree};
 ghost use Rattle.typed_tree.specs.ProgramTree.{ProgramTree};
 ghost use Rattle.algorithm_meaning.specs.State.{GraphValue};
 ghost use Rattle.schedule.specs.Schedule.{ScheduleTree};
+ghost use Rattle.plans.specs.Choices.{GoBySchedule};
 ghost use Rattle.plans.specs.Examples.{HasPlanOfApartEdges, HasPlanOfEdgePair, HasPlanOfLoop, HasPlanOfModifyingPair, HasPlanOfSearch, HasPlanOfVertexPair};
 ghost use Rattle.plans.specs.Laws.{RunsAs, StepsLowerTheBound};
 ghost use Rattle.plans.specs.Plan.{plan_of};
@@ -23,6 +24,12 @@ pub fn plans_do_what_programs_do()
 /// as long as there are some ends by it.
 pub fn steps_lower_their_bound()
     ensures { (p : ProgramTree) (s : ScheduleTree) (g : GraphValue) → StepsLowerTheBound p g (plan_of p s) }
+{}
+
+/// Each edge apply of a plan is that of a statement of `main`, has its number and goes by what the schedule says of its
+/// label. Two that are done together go by what the schedule says of the first.
+pub fn edge_applies_go_by_the_schedule()
+    ensures { (p : ProgramTree) (s : ScheduleTree) → GoBySchedule p.main s (plan_of p s) }
 {}
 
 /// Plans of examples, instruction by instruction: a breadth-first search, a loop with a choice in it and another behind
