@@ -1,16 +1,18 @@
 -- How many steps a run takes, and that it goes on before its end.
-use Rattle.std.proofs.Common.{◌≡◌, ℕ, zero, suc, ◌<◌, List, refl, arith}
+use Rattle.std.proofs.Common.{◌≡◌, ℕ, zero, suc, ◌<◌, ◌≤◌, List, refl, arith}
 use Rattle.typed_tree.specs.ProgramTree.{ProgramTree}
 use Rattle.algorithm_meaning.specs.State.{GraphValue}
 use Rattle.plans.specs.Instruction.{InstructionTree}
 use Rattle.plans.specs.Machine.{Configuration, step, steps}
-use Rattle.plans.specs.Laws.{GoesOn}
+use Rattle.plans.specs.Laws.{GoesOn, StepsLowerTheBound}
+use Rattle.plans.specs.Bound.{most_steps}
 use Rattle.plans.proofs.Reaching.{Reaches, here, next}
 
-module _ (p : ProgramTree) (g : GraphValue) (code : List InstructionTree) where
+module _ (p : ProgramTree) (g : GraphValue) (code : List InstructionTree) (falls : StepsLowerTheBound p g code) where
   -- so many steps lead there, and before them the run goes on
   pub record TakesSteps (c d : Configuration) : Type 0 where
     pub count : ℕ
+    pub within : count ≤ most_steps code c
     pub ends : steps p g code count c ≡ d
     pub goes_on : (k : ℕ) → k < count → GoesOn code (steps p g code k c)
 
@@ -20,7 +22,9 @@ module _ (p : ProgramTree) (g : GraphValue) (code : List InstructionTree) where
   at_each_step c n first rest (suc k) h = rest k (omega (arith, h))
 
   pub takes_steps : (c d : Configuration) → Reaches p g code c d → TakesSteps c d
-  takes_steps c d here = record { count = 0; ends = refl; goes_on = λ k h. absurd (omega (arith, h)) }
+  takes_steps c d here = record { count = 0; within = omega arith; ends = refl; goes_on = λ k h. absurd (omega (arith, h)) }
   takes_steps c d (next h r) =
       let t = takes_steps (step p g code c) d r in
-      record { count = suc t.count; ends = t.ends; goes_on = at_each_step c t.count h t.goes_on }
+      let fewer = falls c h in
+      let bound = t.within in
+      record { count = suc t.count; within = omega (arith, fewer, bound); ends = t.ends; goes_on = at_each_step c t.count h t.goes_on }

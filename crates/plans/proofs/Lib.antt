@@ -20,5 +20,9 @@ pub mod Results
 pub mod Matching
 pub mod EdgePairs
 pub mod Pairs
+pub mod Targets
+pub mod Ranks
+pub mod Falls
+pub mod Origins
 pub mod Counting
 pub mod Whole

@@ -28,7 +28,7 @@ forgotten-new d s n h = λ i. record (forgotten d s) {
   scope = record (forgotten d s).scope { integers = take-append-le d.integers s.scope.integers (n ∷ []) h i };
 }
 
-is_inside : (code : List InstructionTree) (place : ℕ) (i : InstructionTree) → slice_get code place ≡ Some i → place < length code
+pub is_inside : (code : List InstructionTree) (place : ℕ) (i : InstructionTree) → slice_get code place ≡ Some i → place < length code
 is_inside [] place i h = let bad : None ≡ Some i = h in cc
 is_inside (x ∷ xs) zero i h = omega arith
 is_inside (x ∷ xs) (suc n) i h = let within = is_inside xs n i h in omega (arith, within)

@@ -1,15 +1,15 @@
 -- Where the instructions of a plan lead.
-use Rattle.std.proofs.Common.{◌≡◌, ℕ, zero, suc, ◌+◌, ◌<◌, Bool, true, false, List, [], ◌∷◌, ◌++◌, length, Option, Some, None, slice_get, ap, sym, ◌∙◌, refl, arith, subst}
+use Rattle.std.proofs.Common.{◌≡◌, ℕ, ◌+◌, ◌<◌, Bool, true, false, List, [], ◌∷◌, ◌++◌, length, if◌then◌else◌, ◌⊎◌, inl, inr, Option, Some, None, slice_get, ap, sym, refl, arith, subst}
 use Rattle.typed_tree.specs.BlockTree.{ActionTree, DeclareInteger, DeclareCondition, SetInteger, SetCondition, ReduceInteger, SetEntry, ReduceEntry, DeclareSet, AssignSet, AddVertex, PrintInteger, PrintCondition, ApplyVertex, ApplyEdges, If, IfElse, While, For, BlockTree, Empty, Then}
 use Rattle.typed_tree.specs.ProgramTree.{ProgramTree}
-use Rattle.schedule.specs.Schedule.{ScheduleTree}
+use Rattle.schedule.specs.Schedule.{ScheduleTree, choice_at}
 use Rattle.plans.specs.declared.depth.Depth.{Depth}
-use Rattle.plans.specs.Instruction.{OperationTree, Do, ApplyEdgesTogether, ApplyVerticesTogether, Unless, Enter, UnlessBelow, Advance, Turn, Jump, End, InstructionTree}
-use Rattle.plans.specs.Fusing.{Company, Alone, WithNext, WithPrevious, with_next, either, edges_together, vertices_together, company_of, takes_next}
-use Rattle.plans.specs.Plan.{behind, in_loop, plain, loop_step, chosen, size_in, plan_in, size, size_all, plan, plan_all}
+use Rattle.plans.specs.Instruction.{OperationTree, Do, ApplyEdgesTogether, ApplyVerticesTogether, Unless, UnlessBelow, Advance, Turn, Jump, End, InstructionTree}
+use Rattle.plans.specs.Fusing.{EdgeApplyTree, VertexApplyTree, edge_apply_of, vertex_apply_of, edges_fit, vertices_fit, edges_together, vertices_together, either, together, is_with, Company, Alone, WithNext, WithPrevious, with_next, company_of, takes_next}
+use Rattle.plans.specs.Plan.{behind, behind_all, in_loop, main_depth, plan_of, plain, loop_step, size_in, plan_in, size, size_all, plan, plan_all}
 use Rattle.plans.specs.Bound.{is_turn}
 use Rattle.plans.proofs.Proper.{HasNoBlock}
-use Rattle.plans.proofs.Places.{HasAt, has_front, has_behind, length_in, length-plan, length-plan_all}
+use Rattle.plans.proofs.Places.{HasAt, has_front, has_behind, has_all, length_in, length-plan, length-plan_all}
 
 -- the place to which a test leaves
 abbrev pub leaving_place : OperationTree → Option ℕ
@@ -44,16 +44,157 @@ lead_append code place n (i ∷ a) b e h k =
     let same : place + n ≡ place + 1 + length a = omega (arith, e) in
     (h.0, lead_append code (place + 1) (length a) a b refl h.1 (subst (λ (x : ℕ). AllLeadWell code x b) same k))
 
--- one instruction for two
+-- an operation that does two applies
 abbrev IsForTwo : OperationTree → Type 0
 IsForTwo (ApplyEdgesTogether ends a b) = Unit {0}
 IsForTwo (ApplyVerticesTogether set a b) = Unit {0}
 IsForTwo _ = ⊥
 
+abbrev IsForTwoIf : Option OperationTree → Type 0
+IsForTwoIf None = Unit {0}
+IsForTwoIf (Some operation) = IsForTwo operation
+
+abbrev IsCompanyOfTwo : Company → Type 0
+IsCompanyOfTwo Alone = Unit {0}
+IsCompanyOfTwo (WithNext operation) = IsForTwo operation
+IsCompanyOfTwo WithPrevious = Unit {0}
+
+edges_for_two : (p : ProgramTree) (d : Depth) (a b : Option EdgeApplyTree) → IsForTwoIf (edges_together p d a b)
+edges_for_two p d None b = tt
+edges_for_two p d (Some x) None = tt
+edges_for_two p d (Some x) (Some y) = by_test (edges_fit p d x y)
+  where
+    by_test : (b : Bool) → IsForTwoIf (if b then Some (ApplyEdgesTogether x.ends x.part y.part) else None)
+    by_test true = tt
+    by_test false = tt
+
+vertices_for_two : (p : ProgramTree) (a b : Option VertexApplyTree) → IsForTwoIf (vertices_together p a b)
+vertices_for_two p None b = tt
+vertices_for_two p (Some x) None = tt
+vertices_for_two p (Some x) (Some y) = by_test (vertices_fit p x y)
+  where
+    by_test : (b : Bool) → IsForTwoIf (if b then Some (ApplyVerticesTogether x.set x.function y.function) else None)
+    by_test true = tt
+    by_test false = tt
+
+either_for_two : (a b : Option OperationTree) → IsForTwoIf a → IsForTwoIf b → IsForTwoIf (either a b)
+either_for_two None b h k = k
+either_for_two (Some operation) b h k = h
+
+fused_for_two : (fused : Bool) (o : Option OperationTree) → IsForTwoIf o → IsCompanyOfTwo (if fused then with_next o else Alone)
+fused_for_two true None h = tt
+fused_for_two true (Some operation) h = h
+fused_for_two false o h = tt
+
+company_of_two : (p : ProgramTree) (schedule : ScheduleTree) (d : Depth) (is_done : Bool) (label : Option ℕ) (a : ActionTree) (rest : BlockTree) → IsCompanyOfTwo (company_of p schedule d is_done label a rest)
+company_of_two p schedule d true label a rest = tt
+company_of_two p schedule d false label a Empty = tt
+company_of_two p schedule d false label a (Then number other b rest) =
+    fused_for_two (is_with (choice_at label schedule).fused other) (together p d a b)
+    (either_for_two (edges_together p d (edge_apply_of a) (edge_apply_of b)) (vertices_together p (vertex_apply_of a) (vertex_apply_of b))
+    (edges_for_two p d (edge_apply_of a) (edge_apply_of b)) (vertices_for_two p (vertex_apply_of a) (vertex_apply_of b)))
+
 module _ (p : ProgramTree) (schedule : ScheduleTree) (code : List InstructionTree) where
-  in_company : (company : Company) (place number : ℕ) (label : Option ℕ) (d : Depth) (is : List InstructionTree) → AllLeadWell code place is
-      → LeadsWellIn company → AllLeadWell code place (plan_in company schedule number label d is)
-  in_company Alone place number label d is h k = h
-  in_company (WithNext (ApplyEdgesTogether ends a b)) place number label d is h k = (tt, tt)
-  in_company (WithNext (ApplyVerticesTogether set a b)) place number label d is h k = (tt, tt)
-  in_company WithPrevious place number label d is h k = tt
+  company_leads : (company : Company) (place number : ℕ) (label : Option ℕ) (d : Depth) (is : List InstructionTree) → IsCompanyOfTwo company
+      → HasAt code place (plan_in company schedule number label d is) → (HasAt code place is → AllLeadWell code place is) → AllLeadWell code place (plan_in company schedule number label d is)
+  company_leads Alone place number label d is for_two at own = own at
+  company_leads (WithNext (ApplyEdgesTogether ends a b)) place number label d is for_two at own = (tt, tt)
+  company_leads (WithNext (ApplyVerticesTogether set a b)) place number label d is for_two at own = (tt, tt)
+  company_leads (WithNext operation) place number label d is for_two at own = absurd for_two
+  company_leads WithPrevious place number label d is for_two at own = tt
+
+  -- instructions between others
+  inner : (place n to : ℕ) (a b : List InstructionTree) → length a ≡ n → place + n ≡ to → AllLeadWell code place a → AllLeadWell code to b → AllLeadWell code place (a ++ b)
+  inner place n to a b e same h k = lead_append code place n a b e h (subst (λ (x : ℕ). AllLeadWell code x b) (sym same) k)
+
+  turn_at : (place number : ℕ) (keep shown : Depth) → slice_get code place ≡ Some (loop_step number keep shown Turn) → is_turn (slice_get code place) ≡ true
+  turn_at place number keep shown e = ap is_turn e
+
+  mutual
+    action_leads : (a : ActionTree) (place number : ℕ) (label : Option ℕ) (d : Depth) → HasAt code place (plan p schedule place d number label a) → AllLeadWell code place (plan p schedule place d number label a)
+    action_leads (DeclareInteger name e) place number label d at = (tt, tt)
+    action_leads (DeclareCondition name c) place number label d at = (tt, tt)
+    action_leads (SetInteger slot e) place number label d at = (tt, tt)
+    action_leads (SetCondition slot c) place number label d at = (tt, tt)
+    action_leads (ReduceInteger slot reduction e) place number label d at = (tt, tt)
+    action_leads (SetEntry vector index e) place number label d at = (tt, tt)
+    action_leads (ReduceEntry vector index reduction e) place number label d at = (tt, tt)
+    action_leads (DeclareSet name set) place number label d at = (tt, tt)
+    action_leads (AssignSet slot set) place number label d at = (tt, tt)
+    action_leads (AddVertex slot e) place number label d at = (tt, tt)
+    action_leads (PrintInteger e) place number label d at = (tt, tt)
+    action_leads (PrintCondition c) place number label d at = (tt, tt)
+    action_leads (ApplyVertex set function) place number label d at = (tt, tt)
+    action_leads (ApplyEdges ends function) place number label d at = (tt, tt)
+    action_leads (If c body) place number label d at = (omega arith, block_leads body false (place + 1) d at.1)
+    action_leads (IfElse c body other) place number label d at =
+        let n = size_all p schedule d false body in
+        let back = place + 1 + n in
+        let from = back + 1 in
+        let to = from + size_all p schedule d false other in
+        let own = plan_all p schedule (place + 1) d false body in
+        let behind_own = plain number d (Jump to) ∷ plan_all p schedule from d false other in
+        let others = has_behind code (place + 1) n back own behind_own (length-plan_all p schedule body (place + 1) d false) refl at.1 in
+        let on : back < to = omega arith in (
+          omega arith,
+          inner (place + 1) n back own behind_own (length-plan_all p schedule body (place + 1) d false) refl
+              (block_leads body false (place + 1) d (has_front code (place + 1) own behind_own at.1))
+              (inl on, block_leads other false from d others.1),
+        )
+    action_leads (While c body) place number label d at =
+        let n = size_all p schedule d false body in
+        let back = place + 2 + n in
+        let own = plan_all p schedule (place + 2) d false body in
+        let jump = plain number d (Jump place) ∷ [] in
+        let second : place + 1 + 1 ≡ place + 2 = omega arith in
+        let inside = subst (λ (x : ℕ). HasAt code x (own ++ jump)) second at.1.1 in
+        let head : IsHead code place (back + 1) = record { instruction = plain number d (Unless c (back + 1)); stands = at.0; leaves = refl; turn = turn_at (place + 1) number d d at.1.0 } in
+        let both = inner (place + 2) n back own jump (length-plan_all p schedule body (place + 2) d false) refl
+        (block_leads body false (place + 2) d (has_front code (place + 2) own jump inside)) (inr head, tt) in
+        (omega arith, (tt, subst (λ (x : ℕ). AllLeadWell code x (own ++ jump)) (sym second) both))
+    action_leads (For name first end body) place number label d at =
+        let deep = in_loop d in
+        let n = size_all p schedule deep false body in
+        let back = place + 4 + n in
+        let own = plan_all p schedule (place + 4) deep false body in
+        let last = plain number d (Advance name) ∷ loop_step number deep d (Jump (place + 2)) ∷ [] in
+        let second : place + 1 + 1 ≡ place + 2 = omega arith in
+        let third : place + 1 + 1 + 1 ≡ place + 2 + 1 = omega arith in
+        let fourth : place + 1 + 1 + 1 + 1 ≡ place + 4 = omega arith in
+        let inside = subst (λ (x : ℕ). HasAt code x (own ++ last)) fourth at.1.1.1.1 in
+        let to = back + 2 in
+        let test = loop_step number deep d (UnlessBelow name to) in
+        let behind_last : to ≡ back + 1 + 1 = omega arith in
+        let turn = turn_at (place + 1 + 1 + 1) number deep d at.1.1.1.0 in
+        let head : IsHead code (place + 2) (back + 1 + 1) = record {
+          instruction = test;
+          stands = subst (λ (x : ℕ). slice_get code x ≡ Some test) second at.1.1.0;
+          leaves = ap {B = Option ℕ} Some behind_last;
+          turn = subst (λ (x : ℕ). is_turn (slice_get code x) ≡ true) third turn;
+        } in
+        let both = inner (place + 4) n back own last (length-plan_all p schedule body (place + 4) deep false) refl
+        (block_leads body false (place + 4) deep (has_front code (place + 4) own last inside)) (tt, (inr head, tt)) in
+        (tt, (tt, ((omega arith, turn), (tt, subst (λ (x : ℕ). AllLeadWell code x (own ++ last)) (sym fourth) both))))
+
+    block_leads : (b : BlockTree) (is_done : Bool) (place : ℕ) (d : Depth) → HasAt code place (plan_all p schedule place d is_done b) → AllLeadWell code place (plan_all p schedule place d is_done b)
+    block_leads Empty is_done place d at = tt
+    block_leads (Then number label action rest) is_done place d at =
+        let company = company_of p schedule d is_done label action rest in
+        let own = plan p schedule place d number label action in
+        let n = size_in company (size p schedule d action) in
+        let first = plan_in company schedule number label d own in
+        let others = plan_all p schedule (place + n) (behind action d) (takes_next company) rest in
+        let e : length first ≡ n = length_in company schedule number label d own (size p schedule d action) (length-plan p schedule action place d number label) in
+        lead_append code place n first others e
+        (company_leads company place number label d own (company_of_two p schedule d is_done label action rest) (has_front code place first others at) (λ here. action_leads action place number label d here))
+        (block_leads rest (takes_next company) (place + n) (behind action d) (has_behind code place n (place + n) first others e refl at))
+
+-- each instruction of the plan of a program leads well
+pub plan_leads : (p : ProgramTree) (schedule : ScheduleTree) → AllLeadWell (plan_of p schedule) 0 (plan_of p schedule)
+plan_leads p schedule =
+    let code = plan_of p schedule in
+    let d = main_depth p in
+    let main = plan_all p schedule 0 d false p.main in
+    let last = plain 0 (behind_all p.main d) End ∷ [] in
+    lead_append code 0 (size_all p schedule d false p.main) main last (length-plan_all p schedule p.main 0 d false)
+    (block_leads p schedule code p.main false 0 d (has_front code 0 main last (has_all code []))) (tt, tt)

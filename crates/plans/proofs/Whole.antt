@@ -12,7 +12,7 @@ use Rattle.plans.specs.declared.depth.Depth.{Depth}
 use Rattle.plans.specs.Instruction.{End, InstructionTree}
 use Rattle.plans.specs.Plan.{behind_all, main_depth, plain, size_all, plan_all, plan_of}
 use Rattle.plans.specs.Machine.{Configuration, At, Ended, first_configuration, finish}
-use Rattle.plans.specs.Laws.{Shows, RunsAs}
+use Rattle.plans.specs.Laws.{Shows, RunsAs, StepsLowerTheBound}
 use Rattle.plans.proofs.Depths.{forgotten-all}
 use Rattle.plans.proofs.Ascending.{AscendsFrom, ascends_range}
 use Rattle.plans.proofs.Proper.{IsProper}
@@ -20,6 +20,8 @@ use Rattle.plans.proofs.Places.{has_front, has_behind, has_all, length-plan_all}
 use Rattle.plans.proofs.Reaching.{Reaches, here, and_reaches, by_step, moves_on, Follows, takes}
 use Rattle.plans.proofs.Runs.{block_runs}
 use Rattle.plans.proofs.Pairs.{company_is_good}
+use Rattle.plans.proofs.Targets.{plan_leads}
+use Rattle.plans.proofs.Falls.{step_falls}
 use Rattle.plans.proofs.Counting.{takes_steps}
 
 length-all_vertices : (g : GraphValue) (sets : List ℕ) → length (map (all_vertices g) sets) ≡ length sets
@@ -66,11 +68,15 @@ shows_meaning : (p : ProgramTree) (turns : ℕ) (st : Stand) → Shows p turns (
 shows_meaning p turns (Live s) = refl
 shows_meaning p turns (Over s end) = refl
 
+pub steps_lower : (p : ProgramTree) (schedule : ScheduleTree) (g : GraphValue) → StepsLowerTheBound p g (plan_of p schedule)
+steps_lower p schedule g = step_falls p g (plan_of p schedule) (plan_leads p schedule)
+
 pub runs_as : (p : ProgramTree) (schedule : ScheduleTree) (g : GraphValue) (turns : ℕ) → RunsAs p g turns (plan_of p schedule)
 runs_as p schedule g turns =
-    let t = takes_steps p g (plan_of p schedule) (first_configuration (opening p g turns)) (finish (after_all p g p.main (opening p g turns))) (reaches_end p schedule g turns) in
+    let t = takes_steps p g (plan_of p schedule) (steps_lower p schedule g) (first_configuration (opening p g turns)) (finish (after_all p g p.main (opening p g turns))) (reaches_end p schedule g turns) in
     record {
       count = t.count;
+      within = t.within;
       ends = t.ends;
       means = subst (λ (c : Configuration). Shows p turns c (meaning p g turns)) (sym t.ends) (shows_meaning p turns (after_all p g p.main (opening p g turns)));
       goes_on = t.goes_on;

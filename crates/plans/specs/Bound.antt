@@ -1,6 +1,5 @@
 -- How many steps a run takes at most.
 use Rattle.std.specs.Prelude.{ℕ, ◌+◌, ◌*◌, ◌-◌, Bool, true, false, List, length, slice_get, Option, Some, None}
-use Rattle.algorithm_meaning.specs.State.{StateValue}
 use Rattle.plans.specs.Instruction.{OperationTree, Unless, UnlessBelow, Turn, InstructionTree}
 use Rattle.plans.specs.Machine.{Configuration, At, Ended}
 

@@ -15,7 +15,7 @@ use Rattle.typed_tree.specs.BlockTree.{DeclareInteger, SetEntry, DeclareSet, Ass
 use Rattle.typed_tree.specs.ProgramTree.{ProgramTree}
 use Rattle.schedule.specs.declared.choice.Fused.TheVariants.{With, Into}
 use Rattle.schedule.specs.Schedule.{ScheduleTree, fused_as, no_choice}
-use Rattle.plans.specs.Instruction.{OperationTree, Do, ApplyEdgesTogether, ApplyVerticesTogether, Unless, Enter, UnlessBelow, Advance, Turn, Jump, End, InstructionTree, Dropped}
+use Rattle.plans.specs.Instruction.{OperationTree, Do, ApplyEdgesTogether, ApplyVerticesTogether, Unless, Enter, UnlessBelow, Advance, Turn, Jump, End, InstructionTree, Dropped, Declared}
 use Rattle.plans.specs.Plan.{plan_of}
 
 -- what the instructions of a plan do
@@ -121,6 +121,23 @@ abbrev pub HasPlanOfEdgePair : ProgramTree → Type 0
 HasPlanOfEdgePair p =
     operations (plan_of (with_main (with_edge_functions p) (edge_applies 1 2)) fuses_two)
     ≡ ApplyEdgesTogether filtered (record { function = 1; result = Dropped }) (record { function = 2; result = Dropped })
+    ∷ End
+    ∷ []
+
+-- two sets that get what the edge functions at places 1 and 2 change
+abbrev pub all_edges : Ends
+all_edges = record { from = None; to = None }
+
+abbrev pub modifying_applies : (m n : ℕ) → BlockTree
+modifying_applies m n =
+    Then 1 (Some 0) (DeclareSet m (set.Modified all_edges 1 1))
+    (Then 2 (Some 1) (DeclareSet n (set.Modified all_edges 2 2))
+    Empty)
+
+abbrev pub HasPlanOfModifyingPair : ProgramTree → (m n : ℕ) → Type 0
+HasPlanOfModifyingPair p m n =
+    operations (plan_of (with_main (with_edge_functions p) (modifying_applies m n)) fuses_two)
+    ≡ ApplyEdgesTogether all_edges (record { function = 1; result = Declared m 1 }) (record { function = 2; result = Declared n 2 })
     ∷ End
     ∷ []
 

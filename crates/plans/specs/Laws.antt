@@ -1,12 +1,13 @@
 -- What holds of plans.
-use Rattle.std.specs.Prelude.{◌≡◌, ℕ, ◌<◌, List, length}
+use Rattle.std.specs.Prelude.{◌≡◌, ℕ, ◌<◌, ◌≤◌, List, length}
 use Rattle.typed_tree.specs.ProgramTree.{ProgramTree}
 use Rattle.algorithm_meaning.specs.declared.outcome.Outcome.{Outcome}
 use Rattle.algorithm_meaning.specs.State.{GraphValue}
 use Rattle.algorithm_meaning.specs.Meaning.{after_all, opening}
 use Rattle.algorithm_meaning.specs.Shown.{shown, meaning}
 use Rattle.plans.specs.Instruction.{InstructionTree}
-use Rattle.plans.specs.Machine.{Configuration, At, Ended, steps, first_configuration, finish}
+use Rattle.plans.specs.Machine.{Configuration, At, Ended, step, steps, first_configuration, finish}
+use Rattle.plans.specs.Bound.{most_steps}
 
 -- a run that stands so has a next step: it has not ended, and an instruction stands at its place
 abbrev pub GoesOn : List InstructionTree → Configuration → Type 0
@@ -18,10 +19,15 @@ abbrev pub Shows : ProgramTree → (turns : ℕ) → Configuration → Outcome �
 Shows p turns (At place loops s) outcome = ⊥
 Shows p turns (Ended s end) outcome = shown p turns s end ≡ outcome
 
--- The plan does what the program does: after some number of steps the run has ended, stands where main leaves it, and shows what the
--- program means; and before that it always has a next step.
+-- The plan does what the program does: after some number of steps, no more than told beforehand, the run has ended, stands where main
+-- leaves it, and shows what the program means; and before that it always has a next step.
 pub record RunsAs (p : ProgramTree) (g : GraphValue) (turns : ℕ) (plan : List InstructionTree) : Type 0 where
   pub count : ℕ
+  pub within : count ≤ most_steps plan (first_configuration (opening p g turns))
   pub ends : steps p g plan count (first_configuration (opening p g turns)) ≡ finish (after_all p g p.main (opening p g turns))
   pub means : Shows p turns (steps p g plan count (first_configuration (opening p g turns))) (meaning p g turns)
   pub goes_on : (k : ℕ) → k < count → GoesOn plan (steps p g plan k (first_configuration (opening p g turns)))
+
+-- from wherever a run goes on, it has fewer steps left behind the next one
+abbrev pub StepsLowerTheBound : ProgramTree → GraphValue → List InstructionTree → Type 0
+StepsLowerTheBound p g plan = (c : Configuration) → GoesOn plan c → most_steps plan (step p g plan c) < most_steps plan c

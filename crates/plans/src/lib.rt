@@ -7,9 +7,11 @@
 //!
 //! The law (`specs/Laws.antt`): for every program, schedule, graph and bound of turns the machine ends after some number
 //! of steps, and there it stands where the program's own run stands and shows what the program means; before that it
-//! always has a next step. It needs no premise, neither that the program is checked nor that the schedule is accepted:
+//! always has a next step. `specs/Bound.antt` has a bound on the steps that are left, which each step lowers: the measure
+//! of a loop that runs a plan. The law needs no premise, neither that the program is checked nor that the schedule is accepted:
 //! two applies are done together only where they fit, a `for` keeps its value and its bound beside the variables, and
-//! what is outside a list reads as 0 or as nothing, as in the meaning. `specs/Examples.antt` has plans whole.
+//! what is outside a list reads as 0 or as nothing, as in the meaning. `specs/Choices.antt` says by what the edge applies of
+//! a plan go, and `specs/Examples.antt` has plans whole.
 //!
 //! The crate has no code that computes: its types and definitions are for the lowering, which makes plans, and for the
 //! runner, which runs them. The simulation in the proofs goes by the tree, as that of a compiler to a machine with jumps
@@ -20,4 +22,7 @@ mod depth;
 mod laws;
 
 pub use depth::{Counter, Depth};
-pub use laws::{examples_have_their_plans, plans_do_what_programs_do};
+pub use laws::{
+    edge_applies_go_by_the_schedule, examples_have_their_plans, plans_do_what_programs_do,
+    steps_lower_their_bound,
+};

@@ -7,5 +7,6 @@ returns c = record {
   loop_with_choice = λ p s i first end c e f. refl;
   vertex_pair = λ p name. refl;
   edge_pair = λ p. refl;
+  modifying_pair = λ p m n. refl;
   apart = λ p. refl;
 }

@@ -1,0 +1,5 @@
+use Rattle.plans.proofs.Whole.{steps_lower}
+use Rattle.plans.proofs.laws.steps_lower_their_bound.Goals as goal
+
+pub returns : goal.returns
+returns c = steps_lower

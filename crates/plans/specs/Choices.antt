@@ -1,0 +1,40 @@
+-- By what edge applies go.
+use Rattle.std.specs.Prelude.{◌≡◌, ℕ, List, Option, Some, None, slice_get, ◌⊎◌}
+use Rattle.typed_tree.specs.BlockTree.{ActionTree, If, IfElse, While, For, BlockTree, Empty, Then}
+use Rattle.schedule.specs.Schedule.{ScheduleTree, choice_at}
+use Rattle.plans.specs.Instruction.{OperationTree, Do, ApplyEdgesTogether, InstructionTree}
+use Rattle.plans.specs.Fusing.{EdgeApplyTree, edge_apply_of}
+
+abbrev mutual
+  -- the statement of this number and this label stands in the block, or in a statement of it
+  pub StandsIn : BlockTree → (number : ℕ) → (label : Option ℕ) → ActionTree → Type 0
+  StandsIn Empty number label action = ⊥
+  StandsIn (Then n l a rest) number label action =
+      ((n ≡ number) × (l ≡ label) × (a ≡ action)) ⊎ (StandsInside a number label action ⊎ StandsIn rest number label action)
+
+  pub StandsInside : ActionTree → (number : ℕ) → (label : Option ℕ) → ActionTree → Type 0
+  StandsInside (If c body) number label action = StandsIn body number label action
+  StandsInside (IfElse c body other) number label action = StandsIn body number label action ⊎ StandsIn other number label action
+  StandsInside (While c body) number label action = StandsIn body number label action
+  StandsInside (For name first end body) number label action = StandsIn body number label action
+  StandsInside _ number label action = ⊥
+
+-- the edge apply that an operation does, of two the first
+abbrev pub first_apply : OperationTree → Option EdgeApplyTree
+first_apply (Do action) = edge_apply_of action
+first_apply (ApplyEdgesTogether ends a b) = Some (record { ends = ends; part = a })
+first_apply _ = None
+
+-- the instruction does the edge apply of a statement of main, has its number, and goes by what the schedule says of its label
+pub record ComesFrom (main : BlockTree) (s : ScheduleTree) (i : InstructionTree) (x : EdgeApplyTree) : Type 0 where
+  pub number : ℕ
+  pub label : Option ℕ
+  pub action : ActionTree
+  pub stands : StandsIn main number label action
+  pub applies : edge_apply_of action ≡ Some x
+  pub numbered : i.number ≡ number
+  pub chosen : i.choice ≡ choice_at label s
+
+-- so does each edge apply of a plan, and of two that are done together the first
+abbrev pub GoBySchedule : BlockTree → ScheduleTree → List InstructionTree → Type 0
+GoBySchedule main s plan = (place : ℕ) (i : InstructionTree) (x : EdgeApplyTree) → slice_get plan place ≡ Some i → first_apply i.operation ≡ Some x → ComesFrom main s i x
