@@ -5,7 +5,7 @@ use crew::{Found, Work};
 use edge_fold::{Gathered, Scratch};
 use flat_snapshot::Flat;
 use kernels::{Apply, EdgeKernel};
-use pull_engine::{is_pull_cheaper, pull};
+use pull_engine::{PullWork, is_pull_cheaper, pull};
 use push_engine::{PushWork, push};
 use schedule::{DenseVertexSet, Direction, Parallelization};
 use std::alloc::Global;
@@ -26,9 +26,10 @@ enum Way {
     Pull,
     Pieces(Parallelization, usize),
     PiecesTurned(Parallelization, usize),
+    PullPieces(Parallelization, usize),
 }
 
-const WAYS: [Way; 8] = [
+const WAYS: [Way; 10] = [
     Way::Push,
     Way::Pull,
     Way::Pieces(Parallelization::Serial, 1),
@@ -37,6 +38,8 @@ const WAYS: [Way; 8] = [
     Way::PiecesTurned(Parallelization::StaticVertex, 3),
     Way::PiecesTurned(Parallelization::DynamicVertex, 2),
     Way::PiecesTurned(Parallelization::EdgeAwareDynamicVertex, 3),
+    Way::PullPieces(Parallelization::StaticVertex, 2),
+    Way::PullPieces(Parallelization::EdgeAwareDynamicVertex, 3),
 ];
 
 // A graph of so many vertices with these edges.
@@ -51,10 +54,12 @@ fn graph_of(alloc: Global, vertices: u32, edges: &[(u32, u32)]) -> Result<Flat, 
 
 // The kernel of an edge function with this body.
 fn kernel_of(alloc: Global, body: &str) -> Result<EdgeKernel, Fail> {
-    let text = format!(in alloc; "element Vertex end element Edge end \
+    let text = format!(in alloc;
+        "element Vertex end element Edge end \
         const edges : edgeset{{Edge}}(Vertex, Vertex) = load(argv[1]); \
         const w : vector{{Vertex}}(int) = 0; const x : vector{{Vertex}}(int) = 0; \
-        func give(s : Vertex, d : Vertex) {body} end func main() end")?;
+        func give(s : Vertex, d : Vertex) {body} end func main() end"
+    )?;
     let program = compile(alloc, text.as_bytes())?;
     first_kernel(alloc, &program)
 }
@@ -117,6 +122,12 @@ fn changes_of(
             found.reverse();
             Ok(work.merge(alloc, &found, &mut scratch)?)
         }
+        Way::PullPieces(cut, workers) => {
+            let apply = apply_of(kernel, cut);
+            let work = PullWork::new(alloc, &apply, flat, vectors, &[], workers, &mut scratch)?;
+            let found = pulled_pieces_of(alloc, &work, &mut scratch)?;
+            Ok(work.merge(alloc, &found, &mut scratch)?)
+        }
     }
 }
 
@@ -129,6 +140,21 @@ fn pieces_of(
     let mut found = Vec::new(alloc);
     for place in 0..work.pieces() {
         let piece = place + 1;
+        let out = work.piece(alloc, scratch, piece)?;
+        found.push(Found { piece, out })?;
+    }
+    Ok(found)
+}
+
+// The same of a pull, from the last piece to the first.
+fn pulled_pieces_of(
+    alloc: Global,
+    work: &PullWork<'_>,
+    scratch: &mut Scratch,
+) -> Result<Vec<Found<Gathered>>, Fail> {
+    let mut found = Vec::new(alloc);
+    for place in 0..work.pieces() {
+        let piece = work.pieces() - place;
         let out = work.piece(alloc, scratch, piece)?;
         found.push(Found { piece, out })?;
     }

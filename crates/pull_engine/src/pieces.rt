@@ -88,7 +88,9 @@ impl<'a> Work for PullWork<'a> {
         let words = words_of(&self.bits);
         let mut block = [0u32; 128];
         scratch.begin();
-        fold_columns(alloc, self.flat, functions, words, part, &mut block, scratch)?;
+        fold_columns(
+            alloc, self.flat, functions, words, part, &mut block, scratch,
+        )?;
         let gathered = scratch.gathered(alloc, functions, None)?;
         Ok(gathered)
     }
