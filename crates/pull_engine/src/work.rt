@@ -3,7 +3,7 @@ ghost use Rattle.std.specs.Prelude.{◌≡◌, ℕ, ◌<◌, Bool, Err, length, 
 ghost use Rattle.std.proofs.Props.{props};
 ghost use Rattle.algorithm_meaning.specs.State.{StateValue};
 ghost use Rattle.stack_code.specs.Cells.{HasSizes};
-ghost use Rattle.crew.specs.declared.error.CrewError.TheVariants.{BadWorkers};
+ghost use Rattle.crew.specs.declared.error.CrewError.TheVariants.{BadWorkers, NoMemory};
 ghost use Rattle.crew.specs.Outcome.{AreWorkers};
 ghost use Rattle.edge_fold.specs.Ends.{IsEndTest};
 ghost use Rattle.piece_cuts.specs.Ends.{ends_by};
@@ -60,6 +60,7 @@ impl<'a> PullWork<'a> {
     ) -> Result<PullWork<'a>, CrewError>
         ensures workers { IfOk result (λ _. AreWorkers workers) }
         ensures refused { result ≡ Err BadWorkers → ¬ AreWorkers workers }
+        ensures memory { result ≡ Err NoMemory → AreWorkers workers }
         ensures apply { IfOk result (λ w. w.apply ≡ apply.now) }
         ensures flat { IfOk result (λ w. w.flat.now ≡ flat.now) }
         ensures vectors { IfOk result (λ w. w.vectors.now ≡ vectors.now) }
