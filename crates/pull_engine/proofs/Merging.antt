@@ -15,7 +15,7 @@ use Rattle.edge_fold.specs.Folded.{AreKernels, HasFolded}
 use Rattle.edge_fold.specs.Given.{column}
 use Rattle.edge_fold.proofs.Orders.{folded_in_any_order}
 use Rattle.edge_fold.proofs.Walks.{folded_along}
-use Rattle.piece_cuts.specs.Pieces.{AreEnds, all_pieces, piece_of}
+use Rattle.piece_cuts.specs.Pieces.{AreEnds, piece_of}
 use Rattle.piece_cuts.proofs.PieceLists.{pieces_are_the_list}
 use Rattle.tree_batch.specs.Digraph.{Digraph, IsDigraph}
 use Rattle.tree_batch.specs.Edge.{edge_eq, has_edge}

@@ -1,5 +1,4 @@
-use Rattle.std.proofs.Common.{rules, ◌≡◌, ◌≤◌, ◌<◌, ◌-◌, ℕ, true, List, [], length, slice_range, refl, sym, ap, ◌∙◌, subst, arith}
-use Rattle.std.specs.List.{filter}
+use Rattle.std.proofs.Common.{◌-◌, ℕ, true, List, [], length, slice_range, refl, ap, ◌∙◌, subst, arith}
 use Rattle.edge_fold.specs.Gathered.{AreGatheredFor}
 use Rattle.piece_cuts.specs.Pieces.{end_of, piece_of}
 use Rattle.push_engine.proofs.SourceLists.{filter_all, piece_inside}
