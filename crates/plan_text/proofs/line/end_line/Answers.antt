@@ -1,4 +1,4 @@
-use Rattle.std.proofs.Common.{◌≡◌, ◌∷◌, [], ◌++◌, ap, ◌∙◌, append_assoc, vec_len}
+use Rattle.std.proofs.Common.{◌∷◌, [], ◌++◌, ap, ◌∙◌, append_assoc, vec_len}
 use Rattle.plan_text.specs.Words.{joined}
 use Rattle.plan_text.proofs.Spaces.{before_space, popped}
 use Rattle.plan_text.proofs.line.end_line.Goals as goal

@@ -1,4 +1,4 @@
-use Rattle.std.proofs.Common.{◌≡◌, ◌∷◌, [], ◌++◌, ◌∙◌, sym, ap}
+use Rattle.std.proofs.Common.{◌∷◌, [], ◌++◌, ◌∙◌, sym, ap}
 use Rattle.plan_text.specs.Rows.{times}
 use Rattle.plan_text.specs.Words.{spaced}
 use Rattle.plan_text.proofs.Spaces.{put_behind, times_more}
