@@ -132,8 +132,9 @@ pub(crate) fn end_does_avoid(
     }
 }
 
-/// Puts the vectors that the function at this place writes behind the others, in the order of the text.
-pub(crate) fn push_written(
+/// Puts the vectors that the function at this place writes behind the others, in the order of the text, a vector as often
+/// as it is written. One that is not there writes none. The only error is out of memory.
+pub fn push_written(
     functions: &[Function],
     place: usize,
     vectors: &mut Vec<usize>,

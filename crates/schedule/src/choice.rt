@@ -116,7 +116,7 @@ impl DenseVertexSet {
 
 impl Choice {
     /// What is said where no call is made.
-    pub(crate) fn none() -> Choice
+    pub fn none() -> Choice
         ensures { result ≡ no_choice }
     {
         Choice {

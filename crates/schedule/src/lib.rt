@@ -23,6 +23,7 @@ mod rules;
 mod schedule;
 mod site;
 
+pub use access::push_written;
 pub use calls::accept;
 pub use choice::{Choice, DenseVertexSet, Direction, Fused, Parallelization};
 pub use error::{Rule, ScheduleError};
@@ -31,4 +32,6 @@ pub use laws::{
     labels_have_the_values_of_calls, labels_without_calls_have_the_defaults,
     vectors_are_in_one_group,
 };
+pub use rules::are_independent;
 pub use schedule::Schedule;
+pub use site::Apply;

@@ -43,9 +43,11 @@ fn are_same_ends(names: &[Name], first: Option<EndFilter>, second: Option<EndFil
     }
 }
 
-/// Whether two applies that have the same sets are independent. Two vertex applies always are.
+/// Whether two applies that have the same sets are independent: the second edge function neither reads nor writes, and
+/// no filter of its ends reads, a vector that the first writes, and its ends do not name the set that the first gives.
+/// Two vertex applies always are. The only error is out of memory.
 #[tactic(auto, using(crate::proofs::Uses::function_is_apart, crate::proofs::Uses::end_is_apart))]
-pub(crate) fn are_independent(
+pub fn are_independent(
     alloc: Global,
     program: &Typed,
     first: Apply,

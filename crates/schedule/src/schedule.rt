@@ -4,7 +4,7 @@ ghost use Rattle.std.specs.Option.{unwrap_or};
 ghost use Rattle.schedule.specs.declared.choice.Direction.TheVariants as direction;
 ghost use Rattle.schedule.specs.declared.choice.Parallelization.TheVariants as parallelization;
 ghost use Rattle.schedule.specs.declared.choice.DenseVertexSet.TheVariants as dense_vertex_set;
-ghost use Rattle.schedule.specs.Schedule.{choice_at, choice_of, empty_schedule, is_fused as has_fusing, with_choice, with_fused, with_one_group};
+ghost use Rattle.schedule.specs.Schedule.{choice_at as label_choice, choice_of, empty_schedule, is_fused as has_fusing, with_choice, with_fused, with_one_group};
 
 use crate::choice::{Choice, DenseVertexSet, Direction, Fused, Parallelization};
 use indexmap::IndexMap;
@@ -51,34 +51,34 @@ impl Schedule {
 
     /// In which way the edge apply with this label goes over the edges.
     pub fn direction(&self, label: Option<usize>) -> Direction
-        ensures { result ≡ unwrap_or (choice_at label self.now).direction direction.SparsePush }
+        ensures { result ≡ unwrap_or (label_choice label self.now).direction direction.SparsePush }
     {
-        self.of(label).direction.unwrap_or(Direction::SparsePush)
+        self.choice_at(label).direction.unwrap_or(Direction::SparsePush)
     }
 
     /// How the work of the edge apply with this label is cut into pieces.
     pub fn parallelization(&self, label: Option<usize>) -> Parallelization
-        ensures { result ≡ unwrap_or (choice_at label self.now).parallelization parallelization.Serial }
+        ensures { result ≡ unwrap_or (label_choice label self.now).parallelization parallelization.Serial }
     {
-        self.of(label)
+        self.choice_at(label)
             .parallelization
             .unwrap_or(Parallelization::Serial)
     }
 
     /// How a dense vertex set is kept in the edge apply with this label.
     pub fn dense_vertex_set(&self, label: Option<usize>) -> DenseVertexSet
-        ensures { result ≡ unwrap_or (choice_at label self.now).dense_vertex_set dense_vertex_set.BoolArray }
+        ensures { result ≡ unwrap_or (label_choice label self.now).dense_vertex_set dense_vertex_set.BoolArray }
     {
-        self.of(label)
+        self.choice_at(label)
             .dense_vertex_set
             .unwrap_or(DenseVertexSet::BoolArray)
     }
 
     /// Where the apply with this label stands in a fusing, if it is in one.
     pub fn fused(&self, label: Option<usize>) -> Option<Fused>
-        ensures { result ≡ (choice_at label self.now).fused }
+        ensures { result ≡ (label_choice label self.now).fused }
     {
-        self.of(label).fused
+        self.choice_at(label).fused
     }
 
     /// The groups of vectors that are kept together, in the order of the calls.
@@ -88,8 +88,9 @@ impl Schedule {
         &self.groups
     }
 
-    fn of(&self, label: Option<usize>) -> Choice
-        ensures { result ≡ choice_at label self.now }
+    /// What the calls say of a statement with this label, and nothing of one without a label.
+    pub fn choice_at(&self, label: Option<usize>) -> Choice
+        ensures { result ≡ label_choice label self.now }
     {
         match label {
             Some(label) => self.choice(label),
