@@ -1,0 +1,6 @@
+//! Which two applies of a program are done together.
+#![tactic(auto)]
+
+mod part;
+
+pub use part::{EdgeApply, EdgePart, PartResult, Together, VertexApply};

@@ -1,0 +1,35 @@
+//! Plans.
+use crate::functions::Functions;
+use crate::instruction::Instruction;
+use typed_tree::{Name, Sequence, Vector};
+
+/// A program under a schedule, compiled.
+pub struct Plan {
+    /// The instructions, of which a run does one each step, from the first.
+    pub instructions: Vec<Instruction>,
+    pub functions: Functions,
+    /// The vectors, in declared order.
+    pub vectors: Vec<Vector>,
+    /// The names of the constant vertex sets, in declared order.
+    pub sets: Vec<usize>,
+    /// The names that vectors and sets are shown by.
+    pub names: Vec<Name>,
+    /// The groups of vectors that are kept side by side, in the order of the schedule.
+    pub groups: Vec<Sequence<usize>>,
+    /// The text of the groups, a line for each.
+    pub fields: Vec<u8>,
+}
+
+impl Drop for Plan {
+    fn drop(self) {
+        let Plan {
+            instructions: _,
+            functions: _,
+            vectors: _,
+            sets: _,
+            names: _,
+            groups: _,
+            fields: _,
+        } = self;
+    }
+}
