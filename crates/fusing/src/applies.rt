@@ -1,0 +1,59 @@
+//! The applies that statements are.
+ghost use Rattle.std.specs.Prelude.{◌≡◌};
+ghost use Rattle.std.specs.Option.{option_map};
+ghost use Rattle.typed_tree.specs.BlockTree.{action_tree};
+ghost use Rattle.plans.specs.Fusing.{edge_apply_of as edge_apply_in, modifying as modifying_in, vertex_apply_of as vertex_apply_in};
+ghost use Rattle.plans.specs.Instruction.{Assigned, Declared};
+ghost use Rattle.fusing.specs.Parts.{edge_apply_tree, vertex_apply_tree};
+
+use crate::part::{EdgeApply, EdgePart, PartResult, VertexApply};
+use typed_tree::{Action, Ends, SetValue};
+
+/// The edge apply that a statement is, and `None` of every other. A set that gets what the apply changed is part of it.
+pub fn edge_apply_of(action: &Action) -> Option<EdgeApply>
+    ensures { option_map edge_apply_tree result ≡ edge_apply_in (action_tree action.now) }
+{
+    match action {
+        Action::ApplyEdges(ends, function) => Some(apply(*ends, *function, PartResult::Dropped)),
+        Action::DeclareSet(name, SetValue::Modified(ends, function, vector)) => {
+            let result = PartResult::Declared {
+                name: *name,
+                vector: *vector,
+            };
+            Some(apply(*ends, *function, result))
+        }
+        Action::AssignSet(set, SetValue::Modified(ends, function, vector)) => {
+            let result = PartResult::Assigned {
+                set: *set,
+                vector: *vector,
+            };
+            Some(apply(*ends, *function, result))
+        }
+        _ => None,
+    }
+}
+
+fn apply(ends: Ends, function: usize, given: PartResult) -> EdgeApply
+    ensures { result ≡ record { ends = ends; part = record { function = function; result = given } } }
+{
+    EdgeApply {
+        ends,
+        part: EdgePart {
+            function,
+            result: given,
+        },
+    }
+}
+
+/// The vertex apply that a statement is, and `None` of every other.
+pub fn vertex_apply_of(action: &Action) -> Option<VertexApply>
+    ensures { option_map vertex_apply_tree result ≡ vertex_apply_in (action_tree action.now) }
+{
+    match action {
+        Action::ApplyVertex(set, function) => Some(VertexApply {
+            set: *set,
+            function: *function,
+        }),
+        _ => None,
+    }
+}

@@ -1,0 +1,10 @@
+//! Lowering: from a checked program and its schedule to a plan.
+//!
+//! [`lower`] makes the [`Plan`] of a program under a schedule, as `plan_of` of the crate `plans` defines it, with kernels in
+//! place of trees (`IsPlan` of `instructions`). Blocks become jumps: an instruction that goes on behind a block is put when
+//! the block stands.
+#![tactic(auto)]
+
+mod operations;
+mod visible;
+

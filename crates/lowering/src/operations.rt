@@ -1,0 +1,197 @@
+//! What statements without a block do.
+ghost use Rattle.std.specs.Prelude.{◌≡◌, IfOk, MatchOption, Some};
+ghost use Rattle.typed_tree.specs.BlockTree.{action_tree};
+ghost use Rattle.typed_tree.specs.ConditionTree.{condition_tree};
+ghost use Rattle.typed_tree.specs.IntegerTree.{integer_tree};
+ghost use Rattle.kernels.specs.Expressions.{IsConditionKernel, IsIntegerKernel};
+ghost use Rattle.plans.specs.Fusing.{EdgeApplyTree, edge_apply_of as edge_apply_in};
+ghost use Rattle.plans.specs.Instruction.{Do};
+ghost use Rattle.instructions.specs.Members.{set_value};
+ghost use Rattle.instructions.specs.Operation.{IsFor, IsOperation};
+ghost use Rattle.lowering.specs.Kinds.{HasNoBlock, IsModified, IsOnSets, IsOther};
+
+use fusing::edge_apply_of;
+use instructions::{Members, Operation};
+use kernels::ExpressionKernel;
+use plans::Depth;
+use std::alloc::{AllocError, Global};
+use typed_tree::{Action, Condition, Integer, SetValue};
+
+/// The kernel of an expression of type `int` where so much is visible.
+pub(crate) fn integer_kernel(
+    alloc: Global,
+    e: &Integer,
+    depth: Depth,
+) -> Result<ExpressionKernel, AllocError>
+    ensures kernel { IfOk result (λ k. IsIntegerKernel k (integer_tree e.now)) }
+    ensures visible { IfOk result (λ k. IsFor depth k) }
+{
+    ExpressionKernel::of_integer(alloc, e, depth.integers, depth.conditions)
+}
+
+/// The same of type `bool`.
+pub(crate) fn condition_kernel(
+    alloc: Global,
+    c: &Condition,
+    depth: Depth,
+) -> Result<ExpressionKernel, AllocError>
+    ensures kernel { IfOk result (λ k. IsConditionKernel k (condition_tree c.now)) }
+    ensures visible { IfOk result (λ k. IsFor depth k) }
+{
+    ExpressionKernel::of_condition(alloc, c, depth.integers, depth.conditions)
+}
+
+/// What a statement without a block does, where so much is visible.
+pub(crate) fn operation_of(
+    alloc: Global,
+    action: &Action,
+    depth: Depth,
+) -> Result<Operation, AllocError>
+    ensures { IfOk result (λ o. HasNoBlock (action_tree action.now) → IsOperation depth depth o (Do (action_tree action.now))) }
+{
+    match action {
+        Action::DeclareInteger(name, e) => {
+            let value = integer_kernel(alloc, e, depth)?;
+            Ok(Operation::DeclareInteger { name: *name, value })
+        }
+        Action::DeclareCondition(name, c) => {
+            let value = condition_kernel(alloc, c, depth)?;
+            Ok(Operation::DeclareCondition { name: *name, value })
+        }
+        Action::SetInteger(slot, e) => {
+            let value = integer_kernel(alloc, e, depth)?;
+            Ok(Operation::SetInteger { slot: *slot, value })
+        }
+        Action::SetCondition(slot, c) => {
+            let value = condition_kernel(alloc, c, depth)?;
+            Ok(Operation::SetCondition { slot: *slot, value })
+        }
+        Action::ReduceInteger(slot, reduction, e) => {
+            let value = integer_kernel(alloc, e, depth)?;
+            Ok(Operation::ReduceInteger {
+                slot: *slot,
+                reduction: *reduction,
+                value,
+            })
+        }
+        Action::PrintCondition(c) => {
+            let value = condition_kernel(alloc, c, depth)?;
+            Ok(Operation::PrintCondition { value })
+        }
+        Action::SetEntry(_, _, _)
+        | Action::ReduceEntry(_, _, _, _)
+        | Action::AddVertex(_, _)
+        | Action::PrintInteger(_)
+        | Action::DeclareSet(_, _)
+        | Action::AssignSet(_, _)
+        | Action::ApplyVertex(_, _)
+        | Action::ApplyEdges(_, _) => other_operation(alloc, action, depth),
+        Action::If(_, _)
+        | Action::IfElse(_, _, _)
+        | Action::While(_, _)
+        | Action::For(_, _, _, _) => Ok(Operation::End),
+    }
+}
+
+/// The same of statements on vectors, sets and edges, and of `print`.
+fn other_operation(
+    alloc: Global,
+    action: &Action,
+    depth: Depth,
+) -> Result<Operation, AllocError>
+    ensures { IfOk result (λ o. IsOther (action_tree action.now) → IsOperation depth depth o (Do (action_tree action.now))) }
+{
+    match action {
+        Action::SetEntry(vector, index, e) => {
+            let index = integer_kernel(alloc, index, depth)?;
+            let value = integer_kernel(alloc, e, depth)?;
+            Ok(Operation::SetEntry {
+                vector: *vector,
+                index,
+                value,
+            })
+        }
+        Action::ReduceEntry(vector, index, reduction, e) => {
+            let index = integer_kernel(alloc, index, depth)?;
+            let value = integer_kernel(alloc, e, depth)?;
+            Ok(Operation::ReduceEntry {
+                vector: *vector,
+                index,
+                reduction: *reduction,
+                value,
+            })
+        }
+        Action::AddVertex(slot, e) => {
+            let vertex = integer_kernel(alloc, e, depth)?;
+            Ok(Operation::AddVertex {
+                slot: *slot,
+                vertex,
+            })
+        }
+        Action::PrintInteger(e) => {
+            let value = integer_kernel(alloc, e, depth)?;
+            Ok(Operation::PrintInteger { value })
+        }
+        Action::DeclareSet(_, _)
+        | Action::AssignSet(_, _)
+        | Action::ApplyVertex(_, _)
+        | Action::ApplyEdges(_, _) => Ok(set_operation(action)),
+        _ => Ok(Operation::End),
+    }
+}
+
+/// The same of a statement on a vertex set, and of an apply.
+fn set_operation(action: &Action) -> Operation
+    ensures { (keep shown : Depth) → IsOnSets (action_tree action.now) → IsOperation keep shown result (Do (action_tree action.now)) }
+{
+    match action {
+        Action::ApplyVertex(set, function) => Operation::ApplyVertices {
+            set: *set,
+            first: *function,
+            second: None,
+        },
+        Action::DeclareSet(name, value) => match members_of(*value) {
+            Some(members) => Operation::DeclareSet {
+                name: *name,
+                members,
+            },
+            None => edge_operation(action),
+        },
+        Action::AssignSet(slot, value) => match members_of(*value) {
+            Some(members) => Operation::AssignSet {
+                slot: *slot,
+                members,
+            },
+            None => edge_operation(action),
+        },
+        Action::ApplyEdges(_, _) => edge_operation(action),
+        _ => Operation::End,
+    }
+}
+
+/// The edge apply that a statement is.
+fn edge_operation(action: &Action) -> Operation
+    ensures { (keep shown : Depth) (x : EdgeApplyTree) → edge_apply_in (action_tree action.now) ≡ Some x → IsOperation keep shown result (Do (action_tree action.now)) }
+{
+    match edge_apply_of(action) {
+        Some(apply) => Operation::ApplyEdges {
+            ends: apply.ends,
+            first: apply.part,
+            second: None,
+        },
+        None => Operation::End,
+    }
+}
+
+/// What a set gets that gets nothing of an apply.
+fn members_of(value: SetValue) -> Option<Members>
+    ensures { MatchOption result (IsModified value) (λ m. value ≡ set_value m) }
+{
+    match value {
+        SetValue::Empty => Some(Members::Nothing),
+        SetValue::All => Some(Members::All),
+        SetValue::Copy(slot) => Some(Members::Copy(slot)),
+        SetValue::Filter(slot, function) => Some(Members::Filter(slot, function)),
+        SetValue::Modified(_, _, _) => None,
+    }
+}

@@ -1,0 +1,73 @@
+//! What is visible at a statement.
+ghost use Rattle.std.specs.Prelude.{◌≡◌, IfOk, OnOk, length};
+ghost use Rattle.typed_tree.specs.BlockTree.{action_tree};
+ghost use Rattle.plans.specs.Plan.{behind, with_integer};
+ghost use Rattle.lowering.specs.Visible.{IsWithin, depth_of};
+
+use plans::Depth;
+use std::alloc::{AllocError, Global};
+use typed_tree::Action;
+
+/// The names of the variables and vertex sets of `main` that are visible, by their places. They are counted by lists, so
+/// that a count never overflows.
+#[derive(Drop)]
+pub(crate) struct Visible {
+    integers: Vec<usize>,
+    conditions: Vec<usize>,
+    sets: Vec<usize>,
+}
+
+impl Visible {
+    /// At the first statement of `main`: the constant sets.
+    pub(crate) fn new(alloc: Global, sets: &[usize]) -> Result<Visible, AllocError>
+        ensures { IfOk result (λ v. depth_of v ≡ record { integers = 0; conditions = 0; sets = length sets.now }) }
+    {
+        let mut names = Vec::new(alloc);
+        names.extend_from_slice(sets)?;
+        Ok(Visible {
+            integers: Vec::new(alloc),
+            conditions: Vec::new(alloc),
+            sets: names,
+        })
+    }
+
+    pub(crate) fn depth(&self) -> Depth
+        ensures { result ≡ depth_of self.now }
+    {
+        Depth {
+            integers: self.integers.len(),
+            conditions: self.conditions.len(),
+            sets: self.sets.len(),
+        }
+    }
+
+    /// With what a statement declares behind it.
+    pub(crate) fn declare(&mut self, action: &Action) -> Result<(), AllocError>
+        ensures { OnOk result (depth_of self.new ≡ behind (action_tree action.now) (depth_of self.old)) }
+    {
+        match action {
+            Action::DeclareInteger(name, _) => self.integers.push(*name)?,
+            Action::DeclareCondition(name, _) => self.conditions.push(*name)?,
+            Action::DeclareSet(name, _) => self.sets.push(*name)?,
+            _ => {}
+        }
+        Ok(())
+    }
+
+    /// With one more integer: a `for`'s name, or its bound.
+    pub(crate) fn declare_integer(&mut self, name: usize) -> Result<(), AllocError>
+        ensures { OnOk result (depth_of self.new ≡ with_integer (depth_of self.old)) }
+    {
+        self.integers.push(name)?;
+        Ok(())
+    }
+
+    /// Without what is beyond this.
+    pub(crate) fn cut(&mut self, depth: Depth)
+        ensures { IsWithin depth (depth_of self.old) → depth_of self.new ≡ depth }
+    {
+        self.integers.truncate(depth.integers);
+        self.conditions.truncate(depth.conditions);
+        self.sets.truncate(depth.sets);
+    }
+}
