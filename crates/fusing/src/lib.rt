@@ -1,8 +1,24 @@
 //! Which two applies of a program are done together.
+//!
+//! Two applies that stand one behind the other, and that the schedule fuses, are done together where they fit. Two edge
+//! applies fit if they have the same ends and neither can see what the other does; two vertex applies fit if they are to
+//! the same set and their functions read and write the entries of their own vertex alone. `plans/specs/Fusing.antt`
+//! defines it (`together`, `company_of`), and `specs/Parts.antt` says which of its values the types here are.
+//! [`together`] decides it for two statements, and [`pair_at`] for a statement of a block under a schedule.
+//!
+//! The time is in proportion to the two functions and the filters of the ends, and for two edge applies to the product of
+//! what the one writes and the other reads.
+//!
+//! The lowering to plans stands on this crate.
 #![tactic(auto)]
 
 mod applies;
+mod fits;
+mod local;
+mod pair;
 mod part;
+mod sizes;
 
 pub use applies::{edge_apply_of, vertex_apply_of};
+pub use pair::{pair_at, together};
 pub use part::{EdgeApply, EdgePart, PartResult, Together, VertexApply};

@@ -35,6 +35,14 @@ pub struct VertexApply {
 /// Two applies that are done together.
 #[derive(Clone, Copy, Debug, PartialEq, Eq)]
 pub enum Together {
-    Edges { ends: Ends, first: EdgePart, second: EdgePart },
-    Vertices { set: Slot, first: usize, second: usize },
+    Edges {
+        ends: Ends,
+        first: EdgePart,
+        second: EdgePart,
+    },
+    Vertices {
+        set: Slot,
+        first: usize,
+        second: usize,
+    },
 }

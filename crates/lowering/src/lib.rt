@@ -5,6 +5,8 @@
 //! the block stands.
 #![tactic(auto)]
 
+mod blocks;
+mod leaves;
 mod operations;
 mod visible;
 

@@ -1,0 +1,229 @@
+//! Statements as instructions.
+ghost use Rattle.std.specs.Prelude.{◌≡◌, ℕ, IfOk, OnOk, Option, false, vec_len};
+ghost use Rattle.typed_tree.specs.BlockTree.{For, If, IfElse, While, action_tree, block_tree};
+ghost use Rattle.typed_tree.specs.ConditionTree.{condition_tree};
+ghost use Rattle.typed_tree.specs.IntegerTree.{integer_tree};
+ghost use Rattle.typed_tree.specs.ProgramTree.{program_tree};
+ghost use Rattle.plans.specs.Fusing.{company_of, takes_next};
+ghost use Rattle.plans.specs.Plan.{behind, behind_all, plan, plan_all, plan_in};
+ghost use Rattle.lowering.specs.Putting.{Puts};
+ghost use Rattle.lowering.specs.Visible.{depth_of};
+
+use crate::leaves::{plain, replace};
+use crate::visible::Visible;
+use fusing::pair_at;
+use instructions::{Instruction, Operation};
+use schedule::Schedule;
+use std::alloc::{AllocError, Global};
+use typed_tree::{Action, Condition, Integer, Statement, Typed};
+
+/// Lowers the statements of a program under a schedule.
+#[derive(Clone, Copy)]
+pub(crate) struct Lowering<'a> {
+    pub(crate) alloc: Global,
+    pub(crate) program: &'a Typed,
+    pub(crate) schedule: &'a Schedule,
+}
+
+impl Lowering<'_> {
+    /// Puts the instructions of a block behind the others.
+    #[cycle(lower)]
+    pub(crate) fn put_all(
+        self,
+        statements: &[Statement],
+        visible: &mut Visible,
+        code: &mut Vec<Instruction>,
+    ) -> Result<(), AllocError>
+        ensures code { OnOk result (Puts code.old.items code.new.items (plan_all (program_tree self.entry.program.now) self.entry.schedule.now (vec_len code.old) (depth_of visible.old) false (block_tree statements.now))) }
+        ensures visible { OnOk result (depth_of visible.new ≡ behind_all (block_tree statements.now) (depth_of visible.old)) }
+    {
+        let mut left = statements;
+        let mut is_done = false;
+        'statements: while let Some((statement, rest)) = left.split_first() {
+            is_done = self.put_next(statement, rest, is_done, visible, code)?;
+            left = rest;
+        }
+        Ok(())
+    }
+
+    /// Puts those of a statement before others, which may be done already or be done with the next. Answers whether the
+    /// next one is done with it.
+    #[cycle(lower)]
+    fn put_next(
+        self,
+        statement: &Statement,
+        rest: &[Statement],
+        is_done: bool,
+        visible: &mut Visible,
+        code: &mut Vec<Instruction>,
+    ) -> Result<bool, AllocError>
+        ensures next { IfOk result (λ next. next ≡ takes_next (company_of (program_tree self.entry.program.now) self.entry.schedule.now (depth_of visible.old) is_done statement.now.label (action_tree statement.now.action) (block_tree rest.now))) }
+        ensures code { OnOk result (Puts code.old.items code.new.items
+            (plan_in (company_of (program_tree self.entry.program.now) self.entry.schedule.now (depth_of visible.old) is_done statement.now.label (action_tree statement.now.action) (block_tree rest.now))
+            self.entry.schedule.now statement.now.number statement.now.label (depth_of visible.old)
+            (plan (program_tree self.entry.program.now) self.entry.schedule.now (vec_len code.old) (depth_of visible.old) statement.now.number statement.now.label (action_tree statement.now.action)))) }
+        ensures visible { OnOk result (depth_of visible.new ≡ behind (action_tree statement.now.action) (depth_of visible.old)) }
+    {
+        if is_done {
+            visible.declare(&statement.action)?;
+            return Ok(false);
+        }
+        let depth = visible.depth();
+        let pair = pair_at(self.alloc, self.program, self.schedule, depth, statement, rest)?;
+        match pair {
+            None => self.put_statement(statement, visible, code)?,
+            Some(pair) => {
+                self.put_pair(statement, pair, depth, code)?;
+                visible.declare(&statement.action)?;
+            }
+        }
+        Ok(pair.is_some())
+    }
+
+    /// Puts those of a statement that is done alone.
+    #[cycle(lower)]
+    fn put_statement(
+        self,
+        statement: &Statement,
+        visible: &mut Visible,
+        code: &mut Vec<Instruction>,
+    ) -> Result<(), AllocError>
+        ensures code { OnOk result (Puts code.old.items code.new.items (plan (program_tree self.entry.program.now) self.entry.schedule.now (vec_len code.old) (depth_of visible.old) statement.now.number statement.now.label (action_tree statement.now.action))) }
+        ensures visible { OnOk result (depth_of visible.new ≡ behind (action_tree statement.now.action) (depth_of visible.old)) }
+    {
+        let number = statement.number;
+        match &statement.action {
+            Action::If(c, body) => self.put_if(number, c, body, visible, code),
+            Action::IfElse(c, body, other) => self.put_choice(number, c, body, other, visible, code),
+            Action::While(c, body) => self.put_while(number, c, body, visible, code),
+            Action::For(name, first, end, body) => {
+                self.put_for(number, *name, first, end, body, visible, code)
+            }
+            action => {
+                self.put_simple(statement, visible.depth(), code)?;
+                visible.declare(action)
+            }
+        }
+    }
+
+    /// `if`: a test, the body, and behind it the place that the test goes to.
+    #[cycle(lower)]
+    fn put_if(
+        self,
+        number: u64,
+        c: &Condition,
+        body: &[Statement],
+        visible: &mut Visible,
+        code: &mut Vec<Instruction>,
+    ) -> Result<(), AllocError>
+        ensures code { (label : Option ℕ) → OnOk result (Puts code.old.items code.new.items (plan (program_tree self.entry.program.now) self.entry.schedule.now (vec_len code.old) (depth_of visible.old) number label (If (condition_tree c.now) (block_tree body.now)))) }
+        ensures visible { OnOk result (depth_of visible.new ≡ depth_of visible.old) }
+    {
+        let depth = visible.depth();
+        let test = code.len();
+        code.push(plain(number, depth, Operation::End, Vec::new(self.alloc)))?;
+        self.put_inside(body, visible, code)?;
+        let unless = self.unless(number, depth, c, code.len())?;
+        replace(code, test, unless);
+        Ok(())
+    }
+
+    /// `if` and `else`: between the two blocks stands a jump behind the second.
+    #[cycle(lower)]
+    fn put_choice(
+        self,
+        number: u64,
+        c: &Condition,
+        body: &[Statement],
+        other: &[Statement],
+        visible: &mut Visible,
+        code: &mut Vec<Instruction>,
+    ) -> Result<(), AllocError>
+        ensures code { (label : Option ℕ) → OnOk result (Puts code.old.items code.new.items (plan (program_tree self.entry.program.now) self.entry.schedule.now (vec_len code.old) (depth_of visible.old) number label (IfElse (condition_tree c.now) (block_tree body.now) (block_tree other.now)))) }
+        ensures visible { OnOk result (depth_of visible.new ≡ depth_of visible.old) }
+    {
+        let depth = visible.depth();
+        let test = code.len();
+        code.push(plain(number, depth, Operation::End, Vec::new(self.alloc)))?;
+        self.put_inside(body, visible, code)?;
+        let jump = code.len();
+        code.push(plain(number, depth, Operation::End, Vec::new(self.alloc)))?;
+        let unless = self.unless(number, depth, c, code.len())?;
+        replace(code, test, unless);
+        self.put_inside(other, visible, code)?;
+        let behind = self.jump(number, depth, depth, code.len())?;
+        replace(code, jump, behind);
+        Ok(())
+    }
+
+    /// `while`: a test, a turn, the body, and a jump back.
+    #[cycle(lower)]
+    fn put_while(
+        self,
+        number: u64,
+        c: &Condition,
+        body: &[Statement],
+        visible: &mut Visible,
+        code: &mut Vec<Instruction>,
+    ) -> Result<(), AllocError>
+        ensures code { (label : Option ℕ) → OnOk result (Puts code.old.items code.new.items (plan (program_tree self.entry.program.now) self.entry.schedule.now (vec_len code.old) (depth_of visible.old) number label (While (condition_tree c.now) (block_tree body.now)))) }
+        ensures visible { OnOk result (depth_of visible.new ≡ depth_of visible.old) }
+    {
+        let depth = visible.depth();
+        let test = code.len();
+        code.push(plain(number, depth, Operation::End, Vec::new(self.alloc)))?;
+        code.push(self.turn(number, depth, depth)?)?;
+        self.put_inside(body, visible, code)?;
+        code.push(self.jump(number, depth, depth, test)?)?;
+        let unless = self.unless(number, depth, c, code.len())?;
+        replace(code, test, unless);
+        Ok(())
+    }
+
+    /// `for`: the name and the bound get their values; then a test, a turn, the body, the next value and a jump back.
+    #[cycle(lower)]
+    fn put_for(
+        self,
+        number: u64,
+        name: usize,
+        first: &Integer,
+        end: &Integer,
+        body: &[Statement],
+        visible: &mut Visible,
+        code: &mut Vec<Instruction>,
+    ) -> Result<(), AllocError>
+        ensures code { (label : Option ℕ) → OnOk result (Puts code.old.items code.new.items (plan (program_tree self.entry.program.now) self.entry.schedule.now (vec_len code.old) (depth_of visible.old) number label (For name (integer_tree first.now) (integer_tree end.now) (block_tree body.now)))) }
+        ensures visible { OnOk result (depth_of visible.new ≡ depth_of visible.old) }
+    {
+        let depth = visible.depth();
+        self.put_bounds(number, name, first, end, visible, code)?;
+        let inside = visible.depth();
+        let test = code.len();
+        code.push(plain(number, depth, Operation::End, Vec::new(self.alloc)))?;
+        code.push(self.turn(number, inside, depth)?)?;
+        self.put_inside(body, visible, code)?;
+        code.push(self.advance(number, depth, name)?)?;
+        code.push(self.jump(number, inside, depth, test)?)?;
+        let below = self.unless_below(number, inside, depth, name, code.len())?;
+        replace(code, test, below);
+        visible.cut(depth);
+        Ok(())
+    }
+
+    /// Puts the instructions of a block inside a statement, behind which nothing of it is visible.
+    #[cycle(lower)]
+    fn put_inside(
+        self,
+        body: &[Statement],
+        visible: &mut Visible,
+        code: &mut Vec<Instruction>,
+    ) -> Result<(), AllocError>
+        ensures code { OnOk result (Puts code.old.items code.new.items (plan_all (program_tree self.entry.program.now) self.entry.schedule.now (vec_len code.old) (depth_of visible.old) false (block_tree body.now))) }
+        ensures visible { OnOk result (depth_of visible.new ≡ depth_of visible.old) }
+    {
+        let depth = visible.depth();
+        self.put_all(body, visible, code)?;
+        visible.cut(depth);
+        Ok(())
+    }
+}

@@ -1,0 +1,310 @@
+//! Single instructions.
+ghost use Rattle.std.specs.Prelude.{◌≡◌, ◌∷◌, [], IfOk, OnOk, slice_set, vec_len};
+ghost use Rattle.typed_tree.specs.BlockTree.{DeclareInteger, action_tree};
+ghost use Rattle.typed_tree.specs.ConditionTree.{condition_tree};
+ghost use Rattle.typed_tree.specs.IntegerTree.{integer_tree};
+ghost use Rattle.schedule.specs.Schedule.{no_choice};
+ghost use Rattle.plans.specs.Instruction.{Advance, Do, Enter, Jump, Turn, Unless, UnlessBelow};
+ghost use Rattle.plans.specs.Plan.{chosen, in_loop, loop_step, plain as plain_tree, with_integer};
+ghost use Rattle.fusing.specs.Parts.{together_tree};
+ghost use Rattle.instructions.specs.Operation.{IsInstruction, IsOperation};
+ghost use Rattle.lowering.specs.Kinds.{HasNoBlock};
+ghost use Rattle.lowering.specs.Putting.{Puts};
+ghost use Rattle.lowering.specs.Visible.{depth_of};
+
+use crate::blocks::Lowering;
+use crate::operations::{condition_kernel, integer_kernel, operation_of};
+use crate::visible::Visible;
+use fusing::{EdgePart, PartResult, Together};
+use instructions::{Instruction, Operation};
+use plan_text::{ChangedSet, Lines, Part};
+use plans::Depth;
+use schedule::Choice;
+use std::alloc::AllocError;
+use typed_tree::{Action, Condition, Integer, Statement};
+
+/// An instruction at what is visible.
+pub(crate) fn plain(number: u64, depth: Depth, operation: Operation, words: Vec<u8>) -> Instruction
+    ensures operation { result.operation ≡ operation }
+    ensures number { result.number ≡ number }
+    ensures keep { result.keep ≡ depth }
+    ensures shown { result.shown ≡ depth }
+    ensures choice { result.choice ≡ no_choice }
+{
+    Instruction {
+        number,
+        keep: depth,
+        shown: depth,
+        choice: Choice::none(),
+        operation,
+        words,
+    }
+}
+
+/// Puts an instruction in the place of one that is there.
+pub(crate) fn replace(code: &mut Vec<Instruction>, place: usize, instruction: Instruction)
+    ensures { code.new.items ≡ slice_set code.old.items place instruction }
+{
+    if place < code.len() {
+        code[place] = instruction;
+    }
+}
+
+impl Lowering<'_> {
+    /// `unless [c] X`
+    pub(crate) fn unless(
+        self,
+        number: u64,
+        depth: Depth,
+        c: &Condition,
+        to: usize,
+    ) -> Result<Instruction, AllocError>
+        ensures { IfOk result (λ i. IsInstruction i (plain_tree number depth (Unless (condition_tree c.now) to))) }
+    {
+        let mut words = Vec::new(self.alloc);
+        Lines { program: self.program }.put_unless(&mut words, c)?;
+        let test = condition_kernel(self.alloc, c, depth)?;
+        Ok(plain(number, depth, Operation::Unless { test, to }, words))
+    }
+
+    /// `turn`
+    pub(crate) fn turn(
+        self,
+        number: u64,
+        keep: Depth,
+        shown: Depth,
+    ) -> Result<Instruction, AllocError>
+        ensures { IfOk result (λ i. IsInstruction i (loop_step number keep shown Turn)) }
+    {
+        let mut words = Vec::new(self.alloc);
+        words.extend_from_slice(b"turn ")?;
+        Ok(Instruction {
+            number,
+            keep,
+            shown,
+            choice: Choice::none(),
+            operation: Operation::Turn,
+            words,
+        })
+    }
+
+    /// `jump X`
+    pub(crate) fn jump(
+        self,
+        number: u64,
+        keep: Depth,
+        shown: Depth,
+        to: usize,
+    ) -> Result<Instruction, AllocError>
+        ensures { IfOk result (λ i. IsInstruction i (loop_step number keep shown (Jump to))) }
+    {
+        let mut words = Vec::new(self.alloc);
+        words.extend_from_slice(b"jump ")?;
+        Ok(Instruction {
+            number,
+            keep,
+            shown,
+            choice: Choice::none(),
+            operation: Operation::Jump { to },
+            words,
+        })
+    }
+
+    /// `set i [i 1 +]`
+    pub(crate) fn advance(
+        self,
+        number: u64,
+        depth: Depth,
+        name: usize,
+    ) -> Result<Instruction, AllocError>
+        ensures { IfOk result (λ i. IsInstruction i (plain_tree number depth (Advance name))) }
+    {
+        let mut words = Vec::new(self.alloc);
+        Lines { program: self.program }.put_advance(&mut words, name)?;
+        Ok(plain(number, depth, Operation::Advance { name }, words))
+    }
+
+    /// `unless [i i.end <] X`
+    pub(crate) fn unless_below(
+        self,
+        number: u64,
+        keep: Depth,
+        shown: Depth,
+        name: usize,
+        to: usize,
+    ) -> Result<Instruction, AllocError>
+        ensures { IfOk result (λ i. IsInstruction i (loop_step number keep shown (UnlessBelow name to))) }
+    {
+        let mut words = Vec::new(self.alloc);
+        Lines { program: self.program }.put_below(&mut words, name)?;
+        Ok(Instruction {
+            number,
+            keep,
+            shown,
+            choice: Choice::none(),
+            operation: Operation::UnlessBelow { name, to },
+            words,
+        })
+    }
+
+    /// `set i [a]`
+    fn first(
+        self,
+        number: u64,
+        depth: Depth,
+        name: usize,
+        e: &Integer,
+    ) -> Result<Instruction, AllocError>
+        ensures { IfOk result (λ i. IsInstruction i (plain_tree number depth (Do (DeclareInteger name (integer_tree e.now))))) }
+    {
+        let mut words = Vec::new(self.alloc);
+        Lines { program: self.program }.put_set_integer(&mut words, name, e)?;
+        let value = integer_kernel(self.alloc, e, depth)?;
+        Ok(plain(number, depth, Operation::DeclareInteger { name, value }, words))
+    }
+
+    /// `set i.end [b]`
+    fn enter(
+        self,
+        number: u64,
+        keep: Depth,
+        shown: Depth,
+        name: usize,
+        e: &Integer,
+    ) -> Result<Instruction, AllocError>
+        ensures { IfOk result (λ i. IsInstruction i (loop_step number keep shown (Enter name (integer_tree e.now)))) }
+    {
+        let mut words = Vec::new(self.alloc);
+        Lines { program: self.program }.put_bound(&mut words, name, e)?;
+        let end = integer_kernel(self.alloc, e, shown)?;
+        Ok(Instruction {
+            number,
+            keep,
+            shown,
+            choice: Choice::none(),
+            operation: Operation::Enter { name, end },
+            words,
+        })
+    }
+
+    /// Puts that a `for`'s name and bound get their values; behind them both are visible.
+    pub(crate) fn put_bounds(
+        self,
+        number: u64,
+        name: usize,
+        first: &Integer,
+        end: &Integer,
+        visible: &mut Visible,
+        code: &mut Vec<Instruction>,
+    ) -> Result<(), AllocError>
+        ensures code { OnOk result (Puts code.old.items code.new.items
+            (plain_tree number (depth_of visible.old) (Do (DeclareInteger name (integer_tree first.now)))
+            ∷ loop_step number (with_integer (depth_of visible.old)) (depth_of visible.old) (Enter name (integer_tree end.now)) ∷ [])) }
+        ensures visible { OnOk result (depth_of visible.new ≡ in_loop (depth_of visible.old)) }
+    {
+        let depth = visible.depth();
+        code.push(self.first(number, depth, name, first)?)?;
+        visible.declare_integer(name)?;
+        code.push(self.enter(number, visible.depth(), depth, name, end)?)?;
+        visible.declare_integer(name)
+    }
+
+    /// Puts the instruction of a statement without a block.
+    pub(crate) fn put_simple(
+        self,
+        statement: &Statement,
+        depth: Depth,
+        code: &mut Vec<Instruction>,
+    ) -> Result<(), AllocError>
+        ensures { HasNoBlock (action_tree statement.now.action) → OnOk result (Puts code.old.items code.new.items (chosen self.entry.schedule.now statement.now.number statement.now.label depth (Do (action_tree statement.now.action)) ∷ [])) }
+    {
+        let choice = self.schedule.choice_at(statement.label);
+        let mut words = Vec::new(self.alloc);
+        Lines { program: self.program }.put_statement(&mut words, &statement.action, choice)?;
+        let operation = operation_of(self.alloc, &statement.action, depth)?;
+        code.push(Instruction {
+            number: statement.number,
+            keep: depth,
+            shown: depth,
+            choice,
+            operation,
+            words,
+        })?;
+        Ok(())
+    }
+
+    /// Puts the instruction of two applies that are done together.
+    pub(crate) fn put_pair(
+        self,
+        statement: &Statement,
+        pair: Together,
+        depth: Depth,
+        code: &mut Vec<Instruction>,
+    ) -> Result<(), AllocError>
+        ensures { OnOk result (Puts code.old.items code.new.items (chosen self.entry.schedule.now statement.now.number statement.now.label depth (together_tree pair) ∷ [])) }
+    {
+        let choice = self.schedule.choice_at(statement.label);
+        let mut words = Vec::new(self.alloc);
+        self.put_pair_words(&mut words, pair, choice)?;
+        code.push(Instruction {
+            number: statement.number,
+            keep: depth,
+            shown: depth,
+            choice,
+            operation: operation_of_pair(pair),
+            words,
+        })?;
+        Ok(())
+    }
+
+    fn put_pair_words(
+        self,
+        words: &mut Vec<u8>,
+        pair: Together,
+        choice: Choice,
+    ) -> Result<(), AllocError> {
+        let lines = Lines { program: self.program };
+        match pair {
+            Together::Edges { ends, first, second } => {
+                lines.put_edges(words, ends, part_of(first), Some(part_of(second)), choice)
+            }
+            Together::Vertices { set, first, second } => {
+                lines.put_vertices(words, set, first, Some(second))
+            }
+        }
+    }
+}
+
+/// What two applies that are done together do.
+fn operation_of_pair(pair: Together) -> Operation
+    ensures { (keep shown : Depth) → IsOperation keep shown result (together_tree pair) }
+{
+    match pair {
+        Together::Edges { ends, first, second } => Operation::ApplyEdges {
+            ends,
+            first,
+            second: Some(second),
+        },
+        Together::Vertices { set, first, second } => Operation::ApplyVertices {
+            set,
+            first,
+            second: Some(second),
+        },
+    }
+}
+
+/// An edge function as the plan's text names it.
+fn part_of(part: EdgePart) -> Part {
+    let changed = match part.result {
+        PartResult::Dropped => None,
+        PartResult::Declared { name, vector } => Some(ChangedSet { name, vector }),
+        PartResult::Assigned { set, vector } => Some(ChangedSet {
+            name: set.name,
+            vector,
+        }),
+    };
+    Part {
+        function: part.function,
+        changed,
+    }
+}
