@@ -1,1 +1,5 @@
+pub mod Measures
 pub mod Modified
+pub mod Within
+pub mod Putting
+pub mod Statements

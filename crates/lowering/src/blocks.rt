@@ -1,5 +1,5 @@
 //! Statements as instructions.
-ghost use Rattle.std.specs.Prelude.{◌≡◌, ℕ, IfOk, OnOk, Option, false, vec_len};
+ghost use Rattle.std.specs.Prelude.{◌≡◌, ℕ, IfOk, OnOk, Option, false, length};
 ghost use Rattle.typed_tree.specs.BlockTree.{For, If, IfElse, While, action_tree, block_tree};
 ghost use Rattle.typed_tree.specs.ConditionTree.{condition_tree};
 ghost use Rattle.typed_tree.specs.IntegerTree.{integer_tree};
@@ -34,7 +34,7 @@ impl Lowering<'_> {
         visible: &mut Visible,
         code: &mut Vec<Instruction>,
     ) -> Result<(), AllocError>
-        ensures code { OnOk result (Puts code.old.items code.new.items (plan_all (program_tree self.entry.program.now) self.entry.schedule.now (vec_len code.old) (depth_of visible.old) false (block_tree statements.now))) }
+        ensures code { OnOk result (Puts code.old.items code.new.items (plan_all (program_tree self.entry.program.now) self.entry.schedule.now (length code.old.items) (depth_of visible.old) false (block_tree statements.now))) }
         ensures visible { OnOk result (depth_of visible.new ≡ behind_all (block_tree statements.now) (depth_of visible.old)) }
     {
         let mut left = statements;
@@ -61,7 +61,7 @@ impl Lowering<'_> {
         ensures code { OnOk result (Puts code.old.items code.new.items
             (plan_in (company_of (program_tree self.entry.program.now) self.entry.schedule.now (depth_of visible.old) is_done statement.now.label (action_tree statement.now.action) (block_tree rest.now))
             self.entry.schedule.now statement.now.number statement.now.label (depth_of visible.old)
-            (plan (program_tree self.entry.program.now) self.entry.schedule.now (vec_len code.old) (depth_of visible.old) statement.now.number statement.now.label (action_tree statement.now.action)))) }
+            (plan (program_tree self.entry.program.now) self.entry.schedule.now (length code.old.items) (depth_of visible.old) statement.now.number statement.now.label (action_tree statement.now.action)))) }
         ensures visible { OnOk result (depth_of visible.new ≡ behind (action_tree statement.now.action) (depth_of visible.old)) }
     {
         if is_done {
@@ -88,7 +88,7 @@ impl Lowering<'_> {
         visible: &mut Visible,
         code: &mut Vec<Instruction>,
     ) -> Result<(), AllocError>
-        ensures code { OnOk result (Puts code.old.items code.new.items (plan (program_tree self.entry.program.now) self.entry.schedule.now (vec_len code.old) (depth_of visible.old) statement.now.number statement.now.label (action_tree statement.now.action))) }
+        ensures code { OnOk result (Puts code.old.items code.new.items (plan (program_tree self.entry.program.now) self.entry.schedule.now (length code.old.items) (depth_of visible.old) statement.now.number statement.now.label (action_tree statement.now.action))) }
         ensures visible { OnOk result (depth_of visible.new ≡ behind (action_tree statement.now.action) (depth_of visible.old)) }
     {
         let number = statement.number;
@@ -116,7 +116,7 @@ impl Lowering<'_> {
         visible: &mut Visible,
         code: &mut Vec<Instruction>,
     ) -> Result<(), AllocError>
-        ensures code { (label : Option ℕ) → OnOk result (Puts code.old.items code.new.items (plan (program_tree self.entry.program.now) self.entry.schedule.now (vec_len code.old) (depth_of visible.old) number label (If (condition_tree c.now) (block_tree body.now)))) }
+        ensures code { (label : Option ℕ) → OnOk result (Puts code.old.items code.new.items (plan (program_tree self.entry.program.now) self.entry.schedule.now (length code.old.items) (depth_of visible.old) number label (If (condition_tree c.now) (block_tree body.now)))) }
         ensures visible { OnOk result (depth_of visible.new ≡ depth_of visible.old) }
     {
         let depth = visible.depth();
@@ -139,7 +139,7 @@ impl Lowering<'_> {
         visible: &mut Visible,
         code: &mut Vec<Instruction>,
     ) -> Result<(), AllocError>
-        ensures code { (label : Option ℕ) → OnOk result (Puts code.old.items code.new.items (plan (program_tree self.entry.program.now) self.entry.schedule.now (vec_len code.old) (depth_of visible.old) number label (IfElse (condition_tree c.now) (block_tree body.now) (block_tree other.now)))) }
+        ensures code { (label : Option ℕ) → OnOk result (Puts code.old.items code.new.items (plan (program_tree self.entry.program.now) self.entry.schedule.now (length code.old.items) (depth_of visible.old) number label (IfElse (condition_tree c.now) (block_tree body.now) (block_tree other.now)))) }
         ensures visible { OnOk result (depth_of visible.new ≡ depth_of visible.old) }
     {
         let depth = visible.depth();
@@ -149,10 +149,10 @@ impl Lowering<'_> {
         let jump = code.len();
         code.push(plain(number, depth, Operation::End, Vec::new(self.alloc)))?;
         let unless = self.unless(number, depth, c, code.len())?;
-        replace(code, test, unless);
         self.put_inside(other, visible, code)?;
         let behind = self.jump(number, depth, depth, code.len())?;
         replace(code, jump, behind);
+        replace(code, test, unless);
         Ok(())
     }
 
@@ -166,7 +166,7 @@ impl Lowering<'_> {
         visible: &mut Visible,
         code: &mut Vec<Instruction>,
     ) -> Result<(), AllocError>
-        ensures code { (label : Option ℕ) → OnOk result (Puts code.old.items code.new.items (plan (program_tree self.entry.program.now) self.entry.schedule.now (vec_len code.old) (depth_of visible.old) number label (While (condition_tree c.now) (block_tree body.now)))) }
+        ensures code { (label : Option ℕ) → OnOk result (Puts code.old.items code.new.items (plan (program_tree self.entry.program.now) self.entry.schedule.now (length code.old.items) (depth_of visible.old) number label (While (condition_tree c.now) (block_tree body.now)))) }
         ensures visible { OnOk result (depth_of visible.new ≡ depth_of visible.old) }
     {
         let depth = visible.depth();
@@ -192,7 +192,7 @@ impl Lowering<'_> {
         visible: &mut Visible,
         code: &mut Vec<Instruction>,
     ) -> Result<(), AllocError>
-        ensures code { (label : Option ℕ) → OnOk result (Puts code.old.items code.new.items (plan (program_tree self.entry.program.now) self.entry.schedule.now (vec_len code.old) (depth_of visible.old) number label (For name (integer_tree first.now) (integer_tree end.now) (block_tree body.now)))) }
+        ensures code { (label : Option ℕ) → OnOk result (Puts code.old.items code.new.items (plan (program_tree self.entry.program.now) self.entry.schedule.now (length code.old.items) (depth_of visible.old) number label (For name (integer_tree first.now) (integer_tree end.now) (block_tree body.now)))) }
         ensures visible { OnOk result (depth_of visible.new ≡ depth_of visible.old) }
     {
         let depth = visible.depth();
@@ -218,7 +218,7 @@ impl Lowering<'_> {
         visible: &mut Visible,
         code: &mut Vec<Instruction>,
     ) -> Result<(), AllocError>
-        ensures code { OnOk result (Puts code.old.items code.new.items (plan_all (program_tree self.entry.program.now) self.entry.schedule.now (vec_len code.old) (depth_of visible.old) false (block_tree body.now))) }
+        ensures code { OnOk result (Puts code.old.items code.new.items (plan_all (program_tree self.entry.program.now) self.entry.schedule.now (length code.old.items) (depth_of visible.old) false (block_tree body.now))) }
         ensures visible { OnOk result (depth_of visible.new ≡ depth_of visible.old) }
     {
         let depth = visible.depth();

@@ -6,7 +6,13 @@
 #![tactic(auto)]
 
 mod blocks;
+mod copies;
 mod leaves;
 mod operations;
+mod plan;
+mod text;
 mod visible;
 
+pub use instructions::Plan;
+pub use plan::lower;
+pub use text::write;

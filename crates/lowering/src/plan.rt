@@ -1,0 +1,72 @@
+//! The lowering of whole programs.
+ghost use Rattle.std.specs.Prelude.{◌≡◌, IfOk};
+ghost use Rattle.typed_tree.specs.ProgramTree.{program_tree};
+ghost use Rattle.plans.specs.Plan.{plan_of};
+ghost use Rattle.instructions.specs.Operation.{AreInstructions};
+ghost use Rattle.instructions.specs.Plan.{IsPlan};
+
+use crate::blocks::Lowering;
+use crate::copies::copied;
+use crate::leaves::plain;
+use crate::visible::Visible;
+use instructions::{Functions, Instruction, Operation, Plan};
+use plan_text::{Lines, end_line};
+use schedule::Schedule;
+use std::alloc::{AllocError, Global};
+use typed_tree::Typed;
+
+/// The plan of a checked program under a schedule, which must be one that was accepted for it where a plan of it is to
+/// be shown: `lower` itself takes any. The time is in proportion to the program, and for each two applies that the schedule
+/// fuses to what decides whether they fit. The only error is out of memory.
+pub fn lower(alloc: Global, program: &Typed, schedule: &Schedule) -> Result<Plan, AllocError>
+    ensures { IfOk result (λ plan. IsPlan plan (program_tree program.now) schedule.now) }
+{
+    let instructions = instructions_of(alloc, program, schedule)?;
+    let functions = Functions::of(alloc, program)?;
+    let vectors = Vec::from_slice(alloc, &program.vectors)?;
+    let sets = Vec::from_slice(alloc, &program.sets)?;
+    let names = copied(alloc, &program.names)?;
+    let groups = copied(alloc, schedule.groups())?;
+    let fields = fields_of(alloc, program, schedule)?;
+    Ok(Plan {
+        instructions,
+        functions,
+        vectors,
+        sets,
+        names,
+        groups,
+        fields,
+    })
+}
+
+/// The instructions of `main`, and the end.
+fn instructions_of(
+    alloc: Global,
+    program: &Typed,
+    schedule: &Schedule,
+) -> Result<Vec<Instruction>, AllocError>
+    ensures { IfOk result (λ code. AreInstructions code.items (plan_of (program_tree program.now) schedule.now)) }
+{
+    let mut visible = Visible::new(alloc, &program.sets)?;
+    let mut code = Vec::new(alloc);
+    let lowering = Lowering {
+        alloc,
+        program,
+        schedule,
+    };
+    lowering.put_all(&program.main, &mut visible, &mut code)?;
+    let mut words = Vec::new(alloc);
+    words.extend_from_slice(b"end ")?;
+    code.push(plain(0, visible.depth(), Operation::End, words))?;
+    Ok(code)
+}
+
+/// The text of the groups, a line for each.
+fn fields_of(alloc: Global, program: &Typed, schedule: &Schedule) -> Result<Vec<u8>, AllocError> {
+    let mut fields = Vec::new(alloc);
+    'groups: for group in schedule.groups() {
+        Lines { program }.put_group(&mut fields, group.as_slice())?;
+        end_line(&mut fields)?;
+    }
+    Ok(fields)
+}
