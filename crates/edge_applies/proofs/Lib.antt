@@ -1,0 +1,3 @@
+pub mod Applied
+pub mod Between
+pub mod WrittenChanges

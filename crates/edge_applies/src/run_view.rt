@@ -1,0 +1,16 @@
+//! What a run lends to an edge apply.
+use flat_snapshot::Flat;
+use instructions::Functions;
+use vectors::Vectors;
+use vertex_sets::VertexSet;
+
+/// What a run has for an edge apply: the kernels of its program, its vertex sets by their places, the sizes of these sets,
+/// its vectors, and the graph.
+#[derive(Clone, Copy)]
+pub struct RunView<'a> {
+    pub functions: &'a Functions,
+    pub sets: &'a [VertexSet],
+    pub sizes: &'a [i64],
+    pub vectors: &'a Vectors,
+    pub graph: &'a Flat,
+}
