@@ -1,5 +1,5 @@
 -- Laws of lists that agree place by place.
-use Rattle.std.proofs.Common.{rules, ◌≡◌, ◌<◌, ◌+◌, ℕ, zero, suc, List, [], ◌∷◌, ◌++◌, map, take, length, get_or, slice_get, Some, None, Option, sym, ap, ◌∙◌, subst}
+use Rattle.std.proofs.Common.{◌≡◌, ◌<◌, ◌+◌, ℕ, zero, suc, List, [], ◌∷◌, ◌++◌, map, take, length, get_or, slice_get, sym, ap, ◌∙◌, subst}
 use Rattle.std.proofs.lemmas.List.{map-append, take_more}
 use Rattle.std.specs.Option.{unwrap_or}
 use Rattle.algorithm_meaning.specs.Function.{steps_of}
@@ -34,5 +34,5 @@ pub pairwise_next : {A B C : Type 0} (R : A → B → Type 0) (tree : C → B) (
     → ArePairwise R ks (map tree (take i fs)) → R k (tree f) → ArePairwise R (ks ++ k ∷ []) (map tree (take (i + 1) fs))
 pairwise_next R tree ks k fs i f inside is all one =
     let step : map tree (take (i + 1) fs) ≡ map tree (take i fs) ++ tree f ∷ [] =
-        ap (map tree) (take_more fs i f inside ∙ ap (λ t. take i fs ++ t ∷ []) (sym is)) ∙ map-append tree (take i fs) (f ∷ []) in
+    ap (map tree) (take_more fs i f inside ∙ ap (λ t. take i fs ++ t ∷ []) (sym is)) ∙ map-append tree (take i fs) (f ∷ []) in
     subst (λ ts. ArePairwise R (ks ++ k ∷ []) ts) (sym step) (pairwise_snoc R ks (map tree (take i fs)) k (tree f) all one)

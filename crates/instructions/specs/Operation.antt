@@ -1,9 +1,9 @@
 -- Of which operation of a plan an operation is.
-use Rattle.std.specs.Prelude.{◌≡◌, ℕ, List, [], ◌∷◌, Option, Some, None}
+use Rattle.std.specs.Prelude.{◌≡◌, List, Option, Some, None}
 use Rattle.typed_tree.specs.declared.statement.Ends.{Ends}
 use Rattle.typed_tree.specs.IntegerTree.{IntegerTree}
 use Rattle.typed_tree.specs.ConditionTree.{ConditionTree}
-use Rattle.typed_tree.specs.BlockTree.{ActionTree, DeclareInteger, DeclareCondition, SetInteger, SetCondition, ReduceInteger, SetEntry, ReduceEntry, DeclareSet, AssignSet, AddVertex, PrintInteger, PrintCondition, ApplyVertex, ApplyEdges}
+use Rattle.typed_tree.specs.BlockTree.{ActionTree, DeclareInteger, DeclareCondition, SetInteger, SetCondition, ReduceInteger, SetEntry, ReduceEntry, DeclareSet, AssignSet, AddVertex, PrintInteger, PrintCondition, ApplyVertex}
 use Rattle.kernels.specs.declared.expression.ExpressionKernel.{ExpressionKernel}
 use Rattle.kernels.specs.Expressions.{IsIntegerKernel, IsConditionKernel}
 use Rattle.plans.specs.declared.depth.Depth.{Depth}

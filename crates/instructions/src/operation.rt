@@ -8,36 +8,95 @@ use typed_tree::{Ends, Slot};
 /// What an instruction does. A name is the place of one in the plan's names, a vector or a function its place in its list,
 /// and `to` the place of an instruction.
 pub enum Operation {
-    DeclareInteger { name: usize, value: ExpressionKernel },
-    DeclareCondition { name: usize, value: ExpressionKernel },
-    SetInteger { slot: Slot, value: ExpressionKernel },
-    SetCondition { slot: Slot, value: ExpressionKernel },
-    ReduceInteger { slot: Slot, reduction: Reduction, value: ExpressionKernel },
+    DeclareInteger {
+        name: usize,
+        value: ExpressionKernel,
+    },
+    DeclareCondition {
+        name: usize,
+        value: ExpressionKernel,
+    },
+    SetInteger {
+        slot: Slot,
+        value: ExpressionKernel,
+    },
+    SetCondition {
+        slot: Slot,
+        value: ExpressionKernel,
+    },
+    ReduceInteger {
+        slot: Slot,
+        reduction: Reduction,
+        value: ExpressionKernel,
+    },
     /// The entry of a vector at an index gets a value.
-    SetEntry { vector: usize, index: ExpressionKernel, value: ExpressionKernel },
+    SetEntry {
+        vector: usize,
+        index: ExpressionKernel,
+        value: ExpressionKernel,
+    },
     /// The entry of a vector at an index is reduced with a value.
-    ReduceEntry { vector: usize, index: ExpressionKernel, reduction: Reduction, value: ExpressionKernel },
-    DeclareSet { name: usize, members: Members },
-    AssignSet { slot: Slot, members: Members },
+    ReduceEntry {
+        vector: usize,
+        index: ExpressionKernel,
+        reduction: Reduction,
+        value: ExpressionKernel,
+    },
+    DeclareSet {
+        name: usize,
+        members: Members,
+    },
+    AssignSet {
+        slot: Slot,
+        members: Members,
+    },
     /// The set gets a vertex.
-    AddVertex { slot: Slot, vertex: ExpressionKernel },
-    PrintInteger { value: ExpressionKernel },
-    PrintCondition { value: ExpressionKernel },
+    AddVertex {
+        slot: Slot,
+        vertex: ExpressionKernel,
+    },
+    PrintInteger {
+        value: ExpressionKernel,
+    },
+    PrintCondition {
+        value: ExpressionKernel,
+    },
     /// One vertex function, or two, at each member of a set.
-    ApplyVertices { set: Slot, first: usize, second: Option<usize> },
+    ApplyVertices {
+        set: Slot,
+        first: usize,
+        second: Option<usize>,
+    },
     /// One edge function, or two, on the edges between two ends.
-    ApplyEdges { ends: Ends, first: EdgePart, second: Option<EdgePart> },
+    ApplyEdges {
+        ends: Ends,
+        first: EdgePart,
+        second: Option<EdgePart>,
+    },
     /// Goes on at the place unless the test holds.
-    Unless { test: ExpressionKernel, to: usize },
+    Unless {
+        test: ExpressionKernel,
+        to: usize,
+    },
     /// A `for` whose name has its first value: the bound, which does not see the name.
-    Enter { name: usize, end: ExpressionKernel },
+    Enter {
+        name: usize,
+        end: ExpressionKernel,
+    },
     /// Leaves the innermost `for` for the place unless its value is below its bound.
-    UnlessBelow { name: usize, to: usize },
+    UnlessBelow {
+        name: usize,
+        to: usize,
+    },
     /// The innermost `for` goes on to its next value.
-    Advance { name: usize },
+    Advance {
+        name: usize,
+    },
     /// Uses a turn, or ends the run.
     Turn,
-    Jump { to: usize },
+    Jump {
+        to: usize,
+    },
     End,
 }
 
@@ -48,16 +107,43 @@ impl Drop for Operation {
             | Operation::DeclareCondition { name: _, value: _ }
             | Operation::SetInteger { slot: _, value: _ }
             | Operation::SetCondition { slot: _, value: _ }
-            | Operation::ReduceInteger { slot: _, reduction: _, value: _ }
-            | Operation::SetEntry { vector: _, index: _, value: _ }
-            | Operation::ReduceEntry { vector: _, index: _, reduction: _, value: _ }
-            | Operation::DeclareSet { name: _, members: _ }
-            | Operation::AssignSet { slot: _, members: _ }
+            | Operation::ReduceInteger {
+                slot: _,
+                reduction: _,
+                value: _,
+            }
+            | Operation::SetEntry {
+                vector: _,
+                index: _,
+                value: _,
+            }
+            | Operation::ReduceEntry {
+                vector: _,
+                index: _,
+                reduction: _,
+                value: _,
+            }
+            | Operation::DeclareSet {
+                name: _,
+                members: _,
+            }
+            | Operation::AssignSet {
+                slot: _,
+                members: _,
+            }
             | Operation::AddVertex { slot: _, vertex: _ }
             | Operation::PrintInteger { value: _ }
             | Operation::PrintCondition { value: _ }
-            | Operation::ApplyVertices { set: _, first: _, second: _ }
-            | Operation::ApplyEdges { ends: _, first: _, second: _ }
+            | Operation::ApplyVertices {
+                set: _,
+                first: _,
+                second: _,
+            }
+            | Operation::ApplyEdges {
+                ends: _,
+                first: _,
+                second: _,
+            }
             | Operation::Unless { test: _, to: _ }
             | Operation::Enter { name: _, end: _ }
             | Operation::UnlessBelow { name: _, to: _ }

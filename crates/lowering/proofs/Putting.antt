@@ -1,9 +1,8 @@
 -- Laws of what is put behind instructions.
-use Rattle.std.proofs.Common.{◌≡◌, ℕ, suc, ◌+◌, List, [], ◌∷◌, ◌++◌, length, slice_set, refl, sym, ap, ◌∙◌, arith, subst, append_assoc, length-append}
+use Rattle.std.proofs.Common.{◌≡◌, ℕ, suc, ◌+◌, List, [], ◌∷◌, ◌++◌, length, slice_set, refl, sym, ap, ◌∙◌, append_assoc, length-append}
 use Rattle.std.proofs.lemmas.List.{append-nil}
 use Rattle.plans.specs.Instruction.{InstructionTree}
 use Rattle.instructions.specs.declared.instruction.Instruction.{Instruction}
-use Rattle.instructions.specs.Kernels.{ArePairwise}
 use Rattle.instructions.specs.Operation.{IsInstruction, AreInstructions}
 use Rattle.instructions.proofs.Pairwise.{pairwise_append}
 use Rattle.lowering.specs.Putting.{Puts}
@@ -16,10 +15,10 @@ puts_one a b i t e is = record { more = i ∷ []; is = e; are = (is, tt) }
 
 pub puts_both : (a b c : List Instruction) (ts us : List InstructionTree) → Puts a b ts → Puts b c us → Puts a c (ts ++ us)
 puts_both a b c ts us x y = record {
-    more = x.more ++ y.more;
-    is = y.is ∙ ap (λ xs. xs ++ y.more) x.is ∙ append_assoc a x.more y.more;
-    are = pairwise_append IsInstruction x.more ts y.more us x.are y.are;
-  }
+  more = x.more ++ y.more;
+  is = y.is ∙ ap (λ xs. xs ++ y.more) x.is ∙ append_assoc a x.more y.more;
+  are = pairwise_append IsInstruction x.more ts y.more us x.are y.are;
+}
 
 pub pairwise_length : (xs : List Instruction) (ts : List InstructionTree) → AreInstructions xs ts → length xs ≡ length ts
 pairwise_length [] [] all = refl
@@ -38,9 +37,9 @@ set_behind (y ∷ a) x i more = ap (λ xs. y ∷ xs) (set_behind a x i more)
 pub puts_patched : (a b c : List Instruction) (x i : Instruction) (t : InstructionTree) (ts : List InstructionTree) (n : ℕ)
     → b ≡ a ++ x ∷ [] → Puts b c ts → n ≡ length a → IsInstruction i t → Puts a (slice_set c n i) (t ∷ ts)
 puts_patched a b c x i t ts n e puts at is = record {
-    more = i ∷ puts.more;
-    is = ap (λ m. slice_set c m i) at
-        ∙ ap (λ xs. slice_set xs (length a) i) (puts.is ∙ ap (λ xs. xs ++ puts.more) e ∙ append_assoc a (x ∷ []) puts.more)
-        ∙ set_behind a x i puts.more;
-    are = (is, puts.are);
-  }
+  more = i ∷ puts.more;
+  is = ap (λ m. slice_set c m i) at
+      ∙ ap (λ xs. slice_set xs (length a) i) (puts.is ∙ ap (λ xs. xs ++ puts.more) e ∙ append_assoc a (x ∷ []) puts.more)
+      ∙ set_behind a x i puts.more;
+  are = (is, puts.are);
+}

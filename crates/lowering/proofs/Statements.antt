@@ -1,5 +1,5 @@
 -- The instructions of statements with blocks, and of blocks.
-use Rattle.std.proofs.Common.{◌≡◌, ℕ, ◌+◌, Bool, false, Option, List, [], ◌∷◌, ◌++◌, length, slice_set, refl, sym, ap, ◌∙◌, arith, subst, append_assoc, length-append}
+use Rattle.std.proofs.Common.{◌≡◌, ℕ, ◌+◌, Bool, false, Option, List, [], ◌∷◌, ◌++◌, length, slice_set, sym, ap, ◌∙◌, arith, subst, append_assoc, length-append}
 use Rattle.typed_tree.specs.IntegerTree.{IntegerTree}
 use Rattle.typed_tree.specs.ConditionTree.{ConditionTree}
 use Rattle.typed_tree.specs.BlockTree.{ActionTree, DeclareInteger, If, IfElse, While, For, BlockTree, Then}
@@ -76,11 +76,11 @@ module _ (p : ProgramTree) (s : ScheduleTree) where
       let one = one_more a b x first in
       let two : length k ≡ length a + 2 = one_more b k u second ∙ omega (arith, one) in
       let to : length e ≡ length a + 2 + size_all p s d false body + 1 =
-          one_more c e j last ∙ ap (λ q. q + 1) (ends_at k c d body puts ∙ ap (λ q. q + size_all p s d false body) two) in
+      one_more c e j last ∙ ap (λ q. q + 1) (ends_at k c d body puts ∙ ap (λ q. q + size_all p s d false body) two) in
       puts_patched a b e x i _ _ n first
       (puts_both b k e _ _ (puts_one b k u _ second turn)
-        (puts_both k c e _ _ (subst (λ q. Puts k c (plan_all p s q d false body)) two puts)
-          (puts_one c e j _ last (subst (λ q. IsInstruction j (plain number d (Jump q))) at jump))))
+      (puts_both k c e _ _ (subst (λ q. Puts k c (plan_all p s q d false body)) two puts)
+      (puts_one c e j _ last (subst (λ q. IsInstruction j (plain number d (Jump q))) at jump))))
       at (subst (λ q. IsInstruction i (plain number d (Unless t q))) to unless)
 
   pub puts_for : (a f b k c g e : List Instruction) (x u v j i : Instruction) (n : ℕ) (d : Depth) (number : ℕ) (label : Option ℕ) (name : ℕ) (first end : IntegerTree) (body : BlockTree)
@@ -94,15 +94,15 @@ module _ (p : ProgramTree) (s : ScheduleTree) where
       let one = one_more f b x test in
       let two : length k ≡ length a + 4 = one_more b k u second ∙ omega (arith, one, head) in
       let to : length e ≡ length a + 4 + size_all p s (in_loop d) false body + 2 =
-          one_more g e j last ∙ omega (arith, one_more c g v third, ends_at k c (in_loop d) body puts, two) in
+      one_more g e j last ∙ omega (arith, one_more c g v third, ends_at k c (in_loop d) body puts, two) in
       let place : n ≡ length a + 2 = at ∙ head in
       puts_both a f (slice_set e n i) _ _ bounds
       (puts_patched f b e x i _ _ n test
-        (puts_both b k e _ _ (puts_one b k u _ second turn)
-          (puts_both k c e _ _ (subst (λ q. Puts k c (plan_all p s q (in_loop d) false body)) two puts)
-            (puts_both c g e _ _ (puts_one c g v _ third advance)
-              (puts_one g e j _ last (subst (λ q. IsInstruction j (loop_step number (in_loop d) d (Jump q))) place jump)))))
-        at (subst (λ q. IsInstruction i (loop_step number (in_loop d) d (UnlessBelow name q))) to below))
+      (puts_both b k e _ _ (puts_one b k u _ second turn)
+      (puts_both k c e _ _ (subst (λ q. Puts k c (plan_all p s q (in_loop d) false body)) two puts)
+      (puts_both c g e _ _ (puts_one c g v _ third advance)
+      (puts_one g e j _ last (subst (λ q. IsInstruction j (loop_step number (in_loop d) d (Jump q))) place jump)))))
+      at (subst (λ q. IsInstruction i (loop_step number (in_loop d) d (UnlessBelow name q))) to below))
 
 -- main, and the end
 pub whole_plan : (p : ProgramTree) (s : ScheduleTree) (a b k : List Instruction) (d : Depth) (i : Instruction)
@@ -110,6 +110,6 @@ pub whole_plan : (p : ProgramTree) (s : ScheduleTree) (a b k : List Instruction)
     → AreInstructions k (plan_of p s)
 whole_plan p s a b k d i empty at puts pushed end =
     let main : Puts [] b (plan_all p s 0 (main_depth p) false p.main) =
-        subst (λ x. Puts [] b (plan_all p s 0 x false p.main)) at (subst (λ xs. Puts xs b (plan_all p s (length xs) d false p.main)) empty puts) in
+    subst (λ x. Puts [] b (plan_all p s 0 x false p.main)) at (subst (λ xs. Puts xs b (plan_all p s (length xs) d false p.main)) empty puts) in
     subst (λ xs. AreInstructions xs (plan_of p s)) (sym (pushed ∙ ap (λ xs. xs ++ i ∷ []) main.is))
     (pairwise_append IsInstruction main.more (plan_all p s 0 (main_depth p) false p.main) (i ∷ []) (plain 0 (behind_all p.main (main_depth p)) End ∷ []) main.are (end, tt))

@@ -1,5 +1,5 @@
 -- What is visible at a statement.
-use Rattle.std.specs.Prelude.{ℕ, ◌≤◌, vec_len}
+use Rattle.std.specs.Prelude.{◌≤◌, vec_len}
 use Rattle.plans.specs.declared.depth.Depth.{Depth}
 use Rattle.lowering.specs.declared.visible.Visible.{Visible}
 

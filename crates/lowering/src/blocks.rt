@@ -69,7 +69,14 @@ impl Lowering<'_> {
             return Ok(false);
         }
         let depth = visible.depth();
-        let pair = pair_at(self.alloc, self.program, self.schedule, depth, statement, rest)?;
+        let pair = pair_at(
+            self.alloc,
+            self.program,
+            self.schedule,
+            depth,
+            statement,
+            rest,
+        )?;
         match pair {
             None => self.put_statement(statement, visible, code)?,
             Some(pair) => {
@@ -94,7 +101,9 @@ impl Lowering<'_> {
         let number = statement.number;
         match &statement.action {
             Action::If(c, body) => self.put_if(number, c, body, visible, code),
-            Action::IfElse(c, body, other) => self.put_choice(number, c, body, other, visible, code),
+            Action::IfElse(c, body, other) => self.put_choice(
+                number, c, body, other, visible, code,
+            ),
             Action::While(c, body) => self.put_while(number, c, body, visible, code),
             Action::For(name, first, end, body) => {
                 self.put_for(number, *name, first, end, body, visible, code)

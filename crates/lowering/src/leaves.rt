@@ -62,7 +62,10 @@ impl Lowering<'_> {
         ensures { IfOk result (λ i. IsInstruction i (plain_tree number depth (Unless (condition_tree c.now) to))) }
     {
         let mut words = Vec::new(self.alloc);
-        Lines { program: self.program }.put_unless(&mut words, c)?;
+        Lines {
+            program: self.program,
+        }
+        .put_unless(&mut words, c)?;
         let test = condition_kernel(self.alloc, c, depth)?;
         Ok(plain(number, depth, Operation::Unless { test, to }, words))
     }
@@ -120,7 +123,10 @@ impl Lowering<'_> {
         ensures { IfOk result (λ i. IsInstruction i (plain_tree number depth (Advance name))) }
     {
         let mut words = Vec::new(self.alloc);
-        Lines { program: self.program }.put_advance(&mut words, name)?;
+        Lines {
+            program: self.program,
+        }
+        .put_advance(&mut words, name)?;
         Ok(plain(number, depth, Operation::Advance { name }, words))
     }
 
@@ -136,7 +142,10 @@ impl Lowering<'_> {
         ensures { IfOk result (λ i. IsInstruction i (loop_step number keep shown (UnlessBelow name to))) }
     {
         let mut words = Vec::new(self.alloc);
-        Lines { program: self.program }.put_below(&mut words, name)?;
+        Lines {
+            program: self.program,
+        }
+        .put_below(&mut words, name)?;
         Ok(Instruction {
             number,
             keep,
@@ -158,9 +167,17 @@ impl Lowering<'_> {
         ensures { IfOk result (λ i. IsInstruction i (plain_tree number depth (Do (DeclareInteger name (integer_tree e.now))))) }
     {
         let mut words = Vec::new(self.alloc);
-        Lines { program: self.program }.put_set_integer(&mut words, name, e)?;
+        Lines {
+            program: self.program,
+        }
+        .put_set_integer(&mut words, name, e)?;
         let value = integer_kernel(self.alloc, e, depth)?;
-        Ok(plain(number, depth, Operation::DeclareInteger { name, value }, words))
+        Ok(plain(
+            number,
+            depth,
+            Operation::DeclareInteger { name, value },
+            words,
+        ))
     }
 
     /// `set i.end [b]`
@@ -175,7 +192,10 @@ impl Lowering<'_> {
         ensures { IfOk result (λ i. IsInstruction i (loop_step number keep shown (Enter name (integer_tree e.now)))) }
     {
         let mut words = Vec::new(self.alloc);
-        Lines { program: self.program }.put_bound(&mut words, name, e)?;
+        Lines {
+            program: self.program,
+        }
+        .put_bound(&mut words, name, e)?;
         let end = integer_kernel(self.alloc, e, shown)?;
         Ok(Instruction {
             number,
@@ -220,7 +240,10 @@ impl Lowering<'_> {
     {
         let choice = self.schedule.choice_at(statement.label);
         let mut words = Vec::new(self.alloc);
-        Lines { program: self.program }.put_statement(&mut words, &statement.action, choice)?;
+        Lines {
+            program: self.program,
+        }
+        .put_statement(&mut words, &statement.action, choice)?;
         let operation = operation_of(self.alloc, &statement.action, depth)?;
         code.push(Instruction {
             number: statement.number,
@@ -263,11 +286,15 @@ impl Lowering<'_> {
         pair: Together,
         choice: Choice,
     ) -> Result<(), AllocError> {
-        let lines = Lines { program: self.program };
+        let lines = Lines {
+            program: self.program,
+        };
         match pair {
-            Together::Edges { ends, first, second } => {
-                lines.put_edges(words, ends, part_of(first), Some(part_of(second)), choice)
-            }
+            Together::Edges {
+                ends,
+                first,
+                second,
+            } => { lines.put_edges(words, ends, part_of(first), Some(part_of(second)), choice) }
             Together::Vertices { set, first, second } => {
                 lines.put_vertices(words, set, first, Some(second))
             }
@@ -280,7 +307,11 @@ fn operation_of_pair(pair: Together) -> Operation
     ensures { (keep shown : Depth) → IsOperation keep shown result (together_tree pair) }
 {
     match pair {
-        Together::Edges { ends, first, second } => Operation::ApplyEdges {
+        Together::Edges {
+            ends,
+            first,
+            second,
+        } => Operation::ApplyEdges {
             ends,
             first,
             second: Some(second),

@@ -94,11 +94,7 @@ pub(crate) fn operation_of(
 }
 
 /// The same of statements on vectors, sets and edges, and of `print`.
-fn other_operation(
-    alloc: Global,
-    action: &Action,
-    depth: Depth,
-) -> Result<Operation, AllocError>
+fn other_operation(alloc: Global, action: &Action, depth: Depth) -> Result<Operation, AllocError>
     ensures { IfOk result (λ o. IsOther (action_tree action.now) → IsOperation depth depth o (Do (action_tree action.now))) }
 {
     match action {

@@ -22,10 +22,11 @@ fn put_line(text: &mut Vec<u8>, place: u64, instruction: &Instruction) -> Result
     text.push(b' ')?;
     text.extend_from_slice(&instruction.words)?;
     match instruction.operation {
-        Operation::Unless { to, .. } | Operation::UnlessBelow { to, .. } | Operation::Jump { to } => {
-            push_number(text, to as u64)?;
-            text.push(b' ')?;
-        }
+        Operation::Unless { to, .. } | Operation::UnlessBelow { to, .. } | Operation::Jump { to } =>
+            {
+                push_number(text, to as u64)?;
+                text.push(b' ')?;
+            }
         _ => {}
     }
     end_line(text)

@@ -1,4 +1,4 @@
-use Rattle.std.proofs.Common.{◌≡◌, ℕ, map, take}
+use Rattle.std.proofs.Common.{map, take}
 use Rattle.typed_tree.specs.StepTree.{function_tree}
 use Rattle.instructions.specs.Kernels.{ArePairwise}
 use Rattle.instructions.proofs.kernels_at.kernels_of.Given as goal

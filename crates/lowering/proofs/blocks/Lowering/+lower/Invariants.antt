@@ -1,4 +1,4 @@
-use Rattle.std.proofs.Common.{◌≡◌, ◌≤◌, ◌+◌, ◌*◌, ℕ, false, length}
+use Rattle.std.proofs.Common.{◌≡◌, ◌≤◌, ◌+◌, ◌*◌, false, length}
 use Rattle.typed_tree.specs.BlockTree.{action_tree, block_tree}
 use Rattle.typed_tree.specs.ProgramTree.{program_tree}
 use Rattle.plans.specs.Plan.{behind_all, plan_all}
