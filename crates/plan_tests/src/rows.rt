@@ -34,7 +34,8 @@ fn blocks_become_jumps(rt: HostRuntime) -> Result<(), Fail> {
         for k in 1:4 if k > 2 total += k * k; else total = total - k; end end \
         while total < 9 and not (total == 7) if total == 8 print total; end total = total + 1; end end",
     )?;
-    let wanted = b"0 set total [5 neg]\n1 set k [1]\n2 set k.end [4]\n3 unless [k k.end <] 11\n4 turn\n\
+    let wanted =
+        b"0 set total [5 neg]\n1 set k [1]\n2 set k.end [4]\n3 unless [k k.end <] 11\n4 turn\n\
         5 unless [k 2 >] 8\n6 set total [total k k * +]\n7 jump 9\n8 set total [total k -]\n\
         9 set k [k 1 +]\n10 jump 3\n11 unless [total 9 < total 7 == not and] 17\n12 turn\n\
         13 unless [total 8 ==] 15\n14 print [total]\n15 set total [total 1 +]\n16 jump 11\n17 end\n";

@@ -123,7 +123,12 @@ impl Lines<'_> {
     }
 
     /// Puts that a variable of type `int`, whose name is at this place, gets a value. The only error is out of memory.
-    pub fn put_set_integer(self, out: &mut Vec<u8>, name: usize, e: &Integer) -> Result<(), AllocError>
+    pub fn put_set_integer(
+        self,
+        out: &mut Vec<u8>,
+        name: usize,
+        e: &Integer,
+    ) -> Result<(), AllocError>
         ensures { OnOk result (out.new.items ≡ out.old.items ++ spaced (set_words (name_at (program_tree self.entry.program.now) name) (integer_words (program_tree self.entry.program.now) (integer_tree e.now)))) }
     {
         self.put_target(out, name)?;

@@ -53,7 +53,9 @@ impl Schedule {
     pub fn direction(&self, label: Option<usize>) -> Direction
         ensures { result ≡ unwrap_or (label_choice label self.now).direction direction.SparsePush }
     {
-        self.choice_at(label).direction.unwrap_or(Direction::SparsePush)
+        self.choice_at(label)
+            .direction
+            .unwrap_or(Direction::SparsePush)
     }
 
     /// How the work of the edge apply with this label is cut into pieces.
