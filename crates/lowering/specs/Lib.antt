@@ -1,3 +1,4 @@
 pub mod Visible
 pub mod Kinds
 pub mod Putting
+pub mod Compiling

@@ -1,8 +1,6 @@
 //! Programs, each with the text of its plan.
 
-use compiler::compile;
-use lowering::{lower, write};
-use schedule::accept;
+use lowering::{compile, write};
 use std::alloc::Global;
 use std::test::Fail;
 
@@ -20,9 +18,7 @@ const HEAD: &str = "element Vertex end element Edge end \
 // The text of the plan of a program whose `main` has this body.
 fn plan_of(alloc: Global, body: &str) -> Result<Vec<u8>, Fail> {
     let text = format!(in alloc; "{HEAD}{body}")?;
-    let program = compile(alloc, text.as_bytes())?;
-    let schedule = accept(alloc, &program)?;
-    let plan = lower(alloc, &program, &schedule)?;
+    let plan = compile(alloc, text.as_bytes())?;
     Ok(write(alloc, &plan)?)
 }
 
