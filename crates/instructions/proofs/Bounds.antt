@@ -8,7 +8,7 @@ use Rattle.typed_tree.specs.BlockTree.{ActionTree, DeclareInteger, DeclareCondit
 use Rattle.plans.specs.declared.depth.Depth.{Depth}
 use Rattle.plans.specs.Instruction.{EdgePartTree, OperationTree, Do, ApplyEdgesTogether, ApplyVerticesTogether, Unless, Enter, UnlessBelow, Advance, Turn, Jump, End, InstructionTree}
 use Rattle.plans.specs.Machine.{Configuration, At, Ended}
-use Rattle.plans.specs.Bound.{uses_turn, is_turn, rank_by, rank_where, rank, most_steps}
+use Rattle.plans.specs.Bound.{uses_turn, is_turn, rank_by, rank_where, most_steps}
 use Rattle.fusing.specs.Parts.{part_tree}
 use Rattle.instructions.specs.declared.instruction.Instruction.{Instruction}
 use Rattle.instructions.specs.declared.operation.Operation.{Operation}
@@ -39,10 +39,10 @@ vertices_alike set f g = record { turn = refl; rank = λ count place b. by_test 
     by_test count place true = refl
     by_test count place false = refl
 
-edges_alike : (ends : Ends) (a b : EdgePartTree) → SameBound End (ApplyEdgesTogether ends a b)
-edges_alike ends a b = record { turn = refl; rank = λ count place before_turn. by_test count place before_turn }
+edges_alike : (ends : Ends) (first second : EdgePartTree) → SameBound End (ApplyEdgesTogether ends first second)
+edges_alike ends first second = record { turn = refl; rank = λ count place b. by_test count place b }
   where
-    by_test : (count place : ℕ) (b : Bool) → rank_by count place End b ≡ rank_by count place (ApplyEdgesTogether ends a b) b
+    by_test : (count place : ℕ) (b : Bool) → rank_by count place End b ≡ rank_by count place (ApplyEdgesTogether ends first second) b
     by_test count place true = refl
     by_test count place false = refl
 

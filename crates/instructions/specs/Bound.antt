@@ -1,8 +1,6 @@
 -- How many steps a run of instructions takes at most.
-use Rattle.std.specs.Prelude.{ℕ, true, List, [], map}
+use Rattle.std.specs.Prelude.{ℕ, true, List, map}
 use Rattle.typed_tree.specs.ConditionTree.{Literal}
-use Rattle.algorithm_meaning.specs.State.{StateValue}
-use Rattle.plans.specs.declared.depth.Counter.{Counter}
 use Rattle.plans.specs.Instruction.{OperationTree, Unless, UnlessBelow, Turn, End, InstructionTree}
 use Rattle.plans.specs.Machine.{Configuration}
 use Rattle.plans.specs.Bound.{most_steps}
