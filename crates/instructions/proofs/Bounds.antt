@@ -1,5 +1,5 @@
 -- The bound on the steps of instructions is that on the steps of their plan.
-use Rattle.std.proofs.Common.{◌≡◌, ℕ, zero, suc, ◌+◌, ◌*◌, Bool, true, false, List, [], ◌∷◌, map, length, Option, Some, None, slice_get, ap, sym, ◌∙◌, refl, subst}
+use Rattle.std.proofs.Common.{◌≡◌, ℕ, zero, suc, ◌+◌, ◌*◌, ◌<◌, Bool, true, false, List, [], ◌∷◌, map, length, Option, Some, None, slice_get, ap, sym, ◌∙◌, refl, subst, arith}
 use Rattle.typed_tree.specs.declared.expression.Slot.{Slot}
 use Rattle.typed_tree.specs.declared.statement.Ends.{Ends}
 use Rattle.typed_tree.specs.IntegerTree.{IntegerTree}
@@ -7,7 +7,18 @@ use Rattle.typed_tree.specs.ConditionTree.{ConditionTree, Literal}
 use Rattle.typed_tree.specs.BlockTree.{ActionTree, DeclareInteger, DeclareCondition, SetInteger, SetCondition, ReduceInteger, SetEntry, ReduceEntry, DeclareSet, AssignSet, AddVertex, PrintInteger, PrintCondition, ApplyVertex}
 use Rattle.plans.specs.declared.depth.Depth.{Depth}
 use Rattle.plans.specs.Instruction.{EdgePartTree, OperationTree, Do, ApplyEdgesTogether, ApplyVerticesTogether, Unless, Enter, UnlessBelow, Advance, Turn, Jump, End, InstructionTree}
-use Rattle.plans.specs.Machine.{Configuration, At, Ended}
+use Rattle.plans.specs.declared.depth.Counter.{Counter}
+use Rattle.plans.specs.Plan.{plan_of}
+use Rattle.plans.specs.Machine.{Configuration, At, Ended, step}
+use Rattle.plans.proofs.Whole.{steps_lower}
+use Rattle.algorithm_meaning.specs.State.{GraphValue, StateValue}
+use Rattle.schedule.specs.Schedule.{ScheduleTree}
+use Rattle.typed_tree.specs.ProgramTree.{ProgramTree}
+use Rattle.instructions.specs.declared.plan.Plan.{Plan}
+use Rattle.instructions.specs.Plan.{IsPlan}
+use Rattle.std.proofs.Math.Bridge.{le_prop}
+use Rattle.std.proofs.Math.Logic.{∥∥₁_elim}
+use Rattle.std.proofs.lemmas.List.{length-map}
 use Rattle.plans.specs.Bound.{uses_turn, is_turn, rank_by, rank_where, most_steps}
 use Rattle.fusing.specs.Parts.{part_tree}
 use Rattle.instructions.specs.declared.instruction.Instruction.{Instruction}
@@ -142,3 +153,22 @@ same_bound is ts are (At place loops s) =
     let next = same_turn (slice_get os (place + 1)) (slice_get ts (place + 1)) (same_at is ts are (place + 1)) in
     let ranks = same_rank os ts place (slice_get os place) (slice_get ts place) long next (same_at is ts are place) in
     λ j. s.turns * (2 * long j + 2) + ranks j + 1
+
+-- a step of a plan, from wherever an instruction stands, lowers the bound
+pub step_falls : (plan : Plan) (g : GraphValue) (place : ℕ) (loops : List Counter) (s : StateValue) (next : Configuration) → place < length plan.instructions.items
+    → ((p : ProgramTree) (schedule : ScheduleTree) → IsPlan plan p schedule → next ≡ step p g (plan_of p schedule) (At place loops s))
+    → most_steps_of plan.instructions.items next < most_steps_of plan.instructions.items (At place loops s)
+step_falls plan g place loops s next within goes =
+    ∥∥₁_elim plan.lowered le_prop (λ of.
+    let p = of.program in
+    let ts = plan_of p of.schedule in
+    let is = plan.instructions.items in
+    let are = of.planned.instructions in
+    let now = At place loops s in
+    let long = same_length is ts are in
+    let inside : place < length ts = omega (arith, within, long, length-map is outline_of) in
+    let next_is = goes p of.schedule of.planned in
+    let fewer = steps_lower p of.schedule g now inside in
+    let before : most_steps_of is now ≡ most_steps ts now = same_bound is ts are now in
+    let after : most_steps_of is next ≡ most_steps ts (step p g ts now) = same_bound is ts are next ∙ ap (most_steps ts) next_is in
+    omega (arith, before, after, fewer))
