@@ -202,16 +202,16 @@ abbrev EachReducesInOneWay : List FunctionTree → Type 0
 EachReducesInOneWay fs = (place : ℕ) → ReducesInOneWay (steps_of (slice_get fs place))
 
 each_one_way : (fs : List FunctionTree) → AllByRecursion (λ f. ReducesInOneWay f.steps × SetsNoEntry f.steps) fs → EachReducesInOneWay fs
-each_one_way [] all place vector a b is also = absurd is
+each_one_way [] all place = λ vector a b is also. absurd is
 each_one_way (f ∷ fs) all zero = all.0.0
 each_one_way (f ∷ fs) all (suc n) = each_one_way fs all.1 n
 
 operation_reduces : (p : ProgramTree) (o : OperationTree) → EachReducesInOneWay p.edge_functions → FitTogether p o → OperationReduces p o
-operation_reduces p (Do action) each fit x is m = one_reduces (steps_of (slice_get p.edge_functions x.part.function)) (each x.part.function) m
-operation_reduces p (ApplyEdgesTogether ends a b) each fit m =
+operation_reduces p (Do action) each fit = λ x is. one_reduces (steps_of (slice_get p.edge_functions x.part.function)) (each x.part.function)
+operation_reduces p (ApplyEdgesTogether ends a b) each fit =
     let f = slice_get p.edge_functions a.function in
     let g = slice_get p.edge_functions b.function in
-    two_reduce (steps_of f) (steps_of g) (each a.function) (each b.function) ((λ i. are_apart (writes_of g i) (writes_of f i)) ∙ fit) m
+    two_reduce (steps_of f) (steps_of g) (each a.function) (each b.function) ((λ i. are_apart (writes_of g i) (writes_of f i)) ∙ fit)
 operation_reduces p (ApplyVerticesTogether set f g) each fit = tt
 operation_reduces p (Unless c to) each fit = tt
 operation_reduces p (Enter name e) each fit = tt
