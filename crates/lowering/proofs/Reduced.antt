@@ -1,5 +1,5 @@
 -- The edge applies of a checked program give each vector numbers by one reduction.
-use Rattle.std.proofs.Common.{◌≡◌, ℕ, zero, suc, ◌==◌, ◌&&◌, ◌⊎◌, ℤ, Bool, true, false, not, cond, inl, inr, List, [], ◌∷◌, ◌++◌, length, Option, Some, None, slice_get, ap, sym, ◌∙◌, refl, arith, subst}
+use Rattle.std.proofs.Common.{◌≡◌, ℕ, zero, suc, ◌==◌, ◌⊎◌, ℤ, Bool, true, false, not, cond, inl, inr, List, [], ◌∷◌, ◌++◌, length, slice_get, ap, sym, ◌∙◌, refl, arith, subst}
 use Rattle.std.proofs.lemmas.Bool.{false≢true}
 use Rattle.std.proofs.lemmas.Bool.Decides.{nat_tests}
 use Rattle.std.proofs.lemmas.List.Elements.{All-nil, All-cons}
@@ -16,7 +16,7 @@ use Rattle.algorithm_meaning.specs.Value.{value, truth}
 use Rattle.algorithm_meaning.specs.Function.{WorkValue, first_work, after_set, after_reduce, after_step, after_steps, after_block, steps_of}
 use Rattle.algorithm_meaning.specs.EdgeApply.{gives}
 use Rattle.algorithm_meaning.specs.Laws.{for_vector}
-use Rattle.schedule.specs.Access.{is_none_of, are_apart, step_writes, steps_write, function_writes}
+use Rattle.schedule.specs.Access.{is_none_of, are_apart, step_writes, steps_write}
 use Rattle.schedule.specs.Schedule.{ScheduleTree}
 use Rattle.schedule.proofs.Uses.{of_and}
 use Rattle.compiler.specs.Outcome.{IsTyped}
