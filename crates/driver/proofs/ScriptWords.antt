@@ -19,7 +19,7 @@ use Rattle.driver.proofs.Flags.{HasOnlyHelp, TakesValues, dashes, first_is_quiet
 
 -- the command `script`, once it is built
 abbrev pub script : Shape
-script = slice_index_or (built command_line).subs 1 script_command.top
+script = slice_index_or (built command_line).subs 2 script_command.top
 
 -- the files that clap finds in the words after `script`
 abbrev pub files_in : List Text → Option (List Text)

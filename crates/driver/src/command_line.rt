@@ -12,6 +12,8 @@ use std::alloc::{AllocError, Global};
 
 const CHECK: &str = "check";
 
+const PLAN: &str = "plan";
+
 const SCRIPT: &str = "script";
 
 const FILES: &str = "FILE";
@@ -27,13 +29,17 @@ const CHECK_HELP: &str =
     "Where the text is refused, the number and the place of the first fault are told.\n\
     Example: gsnap check examples/squares.program";
 
+const PLAN_HELP: &str =
+    "Each line of the plan is one step of a run, as docs/LANGUAGE.md lists them. A text is refused as by `check`.\n\
+    Example: gsnap plan examples/reachability.program";
+
 const SCRIPT_HELP: &str =
     "A line `run 2 10 1` of the script runs the second PROGRAM, for at most 10 turns, with one worker.\n\
     Example: gsnap script examples/squares.script examples/squares.program";
 
-/// Reads the words after the program's name. No words are `Input`, `check FILE` is `Check`, and
-/// `script SCRIPT [PROGRAM..]` is `Script`. A `--` may stand before a file whose name begins with a
-/// hyphen.
+/// Reads the words after the program's name. No words are `Input`, `check FILE` is `Check`,
+/// `plan FILE` is `Plan`, and `script SCRIPT [PROGRAM..]` is `Script`. A `--` may stand before a file
+/// whose name begins with a hyphen.
 ///
 /// Errors: `Fault`, with the text to show, at other words and where help is asked for, and
 /// `NoMemory`.
@@ -50,6 +56,7 @@ pub fn request<'a>(alloc: Global, words: &'a [&'a str]) -> Result<Request<'a>, R
     };
     match found.get_raw(FILES).unwrap_or(&[]).split_first() {
         Some((file, _)) if name == CHECK => Ok(Request::Check { file }),
+        Some((file, _)) if name == PLAN => Ok(Request::Plan { file }),
         Some((script, programs)) => Ok(Request::Script {
             script,
             programs: Vec::from_slice(alloc, programs)?,
@@ -66,9 +73,10 @@ fn command<'a>(alloc: Global) -> Result<Command<'a>, AllocError>
         .bin_name("gsnap")?
         .no_binary_name(true)
         .about("Runs graph programs on versions of a graph that a script edits.")
-        .override_usage("gsnap\n       gsnap check FILE\n       gsnap script SCRIPT [PROGRAM]..")
+        .override_usage("gsnap\n       gsnap check FILE\n       gsnap plan FILE\n       gsnap script SCRIPT [PROGRAM]..")
         .after_help(HELP)
         .subcommand(check_command(alloc)?)?
+        .subcommand(plan_command(alloc)?)?
         .subcommand(script_command(alloc)?)
 }
 
@@ -83,6 +91,20 @@ fn check_command<'a>(alloc: Global) -> Result<Command<'a>, AllocError>
         .about("Compiles the program in a file, and prints `ok`")
         .override_usage("gsnap check FILE")
         .after_help(CHECK_HELP)
+        .arg(file)
+}
+
+fn plan_command<'a>(alloc: Global) -> Result<Command<'a>, AllocError>
+    ensures app { IfOk result (λ c. app_of c ≡ file_command (codes "plan")) }
+    ensures local { IfOk result (λ c. (fields_of c).has_globals ≡ false) }
+{
+    let file = Arg::new(alloc, FILES)
+        .required(true)
+        .help("The file with the program");
+    Command::new(alloc, PLAN)
+        .about("Compiles the program in a file, and prints its plan")
+        .override_usage("gsnap plan FILE")
+        .after_help(PLAN_HELP)
         .arg(file)
 }
 

@@ -1,4 +1,4 @@
-use Rattle.std.proofs.Common.{◌≡◌, ◌∙◌, ◌∷◌, ◌<◌, ◌≤◌, List, [], length, ap, subst, sym, Bor, Option, Result, Some, None, true, false, Ok, Err, map, codes, rules, arith}
+use Rattle.std.proofs.Common.{◌≡◌, ◌∙◌, ◌∷◌, ◌<◌, ◌≤◌, inl, inr, List, [], length, ap, subst, sym, Bor, Option, Result, Some, None, true, false, Ok, Err, map, codes, rules, arith}
 use Rattle.std.proofs.lemmas.List.{length-map}
 use Rattle.std.specs.Prelude.{IsErrAnd, IsOkUnless, IsSomeAnd, option_map, unwrap_or}
 use Rattle.clap.specs.Lexer.{usize_max}
@@ -10,11 +10,11 @@ use Rattle.clap.specs.declared.error.kind.ErrorKind.{ErrorKind as FaultKind}
 use Rattle.clap.specs.declared.error.kind.ErrorKind.TheVariants.{OutOfMemory}
 use Rattle.clap.specs.declared.parser.matches.ArgMatches.{ArgMatches}
 use Rattle.clap.specs.declared.parser.matches.Found.{Found}
-use Rattle.driver.specs.CommandLine.{command_line}
+use Rattle.driver.specs.CommandLine.{command_line, operands}
 use Rattle.driver.specs.Endings.{of_fault}
 use Rattle.driver.specs.declared.requests.RequestError.{RequestError}
 use Rattle.driver.specs.declared.requests.RequestError.TheVariants.{NoMemory}
-use Rattle.driver.proofs.Reading.{NamesCommand, files_given, files_of_script, is_taken, name-rows, no_operands, one_file_of, reads, some_file}
+use Rattle.driver.proofs.Reading.{NamesCommand, files_given, files_of_script, TakesOneFile, is_taken, name-rows, no_operands, one_file_of, reads, some_file}
 use Rattle.driver.proofs.command_line.request.Goals as goal
 
 unless_err : {T E : Type 0} (r : Result T E) (P : Type 0) (e : E) → P → IsErrAnd r (λ x. P → x ≡ e) → IsOkUnless r e
@@ -36,6 +36,12 @@ named_files words app m name found given d files is faults matches named rows va
     let read = reads app words (subcommand_rows_of m) is faults (λ s. (matches s).1) in
     taken_out given d files (λ fs. NamesCommand words name (map (λ f. f.now) fs.now)) taken
     (files_given words (subcommand_rows_of m) name (rows_of found) given read (named ∙ name-rows m) rows (values ∙ raw_values-rows found (codes "FILE")))
+
+-- the words are this command, under its name in the words that a request stands for, and one file
+one_file_named : (words : List Text) (name command file : Text) (others : List Text) → NamesCommand words name (file ∷ others) → name ≡ command → TakesOneFile command
+    → operands words ≡ command ∷ file ∷ []
+one_file_named words name command file others named is takes =
+    one_file_of words command file others (subst (λ n. NamesCommand words n (file ∷ others)) is named) takes
 
 -- where memory ran out over the words, that is told
 told_memory : {T : Type 0} (r : Result T RequestError) (f : Fault) → IsErrAnd r (λ x. x ≡ of_fault (kind_of f) f) → IsErrAnd r (λ x. kind_of f ≡ OutOfMemory → x ≡ NoMemory)
@@ -66,7 +72,7 @@ returns-in-Some-split_first-clause-reads c =
     let named = named_files words (app_of c.in_ok-command.field-0) c.in_ok-matches.matches name (found_of c.in-Some.found.now) c.get_raw.result _ c.unwrap_or.result
     app_is c.in_ok-matches.ensures.kinds c.in_ok-matches.ensures.matches c.in-Some.ensures.name c.in-Some.ensures.rows c.get_raw.ensures c.unwrap_or.ensures in
     let is_check : name ≡ codes "check" = search rules in
-    one_file_of words name c.in-Some-split_first.file.now.now _ (subst (λ (fs : List (Bor Text)). NamesCommand words name (map (λ f. f.now) fs)) c.in-Some-split_first.ensures.cases.0 named) is_check
+    one_file_named words name (codes "check") c.in-Some-split_first.file.now.now _ (subst (λ (fs : List (Bor Text)). NamesCommand words name (map (λ f. f.now) fs)) c.in-Some-split_first.ensures.cases.0 named) is_check (inl refl)
 
 pub returns-in-Some-2-clause-reads : goal.returns-in-Some-2-clause-reads
 returns-in-Some-2-clause-reads c =
@@ -75,9 +81,20 @@ returns-in-Some-2-clause-reads c =
     let app_is : app_of c.in_ok-command.field-0 ≡ command_line = search rules in
     let named = named_files words (app_of c.in_ok-command.field-0) c.in_ok-matches.matches name (found_of c.in-Some.found.now) c.get_raw.result _ c.unwrap_or.result
     app_is c.in_ok-matches.ensures.kinds c.in_ok-matches.ensures.matches c.in-Some.ensures.name c.in-Some.ensures.rows c.get_raw.ensures c.unwrap_or.ensures in
+    let is_plan : name ≡ codes "plan" = search rules in
+    one_file_named words name (codes "plan") c.in-Some-split_first.file.now.now _ (subst (λ (fs : List (Bor Text)). NamesCommand words name (map (λ f. f.now) fs)) c.in-Some-split_first.ensures.cases.0 named) is_plan (inr refl)
+
+pub returns-in-Some-3-clause-reads : goal.returns-in-Some-3-clause-reads
+returns-in-Some-3-clause-reads c =
+    let words = map (λ w. w.now) c.args.words.now in
+    let name = c.in-Some.name.now in
+    let app_is : app_of c.in_ok-command.field-0 ≡ command_line = search rules in
+    let named = named_files words (app_of c.in_ok-command.field-0) c.in_ok-matches.matches name (found_of c.in-Some.found.now) c.get_raw.result _ c.unwrap_or.result
+    app_is c.in_ok-matches.ensures.kinds c.in_ok-matches.ensures.matches c.in-Some.ensures.name c.in-Some.ensures.rows c.get_raw.ensures c.unwrap_or.ensures in
     let no_check : name ≡ codes "check" → ⊥ = search rules in
-    files_of_script words name _ named no_check ∙ ap (λ (fs : List (Bor Text)). codes "script" ∷ map (λ f. f.now) fs)
-    (c.in-Some-split_first.ensures.cases.0 ∙ ap (λ (fs : List (Bor Text)). c.in-Some-split_first.file.now ∷ fs) (sym c.in_ok-from_slice-in-Some-2.ensures.items))
+    let no_plan : name ≡ codes "plan" → ⊥ = search rules in
+    files_of_script words name _ named no_check no_plan ∙ ap (λ (fs : List (Bor Text)). codes "script" ∷ map (λ f. f.now) fs)
+    (c.in-Some-split_first.ensures.cases.0 ∙ ap (λ (fs : List (Bor Text)). c.in-Some-split_first.file.now ∷ fs) (sym c.in_ok-from_slice-in-Some-3.ensures.items))
 
 pub returns-clause-reads : goal.returns-clause-reads
 returns-clause-reads c =
