@@ -98,14 +98,14 @@ fn plan_command<'a>(alloc: Global) -> Result<Command<'a>, AllocError>
     ensures app { IfOk result (λ c. app_of c ≡ file_command (codes "plan")) }
     ensures local { IfOk result (λ c. (fields_of c).has_globals ≡ false) }
 {
-    let file = Arg::new(alloc, FILES)
+    let program = Arg::new(alloc, FILES)
         .required(true)
         .help("The file with the program");
     Command::new(alloc, PLAN)
         .about("Compiles the program in a file, and prints its plan")
         .override_usage("gsnap plan FILE")
         .after_help(PLAN_HELP)
-        .arg(file)
+        .arg(program)
 }
 
 fn script_command<'a>(alloc: Global) -> Result<Command<'a>, AllocError>

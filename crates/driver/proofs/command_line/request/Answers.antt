@@ -1,4 +1,4 @@
-use Rattle.std.proofs.Common.{◌≡◌, ◌∙◌, ◌∷◌, ◌<◌, ◌≤◌, inl, inr, List, [], length, ap, subst, sym, Bor, Option, Result, Some, None, true, false, Ok, Err, map, codes, rules, arith}
+use Rattle.std.proofs.Common.{◌≡◌, ◌∙◌, ◌∷◌, ◌<◌, ◌≤◌, inl, inr, refl, List, [], length, ap, subst, sym, Bor, Option, Result, Some, None, true, false, Ok, Err, map, codes, rules, arith}
 use Rattle.std.proofs.lemmas.List.{length-map}
 use Rattle.std.specs.Prelude.{IsErrAnd, IsOkUnless, IsSomeAnd, option_map, unwrap_or}
 use Rattle.clap.specs.Lexer.{usize_max}
