@@ -1,13 +1,13 @@
 //! The words after the program's name.
 
-ghost use Rattle.std.specs.Prelude.{◌≡◌, IfOk, IsOkUnless, codes, false, map};
-ghost use Rattle.clap.specs.Words.{app_of};
+ghost use Rattle.std.specs.Prelude.{◌≡◌, [], IfOk, IsOkUnless, List, codes, false, map};
+ghost use Rattle.clap.specs.Words.{App, HasMatchesOf, Text, app_of, fault_of, with_subcommand};
 ghost use Rattle.clap.specs.declared.builder.command.Command.TheViews.{out-Command as fields_of};
 ghost use Rattle.driver.specs.CommandLine.{IsCommand, command_line, file_command, operands};
 ghost use Rattle.driver.specs.CommandLine.{script_command, words_of};
 
 use crate::requests::{Request, RequestError};
-use clap::{Arg, ArgAction, Command};
+use clap::{Arg, ArgAction, ArgMatches, Command};
 use std::alloc::{AllocError, Global};
 
 const CHECK: &str = "check";
@@ -51,6 +51,16 @@ pub fn request<'a>(alloc: Global, words: &'a [&'a str]) -> Result<Request<'a>, R
     // (so many files at most, and each `usize` is a number of files that may be given)
     let _count = words.len();
     let matches = command(alloc)?.try_get_matches_from(words)?;
+    let asked = asked_for(alloc, &matches);
+    drop(matches);
+    Ok(asked?)
+}
+
+// What words that were parsed ask for.
+fn asked_for<'a>(alloc: Global, matches: &ArgMatches<'a>) -> Result<Request<'a>, AllocError>
+    ensures { (words : List Text) → fault_of command_line words ≡ [] → HasMatchesOf command_line words matches.now
+        → IfOk result (λ r. operands words ≡ words_of r) }
+{
     let Some((name, found)) = matches.subcommand() else {
         return Ok(Request::Input);
     };
@@ -69,15 +79,33 @@ pub fn request<'a>(alloc: Global, words: &'a [&'a str]) -> Result<Request<'a>, R
 fn command<'a>(alloc: Global) -> Result<Command<'a>, AllocError>
     ensures { IfOk result (λ c. app_of c ≡ command_line) }
 {
-    Command::new(alloc, "gsnap")
+    let program = Command::new(alloc, "gsnap")
         .bin_name("gsnap")?
         .no_binary_name(true)
         .about("Runs graph programs on versions of a graph that a script edits.")
         .override_usage("gsnap\n       gsnap check FILE\n       gsnap plan FILE\n       gsnap script SCRIPT [PROGRAM]..")
-        .after_help(HELP)
-        .subcommand(check_command(alloc)?)?
-        .subcommand(plan_command(alloc)?)?
-        .subcommand(script_command(alloc)?)
+        .after_help(HELP);
+    let program = with_command(program, check_command(alloc))?;
+    let program = with_command(program, plan_command(alloc))?;
+    with_command(program, script_command(alloc))
+}
+
+// The program with one command more.
+fn with_command<'a>(
+    program: Command<'a>,
+    command: Result<Command<'a>, AllocError>,
+) -> Result<Command<'a>, AllocError>
+    ensures { (app : App) → IfOk command.entry (λ c. app_of c ≡ app)
+        → IfOk command.entry (λ c. (fields_of c).has_globals ≡ false)
+        → IfOk result (λ p. app_of p ≡ with_subcommand (app_of program.entry) app.top) }
+{
+    match command {
+        Ok(command) => program.subcommand(command),
+        Err(error) => {
+            drop(program);
+            Err(error)
+        }
+    }
 }
 
 fn check_command<'a>(alloc: Global) -> Result<Command<'a>, AllocError>
