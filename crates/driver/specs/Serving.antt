@@ -54,7 +54,7 @@ abbrev pub ChecksFile : (List ℕ → Type 0) → (Error → Type 0) → List �
 ChecksFile holds fails name before after (Ok faulted) = TellsOk holds before after faulted
 ChecksFile holds fails name before after (Err e) = TellsNothing holds fails name before after e ⊎ BeginsOk holds before after e
 
--- the file may hold a program, of which this is the plan, and all of the plan's text was written
+-- the file may hold a program, of which this is the plan, and all of a text was written; that it is the plan's, no contract says yet
 pub record TellsPlan (holds : List ℕ → Type 0) (before after : Taken) (faulted : Bool) : Type 0 where
   pub plan : Plan
   pub planned : HoldsPlan holds plan
@@ -62,7 +62,7 @@ pub record TellsPlan (holds : List ℕ → Type 0) (before after : Taken) (fault
   pub taken : after.taken ≡ before.taken ++ text
   pub fault : faulted ≡ false
 
--- the file may hold a program, of which this is the plan, and a beginning of the plan's text was written before the writer failed
+-- the file may hold a program, of which this is the plan, and a beginning of a text was written before the writer failed
 pub record BeginsPlan (holds : List ℕ → Type 0) (before after : Taken) (e : ServeError) : Type 0 where
   pub plan : Plan
   pub planned : HoldsPlan holds plan
