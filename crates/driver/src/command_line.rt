@@ -83,7 +83,9 @@ fn command<'a>(alloc: Global) -> Result<Command<'a>, AllocError>
         .bin_name("gsnap")?
         .no_binary_name(true)
         .about("Runs graph programs on versions of a graph that a script edits.")
-        .override_usage("gsnap\n       gsnap check FILE\n       gsnap plan FILE\n       gsnap script SCRIPT [PROGRAM]..")
+        .override_usage(
+            "gsnap\n       gsnap check FILE\n       gsnap plan FILE\n       gsnap script SCRIPT [PROGRAM]..",
+        )
         .after_help(HELP);
     let program = with_command(program, check_command(alloc))?;
     let program = with_command(program, plan_command(alloc))?;

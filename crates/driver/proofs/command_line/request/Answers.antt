@@ -31,7 +31,6 @@ returns-in_err-matches-clause-accepts c = λ is_command.
     let passes = ap (λ (a : App). takes a words) app_is ∙ is_taken words few is_command in
     unless_err c.from_residual-in_err-matches.result _ _ (c.in_err-matches.ensures.passes passes) (told_memory c.from_residual-in_err-matches.result c.in_err-matches.field-0.0 c.from_residual-in_err-matches.ensures.1)
 
-
 pub returns-clause-reads : goal.returns-clause-reads
 returns-clause-reads c =
     let words = map (λ w. w.now) c.args.words.now in
