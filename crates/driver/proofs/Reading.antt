@@ -1,6 +1,6 @@
 -- What a parse of the command line says of the words.
 use Rattle.std.proofs.Common.{◌≡◌, ◌∙◌, ◌<◌, ◌≤◌, ◌⊎◌, inl, inr, length, map, arith, Bool, true, false, List, [], ◌∷◌, ◌++◌, Option, Some, None, refl, sym, ap, subst, codes}
-use Rattle.std.proofs.lemmas.List.{append-nil, append_assoc, length-map}
+use Rattle.std.proofs.lemmas.List.{append-nil, append_assoc}
 use Rattle.std.proofs.lemmas.Slice.Eq.{bytes_eq-Decides}
 use Rattle.std.specs.Borrow.{Bor}
 use Rattle.std.specs.Box.{box_value}
@@ -17,14 +17,18 @@ use Rattle.clap.specs.Faults.{level_fault, walk_fault}
 use Rattle.clap.specs.declared.error.kind.ErrorKind.TheVariants.{UnknownArgument, InvalidSubcommand, DisplayHelp}
 use Rattle.clap.specs.declared.parser.matches.ArgMatches.{ArgMatches}
 use Rattle.clap.specs.declared.parser.matches.ArgMatches.TheViews.{out-ArgMatches, out-SubCommand}
-use Rattle.driver.specs.CommandLine.{IsCommand, no_words, check_word, check_after_dashes, script_words, script_after_dashes, command_line, operands}
-use Rattle.driver.proofs.FileWords.{NamesOne, file_in, file_read, file_taken, file_taken_behind, taker}
+use Rattle.driver.specs.CommandLine.{IsCommand, no_words, check_word, check_after_dashes, plan_word, plan_after_dashes, script_words, script_after_dashes, command_line, operands}
+use Rattle.driver.proofs.FileWords.{NamesOne, file_in, file_read, file_taken, taker}
 use Rattle.driver.proofs.Flags.{HasOnlyHelp, dashes, first_is_quiet, held, is_value, none_or_help, second_is_quiet, step_is_fault}
 use Rattle.driver.proofs.ScriptWords.{NamesFiles, files_in, files_read, files_taken, files_taken_behind, script}
 
+-- a command of this name takes one file
+abbrev pub TakesOneFile : Text → Type 0
+TakesOneFile name = (name ≡ codes "check") ⊎ (name ≡ codes "plan")
+
 -- these files fit the command of this name
 abbrev pub FitsCommand : Text → List Text → Type 0
-FitsCommand name files = ((name ≡ codes "check") × (length files ≡ 1)) ⊎ ((name ≡ codes "script") × (0 < length files))
+FitsCommand name files = (TakesOneFile name × (length files ≡ 1)) ⊎ ((name ≡ codes "script") × (0 < length files))
 
 -- the words are this command and these files, which fit it
 abbrev pub NamesCommand : List Text → Text → List Text → Type 0
@@ -69,19 +73,24 @@ walked_to_check : (word : Text) → bytes_eq (codes "check") word ≡ true → w
 unfolding walked
 walked_to_check word is = rw is refl
 
-walked_to_script : (word : Text) → bytes_eq (codes "check") word ≡ false → bytes_eq (codes "script") word ≡ true
+walked_to_plan : (word : Text) → bytes_eq (codes "check") word ≡ false → bytes_eq (codes "plan") word ≡ true
+    → walked top.rules names (at_start false) word ≡ met (codes "plan")
+unfolding walked
+walked_to_plan word no_check is = rw (no_check, is) refl
+
+walked_to_script : (word : Text) → bytes_eq (codes "check") word ≡ false → bytes_eq (codes "plan") word ≡ false → bytes_eq (codes "script") word ≡ true
     → walked top.rules names (at_start false) word ≡ met (codes "script")
 unfolding walked
-walked_to_script word other is = rw (other, is) refl
+walked_to_script word no_check no_plan is = rw (no_check, no_plan, is) refl
 
 walk_from_command : (name word : Text) (words : List Text) → walked top.rules names (at_start false) word ≡ met name
     → walk top.rules names (held None) (word ∷ words) ≡ record (at_start false) { stopped = Some (name, words) }
 walk_from_command name word words first = rw first (gathers top.rules names (at_start false) name [] words)
 
-check_then_file : (word : Text) (words : List Text) (files : Option (List Text)) → word ≡ codes "check" → NamesOne words files
-    → MatchOption files ⊥ (NamesCommand (word ∷ words) (codes "check"))
-check_then_file word words None is named = named
-check_then_file word words (Some files) is named = (rw (is, named.1, named.2) refl, inl (refl, rw named.1 refl))
+command_then_file : (name word : Text) (words : List Text) (files : Option (List Text)) → TakesOneFile name → operands (word ∷ words) ≡ name ∷ operands words → NamesOne words files
+    → MatchOption files ⊥ (NamesCommand (word ∷ words) name)
+command_then_file name word words None takes is named = named
+command_then_file name word words (Some files) takes is named = (rw (is, named.1, named.2) refl, inl (takes, rw named.1 refl))
 
 script_then_files : (word : Text) (words : List Text) (files : Option (List Text)) → word ≡ codes "script" → NamesFiles words files
     → MatchOption files ⊥ (NamesCommand (word ∷ words) (codes "script"))
@@ -93,13 +102,21 @@ check_first : (word : Text) (words : List Text) → bytes_eq (codes "check") wor
 check_first word words t e =
     let walk_is = walk_from_command (codes "check") word words (walked_to_check word t) in
     let below : level_fault (taker (codes "check")) [] (held None) words false [] ≡ [] = first_is_quiet _ _ (second_is_quiet _ _ (rw walk_is at e)) in
-    let is : codes "check" ≡ word = (bytes_eq-Decides (codes "check") word).0 t in
-    rw walk_is (check_then_file word words (file_in words) (sym is) (file_read (codes "check") words below))
+    let is : word ≡ codes "check" = sym ((bytes_eq-Decides (codes "check") word).0 t) in
+    rw walk_is (command_then_file (codes "check") word words (file_in words) (inl refl) (rw is refl) (file_read (codes "check") words below))
 
-script_first : (word : Text) (words : List Text) → bytes_eq (codes "check") word ≡ false → bytes_eq (codes "script") word ≡ true
+plan_first : (word : Text) (words : List Text) → bytes_eq (codes "check") word ≡ false → bytes_eq (codes "plan") word ≡ true
     → fault_of command_line (word ∷ words) ≡ [] → IsRead (word ∷ words)
-script_first word words other t e =
-    let walk_is = walk_from_command (codes "script") word words (walked_to_script word other t) in
+plan_first word words no_check t e =
+    let walk_is = walk_from_command (codes "plan") word words (walked_to_plan word no_check t) in
+    let below : level_fault (taker (codes "plan")) [] (held None) words false [] ≡ [] = first_is_quiet _ _ (second_is_quiet _ _ (rw walk_is at e)) in
+    let is : word ≡ codes "plan" = sym ((bytes_eq-Decides (codes "plan") word).0 t) in
+    rw walk_is (command_then_file (codes "plan") word words (file_in words) (inr refl) (rw is refl) (file_read (codes "plan") words below))
+
+script_first : (word : Text) (words : List Text) → bytes_eq (codes "check") word ≡ false → bytes_eq (codes "plan") word ≡ false → bytes_eq (codes "script") word ≡ true
+    → fault_of command_line (word ∷ words) ≡ [] → IsRead (word ∷ words)
+script_first word words no_check no_plan t e =
+    let walk_is = walk_from_command (codes "script") word words (walked_to_script word no_check no_plan t) in
     let below : level_fault script [] (held None) words false [] ≡ [] = first_is_quiet _ _ (second_is_quiet _ _ (rw walk_is at e)) in
     let is : codes "script" ≡ word = (bytes_eq-Decides (codes "script") word).0 t in
     rw walk_is (script_then_files word words (files_in words) (sym is) (files_read words below))
@@ -114,30 +131,31 @@ dashes_first word (x ∷ xs) is e step =
     let bad : UnknownArgument ∷ InvalidSubcommand ∷ [] ≡ [] = e in
     cc
 
-no_command_first : (word : Text) (words : List Text) → bytes_eq (codes "check") word ≡ false → bytes_eq (codes "script") word ≡ false
-    → walk_fault top names (at_start false) (word ∷ words) ≡ [] → IsRead (word ∷ words)
+no_command_first : (word : Text) (words : List Text) → bytes_eq (codes "check") word ≡ false → bytes_eq (codes "plan") word ≡ false
+    → bytes_eq (codes "script") word ≡ false → walk_fault top names (at_start false) (word ∷ words) ≡ [] → IsRead (word ∷ words)
 unfolding walk_fault walked
-no_command_first word words no_check no_script e = go (bytes_eq (codes "help") word) (bytes_eq word dashes) refl refl
+no_command_first word words no_check no_plan no_script e = go (bytes_eq (codes "help") word) (bytes_eq word dashes) refl refl
   where
     go : (h d : Bool) → bytes_eq (codes "help") word ≡ h → bytes_eq word dashes ≡ d → IsRead (word ∷ words)
     go true d help other =
-        let bad : DisplayHelp ∷ InvalidSubcommand ∷ [] ≡ [] = rw (no_check, no_script, help) at e in
+        let bad : DisplayHelp ∷ InvalidSubcommand ∷ [] ≡ [] = rw (no_check, no_plan, no_script, help) at e in
         cc
-    go false true no_help is = dashes_first word words is (rw (no_check, no_script, no_help, is) at e) (rw (no_check, no_script, no_help, is) refl)
+    go false true no_help is = dashes_first word words is (rw (no_check, no_plan, no_script, no_help, is) at e) (rw (no_check, no_plan, no_script, no_help, is) refl)
     go false false no_help other =
-        let faults = rw (no_check, no_script, no_help, other) at e in
+        let faults = rw (no_check, no_plan, no_script, no_help, other) at e in
         let value = is_value top.rules only_help idle (λ w h. refl) None word (long_of word) (first_is_quiet _ _ (first_is_quiet _ _ faults)) in
         absurd (step_is_fault _ _ UnknownArgument (InvalidSubcommand ∷ []) (rw value at faults))
 
 is_read : (words : List Text) → fault_of command_line words ≡ [] → IsRead words
 unfolding clap_on_literals
 is_read [] e = refl
-is_read (word ∷ words) e = go (bytes_eq (codes "check") word) (bytes_eq (codes "script") word) refl refl
+is_read (word ∷ words) e = go (bytes_eq (codes "check") word) (bytes_eq (codes "plan") word) (bytes_eq (codes "script") word) refl refl refl
   where
-    go : (c s : Bool) → bytes_eq (codes "check") word ≡ c → bytes_eq (codes "script") word ≡ s → IsRead (word ∷ words)
-    go true s is no_matter = check_first word words is e
-    go false true other is = script_first word words other is e
-    go false false no_check no_script = no_command_first word words no_check no_script (first_is_quiet _ _ e)
+    go : (c p s : Bool) → bytes_eq (codes "check") word ≡ c → bytes_eq (codes "plan") word ≡ p → bytes_eq (codes "script") word ≡ s → IsRead (word ∷ words)
+    go true p s is no_matter nor_this = check_first word words is e
+    go false true s no_check is no_matter = plan_first word words no_check is e
+    go false false true no_check no_plan is = script_first word words no_check no_plan is e
+    go false false false no_check no_plan no_script = no_command_first word words no_check no_plan no_script (first_is_quiet _ _ e)
 
 -- ---- what the code learns
 
@@ -171,24 +189,31 @@ files_given words (Some q) name rows files read named found given =
         let is : map (λ f. f.now) f.now ≡ o = ap (λ (t : Option (List Text)). unwrap_or t o) e in
         subst (NamesCommand words name) (sym is) h
 
--- `check` has one file
-pub one_file_of : (words : List Text) (name file : Text) (others : List Text) → NamesCommand words name (file ∷ others) → name ≡ codes "check"
-    → operands words ≡ codes "check" ∷ file ∷ []
-one_file_of words name file [] named is = named.0 ∙ ap (λ (n : Text). n ∷ file ∷ []) is
-one_file_of words name file (other ∷ others) (read, inl one) is = absurd (omega (arith, one.1))
-one_file_of words name file (other ∷ others) (read, inr script) is =
-    let bad : codes "check" ≡ codes "script" = sym is ∙ script.0 in
+no_script : (name : Text) → TakesOneFile name → name ≡ codes "script" → ⊥
+no_script name (inl check) script =
+    let bad : codes "check" ≡ codes "script" = sym check ∙ script in
+    cc
+no_script name (inr plan) script =
+    let bad : codes "plan" ≡ codes "script" = sym plan ∙ script in
     cc
 
--- a command that is not `check` is `script`
-pub files_of_script : (words : List Text) (name : Text) (files : List Text) → NamesCommand words name files → (name ≡ codes "check" → ⊥)
+-- `check` and `plan` have one file
+pub one_file_of : (words : List Text) (name file : Text) (others : List Text) → NamesCommand words name (file ∷ others) → TakesOneFile name
+    → operands words ≡ name ∷ file ∷ []
+one_file_of words name file [] named takes = named.0
+one_file_of words name file (other ∷ others) (read, inl one) takes = absurd (omega (arith, one.1))
+one_file_of words name file (other ∷ others) (read, inr script) takes = absurd (no_script name takes script.0)
+
+-- a command that is neither `check` nor `plan` is `script`
+pub files_of_script : (words : List Text) (name : Text) (files : List Text) → NamesCommand words name files → (name ≡ codes "check" → ⊥) → (name ≡ codes "plan" → ⊥)
     → operands words ≡ codes "script" ∷ files
-files_of_script words name files (read, inl check) other = absurd (other check.0)
-files_of_script words name files (read, inr script) other = read ∙ ap (λ (n : Text). n ∷ files) script.0
+files_of_script words name files (read, inl (inl check, one)) no_check no_plan = absurd (no_check check)
+files_of_script words name files (read, inl (inr plan, one)) no_check no_plan = absurd (no_plan plan)
+files_of_script words name files (read, inr script) no_check no_plan = read ∙ ap (λ (n : Text). n ∷ files) script.0
 
 -- a command has a file
 pub some_file : (words : List Text) (name : Text) (files : List Text) → NamesCommand words name files → 0 < length files
-some_file words name files (read, inl check) = omega (arith, check.1)
+some_file words name files (read, inl one) = omega (arith, one.1)
 some_file words name files (read, inr script) = script.1
 
 pub name-rows : (m : ArgMatches) → subcommand_name_of m ≡ option_map (λ q. q.0) (subcommand_rows_of m)
@@ -217,6 +242,8 @@ unfolding walk_passes walked
 is_taken words few no_words = refl
 is_taken words few (check_word file no_hyphen) = rw (file_taken (codes "check") file no_hyphen) refl
 is_taken words few (check_after_dashes file) = refl
+is_taken words few (plan_word file no_hyphen) = rw (file_taken (codes "plan") file no_hyphen) refl
+is_taken words few (plan_after_dashes file) = refl
 is_taken words few (script_words file others all) =
     rw (gathers top.rules names (at_start false) (codes "script") [] (file ∷ others), left_to_it (codes "script") [] (file ∷ others), files_taken file others all (omega (arith, few))) refl
 is_taken words few (script_after_dashes file others) =

@@ -1,12 +1,11 @@
 -- The words after `script`: without a fault, they are the files, but for a `--`.
-use Rattle.std.proofs.Common.{◌≡◌, ◌∙◌, ◌<◌, ◌≤◌, ◌&&◌, inl, inr, Bool, true, false, List, [], ◌∷◌, ◌++◌, length, Option, Some, None, refl, sym, ap, ap₂, subst, codes, arith, if◌then◌else◌}
+use Rattle.std.proofs.Common.{◌≡◌, ◌∙◌, ◌<◌, ◌≤◌, ◌&&◌, Bool, true, false, List, [], ◌∷◌, ◌++◌, length, Option, Some, None, refl, sym, ap, ap₂, subst, codes, arith}
 use Rattle.std.proofs.lemmas.Bool.{le-leb}
 use Rattle.std.proofs.lemmas.List.{append-nil, append_assoc}
-use Rattle.std.proofs.lemmas.Slice.Eq.{bytes_eq-Decides}
 use Rattle.std.specs.Prelude.{MatchOption, fold, slice_index_or}
 use Rattle.std.specs.List.{AllByRecursion, list_all}
 use Rattle.std.specs.Str.{bytes_eq}
-use Rattle.clap.specs.Lexer.{long_of, strip_byte, usize_max}
+use Rattle.clap.specs.Lexer.{long_of, usize_max}
 use Rattle.clap.specs.Simple.{filled}
 use Rattle.clap.specs.Takes.{default_passes, is_valid, level_passes, settle_passes, value_passes, walk_passes}
 use Rattle.clap.specs.Words.{Shape, Text, built, all_of}
@@ -19,7 +18,7 @@ use Rattle.driver.proofs.Flags.{HasOnlyHelp, TakesValues, dashes, first_is_quiet
 
 -- the command `script`, once it is built
 abbrev pub script : Shape
-script = slice_index_or (built command_line).subs 1 script_command.top
+script = slice_index_or (built command_line).subs 2 script_command.top
 
 -- the files that clap finds in the words after `script`
 abbrev pub files_in : List Text → Option (List Text)

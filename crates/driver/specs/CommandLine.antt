@@ -6,7 +6,7 @@ use Rattle.clap.specs.Lexer.{strip_byte, usize_max}
 use Rattle.clap.specs.Words.{App, Rule, Text, new_app, new_rule, with_rule, with_subcommand}
 use Rattle.clap.specs.declared.builder.action.ArgAction.TheVariants.{Append}
 use Rattle.driver.specs.declared.requests.Request.{Request}
-use Rattle.driver.specs.declared.requests.Request.TheVariants.{Input, Check, Script}
+use Rattle.driver.specs.declared.requests.Request.TheVariants.{Input, Check, Plan, Script}
 
 -- the name of the one file that a command takes
 abbrev pub one_file : Rule
@@ -37,7 +37,8 @@ program =
 
 -- the whole command line
 abbrev pub command_line : App
-command_line = with_subcommand (with_subcommand program (file_command (codes "check")).top) script_command.top
+command_line =
+    with_subcommand (with_subcommand (with_subcommand program (file_command (codes "check")).top) (file_command (codes "plan")).top) script_command.top
 
 -- the words without the first `--`, after which no word is an option
 abbrev pub operands : List Text → List Text
@@ -48,16 +49,19 @@ operands (w ∷ ws) = if bytes_eq w (codes "--") then ws else w ∷ operands ws
 abbrev pub words_of : Request → List Text
 words_of Input = []
 words_of (Check file) = codes "check" ∷ file.now ∷ []
+words_of (Plan file) = codes "plan" ∷ file.now ∷ []
 words_of (Script script programs) = codes "script" ∷ script.now ∷ map (λ p. p.now) programs.items
 
 -- no hyphen (45) begins the word
 abbrev pub HasNoHyphen : Text → Type 0
 HasNoHyphen word = strip_byte 45 word ≡ None
 
--- no words, or `check` and one file, or `script` and files; behind `--` where a hyphen may begin a name
+-- no words, or `check` or `plan` and one file, or `script` and files; behind `--` where a hyphen may begin a name
 pub data IsCommand : List Text → Type 0 where
   no_words : IsCommand []
   check_word : (file : Text) → HasNoHyphen file → IsCommand (codes "check" ∷ file ∷ [])
   check_after_dashes : (file : Text) → IsCommand (codes "check" ∷ codes "--" ∷ file ∷ [])
+  plan_word : (file : Text) → HasNoHyphen file → IsCommand (codes "plan" ∷ file ∷ [])
+  plan_after_dashes : (file : Text) → IsCommand (codes "plan" ∷ codes "--" ∷ file ∷ [])
   script_words : (file : Text) (others : List Text) → AllByRecursion HasNoHyphen (file ∷ others) → IsCommand (codes "script" ∷ file ∷ others)
   script_after_dashes : (file : Text) (others : List Text) → IsCommand (codes "script" ∷ codes "--" ∷ file ∷ others)

@@ -5,6 +5,8 @@ use Rattle.std.specs.declared.io.Error.{Error}
 use Rattle.compiler.specs.declared.error.CompileError.{CompileError}
 use Rattle.compiler.specs.declared.error.CompileError.TheVariants as compiler
 use Rattle.compiler.specs.Outcome.{Compiles, IsProgram}
+use Rattle.instructions.specs.declared.plan.Plan.{Plan}
+use Rattle.lowering.specs.Compiling.{IsPlanOfText}
 use Rattle.typed_tree.specs.declared.program.Typed.{Typed}
 use Rattle.typed_tree.specs.ProgramTree.{ProgramTree, program_tree}
 use Rattle.driver.specs.Endings.{of_read}
@@ -21,6 +23,12 @@ pub record HoldsProgram (holds : List ℕ → Type 0) (program : ProgramTree) : 
   pub text : List ℕ
   pub held : holds text
   pub compiled : IsProgram text program
+
+-- a file that may hold the text of a program, of which this is the plan
+pub record HoldsPlan (holds : List ℕ → Type 0) (plan : Plan) : Type 0 where
+  pub text : List ℕ
+  pub held : holds text
+  pub planned : IsPlanOfText text plan
 
 -- a file that may hold a text which the compiler refuses so
 pub record HoldsRefused (holds : List ℕ → Type 0) (error : CompileError) : Type 0 where
@@ -46,6 +54,11 @@ IsNoProgram holds fails name (Refused file error) = (file.now ≡ name) × Holds
 abbrev pub CompilesFile : (List ℕ → Type 0) → (Error → Type 0) → List ℕ → Result Typed ServeError → Type 0
 CompilesFile holds fails name (Ok program) = HoldsProgram holds (program_tree program)
 CompilesFile holds fails name (Err e) = IsNoProgram holds fails name e
+
+-- what is made of the file of this name, down to its plan
+abbrev pub PlansFile : (List ℕ → Type 0) → (Error → Type 0) → List ℕ → Result Plan ServeError → Type 0
+PlansFile holds fails name (Ok plan) = HoldsPlan holds plan
+PlansFile holds fails name (Err e) = IsNoProgram holds fails name e
 
 -- the files of these names may hold these programs, one for one
 abbrev pub HoldPrograms : (List ℕ → List ℕ → Type 0) → List (List ℕ) → List ProgramTree → Type 0

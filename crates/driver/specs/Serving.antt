@@ -2,12 +2,13 @@
 use Rattle.std.specs.Prelude.{◌≡◌, ℕ, ◌<◌, Bool, false, List, [], ◌∷◌, ◌++◌, ◌⊎◌, Result, Ok, Err, map, codes}
 use Rattle.std.specs.declared.io.Error.{Error}
 use Rattle.devices.specs.Drain.{TakesPart}
+use Rattle.instructions.specs.declared.plan.Plan.{Plan}
 use Rattle.typed_tree.specs.ProgramTree.{ProgramTree}
 use Rattle.scripts.specs.declared.error.ScriptError.{ScriptError}
 use Rattle.scripts.specs.Script.{Input, Taken, RunsScript}
 use Rattle.scripts.specs.Text.{RunsText}
 use Rattle.driver.specs.Endings.{of_script, status_of_end}
-use Rattle.driver.specs.Reading.{HoldPrograms, HoldsProgram, IsNoProgram, LacksProgram, FailsRead}
+use Rattle.driver.specs.Reading.{HoldPrograms, HoldsPlan, HoldsProgram, IsNoProgram, LacksProgram, FailsRead}
 use Rattle.driver.specs.declared.error.ServeError.{ServeError}
 use Rattle.driver.specs.declared.error.ServeError.TheVariants.{WriteFailed}
 use Rattle.driver.specs.declared.requests.Request.{Request}
@@ -53,6 +54,28 @@ abbrev pub ChecksFile : (List ℕ → Type 0) → (Error → Type 0) → List �
 ChecksFile holds fails name before after (Ok faulted) = TellsOk holds before after faulted
 ChecksFile holds fails name before after (Err e) = TellsNothing holds fails name before after e ⊎ BeginsOk holds before after e
 
+-- the file may hold a program, of which this is the plan, and all of a text was written; that it is the plan's, no contract says yet
+pub record TellsPlan (holds : List ℕ → Type 0) (before after : Taken) (faulted : Bool) : Type 0 where
+  pub plan : Plan
+  pub planned : HoldsPlan holds plan
+  pub text : List ℕ
+  pub taken : after.taken ≡ before.taken ++ text
+  pub fault : faulted ≡ false
+
+-- the file may hold a program, of which this is the plan, and a beginning of a text was written before the writer failed
+pub record BeginsPlan (holds : List ℕ → Type 0) (before after : Taken) (e : ServeError) : Type 0 where
+  pub plan : Plan
+  pub planned : HoldsPlan holds plan
+  pub text : List ℕ
+  pub part : TakesPart before.taken after.taken text
+  pub failed : before.failures < after.failures
+  pub outcome : e ≡ WriteFailed
+
+-- what printing the plan of the program in the file of this name comes to
+abbrev pub PrintsPlan : (List ℕ → Type 0) → (Error → Type 0) → List ℕ → Taken → Taken → Result Bool ServeError → Type 0
+PrintsPlan holds fails name before after (Ok faulted) = TellsPlan holds before after faulted
+PrintsPlan holds fails name before after (Err e) = TellsNothing holds fails name before after e ⊎ BeginsPlan holds before after e
+
 -- the files may hold these programs and this script, which was run with them and ended so
 pub record RunsScriptOf (holds : List ℕ → List ℕ → Type 0) (script : List ℕ) (names : List (List ℕ)) (before after : Taken) (ended : Result Bool ServeError) : Type 0 where
   pub programs : List ProgramTree
@@ -87,6 +110,13 @@ pub record ServesCheck (holds : List ℕ → List ℕ → Type 0) (fails : List 
   pub ending : status ≡ status_of_end ended
   pub unread : new ≡ old
 
+-- the plan of the program in the file of this name was printed, with this status at the end; the standard input was not read
+pub record ServesPlan (holds : List ℕ → List ℕ → Type 0) (fails : List ℕ → Error → Type 0) (name : List ℕ) (old new : Input) (before after : Taken) (status : ℕ) : Type 0 where
+  pub ended : Result Bool ServeError
+  pub prints : PrintsPlan (holds name) (fails name) name before after ended
+  pub ending : status ≡ status_of_end ended
+  pub unread : new ≡ old
+
 -- the files were run, with this status at the end; the standard input was not read
 pub record ServesFiles (holds : List ℕ → List ℕ → Type 0) (fails : List ℕ → Error → Type 0) (script : List ℕ) (names : List (List ℕ)) (old new : Input) (before after : Taken) (status : ℕ) : Type 0 where
   pub ended : Result Bool ServeError
@@ -98,5 +128,6 @@ pub record ServesFiles (holds : List ℕ → List ℕ → Type 0) (fails : List 
 abbrev pub Serves : (List ℕ → List ℕ → Type 0) → (List ℕ → Error → Type 0) → Request → Input → Input → Taken → Taken → ℕ → Type 0
 Serves holds fails request.Input old new before after status = ServesInput old new before after status
 Serves holds fails (request.Check file) old new before after status = ServesCheck holds fails file.now old new before after status
+Serves holds fails (request.Plan file) old new before after status = ServesPlan holds fails file.now old new before after status
 Serves holds fails (request.Script script names) old new before after status =
     ServesFiles holds fails script.now (map (λ n. n.now) names.items) old new before after status

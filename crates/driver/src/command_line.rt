@@ -1,16 +1,18 @@
 //! The words after the program's name.
 
-ghost use Rattle.std.specs.Prelude.{◌≡◌, IfOk, IsOkUnless, codes, false, map};
-ghost use Rattle.clap.specs.Words.{app_of};
+ghost use Rattle.std.specs.Prelude.{◌≡◌, [], IfOk, IsOkUnless, List, codes, false, map};
+ghost use Rattle.clap.specs.Words.{App, HasMatchesOf, Text, app_of, fault_of, with_subcommand};
 ghost use Rattle.clap.specs.declared.builder.command.Command.TheViews.{out-Command as fields_of};
 ghost use Rattle.driver.specs.CommandLine.{IsCommand, command_line, file_command, operands};
 ghost use Rattle.driver.specs.CommandLine.{script_command, words_of};
 
 use crate::requests::{Request, RequestError};
-use clap::{Arg, ArgAction, Command};
+use clap::{Arg, ArgAction, ArgMatches, Command};
 use std::alloc::{AllocError, Global};
 
 const CHECK: &str = "check";
+
+const PLAN: &str = "plan";
 
 const SCRIPT: &str = "script";
 
@@ -27,13 +29,17 @@ const CHECK_HELP: &str =
     "Where the text is refused, the number and the place of the first fault are told.\n\
     Example: gsnap check examples/squares.program";
 
+const PLAN_HELP: &str =
+    "Each line of the plan is one step of a run, as docs/LANGUAGE.md lists them. A text is refused as by `check`.\n\
+    Example: gsnap plan examples/reachability.program";
+
 const SCRIPT_HELP: &str =
     "A line `run 2 10 1` of the script runs the second PROGRAM, for at most 10 turns, with one worker.\n\
     Example: gsnap script examples/squares.script examples/squares.program";
 
-/// Reads the words after the program's name. No words are `Input`, `check FILE` is `Check`, and
-/// `script SCRIPT [PROGRAM..]` is `Script`. A `--` may stand before a file whose name begins with a
-/// hyphen.
+/// Reads the words after the program's name. No words are `Input`, `check FILE` is `Check`,
+/// `plan FILE` is `Plan`, and `script SCRIPT [PROGRAM..]` is `Script`. A `--` may stand before a file
+/// whose name begins with a hyphen.
 ///
 /// Errors: `Fault`, with the text to show, at other words and where help is asked for, and
 /// `NoMemory`.
@@ -45,11 +51,22 @@ pub fn request<'a>(alloc: Global, words: &'a [&'a str]) -> Result<Request<'a>, R
     // (so many files at most, and each `usize` is a number of files that may be given)
     let _count = words.len();
     let matches = command(alloc)?.try_get_matches_from(words)?;
+    let asked = asked_for(alloc, &matches);
+    drop(matches);
+    Ok(asked?)
+}
+
+// What words that were parsed ask for.
+fn asked_for<'a>(alloc: Global, matches: &ArgMatches<'a>) -> Result<Request<'a>, AllocError>
+    ensures { (words : List Text) → fault_of command_line words ≡ [] → HasMatchesOf command_line words matches.now
+        → IfOk result (λ r. operands words ≡ words_of r) }
+{
     let Some((name, found)) = matches.subcommand() else {
         return Ok(Request::Input);
     };
     match found.get_raw(FILES).unwrap_or(&[]).split_first() {
         Some((file, _)) if name == CHECK => Ok(Request::Check { file }),
+        Some((file, _)) if name == PLAN => Ok(Request::Plan { file }),
         Some((script, programs)) => Ok(Request::Script {
             script,
             programs: Vec::from_slice(alloc, programs)?,
@@ -62,14 +79,35 @@ pub fn request<'a>(alloc: Global, words: &'a [&'a str]) -> Result<Request<'a>, R
 fn command<'a>(alloc: Global) -> Result<Command<'a>, AllocError>
     ensures { IfOk result (λ c. app_of c ≡ command_line) }
 {
-    Command::new(alloc, "gsnap")
+    let program = Command::new(alloc, "gsnap")
         .bin_name("gsnap")?
         .no_binary_name(true)
         .about("Runs graph programs on versions of a graph that a script edits.")
-        .override_usage("gsnap\n       gsnap check FILE\n       gsnap script SCRIPT [PROGRAM]..")
-        .after_help(HELP)
-        .subcommand(check_command(alloc)?)?
-        .subcommand(script_command(alloc)?)
+        .override_usage(
+            "gsnap\n       gsnap check FILE\n       gsnap plan FILE\n       gsnap script SCRIPT [PROGRAM]..",
+        )
+        .after_help(HELP);
+    let program = with_command(program, check_command(alloc))?;
+    let program = with_command(program, plan_command(alloc))?;
+    with_command(program, script_command(alloc))
+}
+
+// The program with one command more.
+fn with_command<'a>(
+    program: Command<'a>,
+    command: Result<Command<'a>, AllocError>,
+) -> Result<Command<'a>, AllocError>
+    ensures { (app : App) → IfOk command.entry (λ c. app_of c ≡ app)
+        → IfOk command.entry (λ c. (fields_of c).has_globals ≡ false)
+        → IfOk result (λ p. app_of p ≡ with_subcommand (app_of program.entry) app.top) }
+{
+    match command {
+        Ok(command) => program.subcommand(command),
+        Err(error) => {
+            drop(program);
+            Err(error)
+        }
+    }
 }
 
 fn check_command<'a>(alloc: Global) -> Result<Command<'a>, AllocError>
@@ -84,6 +122,20 @@ fn check_command<'a>(alloc: Global) -> Result<Command<'a>, AllocError>
         .override_usage("gsnap check FILE")
         .after_help(CHECK_HELP)
         .arg(file)
+}
+
+fn plan_command<'a>(alloc: Global) -> Result<Command<'a>, AllocError>
+    ensures app { IfOk result (λ c. app_of c ≡ file_command (codes "plan")) }
+    ensures local { IfOk result (λ c. (fields_of c).has_globals ≡ false) }
+{
+    let program = Arg::new(alloc, FILES)
+        .required(true)
+        .help("The file with the program");
+    Command::new(alloc, PLAN)
+        .about("Compiles the program in a file, and prints its plan")
+        .override_usage("gsnap plan FILE")
+        .after_help(PLAN_HELP)
+        .arg(program)
 }
 
 fn script_command<'a>(alloc: Global) -> Result<Command<'a>, AllocError>

@@ -19,6 +19,10 @@ pub enum Request<'a> {
     Check {
         file: &'a str,
     },
+    /// To print the plan of the program in the file of this name.
+    Plan {
+        file: &'a str,
+    },
     /// To run the file of this name as a script, with the programs in the other files, in order.
     Script {
         script: &'a str,

@@ -3,8 +3,8 @@
 ghost use Rattle.std.specs.Prelude.{◌≡◌, ◌++◌, map};
 ghost use Rattle.scripts.specs.Script.{input as input_of, taken_by, RunsScript};
 ghost use Rattle.driver.specs.Endings.{status_of_end};
-ghost use Rattle.driver.specs.Reading.{CompilesFile, CompilesFiles};
-ghost use Rattle.driver.specs.Serving.{ChecksFile, RunsFiles, RunsInput, Serves};
+ghost use Rattle.driver.specs.Reading.{CompilesFile, CompilesFiles, PlansFile};
+ghost use Rattle.driver.specs.Serving.{ChecksFile, PrintsPlan, RunsFiles, RunsInput, Serves};
 
 use crate::error::ServeError;
 use crate::files::Files;
@@ -12,6 +12,7 @@ use crate::requests::Request;
 use crate::status;
 use compiler::{CompileError, compile};
 use devices::{Drain, Feed, write_all};
+use lowering::Plan;
 use scripts::{Session, run_text, script};
 use std::alloc::Global;
 use std::fmt;
@@ -22,14 +23,16 @@ use typed_tree::Typed;
 const OK_LINE: &[u8] = b"ok\n";
 
 /// Does a request, and answers the exit status: 0 where all was done, or 3 where some run of the script
-/// ended by a fault. `out` has then taken the line `ok` of a check, or the replies of the script. A script
-/// opens its graph in the session, which begins anew; a check leaves the session as it is.
+/// ended by a fault. `out` has then taken the line `ok` of a check, the text of a plan, or the replies of the
+/// script. A script opens its graph in the session, which begins anew; a check and a plan leave the session as
+/// it is.
 ///
-/// `Check` writes once the program is compiled. `Script` compiles each program before it reads the next
+/// `Check` and `Plan` write once the program is compiled. `Script` compiles each program before it reads the next
 /// file, and reads the script's file last. The status is 1 where a program's text is refused; `err` is
 /// then told the file, `refused`, the number and where the fault stands, if that is known, and `out` took
 /// nothing. It is 4 where memory runs out, and 5 where a file or `input` cannot be read or `out` fails;
-/// `err` is then told `refused` and the number, and `out` took a beginning of that line or of the replies.
+/// `err` is then told `refused` and the number, and `out` took a beginning of that line or text or of the
+/// replies.
 pub fn serve<F: Files, R: Feed, W: Drain, E: Drain>(
     alloc: Global,
     request: &Request<'_>,
@@ -48,6 +51,7 @@ pub fn serve<F: Files, R: Feed, W: Drain, E: Drain>(
     match request {
         Request::Input => told(run_input(alloc, input, out, session), err),
         Request::Check { file } => told(check_file(alloc, file, files, out), err),
+        Request::Plan { file } => told(print_plan(alloc, file, files, out), err),
         Request::Script { script, programs } => {
             told(run_files(alloc, script, programs, files, out, session), err)
         }
@@ -103,6 +107,25 @@ fn check_file<'a, F: Files, W: Drain>(
     }
 }
 
+// Compiles the program in the file of this name, and then writes the text of its plan. No run ends by a fault.
+fn print_plan<'a, F: Files, W: Drain>(
+    alloc: Global,
+    file: &'a str,
+    files: &F,
+    out: &mut W,
+) -> Result<bool, ServeError<'a>>
+    ensures { PrintsPlan (F.may_hold files.now file.entry.now) (F.may_fail files.now file.entry.now) file.entry.now
+        (taken_by (W.taken out.old) (W.failures out.old))
+        (taken_by (W.taken out.new) (W.failures out.new)) result }
+{
+    let plan = planned_file(alloc, file, files)?;
+    let text = lowering::write(alloc, &plan)?;
+    match write_all(out, &text) {
+        Ok(()) => Ok(false),
+        Err(_) => Err(ServeError::WriteFailed),
+    }
+}
+
 // Compiles the programs in the files of these names, and then runs the script that a file holds.
 fn run_files<'a, F: Files, W: Drain>(
     alloc: Global,
@@ -147,6 +170,22 @@ fn compiled_file<'a, F: Files>(
     let text = files.read(alloc, file)?;
     match compile(alloc, &text) {
         Ok(program) => Ok(program),
+        Err(CompileError::NoMemory) => Err(ServeError::NoMemory),
+        Err(error) => Err(ServeError::Refused { file, error }),
+    }
+}
+
+// The plan of the program in the file of this name.
+fn planned_file<'a, F: Files>(
+    alloc: Global,
+    file: &'a str,
+    files: &F,
+) -> Result<Plan, ServeError<'a>>
+    ensures { PlansFile (F.may_hold files.now file.entry.now) (F.may_fail files.now file.entry.now) file.entry.now result }
+{
+    let text = files.read(alloc, file)?;
+    match lowering::compile(alloc, &text) {
+        Ok(plan) => Ok(plan),
         Err(CompileError::NoMemory) => Err(ServeError::NoMemory),
         Err(error) => Err(ServeError::Refused { file, error }),
     }
