@@ -1,0 +1,6 @@
+pub mod Degrees
+pub mod Parts
+pub mod Named
+pub mod Lengths
+pub mod Entries
+pub mod Inserted

@@ -1,0 +1,4 @@
+pub mod State
+pub mod NamedSets
+pub mod Passing
+pub mod VertexKernels
