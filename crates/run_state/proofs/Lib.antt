@@ -4,3 +4,5 @@ pub mod Named
 pub mod Lengths
 pub mod Entries
 pub mod Inserted
+pub mod Runs
+pub mod Passed

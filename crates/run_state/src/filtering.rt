@@ -34,7 +34,7 @@ pub(crate) fn filtered(
     'parts: loop {
         let count = take_part(&mut left, &mut part);
         if count == 0 {
-            break;
+            return VertexSet::from_ascending(alloc, set.vertices(), &kept, Form::List);
         }
         let around = Around {
             vectors,
@@ -46,7 +46,6 @@ pub(crate) fn filtered(
         kernel.run(around, block);
         keep_passing(block, &part[..count], &mut kept)?;
     }
-    VertexSet::from_ascending(alloc, set.vertices(), &kept, Form::List)
 }
 
 /// Appends those that the filter that ran on a block lets through.
@@ -55,9 +54,17 @@ fn keep_passing(block: &Block, part: &[u32], kept: &mut Vec<u32>) -> Result<(), 
     ensures { OnOk result (kept.new.items ≡ kept.old.items ++ passing block.now 0 part.now) }
 {
     'places: for (place, vertex) in part.iter().enumerate() {
-        if block.passes(place) {
-            kept.push(*vertex)?;
-        }
+        keep_where(block.passes(place), *vertex, kept)?;
+    }
+    Ok(())
+}
+
+/// Appends a vertex that is to be kept.
+fn keep_where(keeps: bool, vertex: u32, kept: &mut Vec<u32>) -> Result<(), AllocError>
+    ensures { OnOk result (kept.new.items ≡ kept.old.items ++ (if keeps then vertex ∷ [] else [])) }
+{
+    if keeps {
+        kept.push(vertex)?;
     }
     Ok(())
 }

@@ -17,6 +17,7 @@ ghost use Rattle.algorithm_meaning.specs.VertexSets.{after_assign_set, after_dec
 ghost use Rattle.stack_code.specs.Meaning.{IsVertexCode};
 ghost use Rattle.kernels.specs.Expressions.{IsConditionKernel, IsIntegerKernel, IsMainState};
 ghost use Rattle.kernels.specs.Kernels.{HasCells, IsFilterKernel};
+ghost use Rattle.stack_code.specs.declared.room.Room.{Room};
 ghost use Rattle.plans.specs.Machine.{forgotten};
 ghost use Rattle.vectors.specs.Changes.{with_all_changes};
 ghost use Rattle.instructions.specs.Functions.{AreFunctions};
@@ -187,12 +188,15 @@ impl State {
         ensures integers { length result.integers.now ≤ depth.integers }
         ensures conditions { length result.conditions.now ≤ depth.conditions }
     {
+        let sizes = first(self.sets.sizes(), depth.sets);
+        let integers = first(&self.integers, depth.integers);
+        let conditions = first(&self.conditions, depth.conditions);
         MainState {
             vectors: &self.vectors,
-            sizes: first(self.sets.sizes(), depth.sets),
+            sizes,
             vertices: self.sets.vertices(),
-            integers: first(&self.integers, depth.integers),
-            conditions: first(&self.conditions, depth.conditions),
+            integers,
+            conditions,
         }
     }
 
@@ -387,10 +391,10 @@ impl State {
     ) -> Result<(), AllocError>
         requires first { IsVertexKernel first.now }
         requires second { ForSome second (λ k. IsVertexKernel k.now) }
-        ensures one { OnOk result ((steps : StepsTree) → IsVertexCode first.now.code.items steps → second ≡ None
+        ensures one { OnOk result ((steps : StepsTree) → IsVertexCode first.now.code.items steps → second.entry ≡ None
             → self.new ≡ with_state self.old (with_vectors self.old.state
                 (after_vertices steps self.old.state.sets (members_of (slice_get self.old.state.sets set)) self.old.state.vectors))) }
-        ensures two { OnOk result ((a b : StepsTree) → IsVertexCode first.now.code.items a → IsSomeAnd second (λ k. IsVertexCode k.now.code.items b)
+        ensures two { OnOk result ((a b : StepsTree) → IsVertexCode first.now.code.items a → IsSomeAnd second.entry (λ k. IsVertexCode k.now.code.items b)
             → self.new ≡ with_state self.old (with_vectors self.old.state
                 (after_vertices b self.old.state.sets (members_of (slice_get self.old.state.sets set))
                     (after_vertices a self.old.state.sets (members_of (slice_get self.old.state.sets set)) self.old.state.vectors)))) }

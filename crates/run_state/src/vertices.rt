@@ -7,7 +7,7 @@ ghost use Rattle.algorithm_meaning.specs.VertexApply.{after_vertices};
 ghost use Rattle.stack_code.specs.Cells.{HasSizes};
 ghost use Rattle.stack_code.specs.Meaning.{IsVertexCode};
 ghost use Rattle.kernels.specs.Kernels.{HasCells};
-ghost use Rattle.kernels.specs.declared.Room.{Room};
+ghost use Rattle.stack_code.specs.declared.room.Room.{Room};
 
 use kernels::{Block, VertexKernel};
 use vectors::Vectors;
