@@ -1,5 +1,5 @@
 -- For proofs only: vertex sets with their names and sizes, and how a run's state lies in memory.
-use Rattle.std.specs.Prelude.{◌≡◌, ℕ, ℤ, Bool, List, [], ◌∷◌, length, map, replicate, slice_get, take, Option, Some, None}
+use Rattle.std.specs.Prelude.{◌≡◌, ℕ, ℤ, Bool, List, [], ◌∷◌, length, map, replicate, slice_get, take}
 use Rattle.std.specs.Int.{cast_signed, w64}
 use Rattle.algorithm_meaning.specs.State.{StateValue, main_scope}
 use Rattle.algorithm_meaning.specs.Value.{members_of}
@@ -61,7 +61,3 @@ run_state vectors sets integers conditions text turns = record {
     turns = turns;
   };
 }
-
-abbrev pub members_in : Option VertexSubset → List ℕ
-members_in None = []
-members_in (Some set) = set.members

@@ -23,6 +23,8 @@ ghost use Rattle.vectors.specs.Changes.{with_all_changes};
 ghost use Rattle.instructions.specs.Functions.{AreFunctions};
 ghost use Rattle.instructions.specs.Members.{set_value};
 ghost use Rattle.instructions.specs.Operation.{IsFor};
+ghost use Rattle.edge_applies.specs.Applied.{HasEntryForEach};
+ghost use Rattle.edge_applies.specs.View.{IsViewOf};
 ghost use Rattle.run_state.specs.State.{IsRunState, RunState, opened, with_state};
 ghost use Rattle.run_state.specs.VertexKernels.{IsVertexKernel};
 
@@ -33,6 +35,7 @@ use crate::show::{first, name_vectors};
 use crate::text::{push_condition_line, push_integer_line};
 use crate::vertices::run_for_all;
 use algorithm_meaning::{End, Outcome, reduce};
+use edge_applies::RunView;
 use flat_snapshot::Flat;
 use instructions::{Functions, Members};
 use kernels::{Block, ExpressionKernel, FilterKernel, MainState, VertexKernel};
@@ -432,6 +435,23 @@ impl State {
                 &mut self.vectors,
                 block,
             );
+        }
+    }
+
+    /// Lends what an edge apply reads, beside the functions and the graph.
+    pub fn view<'a>(&'a self, functions: &'a Functions, graph: &'a Flat) -> RunView<'a>
+        ensures seen { (p : ProgramTree) (g : GraphValue) → AreFunctions functions.now p → graph.now.vertices ≡ g.vertices → graph.now.edges ≡ g.edges
+            → IsViewOf result p self.now.state g }
+        ensures entries { HasEntryForEach self.now.vertices self.now.state.vectors }
+        ensures valid { IsRunState self.now }
+    {
+        let _ = self.vertices();
+        RunView {
+            functions,
+            sets: self.sets.members(),
+            sizes: self.sets.sizes(),
+            vectors: &self.vectors,
+            graph,
         }
     }
 
