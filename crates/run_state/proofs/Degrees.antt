@@ -1,5 +1,5 @@
 -- Out-degrees of vertices.
-use Rattle.std.proofs.Common.{◌≡◌, ℕ, suc, ◌^◌, ◌<◌, ◌==◌, ℤ, pos, Bool, true, false, cond, List, [], ◌∷◌, length, FitsSigned, w64, ap, sym, ◌∙◌, refl, arith}
+use Rattle.std.proofs.Common.{◌≡◌, ℕ, suc, ◌^◌, ◌<◌, ◌==◌, pos, Bool, true, false, cond, List, [], ◌∷◌, length, FitsSigned, w64, ap, sym, ◌∙◌, refl, arith}
 use Rattle.std.proofs.lemmas.Int.{int_wrap_fits, ints}
 use Rattle.algorithm_meaning.specs.Arithmetic.{wrapped}
 use Rattle.algorithm_meaning.specs.Meaning.{out_degree}

@@ -5,18 +5,15 @@ use Rattle.std.specs.List.{range_with_len}
 use Rattle.typed_tree.specs.declared.program.Vector.{Vector}
 use Rattle.algorithm_meaning.specs.declared.outcome.NamedVector.{NamedVector}
 use Rattle.algorithm_meaning.specs.Shown.{name_at, named_vectors}
-use Rattle.algorithm_meaning.specs.Value.{entry}
-use Rattle.vectors.specs.Lanes.{lane_entry}
-use Rattle.vectors.specs.declared.lane.Lane.{Lane}
-use Rattle.vectors.proofs.Layouts.{same_functions, same_lists}
+use Rattle.vectors.proofs.Layouts.{same_lists}
 
 -- a list has the entries that it has at its places
 pub all_entries : (xs : List ℤ) (n : ℕ) (f : ℕ → ℤ) → length xs ≡ n → ((v : ℕ) → f v ≡ get_or xs v (pos 0)) → map f (range_with_len 0 n) ≡ xs
 all_entries xs n f many same =
     same_lists (map f (range_with_len 0 n)) xs (pos 0) (length-map-range_with_len f 0 n ∙ sym many)
     (λ k h.
-      let inside : k < n = omega (arith, h, length-map-range_with_len f 0 n) in
-      get_or-map-range_with_len f 0 n k k (pos 0) inside (omega arith) ∙ same k)
+    let inside : k < n = omega (arith, h, length-map-range_with_len f 0 n) in
+    get_or-map-range_with_len f 0 n k k (pos 0) inside (omega arith) ∙ same k)
 
 -- vectors without entries are not shown
 pub nothing_behind : (names : List (List ℕ)) (vs : List Vector) (entries : List (List ℤ)) (k : ℕ) → length entries ≡ k → named_vectors names (take k vs) entries ≡ named_vectors names vs entries

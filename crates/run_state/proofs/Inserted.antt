@@ -19,9 +19,9 @@ rises_inserted low v (x ∷ xs) up le =
     elim (cases_lt v x) [
       | inl under ↦ subst (Rises low) (sym (before_first v x xs under)) (le, (omega arith, up.1))
       | inr over ↦ elim (cases_lt x v) [
-          | inl above ↦ subst (Rises low) (sym (inserted_above v x xs above)) (up.0, rises_inserted (x + 1) v xs up.1 (omega arith))
-          | inr not_above ↦ subst (Rises low) (sym (at_first v x xs (omega arith) (omega arith))) up
-        ]
+        | inl above ↦ subst (Rises low) (sym (inserted_above v x xs above)) (up.0, rises_inserted (x + 1) v xs up.1 (omega arith))
+        | inr not_above ↦ subst (Rises low) (sym (at_first v x xs (omega arith) (omega arith))) up
+      ]
     ]
 
 -- the number is there
@@ -32,11 +32,11 @@ has_new v (x ∷ xs) =
     elim (cases_lt v x) [
       | inl under ↦ subst P (sym (before_first v x xs under)) (contains_first v (x ∷ xs))
       | inr over ↦ elim (cases_lt x v) [
-          | inl above ↦ subst P (sym (inserted_above v x xs above)) (contains_later x v (inserted v xs) (has_new v xs))
-          | inr not_above ↦
-              let same : x ≡ v = omega arith in
-              subst P (sym (at_first v x xs (omega arith) (omega arith))) (subst (λ (u : ℕ). Contains (x ∷ xs) u) same (contains_first x xs))
-        ]
+        | inl above ↦ subst P (sym (inserted_above v x xs above)) (contains_later x v (inserted v xs) (has_new v xs))
+        | inr not_above ↦
+            let same : x ≡ v = omega arith in
+            subst P (sym (at_first v x xs (omega arith) (omega arith))) (subst (λ (u : ℕ). Contains (x ∷ xs) u) same (contains_first x xs))
+      ]
     ]
 
 -- and what was there
@@ -47,12 +47,12 @@ has_old v u (x ∷ xs) is =
     elim (cases_lt v x) [
       | inl under ↦ subst P (sym (before_first v x xs under)) (contains_later v u (x ∷ xs) is)
       | inr over ↦ elim (cases_lt x v) [
-          | inl above ↦ subst P (sym (inserted_above v x xs above)) (elim (first_or_later x u xs is) [
-              | inl here ↦ subst (λ (w : ℕ). Contains (x ∷ inserted v xs) w) (sym here) (contains_first x (inserted v xs))
-              | inr there ↦ contains_later x u (inserted v xs) (has_old v u xs there)
-            ])
-          | inr not_above ↦ subst P (sym (at_first v x xs (omega arith) (omega arith))) is
-        ]
+        | inl above ↦ subst P (sym (inserted_above v x xs above)) (elim (first_or_later x u xs is) [
+          | inl here ↦ subst (λ (w : ℕ). Contains (x ∷ inserted v xs) w) (sym here) (contains_first x (inserted v xs))
+          | inr there ↦ contains_later x u (inserted v xs) (has_old v u xs there)
+        ])
+        | inr not_above ↦ subst P (sym (at_first v x xs (omega arith) (omega arith))) is
+      ]
     ]
 
 -- and nothing else
@@ -63,12 +63,12 @@ has_no_other v u (x ∷ xs) is =
     elim (cases_lt v x) [
       | inl under ↦ first_or_later v u (x ∷ xs) (subst P (before_first v x xs under) is)
       | inr over ↦ elim (cases_lt x v) [
-          | inl above ↦ elim (first_or_later x u (inserted v xs) (subst P (inserted_above v x xs above) is)) [
-              | inl here ↦ inr (subst (λ (w : ℕ). Contains (x ∷ xs) w) (sym here) (contains_first x xs))
-              | inr there ↦ elim (has_no_other v u xs there) [ inl new ↦ inl new | inr old ↦ inr (contains_later x u xs old) ]
-            ]
-          | inr not_above ↦ inr (subst P (at_first v x xs (omega arith) (omega arith)) is)
+        | inl above ↦ elim (first_or_later x u (inserted v xs) (subst P (inserted_above v x xs above) is)) [
+          | inl here ↦ inr (subst (λ (w : ℕ). Contains (x ∷ xs) w) (sym here) (contains_first x xs))
+          | inr there ↦ elim (has_no_other v u xs there) [ inl new ↦ inl new | inr old ↦ inr (contains_later x u xs old) ]
         ]
+        | inr not_above ↦ inr (subst P (at_first v x xs (omega arith) (omega arith)) is)
+      ]
     ]
 
 -- the ascending list with a number more

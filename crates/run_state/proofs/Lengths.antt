@@ -1,5 +1,5 @@
 -- Vectors keep their lengths.
-use Rattle.std.proofs.Common.{◌≡◌, ℕ, suc, ◌<◌, ℤ, pos, Bool, true, false, cond, List, [], ◌∷◌, length, map, replicate, set, get_or, ap, sym, ◌∙◌, refl, arith}
+use Rattle.std.proofs.Common.{◌≡◌, ℕ, ◌<◌, ℤ, pos, Bool, true, false, cond, List, [], ◌∷◌, length, map, set, get_or, ap, sym, ◌∙◌, refl, arith}
 use Rattle.std.proofs.Math.Seq.{map-set_same}
 use Rattle.std.proofs.lemmas.List.{get_or-map, get_or-replicate, length-map, length-replicate, length-set}
 use Rattle.std.proofs.lemmas.List.FromFn.{length-map-range_with_len}

@@ -1,6 +1,6 @@
 -- Lists that are taken part by part.
-use Rattle.std.proofs.Common.{◌≡◌, ℕ, zero, suc, ◌+◌, ◌<◌, List, [], ◌∷◌, ◌++◌, length, take, drop, set, ap, sym, ◌∙◌, refl, arith}
-use Rattle.std.proofs.lemmas.List.{take_more_set, length-drop}
+use Rattle.std.proofs.Common.{◌≡◌, ℕ, zero, suc, ◌+◌, ◌<◌, List, [], ◌∷◌, ◌++◌, length, take, drop, set, ap, sym, ◌∙◌, arith}
+use Rattle.std.proofs.lemmas.List.{take_more_set}
 
 -- the next item is the first of what is left
 pub next_taken : (all : List ℕ) (i v : ℕ) (rest : List ℕ) → drop i all ≡ v ∷ rest → take i all ++ v ∷ [] ≡ take (i + 1) all

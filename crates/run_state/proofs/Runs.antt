@@ -1,5 +1,5 @@
 -- What is true of each state of a run.
-use Rattle.std.proofs.Common.{◌≡◌, ℕ, ℤ, pos, Bool, List, [], Option, Some, None, Result, Ok, Err, IfOk, OnOk, length, map, take, get_or, slice_get, unwrap_or, ap, sym, ◌∙◌, refl, subst, w64}
+use Rattle.std.proofs.Common.{◌≡◌, ℕ, ℤ, pos, Bool, List, [], Option, Some, None, Result, Ok, Err, IfOk, OnOk, take, slice_get, unwrap_or, ap, sym, ◌∙◌, refl, subst}
 use Rattle.std.specs.Option.{option_map}
 use Rattle.std.proofs.lemmas.Option.{slice_get-map, unwrap_or-slice_get}
 use Rattle.std.proofs.lemmas.List.{take-map}

@@ -65,7 +65,11 @@ impl NamedSets {
     }
 
     /// Sets of these names, each of all vertices. The only error is out of memory.
-    pub(crate) fn open(alloc: Global, vertices: u32, names: &[usize]) -> Result<NamedSets, AllocError>
+    pub(crate) fn open(
+        alloc: Global,
+        vertices: u32,
+        names: &[usize],
+    ) -> Result<NamedSets, AllocError>
         ensures { IfOk result (λ s. (g : GraphValue) → g.vertices ≡ vertices → s ≡ record { vertices = vertices; state = record nothing { sets = map (all_vertices g) names.now } }) }
     {
         let mut opened = NamedSets::new(alloc, vertices);
@@ -111,7 +115,12 @@ impl NamedSets {
     }
 
     /// The names and the members of the sets up to a place. The only error is out of memory.
-    pub(crate) fn shown(&self, alloc: Global, names: &[Name], count: usize) -> Result<Vec<NamedSet>, AllocError>
+    pub(crate) fn shown(
+        &self,
+        alloc: Global,
+        names: &[Name],
+        count: usize,
+    ) -> Result<Vec<NamedSet>, AllocError>
         ensures { IfOk result (λ v. v.items ≡ map (named_set names.now) (take count self.now.state.sets)) }
     {
         let set_names = first(&self.names, count);

@@ -396,11 +396,11 @@ impl State {
         requires second { ForSome second (λ k. IsVertexKernel k.now) }
         ensures one { OnOk result ((steps : StepsTree) → IsVertexCode first.now.code.items steps → second.entry ≡ None
             → self.new ≡ with_state self.old (with_vectors self.old.state
-                (after_vertices steps self.old.state.sets (members_of (slice_get self.old.state.sets set)) self.old.state.vectors))) }
+            (after_vertices steps self.old.state.sets (members_of (slice_get self.old.state.sets set)) self.old.state.vectors))) }
         ensures two { OnOk result ((a b : StepsTree) → IsVertexCode first.now.code.items a → IsSomeAnd second.entry (λ k. IsVertexCode k.now.code.items b)
             → self.new ≡ with_state self.old (with_vectors self.old.state
-                (after_vertices b self.old.state.sets (members_of (slice_get self.old.state.sets set))
-                    (after_vertices a self.old.state.sets (members_of (slice_get self.old.state.sets set)) self.old.state.vectors)))) }
+            (after_vertices b self.old.state.sets (members_of (slice_get self.old.state.sets set))
+            (after_vertices a self.old.state.sets (members_of (slice_get self.old.state.sets set)) self.old.state.vectors)))) }
         ensures err { OnErr result (self.new ≡ self.old) }
     {
         block.make_room(first.room())?;
@@ -424,7 +424,7 @@ impl State {
         requires room { HasCells block.old kernel.now.room }
         ensures applied { (steps : StepsTree) → IsVertexCode kernel.now.code.items steps
             → self.new ≡ with_state self.old (with_vectors self.old.state
-                (after_vertices steps self.old.state.sets (members_of (slice_get self.old.state.sets set)) self.old.state.vectors)) }
+            (after_vertices steps self.old.state.sets (members_of (slice_get self.old.state.sets set)) self.old.state.vectors)) }
         ensures keeps { (other : Room) → HasCells block.old other → HasCells block.new other }
     {
         if let Some(members) = self.sets.get(set) {
@@ -503,7 +503,12 @@ impl State {
     {
         let vertices = self.sets.vertices();
         let shown = name_vectors(
-            alloc, names, vectors, self.vector_count, vertices, &self.vectors,
+            alloc,
+            names,
+            vectors,
+            self.vector_count,
+            vertices,
+            &self.vectors,
         )?;
         let sets = self.sets.shown(alloc, names, visible.sets)?;
         let text = Vec::from_slice(alloc, &self.text)?;
@@ -523,5 +528,9 @@ fn vertex_below(number: Option<i64>, vertices: u32) -> Option<u32>
     ensures below { IfSome result (λ v. v < vertices) }
 {
     let vertex = u32::try_from(number?).ok()?;
-    if vertex < vertices { Some(vertex) } else { None }
+    if vertex < vertices {
+        Some(vertex)
+    } else {
+        None
+    }
 }

@@ -1,4 +1,4 @@
-use Rattle.std.proofs.Common.{rules, ◌≡◌, ℕ, ◌+◌, List, [], ◌++◌, length, take, zero-add, append-nil, append_assoc, refl, ap, ap₂, sym, subst, ◌∙◌, arith}
+use Rattle.std.proofs.Common.{rules, ◌≡◌, ℕ, List, ◌++◌, length, take, zero-add, append-nil, append_assoc, refl, ap, ap₂, sym, subst, ◌∙◌, arith}
 use Rattle.std.specs.List.{filter}
 use Rattle.std.proofs.lemmas.List.Elements.{filter-append}
 use Rattle.algorithm_meaning.specs.Filter.{result_of}
@@ -52,8 +52,8 @@ parts-preserved c =
       passed = λ steps m is same has.
           let test = result_of steps m.sets m.vectors in
           ap (λ (xs : List ℕ). xs ++ filter test rest)
-              (c.in_ok-keep_passing.ensures ∙ ap (λ (xs : List ℕ). kept ++ xs)
-                  (passing_is block test 0 part (λ k h. ap (passes_at block) (zero-add k) ∙ c.run.ensures.passes steps m is (record { vectors = same; sizes = has }) k h)))
+          (c.in_ok-keep_passing.ensures ∙ ap (λ (xs : List ℕ). kept ++ xs)
+          (passing_is block test 0 part (λ k h. ap (passes_at block) (zero-add k) ∙ c.run.ensures.passes steps m is (record { vectors = same; sizes = has }) k h)))
           ∙ append_assoc kept (filter test part) (filter test rest)
           ∙ ap (λ (xs : List ℕ). kept ++ xs) (sym (filter-append test part rest) ∙ ap (filter test) whole)
           ∙ c.parts.invariant.passed steps m is same has;

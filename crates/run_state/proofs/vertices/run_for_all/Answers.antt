@@ -1,4 +1,4 @@
-use Rattle.std.proofs.Common.{rules, ◌≡◌, ℕ, List, take, refl, ap, sym, subst, ◌∙◌, arith}
+use Rattle.std.proofs.Common.{rules, ℕ, List, take, refl, ap, sym, subst, ◌∙◌, arith}
 use Rattle.std.specs.List.Sorted.{IsStrictlyIncreasing}
 use Rattle.algorithm_meaning.specs.State.{StateValue}
 use Rattle.algorithm_meaning.specs.VertexApply.{after_vertices}

@@ -1,4 +1,4 @@
-use Rattle.std.proofs.Common.{◌≡◌, ◌<◌, ◌≤◌, None, Some, length, slice_get, refl, ap, sym, arith, ◌∙◌}
+use Rattle.std.proofs.Common.{◌<◌, ◌≤◌, length, slice_get, refl, ap, sym, arith, ◌∙◌}
 use Rattle.std.proofs.lemmas.Option.{slice_get_past, slice_get_read}
 use Rattle.algorithm_meaning.specs.Value.{members_of}
 use Rattle.edge_applies.specs.View.{members_in}

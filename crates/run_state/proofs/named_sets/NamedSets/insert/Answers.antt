@@ -1,4 +1,4 @@
-use Rattle.std.proofs.Common.{◌≡◌, ℕ, ◌+◌, ◌<◌, List, length, Some, slice_get, get_or, FitsSigned, w64, rules, refl, ap, subst, sym, ◌∙◌, arith, get_or-set_same}
+use Rattle.std.proofs.Common.{◌≡◌, ℕ, ◌+◌, ◌<◌, List, length, slice_get, FitsSigned, w64, rules, refl, ap, subst, sym, ◌∙◌, arith, get_or-set_same}
 use Rattle.std.proofs.lemmas.Int.{to_z-of_z}
 use Rattle.std.proofs.lemmas.Option.{slice_get_read}
 use Rattle.algorithm_meaning.specs.State.{StateValue}
@@ -38,7 +38,7 @@ invariant_of-self-then-place-len c =
     let fits : FitsSigned w64 c.size_of.result = search rules in
     let here : c.index.result.now ≡ new = c.index.ensures ∙ get_or-set_same ms place new c.index.result.now inside in
     replaced s.vertices s.names.items ms s.sizes.items c.self.invariant place new _ many valid
-        (to_z-of_z w64 c.size_of.result fits ∙ c.size_of.ensures.size ∙ ap (λ (set : VertexSubset). size_of set.members) here)
+    (to_z-of_z w64 c.size_of.result fits ∙ c.size_of.ensures.size ∙ ap (λ (set : VertexSubset). size_of set.members) here)
 
 pub returns-in_ok-insert-clause-ok : goal.returns-in_ok-insert-clause-ok
 returns-in_ok-insert-clause-ok c =

@@ -1,4 +1,4 @@
-use Rattle.std.proofs.Common.{List, ℤ, Bool, slice_get, take, ap, sym, ◌∙◌}
+use Rattle.std.proofs.Common.{slice_get, take, ap, sym, ◌∙◌}
 use Rattle.algorithm_meaning.specs.Value.{members_of}
 use Rattle.run_state.specs.NamedSets.{size_of}
 use Rattle.run_state.specs.State.{RunState}

@@ -1,7 +1,6 @@
-use Rattle.std.proofs.Common.{◌≡◌, ℕ, ℤ, List, slice_get, refl, ap, sym, subst, ◌∙◌}
+use Rattle.std.proofs.Common.{ℤ, List, slice_get, refl, ap, sym, subst, ◌∙◌}
 use Rattle.std.specs.List.{filter}
 use Rattle.typed_tree.specs.ProgramTree.{ProgramTree}
-use Rattle.typed_tree.specs.StepTree.{StepsTree}
 use Rattle.algorithm_meaning.specs.Filter.{filtered, result_of}
 use Rattle.algorithm_meaning.specs.Function.{steps_of}
 use Rattle.algorithm_meaning.specs.State.{GraphValue, StateValue}
@@ -27,11 +26,11 @@ returns-in-Some-get-clause-members c =
     let m : StateValue = record s.sets.state { vectors = s.vectors.vectors } in
     let has : HasSizes c.sizes.result.now m = subst (λ (zs : List ℤ). HasSizes zs m) (sym c.sizes.ensures) (has_sizes m) in
     if_ok_more c.filtered.result _ _
-        (λ (set : VertexSubset) given (p : ProgramTree) (g : GraphValue) (are : AreFunctions c.args.functions.now p) many.
-          let steps = steps_of (slice_get p.filters function) in
-          let is : IsFilterKernel c.get-filter.result.now steps = subst (λ (k : FilterKernel). IsFilterKernel k steps) (sym c.get-filter.ensures) (are.filter function) in
-          given steps m is refl has
-          ∙ ap (filter (result_of steps m.sets m.vectors)) c.in-Some-get.ensures.members
-          ∙ ap (λ (r : RunState). filtered p.filters function r.state.sets r.state.vectors (members_of (slice_get r.state.sets slot.place))) c.self.view_is
-          ∙ sym (ap (λ (ms : Members). members_for p g (set_value ms) now.state) c.in-Filter.is))
-        c.filtered.ensures.members
+    (λ (set : VertexSubset) given (p : ProgramTree) (g : GraphValue) (are : AreFunctions c.args.functions.now p) many.
+    let steps = steps_of (slice_get p.filters function) in
+    let is : IsFilterKernel c.get-filter.result.now steps = subst (λ (k : FilterKernel). IsFilterKernel k steps) (sym c.get-filter.ensures) (are.filter function) in
+    given steps m is refl has
+    ∙ ap (filter (result_of steps m.sets m.vectors)) c.in-Some-get.ensures.members
+    ∙ ap (λ (r : RunState). filtered p.filters function r.state.sets r.state.vectors (members_of (slice_get r.state.sets slot.place))) c.self.view_is
+    ∙ sym (ap (λ (ms : Members). members_for p g (set_value ms) now.state) c.in-Filter.is))
+    c.filtered.ensures.members

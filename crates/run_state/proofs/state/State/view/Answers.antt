@@ -1,4 +1,4 @@
-use Rattle.std.proofs.Common.{◌≡◌, ℤ, List, length, get_or, [], slice_get, ap, sym, subst, ◌∙◌, arith}
+use Rattle.std.proofs.Common.{ℤ, List, slice_get, ap, sym, subst, ◌∙◌, arith}
 use Rattle.algorithm_meaning.specs.Value.{members_of}
 use Rattle.stack_code.specs.Cells.{HasSizes}
 use Rattle.run_state.specs.NamedSets.{size_of}
