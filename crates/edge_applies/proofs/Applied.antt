@@ -11,7 +11,8 @@ use Rattle.edge_fold.specs.Between.{edges_between}
 use Rattle.edge_fold.specs.Changed.{AreApart, changed, changes_of}
 use Rattle.pull_engine.specs.Applied.{AreChangesOn}
 use Rattle.vectors.specs.declared.change.VectorChanges.{VectorChanges}
-use Rattle.edge_applies.specs.Applied.{AreChangesTo, AreReduced, HasEntryForEach, steps_at}
+use Rattle.plans.specs.Reducing.{AreReduced, steps_at}
+use Rattle.edge_applies.specs.Applied.{AreChangesTo, HasEntryForEach}
 use Rattle.edge_applies.proofs.Between.{count_after_edges, entry_past, matching_between, rows_after_edges}
 use Rattle.edge_applies.proofs.WrittenChanges.{changes_make}
 

@@ -8,7 +8,8 @@ ghost use Rattle.edge_fold.specs.Folded.{AreKernels};
 ghost use Rattle.kernels.specs.Kernels.{IsEdgeKernel};
 ghost use Rattle.kernels.specs.declared.kernel.EdgeKernel.{EdgeKernel};
 ghost use Rattle.instructions.specs.Functions.{AreFunctions};
-ghost use Rattle.edge_applies.specs.Applied.{AreChangesTo, AreReduced, HasEntryForEach, places_of, steps_at};
+ghost use Rattle.plans.specs.Reducing.{AreReduced, places_of, steps_at};
+ghost use Rattle.edge_applies.specs.Applied.{AreChangesTo, HasEntryForEach};
 ghost use Rattle.edge_applies.specs.View.{IsViewOf};
 
 use crate::ends::end_of;

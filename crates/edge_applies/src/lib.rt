@@ -5,8 +5,9 @@
 //! them, and tells what it changes: written to the vectors, they are those after the apply (`after_edge_apply` of
 //! `algorithm_meaning`). [`changed_vertices`] makes a vertex set of the vertices at which one vector changes.
 //!
-//! Nothing is written here. The promise is for a program whose functions give each vector numbers by one reduction, and
-//! for vectors with an entry for each vertex (`specs/Applied.antt`).
+//! Nothing is written here. The promise is for a program whose functions give each vector numbers by one reduction
+//! (`specs/Reducing.antt` of `plans`), and for vectors with an entry for each vertex
+//! (`specs/Applied.antt`).
 //!
 //! The runner stands on it.
 #![tactic(auto)]

@@ -1,1 +1,2 @@
 pub mod Pairwise
+pub mod Bounds

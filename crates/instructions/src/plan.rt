@@ -1,9 +1,12 @@
 //! Plans.
+ghost use Rattle.instructions.specs.Lowered.{AreLowered};
+
 use crate::functions::Functions;
 use crate::instruction::Instruction;
 use typed_tree::{Name, Sequence, Vector};
 
-/// A program under a schedule, compiled.
+/// A program under a schedule, compiled. Each value is the plan of some program under some schedule, so that a run of it
+/// ends.
 pub struct Plan {
     /// The instructions, of which a run does one each step, from the first.
     pub instructions: Vec<Instruction>,
@@ -18,6 +21,8 @@ pub struct Plan {
     pub groups: Vec<Sequence<usize>>,
     /// The text of the groups, a line for each.
     pub fields: Vec<u8>,
+    pub ghost lowered: { ∥ AreLowered instructions.items functions vectors.items sets.items
+        names.items groups.items ∥₁ },
 }
 
 impl Drop for Plan {

@@ -3,3 +3,4 @@ pub mod Modified
 pub mod Within
 pub mod Putting
 pub mod Statements
+pub mod Reduced

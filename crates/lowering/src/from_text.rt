@@ -7,7 +7,8 @@ use instructions::Plan;
 use schedule::accept;
 use std::alloc::Global;
 
-/// The plan of the program that a text is, under the program's schedule. The text may have any bytes.
+/// The plan of the program that a text is, under the program's schedule. The text may have any bytes. Whatever the state of
+/// a run of the plan, each edge apply in it gives a vector numbers by one reduction.
 ///
 /// Errors: those of [`compiler::compile`], of which the first is told: `NotParsed`, `NotTyped` and `NotScheduled`, each
 /// with the offset of the fault, and `NoMemory` at any time.

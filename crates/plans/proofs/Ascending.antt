@@ -1,7 +1,8 @@
 -- Vertex sets are ascending, in each state of a run.
-use Rattle.std.proofs.Common.{◌≡◌, ℕ, zero, suc, ◌+◌, ◌≤◌, nat_lt, ◌==◌, Bool, true, false, cond, List, [], ◌∷◌, slice_get, refl, arith}
+use Rattle.std.proofs.Common.{◌≡◌, ℕ, zero, suc, ◌+◌, ◌<◌, ◌≤◌, nat_lt, ◌==◌, Bool, true, false, cond, List, [], ◌∷◌, slice_get, slice_index_or, refl, subst, arith}
 use Rattle.std.proofs.lemmas.Bool.Decides.{nat_tests}
 use Rattle.std.specs.List.{filter, range_with_len}
+use Rattle.std.specs.List.Sorted.{IsStrictlyIncreasing}
 use Rattle.algorithm_meaning.specs.State.{StateValue}
 use Rattle.algorithm_meaning.specs.Value.{members_of}
 use Rattle.algorithm_meaning.specs.VertexSets.{inserted}
@@ -37,6 +38,19 @@ pub ascends_inserted : (v low : ℕ) (xs : List ℕ) → low ≤ v → AscendsFr
 ascends_inserted v low [] h asc = (h, tt)
 ascends_inserted v low (x ∷ xs) h asc =
     ascends_where (nat_lt v x) (v == x) v x low xs (inserted v xs) refl refl h asc.0 asc.1 (λ above. ascends_inserted v (x + 1) xs above asc.1)
+
+increasing_later : (x : ℕ) (xs : List ℕ) → IsStrictlyIncreasing (x ∷ xs) → IsStrictlyIncreasing xs
+increasing_later x xs up k within =
+    let e : suc k + 1 ≡ suc (k + 1) = omega arith in
+    subst (λ n. slice_index_or xs k 0 < slice_index_or (x ∷ xs) n 0) e (up (suc k) (omega arith))
+
+increasing_second : (x : ℕ) (xs : List ℕ) → IsStrictlyIncreasing (x ∷ xs) → x + 1 ≤ slice_index_or xs 0 (x + 1)
+increasing_second x [] up = omega arith
+increasing_second x (y ∷ ys) up = omega (arith, up 0 (omega arith))
+
+pub ascends_increasing : (low : ℕ) (xs : List ℕ) → low ≤ slice_index_or xs 0 low → IsStrictlyIncreasing xs → AscendsFrom low xs
+ascends_increasing low [] h up = tt
+ascends_increasing low (x ∷ xs) h up = (h, ascends_increasing (x + 1) xs (increasing_second x xs up) (increasing_later x xs up))
 
 -- so are all these sets
 abbrev pub AreAscending : StateValue → Type 0

@@ -1,12 +1,12 @@
 -- Two edge applies together.
-use Rattle.std.proofs.Common.{◌≡◌, ℕ, ℤ, true, List, [], ◌∷◌, ◌++◌, length, slice_get, slice_index_or, ap, sym, ◌∙◌, refl}
-use Rattle.typed_tree.specs.StepTree.{StepsTree}
+use Rattle.std.proofs.Common.{◌≡◌, ℕ, ℤ, true, List, [], ◌∷◌, ◌++◌, length, Option, Some, None, slice_get, slice_index_or, ap, sym, ◌∙◌, refl}
+use Rattle.typed_tree.specs.StepTree.{FunctionTree, StepsTree}
 use Rattle.typed_tree.specs.ProgramTree.{ProgramTree}
 use Rattle.algorithm_meaning.specs.State.{GraphValue, StateValue}
 use Rattle.algorithm_meaning.specs.Entries.{with_vectors}
 use Rattle.algorithm_meaning.specs.Function.{steps_of}
 use Rattle.algorithm_meaning.specs.EdgeApply.{after_edge_apply, after_edges, matching, gives}
-use Rattle.schedule.specs.Access.{is_none_of, are_apart, end_reads, function_uses, function_writes, steps_use, steps_write}
+use Rattle.schedule.specs.Access.{is_none_of, are_apart, end_reads, function_uses, function_writes, steps_use, steps_use_where, steps_write, steps_write_where}
 use Rattle.schedule.proofs.Uses.{of_and}
 use Rattle.plans.specs.declared.depth.Depth.{Depth}
 use Rattle.plans.specs.Fusing.{EdgeApplyTree, result_places, result_vectors, end_sets, function_sizes, is_same_end, edges_fit}
@@ -24,7 +24,7 @@ after_part p g x s =
     with_result g.vertices s.vectors vectors x.part.result (with_vectors s vectors)
 
 -- what the second of two applies is checked for, one by one
-record FitTogether (p : ProgramTree) (d : Depth) (x y : EdgeApplyTree) : Type 0 where
+record AreChecked (p : ProgramTree) (d : Depth) (x y : EdgeApplyTree) : Type 0 where
   from : is_same_end x.ends.from y.ends.from ≡ true
   to : is_same_end x.ends.to y.ends.to ≡ true
   uses : are_apart (function_uses p.edge_functions y.part.function) (function_writes p.edge_functions x.part.function) ≡ true
@@ -36,7 +36,7 @@ record FitTogether (p : ProgramTree) (d : Depth) (x y : EdgeApplyTree) : Type 0 
   first_result : are_apart (result_vectors x.part.result) (function_writes p.edge_functions y.part.function) ≡ true
   second_result : are_apart (result_vectors y.part.result) (function_writes p.edge_functions x.part.function) ≡ true
 
-fit_together : (p : ProgramTree) (d : Depth) (x y : EdgeApplyTree) → edges_fit p d x y ≡ true → FitTogether p d x y
+fit_together : (p : ProgramTree) (d : Depth) (x y : EdgeApplyTree) → edges_fit p d x y ≡ true → AreChecked p d x y
 fit_together p d x y h =
     let places = result_places d x.part.result in
     let writes = function_writes p.edge_functions x.part.function in
@@ -63,7 +63,7 @@ fit_together p d x y h =
       second_result = results.1;
     }
 
-module _ (p : ProgramTree) (g : GraphValue) (d : Depth) (x y : EdgeApplyTree) (s : StateValue) (fit : FitTogether p d x y) (deep : length s.sets ≡ d.sets) where
+module _ (p : ProgramTree) (g : GraphValue) (d : Depth) (x y : EdgeApplyTree) (s : StateValue) (fit : AreChecked p d x y) (deep : length s.sets ≡ d.sets) where
   abbrev first : StepsTree
   first = steps_of (slice_get p.edge_functions x.part.function)
 
@@ -137,3 +137,13 @@ module _ (p : ProgramTree) (g : GraphValue) (d : Depth) (x y : EdgeApplyTree) (s
 pub edges_at_once : (p : ProgramTree) (g : GraphValue) (d : Depth) (x y : EdgeApplyTree) (s : StateValue) → edges_fit p d x y ≡ true → length s.sets ≡ d.sets
     → after_parts p g x.ends (x.part ∷ y.part ∷ []) s ≡ after_part p g y (after_part p g x s)
 edges_at_once p g d x y s fit deep = sym (one_after_other p g d x y s (fit_together p d x y fit) deep)
+
+writes_where : (f : Option FunctionTree) (others : List ℕ) → are_apart (steps_use_where f) others ≡ true → are_apart (steps_write_where f) others ≡ true
+writes_where None others h = refl
+writes_where (Some f) others h = writes_of_steps (λ v. is_none_of v others) f.steps h
+
+-- they write no vector both
+pub writes_fit : (p : ProgramTree) (d : Depth) (x y : EdgeApplyTree) → edges_fit p d x y ≡ true
+    → are_apart (function_writes p.edge_functions y.part.function) (function_writes p.edge_functions x.part.function) ≡ true
+writes_fit p d x y fit =
+    writes_where (slice_get p.edge_functions y.part.function) (function_writes p.edge_functions x.part.function) (fit_together p d x y fit).uses

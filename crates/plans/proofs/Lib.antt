@@ -24,5 +24,6 @@ pub mod Targets
 pub mod Ranks
 pub mod Falls
 pub mod Origins
+pub mod FusedApplies
 pub mod Counting
 pub mod Whole

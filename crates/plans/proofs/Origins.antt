@@ -9,15 +9,15 @@ use Rattle.plans.specs.Fusing.{EdgeApplyTree, VertexApplyTree, edge_apply_of, ve
 use Rattle.plans.specs.Plan.{behind, behind_all, in_loop, main_depth, plain, loop_step, chosen, size_in, plan_in, size, size_all, plan, plan_all, plan_of}
 use Rattle.plans.specs.Choices.{StandsIn, StandsInside, first_apply, ComesFrom, GoBySchedule}
 
-abbrev AllOf : (InstructionTree → Type 0) → List InstructionTree → Type 0
+abbrev pub AllOf : (InstructionTree → Type 0) → List InstructionTree → Type 0
 AllOf P [] = Unit {0}
 AllOf P (i ∷ is) = P i × AllOf P is
 
-all_append : (P : InstructionTree → Type 0) (a b : List InstructionTree) → AllOf P a → AllOf P b → AllOf P (a ++ b)
+pub all_append : (P : InstructionTree → Type 0) (a b : List InstructionTree) → AllOf P a → AllOf P b → AllOf P (a ++ b)
 all_append P [] b h k = k
 all_append P (i ∷ a) b h k = (h.0, all_append P a b h.1 k)
 
-all_at : (P : InstructionTree → Type 0) (is : List InstructionTree) (place : ℕ) (i : InstructionTree) → AllOf P is → slice_get is place ≡ Some i → P i
+pub all_at : (P : InstructionTree → Type 0) (is : List InstructionTree) (place : ℕ) (i : InstructionTree) → AllOf P is → slice_get is place ≡ Some i → P i
 all_at P [] place i h at = let bad : None ≡ Some i = at in cc
 all_at P (x ∷ xs) zero i h at = let same : x ≡ i = cc in subst P same h.0
 all_at P (x ∷ xs) (suc n) i h at = all_at P xs n i h.1 at

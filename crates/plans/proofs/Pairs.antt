@@ -21,6 +21,10 @@ use Rattle.plans.proofs.Joined.{IsFaultless, DoesBoth, IsGoodCompany}
 use Rattle.plans.proofs.VertexPairs.{both_at_each}
 use Rattle.plans.proofs.EdgePairs.{after_part, edges_at_once}
 
+pub local_steps : (f : Option FunctionTree) → steps_are_local_where f ≡ true → steps_are_local (steps_of f) ≡ true
+local_steps None h = refl
+local_steps (Some f) h = h
+
 module _ (p : ProgramTree) (g : GraphValue) where
   -- the statement is this apply
   abbrev IsEdgeApply : ActionTree → Option EdgeApplyTree → Type 0
@@ -43,10 +47,6 @@ module _ (p : ProgramTree) (g : GraphValue) where
   is_vertex_apply : (a : ActionTree) → IsVertexApply a (vertex_apply_of a)
   is_vertex_apply (ApplyVertex set function) = record { alone = tt; means = λ number s. refl }
   is_vertex_apply a = tt
-
-  local_steps : (f : Option FunctionTree) → steps_are_local_where f ≡ true → steps_are_local (steps_of f) ≡ true
-  local_steps None h = refl
-  local_steps (Some f) h = h
 
   vertices_at_once : (x y : VertexApplyTree) (d : Depth) (turns : ℕ) (s : StateValue) → vertices_fit p x y ≡ true → IsProper d turns s
       → after_apply_both p x.set.place x.function y.function s ≡ after_vertex_apply y (after_vertex_apply x s)

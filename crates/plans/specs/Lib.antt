@@ -5,4 +5,6 @@ pub mod Machine
 pub mod Laws
 pub mod Bound
 pub mod Choices
+pub mod Fused
+pub mod Reducing
 pub mod Examples

@@ -9,6 +9,7 @@ ghost use Rattle.algorithm_meaning.specs.State.{GraphValue};
 ghost use Rattle.schedule.specs.Schedule.{ScheduleTree};
 ghost use Rattle.plans.specs.Choices.{GoBySchedule};
 ghost use Rattle.plans.specs.Examples.{HasPlanOfApartEdges, HasPlanOfEdgePair, HasPlanOfLoop, HasPlanOfModifyingPair, HasPlanOfSearch, HasPlanOfVertexPair};
+ghost use Rattle.plans.specs.Fused.{FusedFit};
 ghost use Rattle.plans.specs.Laws.{RunsAs, StepsLowerTheBound};
 ghost use Rattle.plans.specs.Plan.{plan_of};
 
@@ -30,6 +31,12 @@ pub fn steps_lower_their_bound()
 /// label. Two that are done together go by what the schedule says of the first.
 pub fn edge_applies_go_by_the_schedule()
     ensures { (p : ProgramTree) (s : ScheduleTree) → GoBySchedule p.main s (plan_of p s) }
+{}
+
+/// Two edge functions that a plan applies together write no vector both. Of two vertex functions that it applies
+/// together, at vertices that ascend, it is one whether both run at each vertex, or the first at all and then the second.
+pub fn fused_applies_fit()
+    ensures { (p : ProgramTree) (s : ScheduleTree) → FusedFit p (plan_of p s) }
 {}
 
 /// Plans of examples, instruction by instruction: a breadth-first search, a loop with a choice in it and another behind

@@ -11,7 +11,8 @@
 //! of a loop that runs a plan. The law needs no premise, neither that the program is checked nor that the schedule is accepted:
 //! two applies are done together only where they fit, a `for` keeps its value and its bound beside the variables, and
 //! what is outside a list reads as 0 or as nothing, as in the meaning. `specs/Choices.antt` says by what the edge applies of
-//! a plan go, and `specs/Examples.antt` has plans whole.
+//! a plan go, `specs/Fused.antt` what holds of two applies that are done together, and `specs/Examples.antt` has plans whole.
+//! `specs/Reducing.antt` says what an engine needs of edge applies: each vector gets numbers by one reduction.
 //!
 //! The crate has no code that computes: its types and definitions are for the lowering, which makes plans, and for the
 //! runner, which runs them. The simulation in the proofs goes by the tree, as that of a compiler to a machine with jumps
@@ -23,6 +24,6 @@ mod laws;
 
 pub use depth::{Counter, Depth};
 pub use laws::{
-    edge_applies_go_by_the_schedule, examples_have_their_plans, plans_do_what_programs_do,
-    steps_lower_their_bound,
+    edge_applies_go_by_the_schedule, examples_have_their_plans, fused_applies_fit,
+    plans_do_what_programs_do, steps_lower_their_bound,
 };

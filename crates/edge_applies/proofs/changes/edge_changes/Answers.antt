@@ -2,7 +2,7 @@ use Rattle.std.proofs.Common.{sym, subst, slice_get, IfOk, Ok, Err, Result}
 use Rattle.algorithm_meaning.specs.EdgeApply.{passes}
 use Rattle.algorithm_meaning.specs.Function.{steps_of}
 use Rattle.kernels.specs.Kernels.{IsEdgeKernel}
-use Rattle.edge_applies.specs.Applied.{places_of, steps_at}
+use Rattle.plans.specs.Reducing.{places_of, steps_at}
 use Rattle.edge_applies.proofs.Applied.{changes_are_meant}
 use Rattle.edge_applies.proofs.changes.edge_changes.Goals as goal
 

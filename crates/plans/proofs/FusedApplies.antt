@@ -1,0 +1,140 @@
+-- Two applies that a plan does together fit.
+use Rattle.std.proofs.Common.{◌≡◌, ℕ, ◌+◌, nat_eq, ◌&&◌, Bool, true, false, if◌then◌else◌, List, [], ◌∷◌, Option, Some, None, slice_get, refl, arith}
+use Rattle.typed_tree.specs.BlockTree.{ActionTree, DeclareInteger, DeclareCondition, SetInteger, SetCondition, ReduceInteger, SetEntry, ReduceEntry, DeclareSet, AssignSet, AddVertex, PrintInteger, PrintCondition, ApplyVertex, ApplyEdges, If, IfElse, While, For, BlockTree, Empty, Then}
+use Rattle.typed_tree.specs.ProgramTree.{ProgramTree}
+use Rattle.algorithm_meaning.specs.Function.{steps_of}
+use Rattle.schedule.specs.Schedule.{ScheduleTree, choice_at}
+use Rattle.schedule.proofs.Uses.{of_and}
+use Rattle.plans.specs.declared.depth.Depth.{Depth}
+use Rattle.plans.specs.Instruction.{OperationTree, ApplyEdgesTogether, ApplyVerticesTogether, Advance, Jump, End, InstructionTree}
+use Rattle.plans.specs.Fusing.{EdgeApplyTree, VertexApplyTree, edge_apply_of, vertex_apply_of, function_is_local, edges_fit, vertices_fit, edges_together, vertices_together, either, together, is_with, Company, Alone, WithNext, WithPrevious, with_next, company_of, takes_next}
+use Rattle.plans.specs.Plan.{behind, behind_all, in_loop, main_depth, plain, loop_step, size_in, plan_in, size, size_all, plan, plan_all, plan_of}
+use Rattle.plans.specs.Fused.{FitTogether, FusedFit}
+use Rattle.plans.proofs.Ascending.{ascends_increasing}
+use Rattle.plans.proofs.VertexPairs.{both_at_each}
+use Rattle.plans.proofs.EdgePairs.{writes_fit}
+use Rattle.plans.proofs.Pairs.{local_steps}
+use Rattle.plans.proofs.Origins.{AllOf, all_append, all_at}
+
+module _ (p : ProgramTree) where
+  abbrev FitsIf : Option OperationTree → Type 0
+  FitsIf None = Unit {0}
+  FitsIf (Some operation) = FitTogether p operation
+
+  abbrev CompanyFits : Company → Type 0
+  CompanyFits Alone = Unit {0}
+  CompanyFits (WithNext operation) = FitTogether p operation
+  CompanyFits WithPrevious = Unit {0}
+
+  vertices_apart : (x y : VertexApplyTree) → vertices_fit p x y ≡ true → FitTogether p (ApplyVerticesTogether x.set x.function y.function)
+  vertices_apart x y fit m vs vectors up =
+      let fits = of_and (nat_eq x.set.place y.set.place) (function_is_local p.vertex_functions x.function && function_is_local p.vertex_functions y.function) fit in
+      let local = of_and (function_is_local p.vertex_functions x.function) (function_is_local p.vertex_functions y.function) fits.1 in
+      both_at_each (steps_of (slice_get p.vertex_functions x.function)) (steps_of (slice_get p.vertex_functions y.function))
+      (local_steps (slice_get p.vertex_functions x.function) local.0) (local_steps (slice_get p.vertex_functions y.function) local.1)
+      0 m vs vectors (ascends_increasing 0 vs (omega arith) up)
+
+  edges_if : (d : Depth) (x y : EdgeApplyTree) (fits : Bool) → edges_fit p d x y ≡ fits → FitsIf (if fits then Some (ApplyEdgesTogether x.ends x.part y.part) else None)
+  edges_if d x y true e = writes_fit p d x y e
+  edges_if d x y false e = tt
+
+  vertices_if : (x y : VertexApplyTree) (fits : Bool) → vertices_fit p x y ≡ fits → FitsIf (if fits then Some (ApplyVerticesTogether x.set x.function y.function) else None)
+  vertices_if x y true e = vertices_apart x y e
+  vertices_if x y false e = tt
+
+  edges_together_fit : (d : Depth) (a b : Option EdgeApplyTree) → FitsIf (edges_together p d a b)
+  edges_together_fit d None b = tt
+  edges_together_fit d (Some x) None = tt
+  edges_together_fit d (Some x) (Some y) = edges_if d x y (edges_fit p d x y) refl
+
+  vertices_together_fit : (a b : Option VertexApplyTree) → FitsIf (vertices_together p a b)
+  vertices_together_fit None b = tt
+  vertices_together_fit (Some x) None = tt
+  vertices_together_fit (Some x) (Some y) = vertices_if x y (vertices_fit p x y) refl
+
+  either_fits : (a b : Option OperationTree) → FitsIf a → FitsIf b → FitsIf (either a b)
+  either_fits None b h k = k
+  either_fits (Some operation) b h k = h
+
+  fused_fits : (fused : Bool) (o : Option OperationTree) → FitsIf o → CompanyFits (if fused then with_next o else Alone)
+  fused_fits true None h = tt
+  fused_fits true (Some operation) h = h
+  fused_fits false o h = tt
+
+  company_fits : (s : ScheduleTree) (d : Depth) (is_done : Bool) (label : Option ℕ) (a : ActionTree) (rest : BlockTree) → CompanyFits (company_of p s d is_done label a rest)
+  company_fits s d true label a rest = tt
+  company_fits s d false label a Empty = tt
+  company_fits s d false label a (Then number other b rest) =
+      fused_fits (is_with (choice_at label s).fused other) (together p d a b)
+      (either_fits (edges_together p d (edge_apply_of a) (edge_apply_of b)) (vertices_together p (vertex_apply_of a) (vertex_apply_of b))
+      (edges_together_fit d (edge_apply_of a) (edge_apply_of b)) (vertices_together_fit (vertex_apply_of a) (vertex_apply_of b)))
+
+module _ (p : ProgramTree) (s : ScheduleTree) where
+  abbrev Fits : InstructionTree → Type 0
+  Fits i = FitTogether p i.operation
+
+  in_company : (company : Company) (number : ℕ) (label : Option ℕ) (d : Depth) (is : List InstructionTree) → CompanyFits p company → AllOf Fits is
+      → AllOf Fits (plan_in company s number label d is)
+  in_company Alone number label d is fits own = own
+  in_company (WithNext operation) number label d is fits own = (fits, tt)
+  in_company WithPrevious number label d is fits own = tt
+
+  mutual
+    -- what a statement, and what a block does together fits
+    action_fits : (a : ActionTree) (place number : ℕ) (label : Option ℕ) (d : Depth) → AllOf Fits (plan p s place d number label a)
+    action_fits (DeclareInteger name e) place number label d = (tt, tt)
+    action_fits (DeclareCondition name c) place number label d = (tt, tt)
+    action_fits (SetInteger slot e) place number label d = (tt, tt)
+    action_fits (SetCondition slot c) place number label d = (tt, tt)
+    action_fits (ReduceInteger slot reduction e) place number label d = (tt, tt)
+    action_fits (SetEntry vector index e) place number label d = (tt, tt)
+    action_fits (ReduceEntry vector index reduction e) place number label d = (tt, tt)
+    action_fits (DeclareSet name set) place number label d = (tt, tt)
+    action_fits (AssignSet slot set) place number label d = (tt, tt)
+    action_fits (AddVertex slot e) place number label d = (tt, tt)
+    action_fits (PrintInteger e) place number label d = (tt, tt)
+    action_fits (PrintCondition c) place number label d = (tt, tt)
+    action_fits (ApplyVertex set function) place number label d = (tt, tt)
+    action_fits (ApplyEdges ends function) place number label d = (tt, tt)
+    action_fits (If c body) place number label d = (tt, block_fits body false (place + 1) d)
+    action_fits (IfElse c body others) place number label d =
+        let to = place + 1 + size_all p s d false body + 1 in (
+          tt,
+          all_append Fits (plan_all p s (place + 1) d false body) (plain number d (Jump (to + size_all p s d false others)) ∷ plan_all p s to d false others)
+              (block_fits body false (place + 1) d) (tt, block_fits others false to d),
+        )
+    action_fits (While c body) place number label d = (
+      tt,
+      (tt, all_append Fits (plan_all p s (place + 2) d false body) (plain number d (Jump place) ∷ []) (block_fits body false (place + 2) d) (tt, tt)),
+    )
+    action_fits (For name first end body) place number label d =
+        let deep = in_loop d in (
+          tt,
+          (
+            tt,
+            (
+              tt,
+              (
+                tt,
+                all_append Fits (plan_all p s (place + 4) deep false body) (plain number d (Advance name) ∷ loop_step number deep d (Jump (place + 2)) ∷ [])
+                    (block_fits body false (place + 4) deep) (tt, (tt, tt)),
+              ),
+            ),
+          ),
+        )
+
+    block_fits : (b : BlockTree) (is_done : Bool) (place : ℕ) (d : Depth) → AllOf Fits (plan_all p s place d is_done b)
+    block_fits Empty is_done place d = tt
+    block_fits (Then number label action rest) is_done place d =
+        let company = company_of p s d is_done label action rest in
+        let own = plan p s place d number label action in
+        let n = size_in company (size p s d action) in
+        all_append Fits (plan_in company s number label d own) (plan_all p s (place + n) (behind action d) (takes_next company) rest)
+        (in_company company number label d own (company_fits p s d is_done label action rest) (action_fits action place number label d))
+        (block_fits rest (takes_next company) (place + n) (behind action d))
+
+pub fused_fit : (p : ProgramTree) (s : ScheduleTree) → FusedFit p (plan_of p s)
+fused_fit p s place i at =
+    let d = main_depth p in
+    let last = plain 0 (behind_all p.main d) End ∷ [] in
+    all_at (Fits p s) (plan_of p s) place i (all_append (Fits p s) (plan_all p s 0 d false p.main) last (block_fits p s p.main false 0 d) (tt, tt)) at

@@ -1,0 +1,5 @@
+use Rattle.plans.proofs.FusedApplies.{fused_fit}
+use Rattle.plans.proofs.laws.fused_applies_fit.Goals as goal
+
+pub returns : goal.returns
+returns c = fused_fit
