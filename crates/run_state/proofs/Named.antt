@@ -1,6 +1,6 @@
 -- Vertex sets with their names and their sizes.
 use Rattle.std.proofs.Common.{◌≡◌, ℕ, zero, suc, ◌+◌, ◌<◌, ℤ, List, [], ◌∷◌, ◌++◌, length, map, take, drop, set, get_or, slice_get, Some, ap, sym, ◌∙◌, refl, subst, arith}
-use Rattle.std.proofs.lemmas.List.{length-append, length-set, length-take, map-append, map-set, take-map}
+use Rattle.std.proofs.lemmas.List.{length-append, length-map, length-set, length-take, map-append, map-set, take-map}
 use Rattle.algorithm_meaning.specs.Value.{members_of}
 use Rattle.algorithm_meaning.specs.VertexSets.{with_members, with_new_set}
 use Rattle.vertex_sets.specs.VertexSet.{IsAscendingBelow, VertexSubset}
@@ -52,6 +52,12 @@ named_members (x ∷ ns) [] place h = absurd (omega (arith, h))
 named_members (x ∷ ns) (y ∷ ms) zero h = refl
 named_members (x ∷ ns) (y ∷ ms) (suc place) h = named_members ns ms place (omega (arith, h))
 
+pub named_length : (ns : List ℕ) (ms : List VertexSubset) → length ns ≡ length ms → length ms ≡ length (named ns ms).sets
+named_length [] [] h = refl
+named_length [] (y ∷ ms) h = absurd (omega (arith, h))
+named_length (x ∷ ns) [] h = absurd (omega (arith, h))
+named_length (x ∷ ns) (y ∷ ms) h = ap suc (named_length ns ms (omega (arith, h)))
+
 no_members : (n : ℕ) → IsAscendingBelow n []
 no_members n = ascending_below n [] tt (λ v is. absurd (contains_nothing v is))
 
@@ -100,6 +106,9 @@ pub found_ascending : (n : ℕ) (ms : List VertexSubset) (place : ℕ) (m : Vert
 found_ascending n [] place m e each = absurd (cc)
 found_ascending n (y ∷ ms) zero m e each = let same : y ≡ m = cc in subst (λ (s : VertexSubset). IsAscendingBelow n s.members) same each.1
 found_ascending n (y ∷ ms) (suc place) m e each = found_ascending n ms place m e each.2
+
+pub measured_length : (n : ℕ) (ns : List ℕ) (ms : List VertexSubset) (zs : List ℤ) → AreNamed n ns ms zs → length zs ≡ length ms
+measured_length n ns ms zs are = ap (λ (xs : List ℤ). length xs) are.measured ∙ length-map ms (λ (set : VertexSubset). size_of set.members)
 
 pub pushed : (n : ℕ) (ns : List ℕ) (ms : List VertexSubset) (zs : List ℤ) → AreNamed n ns ms zs → (name : ℕ) (m : VertexSubset) (z : ℤ) → m.vertices ≡ n → IsAscendingBelow n m.members → z ≡ size_of m.members
     → AreNamed n (ns ++ name ∷ []) (ms ++ m ∷ []) (zs ++ z ∷ [])

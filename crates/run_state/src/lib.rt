@@ -6,8 +6,7 @@
 //! a name up, and one that runs out of memory leaves the state as it was.
 //!
 //! Expressions, vertex functions and filters come as kernels. An edge apply stands outside: it reads what
-//! [`State::view`] lends, [`State::write`] writes what it found, and [`State::put_set`] and [`State::replace_set`] take
-//! the sets that it makes.
+//! [`State::view`] lends, [`State::write`] writes what it found, and [`State::take_both`] takes the sets that it makes.
 //!
 //! The runner stands on it.
 #![tactic(auto)]
@@ -17,7 +16,9 @@ mod named_sets;
 mod opening;
 mod show;
 mod state;
+mod taken;
 mod text;
 mod vertices;
 
 pub use state::State;
+pub use taken::Taken;

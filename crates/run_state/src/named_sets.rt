@@ -1,5 +1,5 @@
 //! The vertex sets of a run, with their names and their sizes.
-ghost use Rattle.std.specs.Prelude.{◌≡◌, ◌<◌, ℕ, length, map, slice_get, take, IfOk, IfSome, OnErr, OnOk};
+ghost use Rattle.std.specs.Prelude.{◌≡◌, ◌<◌, ◌≤◌, ◌+◌, ℕ, length, map, slice_get, take, vec_capacity, vec_len, IfOk, IfSome, OnErr, OnOk};
 ghost use Rattle.std.specs.Option.{option_copied};
 ghost use Rattle.algorithm_meaning.specs.Shown.{named_set};
 ghost use Rattle.algorithm_meaning.specs.State.{GraphValue};
@@ -8,9 +8,11 @@ ghost use Rattle.algorithm_meaning.specs.Value.{members_of};
 ghost use Rattle.algorithm_meaning.specs.VertexSets.{inserted, with_members, with_new_set};
 ghost use Rattle.edge_applies.specs.View.{members_in};
 ghost use Rattle.vertex_sets.specs.VertexSet.{IsVertexSet};
-ghost use Rattle.run_state.specs.NamedSets.{size_of as size};
+ghost use Rattle.run_state.specs.NamedSets.{AreNamed, named, size_of as size};
+ghost use Rattle.run_state.specs.Taken.{IsTakenOf, with_taken};
 
 use crate::show::{first, name_sets};
+use crate::taken::Taken;
 use algorithm_meaning::NamedSet;
 use std::alloc::{AllocError, Global};
 use std::marker::Model;
@@ -127,13 +129,36 @@ impl NamedSets {
         name_sets(alloc, names, set_names, first(&self.members, count))
     }
 
-    /// Makes room for so many more sets. Their list stays. The only error is out of memory.
-    pub(crate) fn reserve(&mut self, count: usize) -> Result<(), AllocError>
-        ensures { self.new ≡ self.old }
+    /// How many sets there are.
+    pub(crate) fn len(&self) -> usize
+        ensures { result ≡ length self.now.state.sets }
     {
-        self.names.reserve(count)?;
-        self.members.reserve(count)?;
-        self.sizes.reserve(count)
+        self.members.len()
+    }
+
+    /// Takes two sets, one after the other. The only error is out of memory, and then nothing is changed.
+    pub(crate) fn take_both(&mut self, first: Taken, second: Taken) -> Result<(), AllocError>
+        requires first { IsTakenOf self.old.vertices first }
+        requires second { IsTakenOf self.old.vertices second }
+        ensures ok { OnOk result (self.new ≡ with_state self.old (with_taken (with_taken self.old.state first) second)) }
+        ensures err { OnErr result (self.new ≡ self.old) }
+    {
+        self.names.reserve(2)?;
+        self.members.reserve(2)?;
+        self.sizes.reserve(2)?;
+        take_set(
+            &mut self.names,
+            &mut self.members,
+            &mut self.sizes,
+            first,
+        );
+        take_set(
+            &mut self.names,
+            &mut self.members,
+            &mut self.sizes,
+            second,
+        );
+        Ok(())
     }
 
     /// Appends a set of as many vertices. The only error is out of memory, and then nothing is changed.
@@ -193,4 +218,38 @@ fn size_of(set: &VertexSet) -> i64
 {
     let _vertices = set.vertices();
     set.len() as i64
+}
+
+/// Takes a set into names, sets and their sizes, which have room for one more.
+fn take_set(
+    names: &mut Vec<usize>,
+    members: &mut Vec<VertexSet>,
+    sizes: &mut Vec<i64>,
+    taken: Taken,
+)
+    requires names { vec_len names.old < vec_capacity names.old }
+    requires members { vec_len members.old < vec_capacity members.old }
+    requires sizes { vec_len sizes.old < vec_capacity sizes.old }
+    requires counted { length names.old.items ≡ length members.old.items }
+    requires measured { length sizes.old.items ≡ length members.old.items }
+    ensures sets { named names.new.items members.new.items ≡ with_taken (named names.old.items members.old.items) taken }
+    ensures are { (n : ℕ) → AreNamed n names.old.items members.old.items sizes.old.items → IsTakenOf n taken → AreNamed n names.new.items members.new.items sizes.new.items }
+    ensures names_room { vec_capacity names.old + vec_len names.new ≤ vec_capacity names.new + vec_len names.old + 1 }
+    ensures members_room { vec_capacity members.old + vec_len members.new ≤ vec_capacity members.new + vec_len members.old + 1 }
+    ensures sizes_room { vec_capacity sizes.old + vec_len sizes.new ≤ vec_capacity sizes.new + vec_len sizes.old + 1 }
+{
+    match taken {
+        Taken::Nothing => {}
+        Taken::New { name, set } => {
+            names.push_reserved(name);
+            sizes.push_reserved(size_of(&set));
+            members.push_reserved(set);
+        }
+        Taken::Other { place, set } => {
+            if place < members.len() {
+                sizes[place] = size_of(&set);
+                members[place] = set;
+            }
+        }
+    }
 }

@@ -1,5 +1,5 @@
 //! The state of a run, and its calls.
-ghost use Rattle.std.specs.Prelude.{◌≡◌, ℕ, ◌+◌, ◌<◌, ◌≤◌, Bool, length, slice_get, IfOk, IfSome, IsSomeAnd, IsTrue, MatchBool, OnErr, OnOk, None, option_and_then};
+ghost use Rattle.std.specs.Prelude.{◌≡◌, ℕ, pos, ◌+◌, ◌<◌, ◌≤◌, Bool, length, slice_get, slice_index_or, IfOk, IfSome, IsSomeAnd, IsTrue, MatchBool, OnErr, OnOk, None, option_and_then};
 ghost use Rattle.std.specs.Option.{ForSome};
 ghost use Rattle.typed_tree.specs.IntegerTree.{IntegerTree};
 ghost use Rattle.typed_tree.specs.ConditionTree.{ConditionTree};
@@ -26,12 +26,14 @@ ghost use Rattle.instructions.specs.Operation.{IsFor};
 ghost use Rattle.edge_applies.specs.Applied.{HasEntryForEach};
 ghost use Rattle.edge_applies.specs.View.{IsViewOf};
 ghost use Rattle.run_state.specs.State.{IsRunState, RunState, opened, with_state};
+ghost use Rattle.run_state.specs.Taken.{IsTakenOf, with_taken};
 ghost use Rattle.run_state.specs.VertexKernels.{IsVertexKernel};
 
 use crate::filtering::filtered;
 use crate::named_sets::NamedSets;
 use crate::opening::open_vectors;
 use crate::show::{first, name_vectors};
+use crate::taken::Taken;
 use crate::text::{push_condition_line, push_integer_line};
 use crate::vertices::run_for_all;
 use algorithm_meaning::{End, Outcome, reduce};
@@ -116,6 +118,7 @@ impl State {
         ensures vertices { result ≡ self.now.vertices }
         ensures valid { IsRunState self.now }
     {
+        // A proof reads the invariant here.
         let _vectors = &self.vectors;
         self.sets.vertices()
     }
@@ -125,6 +128,34 @@ impl State {
         ensures { result ≡ self.now.state.turns }
     {
         self.turns
+    }
+
+    /// How many variables and sets are visible.
+    pub fn depth(&self) -> Depth
+        ensures { forgotten result self.now.state ≡ self.now.state }
+    {
+        Depth {
+            integers: self.integers.len(),
+            conditions: self.conditions.len(),
+            sets: self.sets.len(),
+        }
+    }
+
+    /// The `int` variable at a place, 0 where there is none.
+    pub fn integer(&self, place: usize) -> i64
+        ensures { result ≡ slice_index_or self.now.state.scope.integers place (pos 0) }
+    {
+        match self.integers.get(place) {
+            Some(n) => *n,
+            None => 0,
+        }
+    }
+
+    /// How many vectors there are.
+    pub fn vector_count(&self) -> usize
+        ensures { result ≡ length self.now.state.vectors }
+    {
+        self.vector_count
     }
 
     /// Forgets the variables and sets that are beyond this. It takes no memory.
@@ -293,7 +324,7 @@ impl State {
 
     /// Takes a turn, or says false where none is left, and then nothing is changed.
     pub fn take_turn(&mut self) -> bool
-        ensures turn { MatchBool result (self.old.state.turns ≡ self.new.state.turns + 1) (self.old.state.turns ≡ 0) }
+        ensures turn { MatchBool result (self.old.state.turns ≡ self.new.state.turns + 1) ((self.old.state.turns ≡ 0) × (self.new.state.turns ≡ 0)) }
         ensures state { self.new ≡ with_state self.old (record self.old.state { turns = self.new.state.turns }) }
     {
         if self.turns == 0 {
@@ -392,8 +423,8 @@ impl State {
         second: Option<&VertexKernel>,
         block: &mut Block,
     ) -> Result<(), AllocError>
-        requires first { IsVertexKernel first.now }
-        requires second { ForSome second (λ k. IsVertexKernel k.now) }
+        requires first { ∥ IsVertexKernel first.now ∥₁ }
+        requires second { ForSome second (λ k. ∥ IsVertexKernel k.now ∥₁) }
         ensures one { OnOk result ((steps : StepsTree) → IsVertexCode first.now.code.items steps → second.entry ≡ None
             → self.new ≡ with_state self.old (with_vectors self.old.state
             (after_vertices steps self.old.state.sets (members_of (slice_get self.old.state.sets set)) self.old.state.vectors))) }
@@ -420,7 +451,7 @@ impl State {
 
     /// The same of one function, for which the block has room.
     fn apply(&mut self, set: usize, kernel: &VertexKernel, block: &mut Block)
-        requires known { IsVertexKernel kernel.now }
+        requires known { ∥ IsVertexKernel kernel.now ∥₁ }
         requires room { HasCells block.old kernel.now.room }
         ensures applied { (steps : StepsTree) → IsVertexCode kernel.now.code.items steps
             → self.new ≡ with_state self.old (with_vectors self.old.state
@@ -445,6 +476,7 @@ impl State {
         ensures entries { HasEntryForEach self.now.vertices self.now.state.vectors }
         ensures valid { IsRunState self.now }
     {
+        // A proof reads the invariant here.
         let _ = self.vertices();
         RunView {
             functions,
@@ -462,29 +494,14 @@ impl State {
         self.vectors.write(changes);
     }
 
-    /// Makes room for two more sets. The only error is out of memory; the state stays as it is.
-    pub fn reserve_sets(&mut self) -> Result<(), AllocError>
-        ensures { self.new ≡ self.old }
-    {
-        self.sets.reserve(2)
-    }
-
-    /// A new set variable of this name that is this set. The only error is out of memory, and then nothing is changed; it
-    /// takes no memory where room was made.
-    pub fn put_set(&mut self, name: usize, set: VertexSet) -> Result<(), AllocError>
-        requires { set.vertices ≡ self.old.vertices }
-        ensures ok { OnOk result (self.new ≡ with_state self.old (with_new_set self.old.state name set.members)) }
+    /// Takes two sets, one after the other. The only error is out of memory, and then nothing is changed.
+    pub fn take_both(&mut self, first: Taken, second: Taken) -> Result<(), AllocError>
+        requires first { IsTakenOf self.old.vertices first }
+        requires second { IsTakenOf self.old.vertices second }
+        ensures ok { OnOk result (self.new ≡ with_state self.old (with_taken (with_taken self.old.state first) second)) }
         ensures err { OnErr result (self.new ≡ self.old) }
     {
-        self.sets.push(name, set)
-    }
-
-    /// The set variable at a place becomes this set; where there is none nothing is changed.
-    pub fn replace_set(&mut self, place: usize, set: VertexSet)
-        requires { set.vertices ≡ self.old.vertices }
-        ensures { self.new ≡ with_state self.old (with_members self.old.state place set.members) }
-    {
-        self.sets.replace(place, set);
+        self.sets.take_both(first, second)
     }
 
     /// What a run shows that began with so many turns and ended so: its vectors by these names, and the sets that are

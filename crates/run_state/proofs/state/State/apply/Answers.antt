@@ -8,6 +8,8 @@ use Rattle.run_state.specs.NamedSets.{HaveLength, run_state}
 use Rattle.run_state.specs.State.{RunState, with_state}
 use Rattle.run_state.proofs.Lengths.{after_apply}
 use Rattle.run_state.proofs.Runs.{has_sizes}
+use denote.Struct.Props.{props}
+use Rattle.std.proofs.Math.Logic.{∥∥₁_elim}
 use Rattle.run_state.proofs.state.State.apply.Goals as goal
 
 pub invariant_of-self : goal.invariant_of-self
@@ -15,9 +17,9 @@ invariant_of-self c =
     let s = c.self.inside in
     let m : StateValue = record s.sets.state { vectors = s.vectors.vectors } in
     let has : HasSizes c.sizes.result.now m = subst (λ (zs : List ℤ). HasSizes zs m) (sym c.sizes.ensures) (has_sizes m) in
-    let known = c.requires.known in
+    ∥∥₁_elim c.requires.known (hlevel props) (λ known.
     subst (HaveLength s.vector_count s.sets.vertices) (sym (c.run_for_all.ensures.vectors known.steps m known.code refl has))
-    (after_apply s.vector_count s.sets.vertices m c.sizes.result.now c.args.kernel.now.code.items known.steps has known.code c.iter.result s.vectors.vectors c.self.invariant)
+    (after_apply s.vector_count s.sets.vertices m c.sizes.result.now c.args.kernel.now.code.items known.steps has known.code c.iter.result s.vectors.vectors c.self.invariant))
 
 pub returns-in-Some-clause-applied : goal.returns-in-Some-clause-applied
 returns-in-Some-clause-applied c = λ steps code.
