@@ -146,18 +146,8 @@ impl NamedSets {
         self.names.reserve(2)?;
         self.members.reserve(2)?;
         self.sizes.reserve(2)?;
-        take_set(
-            &mut self.names,
-            &mut self.members,
-            &mut self.sizes,
-            first,
-        );
-        take_set(
-            &mut self.names,
-            &mut self.members,
-            &mut self.sizes,
-            second,
-        );
+        take_set(&mut self.names, &mut self.members, &mut self.sizes, first);
+        take_set(&mut self.names, &mut self.members, &mut self.sizes, second);
         Ok(())
     }
 
