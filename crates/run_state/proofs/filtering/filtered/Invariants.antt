@@ -1,0 +1,22 @@
+use Rattle.std.proofs.Common.{◌≡◌, ◌++◌, length}
+use Rattle.std.specs.List.{filter}
+use Rattle.typed_tree.specs.StepTree.{StepsTree}
+use Rattle.algorithm_meaning.specs.Filter.{result_of}
+use Rattle.algorithm_meaning.specs.State.{StateValue}
+use Rattle.stack_code.specs.Cells.{HasSizes}
+use Rattle.kernels.specs.Kernels.{HasCells, IsFilterKernel}
+use Rattle.run_state.proofs.Passed.{Ascends}
+use Rattle.run_state.proofs.filtering.filtered.Given as goal
+
+-- what is kept, and what passes of the rest, are all that pass
+abbrev pub invariant-parts : goal.invariant-parts
+invariant-parts l = record {
+  size : length l.part ≡ 128;
+  ascending : Ascends l.set.vertices 0 (l.kept.items ++ l.left);
+  room : HasCells l.block l.kernel.room;
+  passed : (steps : StepsTree) (m : StateValue) → IsFilterKernel l.kernel steps → l.vectors.vectors ≡ m.vectors → HasSizes l.sizes m
+      → l.kept.items ++ filter (result_of steps m.sets m.vectors) l.left ≡ filter (result_of steps m.sets m.vectors) l.set.members;
+}
+
+abbrev pub decreases-parts : goal.decreases-parts
+decreases-parts l = length l.left

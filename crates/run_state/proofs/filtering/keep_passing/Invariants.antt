@@ -1,0 +1,7 @@
+use Rattle.std.proofs.Common.{◌≡◌, ◌++◌, drop}
+use Rattle.run_state.specs.Passing.{passing}
+use Rattle.run_state.proofs.filtering.keep_passing.Given as goal
+
+-- what is kept, and what still passes, are all that passes
+abbrev pub invariant-places : goal.invariant-places
+invariant-places l = l.kept.items ++ passing l.block l.place (drop l.place l.part) ≡ l.fn.kept.items ++ passing l.block 0 l.part

@@ -1,0 +1,10 @@
+use Rattle.std.proofs.Common.{◌≡◌, ◌++◌, map, drop}
+use Rattle.algorithm_meaning.specs.Shown.{named_set}
+use Rattle.run_state.specs.NamedSets.{named}
+use Rattle.run_state.proofs.show.name_sets.Given as goal
+
+-- what is named, and what is still to be, are all
+abbrev pub invariant-sets : goal.invariant-sets
+invariant-sets l =
+    l.shown.items ++ map (named_set l.names) (named (drop l.place l.set_names) (drop l.place l.sets)).sets
+    ≡ map (named_set l.names) (named l.set_names l.sets).sets

@@ -1,0 +1,23 @@
+use Rattle.std.proofs.Common.{◌≡◌, length}
+use Rattle.typed_tree.specs.StepTree.{StepsTree}
+use Rattle.algorithm_meaning.specs.State.{StateValue}
+use Rattle.algorithm_meaning.specs.VertexApply.{after_vertices}
+use Rattle.stack_code.specs.Cells.{HasSizes}
+use Rattle.stack_code.specs.Meaning.{IsVertexCode}
+use Rattle.stack_code.specs.declared.room.Room.{Room}
+use Rattle.kernels.specs.Kernels.{HasCells}
+use Rattle.vertex_sets.proofs.Ascending.{Rises}
+use Rattle.run_state.proofs.vertices.run_for_all.Given as goal
+
+-- what is left to do comes to what was to be done
+abbrev pub invariant-parts : goal.invariant-parts
+invariant-parts l = record {
+  size : length l.part ≡ 128;
+  ascending : Rises 0 l.left;
+  keeps : (other : Room) → HasCells l.fn.block other → HasCells l.block other;
+  rest : (steps : StepsTree) (m : StateValue) → IsVertexCode l.kernel.code.items steps → l.fn.vectors.vectors ≡ m.vectors → HasSizes l.sizes m
+      → after_vertices steps m.sets l.left l.vectors.vectors ≡ after_vertices steps m.sets l.fn.vertices m.vectors;
+}
+
+abbrev pub decreases-parts : goal.decreases-parts
+decreases-parts l = length l.left

@@ -1,0 +1,5 @@
+pub mod State
+pub mod Taken
+pub mod NamedSets
+pub mod Passing
+pub mod VertexKernels

@@ -1,0 +1,40 @@
+-- The state of a run.
+use Rattle.std.specs.Prelude.{◌≡◌, ℕ, ◌<◌, List, [], length, map, slice_get, slice_index_or}
+use Rattle.typed_tree.specs.declared.program.Vector.{Vector}
+use Rattle.algorithm_meaning.specs.State.{GraphValue, StateValue, main_scope}
+use Rattle.algorithm_meaning.specs.Value.{members_of}
+use Rattle.algorithm_meaning.specs.Meaning.{all_vertices, opening_entries}
+use Rattle.tree_batch.specs.Digraph.{Digraph}
+use Rattle.vertex_sets.specs.VertexSet.{IsAscendingBelow}
+
+-- what a run keeps: how many vertices there are, and the state of main
+pub record RunState : Type 0 where
+  pub vertices : ℕ
+  pub state : StateValue
+
+abbrev pub with_state : RunState → StateValue → RunState
+with_state r s = record r { state = s }
+
+-- each vector has an entry for each vertex, the members of each set are ascending vertices, and main works on no vertex
+pub record IsRunState (r : RunState) : Type 0 where
+  pub vectors : (x : ℕ) → x < length r.state.vectors → length (slice_index_or r.state.vectors x []) ≡ r.vertices
+  pub sets : (place : ℕ) → IsAscendingBelow r.vertices (members_of (slice_get r.state.sets place))
+  pub source : r.state.scope.source ≡ 0
+  pub destination : r.state.scope.destination ≡ 0
+
+-- a graph as the meaning has it
+abbrev pub graph_value : Digraph → GraphValue
+graph_value d = record { vertices = d.vertices; edges = d.edges }
+
+-- the state before the first statement, with these vectors and constant sets
+abbrev pub opened : Digraph → List Vector → (sets : List ℕ) → (turns : ℕ) → RunState
+opened d vectors sets turns = record {
+  vertices = d.vertices;
+  state = record {
+    vectors = map (λ v. opening_entries (graph_value d) v.beginning) vectors;
+    sets = map (all_vertices (graph_value d)) sets;
+    scope = main_scope;
+    text = [];
+    turns = turns;
+  };
+}

@@ -1,0 +1,24 @@
+//! What a run of a plan keeps.
+//!
+//! A [`State`] has the vectors of a run, its vertex sets with their names, the visible variables, what was printed, and
+//! the turns that are left. A contract sees the state of `main` as `algorithm_meaning` has it, and the number of vertices
+//! (`RunState` in `specs/State.antt`). Each call does to it what a statement, or a part of one, does there. No call looks
+//! a name up, and one that runs out of memory leaves the state as it was.
+//!
+//! Expressions, vertex functions and filters come as kernels. An edge apply stands outside: it reads what
+//! [`State::view`] lends, [`State::write`] writes what it found, and [`State::take_both`] takes the sets that it makes.
+//!
+//! The runner stands on it.
+#![tactic(auto)]
+
+mod filtering;
+mod named_sets;
+mod opening;
+mod show;
+mod state;
+mod taken;
+mod text;
+mod vertices;
+
+pub use state::State;
+pub use taken::Taken;

@@ -1,0 +1,245 @@
+//! The vertex sets of a run, with their names and their sizes.
+ghost use Rattle.std.specs.Prelude.{◌≡◌, ◌<◌, ◌≤◌, ◌+◌, ℕ, length, map, slice_get, take, vec_capacity, vec_len, IfOk, IfSome, OnErr, OnOk};
+ghost use Rattle.std.specs.Option.{option_copied};
+ghost use Rattle.algorithm_meaning.specs.Shown.{named_set};
+ghost use Rattle.algorithm_meaning.specs.State.{GraphValue};
+ghost use Rattle.algorithm_meaning.specs.Meaning.{all_vertices};
+ghost use Rattle.algorithm_meaning.specs.Value.{members_of};
+ghost use Rattle.algorithm_meaning.specs.VertexSets.{inserted, with_members, with_new_set};
+ghost use Rattle.edge_applies.specs.View.{members_in};
+ghost use Rattle.vertex_sets.specs.VertexSet.{IsVertexSet};
+ghost use Rattle.run_state.specs.NamedSets.{AreNamed, named, size_of as size};
+ghost use Rattle.run_state.specs.Taken.{IsTakenOf, with_taken};
+
+use crate::show::{first, name_sets};
+use crate::taken::Taken;
+use algorithm_meaning::NamedSet;
+use std::alloc::{AllocError, Global};
+use std::marker::Model;
+use typed_tree::Name;
+use vertex_sets::{Form, VertexSet};
+
+/// The vertex sets of a run by their places, with the places of their names and with their sizes. A contract sees how many
+/// vertices there are, and the list of the sets.
+pub(crate) struct NamedSets {
+    vertices: u32,
+    names: Vec<usize>,
+    members: Vec<VertexSet>,
+    sizes: Vec<i64>,
+}
+
+impl Drop for NamedSets {
+    fn drop(self) {
+        let NamedSets {
+            vertices: _,
+            names: _,
+            members: _,
+            sizes: _,
+        } = self;
+    }
+}
+
+impl Model for NamedSets {
+    ghost use Rattle.run_state.specs.NamedSets.{AreNamed, named};
+    ghost use Rattle.run_state.specs.State.{RunState};
+
+    ghost Value = { RunState };
+
+    ghost view = { λ s. record { vertices = s.vertices; state = named s.names.items s.members.items } };
+
+    ghost invariant = { λ s. AreNamed s.vertices s.names.items s.members.items s.sizes.items };
+}
+
+impl NamedSets {
+    ghost use Rattle.run_state.specs.NamedSets.{AreAscending, named, nothing, sizes_of, with_first_sets};
+    ghost use Rattle.run_state.specs.State.{RunState, with_state};
+
+    /// No sets.
+    pub(crate) fn new(alloc: Global, vertices: u32) -> NamedSets
+        ensures { result ≡ record { vertices = vertices; state = nothing } }
+    {
+        NamedSets {
+            vertices,
+            names: Vec::new(alloc),
+            members: Vec::new(alloc),
+            sizes: Vec::new(alloc),
+        }
+    }
+
+    /// Sets of these names, each of all vertices. The only error is out of memory.
+    pub(crate) fn open(
+        alloc: Global,
+        vertices: u32,
+        names: &[usize],
+    ) -> Result<NamedSets, AllocError>
+        ensures { IfOk result (λ s. (g : GraphValue) → g.vertices ≡ vertices → s ≡ record { vertices = vertices; state = record nothing { sets = map (all_vertices g) names.now } }) }
+    {
+        let mut opened = NamedSets::new(alloc, vertices);
+        'names: for name in names {
+            let all = VertexSet::full(alloc, vertices, Form::Bits)?;
+            opened.push(*name, all)?;
+        }
+        Ok(opened)
+    }
+
+    /// How many vertices there are.
+    pub(crate) fn vertices(&self) -> u32
+        ensures vertices { result ≡ self.now.vertices }
+        ensures ascending { AreAscending self.now }
+    {
+        self.vertices
+    }
+
+    /// The sizes of the sets.
+    pub(crate) fn sizes(&self) -> &[i64]
+        ensures { result.now ≡ sizes_of self.now.state }
+    {
+        self.sizes.as_slice()
+    }
+
+    /// The sets without their names.
+    pub(crate) fn members(&self) -> &[VertexSet]
+        ensures { (place : ℕ) → members_in (slice_get result.now place) ≡ members_of (slice_get self.now.state.sets place) }
+    {
+        self.members.as_slice()
+    }
+
+    /// The set at a place, or `None` where there is none.
+    pub(crate) fn get(&self, place: usize) -> Option<&VertexSet>
+        ensures members { members_in (option_copied result) ≡ members_of (slice_get self.now.state.sets place) }
+        ensures vertices { IfSome result (λ set. set.now.vertices ≡ self.now.vertices) }
+    {
+        if place < self.members.len() {
+            Some(&self.members[place])
+        } else {
+            None
+        }
+    }
+
+    /// The names and the members of the sets up to a place. The only error is out of memory.
+    pub(crate) fn shown(
+        &self,
+        alloc: Global,
+        names: &[Name],
+        count: usize,
+    ) -> Result<Vec<NamedSet>, AllocError>
+        ensures { IfOk result (λ v. v.items ≡ map (named_set names.now) (take count self.now.state.sets)) }
+    {
+        let set_names = first(&self.names, count);
+        name_sets(alloc, names, set_names, first(&self.members, count))
+    }
+
+    /// How many sets there are.
+    pub(crate) fn len(&self) -> usize
+        ensures { result ≡ length self.now.state.sets }
+    {
+        self.members.len()
+    }
+
+    /// Takes two sets, one after the other. The only error is out of memory, and then nothing is changed.
+    pub(crate) fn take_both(&mut self, first: Taken, second: Taken) -> Result<(), AllocError>
+        requires first { IsTakenOf self.old.vertices first }
+        requires second { IsTakenOf self.old.vertices second }
+        ensures ok { OnOk result (self.new ≡ with_state self.old (with_taken (with_taken self.old.state first) second)) }
+        ensures err { OnErr result (self.new ≡ self.old) }
+    {
+        self.names.reserve(2)?;
+        self.members.reserve(2)?;
+        self.sizes.reserve(2)?;
+        take_set(&mut self.names, &mut self.members, &mut self.sizes, first);
+        take_set(&mut self.names, &mut self.members, &mut self.sizes, second);
+        Ok(())
+    }
+
+    /// Appends a set of as many vertices. The only error is out of memory, and then nothing is changed.
+    pub(crate) fn push(&mut self, name: usize, set: VertexSet) -> Result<(), AllocError>
+        requires { set.vertices ≡ self.old.vertices }
+        ensures ok { OnOk result (self.new ≡ with_state self.old (with_new_set self.old.state name set.members)) }
+        ensures err { OnErr result (self.new ≡ self.old) }
+    {
+        self.names.reserve(1)?;
+        self.members.reserve(1)?;
+        self.sizes.reserve(1)?;
+        self.names.push_reserved(name);
+        self.sizes.push_reserved(size_of(&set));
+        self.members.push_reserved(set);
+        Ok(())
+    }
+
+    /// Gives the set at a place the members of another of as many vertices; where there is none nothing is changed.
+    pub(crate) fn replace(&mut self, place: usize, set: VertexSet)
+        requires { set.vertices ≡ self.old.vertices }
+        ensures { self.new ≡ with_state self.old (with_members self.old.state place set.members) }
+    {
+        if place < self.members.len() {
+            self.sizes[place] = size_of(&set);
+            self.members[place] = set;
+        }
+    }
+
+    /// Gives the set at a place a vertex; where there is none nothing is changed. The only error is out of memory, and
+    /// then nothing is changed.
+    pub(crate) fn insert(&mut self, place: usize, vertex: u32) -> Result<(), AllocError>
+        requires { vertex < self.old.vertices }
+        ensures ok { OnOk result (self.new ≡ with_state self.old (with_members self.old.state place (inserted vertex (members_of (slice_get self.old.state.sets place))))) }
+        ensures err { OnErr result (self.new ≡ self.old) }
+    {
+        if place < self.members.len() {
+            self.members[place].insert(vertex)?;
+            self.sizes[place] = size_of(&self.members[place]);
+        }
+        Ok(())
+    }
+
+    /// Forgets the sets from a place on.
+    pub(crate) fn truncate(&mut self, count: usize)
+        ensures { self.new ≡ with_state self.old (with_first_sets count self.old.state) }
+    {
+        self.names.truncate(count);
+        self.members.truncate(count);
+        self.sizes.truncate(count);
+    }
+}
+
+/// The size of a set, as an int.
+fn size_of(set: &VertexSet) -> i64
+    ensures size { result ≡ size set.now.members }
+    ensures valid { IsVertexSet set.now }
+{
+    let _vertices = set.vertices();
+    set.len() as i64
+}
+
+/// Takes a set into names, sets and their sizes, which have room for one more.
+fn take_set(
+    names: &mut Vec<usize>,
+    members: &mut Vec<VertexSet>,
+    sizes: &mut Vec<i64>,
+    taken: Taken,
+)
+    requires names { vec_len names.old < vec_capacity names.old }
+    requires members { vec_len members.old < vec_capacity members.old }
+    requires sizes { vec_len sizes.old < vec_capacity sizes.old }
+    requires counted { length names.old.items ≡ length members.old.items }
+    requires measured { length sizes.old.items ≡ length members.old.items }
+    ensures sets { named names.new.items members.new.items ≡ with_taken (named names.old.items members.old.items) taken }
+    ensures are { (n : ℕ) → AreNamed n names.old.items members.old.items sizes.old.items → IsTakenOf n taken → AreNamed n names.new.items members.new.items sizes.new.items }
+    ensures names_room { vec_capacity names.old + vec_len names.new ≤ vec_capacity names.new + vec_len names.old + 1 }
+    ensures members_room { vec_capacity members.old + vec_len members.new ≤ vec_capacity members.new + vec_len members.old + 1 }
+    ensures sizes_room { vec_capacity sizes.old + vec_len sizes.new ≤ vec_capacity sizes.new + vec_len sizes.old + 1 }
+{
+    match taken {
+        Taken::Nothing => {}
+        Taken::New { name, set } => {
+            names.push_reserved(name);
+            sizes.push_reserved(size_of(&set));
+            members.push_reserved(set);
+        }
+        Taken::Other { place, set } => {
+            if place < members.len() {
+                sizes[place] = size_of(&set);
+                members[place] = set;
+            }
+        }
+    }
+}

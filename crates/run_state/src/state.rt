@@ -1,0 +1,553 @@
+//! The state of a run, and its calls.
+ghost use Rattle.std.specs.Prelude.{◌≡◌, ℕ, pos, ◌+◌, ◌<◌, ◌≤◌, Bool, length, slice_get, slice_index_or, IfOk, IfSome, IsSomeAnd, IsTrue, MatchBool, OnErr, OnOk, None, option_and_then};
+ghost use Rattle.std.specs.Option.{ForSome};
+ghost use Rattle.typed_tree.specs.IntegerTree.{IntegerTree};
+ghost use Rattle.typed_tree.specs.ConditionTree.{ConditionTree};
+ghost use Rattle.typed_tree.specs.ProgramTree.{ProgramTree};
+ghost use Rattle.typed_tree.specs.StepTree.{StepsTree};
+ghost use Rattle.algorithm_meaning.specs.Entries.{with_vectors};
+ghost use Rattle.algorithm_meaning.specs.Print.{condition_line, integer_line, with_text};
+ghost use Rattle.algorithm_meaning.specs.Shown.{shown};
+ghost use Rattle.algorithm_meaning.specs.Stand.{choice_in, number_in, vertex_in, vertex_number};
+ghost use Rattle.algorithm_meaning.specs.State.{GraphValue, StateValue};
+ghost use Rattle.algorithm_meaning.specs.Value.{members_of, reduce_at, with_entry};
+ghost use Rattle.algorithm_meaning.specs.Variables.{new_condition, reduce_integer, set_condition, set_integer, with_new_integer, with_scope};
+ghost use Rattle.algorithm_meaning.specs.VertexApply.{after_vertices};
+ghost use Rattle.algorithm_meaning.specs.VertexSets.{after_assign_set, after_declare_set, inserted, members_for, with_members, with_new_set};
+ghost use Rattle.stack_code.specs.Meaning.{IsVertexCode};
+ghost use Rattle.kernels.specs.Expressions.{IsConditionKernel, IsIntegerKernel, IsMainState};
+ghost use Rattle.kernels.specs.Kernels.{HasCells, IsFilterKernel};
+ghost use Rattle.stack_code.specs.declared.room.Room.{Room};
+ghost use Rattle.plans.specs.Machine.{forgotten};
+ghost use Rattle.vectors.specs.Changes.{with_all_changes};
+ghost use Rattle.instructions.specs.Functions.{AreFunctions};
+ghost use Rattle.instructions.specs.Members.{set_value};
+ghost use Rattle.instructions.specs.Operation.{IsFor};
+ghost use Rattle.edge_applies.specs.Applied.{HasEntryForEach};
+ghost use Rattle.edge_applies.specs.View.{IsViewOf};
+ghost use Rattle.run_state.specs.State.{IsRunState, RunState, opened, with_state};
+ghost use Rattle.run_state.specs.Taken.{IsTakenOf, with_taken};
+ghost use Rattle.run_state.specs.VertexKernels.{IsVertexKernel};
+
+use crate::filtering::filtered;
+use crate::named_sets::NamedSets;
+use crate::opening::open_vectors;
+use crate::show::{first, name_vectors};
+use crate::taken::Taken;
+use crate::text::{push_condition_line, push_integer_line};
+use crate::vertices::run_for_all;
+use algorithm_meaning::{End, Outcome, reduce};
+use edge_applies::RunView;
+use flat_snapshot::Flat;
+use instructions::{Functions, Members};
+use kernels::{Block, ExpressionKernel, FilterKernel, MainState, VertexKernel};
+use plans::Depth;
+use std::alloc::{AllocError, Global};
+use std::marker::Model;
+use syntax::Reduction;
+use typed_tree::{Name, Sequence, Vector};
+use vectors::{Changes, Vectors};
+use vertex_sets::{Form, VertexSet};
+
+/// What a run keeps: vectors, vertex sets with their names, the variables of `main`, what was printed, and how many turns
+/// are left. A contract sees the state of `main`, and how many vertices there are.
+pub struct State {
+    vectors: Vectors,
+    vector_count: usize,
+    sets: NamedSets,
+    integers: Vec<i64>,
+    conditions: Vec<bool>,
+    text: Vec<u8>,
+    turns: u64,
+}
+
+// By hand: a derived drop would be written out, and proved again, in each function that lets a state go.
+impl Drop for State {
+    fn drop(self) {
+        let State {
+            vectors: _,
+            vector_count: _,
+            sets: _,
+            integers: _,
+            conditions: _,
+            text: _,
+            turns: _,
+        } = self;
+    }
+}
+
+impl Model for State {
+    ghost use Rattle.run_state.specs.State.{RunState};
+    ghost use Rattle.run_state.specs.NamedSets.{HaveLength, run_state};
+
+    ghost Value = { RunState };
+
+    ghost view = { λ s. run_state s.vectors.vectors s.sets s.integers.items s.conditions.items s.text.items s.turns };
+
+    ghost invariant = { λ s. HaveLength s.vector_count s.sets.vertices s.vectors.vectors };
+}
+
+impl State {
+    /// The state before the first statement, on a graph, with so many turns: these vectors, of which those of a group
+    /// stand together where the groups fit them, and constant sets of these names. The only error is out of memory.
+    pub fn open(
+        alloc: Global,
+        vectors: &[Vector],
+        sets: &[usize],
+        groups: &[Sequence<usize>],
+        graph: &Flat,
+        turns: u64,
+    ) -> Result<State, AllocError>
+        ensures { IfOk result (λ r. r ≡ opened graph.now vectors.now sets.now turns) }
+    {
+        let sets = NamedSets::open(alloc, graph.vertices(), sets)?;
+        let opened = open_vectors(alloc, vectors, groups, graph)?;
+        Ok(State {
+            vectors: opened,
+            vector_count: vectors.len(),
+            sets,
+            integers: Vec::new(alloc),
+            conditions: Vec::new(alloc),
+            text: Vec::new(alloc),
+            turns,
+        })
+    }
+
+    /// How many vertices there are.
+    pub fn vertices(&self) -> u32
+        ensures vertices { result ≡ self.now.vertices }
+        ensures valid { IsRunState self.now }
+    {
+        // A proof reads the invariant here.
+        let _vectors = &self.vectors;
+        self.sets.vertices()
+    }
+
+    /// How many turns are left.
+    pub fn turns(&self) -> u64
+        ensures { result ≡ self.now.state.turns }
+    {
+        self.turns
+    }
+
+    /// How many variables and sets are visible.
+    pub fn depth(&self) -> Depth
+        ensures { forgotten result self.now.state ≡ self.now.state }
+    {
+        Depth {
+            integers: self.integers.len(),
+            conditions: self.conditions.len(),
+            sets: self.sets.len(),
+        }
+    }
+
+    /// The `int` variable at a place, 0 where there is none.
+    pub fn integer(&self, place: usize) -> i64
+        ensures { result ≡ slice_index_or self.now.state.scope.integers place (pos 0) }
+    {
+        match self.integers.get(place) {
+            Some(n) => *n,
+            None => 0,
+        }
+    }
+
+    /// How many vectors there are.
+    pub fn vector_count(&self) -> usize
+        ensures { result ≡ length self.now.state.vectors }
+    {
+        self.vector_count
+    }
+
+    /// Forgets the variables and sets that are beyond this. It takes no memory.
+    pub fn forget_beyond(&mut self, depth: Depth)
+        ensures { self.new ≡ with_state self.old (forgotten depth self.old.state) }
+    {
+        self.sets.truncate(depth.sets);
+        self.integers.truncate(depth.integers);
+        self.conditions.truncate(depth.conditions);
+    }
+
+    /// The value of an expression of type `int` where so much is visible, or `None` where an index in it is no vertex. The
+    /// only error is out of memory.
+    pub fn number(
+        &self,
+        kernel: &ExpressionKernel,
+        depth: Depth,
+        block: &mut Block,
+    ) -> Result<Option<i64>, AllocError>
+        requires { IsFor depth kernel.now }
+        ensures { IfOk result (λ n. (e : IntegerTree) → IsIntegerKernel kernel.now e
+            → n ≡ number_in self.now.vertices e (forgotten depth self.now.state)) }
+    {
+        block.make_room(kernel.room())?;
+        Ok(kernel.number(self.main_state(depth), block))
+    }
+
+    /// The value of an expression of type `bool`, in the same way.
+    pub fn choice(
+        &self,
+        kernel: &ExpressionKernel,
+        depth: Depth,
+        block: &mut Block,
+    ) -> Result<Option<bool>, AllocError>
+        requires { IsFor depth kernel.now }
+        ensures { IfOk result (λ b. (c : ConditionTree) → IsConditionKernel kernel.now c
+            → b ≡ choice_in self.now.vertices c (forgotten depth self.now.state)) }
+    {
+        block.make_room(kernel.room())?;
+        Ok(kernel.choice(self.main_state(depth), block))
+    }
+
+    /// The vertex that an expression of type `int` is, or `None` where it or an index in it is no vertex. The only error
+    /// is out of memory.
+    pub fn vertex(
+        &self,
+        kernel: &ExpressionKernel,
+        depth: Depth,
+        block: &mut Block,
+    ) -> Result<Option<u32>, AllocError>
+        requires { IsFor depth kernel.now }
+        ensures vertex { IfOk result (λ v. (e : IntegerTree) → IsIntegerKernel kernel.now e
+            → v ≡ vertex_in self.now.vertices e (forgotten depth self.now.state)) }
+        ensures below { IfOk result (λ v. IfSome v (λ v. v < self.now.vertices)) }
+    {
+        let number = self.number(kernel, depth, block)?;
+        Ok(vertex_below(number, self.sets.vertices()))
+    }
+
+    /// What expressions read where so much is visible.
+    fn main_state(&self, depth: Depth) -> MainState<'_>
+        ensures main { IsMainState result (forgotten depth self.now.state) }
+        ensures vertices { result.vertices ≡ self.now.vertices }
+        ensures integers { length result.integers.now ≤ depth.integers }
+        ensures conditions { length result.conditions.now ≤ depth.conditions }
+    {
+        let sizes = first(self.sets.sizes(), depth.sets);
+        let integers = first(&self.integers, depth.integers);
+        let conditions = first(&self.conditions, depth.conditions);
+        MainState {
+            vectors: &self.vectors,
+            sizes,
+            vertices: self.sets.vertices(),
+            integers,
+            conditions,
+        }
+    }
+
+    /// A new `int` variable. The only error is out of memory, and then nothing is changed.
+    pub fn declare_integer(&mut self, n: i64) -> Result<(), AllocError>
+        ensures ok { OnOk result (self.new ≡ with_state self.old (with_new_integer self.old.state n)) }
+        ensures err { OnErr result (self.new ≡ self.old) }
+    {
+        self.integers.push(n)?;
+        Ok(())
+    }
+
+    /// Two new `int` variables. The only error is out of memory, and then nothing is changed.
+    pub fn declare_two(&mut self, a: i64, b: i64) -> Result<(), AllocError>
+        ensures ok { OnOk result (self.new ≡ with_state self.old (with_new_integer (with_new_integer self.old.state a) b)) }
+        ensures err { OnErr result (self.new ≡ self.old) }
+    {
+        self.integers.reserve(2)?;
+        self.integers.push_reserved(a);
+        self.integers.push_reserved(b);
+        Ok(())
+    }
+
+    /// A new `bool` variable. The only error is out of memory, and then nothing is changed.
+    pub fn declare_condition(&mut self, b: bool) -> Result<(), AllocError>
+        ensures ok { OnOk result (self.new ≡ with_state self.old (with_scope self.old.state (new_condition self.old.state.scope b))) }
+        ensures err { OnErr result (self.new ≡ self.old) }
+    {
+        self.conditions.push(b)?;
+        Ok(())
+    }
+
+    /// Sets the `int` variable at a place; where there is none nothing is changed.
+    pub fn set_integer(&mut self, place: usize, n: i64)
+        ensures { self.new ≡ with_state self.old (with_scope self.old.state (set_integer self.old.state.scope place n)) }
+    {
+        if place < self.integers.len() {
+            self.integers[place] = n;
+        }
+    }
+
+    /// Sets the `bool` variable at a place; where there is none nothing is changed.
+    pub fn set_condition(&mut self, place: usize, b: bool)
+        ensures { self.new ≡ with_state self.old (with_scope self.old.state (set_condition self.old.state.scope place b)) }
+    {
+        if place < self.conditions.len() {
+            self.conditions[place] = b;
+        }
+    }
+
+    /// Reduces the `int` variable at a place with a number; where there is none nothing is changed.
+    pub fn reduce_integer(&mut self, place: usize, reduction: Reduction, n: i64)
+        ensures { self.new ≡ with_state self.old (with_scope self.old.state (reduce_integer self.old.state.scope place reduction n)) }
+    {
+        if place < self.integers.len() {
+            self.integers[place] = reduce(reduction, self.integers[place], n);
+        }
+    }
+
+    /// Sets the entry of a vector at a vertex; where there is none nothing is changed.
+    pub fn set_entry(&mut self, vector: usize, vertex: u32, n: i64)
+        ensures { self.new ≡ with_state self.old (with_vectors self.old.state (with_entry self.old.state.vectors vector vertex n)) }
+    {
+        self.vectors.set(vector, vertex, n);
+    }
+
+    /// Reduces the entry of a vector at a vertex with a number; where there is none nothing is changed.
+    pub fn reduce_entry(&mut self, vector: usize, vertex: u32, reduction: Reduction, n: i64)
+        ensures { self.new ≡ with_state self.old (with_vectors self.old.state (reduce_at self.old.state.vectors vector vertex reduction n)) }
+    {
+        let before = self.vectors.lane(vector).get(vertex as usize);
+        self.vectors
+            .set(vector, vertex, reduce(reduction, before, n));
+    }
+
+    /// Prints a number. The only error is out of memory, and then nothing is changed.
+    pub fn print_integer(&mut self, n: i64) -> Result<(), AllocError>
+        ensures ok { OnOk result (self.new ≡ with_state self.old (with_text self.old.state (integer_line n))) }
+        ensures err { OnErr result (self.new ≡ self.old) }
+    {
+        push_integer_line(&mut self.text, n)
+    }
+
+    /// Prints a truth value. The only error is out of memory, and then nothing is changed.
+    pub fn print_condition(&mut self, b: bool) -> Result<(), AllocError>
+        ensures ok { OnOk result (self.new ≡ with_state self.old (with_text self.old.state (condition_line b))) }
+        ensures err { OnErr result (self.new ≡ self.old) }
+    {
+        push_condition_line(&mut self.text, b)
+    }
+
+    /// Takes a turn, or says false where none is left, and then nothing is changed.
+    pub fn take_turn(&mut self) -> bool
+        ensures turn { MatchBool result (self.old.state.turns ≡ self.new.state.turns + 1) ((self.old.state.turns ≡ 0) × (self.new.state.turns ≡ 0)) }
+        ensures state { self.new ≡ with_state self.old (record self.old.state { turns = self.new.state.turns }) }
+    {
+        if self.turns == 0 {
+            return false;
+        }
+        self.turns -= 1;
+        true
+    }
+
+    /// A new set variable of this name, with these members; a place without a set has none. The only error is out of
+    /// memory, and then nothing is changed.
+    pub fn declare_set(
+        &mut self,
+        alloc: Global,
+        name: usize,
+        members: Members,
+        functions: &Functions,
+        block: &mut Block,
+    ) -> Result<(), AllocError>
+        ensures ok { OnOk result ((p : ProgramTree) (g : GraphValue) → AreFunctions functions.now p → g.vertices ≡ self.old.vertices
+            → self.new ≡ with_state self.old (after_declare_set p g name (set_value members) self.old.state)) }
+        ensures err { OnErr result (self.new ≡ self.old) }
+    {
+        let set = self.set_of(alloc, members, functions, block)?;
+        self.sets.push(name, set)
+    }
+
+    /// The set variable at a place gets these members; where there is none nothing is changed. The only error is out of
+    /// memory, and then nothing is changed.
+    pub fn assign_set(
+        &mut self,
+        alloc: Global,
+        place: usize,
+        members: Members,
+        functions: &Functions,
+        block: &mut Block,
+    ) -> Result<(), AllocError>
+        ensures ok { OnOk result ((p : ProgramTree) (g : GraphValue) → AreFunctions functions.now p → g.vertices ≡ self.old.vertices
+            → self.new ≡ with_state self.old (after_assign_set p g place (set_value members) self.old.state)) }
+        ensures err { OnErr result (self.new ≡ self.old) }
+    {
+        let set = self.set_of(alloc, members, functions, block)?;
+        self.sets.replace(place, set);
+        Ok(())
+    }
+
+    /// A set with these members.
+    fn set_of(
+        &self,
+        alloc: Global,
+        members: Members,
+        functions: &Functions,
+        block: &mut Block,
+    ) -> Result<VertexSet, AllocError>
+        ensures vertices { IfOk result (λ s. s.vertices ≡ self.now.vertices) }
+        ensures members { IfOk result (λ s. (p : ProgramTree) (g : GraphValue) → AreFunctions functions.now p → g.vertices ≡ self.now.vertices
+            → s.members ≡ members_for p g (set_value members) self.now.state) }
+    {
+        let vertices = self.sets.vertices();
+        match members {
+            Members::Nothing => VertexSet::empty(alloc, vertices, Form::List),
+            Members::All => VertexSet::full(alloc, vertices, Form::Bits),
+            Members::Copy(slot) => match self.sets.get(slot.place) {
+                Some(set) => set.to_form(alloc, set.form()),
+                None => VertexSet::empty(alloc, vertices, Form::List),
+            },
+            Members::Filter(slot, function) => {
+                let filter = functions.filter.get(function);
+                match self.sets.get(slot.place) {
+                    Some(set) => {
+                        filtered(alloc, filter, set, self.sets.sizes(), &self.vectors, block)
+                    }
+                    None => VertexSet::empty(alloc, vertices, Form::List),
+                }
+            }
+        }
+    }
+
+    /// Gives the set at a place a vertex; where there is no set nothing is changed. The only error is out of memory, and
+    /// then nothing is changed.
+    pub fn add_vertex(&mut self, place: usize, vertex: u32) -> Result<(), AllocError>
+        requires { vertex < self.old.vertices }
+        ensures ok { OnOk result (self.new ≡ with_state self.old
+            (with_members self.old.state place (inserted vertex (members_of (slice_get self.old.state.sets place))))) }
+        ensures err { OnErr result (self.new ≡ self.old) }
+    {
+        self.sets.insert(place, vertex)
+    }
+
+    /// Runs a vertex function for each member of a set, and then the second, where there is one, in the same way. A place
+    /// without a set has no members. The only error is out of memory, and then nothing is changed.
+    pub fn apply_vertices(
+        &mut self,
+        set: usize,
+        first: &VertexKernel,
+        second: Option<&VertexKernel>,
+        block: &mut Block,
+    ) -> Result<(), AllocError>
+        requires first { ∥ IsVertexKernel first.now ∥₁ }
+        requires second { ForSome second (λ k. ∥ IsVertexKernel k.now ∥₁) }
+        ensures one { OnOk result ((steps : StepsTree) → IsVertexCode first.now.code.items steps → second.entry ≡ None
+            → self.new ≡ with_state self.old (with_vectors self.old.state
+            (after_vertices steps self.old.state.sets (members_of (slice_get self.old.state.sets set)) self.old.state.vectors))) }
+        ensures two { OnOk result ((a b : StepsTree) → IsVertexCode first.now.code.items a → IsSomeAnd second.entry (λ k. IsVertexCode k.now.code.items b)
+            → self.new ≡ with_state self.old (with_vectors self.old.state
+            (after_vertices b self.old.state.sets (members_of (slice_get self.old.state.sets set))
+            (after_vertices a self.old.state.sets (members_of (slice_get self.old.state.sets set)) self.old.state.vectors)))) }
+        ensures err { OnErr result (self.new ≡ self.old) }
+    {
+        block.make_room(first.room())?;
+        match second {
+            None => {
+                self.apply(set, first, block);
+                Ok(())
+            }
+            Some(second) => {
+                block.make_room(second.room())?;
+                self.apply(set, first, block);
+                self.apply(set, second, block);
+                Ok(())
+            }
+        }
+    }
+
+    /// The same of one function, for which the block has room.
+    fn apply(&mut self, set: usize, kernel: &VertexKernel, block: &mut Block)
+        requires known { ∥ IsVertexKernel kernel.now ∥₁ }
+        requires room { HasCells block.old kernel.now.room }
+        ensures applied { (steps : StepsTree) → IsVertexCode kernel.now.code.items steps
+            → self.new ≡ with_state self.old (with_vectors self.old.state
+            (after_vertices steps self.old.state.sets (members_of (slice_get self.old.state.sets set)) self.old.state.vectors)) }
+        ensures keeps { (other : Room) → HasCells block.old other → HasCells block.new other }
+    {
+        if let Some(members) = self.sets.get(set) {
+            run_for_all(
+                kernel,
+                members.iter(),
+                self.sets.sizes(),
+                &mut self.vectors,
+                block,
+            );
+        }
+    }
+
+    /// Lends what an edge apply reads, beside the functions and the graph.
+    pub fn view<'a>(&'a self, functions: &'a Functions, graph: &'a Flat) -> RunView<'a>
+        ensures seen { (p : ProgramTree) (g : GraphValue) → AreFunctions functions.now p → graph.now.vertices ≡ g.vertices → graph.now.edges ≡ g.edges
+            → IsViewOf result p self.now.state g }
+        ensures entries { HasEntryForEach self.now.vertices self.now.state.vectors }
+        ensures valid { IsRunState self.now }
+    {
+        // A proof reads the invariant here.
+        let _ = self.vertices();
+        RunView {
+            functions,
+            sets: self.sets.members(),
+            sizes: self.sets.sizes(),
+            vectors: &self.vectors,
+            graph,
+        }
+    }
+
+    /// Writes what an edge apply changes.
+    pub fn write(&mut self, changes: &Changes)
+        ensures { self.new ≡ with_state self.old (with_vectors self.old.state (with_all_changes changes.now.vectors.items self.old.state.vectors)) }
+    {
+        self.vectors.write(changes);
+    }
+
+    /// Takes two sets, one after the other. The only error is out of memory, and then nothing is changed.
+    pub fn take_both(&mut self, first: Taken, second: Taken) -> Result<(), AllocError>
+        requires first { IsTakenOf self.old.vertices first }
+        requires second { IsTakenOf self.old.vertices second }
+        ensures ok { OnOk result (self.new ≡ with_state self.old (with_taken (with_taken self.old.state first) second)) }
+        ensures err { OnErr result (self.new ≡ self.old) }
+    {
+        self.sets.take_both(first, second)
+    }
+
+    /// What a run shows that began with so many turns and ended so: its vectors by these names, and the sets that are
+    /// visible. The only error is out of memory.
+    pub fn show(
+        &self,
+        alloc: Global,
+        names: &[Name],
+        vectors: &[Vector],
+        turns: u64,
+        end: End,
+        visible: Depth,
+    ) -> Result<Outcome, AllocError>
+        ensures { IfOk result (λ o. (p : ProgramTree) → p.names ≡ names.now → p.vectors ≡ vectors.now
+            → o ≡ shown p turns (forgotten visible self.now.state) end) }
+    {
+        let vertices = self.sets.vertices();
+        let shown = name_vectors(
+            alloc,
+            names,
+            vectors,
+            self.vector_count,
+            vertices,
+            &self.vectors,
+        )?;
+        let sets = self.sets.shown(alloc, names, visible.sets)?;
+        let text = Vec::from_slice(alloc, &self.text)?;
+        Ok(Outcome {
+            end,
+            turns: turns.saturating_sub(self.turns),
+            vectors: Sequence::new(shown),
+            sets: Sequence::new(sets),
+            text: Sequence::new(text),
+        })
+    }
+}
+
+/// The vertex that a number is, if it is one of so many.
+fn vertex_below(number: Option<i64>, vertices: u32) -> Option<u32>
+    ensures vertex { result ≡ option_and_then (vertex_number vertices) number }
+    ensures below { IfSome result (λ v. v < vertices) }
+{
+    let vertex = u32::try_from(number?).ok()?;
+    if vertex < vertices {
+        Some(vertex)
+    } else {
+        None
+    }
+}

@@ -1,0 +1,55 @@
+//! Vertices in parts of at most 128, and vertex functions that run for them.
+ghost use Rattle.std.specs.Prelude.{◌≡◌, ℕ, List, ◌≤◌, length, take, drop, min};
+ghost use Rattle.std.specs.List.Sorted.{IsStrictlyIncreasing};
+ghost use Rattle.typed_tree.specs.StepTree.{StepsTree};
+ghost use Rattle.algorithm_meaning.specs.State.{StateValue};
+ghost use Rattle.algorithm_meaning.specs.VertexApply.{after_vertices};
+ghost use Rattle.stack_code.specs.Cells.{HasSizes};
+ghost use Rattle.stack_code.specs.Meaning.{IsVertexCode};
+ghost use Rattle.kernels.specs.Kernels.{HasCells};
+ghost use Rattle.stack_code.specs.declared.room.Room.{Room};
+
+use kernels::{Block, VertexKernel};
+use vectors::Vectors;
+use vertex_sets::Iter;
+
+/// Takes as many of the next vertices as the part has room for, and says how many they are.
+pub(crate) fn take_part(vertices: &mut Iter<'_>, part: &mut [u32]) -> usize
+    ensures count { result ≡ min (length part.old) (length vertices.old) }
+    ensures taken { take result part.new ≡ take result vertices.old }
+    ensures rest { vertices.new ≡ drop result vertices.old }
+{
+    let room = part.len();
+    'places: for place in 0..room {
+        let Some(vertex) = vertices.next() else {
+            return place;
+        };
+        part[place] = vertex;
+    }
+    room
+}
+
+/// Runs a vertex function for ascending vertices, each alone and in order.
+pub(crate) fn run_for_all(
+    kernel: &VertexKernel,
+    vertices: Iter<'_>,
+    sizes: &[i64],
+    vectors: &mut Vectors,
+    block: &mut Block,
+)
+    requires room { HasCells block.old kernel.now.room }
+    requires ascending { IsStrictlyIncreasing vertices }
+    ensures vectors { (steps : StepsTree) (m : StateValue) → IsVertexCode kernel.now.code.items steps → vectors.old.vectors ≡ m.vectors → HasSizes sizes.now m
+        → vectors.new.vectors ≡ after_vertices steps m.sets vertices.entry m.vectors }
+    ensures keeps { (other : Room) → HasCells block.old other → HasCells block.new other }
+{
+    let mut left = vertices;
+    let mut part = [0u32; 128];
+    'parts: loop {
+        let count = take_part(&mut left, &mut part);
+        if count == 0 {
+            return;
+        }
+        kernel.run(&part[..count], sizes, vectors, block);
+    }
+}
