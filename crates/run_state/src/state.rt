@@ -346,6 +346,8 @@ impl State {
     ) -> Result<(), AllocError>
         ensures ok { OnOk result ((p : ProgramTree) (g : GraphValue) → AreFunctions functions.now p → g.vertices ≡ self.old.vertices
             → self.new ≡ with_state self.old (after_declare_set p g name (set_value members) self.old.state)) }
+        ensures turns { self.new.state.turns ≡ self.old.state.turns }
+        ensures vertices { self.new.vertices ≡ self.old.vertices }
         ensures err { OnErr result (self.new ≡ self.old) }
     {
         let set = self.set_of(alloc, members, functions, block)?;
@@ -364,6 +366,8 @@ impl State {
     ) -> Result<(), AllocError>
         ensures ok { OnOk result ((p : ProgramTree) (g : GraphValue) → AreFunctions functions.now p → g.vertices ≡ self.old.vertices
             → self.new ≡ with_state self.old (after_assign_set p g place (set_value members) self.old.state)) }
+        ensures turns { self.new.state.turns ≡ self.old.state.turns }
+        ensures vertices { self.new.vertices ≡ self.old.vertices }
         ensures err { OnErr result (self.new ≡ self.old) }
     {
         let set = self.set_of(alloc, members, functions, block)?;
@@ -432,6 +436,8 @@ impl State {
             → self.new ≡ with_state self.old (with_vectors self.old.state
             (after_vertices b self.old.state.sets (members_of (slice_get self.old.state.sets set))
             (after_vertices a self.old.state.sets (members_of (slice_get self.old.state.sets set)) self.old.state.vectors)))) }
+        ensures turns { self.new.state.turns ≡ self.old.state.turns }
+        ensures vertices { self.new.vertices ≡ self.old.vertices }
         ensures err { OnErr result (self.new ≡ self.old) }
     {
         block.make_room(first.room())?;
@@ -456,6 +462,8 @@ impl State {
         ensures applied { (steps : StepsTree) → IsVertexCode kernel.now.code.items steps
             → self.new ≡ with_state self.old (with_vectors self.old.state
             (after_vertices steps self.old.state.sets (members_of (slice_get self.old.state.sets set)) self.old.state.vectors)) }
+        ensures turns { self.new.state.turns ≡ self.old.state.turns }
+        ensures vertices { self.new.vertices ≡ self.old.vertices }
         ensures keeps { (other : Room) → HasCells block.old other → HasCells block.new other }
     {
         if let Some(members) = self.sets.get(set) {
