@@ -1,5 +1,6 @@
 //! One case.
 
+use crate::beside;
 use crate::compare::{Output, add_differences};
 use crate::listing::Place;
 use crate::repeated::expanded;
@@ -63,7 +64,20 @@ pub fn differences<'a>(rt: &'a HostRuntime, place: &'a Place) -> io::Result<Stri
     add_output(folder, name, &mut told, ("status", b"0\n", &got.status))?;
     add_output(folder, name, &mut told, ("out", b"", &got.out))?;
     add_output(folder, name, &mut told, ("err", b"", &got.err))?;
+    add_programs(folder, name, &mut told)?;
     Ok(told)
+}
+
+// Adds where a program of the case shows something else by its plan than by the slow run.
+fn add_programs(folder: &Folder<'_>, name: &str, told: &mut String) -> io::Result<()> {
+    for word in script_words(folder, name)? {
+        if word.as_str().ends_with(".program") {
+            let case = folder.path(word.as_str())?;
+            let text = folder.read(folder.rt.alloc(), word.as_str())?;
+            beside::add_differences(folder.rt.alloc(), told, case.as_str(), &text)?;
+        }
+    }
+    Ok(())
 }
 
 // What a case got: the digits of its status, and what its outputs were told.

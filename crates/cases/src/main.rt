@@ -11,10 +11,12 @@
 //!
 //! A long file may stand in a short form (`repeated.rt`).
 //!
-//! Each is done by the crate `driver`, with output in memory. The program prints each difference and
-//! last `N agree, M differ`. Its status is 1 where a case differs, and 2 where one cannot be read.
+//! Each is done by the crate `driver`, with output in memory. Beside that its programs are run by their
+//! plans and by the slow run (`beside.rt`). The program prints each difference and last
+//! `N agree, M differ`. Its status is 1 where a case differs, and 2 where one cannot be read.
 #![tactic(auto)]
 
+mod beside;
 mod case;
 mod compare;
 mod listing;

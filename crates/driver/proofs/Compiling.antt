@@ -1,8 +1,11 @@
 -- Files that are compiled one after another.
-use Rattle.std.proofs.Common.{◌≡◌, ℕ, List, [], ◌++◌, sym, subst, append-nil}
+use Rattle.std.proofs.Common.{◌≡◌, ℕ, ◌+◌, ◌<◌, List, [], ◌∷◌, ◌++◌, length, map, drop, get_or, Bor, inr, sym, ap, ◌∙◌, subst, append-nil, append_assoc}
+use Rattle.std.proofs.lemmas.List.{map-append, drop_more}
 use Rattle.std.specs.declared.io.Error.{Error}
 use Rattle.typed_tree.specs.ProgramTree.{ProgramTree}
-use Rattle.driver.specs.Reading.{HoldPrograms, LacksProgram}
+use Rattle.programs.specs.declared.program.Program.{Program}
+use Rattle.programs.specs.Program.{program_tree}
+use Rattle.driver.specs.Reading.{HoldPrograms, HoldsProgram, LacksProgram}
 use Rattle.driver.specs.declared.error.ServeError.{ServeError}
 
 -- some files of all were compiled: what is left to compile, and how that fails, makes up the whole
@@ -15,3 +18,21 @@ pub all_compiled : (holds : List ℕ → List ℕ → Type 0) (fails : List ℕ 
     → HoldPrograms holds all programs
 all_compiled holds fails all left programs c none =
     subst (HoldPrograms holds all) (append-nil programs) (c.goes_on [] (subst (λ names. HoldPrograms holds names []) (sym none) tt))
+
+-- one more file was compiled
+one_compiled : (holds : List ℕ → List ℕ → Type 0) (fails : List ℕ → Error → Type 0) (all left : List (List ℕ)) (programs : List ProgramTree) (name : List ℕ) (p : ProgramTree) → Compiles holds fails all (name ∷ left) programs → HoldsProgram (holds name) p
+    → Compiles holds fails all left (programs ++ p ∷ [])
+one_compiled holds fails all left programs name p c held = record {
+  goes_on = λ more rest. subst (HoldPrograms holds all) (sym (append_assoc programs (p ∷ []) more)) (c.goes_on (p ∷ more) (held, rest));
+  fails_on = λ e lacks. c.fails_on e (inr (p, (held, lacks)));
+}
+
+-- the file at a place was compiled
+pub compiled_at : (holds : List ℕ → List ℕ → Type 0) (fails : List ℕ → Error → Type 0) (all : List (List ℕ)) (names : List (Bor (List ℕ))) (place : ℕ) (none : Bor (List ℕ)) (compiled new : List Program) (p : Program) → place < length names
+    → Compiles holds fails all (map (λ n. n.now) (drop place names)) (map program_tree compiled) → HoldsProgram (holds (get_or names place none).now) (program_tree p) → new ≡ compiled ++ p ∷ []
+    → Compiles holds fails all (map (λ n. n.now) (drop (place + 1) names)) (map program_tree new)
+compiled_at holds fails all names place none compiled new p within c held is =
+    let left = map (λ (n : Bor (List ℕ)). n.now) (drop (place + 1) names) in
+    let first = subst (λ (ns : List (Bor (List ℕ))). Compiles holds fails all (map (λ n. n.now) ns) (map program_tree compiled)) (drop_more names place none within) c in
+    subst (Compiles holds fails all left) (sym (ap (map program_tree) is ∙ map-append program_tree compiled (p ∷ [])))
+    (one_compiled holds fails all left (map program_tree compiled) (get_or names place none).now (program_tree p) first held)

@@ -1,5 +1,5 @@
 -- What a parse of the command line says of the words.
-use Rattle.std.proofs.Common.{◌≡◌, ◌∙◌, ◌<◌, ◌≤◌, ◌⊎◌, inl, inr, length, map, arith, Bool, true, false, List, [], ◌∷◌, ◌++◌, Option, Some, None, refl, sym, ap, subst, codes}
+use Rattle.std.proofs.Common.{◌≡◌, ◌∙◌, ◌<◌, ◌≤◌, inl, inr, length, map, arith, Bool, true, false, List, [], ◌∷◌, ◌++◌, Option, Some, None, refl, sym, ap, subst, codes}
 use Rattle.std.proofs.lemmas.List.{append-nil, append_assoc}
 use Rattle.std.proofs.lemmas.Slice.Eq.{bytes_eq-Decides}
 use Rattle.std.specs.Borrow.{Bor}
@@ -17,22 +17,10 @@ use Rattle.clap.specs.Faults.{level_fault, walk_fault}
 use Rattle.clap.specs.declared.error.kind.ErrorKind.TheVariants.{UnknownArgument, InvalidSubcommand, DisplayHelp}
 use Rattle.clap.specs.declared.parser.matches.ArgMatches.{ArgMatches}
 use Rattle.clap.specs.declared.parser.matches.ArgMatches.TheViews.{out-ArgMatches, out-SubCommand}
-use Rattle.driver.specs.CommandLine.{IsCommand, no_words, check_word, check_after_dashes, plan_word, plan_after_dashes, script_words, script_after_dashes, command_line, operands}
+use Rattle.driver.specs.CommandLine.{IsCommand, NamesCommand, TakesOneFile, no_words, check_word, check_after_dashes, plan_word, plan_after_dashes, script_words, script_after_dashes, command_line, operands}
 use Rattle.driver.proofs.FileWords.{NamesOne, file_in, file_read, file_taken, taker}
 use Rattle.driver.proofs.Flags.{HasOnlyHelp, dashes, first_is_quiet, held, is_value, none_or_help, second_is_quiet, step_is_fault}
 use Rattle.driver.proofs.ScriptWords.{NamesFiles, files_in, files_read, files_taken, files_taken_behind, script}
-
--- a command of this name takes one file
-abbrev pub TakesOneFile : Text → Type 0
-TakesOneFile name = (name ≡ codes "check") ⊎ (name ≡ codes "plan")
-
--- these files fit the command of this name
-abbrev pub FitsCommand : Text → List Text → Type 0
-FitsCommand name files = (TakesOneFile name × (length files ≡ 1)) ⊎ ((name ≡ codes "script") × (0 < length files))
-
--- the words are this command and these files, which fit it
-abbrev pub NamesCommand : List Text → Text → List Text → Type 0
-NamesCommand words name files = (operands words ≡ name ∷ files) × FitsCommand name files
 
 -- a reading: no command and no operand, or a command and its files
 abbrev pub Reads : List Text → Option (Text × List Row) → Type 0

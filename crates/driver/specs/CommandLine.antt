@@ -1,5 +1,5 @@
 -- The command line: what clap is told of it, and the words that each request stands for.
-use Rattle.std.specs.Prelude.{◌≡◌, List, [], ◌∷◌, Some, None, true, codes, map, if◌then◌else◌}
+use Rattle.std.specs.Prelude.{◌≡◌, ◌<◌, ◌⊎◌, List, [], ◌∷◌, Some, None, true, codes, length, map, if◌then◌else◌}
 use Rattle.std.specs.List.{AllByRecursion}
 use Rattle.std.specs.Str.{bytes_eq}
 use Rattle.clap.specs.Lexer.{strip_byte, usize_max}
@@ -51,6 +51,18 @@ words_of Input = []
 words_of (Check file) = codes "check" ∷ file.now ∷ []
 words_of (Plan file) = codes "plan" ∷ file.now ∷ []
 words_of (Script script programs) = codes "script" ∷ script.now ∷ map (λ p. p.now) programs.items
+
+-- a command of this name takes one file
+abbrev pub TakesOneFile : Text → Type 0
+TakesOneFile name = (name ≡ codes "check") ⊎ (name ≡ codes "plan")
+
+-- these files fit the command of this name
+abbrev pub FitsCommand : Text → List Text → Type 0
+FitsCommand name files = (TakesOneFile name × (length files ≡ 1)) ⊎ ((name ≡ codes "script") × (0 < length files))
+
+-- the words are this command and these files, which fit it
+abbrev pub NamesCommand : List Text → Text → List Text → Type 0
+NamesCommand words name files = (operands words ≡ name ∷ files) × FitsCommand name files
 
 -- no hyphen (45) begins the word
 abbrev pub HasNoHyphen : Text → Type 0

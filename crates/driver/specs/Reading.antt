@@ -7,8 +7,9 @@ use Rattle.compiler.specs.declared.error.CompileError.TheVariants as compiler
 use Rattle.compiler.specs.Outcome.{Compiles, IsProgram}
 use Rattle.instructions.specs.declared.plan.Plan.{Plan}
 use Rattle.lowering.specs.Compiling.{IsPlanOfText}
-use Rattle.typed_tree.specs.declared.program.Typed.{Typed}
-use Rattle.typed_tree.specs.ProgramTree.{ProgramTree, program_tree}
+use Rattle.programs.specs.declared.program.Program.{Program}
+use Rattle.programs.specs.Program.{program_tree}
+use Rattle.typed_tree.specs.ProgramTree.{ProgramTree}
 use Rattle.driver.specs.Endings.{of_read}
 use Rattle.driver.specs.declared.error.ServeError.{ServeError}
 use Rattle.driver.specs.declared.error.ServeError.TheVariants.{NoMemory, ReadFailed, WriteFailed, Refused}
@@ -51,7 +52,7 @@ IsNoProgram holds fails name WriteFailed = ⊥
 IsNoProgram holds fails name (Refused file error) = (file.now ≡ name) × HoldsRefused holds error
 
 -- what is made of the file of this name
-abbrev pub CompilesFile : (List ℕ → Type 0) → (Error → Type 0) → List ℕ → Result Typed ServeError → Type 0
+abbrev pub CompilesFile : (List ℕ → Type 0) → (Error → Type 0) → List ℕ → Result Program ServeError → Type 0
 CompilesFile holds fails name (Ok program) = HoldsProgram holds (program_tree program)
 CompilesFile holds fails name (Err e) = IsNoProgram holds fails name e
 
@@ -74,6 +75,6 @@ LacksProgram holds fails (name ∷ names) e =
     IsNoProgram (holds name) (fails name) name e ⊎ ((p : ProgramTree) × (HoldsProgram (holds name) p × LacksProgram holds fails names e))
 
 -- what is made of the files of these names
-abbrev pub CompilesFiles : (List ℕ → List ℕ → Type 0) → (List ℕ → Error → Type 0) → List (List ℕ) → Result (Vec Typed) ServeError → Type 0
+abbrev pub CompilesFiles : (List ℕ → List ℕ → Type 0) → (List ℕ → Error → Type 0) → List (List ℕ) → Result (Vec Program) ServeError → Type 0
 CompilesFiles holds fails names (Ok programs) = HoldPrograms holds names (map program_tree programs.items)
 CompilesFiles holds fails names (Err e) = LacksProgram holds fails names e

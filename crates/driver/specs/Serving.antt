@@ -3,6 +3,7 @@ use Rattle.std.specs.Prelude.{◌≡◌, ℕ, ◌<◌, Bool, false, List, [], �
 use Rattle.std.specs.declared.io.Error.{Error}
 use Rattle.devices.specs.Drain.{TakesPart}
 use Rattle.instructions.specs.declared.plan.Plan.{Plan}
+use Rattle.lowering.specs.Text.{text_of}
 use Rattle.typed_tree.specs.ProgramTree.{ProgramTree}
 use Rattle.scripts.specs.declared.error.ScriptError.{ScriptError}
 use Rattle.scripts.specs.Script.{Input, Taken, RunsScript}
@@ -54,20 +55,22 @@ abbrev pub ChecksFile : (List ℕ → Type 0) → (Error → Type 0) → List �
 ChecksFile holds fails name before after (Ok faulted) = TellsOk holds before after faulted
 ChecksFile holds fails name before after (Err e) = TellsNothing holds fails name before after e ⊎ BeginsOk holds before after e
 
--- the file may hold a program, of which this is the plan, and all of a text was written; that it is the plan's, no contract says yet
+-- the text of the plan of the program that a file may hold
+abbrev pub plan_text : {holds : List ℕ → Type 0} {plan : Plan} → HoldsPlan holds plan → List ℕ
+plan_text held = text_of held.planned.program held.planned.schedule
+
+-- the file may hold a program, of which this is the plan, and all of its text was written
 pub record TellsPlan (holds : List ℕ → Type 0) (before after : Taken) (faulted : Bool) : Type 0 where
   pub plan : Plan
   pub planned : HoldsPlan holds plan
-  pub text : List ℕ
-  pub taken : after.taken ≡ before.taken ++ text
+  pub taken : after.taken ≡ before.taken ++ plan_text planned
   pub fault : faulted ≡ false
 
--- the file may hold a program, of which this is the plan, and a beginning of a text was written before the writer failed
+-- the file may hold a program, of which this is the plan, and a beginning of its text was written before the writer failed
 pub record BeginsPlan (holds : List ℕ → Type 0) (before after : Taken) (e : ServeError) : Type 0 where
   pub plan : Plan
   pub planned : HoldsPlan holds plan
-  pub text : List ℕ
-  pub part : TakesPart before.taken after.taken text
+  pub part : TakesPart before.taken after.taken (plan_text planned)
   pub failed : before.failures < after.failures
   pub outcome : e ≡ WriteFailed
 

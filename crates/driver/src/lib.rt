@@ -6,9 +6,8 @@
 //! Contracts see a request as the words that it stands for, files as a relation between a name and
 //! what a read may answer, and readers and writers by the bytes that they gave and took. The promise
 //! is that what was written is the replies of the script (crate `scripts`), with the programs that
-//! the files hold, or `ok` where the file to check holds a program, or a text where the file holds a
-//! program that has a plan (crate `lowering`; which text, no contract says), and that the status says
-//! how the request ended.
+//! the files hold, or `ok` where the file to check holds a program, or the text of the plan of the
+//! program that the file holds (crate `lowering`), and that the status says how the request ended.
 //!
 //! `gsnap` hands in the real files and streams, and `cases` a folder of tests.
 #![tactic(auto)]

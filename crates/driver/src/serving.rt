@@ -10,14 +10,14 @@ use crate::error::ServeError;
 use crate::files::Files;
 use crate::requests::Request;
 use crate::status;
-use compiler::{CompileError, compile};
+use compiler::CompileError;
 use devices::{Drain, Feed, write_all};
 use lowering::Plan;
+use programs::Program;
 use scripts::{Session, run_text, script};
 use std::alloc::Global;
 use std::fmt;
 use std::fmt::Write;
-use typed_tree::Typed;
 
 // What is told of a program that compiles.
 const OK_LINE: &[u8] = b"ok\n";
@@ -149,7 +149,7 @@ fn compiled_files<'a, F: Files>(
     alloc: Global,
     names: &[&'a str],
     files: &F,
-) -> Result<Vec<Typed>, ServeError<'a>>
+) -> Result<Vec<Program>, ServeError<'a>>
     ensures { CompilesFiles (F.may_hold files.now) (F.may_fail files.now) (map (λ n. n.now) names.entry.now) result }
 {
     let mut compiled = Vec::new(alloc);
@@ -164,11 +164,11 @@ fn compiled_file<'a, F: Files>(
     alloc: Global,
     file: &'a str,
     files: &F,
-) -> Result<Typed, ServeError<'a>>
+) -> Result<Program, ServeError<'a>>
     ensures { CompilesFile (F.may_hold files.now file.entry.now) (F.may_fail files.now file.entry.now) file.entry.now result }
 {
     let text = files.read(alloc, file)?;
-    match compile(alloc, &text) {
+    match Program::compile(alloc, &text) {
         Ok(program) => Ok(program),
         Err(CompileError::NoMemory) => Err(ServeError::NoMemory),
         Err(error) => Err(ServeError::Refused { file, error }),

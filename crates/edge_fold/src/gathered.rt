@@ -26,8 +26,8 @@ use std::alloc::{AllocError, Global};
 use syntax::Reduction;
 use vectors::Change;
 
-/// What edges give one vector, by its place: the reduction, and for each vertex that is given something one number, by
-/// ascending vertices. It is the unit of the reduction reduced with all that the edges give the vertex.
+/// What edges give one vector, by its place: the reduction, and numbers for vertices. A number that is reduced with those
+/// of a vertex is reduced with all that the edges give it.
 #[derive(Drop)]
 pub struct GatheredIn {
     pub vector: usize,
@@ -35,7 +35,7 @@ pub struct GatheredIn {
     pub numbers: Vec<Change>,
 }
 
-/// What edges give, each vector once.
+/// What edges give: to each vector all that is listed for it.
 #[derive(Drop)]
 pub struct Gathered {
     pub vectors: Vec<GatheredIn>,

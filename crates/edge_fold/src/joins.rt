@@ -239,9 +239,12 @@ impl Accumulator {
         self.touched.sort_unstable();
     }
 
-    /// Whether most vertices were given something, so that a walk over all finds them sooner in order than a sort.
+    /// Whether so many vertices were given something that a walk over all finds them in order sooner than a sort, which
+    /// takes time in proportion to their number and its logarithm.
     pub(crate) fn is_crowded(&self) -> bool {
-        self.touched.len() > self.stamps.len() / 64
+        let touched = self.touched.len();
+        let depth = touched.checked_ilog2().unwrap_or(0);
+        touched.saturating_mul(depth as usize) > self.stamps.len() / 2
     }
 
     /// Whether a vertex was given something.

@@ -6,8 +6,8 @@
 //! end what has changed, for each vector once, by ascending vertices.
 //!
 //! A worker that does a piece of an apply lets new entries begin with the unit of the reduction ([`Start`]).
-//! [`Scratch::gathered`] then says what its edges give, one number for each vertex that is given something, and
-//! [`Scratch::join_gathered`] joins that to the entries of the whole, piece by piece in any order.
+//! [`Scratch::gathered`] then says what its edges give, as numbers for vertices, and [`Scratch::join_gathered`] joins that
+//! to the entries of the whole, piece by piece in any order.
 //!
 //! `HasFolded` (`specs/Folded.antt`) says which edges a scratch has folded: for each vector to which the functions give
 //! by one reduction, the new entries, reduced with what the edges that still wait give, are the old entries reduced with
@@ -18,7 +18,7 @@
 //!
 //! A slot has the new entries of one vector. It knows them by a stamp, a number that goes up with each apply, so nothing
 //! is cleared, and lists the vertices that were given something. So an apply takes time in proportion to its edges, and
-//! to the vertices only for memory that is new, or where more than 1 in 64 of them was given something: then a walk finds
+//! to the vertices only for memory that is new, or where so many of them were given something that a walk over all finds
 //! them in order sooner than a sort. Slots keep their memory: 12 bytes a vertex for each vector that one apply writes,
 //! and 4 for each vertex that was given something.
 //!

@@ -1,5 +1,7 @@
-//! Random edge applies by push, by pull and by each direction of a schedule, with every kind of end, beside the slow run.
+//! Random edge applies by push, by pull and by each direction of a schedule, with every kind of end, whole and in pieces,
+//! beside the slow run.
 
+use crate::piece_applies::changes_by_pieces;
 use algorithm_meaning::{Outcome, plain_run};
 use compiler::compile;
 use edge_fold::Scratch;
@@ -83,6 +85,24 @@ const WAYS: [Way; 7] = [
     Way::Scheduled(Direction::Hybrid),
 ];
 
+// The directions in which applies are done in pieces.
+const DIRECTIONS: [Direction; 3] = [
+    Direction::SparsePush,
+    Direction::DensePush,
+    Direction::DensePull,
+];
+
+// How their vertices are cut.
+const PARALLELIZATIONS: [Parallelization; 4] = [
+    Parallelization::Serial,
+    Parallelization::StaticVertex,
+    Parallelization::DynamicVertex,
+    Parallelization::EdgeAwareDynamicVertex,
+];
+
+// For how many workers they are cut.
+const WORKERS: [usize; 4] = [1, 2, 3, 7];
+
 impl Way {
     fn direction(self) -> Direction {
         match self {
@@ -111,8 +131,8 @@ impl Side {
     }
 }
 
-/// Applies each function on random graphs with every pair of ends, and prints how many applies agree with the slow run.
-/// Fails where one does not.
+/// Applies each function on random graphs with every pair of ends, and prints how many applies agree with the slow run,
+/// of those in pieces each once for every order of its pieces. Fails where one does not.
 pub fn print_agreement<R: Print + AllocGlobal>(rt: &R) -> io::Result<()> {
     let mut random = Random::new(SEED);
     let mut scratch = Scratch::new(rt.alloc());
@@ -167,8 +187,8 @@ impl Work {
             for to in SIDES {
                 let program = self.program(alloc, body, from, to)?;
                 let vector = vector_of(body);
-                self.compare(alloc, &program, vector, (from, to), scratch)?;
-                count = count.wrapping_add(WAYS.len() as u32);
+                let compared = self.compare(alloc, &program, vector, (from, to), scratch)?;
+                count = count.wrapping_add(compared);
             }
         }
         Ok(count)
@@ -194,7 +214,7 @@ impl Work {
         compile(alloc, text.as_bytes()).map_err(|_| Error::other("a program is refused"))
     }
 
-    // Compares the apply of a program in every way with the slow run of the program.
+    // Compares the apply of a program in every way with the slow run of the program, and gives how many ways there were.
     fn compare(
         &self,
         alloc: Global,
@@ -202,34 +222,102 @@ impl Work {
         vector: usize,
         sides: (Side, Side),
         scratch: &mut Scratch,
-    ) -> io::Result<()> {
+    ) -> io::Result<u32> {
         let outcome = plain_run(alloc, program, self.vertices, &self.edges, 0)?;
         let functions = Functions::of(alloc, program)?;
+        let trial = Trial {
+            functions: &functions,
+            sides,
+            vector,
+            outcome: &outcome,
+        };
+        self.compare_whole(alloc, trial, scratch)?;
+        self.compare_pieces(alloc, trial, scratch)?;
+        let in_pieces = DIRECTIONS.len() * PARALLELIZATIONS.len() * WORKERS.len();
+        Ok((WAYS.len() + 2 * in_pieces) as u32)
+    }
+
+    fn compare_whole(
+        &self,
+        alloc: Global,
+        trial: Trial<'_>,
+        scratch: &mut Scratch,
+    ) -> io::Result<()> {
         for way in WAYS {
-            let apply = apply_of(way.direction(), sides, &self.set, &functions);
-            if !self.agrees(alloc, way, &apply, vector, &outcome, scratch)? {
-                return Err(Error::other("an edge apply differs from the slow run"));
+            let apply = trial.apply(way.direction(), Parallelization::Serial, &self.set);
+            let vectors = self.vectors(alloc)?;
+            let changes = self.changes(alloc, way, &apply, &vectors, scratch)?;
+            self.require(alloc, trial, vectors, &changes)?;
+        }
+        Ok(())
+    }
+
+    fn compare_pieces(
+        &self,
+        alloc: Global,
+        trial: Trial<'_>,
+        scratch: &mut Scratch,
+    ) -> io::Result<()> {
+        for direction in DIRECTIONS {
+            for parallelization in PARALLELIZATIONS {
+                let apply = trial.apply(direction, parallelization, &self.set);
+                self.compare_workers(alloc, trial, &apply, scratch)?;
             }
         }
         Ok(())
     }
 
-    // Whether an apply leaves the vectors of the slow run, and changes a vector at the vertices of the run's last set.
-    fn agrees(
+    fn compare_workers(
         &self,
         alloc: Global,
-        way: Way,
+        trial: Trial<'_>,
         apply: &Apply<'_>,
-        vector: usize,
-        outcome: &Outcome,
         scratch: &mut Scratch,
-    ) -> io::Result<bool> {
-        let mut vectors = self.vectors(alloc)?;
-        let changes = self.changes(alloc, way, apply, &vectors, scratch)?;
-        let dense = apply.dense_vertex_set;
-        let modified = apply_modified(alloc, &changes, vector, self.vertices, dense)?;
-        vectors.write(&changes);
-        Ok(has_entries(&vectors, outcome) && has_members(&modified, outcome))
+    ) -> io::Result<()> {
+        for workers in WORKERS {
+            self.compare_orders(alloc, trial, apply, workers, scratch)?;
+        }
+        Ok(())
+    }
+
+    // Compares an apply in pieces, merged in two orders.
+    fn compare_orders(
+        &self,
+        alloc: Global,
+        trial: Trial<'_>,
+        apply: &Apply<'_>,
+        workers: usize,
+        scratch: &mut Scratch,
+    ) -> io::Result<()> {
+        let (first, second) = (self.vectors(alloc)?, self.vectors(alloc)?);
+        let (ascending, descending) = changes_by_pieces(
+            alloc,
+            apply,
+            &self.flat,
+            &first,
+            &self.sizes(),
+            workers,
+            scratch,
+        )?;
+        self.require(alloc, trial, first, &ascending)?;
+        self.require(alloc, trial, second, &descending)
+    }
+
+    // Fails where changes do not leave the vectors of the slow run, or are not at the vertices of its last set.
+    fn require(
+        &self,
+        alloc: Global,
+        trial: Trial<'_>,
+        mut vectors: Vectors,
+        changes: &Changes,
+    ) -> io::Result<()> {
+        let form = DenseVertexSet::BoolArray;
+        let modified = apply_modified(alloc, changes, trial.vector, self.vertices, form)?;
+        vectors.write(changes);
+        if has_entries(&vectors, trial.outcome) && has_members(&modified, trial.outcome) {
+            return Ok(());
+        }
+        Err(Error::other("an edge apply differs from the slow run"))
     }
 
     // What an apply changes, done in this way.
@@ -241,13 +329,18 @@ impl Work {
         vectors: &Vectors,
         scratch: &mut Scratch,
     ) -> io::Result<Changes> {
-        let size = i64::try_from(self.set.len()).unwrap_or(0);
-        let sizes = [i64::from(self.vertices), size];
+        let sizes = self.sizes();
         Ok(match way {
             Way::Push(_) => push(alloc, apply, &self.flat, vectors, &sizes, scratch)?,
             Way::Pull => pull(alloc, apply, &self.flat, vectors, &sizes, scratch)?,
             Way::Scheduled(_) => apply_edges(alloc, apply, &self.flat, vectors, &sizes, scratch)?,
         })
+    }
+
+    // The sizes of the program's sets.
+    fn sizes(&self) -> [i64; 2] {
+        let size = i64::try_from(self.set.len()).unwrap_or(0);
+        [i64::from(self.vertices), size]
     }
 
     // The vectors as the program fills them.
@@ -284,20 +377,32 @@ impl Functions {
     }
 }
 
-fn apply_of<'a>(
-    direction: Direction,
-    sides: (Side, Side),
-    set: &'a VertexSet,
+// An apply that is done in many ways: its functions, its ends, the vector whose changes are asked for, and what the slow
+// run shows behind it.
+#[derive(Clone, Copy)]
+struct Trial<'a> {
     functions: &'a Functions,
-) -> Apply<'a> {
-    Apply {
-        from: sides.0.end(set, &functions.filter),
-        to: sides.1.end(set, &functions.filter),
-        first: &functions.edge,
-        second: None,
-        direction,
-        parallelization: Parallelization::Serial,
-        dense_vertex_set: DenseVertexSet::BoolArray,
+    sides: (Side, Side),
+    vector: usize,
+    outcome: &'a Outcome,
+}
+
+impl<'a> Trial<'a> {
+    fn apply(
+        self,
+        direction: Direction,
+        parallelization: Parallelization,
+        set: &'a VertexSet,
+    ) -> Apply<'a> {
+        Apply {
+            from: self.sides.0.end(set, &self.functions.filter),
+            to: self.sides.1.end(set, &self.functions.filter),
+            first: &self.functions.edge,
+            second: None,
+            direction,
+            parallelization,
+            dense_vertex_set: DenseVertexSet::BoolArray,
+        }
     }
 }
 

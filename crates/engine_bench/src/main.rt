@@ -10,6 +10,7 @@ mod crew_runs;
 mod edge_applies;
 mod flats;
 mod kernel_runs;
+mod piece_applies;
 mod vertex_set_runs;
 
 use std::io::Error;

@@ -2,5 +2,6 @@ pub mod Measures
 pub mod Modified
 pub mod Within
 pub mod Putting
+pub mod PlanLines
 pub mod Statements
 pub mod Reduced

@@ -1,4 +1,6 @@
 pub mod Visible
 pub mod Kinds
+pub mod Text
+pub mod Targets
 pub mod Putting
 pub mod Compiling

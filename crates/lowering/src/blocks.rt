@@ -34,7 +34,7 @@ impl Lowering<'_> {
         visible: &mut Visible,
         code: &mut Vec<Instruction>,
     ) -> Result<(), AllocError>
-        ensures code { OnOk result (Puts code.old.items code.new.items (plan_all (program_tree self.entry.program.now) self.entry.schedule.now (length code.old.items) (depth_of visible.old) false (block_tree statements.now))) }
+        ensures code { OnOk result (Puts (program_tree self.entry.program.now) code.old.items code.new.items (plan_all (program_tree self.entry.program.now) self.entry.schedule.now (length code.old.items) (depth_of visible.old) false (block_tree statements.now))) }
         ensures visible { OnOk result (depth_of visible.new ≡ behind_all (block_tree statements.now) (depth_of visible.old)) }
     {
         let mut left = statements;
@@ -58,7 +58,7 @@ impl Lowering<'_> {
         code: &mut Vec<Instruction>,
     ) -> Result<bool, AllocError>
         ensures next { IfOk result (λ next. next ≡ takes_next (company_of (program_tree self.entry.program.now) self.entry.schedule.now (depth_of visible.old) is_done statement.now.label (action_tree statement.now.action) (block_tree rest.now))) }
-        ensures code { OnOk result (Puts code.old.items code.new.items
+        ensures code { OnOk result (Puts (program_tree self.entry.program.now) code.old.items code.new.items
             (plan_in (company_of (program_tree self.entry.program.now) self.entry.schedule.now (depth_of visible.old) is_done statement.now.label (action_tree statement.now.action) (block_tree rest.now))
             self.entry.schedule.now statement.now.number statement.now.label (depth_of visible.old)
             (plan (program_tree self.entry.program.now) self.entry.schedule.now (length code.old.items) (depth_of visible.old) statement.now.number statement.now.label (action_tree statement.now.action)))) }
@@ -95,7 +95,7 @@ impl Lowering<'_> {
         visible: &mut Visible,
         code: &mut Vec<Instruction>,
     ) -> Result<(), AllocError>
-        ensures code { OnOk result (Puts code.old.items code.new.items (plan (program_tree self.entry.program.now) self.entry.schedule.now (length code.old.items) (depth_of visible.old) statement.now.number statement.now.label (action_tree statement.now.action))) }
+        ensures code { OnOk result (Puts (program_tree self.entry.program.now) code.old.items code.new.items (plan (program_tree self.entry.program.now) self.entry.schedule.now (length code.old.items) (depth_of visible.old) statement.now.number statement.now.label (action_tree statement.now.action))) }
         ensures visible { OnOk result (depth_of visible.new ≡ behind (action_tree statement.now.action) (depth_of visible.old)) }
     {
         let number = statement.number;
@@ -125,7 +125,7 @@ impl Lowering<'_> {
         visible: &mut Visible,
         code: &mut Vec<Instruction>,
     ) -> Result<(), AllocError>
-        ensures code { (label : Option ℕ) → OnOk result (Puts code.old.items code.new.items (plan (program_tree self.entry.program.now) self.entry.schedule.now (length code.old.items) (depth_of visible.old) number label (If (condition_tree c.now) (block_tree body.now)))) }
+        ensures code { (label : Option ℕ) → OnOk result (Puts (program_tree self.entry.program.now) code.old.items code.new.items (plan (program_tree self.entry.program.now) self.entry.schedule.now (length code.old.items) (depth_of visible.old) number label (If (condition_tree c.now) (block_tree body.now)))) }
         ensures visible { OnOk result (depth_of visible.new ≡ depth_of visible.old) }
     {
         let depth = visible.depth();
@@ -148,7 +148,7 @@ impl Lowering<'_> {
         visible: &mut Visible,
         code: &mut Vec<Instruction>,
     ) -> Result<(), AllocError>
-        ensures code { (label : Option ℕ) → OnOk result (Puts code.old.items code.new.items (plan (program_tree self.entry.program.now) self.entry.schedule.now (length code.old.items) (depth_of visible.old) number label (IfElse (condition_tree c.now) (block_tree body.now) (block_tree other.now)))) }
+        ensures code { (label : Option ℕ) → OnOk result (Puts (program_tree self.entry.program.now) code.old.items code.new.items (plan (program_tree self.entry.program.now) self.entry.schedule.now (length code.old.items) (depth_of visible.old) number label (IfElse (condition_tree c.now) (block_tree body.now) (block_tree other.now)))) }
         ensures visible { OnOk result (depth_of visible.new ≡ depth_of visible.old) }
     {
         let depth = visible.depth();
@@ -175,7 +175,7 @@ impl Lowering<'_> {
         visible: &mut Visible,
         code: &mut Vec<Instruction>,
     ) -> Result<(), AllocError>
-        ensures code { (label : Option ℕ) → OnOk result (Puts code.old.items code.new.items (plan (program_tree self.entry.program.now) self.entry.schedule.now (length code.old.items) (depth_of visible.old) number label (While (condition_tree c.now) (block_tree body.now)))) }
+        ensures code { (label : Option ℕ) → OnOk result (Puts (program_tree self.entry.program.now) code.old.items code.new.items (plan (program_tree self.entry.program.now) self.entry.schedule.now (length code.old.items) (depth_of visible.old) number label (While (condition_tree c.now) (block_tree body.now)))) }
         ensures visible { OnOk result (depth_of visible.new ≡ depth_of visible.old) }
     {
         let depth = visible.depth();
@@ -201,7 +201,7 @@ impl Lowering<'_> {
         visible: &mut Visible,
         code: &mut Vec<Instruction>,
     ) -> Result<(), AllocError>
-        ensures code { (label : Option ℕ) → OnOk result (Puts code.old.items code.new.items (plan (program_tree self.entry.program.now) self.entry.schedule.now (length code.old.items) (depth_of visible.old) number label (For name (integer_tree first.now) (integer_tree end.now) (block_tree body.now)))) }
+        ensures code { (label : Option ℕ) → OnOk result (Puts (program_tree self.entry.program.now) code.old.items code.new.items (plan (program_tree self.entry.program.now) self.entry.schedule.now (length code.old.items) (depth_of visible.old) number label (For name (integer_tree first.now) (integer_tree end.now) (block_tree body.now)))) }
         ensures visible { OnOk result (depth_of visible.new ≡ depth_of visible.old) }
     {
         let depth = visible.depth();
@@ -227,7 +227,7 @@ impl Lowering<'_> {
         visible: &mut Visible,
         code: &mut Vec<Instruction>,
     ) -> Result<(), AllocError>
-        ensures code { OnOk result (Puts code.old.items code.new.items (plan_all (program_tree self.entry.program.now) self.entry.schedule.now (length code.old.items) (depth_of visible.old) false (block_tree body.now))) }
+        ensures code { OnOk result (Puts (program_tree self.entry.program.now) code.old.items code.new.items (plan_all (program_tree self.entry.program.now) self.entry.schedule.now (length code.old.items) (depth_of visible.old) false (block_tree body.now))) }
         ensures visible { OnOk result (depth_of visible.new ≡ depth_of visible.old) }
     {
         let depth = visible.depth();

@@ -1,15 +1,18 @@
 //! Single instructions.
-ghost use Rattle.std.specs.Prelude.{◌≡◌, ◌∷◌, [], IfOk, OnOk, slice_set, vec_len};
+ghost use Rattle.std.specs.Prelude.{◌≡◌, ◌++◌, ◌∷◌, [], IfOk, OnOk, slice_set, vec_len};
 ghost use Rattle.typed_tree.specs.BlockTree.{DeclareInteger, action_tree};
 ghost use Rattle.typed_tree.specs.ConditionTree.{condition_tree};
 ghost use Rattle.typed_tree.specs.IntegerTree.{integer_tree};
+ghost use Rattle.typed_tree.specs.ProgramTree.{program_tree};
 ghost use Rattle.schedule.specs.Schedule.{no_choice};
 ghost use Rattle.plans.specs.Instruction.{Advance, Do, Enter, Jump, Turn, Unless, UnlessBelow};
 ghost use Rattle.plans.specs.Plan.{chosen, in_loop, loop_step, plain as plain_tree, with_integer};
-ghost use Rattle.fusing.specs.Parts.{together_tree};
-ghost use Rattle.instructions.specs.Operation.{IsInstruction, IsOperation};
+ghost use Rattle.plan_text.specs.Words.{spaced};
+ghost use Rattle.fusing.specs.Parts.{part_tree, together_tree};
+ghost use Rattle.instructions.specs.Operation.{IsOperation};
 ghost use Rattle.lowering.specs.Kinds.{HasNoBlock};
 ghost use Rattle.lowering.specs.Putting.{Puts};
+ghost use Rattle.lowering.specs.Text.{IsWritten, operation_words, shown_part};
 ghost use Rattle.lowering.specs.Visible.{depth_of};
 
 use crate::blocks::Lowering;
@@ -30,6 +33,7 @@ pub(crate) fn plain(number: u64, depth: Depth, operation: Operation, words: Vec<
     ensures keep { result.keep ≡ depth }
     ensures shown { result.shown ≡ depth }
     ensures choice { result.choice ≡ no_choice }
+    ensures words { result.words ≡ words }
 {
     Instruction {
         number,
@@ -59,7 +63,7 @@ impl Lowering<'_> {
         c: &Condition,
         to: usize,
     ) -> Result<Instruction, AllocError>
-        ensures { IfOk result (λ i. IsInstruction i (plain_tree number depth (Unless (condition_tree c.now) to))) }
+        ensures { IfOk result (λ i. IsWritten (program_tree self.entry.program.now) i (plain_tree number depth (Unless (condition_tree c.now) to))) }
     {
         let mut words = Vec::new(self.alloc);
         Lines {
@@ -77,7 +81,7 @@ impl Lowering<'_> {
         keep: Depth,
         shown: Depth,
     ) -> Result<Instruction, AllocError>
-        ensures { IfOk result (λ i. IsInstruction i (loop_step number keep shown Turn)) }
+        ensures { IfOk result (λ i. IsWritten (program_tree self.entry.program.now) i (loop_step number keep shown Turn)) }
     {
         let mut words = Vec::new(self.alloc);
         words.extend_from_slice(b"turn ")?;
@@ -99,7 +103,7 @@ impl Lowering<'_> {
         shown: Depth,
         to: usize,
     ) -> Result<Instruction, AllocError>
-        ensures { IfOk result (λ i. IsInstruction i (loop_step number keep shown (Jump to))) }
+        ensures { IfOk result (λ i. IsWritten (program_tree self.entry.program.now) i (loop_step number keep shown (Jump to))) }
     {
         let mut words = Vec::new(self.alloc);
         words.extend_from_slice(b"jump ")?;
@@ -120,7 +124,7 @@ impl Lowering<'_> {
         depth: Depth,
         name: usize,
     ) -> Result<Instruction, AllocError>
-        ensures { IfOk result (λ i. IsInstruction i (plain_tree number depth (Advance name))) }
+        ensures { IfOk result (λ i. IsWritten (program_tree self.entry.program.now) i (plain_tree number depth (Advance name))) }
     {
         let mut words = Vec::new(self.alloc);
         Lines {
@@ -139,7 +143,7 @@ impl Lowering<'_> {
         name: usize,
         to: usize,
     ) -> Result<Instruction, AllocError>
-        ensures { IfOk result (λ i. IsInstruction i (loop_step number keep shown (UnlessBelow name to))) }
+        ensures { IfOk result (λ i. IsWritten (program_tree self.entry.program.now) i (loop_step number keep shown (UnlessBelow name to))) }
     {
         let mut words = Vec::new(self.alloc);
         Lines {
@@ -164,7 +168,7 @@ impl Lowering<'_> {
         name: usize,
         e: &Integer,
     ) -> Result<Instruction, AllocError>
-        ensures { IfOk result (λ i. IsInstruction i (plain_tree number depth (Do (DeclareInteger name (integer_tree e.now))))) }
+        ensures { IfOk result (λ i. IsWritten (program_tree self.entry.program.now) i (plain_tree number depth (Do (DeclareInteger name (integer_tree e.now))))) }
     {
         let mut words = Vec::new(self.alloc);
         Lines {
@@ -189,7 +193,7 @@ impl Lowering<'_> {
         name: usize,
         e: &Integer,
     ) -> Result<Instruction, AllocError>
-        ensures { IfOk result (λ i. IsInstruction i (loop_step number keep shown (Enter name (integer_tree e.now)))) }
+        ensures { IfOk result (λ i. IsWritten (program_tree self.entry.program.now) i (loop_step number keep shown (Enter name (integer_tree e.now)))) }
     {
         let mut words = Vec::new(self.alloc);
         Lines {
@@ -217,7 +221,7 @@ impl Lowering<'_> {
         visible: &mut Visible,
         code: &mut Vec<Instruction>,
     ) -> Result<(), AllocError>
-        ensures code { OnOk result (Puts code.old.items code.new.items
+        ensures code { OnOk result (Puts (program_tree self.entry.program.now) code.old.items code.new.items
             (plain_tree number (depth_of visible.old) (Do (DeclareInteger name (integer_tree first.now)))
             ∷ loop_step number (with_integer (depth_of visible.old)) (depth_of visible.old) (Enter name (integer_tree end.now)) ∷ [])) }
         ensures visible { OnOk result (depth_of visible.new ≡ in_loop (depth_of visible.old)) }
@@ -236,7 +240,7 @@ impl Lowering<'_> {
         depth: Depth,
         code: &mut Vec<Instruction>,
     ) -> Result<(), AllocError>
-        ensures { HasNoBlock (action_tree statement.now.action) → OnOk result (Puts code.old.items code.new.items (chosen self.entry.schedule.now statement.now.number statement.now.label depth (Do (action_tree statement.now.action)) ∷ [])) }
+        ensures { HasNoBlock (action_tree statement.now.action) → OnOk result (Puts (program_tree self.entry.program.now) code.old.items code.new.items (chosen self.entry.schedule.now statement.now.number statement.now.label depth (Do (action_tree statement.now.action)) ∷ [])) }
     {
         let choice = self.schedule.choice_at(statement.label);
         let mut words = Vec::new(self.alloc);
@@ -264,7 +268,7 @@ impl Lowering<'_> {
         depth: Depth,
         code: &mut Vec<Instruction>,
     ) -> Result<(), AllocError>
-        ensures { OnOk result (Puts code.old.items code.new.items (chosen self.entry.schedule.now statement.now.number statement.now.label depth (together_tree pair) ∷ [])) }
+        ensures { OnOk result (Puts (program_tree self.entry.program.now) code.old.items code.new.items (chosen self.entry.schedule.now statement.now.number statement.now.label depth (together_tree pair) ∷ [])) }
     {
         let choice = self.schedule.choice_at(statement.label);
         let mut words = Vec::new(self.alloc);
@@ -285,7 +289,9 @@ impl Lowering<'_> {
         words: &mut Vec<u8>,
         pair: Together,
         choice: Choice,
-    ) -> Result<(), AllocError> {
+    ) -> Result<(), AllocError>
+        ensures { OnOk result (words.new.items ≡ words.old.items ++ spaced (operation_words (program_tree self.entry.program.now) choice (together_tree pair))) }
+    {
         let lines = Lines {
             program: self.program,
         };
@@ -325,7 +331,9 @@ fn operation_of_pair(pair: Together) -> Operation
 }
 
 /// An edge function as the plan's text names it.
-fn part_of(part: EdgePart) -> Part {
+fn part_of(part: EdgePart) -> Part
+    ensures { result ≡ shown_part (part_tree part) }
+{
     let changed = match part.result {
         PartResult::Dropped => None,
         PartResult::Declared { name, vector } => Some(ChangedSet { name, vector }),

@@ -1,9 +1,10 @@
 //! The lowering of whole programs.
-ghost use Rattle.std.specs.Prelude.{◌≡◌, IfOk};
+ghost use Rattle.std.specs.Prelude.{◌≡◌, ◌++◌, IfOk, OnOk};
 ghost use Rattle.typed_tree.specs.ProgramTree.{program_tree};
 ghost use Rattle.plans.specs.Plan.{plan_of};
-ghost use Rattle.instructions.specs.Operation.{AreInstructions};
+ghost use Rattle.plan_text.specs.Lines.{group_words};
 ghost use Rattle.instructions.specs.Plan.{IsPlan};
+ghost use Rattle.lowering.specs.Text.{AreWritten, HasText, group_lines, line_of};
 
 use crate::blocks::Lowering;
 use crate::copies::copied;
@@ -19,7 +20,8 @@ use typed_tree::Typed;
 /// be shown: `lower` itself takes any. The time is in proportion to the program, and for each two applies that the schedule
 /// fuses to what decides whether they fit. The only error is out of memory.
 pub fn lower(alloc: Global, program: &Typed, schedule: &Schedule) -> Result<Plan, AllocError>
-    ensures { IfOk result (λ plan. IsPlan plan (program_tree program.now) schedule.now) }
+    ensures plan { IfOk result (λ plan. IsPlan plan (program_tree program.now) schedule.now) }
+    ensures text { IfOk result (λ plan. HasText plan (program_tree program.now) schedule.now) }
 {
     let instructions = instructions_of(alloc, program, schedule)?;
     let functions = Functions::of(alloc, program)?;
@@ -45,7 +47,7 @@ fn instructions_of(
     program: &Typed,
     schedule: &Schedule,
 ) -> Result<Vec<Instruction>, AllocError>
-    ensures { IfOk result (λ code. AreInstructions code.items (plan_of (program_tree program.now) schedule.now)) }
+    ensures { IfOk result (λ code. AreWritten (program_tree program.now) code.items (plan_of (program_tree program.now) schedule.now)) }
 {
     let mut visible = Visible::new(alloc, &program.sets)?;
     let mut code = Vec::new(alloc);
@@ -62,11 +64,21 @@ fn instructions_of(
 }
 
 /// The text of the groups, a line for each.
-fn fields_of(alloc: Global, program: &Typed, schedule: &Schedule) -> Result<Vec<u8>, AllocError> {
+fn fields_of(alloc: Global, program: &Typed, schedule: &Schedule) -> Result<Vec<u8>, AllocError>
+    ensures { IfOk result (λ fields. fields.items ≡ group_lines (program_tree program.now) schedule.now.groups) }
+{
+    let groups = schedule.groups();
     let mut fields = Vec::new(alloc);
-    'groups: for group in schedule.groups() {
-        Lines { program }.put_group(&mut fields, group.as_slice())?;
-        end_line(&mut fields)?;
+    'groups: for group in groups {
+        put_fields(&mut fields, Lines { program }, group.as_slice())?;
     }
     Ok(fields)
+}
+
+/// The line of a group.
+fn put_fields(fields: &mut Vec<u8>, lines: Lines<'_>, vectors: &[usize]) -> Result<(), AllocError>
+    ensures { OnOk result (fields.new.items ≡ fields.old.items ++ line_of (group_words (program_tree lines.entry.program.now) vectors.now)) }
+{
+    lines.put_group(fields, vectors)?;
+    end_line(fields)
 }

@@ -1,2 +1,2 @@
 mod Rows
-mod Spaces
+pub mod Spaces

@@ -1,15 +1,13 @@
 -- Texts that are sent one after another.
-use Rattle.std.proofs.Common.{◌≡◌, ℕ, List, [], ◌∷◌, ◌++◌, take, drop, Result, Ok, Err, refl, sym, ap, ◌∙◌, subst, append_assoc, append-nil, arith}
-use Rattle.std.proofs.lemmas.List.{take-append-drop}
+use Rattle.std.proofs.Common.{◌≡◌, ℕ, List, [], ◌∷◌, ◌++◌, ◌+◌, ◌<◌, length, get_or, take, drop, Result, Ok, Err, refl, sym, ap, ◌∙◌, subst, append_assoc, append-nil, arith}
+use Rattle.std.proofs.lemmas.List.{take-append-drop, drop_more, take_more}
 use Rattle.std.proofs.lemmas.Grind.{flat_map-append}
 use Rattle.std.specs.List.{flat_map}
-use Rattle.tree_batch.specs.Edge.{Edge}
 use Rattle.std.specs.Result.{IsErrAnd}
 use Rattle.std.proofs.lemmas.Result.{err_from_is_err_and}
 use Rattle.devices.specs.Drain.{TakesPart}
 use Rattle.scripts.specs.declared.error.ScriptError.{ScriptError}
 use Rattle.scripts.specs.declared.error.ScriptError.TheVariants.{NoMemory, ReadFailed, WriteFailed}
-use Rattle.scripts.specs.ReplyText.{edge_line}
 use Rattle.scripts.specs.Sending.{Output, TakesFirst, Sends, SendsPart, Fails, Emits}
 
 -- a call that sends a text, where the text is known otherwise
@@ -107,17 +105,50 @@ all_taken a b t before after sends =
     sym (append-nil sends.takes.sent) ∙ ap (λ xs. sends.takes.sent ++ xs) (sym after) ∙ sends.takes.whole ∙ ap (λ xs. xs ++ t) before in
     sends.takes.taken ∙ ap (λ xs. a.taken ++ xs) sent
 
--- one more line of edges
-pub sends_edge : (a b c : Output) (t : List ℕ) (edges : List Edge) (e : Edge) → Sends a b (t ++ flat_map edge_line edges) → Sends b c (edge_line e) → Sends a c (t ++ flat_map edge_line (edges ++ e ∷ []))
-sends_edge a b c t edges e one other =
-    let all : (t ++ flat_map edge_line edges) ++ edge_line e ≡ t ++ flat_map edge_line (edges ++ e ∷ []) =
-    append_assoc t (flat_map edge_line edges) (edge_line e) ∙ ap (λ xs. t ++ (flat_map edge_line edges ++ xs)) (sym (append-nil (edge_line e))) ∙ ap (λ xs. t ++ xs) (sym (flat_map-append edge_line edges (e ∷ []))) in
-    subst (Sends a c) all (sends_then a b c (t ++ flat_map edge_line edges) (edge_line e) one other)
+-- what was kept is written, and then these bytes
+pub sends_written : (a b c : Output) (bytes : List ℕ) → Sends a b [] → b.kept ≡ [] → c.writer ≡ b.writer → c.kept ≡ b.kept → c.taken ≡ b.taken ++ bytes → c.failures ≡ b.failures → Sends a c bytes
+sends_written a b c bytes one none who kept taken failures =
+    let whole : bytes ++ c.kept ≡ b.kept ++ bytes = ap (λ xs. bytes ++ xs) (kept ∙ none) ∙ append-nil bytes ∙ ap (λ xs. xs ++ bytes) (sym none) in
+    sends_then a b c [] bytes one (record { takes = record { same = who; sent = bytes; taken = taken; whole = whole }; failures = failures })
 
--- a line of edges that fails, before others
-pub fails_edge : (a b c : Output) (t : List ℕ) (edges rest all : List Edge) (e : Edge) (error : ScriptError) → edges ++ e ∷ rest ≡ all → Sends a b (t ++ flat_map edge_line edges) → Fails b c (edge_line e) error → Fails a c (t ++ flat_map edge_line all) error
-fails_edge a b c t edges rest all e error is one other =
-    let whole : ((t ++ flat_map edge_line edges) ++ edge_line e) ++ flat_map edge_line rest ≡ t ++ flat_map edge_line all =
-    append_assoc (t ++ flat_map edge_line edges) (edge_line e) (flat_map edge_line rest) ∙ append_assoc t (flat_map edge_line edges) (edge_line e ++ flat_map edge_line rest) ∙ ap (λ xs. t ++ xs) (sym (flat_map-append edge_line edges (e ∷ rest)))
-    ∙ ap (λ (es : List Edge). t ++ flat_map edge_line es) is in
-    subst (λ u. Fails a c u error) whole (fails_more a c ((t ++ flat_map edge_line edges) ++ edge_line e) (flat_map edge_line rest) error (fails_then a b c (t ++ flat_map edge_line edges) (edge_line e) error one other))
+-- and the writer fails in these
+pub fails_written : (a b c : Output) (bytes : List ℕ) → Sends a b [] → b.kept ≡ [] → c.writer ≡ b.writer → TakesPart b.taken c.taken bytes → b.failures < c.failures → Fails a c bytes WriteFailed
+fails_written a b c bytes one none who part more =
+    let whole : take part.count bytes ++ drop part.count bytes ≡ b.kept ++ bytes = take-append-drop part.count bytes ∙ ap (λ xs. xs ++ bytes) (sym none) in
+    fails_then a b c [] bytes WriteFailed one ((drop part.count bytes, record { same = who; sent = take part.count bytes; taken = part.taken; whole = whole }), more)
+
+-- a text that is known otherwise was sent, and a call sends another
+pub emits_next : {A : Type 0} (a b c : Output) (t u told : List ℕ) (r : Result A ScriptError) → Sends a b told → told ≡ t → Emits b c u r → Emits a c (t ++ u) r
+emits_next a b c t u told r one is other = emits_then a b c t u r (subst (Sends a b) is one) other
+
+-- a call that was to send a text, which is known otherwise and more follows, and failed
+pub emits_stopped : {A : Type 0} (a b : Output) (t u told : List ℕ) (r : Result A ScriptError) (e : ScriptError) → IsErrAnd r (λ d. d ≡ e) → told ≡ t → Fails a b told e → Emits a b (t ++ u) r
+emits_stopped a b t u told r e fails is other = emits_failed a b (t ++ u) r e fails (fails_more a b t u e (subst (λ text. Fails a b text e) is other))
+
+-- one more item
+pub sends_item : {A : Type 0} (f : A → List ℕ) (a b c : Output) (t : List ℕ) (xs : List A) (x : A) → Sends a b (t ++ flat_map f xs) → Sends b c (f x) → Sends a c (t ++ flat_map f (xs ++ x ∷ []))
+sends_item f a b c t xs x one other =
+    let all : (t ++ flat_map f xs) ++ f x ≡ t ++ flat_map f (xs ++ x ∷ []) =
+    append_assoc t (flat_map f xs) (f x) ∙ ap (λ us. t ++ (flat_map f xs ++ us)) (sym (append-nil (f x))) ∙ ap (λ us. t ++ us) (sym (flat_map-append f xs (x ∷ []))) in
+    subst (Sends a c) all (sends_then a b c (t ++ flat_map f xs) (f x) one other)
+
+-- an item that fails, before others
+pub fails_item : {A : Type 0} (f : A → List ℕ) (a b c : Output) (t : List ℕ) (xs rest all : List A) (x : A) (error : ScriptError) → xs ++ x ∷ rest ≡ all → Sends a b (t ++ flat_map f xs) → Fails b c (f x) error → Fails a c (t ++ flat_map f all) error
+fails_item {A} f a b c t xs rest all x error is one other =
+    let whole : ((t ++ flat_map f xs) ++ f x) ++ flat_map f rest ≡ t ++ flat_map f all =
+    append_assoc (t ++ flat_map f xs) (f x) (flat_map f rest) ∙ append_assoc t (flat_map f xs) (f x ++ flat_map f rest) ∙ ap (λ us. t ++ us) (sym (flat_map-append f xs (x ∷ rest)))
+    ∙ ap (λ (ys : List A). t ++ flat_map f ys) is in
+    subst (λ u. Fails a c u error) whole (fails_more a c ((t ++ flat_map f xs) ++ f x) (flat_map f rest) error (fails_then a b c (t ++ flat_map f xs) (f x) error one other))
+
+-- the same of the items of a list up to a place
+module _ {A : Type 0} (f : A → List ℕ) (a b c : Output) (xs : List A) (place : ℕ) (x none : A) (within : place < length xs) (is : x ≡ get_or xs place none) where
+  split_at : take place xs ++ x ∷ drop (place + 1) xs ≡ xs
+  split_at = ap (λ ys. take place xs ++ ys) (ap (λ y. y ∷ drop (place + 1) xs) is ∙ sym (drop_more xs place none within)) ∙ take-append-drop place xs
+
+  pub sends_at : Sends a b (flat_map f (take place xs)) → Sends b c (f x) → Sends a c (flat_map f (take (place + 1) xs))
+  sends_at one other =
+      let more : take place xs ++ x ∷ [] ≡ take (place + 1) xs = ap (λ y. take place xs ++ y ∷ []) is ∙ sym (take_more xs place none within) in
+      subst (λ (ys : List A). Sends a c (flat_map f ys)) more (sends_item f a b c [] (take place xs) x one other)
+
+  pub fails_at : (error : ScriptError) → Sends a b (flat_map f (take place xs)) → Fails b c (f x) error → Fails a c (flat_map f xs) error
+  fails_at error one other = fails_item f a b c [] (take place xs) (drop (place + 1) xs) xs x error split_at one other

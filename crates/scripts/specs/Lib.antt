@@ -10,3 +10,4 @@ pub mod Stepping
 pub mod Sending
 pub mod Progress
 pub mod Text
+pub mod Snapshots

@@ -27,12 +27,13 @@ mod pieces;
 mod reply_writer;
 mod scripts;
 mod session;
+mod snapshots;
 mod text;
 mod words;
 
 pub use commands::{Command, DEFAULT_CHUNK_SIZE};
 pub use error::ScriptError;
-pub use outcome_text::{is_fault, push_outcome};
+pub use outcome_text::is_fault;
 pub use parse::command;
 pub use pieces::{first_piece, joined_pieces, last_line, split_line};
 pub use scripts::script;

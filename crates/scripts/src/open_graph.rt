@@ -1,11 +1,14 @@
 //! What a script has once a graph is open, and the commands on it.
-ghost use Rattle.std.specs.Prelude.{◌≡◌, ◌∷◌, ◌++◌, [], false, IfOk, OnOk, Some, map};
+ghost use Rattle.std.specs.Prelude.{◌≡◌, ◌∷◌, ◌++◌, [], false, nat_eq, IfOk, IfSome, OnOk, Some, map};
 ghost use Rattle.std.specs.Option.{option_copied, option_map};
-ghost use Rattle.typed_tree.specs.ProgramTree.{program_tree};
+ghost use Rattle.indexmap.specs.IndexMap.{get};
+ghost use Rattle.programs.specs.Program.{program_tree};
+ghost use Rattle.tree_batch.specs.Digraph.{Digraph};
 ghost use Rattle.version_list.specs.declared.step.Step.TheVariants as step;
 ghost use Rattle.version_list.specs.Machine.{opened};
 ghost use Rattle.scripts.specs.Replies.{on_open, stepping, which_of, graph_of, listing, running, program_of, meaning_on};
 ghost use Rattle.scripts.specs.Sending.{Emits};
+ghost use Rattle.scripts.specs.Snapshots.{IsVersion, MayGain};
 ghost use Rattle.scripts.specs.Stepping.{IsAnswered, refusal_of};
 
 use crate::commands::Command;
@@ -13,13 +16,14 @@ use crate::error::ScriptError;
 use crate::line_reply::LineReply;
 use crate::outcome_text::is_fault;
 use crate::reply_writer::ReplyWriter;
-use algorithm_meaning::{Outcome, plain_run};
+use crate::snapshots::Snapshots;
+use algorithm_meaning::Outcome;
 use devices::Drain;
+use programs::Program;
 use std::alloc::{AllocError, Global};
 use std::marker::Model;
 use std::mem;
 use tree_batch::{Batch, Entry, Graph};
-use typed_tree::Typed;
 use version_list::{Ticket, VersionError, Versions, Which};
 
 /// The refusal of a line that is no command, or none that may stand there.
@@ -31,10 +35,11 @@ const NO_PROGRAM: u16 = 412;
 /// The refusal of a number of workers that is not 1 to 64.
 const BAD_WORKERS: u16 = 411;
 
-/// The versions of a graph, the entries that the next commit takes, and whether some run on it has
-/// ended by a fault.
+/// The versions of a graph with the snapshots of those that were run on, the entries that the next
+/// commit takes, and whether some run on it has ended by a fault.
 pub(crate) struct OpenGraph {
     versions: Versions,
+    snapshots: Snapshots,
     pending: Batch,
     faulted: bool,
 }
@@ -49,12 +54,17 @@ impl Model for OpenGraph {
       pending = o.pending;
       faulted = o.faulted;
     } };
+
+    ghost use Rattle.scripts.specs.Snapshots.{AreOf};
+
+    ghost invariant = { λ o. AreOf o.versions.state o.snapshots };
 }
 
 impl Drop for OpenGraph {
     fn drop(self) {
         let OpenGraph {
             versions: _,
+            snapshots: _,
             pending: _,
             faulted: _,
         } = self;
@@ -68,6 +78,7 @@ impl OpenGraph {
     {
         OpenGraph {
             versions,
+            snapshots: Snapshots::new(alloc),
             pending: Batch::new(alloc),
             faulted: false,
         }
@@ -84,7 +95,7 @@ impl OpenGraph {
     pub(crate) fn answer<W: Drain>(
         &mut self,
         alloc: Global,
-        programs: &[Typed],
+        programs: &[Program],
         command: Command,
         replies: &mut ReplyWriter<'_, W>,
     ) -> Result<(), ScriptError>
@@ -144,9 +155,13 @@ impl OpenGraph {
         ensures { IfOk result (IsAnswered self.new
             (stepping self.old (step.Commit self.old.pending) [])) }
     {
+        let (before, _) = self.versions.newest();
         let batch = mem::replace(&mut self.pending, Batch::new(alloc));
         match self.versions.commit(alloc, batch) {
-            Ok(number) => Ok(LineReply::Version(number)),
+            Ok(number) => {
+                self.snapshots.let_go(&self.versions, before);
+                Ok(LineReply::Version(number))
+            }
             Err(error) => refusal(error),
         }
     }
@@ -170,8 +185,15 @@ impl OpenGraph {
         ensures { IfOk result (IsAnswered self.new
             (stepping self.old (step.Release number) self.old.pending)) }
     {
-        match self.versions.release(Ticket { number }) {
-            Ok(()) => Ok(LineReply::Released(number)),
+        let ticket = Ticket { number };
+        let version = self.versions.version(ticket);
+        match self.versions.release(ticket) {
+            Ok(()) => {
+                if let Some(version) = version {
+                    self.snapshots.let_go(&self.versions, version);
+                }
+                Ok(LineReply::Released(number))
+            }
             Err(error) => refusal(error),
         }
     }
@@ -185,8 +207,8 @@ impl OpenGraph {
         ensures { Emits replies.old replies.new
             (listing self.now (graph_of self.now.versions ticket)).text result }
     {
-        match self.graph(ticket) {
-            Some(graph) => replies.send_edges(graph),
+        match version_of(&self.versions, ticket) {
+            Some((_, graph)) => replies.send_edges(graph),
             None => replies.send_line(LineReply::Refused(VersionError::NotHeld.number())),
         }
     }
@@ -196,7 +218,7 @@ impl OpenGraph {
     fn run<W: Drain>(
         &mut self,
         alloc: Global,
-        program: &Typed,
+        program: &Program,
         turns: u64,
         workers: u64,
         ticket: Option<u64>,
@@ -207,30 +229,34 @@ impl OpenGraph {
         ensures state { OnOk result (self.new ≡ (running self.old turns workers
             (Some (program_tree program.now)) (graph_of self.old.versions ticket)).state) }
     {
-        let Some(graph) = self.graph(ticket) else {
+        let Some((version, graph)) = version_of(&self.versions, ticket) else {
             return replies.send_line(LineReply::Refused(VersionError::NotHeld.number()));
         };
         if workers == 0 || workers > 64 {
             return replies.send_line(LineReply::Refused(BAD_WORKERS));
         }
-        let outcome = run_on(alloc, program, graph, turns)?;
+        let outcome = run_on(alloc, program, &mut self.snapshots, version, graph, turns)?;
         self.faulted = self.faulted || is_fault(outcome.end);
         replies.send_outcome(&outcome)
     }
+}
 
-    /// The graph of the newest version, or of the one that a ticket holds, where it is open.
-    fn graph(&self, ticket: Option<u64>) -> Option<&Graph>
-        ensures { option_copied result ≡ graph_of self.now.versions ticket }
-    {
-        match ticket {
-            None => Some(self.versions.newest().1),
-            Some(number) => self.versions.graph(Ticket { number }),
-        }
-    }
+/// The newest version, or the one that a ticket holds, where it is open: its number and its graph.
+fn version_of(versions: &Versions, ticket: Option<u64>) -> Option<(u64, &Graph)>
+    ensures graph { option_map (λ v. v.1.now) result ≡ graph_of versions.now.state ticket }
+    ensures version { IfSome result (λ v. IsVersion versions.now.state v.0 v.1.now) }
+{
+    let Some(number) = ticket else {
+        return Some(versions.newest());
+    };
+    let ticket = Ticket { number };
+    let version = versions.version(ticket)?;
+    let graph = versions.graph(ticket)?;
+    Some((version, graph))
 }
 
 /// The program of this number, from 1.
-fn program_at(programs: &[Typed], number: u64) -> Option<&Typed>
+fn program_at(programs: &[Program], number: u64) -> Option<&Program>
     ensures { option_map (λ p. program_tree p.now) result
         ≡ program_of (map program_tree programs.now) number }
 {
@@ -238,12 +264,22 @@ fn program_at(programs: &[Typed], number: u64) -> Option<&Typed>
     programs.get(place)
 }
 
-/// What a program shows on a graph.
-fn run_on(alloc: Global, program: &Typed, graph: &Graph, turns: u64) -> Result<Outcome, AllocError>
-    ensures { IfOk result (λ o. o ≡ meaning_on graph.now (program_tree program.now) turns) }
+/// What a program shows on a version, whose graph this is. The version's snapshot is made where there is none.
+fn run_on(
+    alloc: Global,
+    program: &Program,
+    snapshots: &mut Snapshots,
+    version: u64,
+    graph: &Graph,
+    turns: u64,
+) -> Result<Outcome, AllocError>
+    requires { (flat : Digraph) → get nat_eq snapshots.old.flats version ≡ Some flat → flat ≡ graph.now }
+    ensures outcome { IfOk result (λ o. o ≡ meaning_on graph.now (program_tree program.now) turns) }
+    ensures others { MayGain snapshots.old version graph.now snapshots.new }
 {
-    let edges: Vec<(u32, u32)> = graph.edges().collect(alloc)?;
-    plain_run(alloc, program, graph.vertices(), &edges, turns)
+    snapshots.make(alloc, version, graph)?;
+    let snapshot = snapshots.get(version).unwrap();
+    program.run(alloc, snapshot, turns)
 }
 
 /// The reply to a step that was refused. `NoMemory` has no reply, and gives `AllocError`.

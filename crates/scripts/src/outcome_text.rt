@@ -1,11 +1,15 @@
-//! Outcomes as text.
+//! Outcomes as text, sent piece by piece.
 ghost use Rattle.std.specs.Fmt.{signed_decimal};
 ghost use Rattle.std.specs.List.{flat_map};
 ghost use Rattle.std.specs.Prelude.{◌≡◌, ◌∷◌, ◌++◌, OnOk, decimal};
 ghost use Rattle.scripts.specs.OutcomeText.{end_line, end_text, fault_text, labelled, is_fault as faulted, outcome_text, set_line, vector_line};
+ghost use Rattle.scripts.specs.Sending.{Emits};
 
+use crate::error::ScriptError;
+use crate::reply_writer::ReplyWriter;
 use algorithm_meaning::{End, NamedSet, NamedVector, Outcome};
 use decimal::{push_integer, push_number};
+use devices::Drain;
 use std::alloc::AllocError;
 
 /// Whether a run that ended so ended by a fault.
@@ -15,15 +19,96 @@ pub fn is_fault(end: End) -> bool
     matches!(end, End::Fault(..))
 }
 
-/// Appends the text of what a run shows. After `AllocError`, the only error, a part of the text may
-/// stand there.
-pub fn push_outcome(out: &mut Vec<u8>, outcome: &Outcome) -> Result<(), AllocError>
-    ensures { OnOk result (out.new.items ≡ out.old.items ++ outcome_text outcome.now) }
-{
-    out.extend_from_slice(outcome.text.as_slice())?;
-    push_end_line(out, outcome.end, outcome.turns)?;
-    push_vectors(out, outcome.vectors.as_slice())?;
-    push_sets(out, outcome.sets.as_slice())
+impl<'a, W: Drain> ReplyWriter<'a, W> {
+    /// Sends what a run shows. Each piece of its text goes its way before the next is made.
+    pub(crate) fn send_outcome(&mut self, outcome: &Outcome) -> Result<(), ScriptError>
+        ensures { Emits self.old self.new (outcome_text outcome.now) result }
+    {
+        self.send_bytes(outcome.text.as_slice())?;
+        self.send_end(outcome.end, outcome.turns)?;
+        self.send_vectors(outcome.vectors.as_slice())?;
+        self.send_sets(outcome.sets.as_slice())
+    }
+
+    fn send_end(&mut self, end: End, turns: u64) -> Result<(), ScriptError>
+        ensures { Emits self.old self.new (end_line end turns) result }
+    {
+        self.make_room()?;
+        push_end_line(self.kept, end, turns)?;
+        Ok(())
+    }
+
+    fn send_vectors(&mut self, vectors: &[NamedVector]) -> Result<(), ScriptError>
+        ensures { Emits self.old self.new (flat_map vector_line vectors.now) result }
+    {
+        'vectors: for vector in vectors {
+            self.send_vector(vector)?;
+        }
+        Ok(())
+    }
+
+    fn send_vector(&mut self, vector: &NamedVector) -> Result<(), ScriptError>
+        ensures { Emits self.old self.new (vector_line vector.now) result }
+    {
+        self.send_bytes(b"vector ")?;
+        self.send_bytes(vector.name.as_slice())?;
+        self.send_bytes(b":")?;
+        self.send_integers(vector.entries.as_slice())?;
+        self.send_bytes(b"\n")
+    }
+
+    fn send_integers(&mut self, integers: &[i64]) -> Result<(), ScriptError>
+        ensures { Emits self.old self.new (flat_map (λ n. 32 ∷ signed_decimal n) integers.now) result }
+    {
+        'integers: for integer in integers {
+            self.send_integer(*integer)?;
+        }
+        Ok(())
+    }
+
+    fn send_integer(&mut self, integer: i64) -> Result<(), ScriptError>
+        ensures { Emits self.old self.new (32 ∷ signed_decimal integer) result }
+    {
+        self.make_room()?;
+        push_spaced_integer(self.kept, integer)?;
+        Ok(())
+    }
+
+    fn send_sets(&mut self, sets: &[NamedSet]) -> Result<(), ScriptError>
+        ensures { Emits self.old self.new (flat_map set_line sets.now) result }
+    {
+        'sets: for set in sets {
+            self.send_set(set)?;
+        }
+        Ok(())
+    }
+
+    fn send_set(&mut self, set: &NamedSet) -> Result<(), ScriptError>
+        ensures { Emits self.old self.new (set_line set.now) result }
+    {
+        self.send_bytes(b"set ")?;
+        self.send_bytes(set.name.as_slice())?;
+        self.send_bytes(b":")?;
+        self.send_members(set.members.as_slice())?;
+        self.send_bytes(b"\n")
+    }
+
+    fn send_members(&mut self, members: &[u32]) -> Result<(), ScriptError>
+        ensures { Emits self.old self.new (flat_map (λ n. 32 ∷ decimal n) members.now) result }
+    {
+        'members: for member in members {
+            self.send_member(*member)?;
+        }
+        Ok(())
+    }
+
+    fn send_member(&mut self, member: u32) -> Result<(), ScriptError>
+        ensures { Emits self.old self.new (32 ∷ decimal member) result }
+    {
+        self.make_room()?;
+        push_spaced_number(self.kept, u64::from(member))?;
+        Ok(())
+    }
 }
 
 fn push_end_line(out: &mut Vec<u8>, end: End, turns: u64) -> Result<(), AllocError>
@@ -60,62 +145,16 @@ fn push_labelled(out: &mut Vec<u8>, label: &[u8], number: u64) -> Result<(), All
     push_number(out, number)
 }
 
-fn push_vectors(out: &mut Vec<u8>, vectors: &[NamedVector]) -> Result<(), AllocError>
-    ensures { OnOk result (out.new.items ≡ out.old.items ++ flat_map vector_line vectors.now) }
+fn push_spaced_integer(out: &mut Vec<u8>, integer: i64) -> Result<(), AllocError>
+    ensures { OnOk result (out.new.items ≡ out.old.items ++ 32 ∷ signed_decimal integer) }
 {
-    'vectors: for vector in vectors {
-        push_vector(out, vector)?;
-    }
-    Ok(())
+    out.push(b' ')?;
+    push_integer(out, integer)
 }
 
-fn push_vector(out: &mut Vec<u8>, vector: &NamedVector) -> Result<(), AllocError>
-    ensures { OnOk result (out.new.items ≡ out.old.items ++ vector_line vector.now) }
+fn push_spaced_number(out: &mut Vec<u8>, number: u64) -> Result<(), AllocError>
+    ensures { OnOk result (out.new.items ≡ out.old.items ++ 32 ∷ decimal number) }
 {
-    out.extend_from_slice(b"vector ")?;
-    out.extend_from_slice(vector.name.as_slice())?;
-    out.push(b':')?;
-    push_integers(out, vector.entries.as_slice())?;
-    out.push(b'\n')?;
-    Ok(())
-}
-
-fn push_integers(out: &mut Vec<u8>, integers: &[i64]) -> Result<(), AllocError>
-    ensures { OnOk result (out.new.items ≡ out.old.items ++ flat_map (λ n. 32 ∷ signed_decimal n) integers.now) }
-{
-    'integers: for integer in integers {
-        out.push(b' ')?;
-        push_integer(out, *integer)?;
-    }
-    Ok(())
-}
-
-fn push_sets(out: &mut Vec<u8>, sets: &[NamedSet]) -> Result<(), AllocError>
-    ensures { OnOk result (out.new.items ≡ out.old.items ++ flat_map set_line sets.now) }
-{
-    'sets: for set in sets {
-        push_set(out, set)?;
-    }
-    Ok(())
-}
-
-fn push_set(out: &mut Vec<u8>, set: &NamedSet) -> Result<(), AllocError>
-    ensures { OnOk result (out.new.items ≡ out.old.items ++ set_line set.now) }
-{
-    out.extend_from_slice(b"set ")?;
-    out.extend_from_slice(set.name.as_slice())?;
-    out.push(b':')?;
-    push_members(out, set.members.as_slice())?;
-    out.push(b'\n')?;
-    Ok(())
-}
-
-fn push_members(out: &mut Vec<u8>, members: &[u32]) -> Result<(), AllocError>
-    ensures { OnOk result (out.new.items ≡ out.old.items ++ flat_map (λ n. 32 ∷ decimal n) members.now) }
-{
-    'members: for member in members {
-        out.push(b' ')?;
-        push_number(out, u64::from(*member))?;
-    }
-    Ok(())
+    out.push(b' ')?;
+    push_number(out, number)
 }

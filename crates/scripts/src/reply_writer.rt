@@ -1,14 +1,11 @@
 //! Replies on their way to a writer: kept in a block, and written when the block is full.
 ghost use Rattle.std.specs.Prelude.{◌≡◌, [], ◌++◌, OnOk};
-ghost use Rattle.scripts.specs.OutcomeText.{outcome_text as text_of_outcome};
 ghost use Rattle.scripts.specs.ReplyText.{word_line, ticket_line, edge_line, edges_text};
 ghost use Rattle.scripts.specs.Sending.{Emits};
 ghost use Rattle.scripts.specs.Stepping.{line_text};
 
 use crate::error::ScriptError;
 use crate::line_reply::LineReply;
-use crate::outcome_text::push_outcome;
-use algorithm_meaning::Outcome;
 use decimal::push_number;
 use devices::{Drain, write_all};
 use std::alloc::AllocError;
@@ -54,7 +51,7 @@ impl<'a, W: Drain> ReplyWriter<'a, W> {
     }
 
     /// Writes what is kept where there may be no room for another line.
-    fn make_room(&mut self) -> Result<(), ScriptError>
+    pub(crate) fn make_room(&mut self) -> Result<(), ScriptError>
         ensures { Emits self.old self.new [] result }
     {
         if self.kept.len() < NEARLY_FULL {
@@ -91,13 +88,26 @@ impl<'a, W: Drain> ReplyWriter<'a, W> {
         Ok(())
     }
 
-    /// Sends what a run shows. Its text is made whole before it is written.
-    pub(crate) fn send_outcome(&mut self, outcome: &Outcome) -> Result<(), ScriptError>
-        ensures { Emits self.old self.new (text_of_outcome outcome.now) result }
+    /// Sends bytes. Where the block has no room for them, it is written, and then they are.
+    pub(crate) fn send_bytes(&mut self, bytes: &[u8]) -> Result<(), ScriptError>
+        ensures { Emits self.old self.new bytes.now result }
     {
-        self.make_room()?;
-        push_outcome(self.kept, outcome)?;
+        if bytes.len() > BLOCK.saturating_sub(self.kept.len()) {
+            return self.write_behind(bytes);
+        }
+        self.kept.extend_from_slice(bytes)?;
         Ok(())
+    }
+
+    /// Writes what is kept, and then these bytes.
+    fn write_behind(&mut self, bytes: &[u8]) -> Result<(), ScriptError>
+        ensures { Emits self.old self.new bytes.now result }
+    {
+        self.flush()?;
+        match write_all(self.writer, bytes) {
+            Ok(()) => Ok(()),
+            Err(_) => Err(ScriptError::WriteFailed),
+        }
     }
 }
 

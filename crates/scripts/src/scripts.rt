@@ -1,6 +1,6 @@
 //! Scripts from their first byte to their last.
 ghost use Rattle.std.specs.Prelude.{◌≡◌, ◌<◌, [], length, map};
-ghost use Rattle.typed_tree.specs.ProgramTree.{program_tree};
+ghost use Rattle.programs.specs.Program.{program_tree};
 ghost use Rattle.scripts.specs.Progress.{at_start};
 ghost use Rattle.scripts.specs.Script.{input, taken_by, RunsScript};
 
@@ -8,8 +8,8 @@ use crate::error::ScriptError;
 use crate::reply_writer::{BLOCK, ReplyWriter};
 use crate::session::Session;
 use devices::{Drain, Feed};
+use programs::Program;
 use std::alloc::Global;
-use typed_tree::Typed;
 
 /// Reads a script to its end and writes the replies to its lines, in blocks of 64 KiB. Its runs are of
 /// these programs, numbered from 1. `Ok` says whether some run ended by a fault. The session begins anew,
@@ -22,7 +22,7 @@ use typed_tree::Typed;
 ///   of the replies to the bytes read.
 pub fn script<R: Feed, W: Drain>(
     alloc: Global,
-    programs: &[Typed],
+    programs: &[Program],
     reader: &mut R,
     writer: &mut W,
     session: &mut Session,
@@ -51,7 +51,7 @@ pub fn script<R: Feed, W: Drain>(
 /// read.
 fn read_to_end<R: Feed, W: Drain>(
     alloc: Global,
-    programs: &[Typed],
+    programs: &[Program],
     session: &mut Session,
     block: &mut [u8],
     reader: &mut R,

@@ -1,6 +1,6 @@
 //! What a script has opened, and its lines, whose bytes come in pieces.
 ghost use Rattle.std.specs.Prelude.{◌≡◌, [], ◌++◌, None, OnOk, map};
-ghost use Rattle.typed_tree.specs.ProgramTree.{program_tree};
+ghost use Rattle.programs.specs.Program.{program_tree};
 ghost use Rattle.scripts.specs.Pieces.{HasNone};
 ghost use Rattle.scripts.specs.Progress.{at_start, reading_after, replies_within};
 ghost use Rattle.scripts.specs.Replies.{answer, unopened, has_faulted as state_has_faulted};
@@ -14,9 +14,9 @@ use crate::parse::command;
 use crate::pieces::split_line;
 use crate::reply_writer::ReplyWriter;
 use devices::Drain;
+use programs::Program;
 use std::alloc::Global;
 use std::marker::Model;
-use typed_tree::Typed;
 use version_list::Versions;
 
 /// What a script has opened and how far it has been read: the graph that the lines so far opened, if they
@@ -72,7 +72,7 @@ impl Session {
     pub(crate) fn take<W: Drain>(
         &mut self,
         alloc: Global,
-        programs: &[Typed],
+        programs: &[Program],
         bytes: &[u8],
         replies: &mut ReplyWriter<'_, W>,
     ) -> Result<(), ScriptError>
@@ -95,7 +95,7 @@ impl Session {
     fn end_line<W: Drain>(
         &mut self,
         alloc: Global,
-        programs: &[Typed],
+        programs: &[Program],
         bytes: &[u8],
         replies: &mut ReplyWriter<'_, W>,
     ) -> Result<(), ScriptError>
@@ -120,7 +120,7 @@ impl Session {
     pub(crate) fn finish<W: Drain>(
         &mut self,
         alloc: Global,
-        programs: &[Typed],
+        programs: &[Program],
         replies: &mut ReplyWriter<'_, W>,
     ) -> Result<(), ScriptError>
         ensures emits { Emits replies.old replies.new
@@ -135,7 +135,7 @@ impl Session {
 /// Does a line and sends its reply.
 fn answer_line<W: Drain>(
     alloc: Global,
-    programs: &[Typed],
+    programs: &[Program],
     graph: &mut Option<OpenGraph>,
     line: &[u8],
     replies: &mut ReplyWriter<'_, W>,

@@ -1,6 +1,6 @@
 //! Scripts that are at hand as a whole.
 ghost use Rattle.std.specs.Prelude.{◌≡◌, [], map};
-ghost use Rattle.typed_tree.specs.ProgramTree.{program_tree};
+ghost use Rattle.programs.specs.Program.{program_tree};
 ghost use Rattle.scripts.specs.Progress.{at_start};
 ghost use Rattle.scripts.specs.Script.{taken_by};
 ghost use Rattle.scripts.specs.Text.{RunsText};
@@ -9,8 +9,8 @@ use crate::error::ScriptError;
 use crate::reply_writer::{BLOCK, ReplyWriter};
 use crate::session::Session;
 use devices::Drain;
+use programs::Program;
 use std::alloc::Global;
-use typed_tree::Typed;
 
 /// Runs the script that a text is and writes the replies to its lines, in blocks of 64 KiB. Its runs are
 /// of these programs, numbered from 1. `Ok` says whether some run ended by a fault. The session begins anew,
@@ -20,7 +20,7 @@ use typed_tree::Typed;
 /// written is then a beginning of the replies.
 pub fn run_text<W: Drain>(
     alloc: Global,
-    programs: &[Typed],
+    programs: &[Program],
     text: &[u8],
     writer: &mut W,
     session: &mut Session,
@@ -45,7 +45,7 @@ pub fn run_text<W: Drain>(
 /// Answers all lines of a text.
 fn answer_text<W: Drain>(
     alloc: Global,
-    programs: &[Typed],
+    programs: &[Program],
     session: &mut Session,
     text: &[u8],
     replies: &mut ReplyWriter<'_, W>,

@@ -3,7 +3,7 @@ use Rattle.std.proofs.Common.{◌≡◌, ℕ, ◌+◌, ◌-◌, ◌<◌, ◌≤�
 use Rattle.std.proofs.lemmas.Bool.{false≢true, cases_Bool, lt-ltb, eqb-true, eqb-false, ne_eqb, not-true, cases_lt, cases_eq}
 use Rattle.std.proofs.lemmas.List.{take-append-le}
 use Rattle.std.specs.List.{list_any}
-use Rattle.std.specs.Option.{option_map, option_map_or}
+use Rattle.std.specs.Option.{option_map, option_map_or, IfSome}
 use Rattle.indexmap.specs.IndexMap.{IsUnchanged, get, index_map_len}
 use Rattle.tree_batch.specs.declared.batch.Entry.{Entry}
 use Rattle.tree_batch.specs.Digraph.{Digraph, graph_through}
@@ -102,6 +102,11 @@ holds_closed kept new ts graph_of number version distinct is_open tickets count 
 -- what a version's holders say of it
 pub held_is_made : (s : State) → AreTickets s → (k : ℕ) → (holder_count s.open_tickets k ≡ 0 → ⊥) → k ≤ newest_number s
 held_is_made s tickets k held = elim (cases_lt (newest_number s) k) [ inl past ↦ absurd (held (tickets.made k past)) | inr made ↦ made ]
+
+-- so was the version of an open ticket
+pub open_is_made : (s : State) → AreTickets s → (number : ℕ) (version : Option ℕ) → version ≡ ticket_version s.open_tickets number → IfSome version (λ k. k ≤ newest_number s)
+open_is_made s tickets number None is = tt
+open_is_made s tickets number (Some k) is = held_is_made s tickets k (ticket_holds s.open_tickets number k (sym is))
 
 pub kept_is_made : (s : State) → AreTickets s → (k : ℕ) → is_kept s k ≡ true → k ≤ newest_number s
 kept_is_made s tickets k kept = elim (cases_eq k (newest_number s)) [

@@ -1,4 +1,4 @@
-ghost use Rattle.std.specs.Prelude.{◌≡◌, ◌+◌, ◌^◌, ◌≤◌, ◌<◌, if◌then◌else◌, IfOk, IfErr, OnOk, List, length, vec_len, vec_capacity};
+ghost use Rattle.std.specs.Prelude.{◌≡◌, ◌+◌, ◌^◌, ◌≤◌, ◌<◌, if◌then◌else◌, IfOk, IfErr, IfSome, OnOk, List, length, vec_len, vec_capacity};
 ghost use Rattle.std.specs.Option.{option_copied};
 ghost use Rattle.indexmap.specs.IndexMap.{IsUnchanged, index_map_len};
 ghost use Rattle.tree_batch.specs.declared.batch.Entry.{Entry};
@@ -7,7 +7,7 @@ ghost use Rattle.tree_batch.specs.Digraph.{graph_after};
 ghost use Rattle.version_list.specs.declared.error.VersionError.TheVariants.{VertexRange, NotHeld, HistoryFull, NoMemory};
 ghost use Rattle.version_list.specs.declared.step.Step.TheVariants.{Commit, Acquire, Release};
 ghost use Rattle.version_list.specs.declared.step.Reply.TheVariants as reply;
-ghost use Rattle.version_list.specs.Machine.{lacks_room, newest_number, number_asked, version_graph, kept_graph, ticket_graph, is_open, reply_to};
+ghost use Rattle.version_list.specs.Machine.{lacks_room, newest_number, number_asked, version_graph, is_kept, kept_graph, ticket_graph, ticket_version, is_open, reply_to};
 ghost use Rattle.version_list.specs.Timeline.{IsLegal, replay, Opens, Accepts, Answers, Takes, Runs};
 ghost use Rattle.version_list.specs.Prepared.{IsPrepared, IsPreparedAcquire, Prepares};
 ghost use Rattle.version_list.specs.Held.{HasRoom};
@@ -287,6 +287,23 @@ impl Versions {
         ensures { result ≡ is_open self.now.state ticket.number }
     {
         self.held.is_open(ticket.number)
+    }
+
+    /// The number of the version that a ticket holds, or `None` where the ticket is not open.
+    /// Takes no memory, and the time of a map's look-up.
+    pub fn version(&self, ticket: Ticket) -> Option<u64>
+        ensures version { result ≡ ticket_version self.now.state.open_tickets ticket.number }
+        ensures made { IfSome result (λ k. k ≤ newest_number self.now.state) }
+    {
+        self.held.version(ticket.number)
+    }
+
+    /// Whether a version is kept: it is the newest, or an open ticket holds it. Takes no memory,
+    /// and the time of a map's look-up.
+    pub fn is_kept(&self, version: u64) -> bool
+        ensures { result ≡ is_kept self.now.state version }
+    {
+        self.kept_graph(version).is_some()
     }
 
     /// The graph of the version that a ticket holds, or `None` where the ticket is not open.

@@ -1,12 +1,11 @@
-use Rattle.std.proofs.Common.{◌≡◌, ◌∙◌, ◌∷◌, inl, inr, refl, List, [], ap, arith, subst, sym, Bor, Option, Some, None, map, codes, rules}
-use Rattle.std.proofs.lemmas.List.{length-map}
+use Rattle.std.proofs.Common.{◌≡◌, ◌∙◌, refl, List, [], Bor, Option, Some, None, map, codes}
 use Rattle.std.specs.Prelude.{IsSomeAnd, option_map, unwrap_or}
 use Rattle.clap.specs.Words.{HasMatchesOf, Text, fault_of, found_of, matched_of, raw_values, rows_of, subcommand_name_of, subcommand_rows_of}
 use Rattle.clap.proofs.WalkLemmas.{raw_values-rows}
 use Rattle.clap.specs.declared.parser.matches.ArgMatches.{ArgMatches}
 use Rattle.clap.specs.declared.parser.matches.Found.{Found}
-use Rattle.driver.specs.CommandLine.{command_line, operands}
-use Rattle.driver.proofs.Reading.{NamesCommand, Reads, TakesOneFile, files_given, files_of_script, name-rows, no_operands, one_file_of, reads, some_file}
+use Rattle.driver.specs.CommandLine.{NamesCommand, command_line}
+use Rattle.driver.proofs.Reading.{Reads, files_given, name-rows, no_operands, reads}
 use Rattle.driver.proofs.command_line.asked_for.Goals as goal
 
 -- what is said of a value that is there holds for the one taken out
@@ -27,45 +26,12 @@ named_files words m name found given d files quiet matches named rows values tak
     taken_out given d files (λ fs. NamesCommand words name (map (λ f. f.now) fs.now)) taken
     (files_given words (subcommand_rows_of m) name (rows_of found) given (is_reading words m quiet matches) (named ∙ name-rows m) rows (values ∙ raw_values-rows found (codes "FILE")))
 
--- the words are this command, under its name in the words that a request stands for, and one file
-one_file_named : (words : List Text) (name command file : Text) (others : List Text) → NamesCommand words name (file ∷ others) → name ≡ command → TakesOneFile command
-    → operands words ≡ command ∷ file ∷ []
-one_file_named words name command file others named is takes =
-    one_file_of words command file others (subst (λ n. NamesCommand words n (file ∷ others)) is named) takes
-
 pub returns-in_default : goal.returns-in_default
 returns-in_default c = λ words quiet matches.
     no_operands words c.args.matches.now (is_reading words c.args.matches.now quiet matches) c.in_default.ensures.name
 
-pub returns-in-Some-split_first : goal.returns-in-Some-split_first
-returns-in-Some-split_first c = λ words quiet matches.
-    let name = c.in-Some.name.now in
-    let named = named_files words c.args.matches.now name (found_of c.in-Some.found.now) c.get_raw.result _ c.unwrap_or.result
-    quiet matches c.in-Some.ensures.name c.in-Some.ensures.rows c.get_raw.ensures c.unwrap_or.ensures in
-    let is_check : name ≡ codes "check" = search rules in
-    one_file_named words name (codes "check") c.in-Some-split_first.file.now.now _ (subst (λ (fs : List (Bor Text)). NamesCommand words name (map (λ f. f.now) fs)) c.in-Some-split_first.ensures.cases.0 named) is_check (inl refl)
-
-pub returns-in-Some-2 : goal.returns-in-Some-2
-returns-in-Some-2 c = λ words quiet matches.
-    let name = c.in-Some.name.now in
-    let named = named_files words c.args.matches.now name (found_of c.in-Some.found.now) c.get_raw.result _ c.unwrap_or.result
-    quiet matches c.in-Some.ensures.name c.in-Some.ensures.rows c.get_raw.ensures c.unwrap_or.ensures in
-    let is_plan : name ≡ codes "plan" = search rules in
-    one_file_named words name (codes "plan") c.in-Some-split_first.file.now.now _ (subst (λ (fs : List (Bor Text)). NamesCommand words name (map (λ f. f.now) fs)) c.in-Some-split_first.ensures.cases.0 named) is_plan (inr refl)
-
-pub returns-in_ok-from_slice-in-Some-3 : goal.returns-in_ok-from_slice-in-Some-3
-returns-in_ok-from_slice-in-Some-3 c = λ words quiet matches.
-    let name = c.in-Some.name.now in
-    let named = named_files words c.args.matches.now name (found_of c.in-Some.found.now) c.get_raw.result _ c.unwrap_or.result
-    quiet matches c.in-Some.ensures.name c.in-Some.ensures.rows c.get_raw.ensures c.unwrap_or.ensures in
-    let no_check : name ≡ codes "check" → ⊥ = search rules in
-    let no_plan : name ≡ codes "plan" → ⊥ = search rules in
-    files_of_script words name _ named no_check no_plan ∙ ap (λ (fs : List (Bor Text)). codes "script" ∷ map (λ f. f.now) fs)
-    (c.in-Some-split_first.ensures.cases.0 ∙ ap (λ (fs : List (Bor Text)). c.in-Some-split_first.file.now ∷ fs) (sym c.in_ok-from_slice-in-Some-3.ensures.items))
-
-pub returns-in-None : goal.returns-in-None
-returns-in-None c = λ words quiet matches.
-    let name = c.in-Some.name.now in
-    let named = named_files words c.args.matches.now name (found_of c.in-Some.found.now) c.get_raw.result _ c.unwrap_or.result
-    quiet matches c.in-Some.ensures.name c.in-Some.ensures.rows c.get_raw.ensures c.unwrap_or.ensures in
-    absurd (omega (arith, some_file words name _ named, c.in-None.ensures.cases, length-map c.unwrap_or.result.now (λ (f : Bor Text). f.now)))
+pub returns : goal.returns
+returns c = λ words quiet matches.
+    c.named_request.ensures words
+    (named_files words c.args.matches.now c.in-Some.name.now (found_of c.in-Some.found.now) c.get_raw.result _ c.unwrap_or.result
+    quiet matches c.in-Some.ensures.name c.in-Some.ensures.rows c.get_raw.ensures c.unwrap_or.ensures)

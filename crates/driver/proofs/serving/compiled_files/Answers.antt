@@ -1,9 +1,14 @@
-use Rattle.std.proofs.Common.{◌≤◌, List, ℕ, length, map, ap, arith, Bor}
+use Rattle.std.proofs.Common.{◌≤◌, ◌<◌, List, ℕ, length, map, ap, arith, Bor}
 use Rattle.std.proofs.lemmas.List.{drop_all}
-use Rattle.driver.proofs.Compiling.{all_compiled}
+use Rattle.driver.proofs.Compiling.{all_compiled, compiled_at}
 use Rattle.driver.proofs.serving.compiled_files.Goals as goal
 
 pub returns : goal.returns
 returns g c =
     let past : length c.args.names.now ≤ c.names.name-index = omega (arith, c.names-test.false, c.names.auto.name-index-end) in
     all_compiled _ _ _ _ _ c.names.invariant (ap (map (λ (n : Bor (List ℕ)). n.now)) (drop_all c.names.name-index c.args.names.now past))
+
+pub names-preserved : goal.names-preserved
+names-preserved g c =
+    let within : c.names.name-index < length c.args.names.now = omega (arith, c.names-test.true, c.names.auto.name-index-end) in
+    compiled_at _ _ _ c.args.names.now c.names.name-index _ c.names.compiled.items _ c.in_ok-compiled_file.field-0 within c.names.invariant c.in_ok-compiled_file.ensures c.in_ok-push.ensures.items

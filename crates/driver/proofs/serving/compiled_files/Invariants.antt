@@ -1,5 +1,5 @@
 use Rattle.std.proofs.Common.{map, drop}
-use Rattle.typed_tree.specs.ProgramTree.{program_tree}
+use Rattle.programs.specs.Program.{program_tree}
 use Rattle.driver.proofs.Compiling.{Compiles}
 use Rattle.driver.proofs.serving.compiled_files.Given as goal
 

@@ -1,21 +1,29 @@
-use Rattle.std.proofs.Common.{inr, refl}
+use Rattle.std.proofs.Common.{◌≡◌, ◌++◌, ◌∙◌, List, ℕ, ap, inr, refl, subst}
+use Rattle.devices.specs.Drain.{TakesPart}
+use Rattle.lowering.specs.Text.{text_of}
 use Rattle.driver.proofs.serving.print_plan.Goals as goal
 
 pub returns-in-Ok : goal.returns-in-Ok
-returns-in-Ok g c = record {
-  plan = c.in_ok-plan.plan;
-  planned = c.in_ok-plan.ensures;
-  text = c.deref.result.now;
-  taken = c.in-Ok.ensures.ok;
-  fault = refl;
-}
+returns-in-Ok g c =
+    let held = c.in_ok-plan.ensures in
+    let is : c.deref.result.now ≡ text_of held.planned.program held.planned.schedule =
+    c.deref.ensures.value ∙ c.in_ok-text.ensures held.planned.program held.planned.schedule held.planned.written in
+    record {
+      plan = c.in_ok-plan.plan;
+      planned = held;
+      taken = c.in-Ok.ensures.ok ∙ ap (λ (t : List ℕ). g.W.Drain.taken c.args.out.now ++ t) is;
+      fault = refl;
+    }
 
 pub returns : goal.returns
-returns g c = inr (record {
-  plan = c.in_ok-plan.plan;
-  planned = c.in_ok-plan.ensures;
-  text = c.deref.result.now;
-  part = c.in-Err.ensures.err.0;
-  failed = c.in-Err.ensures.err.1;
-  outcome = refl;
-})
+returns g c =
+    let held = c.in_ok-plan.ensures in
+    let is : c.deref.result.now ≡ text_of held.planned.program held.planned.schedule =
+    c.deref.ensures.value ∙ c.in_ok-text.ensures held.planned.program held.planned.schedule held.planned.written in
+    inr (record {
+      plan = c.in_ok-plan.plan;
+      planned = held;
+      part = subst (λ (t : List ℕ). TakesPart (g.W.Drain.taken c.args.out.now) (g.W.Drain.taken c.write_all.new.writer) t) is c.in-Err.ensures.err.0;
+      failed = c.in-Err.ensures.err.1;
+      outcome = refl;
+    })

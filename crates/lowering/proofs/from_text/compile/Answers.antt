@@ -15,5 +15,6 @@ returns-in-Ok-lower c =
       typed = typed;
       accepted = search rules;
       planned = search rules;
+      written = search rules;
       reducing = applies_reduce c.args.text.now p s typed;
     }

@@ -1,5 +1,6 @@
 use Rattle.std.proofs.Common.{◌≡◌, suc, rules}
-use Rattle.scripts.proofs.ProgramLaws.{found_at, program_found}
+use Rattle.runner.proofs.Partners.{found_at}
+use Rattle.scripts.proofs.ProgramLaws.{program_found}
 use Rattle.scripts.proofs.open_graph.program_at.Goals as goal
 
 pub returns : goal.returns

@@ -1,6 +1,6 @@
 use Rattle.std.proofs.Common.{map, ◌≡◌, ◌∙◌, ◌++◌, ◌<◌, length, take, true, ap, arith, append-nil}
 use Rattle.std.proofs.lemmas.Bool.{or_right, and_from, eq-eqb, lt-ltb}
-use Rattle.typed_tree.specs.ProgramTree.{program_tree}
+use Rattle.programs.specs.Program.{program_tree}
 use Rattle.scripts.specs.Script.{input}
 use Rattle.scripts.proofs.Running.{reading_unended, read_fails, lines_fail, reading_goes_on, flush_fails, finish_fails, last_flush_fails, script_ends, runs_failed}
 use Rattle.scripts.proofs.scripts.read_to_end.Goals as goal

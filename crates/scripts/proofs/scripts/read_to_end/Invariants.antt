@@ -1,5 +1,5 @@
 use Rattle.std.proofs.Common.{map}
-use Rattle.typed_tree.specs.ProgramTree.{program_tree}
+use Rattle.programs.specs.Program.{program_tree}
 use Rattle.scripts.specs.Script.{input}
 use Rattle.scripts.proofs.Running.{IsReading}
 use Rattle.scripts.proofs.scripts.read_to_end.Given as goal

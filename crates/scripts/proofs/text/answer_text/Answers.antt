@@ -1,5 +1,5 @@
 use Rattle.std.proofs.Common.{Ok, map, refl}
-use Rattle.typed_tree.specs.ProgramTree.{program_tree}
+use Rattle.programs.specs.Program.{program_tree}
 use Rattle.scripts.specs.Script.{taken_by}
 use Rattle.scripts.proofs.Running.{IsReading, reading_starts, lines_fail, reading_goes_on, flush_fails, finish_fails, last_flush_fails, script_ends, runs_failed}
 use Rattle.scripts.proofs.TextLaws.{unread, read, runs_text}

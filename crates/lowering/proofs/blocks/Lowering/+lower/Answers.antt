@@ -8,8 +8,8 @@ use Rattle.typed_tree.proofs.Blocks.{action_tree-If, action_tree-IfElse, action_
 use Rattle.plans.specs.Fusing.{company_of}
 use Rattle.plans.specs.Instruction.{Unless, UnlessBelow, Jump, Turn, Advance}
 use Rattle.plans.specs.Plan.{behind, behind_all, in_loop, loop_step, plain, plan, plan_all}
-use Rattle.instructions.specs.Operation.{IsInstruction}
 use Rattle.lowering.specs.Putting.{Puts}
+use Rattle.lowering.specs.Text.{IsWritten}
 use Rattle.lowering.specs.Visible.{IsWithin, depth_of}
 use Rattle.lowering.proofs.Measures.{action_size, block_size, inner_falls}
 use Rattle.lowering.proofs.Statements.{HasPut, has_put_next, puts_if, puts_choice, puts_while, puts_for}
@@ -52,10 +52,10 @@ put_if-returns-clause-code t c label =
     let pushed : b ≡ a ++ c.plain.result ∷ [] = search rules in
     let at : c.len-test.result ≡ length a = c.len-test.ensures ∙ c.args.code.now.ok.0 in
     let to : c.len.result ≡ length k = c.len.ensures ∙ c.put_inside.new.code.ok.0 in
-    let unless : IsInstruction c.in_ok-unless.unless (plain c.args.number d (Unless test (length k))) =
-    subst (λ n. IsInstruction c.in_ok-unless.unless (plain c.args.number d (Unless test n))) to
-    (subst (λ e. IsInstruction c.in_ok-unless.unless (plain c.args.number e (Unless test c.len.result))) c.depth-depth.ensures c.in_ok-unless.ensures) in
-    subst (λ xs. Puts a xs (plan p s (length a) d c.args.number label (If test body))) (sym c.replace.ensures)
+    let unless : IsWritten p c.in_ok-unless.unless (plain c.args.number d (Unless test (length k))) =
+    subst (λ n. IsWritten p c.in_ok-unless.unless (plain c.args.number d (Unless test n))) to
+    (subst (λ e. IsWritten p c.in_ok-unless.unless (plain c.args.number e (Unless test c.len.result))) c.depth-depth.ensures c.in_ok-unless.ensures) in
+    subst (λ xs. Puts p a xs (plan p s (length a) d c.args.number label (If test body))) (sym c.replace.ensures)
     (puts_if p s a b k c.plain.result c.in_ok-unless.unless c.len-test.result d c.args.number label test body pushed c.in_ok-put_inside.ensures.code at unless)
 
 pub put_choice-returns-clause-code : goal.put_choice-returns-clause-code
@@ -77,14 +77,14 @@ put_choice-returns-clause-code t c label =
     let there : c.len-jump.result ≡ length k = c.len-jump.ensures ∙ c.put_inside.new.code.ok.0 in
     let otherwise : c.len.result ≡ length m = c.len.ensures ∙ c.push-2.new.self.ok.0 in
     let end : c.len-2.result ≡ length e = c.len-2.ensures ∙ c.put_inside-2.new.code.ok.0 in
-    let unless : IsInstruction c.in_ok-unless.unless (plain c.args.number d (Unless test (length m))) =
-    subst (λ n. IsInstruction c.in_ok-unless.unless (plain c.args.number d (Unless test n))) otherwise
-    (subst (λ x. IsInstruction c.in_ok-unless.unless (plain c.args.number x (Unless test c.len.result))) c.depth-depth.ensures c.in_ok-unless.ensures) in
-    let jump : IsInstruction c.in_ok-behind.behind (loop_step c.args.number d d (Jump (length e))) =
-    subst (λ n. IsInstruction c.in_ok-behind.behind (loop_step c.args.number d d (Jump n))) end
-    (subst (λ x. IsInstruction c.in_ok-behind.behind (loop_step c.args.number x x (Jump c.len-2.result))) c.depth-depth.ensures c.in_ok-behind.ensures) in
-    let more : Puts m e (plan_all p s (length m) d false other) = subst (λ x. Puts m e (plan_all p s (length m) x false other)) c.in_ok-put_inside.ensures.visible c.in_ok-put_inside-2.ensures.code in
-    subst (λ xs. Puts a xs (plan p s (length a) d c.args.number label (IfElse test body other))) (sym (c.replace-2.ensures ∙ ap (λ xs. slice_set xs c.len-test.result c.in_ok-unless.unless) c.replace.ensures))
+    let unless : IsWritten p c.in_ok-unless.unless (plain c.args.number d (Unless test (length m))) =
+    subst (λ n. IsWritten p c.in_ok-unless.unless (plain c.args.number d (Unless test n))) otherwise
+    (subst (λ x. IsWritten p c.in_ok-unless.unless (plain c.args.number x (Unless test c.len.result))) c.depth-depth.ensures c.in_ok-unless.ensures) in
+    let jump : IsWritten p c.in_ok-behind.behind (loop_step c.args.number d d (Jump (length e))) =
+    subst (λ n. IsWritten p c.in_ok-behind.behind (loop_step c.args.number d d (Jump n))) end
+    (subst (λ x. IsWritten p c.in_ok-behind.behind (loop_step c.args.number x x (Jump c.len-2.result))) c.depth-depth.ensures c.in_ok-behind.ensures) in
+    let more : Puts p m e (plan_all p s (length m) d false other) = subst (λ x. Puts p m e (plan_all p s (length m) x false other)) c.in_ok-put_inside.ensures.visible c.in_ok-put_inside-2.ensures.code in
+    subst (λ xs. Puts p a xs (plan p s (length a) d c.args.number label (IfElse test body other))) (sym (c.replace-2.ensures ∙ ap (λ xs. slice_set xs c.len-test.result c.in_ok-unless.unless) c.replace.ensures))
     (puts_choice p s a b k m e c.plain.result c.plain-2.result c.in_ok-unless.unless c.in_ok-behind.behind c.len-test.result c.len-jump.result d c.args.number label test body other
     pushed c.in_ok-put_inside.ensures.code pushed_jump more at there unless jump)
 
@@ -105,12 +105,12 @@ put_while-returns-clause-code t c label =
     let pushed_jump : e ≡ k ++ c.in_ok-jump.field-0 ∷ [] = search rules in
     let at : c.len-test.result ≡ length a = c.len-test.ensures ∙ c.args.code.now.ok.0 in
     let to : c.len.result ≡ length e = c.len.ensures ∙ c.push-3.new.self.ok.0 in
-    let turn = subst (λ x. IsInstruction c.in_ok-turn.field-0 (loop_step c.args.number x x Turn)) c.depth-depth.ensures c.in_ok-turn.ensures in
-    let jump = subst (λ x. IsInstruction c.in_ok-jump.field-0 (loop_step c.args.number x x (Jump c.len-test.result))) c.depth-depth.ensures c.in_ok-jump.ensures in
-    let unless : IsInstruction c.in_ok-unless.unless (plain c.args.number d (Unless test (length e))) =
-    subst (λ n. IsInstruction c.in_ok-unless.unless (plain c.args.number d (Unless test n))) to
-    (subst (λ x. IsInstruction c.in_ok-unless.unless (plain c.args.number x (Unless test c.len.result))) c.depth-depth.ensures c.in_ok-unless.ensures) in
-    subst (λ xs. Puts a xs (plan p s (length a) d c.args.number label (While test body))) (sym c.replace.ensures)
+    let turn = subst (λ x. IsWritten p c.in_ok-turn.field-0 (loop_step c.args.number x x Turn)) c.depth-depth.ensures c.in_ok-turn.ensures in
+    let jump = subst (λ x. IsWritten p c.in_ok-jump.field-0 (loop_step c.args.number x x (Jump c.len-test.result))) c.depth-depth.ensures c.in_ok-jump.ensures in
+    let unless : IsWritten p c.in_ok-unless.unless (plain c.args.number d (Unless test (length e))) =
+    subst (λ n. IsWritten p c.in_ok-unless.unless (plain c.args.number d (Unless test n))) to
+    (subst (λ x. IsWritten p c.in_ok-unless.unless (plain c.args.number x (Unless test c.len.result))) c.depth-depth.ensures c.in_ok-unless.ensures) in
+    subst (λ xs. Puts p a xs (plan p s (length a) d c.args.number label (While test body))) (sym c.replace.ensures)
     (puts_while p s a b m k e c.plain.result c.in_ok-turn.field-0 c.in_ok-jump.field-0 c.in_ok-unless.unless c.len-test.result d c.args.number label test body
     pushed pushed_turn turn c.in_ok-put_inside.ensures.code pushed_jump jump at unless)
 
@@ -165,19 +165,19 @@ put_for-returns-clause-code t c label =
     let pushed_jump : e ≡ g ++ c.in_ok-jump.field-0 ∷ [] = search rules in
     let at : c.len-test.result ≡ length f = c.len-test.ensures ∙ c.put_bounds.new.code.ok.0 in
     let to : c.len.result ≡ length e = c.len.ensures ∙ c.push-4.new.self.ok.0 in
-    let turn : IsInstruction c.in_ok-turn.field-0 (loop_step n (in_loop d) d Turn) =
-    subst (λ x. IsInstruction c.in_ok-turn.field-0 (loop_step n (in_loop d) x Turn)) c.depth-depth.ensures
-    (subst (λ x. IsInstruction c.in_ok-turn.field-0 (loop_step n x c.depth-depth.result Turn)) inside c.in_ok-turn.ensures) in
-    let advance = subst (λ x. IsInstruction c.in_ok-advance.field-0 (plain n x (Advance name))) c.depth-depth.ensures c.in_ok-advance.ensures in
-    let jump : IsInstruction c.in_ok-jump.field-0 (loop_step n (in_loop d) d (Jump c.len-test.result)) =
-    subst (λ x. IsInstruction c.in_ok-jump.field-0 (loop_step n (in_loop d) x (Jump c.len-test.result))) c.depth-depth.ensures
-    (subst (λ x. IsInstruction c.in_ok-jump.field-0 (loop_step n x c.depth-depth.result (Jump c.len-test.result))) inside c.in_ok-jump.ensures) in
-    let below : IsInstruction c.in_ok-below.below (loop_step n (in_loop d) d (UnlessBelow name (length e))) =
-    subst (λ q. IsInstruction c.in_ok-below.below (loop_step n (in_loop d) d (UnlessBelow name q))) to
-    (subst (λ x. IsInstruction c.in_ok-below.below (loop_step n (in_loop d) x (UnlessBelow name c.len.result))) c.depth-depth.ensures
-    (subst (λ x. IsInstruction c.in_ok-below.below (loop_step n x c.depth-depth.result (UnlessBelow name c.len.result))) inside c.in_ok-below.ensures)) in
-    let puts : Puts m k (plan_all p s (length m) (in_loop d) false body) = subst (λ x. Puts m k (plan_all p s (length m) x false body)) c.in_ok-put_bounds.ensures.visible c.in_ok-put_inside.ensures.code in
-    subst (λ xs. Puts a xs (plan p s (length a) d n label (For name (integer_tree c.args.first.now) (integer_tree c.args.end.now) body))) (sym c.replace.ensures)
+    let turn : IsWritten p c.in_ok-turn.field-0 (loop_step n (in_loop d) d Turn) =
+    subst (λ x. IsWritten p c.in_ok-turn.field-0 (loop_step n (in_loop d) x Turn)) c.depth-depth.ensures
+    (subst (λ x. IsWritten p c.in_ok-turn.field-0 (loop_step n x c.depth-depth.result Turn)) inside c.in_ok-turn.ensures) in
+    let advance = subst (λ x. IsWritten p c.in_ok-advance.field-0 (plain n x (Advance name))) c.depth-depth.ensures c.in_ok-advance.ensures in
+    let jump : IsWritten p c.in_ok-jump.field-0 (loop_step n (in_loop d) d (Jump c.len-test.result)) =
+    subst (λ x. IsWritten p c.in_ok-jump.field-0 (loop_step n (in_loop d) x (Jump c.len-test.result))) c.depth-depth.ensures
+    (subst (λ x. IsWritten p c.in_ok-jump.field-0 (loop_step n x c.depth-depth.result (Jump c.len-test.result))) inside c.in_ok-jump.ensures) in
+    let below : IsWritten p c.in_ok-below.below (loop_step n (in_loop d) d (UnlessBelow name (length e))) =
+    subst (λ q. IsWritten p c.in_ok-below.below (loop_step n (in_loop d) d (UnlessBelow name q))) to
+    (subst (λ x. IsWritten p c.in_ok-below.below (loop_step n (in_loop d) x (UnlessBelow name c.len.result))) c.depth-depth.ensures
+    (subst (λ x. IsWritten p c.in_ok-below.below (loop_step n x c.depth-depth.result (UnlessBelow name c.len.result))) inside c.in_ok-below.ensures)) in
+    let puts : Puts p m k (plan_all p s (length m) (in_loop d) false body) = subst (λ x. Puts p m k (plan_all p s (length m) x false body)) c.in_ok-put_bounds.ensures.visible c.in_ok-put_inside.ensures.code in
+    subst (λ xs. Puts p a xs (plan p s (length a) d n label (For name (integer_tree c.args.first.now) (integer_tree c.args.end.now) body))) (sym c.replace.ensures)
     (puts_for p s a f b m k g e c.plain.result c.in_ok-turn.field-0 c.in_ok-advance.field-0 c.in_ok-jump.field-0 c.in_ok-below.below c.len-test.result d n label name (integer_tree c.args.first.now) (integer_tree c.args.end.now) body
     c.in_ok-put_bounds.ensures.code pushed pushed_turn turn puts pushed_advance advance pushed_jump jump at below)
 

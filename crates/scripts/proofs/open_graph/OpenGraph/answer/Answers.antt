@@ -1,6 +1,6 @@
 use Rattle.std.proofs.Common.{◌≡◌, Some, map, ap, arith}
 use Rattle.std.proofs.lemmas.Grind.{common_steps}
-use Rattle.typed_tree.specs.ProgramTree.{program_tree}
+use Rattle.programs.specs.Program.{program_tree}
 use Rattle.scripts.specs.declared.line_reply.LineReply.TheVariants as line_reply
 use Rattle.scripts.specs.Stepping.{line_text}
 use Rattle.scripts.specs.Replies.{on_open, running, graph_of}

@@ -1,13 +1,26 @@
-use Rattle.std.proofs.Common.{[], ap}
-use Rattle.scripts.specs.OutcomeText.{outcome_text}
-use Rattle.scripts.proofs.SendingLaws.{part_before, fails_more, emits_failed}
+use Rattle.std.proofs.Common.{◌++◌, refl, sym, ap}
+use Rattle.std.specs.List.{flat_map}
+use Rattle.scripts.specs.OutcomeText.{end_line, vector_line, set_line}
+use Rattle.scripts.proofs.SendingLaws.{emits_as, emits_next, emits_stopped}
 use Rattle.scripts.proofs.reply_writer.ReplyWriter.send_outcome.Goals as goal
 
-pub returns-in_err-make_room : goal.returns-in_err-make_room
-returns-in_err-make_room g c =
-    emits_failed _ _ _ _ _ c.from_residual.ensures.1 (fails_more _ _ [] (outcome_text c.args.outcome.now) _ c.in_err-make_room.ensures)
+pub returns-in_err-send_bytes : goal.returns-in_err-send_bytes
+returns-in_err-send_bytes g c = emits_stopped _ _ c.args.outcome.now.text ((end_line c.args.outcome.now.end c.args.outcome.now.turns) ++ ((flat_map vector_line c.args.outcome.now.vectors) ++ (flat_map set_line c.args.outcome.now.sets))) _ _ _ c.from_residual.ensures.1 c.as_slice.ensures c.in_err-send_bytes.ensures
 
-pub returns-in_err-push_outcome : goal.returns-in_err-push_outcome
-returns-in_err-push_outcome g c =
-    let part = part_before _ c.make_room.new.self _ [] (outcome_text c.args.outcome.now) c.in_ok-make_room.ensures (ap (λ o. o.writer) c.self.view_is) (ap (λ o. o.taken) c.self.view_is) in
-    emits_failed _ _ _ _ _ c.from_residual-in_err-push_outcome.ensures.1 part
+pub returns-in_err-send_end : goal.returns-in_err-send_end
+returns-in_err-send_end g c =
+    emits_next _ _ _ c.args.outcome.now.text ((end_line c.args.outcome.now.end c.args.outcome.now.turns) ++ ((flat_map vector_line c.args.outcome.now.vectors) ++ (flat_map set_line c.args.outcome.now.sets))) _ _ c.in_ok-send_bytes.ensures c.as_slice.ensures
+    (emits_stopped _ _ (end_line c.args.outcome.now.end c.args.outcome.now.turns) ((flat_map vector_line c.args.outcome.now.vectors) ++ (flat_map set_line c.args.outcome.now.sets)) _ _ _ c.from_residual-in_err-send_end.ensures.1 refl c.in_err-send_end.ensures)
+
+pub returns-in_err-send_vectors : goal.returns-in_err-send_vectors
+returns-in_err-send_vectors g c =
+    emits_next _ _ _ c.args.outcome.now.text ((end_line c.args.outcome.now.end c.args.outcome.now.turns) ++ ((flat_map vector_line c.args.outcome.now.vectors) ++ (flat_map set_line c.args.outcome.now.sets))) _ _ c.in_ok-send_bytes.ensures c.as_slice.ensures
+    (emits_next _ _ _ (end_line c.args.outcome.now.end c.args.outcome.now.turns) ((flat_map vector_line c.args.outcome.now.vectors) ++ (flat_map set_line c.args.outcome.now.sets)) _ _ c.in_ok-send_end.ensures refl
+    (emits_stopped _ _ (flat_map vector_line c.args.outcome.now.vectors) (flat_map set_line c.args.outcome.now.sets) _ _ _ c.from_residual-in_err-send_vectors.ensures.1 (ap (flat_map vector_line) c.as_slice-2.ensures) c.in_err-send_vectors.ensures))
+
+pub returns : goal.returns
+returns g c =
+    emits_next _ _ _ c.args.outcome.now.text ((end_line c.args.outcome.now.end c.args.outcome.now.turns) ++ ((flat_map vector_line c.args.outcome.now.vectors) ++ (flat_map set_line c.args.outcome.now.sets))) _ _ c.in_ok-send_bytes.ensures c.as_slice.ensures
+    (emits_next _ _ _ (end_line c.args.outcome.now.end c.args.outcome.now.turns) ((flat_map vector_line c.args.outcome.now.vectors) ++ (flat_map set_line c.args.outcome.now.sets)) _ _ c.in_ok-send_end.ensures refl
+    (emits_next _ _ _ (flat_map vector_line c.args.outcome.now.vectors) (flat_map set_line c.args.outcome.now.sets) _ _ c.in_ok-send_vectors.ensures (ap (flat_map vector_line) c.as_slice-2.ensures)
+    (emits_as _ _ _ _ _ c.send_sets.ensures (ap (flat_map set_line) (sym c.as_slice-3.ensures)))))

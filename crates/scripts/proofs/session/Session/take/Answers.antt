@@ -1,5 +1,5 @@
 use Rattle.std.proofs.Common.{refl, map, rules}
-use Rattle.typed_tree.specs.ProgramTree.{program_tree}
+use Rattle.programs.specs.Program.{program_tree}
 use Rattle.scripts.specs.Pieces.{HasNone}
 use Rattle.scripts.proofs.ReadingLaws.{taking_starts, taking_ends, reading_ends, taking_line, taking_fails, taking_lacks}
 use Rattle.scripts.proofs.SendingLaws.{emits_failed}

@@ -1,5 +1,5 @@
 use Rattle.std.proofs.Common.{length, map}
-use Rattle.typed_tree.specs.ProgramTree.{program_tree}
+use Rattle.programs.specs.Program.{program_tree}
 use Rattle.scripts.proofs.ReadingLaws.{IsTaking}
 use Rattle.scripts.proofs.session.Session.take.Given as goal
 

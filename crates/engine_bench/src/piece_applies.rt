@@ -1,0 +1,93 @@
+//! Edge applies in pieces, which are done one after another.
+
+use crew::{CrewError, Found, Work};
+use edge_fold::{Gathered, Scratch};
+use flat_snapshot::Flat;
+use kernels::Apply;
+use pull_engine::PullWork;
+use push_engine::PushWork;
+use schedule::Direction;
+use std::alloc::{AllocError, Global};
+use std::io;
+use std::io::Error;
+use vectors::{Changes, Vectors};
+
+/// What an apply changes, as its pieces for so many workers make it: merged from the first piece to the last, and from
+/// the last to the first. A dense pull is cut by its destinations, and what any other direction does by its sources.
+pub fn changes_by_pieces(
+    alloc: Global,
+    apply: &Apply<'_>,
+    flat: &Flat,
+    vectors: &Vectors,
+    sizes: &[i64],
+    workers: usize,
+    scratch: &mut Scratch,
+) -> io::Result<(Changes, Changes)> {
+    if apply.direction == Direction::DensePull {
+        let work = PullWork::new(alloc, apply, flat, vectors, sizes, workers, scratch);
+        return Ok(pulled(alloc, &work.map_err(refused)?, scratch)?);
+    }
+    let work = PushWork::new(alloc, apply, flat, vectors, sizes, workers, scratch);
+    Ok(pushed(alloc, &work.map_err(refused)?, scratch)?)
+}
+
+fn pushed(
+    alloc: Global,
+    work: &PushWork<'_>,
+    scratch: &mut Scratch,
+) -> Result<(Changes, Changes), AllocError> {
+    let mut found = pushed_pieces(alloc, work, scratch)?;
+    let ascending = work.merge(alloc, &found, scratch)?;
+    found.reverse();
+    let descending = work.merge(alloc, &found, scratch)?;
+    Ok((ascending, descending))
+}
+
+fn pulled(
+    alloc: Global,
+    work: &PullWork<'_>,
+    scratch: &mut Scratch,
+) -> Result<(Changes, Changes), AllocError> {
+    let mut found = pulled_pieces(alloc, work, scratch)?;
+    let ascending = work.merge(alloc, &found, scratch)?;
+    found.reverse();
+    let descending = work.merge(alloc, &found, scratch)?;
+    Ok((ascending, descending))
+}
+
+// What each piece of a push answers, in order.
+fn pushed_pieces(
+    alloc: Global,
+    work: &PushWork<'_>,
+    scratch: &mut Scratch,
+) -> Result<Vec<Found<Gathered>>, AllocError> {
+    let mut found = Vec::new(alloc);
+    for place in 0..work.pieces() {
+        let piece = place + 1;
+        let out = work.piece(alloc, scratch, piece)?;
+        found.push(Found { piece, out })?;
+    }
+    Ok(found)
+}
+
+// The same of a pull.
+fn pulled_pieces(
+    alloc: Global,
+    work: &PullWork<'_>,
+    scratch: &mut Scratch,
+) -> Result<Vec<Found<Gathered>>, AllocError> {
+    let mut found = Vec::new(alloc);
+    for place in 0..work.pieces() {
+        let piece = place + 1;
+        let out = work.piece(alloc, scratch, piece)?;
+        found.push(Found { piece, out })?;
+    }
+    Ok(found)
+}
+
+fn refused(error: CrewError) -> Error {
+    match error {
+        CrewError::NoMemory => Error::other("out of memory"),
+        CrewError::BadWorkers => Error::other("a number of workers is refused"),
+    }
+}

@@ -1,0 +1,104 @@
+-- The lines of a plan's instructions.
+use Rattle.std.proofs.Common.{◌≡◌, ◌≢◌, ◌<◌, ◌≤◌, ◌+◌, ℕ, List, [], ◌∷◌, ◌++◌, Some, None, length, drop, get_or, decimal, sym, ap, ◌∙◌, subst, append_assoc, append-nil}
+use Rattle.std.proofs.lemmas.List.{drop_all, drop_more}
+use Rattle.typed_tree.specs.ProgramTree.{ProgramTree}
+use Rattle.plans.specs.declared.depth.Depth.{Depth}
+use Rattle.plans.specs.Instruction.{OperationTree, InstructionTree}
+use Rattle.plan_text.specs.Words.{joined, spaced}
+use Rattle.plan_text.proofs.Spaces.{absurd_cons, spaced_append}
+use Rattle.instructions.specs.declared.instruction.Instruction.{Instruction}
+use Rattle.instructions.specs.declared.operation.Operation.{Operation}
+use Rattle.instructions.specs.declared.operation.Operation.TheVariants as op
+use Rattle.instructions.specs.Operation.{AreInstructions, IsOperation}
+use Rattle.lowering.specs.Targets.{places_of}
+use Rattle.lowering.specs.Text.{AreWritten, IsWritten, instruction_line, instruction_lines, operation_words, target_words}
+
+-- instructions that keep their words are instructions
+pub written_instructions : (p : ProgramTree) (is : List Instruction) (ts : List InstructionTree) → AreWritten p is ts → AreInstructions is ts
+written_instructions p [] [] all = tt
+written_instructions p [] (t ∷ ts) all = absurd all
+written_instructions p (i ∷ is) [] all = absurd all
+written_instructions p (i ∷ is) (t ∷ ts) all = (all.0.instruction, written_instructions p is ts all.1)
+
+-- an operation goes where its tree does
+pub target_words_of : (keep shown : Depth) (operation : Operation) (o : OperationTree) → IsOperation keep shown operation o → places_of operation ≡ target_words o
+target_words_of keep shown (op.DeclareInteger name k) o h = ap target_words (sym h.is)
+target_words_of keep shown (op.DeclareCondition name k) o h = ap target_words (sym h.is)
+target_words_of keep shown (op.SetInteger slot k) o h = ap target_words (sym h.is)
+target_words_of keep shown (op.SetCondition slot k) o h = ap target_words (sym h.is)
+target_words_of keep shown (op.ReduceInteger slot reduction k) o h = ap target_words (sym h.is)
+target_words_of keep shown (op.SetEntry vector index k) o h = ap target_words (sym h.is)
+target_words_of keep shown (op.ReduceEntry vector index reduction k) o h = ap target_words (sym h.is)
+target_words_of keep shown (op.DeclareSet name members) o h = ap target_words (sym h)
+target_words_of keep shown (op.AssignSet slot members) o h = ap target_words (sym h)
+target_words_of keep shown (op.AddVertex slot k) o h = ap target_words (sym h.is)
+target_words_of keep shown (op.PrintInteger k) o h = ap target_words (sym h.is)
+target_words_of keep shown (op.PrintCondition k) o h = ap target_words (sym h.is)
+target_words_of keep shown (op.ApplyVertices set first None) o h = ap target_words (sym h)
+target_words_of keep shown (op.ApplyVertices set first (Some second)) o h = ap target_words (sym h)
+target_words_of keep shown (op.ApplyEdges ends first None) o h = ap target_words (sym h.is)
+target_words_of keep shown (op.ApplyEdges ends first (Some second)) o h = ap target_words (sym h)
+target_words_of keep shown (op.Unless k to) o h = ap target_words (sym h.is)
+target_words_of keep shown (op.Enter name k) o h = ap target_words (sym h.is)
+target_words_of keep shown (op.UnlessBelow name to) o h = ap target_words (sym h)
+target_words_of keep shown (op.Advance name) o h = ap target_words (sym h)
+target_words_of keep shown op.Turn o h = ap target_words (sym h)
+target_words_of keep shown (op.Jump to) o h = ap target_words (sym h)
+target_words_of keep shown op.End o h = ap target_words (sym h)
+
+regroup : (old number words target : List ℕ) → (((old ++ number) ++ 32 ∷ []) ++ words) ++ target ≡ old ++ (number ++ 32 ∷ (words ++ target))
+regroup old number words target = simp append_assoc
+
+-- a number, the words of an instruction, and where it may go
+pub words_of_line : (p : ProgramTree) (place : ℕ) (i : Instruction) (t : InstructionTree) (old a b d e : List ℕ) → IsWritten p i t
+    → a ≡ old ++ decimal place → b ≡ a ++ 32 ∷ [] → d ≡ b ++ i.words.items → e ≡ d ++ spaced (places_of i.operation)
+    → e ≡ old ++ spaced (decimal place ∷ (operation_words p t.choice t.operation ++ target_words t.operation))
+words_of_line p place i t old a b d e written number space words target =
+    let ws = operation_words p t.choice t.operation in
+    let vs = target_words t.operation in
+    let behind : spaced (places_of i.operation) ≡ spaced vs = ap spaced (target_words_of i.keep i.shown i.operation t.operation written.instruction.operation) in
+    target
+    ∙ ap (λ x. x ++ spaced (places_of i.operation)) (words ∙ ap (λ x. x ++ i.words.items) (space ∙ ap (λ x. x ++ 32 ∷ []) number))
+    ∙ ap (λ x. (((old ++ decimal place) ++ 32 ∷ []) ++ x) ++ spaced (places_of i.operation)) written.words
+    ∙ ap (λ x. (((old ++ decimal place) ++ 32 ∷ []) ++ spaced ws) ++ x) behind
+    ∙ regroup old (decimal place) (spaced ws) (spaced vs)
+    ∙ ap (λ x. old ++ (decimal place ++ 32 ∷ x)) (sym (spaced_append ws vs))
+
+-- that line is written when it is ended
+pub line_written : (p : ProgramTree) (place : ℕ) (i : Instruction) (t : InstructionTree) (old a b d e new : List ℕ) → IsWritten p i t
+    → a ≡ old ++ decimal place → b ≡ a ++ 32 ∷ [] → d ≡ b ++ i.words.items → e ≡ d ++ spaced (places_of i.operation)
+    → ((before : List ℕ) (ws : List (List ℕ)) → ws ≢ [] → e ≡ before ++ spaced ws → new ≡ before ++ (joined ws ++ 10 ∷ []))
+    → new ≡ old ++ instruction_line p place t
+line_written p place i t old a b d e new written number space words target ends =
+    ends old (decimal place ∷ (operation_words p t.choice t.operation ++ target_words t.operation)) (absurd_cons _ _)
+    (words_of_line p place i t old a b d e written number space words target)
+
+-- behind a beginning of a text there are the lines of the instructions before a place; with those of the others it is the whole
+pub record Writes (p : ProgramTree) (instructions : List Instruction) (place : ℕ) (text whole : List ℕ) : Type 0 where
+  pub left : List InstructionTree
+  pub are : AreWritten p (drop place instructions) left
+  pub is : text ++ instruction_lines p place left ≡ whole
+
+one_line : (p : ProgramTree) (i : Instruction) (is : List Instruction) (place : ℕ) (text new whole : List ℕ) (left : List InstructionTree)
+    → AreWritten p (i ∷ is) left → text ++ instruction_lines p place left ≡ whole
+    → ((t : InstructionTree) → IsWritten p i t → new ≡ text ++ instruction_line p place t)
+    → (rest : List InstructionTree) × (AreWritten p is rest × (new ++ instruction_lines p (place + 1) rest ≡ whole))
+one_line p i is place text new whole [] are all puts = absurd are
+one_line p i is place text new whole (t ∷ rest) are all puts =
+    (rest, (are.1, ap (λ x. x ++ instruction_lines p (place + 1) rest) (puts t are.0) ∙ append_assoc text (instruction_line p place t) (instruction_lines p (place + 1) rest) ∙ all))
+
+pub writes_next : (p : ProgramTree) (instructions : List Instruction) (place : ℕ) (text new whole : List ℕ) (i : Instruction) → place < length instructions → i ≡ get_or instructions place i
+    → Writes p instructions place text whole → ((t : InstructionTree) → IsWritten p i t → new ≡ text ++ instruction_line p place t)
+    → Writes p instructions (place + 1) new whole
+writes_next p instructions place text new whole i inside is before puts =
+    let here : drop place instructions ≡ i ∷ drop (place + 1) instructions = drop_more instructions place i inside ∙ ap (λ x. x ∷ drop (place + 1) instructions) (sym is) in
+    let more = one_line p i (drop (place + 1) instructions) place text new whole before.left (subst (λ xs. AreWritten p xs before.left) here before.are) before.is puts in
+    record { left = more.0; are = more.1.0; is = more.1.1 }
+
+none_left : (p : ProgramTree) (place : ℕ) (text whole : List ℕ) (left : List InstructionTree) → AreWritten p [] left → text ++ instruction_lines p place left ≡ whole → text ≡ whole
+none_left p place text whole [] are all = sym (append-nil text) ∙ all
+none_left p place text whole (t ∷ left) are all = absurd are
+
+pub writes_all : (p : ProgramTree) (instructions : List Instruction) (place : ℕ) (text whole : List ℕ) → length instructions ≤ place → Writes p instructions place text whole → text ≡ whole
+writes_all p instructions place text whole past writes =
+    none_left p place text whole writes.left (subst (λ xs. AreWritten p xs writes.left) (drop_all place instructions past) writes.are) writes.is

@@ -1,0 +1,90 @@
+-- What the kernels of a plan are made for.
+use Rattle.std.proofs.Common.{◌≡◌, ℕ, Some, slice_get, refl, sym, subst}
+use Rattle.std.proofs.Math.Logic.{∥∥₁_elim, ∥∥₁_map}
+use Rattle.std.proofs.Math.Nat.{ℕ_set}
+use Rattle.algorithm_meaning.specs.Function.{steps_of}
+use Rattle.kernels.specs.declared.expression.ExpressionKernel.{ExpressionKernel}
+use Rattle.kernels.specs.declared.vertex_kernel.VertexKernel.{VertexKernel}
+use Rattle.stack_code.specs.Meaning.{IsVertexCode}
+use Rattle.plans.specs.declared.depth.Depth.{Depth}
+use Rattle.plans.specs.Instruction.{OperationTree}
+use Rattle.plans.specs.Plan.{plan_of}
+use Rattle.instructions.specs.declared.functions.Functions.{Functions}
+use Rattle.instructions.specs.declared.instruction.Instruction.{Instruction}
+use Rattle.instructions.specs.declared.operation.Operation.{Operation}
+use Rattle.instructions.specs.declared.operation.Operation.TheVariants as op
+use Rattle.instructions.specs.declared.plan.Plan.{Plan}
+use Rattle.instructions.specs.Kernels.{kernel_at}
+use Rattle.instructions.specs.Operation.{IsFor, IsInstruction, IsOperation}
+use Rattle.run_state.specs.VertexKernels.{IsVertexKernel}
+use Rattle.runner.specs.Done.{HaveTrees, IsReady}
+use Rattle.runner.proofs.Partners.{partner_at}
+
+-- an operation of a tree is ready
+ready : (keep shown : Depth) (o : Operation) (t : OperationTree) → IsOperation keep shown o t → IsReady keep shown o
+ready keep shown (op.DeclareInteger name k) t is = is.visible
+ready keep shown (op.DeclareCondition name k) t is = is.visible
+ready keep shown (op.SetInteger slot k) t is = is.visible
+ready keep shown (op.SetCondition slot k) t is = is.visible
+ready keep shown (op.ReduceInteger slot reduction k) t is = is.visible
+ready keep shown (op.SetEntry vector index k) t is = (is.index_visible, is.value_visible)
+ready keep shown (op.ReduceEntry vector index reduction k) t is = (is.index_visible, is.value_visible)
+ready keep shown (op.DeclareSet name members) t is = tt
+ready keep shown (op.AssignSet slot members) t is = tt
+ready keep shown (op.AddVertex slot k) t is = is.visible
+ready keep shown (op.PrintInteger k) t is = is.visible
+ready keep shown (op.PrintCondition k) t is = is.visible
+ready keep shown (op.ApplyVertices set first second) t is = tt
+ready keep shown (op.ApplyEdges ends first second) t is = tt
+ready keep shown (op.Unless k to) t is = is.visible
+ready keep shown (op.Enter name k) t is = is.visible
+ready keep shown (op.UnlessBelow name to) t is = tt
+ready keep shown (op.Advance name) t is = tt
+ready keep shown op.Turn t is = tt
+ready keep shown (op.Jump to) t is = tt
+ready keep shown op.End t is = tt
+
+-- there is one proof of it at most
+for_once : (d : Depth) (k : ExpressionKernel) (x y : IsFor d k) → x ≡ y
+for_once d k x y = λ i. record { integers = ℕ_set _ _ x.integers y.integers i; conditions = ℕ_set _ _ x.conditions y.conditions i }
+
+ready_once : (keep shown : Depth) (o : Operation) (x y : IsReady keep shown o) → x ≡ y
+ready_once keep shown (op.DeclareInteger name k) x y = for_once keep k x y
+ready_once keep shown (op.DeclareCondition name k) x y = for_once keep k x y
+ready_once keep shown (op.SetInteger slot k) x y = for_once keep k x y
+ready_once keep shown (op.SetCondition slot k) x y = for_once keep k x y
+ready_once keep shown (op.ReduceInteger slot reduction k) x y = for_once keep k x y
+ready_once keep shown (op.SetEntry vector index k) x y = λ i. (for_once keep index x.0 y.0 i, for_once keep k x.1 y.1 i)
+ready_once keep shown (op.ReduceEntry vector index reduction k) x y = λ i. (for_once keep index x.0 y.0 i, for_once keep k x.1 y.1 i)
+ready_once keep shown (op.DeclareSet name members) x y = refl
+ready_once keep shown (op.AssignSet slot members) x y = refl
+ready_once keep shown (op.AddVertex slot k) x y = for_once keep k x y
+ready_once keep shown (op.PrintInteger k) x y = for_once keep k x y
+ready_once keep shown (op.PrintCondition k) x y = for_once keep k x y
+ready_once keep shown (op.ApplyVertices set first second) x y = refl
+ready_once keep shown (op.ApplyEdges ends first second) x y = refl
+ready_once keep shown (op.Unless k to) x y = for_once keep k x y
+ready_once keep shown (op.Enter name k) x y = for_once shown k x y
+ready_once keep shown (op.UnlessBelow name to) x y = refl
+ready_once keep shown (op.Advance name) x y = refl
+ready_once keep shown op.Turn x y = refl
+ready_once keep shown (op.Jump to) x y = refl
+ready_once keep shown op.End x y = refl
+
+-- so each instruction of a plan is
+pub instruction_ready : (plan : Plan) (place : ℕ) (i : Instruction) → slice_get plan.instructions.items place ≡ Some i → IsReady i.keep i.shown i.operation
+instruction_ready plan place i found =
+    ∥∥₁_elim plan.lowered (ready_once i.keep i.shown i.operation) (λ of.
+    let partner = partner_at IsInstruction plan.instructions.items (plan_of of.program of.schedule) place i of.planned.instructions found in
+    ready i.keep i.shown i.operation partner.partner.operation partner.related.operation)
+
+pub functions_known : (plan : Plan) → ∥ HaveTrees plan.functions ∥₁
+functions_known plan = ∥∥₁_map plan.lowered (λ of. record { program = of.program; are = of.planned.functions })
+
+-- each vertex kernel of a plan is that of a function
+pub vertex_kernel : (f : Functions) (place : ℕ) (k : VertexKernel) → k ≡ kernel_at f.vertex place → ∥ HaveTrees f ∥₁ → ∥ IsVertexKernel k ∥₁
+vertex_kernel f place k is known =
+    ∥∥₁_map known (λ h. record {
+      steps = steps_of (slice_get h.program.vertex_functions place);
+      code = subst (λ (z : VertexKernel). IsVertexCode z.code.items (steps_of (slice_get h.program.vertex_functions place))) (sym is) (h.are.vertex place);
+    })

@@ -1,0 +1,95 @@
+-- A step of a run, and a step of the machine.
+use Rattle.std.proofs.Common.{◌≡◌, ℕ, ◌<◌, List, [], ◌∷◌, ◌++◌, reverse, Option, Some, None, slice_get, refl, sym, ap, ◌∙◌, subst, arith}
+use Rattle.std.proofs.Math.Bridge.{le_prop}
+use Rattle.std.proofs.Math.Logic.{∥∥₁_elim}
+use Rattle.std.proofs.lemmas.List.{reverse-append}
+use Rattle.typed_tree.specs.declared.expression.Slot.{Slot}
+use Rattle.typed_tree.specs.BlockTree.{ApplyVertex}
+use Rattle.typed_tree.specs.ProgramTree.{ProgramTree}
+use Rattle.algorithm_meaning.specs.declared.outcome.End.{End as Ending}
+use Rattle.algorithm_meaning.specs.State.{GraphValue, StateValue}
+use Rattle.algorithm_meaning.specs.Variables.{with_new_integer}
+use Rattle.schedule.specs.Schedule.{ScheduleTree}
+use Rattle.plans.specs.declared.depth.Counter.{Counter}
+use Rattle.plans.specs.declared.depth.Depth.{Depth}
+use Rattle.plans.specs.Bound.{most_steps}
+use Rattle.plans.specs.Fused.{FitTogether}
+use Rattle.plans.specs.Instruction.{ApplyVerticesTogether, Do, InstructionTree, OperationTree}
+use Rattle.plans.specs.Machine.{Configuration, At, act, act_at, after_advance, forgotten, next_of, step}
+use Rattle.plans.specs.Plan.{plan_of}
+use Rattle.plans.proofs.Reaching.{is_inside}
+use Rattle.plans.proofs.Whole.{steps_lower}
+use Rattle.instructions.specs.Bound.{most_steps_of}
+use Rattle.instructions.specs.declared.instruction.Instruction.{Instruction}
+use Rattle.instructions.specs.declared.operation.Operation.TheVariants as op
+use Rattle.instructions.specs.declared.plan.Plan.{Plan}
+use Rattle.instructions.specs.Operation.{IsInstruction, IsOperation}
+use Rattle.instructions.specs.Plan.{IsPlan}
+use Rattle.instructions.proofs.Bounds.{same_bound}
+use Rattle.runner.specs.declared.run.Run.{Run}
+use Rattle.run_state.specs.State.{RunState, with_state}
+use Rattle.runner.specs.Done.{AreLevel, HasDone}
+use Rattle.runner.specs.Position.{position, waiting, waiting_at}
+use Rattle.runner.proofs.Kept.{as_many_left}
+use Rattle.runner.proofs.Partners.{partner_at}
+
+-- to act on what is kept is to step
+pub act_steps : (p : ProgramTree) (g : GraphValue) (plan : List InstructionTree) (place : ℕ) (loops : List Counter) (s t : StateValue) (i : Instruction) (tree : InstructionTree)
+    → slice_get plan place ≡ Some tree → IsInstruction i tree → t ≡ forgotten i.keep s
+    → act p g tree.operation i.number i.shown place loops t ≡ step p g plan (At place loops s)
+act_steps p g plan place loops s t i tree at is kept =
+    ap (λ (u : StateValue). act p g tree.operation i.number i.shown place loops u) kept
+    ∙ ((λ j. act p g tree.operation (is.number j) (is.shown j) place loops (forgotten (is.keep j) s))
+    ∙ sym (ap (λ (o : Option InstructionTree). act_at p g o place loops s) at))
+
+-- what stands level with the next step of a plan has fewer steps left
+pub level_falls : (plan : Plan) (g : GraphValue) (place : ℕ) (loops : List Counter) (s : StateValue) (i : Instruction) (next : Configuration)
+    → slice_get plan.instructions.items place ≡ Some i
+    → ((p : ProgramTree) (schedule : ScheduleTree) → IsPlan plan p schedule → AreLevel next (step p g (plan_of p schedule) (At place loops s)))
+    → most_steps_of plan.instructions.items next < most_steps_of plan.instructions.items (At place loops s)
+level_falls plan g place loops s i next found level =
+    ∥∥₁_elim plan.lowered le_prop (λ of.
+    let p = of.program in
+    let ts = plan_of p of.schedule in
+    let is = plan.instructions.items in
+    let are = of.planned.instructions in
+    let now = At place loops s in
+    let partner = partner_at IsInstruction is ts place i are found in
+    let inside = is_inside ts place partner.partner partner.is_there in
+    let fewer = steps_lower p of.schedule g now inside in
+    let before : most_steps_of is now ≡ most_steps ts now = same_bound is ts are now in
+    let after : most_steps_of is next ≡ most_steps ts (step p g ts now) = same_bound is ts are next ∙ as_many_left ts next (step p g ts now) (level p of.schedule of.planned) in
+    omega (arith, before, after, fewer))
+
+-- the innermost loop is the last
+pub reverse_last : (xs : List Counter) (x : Counter) → reverse (xs ++ x ∷ []) ≡ x ∷ reverse xs
+reverse_last xs x = reverse-append xs (x ∷ [])
+
+-- the innermost loop goes on
+pub loop_goes_on : (here : ℕ) (loops old new : List Counter) (x : Counter) (s : StateValue) → old ≡ loops ++ x ∷ [] → new ≡ loops ++ next_of x ∷ []
+    → At here (reverse new) (with_new_integer (with_new_integer s (next_of x).next) (next_of x).end) ≡ after_advance here (reverse old) s
+loop_goes_on here loops old new x s was is =
+    ap (λ (ls : List Counter). At here ls (with_new_integer (with_new_integer s (next_of x).next) (next_of x).end)) (ap reverse is ∙ reverse_last loops (next_of x))
+    ∙ sym (ap (λ (ls : List Counter). after_advance here ls s) (ap reverse was ∙ reverse_last loops x))
+
+-- an apply of one vertex function, or of two
+pub vertices_done : (i : Instruction) (old new : Run) (p : ProgramTree) (g : GraphValue) (keep shown : Depth) (set : Slot) (first : ℕ) (second : Option ℕ) (t : OperationTree)
+    → IsOperation keep shown (op.ApplyVertices set first second) t → FitTogether p t
+    → (second ≡ None → HasDone i old new p g (Do (ApplyVertex set first)))
+    → ((place : ℕ) → second ≡ Some place → FitTogether p (ApplyVerticesTogether set first place) → HasDone i old new p g (ApplyVerticesTogether set first place))
+    → HasDone i old new p g t
+vertices_done i old new p g keep shown set first None t is fit one two = subst (λ (o : OperationTree). HasDone i old new p g o) (sym is) (one refl)
+vertices_done i old new p g keep shown set first (Some place) t is fit one two =
+    subst (λ (o : OperationTree). HasDone i old new p g o) (sym is) (two place refl (subst (λ (o : OperationTree). FitTogether p o) is fit))
+
+-- a run that goes on, in a state that was made of another
+pub stands : (end : Option Ending) (next here : ℕ) (loops : List Counter) (r new : RunState) (s : StateValue) → end ≡ None → next ≡ here → new ≡ with_state r s
+    → position end next loops new.state ≡ At here loops s
+stands end next here loops r new s going is made = λ j. position (going j) (is j) loops (made j).state
+
+-- a run that waits before an instruction has forgotten what that does not see
+pub waits : (plan : List InstructionTree) (place : ℕ) (loops : List Counter) (s t : StateValue) (i : Instruction) (tree : InstructionTree)
+    → slice_get plan place ≡ Some tree → IsInstruction i tree → t ≡ forgotten i.keep s → At place loops t ≡ waiting plan (At place loops s)
+waits plan place loops s t i tree at is kept =
+    ap (λ (u : StateValue). At place loops u) (kept ∙ ap (λ (d : Depth). forgotten d s) is.keep)
+    ∙ sym (ap (λ (o : Option InstructionTree). waiting_at o place loops s) at)

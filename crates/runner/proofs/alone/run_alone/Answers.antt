@@ -1,0 +1,25 @@
+use Rattle.std.proofs.Common.{◌∙◌}
+use Rattle.plans.specs.Plan.{plan_of}
+use Rattle.run_state.specs.State.{graph_value}
+use Rattle.runner.specs.Position.{configuration_of, loops_of}
+use Rattle.runner.proofs.Running.{has_ended, means, reached_first, reached_next}
+use Rattle.runner.proofs.Showing.{if_ok}
+use Rattle.runner.proofs.alone.run_alone.Goals as goal
+
+pub steps-init : goal.steps-init
+steps-init c = record {
+  on = c.in_ok-run.ensures.vertices;
+  reached = λ p s plan reduces. reached_first p (graph_value c.args.graph.now) (plan_of p s) c.args.turns (configuration_of c.in_ok-run.run') (c.in_ok-run.ensures.configuration p plan.vectors plan.sets);
+}
+
+pub steps-preserved : goal.steps-preserved
+steps-preserved c = record {
+  on = c.step.ensures.vertices ∙ c.steps.invariant.on;
+  reached = λ p s plan reduces. reached_next p (graph_value c.args.graph.now) (plan_of p s) c.args.turns (configuration_of c.steps.run) (configuration_of c.step.new.self) (c.steps.invariant.reached p s plan reduces) (c.in_ok-step.ensures.steps p s plan reduces);
+}
+
+pub returns : goal.returns
+returns c =
+    let run = c.steps.run in
+    if_ok _ _ c.show.result (λ o is p s plan reduces. is p s plan
+    ∙ means p s (graph_value c.args.graph.now) c.args.turns (configuration_of run) (c.steps.invariant.reached p s plan reduces) (has_ended run.end run.place (loops_of run) run.state.state c.steps-test.ensures)) c.show.ensures

@@ -1,0 +1,17 @@
+use Rattle.std.proofs.Common.{◌∙◌, ap, sym}
+use Rattle.algorithm_meaning.specs.declared.outcome.End.{End as Ending}
+use Rattle.algorithm_meaning.specs.Shown.{shown}
+use Rattle.plans.specs.Machine.{forgotten}
+use Rattle.plans.specs.Plan.{plan_of}
+use Rattle.runner.specs.Position.{loops_of}
+use Rattle.runner.proofs.Showing.{if_ok, shows_so_far}
+use Rattle.runner.proofs.run.Run.show.Goals as goal
+
+pub returns : goal.returns
+returns c =
+    let run = c.args.self.now in
+    if_ok _ _ c.show.result
+    (λ o is p s plan. is p (sym plan.names ∙ sym c.deref.ensures.value) (sym plan.vectors ∙ sym c.deref-2.ensures.value)
+    ∙ (ap (λ (e : Ending). shown p c.args.turns (forgotten c.shown-shown.result run.state.state) e) c.unwrap_or-end.ensures
+    ∙ shows_so_far p c.args.turns (plan_of p s) run.end run.place (loops_of run) run.state.state c.shown-shown.result (c.shown-shown.ensures p s plan)))
+    c.show.ensures

@@ -1,0 +1,4 @@
+pub mod Position
+pub mod Done
+pub mod Results
+pub mod Job

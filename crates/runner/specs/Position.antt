@@ -1,0 +1,62 @@
+-- Where a run stands, in the words of the machine.
+use Rattle.std.specs.Prelude.{◌≡◌, ℕ, List, Option, Some, None, reverse, slice_get}
+use Rattle.algorithm_meaning.specs.declared.outcome.End.{End}
+use Rattle.algorithm_meaning.specs.State.{GraphValue, StateValue}
+use Rattle.plans.specs.declared.depth.Counter.{Counter}
+use Rattle.plans.specs.declared.depth.Depth.{Depth}
+use Rattle.instructions.specs.Bound.{most_steps_of}
+use Rattle.instructions.specs.declared.plan.Plan.{Plan}
+use Rattle.plans.specs.Instruction.{InstructionTree}
+use Rattle.plans.specs.Machine.{Configuration, At, Ended, forgotten}
+use Rattle.typed_tree.specs.ProgramTree.{ProgramTree}
+use Rattle.algorithm_meaning.specs.declared.outcome.End.TheVariants.{TurnsOver}
+use Rattle.algorithm_meaning.specs.declared.outcome.Outcome.{Outcome}
+use Rattle.algorithm_meaning.specs.Shown.{shown}
+use Rattle.runner.specs.declared.run.Run.{Run}
+
+-- before the instruction at a place, or at an end
+abbrev pub position : Option End → (place : ℕ) → List Counter → StateValue → Configuration
+position None place loops s = At place loops s
+position (Some end) place loops s = Ended s end
+
+-- the loops around the place, the innermost first
+abbrev pub loops_of : Run → List Counter
+loops_of r = reverse r.loops.items
+
+abbrev pub configuration_of : Run → Configuration
+configuration_of r = position r.end r.place (loops_of r) r.state.state
+
+-- the run is on a graph of so many vertices
+abbrev pub IsOn : GraphValue → Run → Type 0
+IsOn g r = r.state.vertices ≡ g.vertices
+
+-- a run that waits before an instruction has forgotten what that instruction does not see
+abbrev pub waiting_at : Option InstructionTree → (place : ℕ) → List Counter → StateValue → Configuration
+waiting_at None place loops s = At place loops s
+waiting_at (Some i) place loops s = At place loops (forgotten i.keep s)
+
+abbrev pub waiting : List InstructionTree → Configuration → Configuration
+waiting plan (At place loops s) = waiting_at (slice_get plan place) place loops s
+waiting plan (Ended s end) = Ended s end
+
+abbrev pub IsShownWhere : Option InstructionTree → StateValue → Depth → Type 0
+IsShownWhere None s d = forgotten d s ≡ s
+IsShownWhere (Some i) s d = d ≡ i.shown
+
+-- what a run shows so far: one that goes on shows what is visible at the next instruction, as if its turns were over
+abbrev pub shown_where : ProgramTree → (turns : ℕ) → Option InstructionTree → StateValue → Outcome
+shown_where p turns None s = shown p turns s TurnsOver
+shown_where p turns (Some i) s = shown p turns (forgotten i.shown s) TurnsOver
+
+abbrev pub outcome_so_far : ProgramTree → (turns : ℕ) → List InstructionTree → Configuration → Outcome
+outcome_so_far p turns plan (At place loops s) = shown_where p turns (slice_get plan place) s
+outcome_so_far p turns plan (Ended s end) = shown p turns s end
+
+-- to forget what is beyond this leaves what such a run shows
+abbrev pub IsShown : List InstructionTree → Configuration → Depth → Type 0
+IsShown plan (At place loops s) d = IsShownWhere (slice_get plan place) s d
+IsShown plan (Ended s end) d = forgotten d s ≡ s
+
+-- so many steps a run takes at most from here
+abbrev pub steps_left : Plan → Run → ℕ
+steps_left plan r = most_steps_of plan.instructions.items (configuration_of r)

@@ -1,0 +1,26 @@
+-- What a run does with the vertices at which an edge apply changed a vector.
+use Rattle.std.specs.Prelude.{◌≡◌, ℕ, ℤ, List, Option, Some, None}
+use Rattle.algorithm_meaning.specs.Entries.{with_vectors}
+use Rattle.algorithm_meaning.specs.State.{StateValue}
+use Rattle.fusing.specs.declared.part.EdgePart.{EdgePart}
+use Rattle.fusing.specs.declared.part.PartResult.{PartResult}
+use Rattle.fusing.specs.declared.part.PartResult.TheVariants as result
+use Rattle.fusing.specs.Parts.{result_tree}
+use Rattle.plans.specs.Instruction.{ResultTree}
+use Rattle.plans.specs.Machine.{with_result}
+use Rattle.run_state.specs.declared.taken.Taken.{Taken}
+use Rattle.run_state.specs.Taken.{with_taken}
+
+-- the result of the second part, where there is one
+abbrev pub result_of_second : Option EdgePart → PartResult
+result_of_second None = result.Dropped
+result_of_second (Some part) = part.result
+
+-- to take the set is what is done with the vertices that changed
+abbrev pub IsTakenFor : (vertices : ℕ) → (before after : List (List ℤ)) → ResultTree → Taken → Type 0
+IsTakenFor vertices before after r taken = (s : StateValue) → with_taken s taken ≡ with_result vertices before after r s
+
+-- the state after an apply that gave these vectors, with the results of one part or two
+abbrev pub with_both : (vertices : ℕ) → (first second : PartResult) → (after : List (List ℤ)) → StateValue → StateValue
+with_both vertices first second after s =
+    with_result vertices s.vectors after (result_tree second) (with_result vertices s.vectors after (result_tree first) (with_vectors s after))

@@ -1,0 +1,205 @@
+//! Applies.
+ghost use Rattle.std.specs.Prelude.{◌≡◌, ℕ, ℤ, List, None, Some, IfOk, OnOk, OnErr, IsSomeAnd, slice_get};
+ghost use Rattle.typed_tree.specs.ProgramTree.{ProgramTree};
+ghost use Rattle.algorithm_meaning.specs.EdgeApply.{modified as modified_in};
+ghost use Rattle.algorithm_meaning.specs.State.{GraphValue};
+ghost use Rattle.edge_applies.specs.Applied.{AreChangesTo};
+ghost use Rattle.fusing.specs.Parts.{result_tree};
+ghost use Rattle.plans.specs.Fused.{FitTogether};
+ghost use Rattle.plans.specs.Instruction.{OperationTree};
+ghost use Rattle.plans.specs.Reducing.{OperationReduces};
+ghost use Rattle.instructions.specs.Functions.{AreFunctions};
+ghost use Rattle.instructions.specs.declared.operation.Operation.TheVariants as op;
+ghost use Rattle.instructions.specs.Operation.{ApplyEdgesOf, IsOperation};
+ghost use Rattle.run_state.specs.State.{graph_value, with_state};
+ghost use Rattle.run_state.specs.Taken.{IsTakenOf};
+ghost use Rattle.run_state.specs.VertexKernels.{IsVertexKernel};
+ghost use Rattle.std.specs.Option.{ForSome, option_map};
+ghost use Rattle.algorithm_meaning.specs.Function.{steps_of};
+ghost use Rattle.stack_code.specs.Meaning.{IsVertexCode};
+ghost use Rattle.runner.specs.Done.{HasDone, HaveTrees, IsAsBefore, IsBefore, KeepsGoing};
+ghost use Rattle.runner.specs.Position.{IsOn};
+ghost use Rattle.runner.specs.Results.{IsTakenFor, result_of_second, with_both};
+
+use crate::run::Run;
+use edge_applies::{changed_vertices, edge_changes};
+use flat_snapshot::Flat;
+use fusing::{EdgeApply, EdgePart, PartResult};
+use instructions::{Functions, Instruction};
+use kernels::VertexKernel;
+use run_state::{State, Taken};
+use schedule::Choice;
+use std::alloc::{AllocError, Global};
+use typed_tree::Slot;
+use vectors::Changes;
+use vertex_sets::{Form, VertexSet};
+
+impl Run {
+    /// One vertex function, or two, at each member of a set.
+    pub(crate) fn apply_vertices(
+        &mut self,
+        functions: &Functions,
+        instruction: &Instruction,
+        next: usize,
+        set: Slot,
+        first: usize,
+        second: Option<usize>,
+    ) -> Result<(), AllocError>
+        requires before { IsBefore instruction.now next self.old }
+        requires known { ∥ HaveTrees functions.now ∥₁ }
+        ensures done { OnOk result ((p : ProgramTree) (g : GraphValue) (t : OperationTree) → AreFunctions functions.now p
+            → IsOperation instruction.now.keep instruction.now.shown (op.ApplyVertices set first second) t → FitTogether p t → HasDone instruction.now self.old self.new p g t) }
+        ensures going { OnOk result (KeepsGoing next self.old self.new) }
+        ensures vertices { self.new.state.vertices ≡ self.old.state.vertices }
+        ensures err { OnErr result (IsAsBefore self.old self.new) }
+    {
+        // A proof reads here that members ascend.
+        let _vertices = self.state.vertices();
+        let first = functions.vertex.get(first);
+        let second = second_kernel(functions, second);
+        self.state
+            .apply_vertices(set.place, first, second, &mut self.block)?;
+        self.place = next;
+        Ok(())
+    }
+
+    /// One edge function, or two, on the edges between two ends.
+    pub(crate) fn apply_edges(
+        &mut self,
+        alloc: Global,
+        functions: &Functions,
+        graph: &Flat,
+        instruction: &Instruction,
+        next: usize,
+        apply: EdgeApply,
+        second: Option<EdgePart>,
+    ) -> Result<(), AllocError>
+        requires before { IsBefore instruction.now next self.old }
+        ensures done { OnOk result ((p : ProgramTree) (g : GraphValue) (t : OperationTree) → g ≡ graph_value graph.now → IsOn g self.old
+            → AreFunctions functions.now p → ApplyEdgesOf apply.ends apply.part second t → OperationReduces p t → HasDone instruction.now self.old self.new p g t) }
+        ensures going { OnOk result (KeepsGoing next self.old self.new) }
+        ensures vertices { self.new.state.vertices ≡ self.old.state.vertices }
+        ensures err { OnErr result (IsAsBefore self.old self.new) }
+    {
+        let choice = instruction.choice;
+        let part = apply.part;
+        let both = function_of(second);
+        let view = self.state.view(functions, graph);
+        let changes = edge_changes(
+            alloc,
+            view,
+            apply.ends,
+            part.function,
+            both,
+            choice,
+            &mut self.scratch,
+        )?;
+        let second = result_of(second);
+        take_changes(
+            alloc,
+            &mut self.state,
+            &changes,
+            choice,
+            part.result,
+            second,
+        )?;
+        self.place = next;
+        Ok(())
+    }
+}
+
+/// The function of the second part, where there is one.
+fn function_of(second: Option<EdgePart>) -> Option<usize>
+    ensures { result ≡ option_map (λ part. part.function) second }
+{
+    let part = second?;
+    Some(part.function)
+}
+
+/// The result of the second part; without one there is nothing to do.
+fn result_of(second: Option<EdgePart>) -> PartResult
+    ensures { result ≡ result_of_second second }
+{
+    match second {
+        None => PartResult::Dropped,
+        Some(part) => part.result,
+    }
+}
+
+/// Takes the sets of what an apply changed, and writes its changes. The only error is out of memory.
+fn take_changes(
+    alloc: Global,
+    state: &mut State,
+    changes: &Changes,
+    choice: Choice,
+    first: PartResult,
+    second: PartResult,
+) -> Result<(), AllocError>
+    ensures ok { OnOk result ((after : List (List ℤ)) → AreChangesTo state.old.vertices state.old.state.vectors after changes.now.vectors.items
+        → state.new ≡ with_state state.old (with_both state.old.vertices first second after state.old.state)) }
+    ensures turns { state.new.state.turns ≡ state.old.state.turns }
+    ensures vertices { state.new.vertices ≡ state.old.vertices }
+    ensures err { OnErr result (state.new ≡ state.old) }
+{
+    let of_first = taken(alloc, state, changes, choice, first)?;
+    let of_second = taken(alloc, state, changes, choice, second)?;
+    state.take_both(of_first, of_second)?;
+    state.write(changes);
+    Ok(())
+}
+
+/// The set that takes the vertices at which an edge function changed a vector. The only error is out of memory.
+fn taken(
+    alloc: Global,
+    state: &State,
+    changes: &Changes,
+    choice: Choice,
+    asked: PartResult,
+) -> Result<Taken, AllocError>
+    ensures of { IfOk result (λ t. IsTakenOf state.now.vertices t) }
+    ensures taken { IfOk result (λ t. (after : List (List ℤ)) → AreChangesTo state.now.vertices state.now.state.vectors after changes.now.vectors.items
+        → IsTakenFor state.now.vertices state.now.state.vectors after (result_tree asked) t) }
+{
+    match asked {
+        PartResult::Dropped => Ok(Taken::Nothing),
+        PartResult::Declared { name, vector } => {
+            let set = modified(alloc, state, changes, choice, vector)?;
+            Ok(Taken::New { name, set })
+        }
+        PartResult::Assigned { set, vector } => {
+            let place = set.place;
+            let set = modified(alloc, state, changes, choice, vector)?;
+            Ok(Taken::Other { place, set })
+        }
+    }
+}
+
+/// The vertices at which a vector changes, none where there is no such vector. The only error is out of memory.
+fn modified(
+    alloc: Global,
+    state: &State,
+    changes: &Changes,
+    choice: Choice,
+    vector: usize,
+) -> Result<VertexSet, AllocError>
+    ensures vertices { IfOk result (λ s. s.vertices ≡ state.now.vertices) }
+    ensures members { IfOk result (λ s. (after : List (List ℤ)) → AreChangesTo state.now.vertices state.now.state.vectors after changes.now.vectors.items
+        → s.members ≡ modified_in state.now.vertices vector state.now.state.vectors after) }
+{
+    if vector < state.vector_count() {
+        changed_vertices(alloc, changes, vector, state.vertices(), choice)
+    } else {
+        VertexSet::empty(alloc, state.vertices(), Form::List)
+    }
+}
+
+/// The kernel of the function at the second place, where there is one.
+fn second_kernel(functions: &Functions, second: Option<usize>) -> Option<&VertexKernel>
+    ensures none { second ≡ None → result ≡ None }
+    ensures some { (p : ProgramTree) (place : ℕ) → AreFunctions functions.now p → second ≡ Some place
+        → IsSomeAnd result (λ k. IsVertexCode k.now.code.items (steps_of (slice_get p.vertex_functions place))) }
+    ensures known { ∥ HaveTrees functions.now ∥₁ → ForSome result (λ k. ∥ IsVertexKernel k.now ∥₁) }
+{
+    let place = second?;
+    Some(functions.vertex.get(place))
+}

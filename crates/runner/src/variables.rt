@@ -1,0 +1,142 @@
+//! Statements on variables.
+ghost use Rattle.std.specs.Prelude.{◌≡◌, ℕ, OnOk, OnErr};
+ghost use Rattle.typed_tree.specs.BlockTree.{DeclareCondition, DeclareInteger, ReduceInteger, SetCondition, SetInteger};
+ghost use Rattle.typed_tree.specs.ProgramTree.{ProgramTree};
+ghost use Rattle.algorithm_meaning.specs.State.{GraphValue};
+ghost use Rattle.plans.specs.Instruction.{Do, OperationTree};
+ghost use Rattle.instructions.specs.Operation.{HasCondition, HasInteger, IsFor};
+ghost use Rattle.runner.specs.Done.{HasDone, IsAsBefore, IsBefore};
+ghost use Rattle.runner.specs.Position.{IsOn};
+
+use crate::run::Run;
+use instructions::Instruction;
+use kernels::ExpressionKernel;
+use std::alloc::AllocError;
+use syntax::Reduction;
+use typed_tree::Slot;
+
+impl Run {
+    /// A new variable of type `int`.
+    pub(crate) fn declare_integer(
+        &mut self,
+        instruction: &Instruction,
+        next: usize,
+        value: &ExpressionKernel,
+    ) -> Result<(), AllocError>
+        requires before { IsBefore instruction.now next self.old }
+        requires visible { IsFor instruction.now.keep value.now }
+        ensures done { OnOk result ((p : ProgramTree) (g : GraphValue) (t : OperationTree) (name : ℕ) → IsOn g self.old
+            → HasInteger instruction.now.keep value.now (λ e. Do (DeclareInteger name e)) t → HasDone instruction.now self.old self.new p g t) }
+        ensures vertices { self.new.state.vertices ≡ self.old.state.vertices }
+        ensures err { OnErr result (IsAsBefore self.old self.new) }
+    {
+        match self.state.number(value, instruction.keep, &mut self.block)? {
+            Some(n) => {
+                self.state.declare_integer(n)?;
+                self.place = next;
+            }
+            None => self.fail(instruction),
+        }
+        Ok(())
+    }
+
+    /// A new variable of type `bool`.
+    pub(crate) fn declare_condition(
+        &mut self,
+        instruction: &Instruction,
+        next: usize,
+        value: &ExpressionKernel,
+    ) -> Result<(), AllocError>
+        requires before { IsBefore instruction.now next self.old }
+        requires visible { IsFor instruction.now.keep value.now }
+        ensures done { OnOk result ((p : ProgramTree) (g : GraphValue) (t : OperationTree) (name : ℕ) → IsOn g self.old
+            → HasCondition instruction.now.keep value.now (λ c. Do (DeclareCondition name c)) t → HasDone instruction.now self.old self.new p g t) }
+        ensures vertices { self.new.state.vertices ≡ self.old.state.vertices }
+        ensures err { OnErr result (IsAsBefore self.old self.new) }
+    {
+        match self.state.choice(value, instruction.keep, &mut self.block)? {
+            Some(b) => {
+                self.state.declare_condition(b)?;
+                self.place = next;
+            }
+            None => self.fail(instruction),
+        }
+        Ok(())
+    }
+
+    /// A variable of type `int` gets a value.
+    pub(crate) fn set_integer(
+        &mut self,
+        instruction: &Instruction,
+        next: usize,
+        slot: Slot,
+        value: &ExpressionKernel,
+    ) -> Result<(), AllocError>
+        requires before { IsBefore instruction.now next self.old }
+        requires visible { IsFor instruction.now.keep value.now }
+        ensures done { OnOk result ((p : ProgramTree) (g : GraphValue) (t : OperationTree) → IsOn g self.old
+            → HasInteger instruction.now.keep value.now (λ e. Do (SetInteger slot e)) t → HasDone instruction.now self.old self.new p g t) }
+        ensures vertices { self.new.state.vertices ≡ self.old.state.vertices }
+        ensures err { OnErr result (IsAsBefore self.old self.new) }
+    {
+        match self.state.number(value, instruction.keep, &mut self.block)? {
+            Some(n) => {
+                self.state.set_integer(slot.place, n);
+                self.place = next;
+            }
+            None => self.fail(instruction),
+        }
+        Ok(())
+    }
+
+    /// A variable of type `bool` gets a value.
+    pub(crate) fn set_condition(
+        &mut self,
+        instruction: &Instruction,
+        next: usize,
+        slot: Slot,
+        value: &ExpressionKernel,
+    ) -> Result<(), AllocError>
+        requires before { IsBefore instruction.now next self.old }
+        requires visible { IsFor instruction.now.keep value.now }
+        ensures done { OnOk result ((p : ProgramTree) (g : GraphValue) (t : OperationTree) → IsOn g self.old
+            → HasCondition instruction.now.keep value.now (λ c. Do (SetCondition slot c)) t → HasDone instruction.now self.old self.new p g t) }
+        ensures vertices { self.new.state.vertices ≡ self.old.state.vertices }
+        ensures err { OnErr result (IsAsBefore self.old self.new) }
+    {
+        match self.state.choice(value, instruction.keep, &mut self.block)? {
+            Some(b) => {
+                self.state.set_condition(slot.place, b);
+                self.place = next;
+            }
+            None => self.fail(instruction),
+        }
+        Ok(())
+    }
+
+    /// A variable of type `int` is reduced with a value.
+    pub(crate) fn reduce_integer(
+        &mut self,
+        instruction: &Instruction,
+        next: usize,
+        slot: Slot,
+        reduction: Reduction,
+        value: &ExpressionKernel,
+    ) -> Result<(), AllocError>
+        requires before { IsBefore instruction.now next self.old }
+        requires visible { IsFor instruction.now.keep value.now }
+        ensures done { OnOk result ((p : ProgramTree) (g : GraphValue) (t : OperationTree) → IsOn g self.old
+            → HasInteger instruction.now.keep value.now (λ e. Do (ReduceInteger slot reduction e)) t → HasDone instruction.now self.old self.new p g t) }
+        ensures vertices { self.new.state.vertices ≡ self.old.state.vertices }
+        ensures err { OnErr result (IsAsBefore self.old self.new) }
+    {
+        match self.state.number(value, instruction.keep, &mut self.block)? {
+            Some(n) => {
+                self.state.reduce_integer(slot.place, reduction, n);
+                self.place = next;
+            }
+            None => self.fail(instruction),
+        }
+        Ok(())
+    }
+}
