@@ -9,7 +9,7 @@ use Rattle.tree_batch.specs.Digraph.{Digraph, IsDigraph}
 use Rattle.tree_batch.specs.Edge.{has_edge, IsWithin}
 use Rattle.edge_fold.specs.Between.{edges_between}
 use Rattle.edge_fold.specs.Changed.{AreApart, changed, changes_of}
-use Rattle.pull_engine.specs.Applied.{AreChangesOn}
+use Rattle.push_engine.specs.Applied.{AreChangesOn}
 use Rattle.vectors.specs.declared.change.VectorChanges.{VectorChanges}
 use Rattle.plans.specs.Reducing.{AreReduced, steps_at}
 use Rattle.edge_applies.specs.Applied.{AreChangesTo, HasEntryForEach}

@@ -27,7 +27,7 @@ use Rattle.pull_engine.specs.Columns.{columns}
 use Rattle.pull_engine.specs.Destinations.{AreDestinations}
 use Rattle.pull_engine.specs.Pieces.{AreAnswers, edges_into_piece}
 use Rattle.pull_engine.proofs.ColumnFolds.{columns-append, folded_columns}
-use Rattle.pull_engine.proofs.Filtered.{has_first, has_later}
+use Rattle.push_engine.proofs.Filtered.{has_first, has_later}
 
 -- tests that agree on the sources of a graph let the same through
 agree_one : (p q : ℕ → Bool) (u : ℕ) (S : List ℕ) (b : Bool) → p u ≡ q u → filter p S ≡ filter q S → filter p (cond b (u ∷ S) S) ≡ filter q (cond b (u ∷ S) S)

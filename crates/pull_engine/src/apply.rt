@@ -1,15 +1,14 @@
 //! Applies by the direction that their schedule names.
 ghost use Rattle.std.specs.Prelude.{◌≡◌, ◌/◌, length, nat_lt, IfOk};
 ghost use Rattle.edge_fold.specs.Changed.{AreApart};
-ghost use Rattle.pull_engine.specs.Applied.{AreChangesOf};
-ghost use Rattle.pull_engine.specs.Work.{work_from};
+ghost use Rattle.push_engine.specs.Applied.{AreChangesOf};
+ghost use Rattle.push_engine.specs.Work.{work_from};
 
 use crate::changes::pull;
-use crate::passing::passing_set;
 use edge_fold::{Functions, Scratch, Start};
 use flat_snapshot::Flat;
 use kernels::{Apply, End};
-use push_engine::push;
+use push_engine::{is_work_above, passing_set, push};
 use schedule::Direction;
 use std::alloc::{AllocError, Global};
 use vectors::{Changes, Vectors};
@@ -105,13 +104,5 @@ fn apply_from(
 pub fn is_pull_cheaper(flat: &Flat, sources: &VertexSet) -> bool
     ensures { result ≡ nat_lt (length flat.now.edges / 20) (work_from flat.now.edges sources.now.members) }
 {
-    let limit = flat.edge_count() / 20;
-    let mut work = 0usize;
-    'sources: for source in sources.iter() {
-        work += 1 + flat.out_degree(source) as usize;
-        if work > limit {
-            return true;
-        }
-    }
-    false
+    is_work_above(flat, sources, flat.edge_count() / 20)
 }

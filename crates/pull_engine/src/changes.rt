@@ -8,14 +8,14 @@ ghost use Rattle.edge_fold.specs.Changed.{AreApart};
 ghost use Rattle.edge_fold.specs.Ends.{IsEndTest};
 ghost use Rattle.edge_fold.specs.declared.functions.Start.TheVariants.{OldEntry};
 ghost use Rattle.edge_fold.specs.Folded.{AreFunctions};
-ghost use Rattle.pull_engine.specs.Applied.{AreChangesOf, AreChangesOn};
-ghost use Rattle.pull_engine.specs.Words.{passes_words};
+ghost use Rattle.push_engine.specs.Applied.{AreChangesOf, AreChangesOn};
+ghost use Rattle.push_engine.specs.Words.{passes_words};
 
 use crate::destinations::fold_to;
-use crate::passing::passing_set;
 use edge_fold::{Functions, Scratch, Start};
 use flat_snapshot::Flat;
 use kernels::{Apply, End};
+use push_engine::passing_set;
 use std::alloc::{AllocError, Global};
 use vectors::{Changes, Vectors};
 use vertex_sets::{Form, VertexSet};

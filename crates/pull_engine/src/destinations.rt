@@ -10,13 +10,12 @@ ghost use Rattle.edge_fold.specs.Folded.{AreFunctions, HasFolded};
 ghost use Rattle.edge_fold.specs.Given.{column};
 ghost use Rattle.tree_batch.specs.Neighbours.{sources_of};
 ghost use Rattle.pull_engine.specs.Columns.{columns};
-ghost use Rattle.pull_engine.specs.Words.{passes_words};
+ghost use Rattle.push_engine.specs.Words.{passes_words};
 
-use crate::members::keep_sources;
 use edge_fold::{Functions, Scratch};
 use flat_snapshot::Flat;
 use kernels::End;
-use push_engine::take_part;
+use push_engine::{keep_members, take_part};
 use std::alloc::{AllocError, Global};
 use vertex_sets::VertexSet;
 
@@ -155,7 +154,7 @@ fn fold_column(
     let mut neighbours = flat.in_(destination);
     'rounds: while !neighbours.is_empty() {
         let count = neighbours.fill(block);
-        let kept = keep_sources(from, block, count);
+        let kept = keep_members(from, block, count);
         scratch.fold_into(alloc, functions, &block[..kept], destination)?;
     }
     Ok(())

@@ -22,8 +22,6 @@ mod apply;
 mod changes;
 mod destinations;
 mod listed;
-mod members;
-mod passing;
 mod pieces;
 mod work;
 

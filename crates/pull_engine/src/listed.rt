@@ -8,13 +8,12 @@ ghost use Rattle.edge_fold.specs.Ends.{IsEndTest, IsTest};
 ghost use Rattle.tree_batch.specs.Neighbours.{sources_of};
 ghost use Rattle.push_engine.specs.Sources.{AscendsFrom};
 ghost use Rattle.pull_engine.specs.Destinations.{AreDestinations, passes_set};
-ghost use Rattle.pull_engine.specs.Words.{passes_words};
+ghost use Rattle.push_engine.specs.Words.{passes_words};
 
-use crate::passing::passing_set;
 use edge_fold::{Functions, Scratch};
 use flat_snapshot::Flat;
 use kernels::End;
-use push_engine::members_of;
+use push_engine::{members_of, passing_set};
 use schedule::Parallelization;
 use std::alloc::{AllocError, Global};
 use vertex_sets::{Form, VertexSet};

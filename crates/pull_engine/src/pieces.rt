@@ -4,7 +4,7 @@ ghost use Rattle.std.specs.List.{range_with_len};
 ghost use Rattle.std.specs.List.Sorted.{IsPermutation};
 ghost use Rattle.edge_fold.specs.Changed.{AreApart};
 ghost use Rattle.push_engine.specs.Pieces.{pieces_of};
-ghost use Rattle.pull_engine.specs.Applied.{AreChangesOf};
+ghost use Rattle.push_engine.specs.Applied.{AreChangesOf};
 ghost use Rattle.pull_engine.specs.Pieces.{Answers, AreAnswers};
 
 use crate::destinations::fold_columns;

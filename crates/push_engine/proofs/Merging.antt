@@ -23,7 +23,7 @@ use Rattle.piece_cuts.proofs.PieceLists.{pieces_are_the_list}
 use Rattle.push_engine.specs.Pieces.{EachGathered, pieces_of}
 use Rattle.push_engine.specs.Rows.{rows}
 use Rattle.push_engine.specs.Sources.{AreSources, passing_in}
-use Rattle.push_engine.proofs.RowFolds.{agree_on_rows, ends_one_by_one, rows-append, rows_are_edges}
+use Rattle.push_engine.proofs.RowFolds.{agree_on_rows, rows-append, rows_to_are_edges}
 use Rattle.push_engine.proofs.SourceLists.{rising}
 use Rattle.push_engine.proofs.Walked.{rises_filtered}
 use Rattle.vertex_sets.proofs.Ascending.{Rises}
@@ -78,10 +78,7 @@ all_alike : (r : Reduction) (x v : ℕ) (g : ℕ × ℕ → List (ℕ × Reducti
     → reduced_at r v n (given_on x g (edges_in edges tested from to us)) ≡ reduced_at r v n (given_on x g (edges_between from to edges))
 all_alike r x v g edges tested from to us are n =
     let ks = passing_in tested from us in
-    filtered_edges r x v n to g (rows edges ks)
-    ∙ ap (λ (y : ℤ). cond (to v) y n) (rows_are_edges r x v g from ks (rises_passing tested from us (rising 0 us are.ascending)) edges (agree_on_rows from ks edges are.passing) n)
-    ∙ sym (filtered_edges r x v n to g (filter (λ e. from e.0) edges))
-    ∙ ap (λ es. reduced_at r v n (given_on x g es)) (ends_one_by_one from to edges)
+    rows_to_are_edges r x v g from to ks (rises_passing tested from us (rising 0 us are.ascending)) edges (agree_on_rows from ks edges are.passing) n
 
 pub merged : (f : Functions) (m : StateValue) (steps : List StepsTree) (edges : List (ℕ × ℕ)) (tested : Bool) (from to : ℕ → Bool) (ends us ks : List ℕ) (s : Scratch) → AreEnds 0 (length us) ends → AreSources edges from tested us
     → IsPermutation ks (range_with_len 1 (length ends))

@@ -2,15 +2,17 @@
 use Rattle.std.proofs.Common.{◌≡◌, ℕ, ◌+◌, ◌<◌, ◌≤◌, ◌==◌, ℤ, Bool, true, false, cond, ◌||◌, ◌&&◌, List, [], ◌∷◌, ◌++◌, length, refl, sym, ap, ◌∙◌, append_assoc, arith}
 use Rattle.std.proofs.lemmas.Bool.Decides.{nat_tests}
 use Rattle.std.proofs.lemmas.Bool.{false≢true}
+use Rattle.std.proofs.lemmas.List.Elements.{filter-append}
 use Rattle.std.specs.List.{filter}
 use Rattle.syntax.specs.declared.statement.Reduction.{Reduction}
 use Rattle.algorithm_meaning.specs.EdgeApply.{is_member}
 use Rattle.edge_fold.specs.Given.{for_vector, given_on, reduced_at, row}
+use Rattle.edge_fold.proofs.Meaning.{filtered_edges}
 use Rattle.edge_fold.proofs.Folds.{given_on-append, reduced_at-append, reduced_at-swap}
 use Rattle.tree_batch.specs.Neighbours.{destinations_of}
 use Rattle.vertex_sets.proofs.Ascending.{Rises}
 use Rattle.edge_fold.specs.Between.{edges_between}
-use Rattle.push_engine.specs.Rows.{rows}
+use Rattle.push_engine.specs.Rows.{rows, rows_to}
 
 same : (m n : ℕ) → (m == n) ≡ true → m ≡ n
 same m n h = grind (arith, nat_tests)
@@ -135,3 +137,39 @@ ends_one_by_one from to (e ∷ es) =
 pub rows-append : (es : List (ℕ × ℕ)) (us vs : List ℕ) → rows es (us ++ vs) ≡ rows es us ++ rows es vs
 rows-append es [] vs = refl
 rows-append es (u ∷ us) vs = ap (λ (ks : List (ℕ × ℕ)). row u (destinations_of u es) ++ ks) (rows-append es us vs) ∙ sym (append_assoc (row u (destinations_of u es)) (rows es us) (rows es vs))
+
+pub rows_to-append : (to : ℕ → Bool) (es : List (ℕ × ℕ)) (us vs : List ℕ) → rows_to to es (us ++ vs) ≡ rows_to to es us ++ rows_to to es vs
+rows_to-append to es us vs =
+    ap (filter (λ (e : ℕ × ℕ). to e.1)) (rows-append es us vs) ∙ filter-append (λ (e : ℕ × ℕ). to e.1) (rows es us) (rows es vs)
+
+-- of a row the edges to the destinations that pass
+pub filter_row : (to : ℕ → Bool) (u : ℕ) (ds : List ℕ) → filter (λ e. to e.1) (row u ds) ≡ row u (filter to ds)
+filter_row to u [] = refl
+filter_row to u (d ∷ ds) = passing_edge (to d) (filter_row to u ds)
+  where
+    passing_edge : (b : Bool) → filter (λ (e : ℕ × ℕ). to e.1) (row u ds) ≡ row u (filter to ds)
+        → cond b ((u, d) ∷ filter (λ (e : ℕ × ℕ). to e.1) (row u ds)) (filter (λ (e : ℕ × ℕ). to e.1) (row u ds)) ≡ row u (cond b (d ∷ filter to ds) (filter to ds))
+    passing_edge true more = ap (λ (ks : List (ℕ × ℕ)). (u, d) ∷ ks) more
+    passing_edge false more = more
+
+-- the rows of the sources that pass, to the destinations that pass, come to the edges between the ends
+pub rows_to_are_edges : (r : Reduction) (x v : ℕ) (g : ℕ × ℕ → List (ℕ × Reduction × ℤ)) (from to : ℕ → Bool) (us : List ℕ) → Rises 0 us → (es : List (ℕ × ℕ)) → Agree from us es → (n : ℤ)
+    → reduced_at r v n (given_on x g (rows_to to es us)) ≡ reduced_at r v n (given_on x g (edges_between from to es))
+rows_to_are_edges r x v g from to us up es agree n =
+    filtered_edges r x v n to g (rows es us)
+    ∙ ap (λ (y : ℤ). cond (to v) y n) (rows_are_edges r x v g from us up es agree n)
+    ∙ sym (filtered_edges r x v n to g (filter (λ e. from e.0) es))
+    ∙ ap (λ ks. reduced_at r v n (given_on x g ks)) (ends_one_by_one from to es)
+
+-- destinations that pass by two tests
+tested_twice : (from first second : ℕ → Bool) (e : ℕ × ℕ) (ks : List (ℕ × ℕ)) (p q b : Bool) → from e.0 ≡ p → first e.1 ≡ q → second e.1 ≡ b
+    → filter (λ e. second e.1) (cond (p && q) (e ∷ ks) ks) ≡ cond (p && (q && b)) (e ∷ filter (λ e. second e.1) ks) (filter (λ e. second e.1) ks)
+tested_twice from first second e ks true true b here there is = ap (λ (c : Bool). cond c (e ∷ filter (λ (e : ℕ × ℕ). second e.1) ks) (filter (λ (e : ℕ × ℕ). second e.1) ks)) is
+tested_twice from first second e ks true false b here there is = refl
+tested_twice from first second e ks false q b here there is = refl
+
+pub between_tested : (from first second : ℕ → Bool) (es : List (ℕ × ℕ)) → filter (λ e. second e.1) (edges_between from first es) ≡ edges_between from (λ v. first v && second v) es
+between_tested from first second [] = refl
+between_tested from first second (e ∷ es) =
+    tested_twice from first second e (edges_between from first es) (from e.0) (first e.1) (second e.1) refl refl refl
+    ∙ ap (λ (ks : List (ℕ × ℕ)). cond (from e.0 && (first e.1 && second e.1)) (e ∷ ks) ks) (between_tested from first second es)

@@ -2,6 +2,7 @@
 use Rattle.std.proofs.Common.{◌≡◌, ℕ, ◌+◌, ◌<◌, ◌≤◌, ◌==◌, Bool, true, false, cond, ◌||◌, ◌&&◌, List, [], ◌∷◌, ◌++◌, length, take, get_or, unwrap_or, Some, refl, sym, ap, ◌∙◌, append_assoc, arith}
 use Rattle.std.proofs.lemmas.Bool.Decides.{nat_tests}
 use Rattle.std.proofs.lemmas.List.{append-nil, map-append, take_more}
+use Rattle.std.proofs.lemmas.List.Elements.{filter-append}
 use Rattle.std.specs.List.{filter}
 use Rattle.typed_tree.specs.StepTree.{StepsTree}
 use Rattle.algorithm_meaning.specs.EdgeApply.{is_member}
@@ -17,32 +18,35 @@ use Rattle.flat_snapshot.specs.Neighbours.{AreDegreesOf}
 use Rattle.shared_tree.specs.Entries.{lookup, Rises as Climbs}
 use Rattle.tree_batch.specs.Neighbours.{destinations_of}
 use Rattle.vertex_sets.proofs.Ascending.{Rises, rises_from_lower}
-use Rattle.edge_fold.specs.Between.{firsts}
-use Rattle.push_engine.specs.Rows.{rows}
-use Rattle.push_engine.proofs.RowFolds.{Agree, agree_on_rows, rows-append, rows_are_edges}
+use Rattle.edge_fold.specs.Between.{edges_between, firsts}
+use Rattle.push_engine.specs.Rows.{rows_to}
+use Rattle.push_engine.proofs.RowFolds.{Agree, agree_on_rows, filter_row, rows_to-append, rows_to_are_edges}
 
--- the edges from one source
-pub row_in_row : (source : ℕ) → InRow (row source)
-row_in_row source us vs = map-append (λ d. (source, d)) us vs
+-- the edges from one source to those destinations that pass
+abbrev pub row_to : (to : ℕ → Bool) → ℕ → List ℕ → List (ℕ × ℕ)
+row_to to source us = row source (filter to us)
 
-pub one_source : (f : Functions) (edges : List (ℕ × ℕ)) (u : ℕ) (s t : Scratch) → FoldsMore f (row u (destinations_of u edges)) s t → FoldsMore f (rows edges (u ∷ [])) s t
-one_source f edges u s t more m steps es are has =
-    folded_along f m steps (es ++ row u (destinations_of u edges)) (es ++ rows edges (u ∷ [])) t (ap (λ ks. es ++ ks) (sym (append-nil (row u (destinations_of u edges))))) (more m steps es are has)
+pub row_in_row : (to : ℕ → Bool) (source : ℕ) → InRow (row_to to source)
+row_in_row to source us vs = ap (row source) (filter-append to us vs) ∙ map-append (λ d. (source, d)) (filter to us) (filter to vs)
 
-one_row : (edges : List (ℕ × ℕ)) (done : List ℕ) (u : ℕ) → rows edges done ++ row u (destinations_of u edges) ≡ rows edges (done ++ u ∷ [])
-one_row edges done u = ap (λ ks. rows edges done ++ ks) (sym (append-nil (row u (destinations_of u edges)))) ∙ sym (rows-append edges done (u ∷ []))
+one_row : (to : ℕ → Bool) (edges : List (ℕ × ℕ)) (u : ℕ) → rows_to to edges (u ∷ []) ≡ row_to to u (destinations_of u edges)
+one_row to edges u = ap (filter (λ (e : ℕ × ℕ). to e.1)) (append-nil (row u (destinations_of u edges))) ∙ filter_row to u (destinations_of u edges)
 
--- the edges from all sources that pass
-folded_edges : (f : Functions) (m : StateValue) (steps : List StepsTree) (from : ℕ → Bool) (us : List ℕ) (es : List (ℕ × ℕ)) (s : Scratch) → Rises 0 us → Agree from us es
-    → HasFolded f m steps (rows es us) s → HasFolded f m steps (filter (λ e. from e.0) es) s
-folded_edges f m steps from us es s up agree has = λ x r by.
+pub one_source : (f : Functions) (to : ℕ → Bool) (edges : List (ℕ × ℕ)) (u : ℕ) (s t : Scratch) → FoldsMore f (row_to to u (destinations_of u edges)) s t → FoldsMore f (rows_to to edges (u ∷ [])) s t
+one_source f to edges u s t more m steps es are has =
+    folded_along f m steps (es ++ row_to to u (destinations_of u edges)) (es ++ rows_to to edges (u ∷ [])) t (ap (λ ks. es ++ ks) (sym (one_row to edges u))) (more m steps es are has)
+
+-- the edges between the ends
+folded_edges : (f : Functions) (m : StateValue) (steps : List StepsTree) (from to : ℕ → Bool) (us : List ℕ) (es : List (ℕ × ℕ)) (s : Scratch) → Rises 0 us → Agree from us es
+    → HasFolded f m steps (rows_to to es us) s → HasFolded f m steps (edges_between from to es) s
+folded_edges f m steps from to us es s up agree has = λ x r by.
     let was = has x r by in
-    record { entries = λ v h l. was.entries v h l ∙ rows_are_edges r x v _ from us up es agree _; reduction = was.reduction }
+    record { entries = λ v h l. was.entries v h l ∙ rows_to_are_edges r x v _ from to us up es agree _; reduction = was.reduction }
 
-pub walked_all : (f : Functions) (edges : List (ℕ × ℕ)) (all left : List ℕ) (start s : Scratch) (from : ℕ → Bool) → left ≡ [] → Rises 0 all → Agree from all edges → HasWalked f (rows edges) all left start s
-    → (m : StateValue) (steps : List StepsTree) → AreFunctions f m steps → HasFolded f m steps [] start → HasFolded f m steps (filter (λ e. from e.0) edges) s
-walked_all f edges all left start s from none up agree w m steps are has =
-    folded_edges f m steps from all edges s up agree (walk_done f (rows edges) all left start s none w m steps [] are has)
+pub walked_all : (f : Functions) (edges : List (ℕ × ℕ)) (all left : List ℕ) (start s : Scratch) (from to : ℕ → Bool) → left ≡ [] → Rises 0 all → Agree from all edges → HasWalked f (rows_to to edges) all left start s
+    → (m : StateValue) (steps : List StepsTree) → AreFunctions f m steps → HasFolded f m steps [] start → HasFolded f m steps (edges_between from to edges) s
+walked_all f edges all left start s from to none up agree w m steps are has =
+    folded_edges f m steps from to all edges s up agree (walk_done f (rows_to to edges) all left start s none w m steps [] are has)
 
 -- the vertices with edges
 rises_firsts : (low high : ℕ) (ds : List (ℕ × ℕ)) → Climbs low high ds → Rises low (firsts ds)
@@ -95,18 +99,19 @@ pub rises_filtered : (test : ℕ → Bool) (low : ℕ) (us : List ℕ) → Rises
 rises_filtered test low [] up = tt
 rises_filtered test low (x ∷ us) up = rises_filtered_at test low x us (test x) up.0 (rises_filtered test (x + 1) us up.1)
 
-pub passed_all : (from : End) (f : Functions) (edges ds : List (ℕ × ℕ)) (left : List ℕ) (start s : Scratch) → left ≡ [] → AreDegreesOf (λ u. destinations_of u edges) ds → HasPassed from f (rows edges) (firsts ds) left start s
-    → (m : StateValue) (steps : List StepsTree) (test : ℕ → Bool) → AreFunctions f m steps → IsTest from m test → HasFolded f m steps [] start → HasFolded f m steps (filter (λ e. test e.0) edges) s
-passed_all from f edges ds left start s none degrees w m steps test are is has =
+pub passed_all : (from : End) (f : Functions) (to : ℕ → Bool) (edges ds : List (ℕ × ℕ)) (left : List ℕ) (start s : Scratch) → left ≡ [] → AreDegreesOf (λ u. destinations_of u edges) ds → HasPassed from f (rows_to to edges) (firsts ds) left start s
+    → (m : StateValue) (steps : List StepsTree) (test : ℕ → Bool) → AreFunctions f m steps → IsTest from m test → HasFolded f m steps [] start → HasFolded f m steps (edges_between test to edges) s
+passed_all from f to edges ds left start s none degrees w m steps test are is has =
     let neighbours = λ (u : ℕ). destinations_of u edges in
     let us = filter test (firsts ds) in
-    folded_edges f m steps test us edges s (rises_filtered test 0 (firsts ds) (degrees_rise neighbours ds degrees))
+    folded_edges f m steps test to us edges s (rises_filtered test 0 (firsts ds) (degrees_rise neighbours ds degrees))
     (agree_on_rows test us edges (λ u l. member_filtered test u (firsts ds) ∙ ap (λ (b : Bool). b && test u) (degree_listed neighbours ds u degrees l)))
-    (pass_done from f (rows edges) (firsts ds) left start s none w m steps test [] are is has)
+    (pass_done from f (rows_to to edges) (firsts ds) left start s none w m steps test [] are is has)
 
 -- the row of the next of some sources
-pub rows_next : (edges es : List (ℕ × ℕ)) (us : List ℕ) (i : ℕ) → i < length us
-    → (es ++ rows edges (take i us)) ++ row (get_or us i 0) (destinations_of (get_or us i 0) edges) ≡ es ++ rows edges (take (i + 1) us)
-rows_next edges es us i l =
-    append_assoc es (rows edges (take i us)) (row (get_or us i 0) (destinations_of (get_or us i 0) edges))
-    ∙ ap (λ ks. es ++ ks) (one_row edges (take i us) (get_or us i 0) ∙ ap (rows edges) (sym (take_more us i 0 l)))
+pub rows_next : (to : ℕ → Bool) (edges es : List (ℕ × ℕ)) (us : List ℕ) (i : ℕ) → i < length us
+    → (es ++ rows_to to edges (take i us)) ++ row_to to (get_or us i 0) (destinations_of (get_or us i 0) edges) ≡ es ++ rows_to to edges (take (i + 1) us)
+rows_next to edges es us i l =
+    let u = get_or us i 0 in
+    append_assoc es (rows_to to edges (take i us)) (row_to to u (destinations_of u edges))
+    ∙ ap (λ ks. es ++ ks) (ap (λ ks. rows_to to edges (take i us) ++ ks) (sym (one_row to edges u)) ∙ sym (rows_to-append to edges (take i us) (u ∷ [])) ∙ ap (rows_to to edges) (sym (take_more us i 0 l)))

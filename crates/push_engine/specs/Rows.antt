@@ -1,5 +1,6 @@
 -- The edges from some sources.
-use Rattle.std.specs.Prelude.{ℕ, List, [], ◌∷◌, ◌++◌}
+use Rattle.std.specs.Prelude.{ℕ, Bool, List, [], ◌∷◌, ◌++◌}
+use Rattle.std.specs.List.{filter}
 use Rattle.edge_fold.specs.Given.{row}
 use Rattle.tree_batch.specs.Neighbours.{destinations_of}
 
@@ -7,3 +8,7 @@ use Rattle.tree_batch.specs.Neighbours.{destinations_of}
 abbrev pub rows : List (ℕ × ℕ) → (sources : List ℕ) → List (ℕ × ℕ)
 rows es [] = []
 rows es (u ∷ us) = row u (destinations_of u es) ++ rows es us
+
+-- of these those to the destinations that pass
+abbrev pub rows_to : (to : ℕ → Bool) → List (ℕ × ℕ) → (sources : List ℕ) → List (ℕ × ℕ)
+rows_to to es us = filter (λ e. to e.1) (rows es us)

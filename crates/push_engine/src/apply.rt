@@ -1,18 +1,18 @@
 //! A whole apply.
-ghost use Rattle.std.specs.Prelude.{◌≡◌, ℕ, ◌≤◌, Bool, List, [], length, slice_index_or, IfOk, OnOk};
-ghost use Rattle.std.specs.List.{filter};
-ghost use Rattle.syntax.specs.declared.statement.Reduction.{Reduction};
+ghost use Rattle.std.specs.Prelude.{◌≡◌, ◌&&◌, ℕ, Bool, List, [], length, nat_lt, IfOk, OnOk};
 ghost use Rattle.typed_tree.specs.StepTree.{StepsTree};
-ghost use Rattle.algorithm_meaning.specs.EdgeApply.{after_edges};
-ghost use Rattle.algorithm_meaning.specs.Laws.{IsGivenBy};
+ghost use Rattle.algorithm_meaning.specs.EdgeApply.{is_member};
 ghost use Rattle.algorithm_meaning.specs.State.{StateValue};
-ghost use Rattle.algorithm_meaning.specs.Value.{entry};
-ghost use Rattle.stack_code.specs.Cells.{HasSizes};
-ghost use Rattle.edge_fold.specs.Changed.{AreApart, changed, changes_of};
-ghost use Rattle.edge_fold.specs.Ends.{IsEndTest, IsTest};
-ghost use Rattle.edge_fold.specs.Folded.{AreFunctions, AreKernels, HasFolded};
 ghost use Rattle.edge_fold.specs.Between.{edges_between};
+ghost use Rattle.edge_fold.specs.Changed.{AreApart};
+ghost use Rattle.edge_fold.specs.Ends.{IsEndTest, IsTest};
+ghost use Rattle.edge_fold.specs.declared.functions.Start.TheVariants.{OldEntry};
+ghost use Rattle.edge_fold.specs.Folded.{AreFunctions, HasFolded};
+ghost use Rattle.push_engine.specs.Applied.{AreChangesOf, AreChangesOn};
+ghost use Rattle.push_engine.specs.Words.{passes_words};
+ghost use Rattle.push_engine.specs.Work.{work_from};
 
+use crate::passing::passing_set;
 use crate::sources::{fold_all, fold_members, fold_passing};
 use edge_fold::{Functions, Scratch, Start};
 use flat_snapshot::Flat;
@@ -20,12 +20,17 @@ use kernels::{Apply, End};
 use schedule::Direction;
 use std::alloc::{AllocError, Global};
 use vectors::{Changes, Vectors};
+use vertex_sets::{Form, VertexSet};
 
 /// What an apply of edge functions changes, where it goes from the sources to the destinations: for each vector that a
 /// function has given something one list of changes, by ascending vertices, and a vector without one does not change.
 /// It promises so for each vector that has an entry for each vertex and to which the functions give by one reduction.
 /// `sizes` are the sizes of the vertex sets by their places. The vectors stay as they are, and so does the graph. The
 /// scratch serves any apply after this one, whatever became of it.
+///
+/// Where more than one edge for each 8 vertices comes from the sources, or the set of the destinations is kept as bits,
+/// an edge is left out as it comes where its destination does not pass; a filter is then run for each vertex, once. Else
+/// destinations are tested at the end, those alone that were given something.
 ///
 /// The only error is out of memory.
 pub fn push(
@@ -37,11 +42,7 @@ pub fn push(
     scratch: &mut Scratch,
 ) -> Result<Changes, AllocError>
     ensures once { IfOk result (λ c. AreApart c.vectors.items) }
-    ensures changes { IfOk result (λ c. (m : StateValue) (steps : List StepsTree) (from to : ℕ → Bool) → vectors.now.vectors ≡ m.vectors → HasSizes sizes.now m
-        → AreKernels apply.now.first.now apply.now.second steps → IsEndTest apply.now.from m from → IsEndTest apply.now.to m to
-        → (x : ℕ) (r : Reduction) → IsGivenBy r x steps m.sets m.vectors → flat.now.vertices ≤ length (slice_index_or m.vectors x [])
-        → changes_of x c.vectors.items ≡ changed flat.now.vertices (entry m.vectors x)
-        (entry (after_edges steps m.sets m.vectors (edges_between from to flat.now.edges) m.vectors) x)) }
+    ensures changes { IfOk result (λ c. AreChangesOf apply.now flat.now vectors.now.vectors sizes.now c.vectors.items) }
 {
     let functions = Functions {
         first: apply.first,
@@ -51,27 +52,128 @@ pub fn push(
         vertices: flat.vertices(),
         start: Start::OldEntry,
     };
+    let Some(end) = apply.to else {
+        return push_to(alloc, apply, flat, functions, None, None, scratch);
+    };
+    if is_tested_first(flat, apply.from, end) {
+        return push_tested(alloc, apply, flat, functions, end, scratch);
+    }
+    push_to(alloc, apply, flat, functions, None, apply.to, scratch)
+}
+
+/// Whether destinations are tested as they come, and not at the end.
+fn is_tested_first(flat: &Flat, from: Option<End<'_>>, to: End<'_>) -> bool {
+    if let End::Members(set) = to {
+        if set.words().is_some() {
+            return true;
+        }
+    }
+    let limit = flat.vertices() as usize / 8;
+    match from {
+        Some(End::Members(set)) => is_work_above(flat, set, limit),
+        _ => flat.edge_count() > limit,
+    }
+}
+
+/// Whether some sources and the edges from them are more than a limit. It stops counting where they are, and takes no
+/// memory.
+pub fn is_work_above(flat: &Flat, sources: &VertexSet, limit: usize) -> bool
+    ensures { result ≡ nat_lt limit (work_from flat.now.edges sources.now.members) }
+{
+    let mut work = 0usize;
+    'sources: for source in sources.iter() {
+        work += 1 + flat.out_degree(source) as usize;
+        if work > limit {
+            return true;
+        }
+    }
+    false
+}
+
+/// What an apply changes at the destinations that an end lets through, which are put into bits first.
+fn push_tested(
+    alloc: Global,
+    apply: &Apply<'_>,
+    flat: &Flat,
+    functions: Functions<'_>,
+    to: End<'_>,
+    scratch: &mut Scratch,
+) -> Result<Changes, AllocError>
+    ensures once { IfOk result (λ c. AreApart c.vectors.items) }
+    ensures changes { IfOk result (λ c. (m : StateValue) (steps : List StepsTree) (from test : ℕ → Bool) → AreFunctions functions.entry m steps → functions.entry.vertices ≡ flat.now.vertices → functions.entry.start ≡ OldEntry
+        → IsEndTest apply.now.from m from → IsTest to.entry m test → AreChangesOn flat.now.vertices (edges_between from test flat.now.edges) m steps c.vectors.items) }
+{
+    match to {
+        End::Members(set) => push_to_members(alloc, apply, flat, functions, set, scratch),
+        End::Filter(_) => {
+            let passing = passing_set(alloc, functions, to, scratch)?;
+            push_to_members(alloc, apply, flat, functions, &passing, scratch)
+        }
+    }
+}
+
+/// The same at the members of a set.
+fn push_to_members(
+    alloc: Global,
+    apply: &Apply<'_>,
+    flat: &Flat,
+    functions: Functions<'_>,
+    set: &VertexSet,
+    scratch: &mut Scratch,
+) -> Result<Changes, AllocError>
+    ensures once { IfOk result (λ c. AreApart c.vectors.items) }
+    ensures changes { IfOk result (λ c. (m : StateValue) (steps : List StepsTree) (from to : ℕ → Bool) → AreFunctions functions.entry m steps → functions.entry.vertices ≡ flat.now.vertices → functions.entry.start ≡ OldEntry
+        → IsEndTest apply.now.from m from → ((v : ℕ) → to v ≡ is_member v set.now.members) → AreChangesOn flat.now.vertices (edges_between from to flat.now.edges) m steps c.vectors.items) }
+{
+    if let Some(words) = set.words() {
+        return push_to(alloc, apply, flat, functions, Some(words), None, scratch);
+    }
+    let bits = set.to_form(alloc, Form::Bits)?;
+    let Some(words) = bits.words() else {
+        unreachable!();
+    };
+    push_to(alloc, apply, flat, functions, Some(words), None, scratch)
+}
+
+/// What an apply changes at the destinations whose bits are set and that an end lets through; words or an end that are
+/// not given let all through.
+fn push_to(
+    alloc: Global,
+    apply: &Apply<'_>,
+    flat: &Flat,
+    functions: Functions<'_>,
+    words: Option<&[u64]>,
+    to: Option<End<'_>>,
+    scratch: &mut Scratch,
+) -> Result<Changes, AllocError>
+    ensures once { IfOk result (λ c. AreApart c.vectors.items) }
+    ensures changes { IfOk result (λ c. (m : StateValue) (steps : List StepsTree) (from test : ℕ → Bool) → AreFunctions functions.entry m steps → functions.entry.vertices ≡ flat.now.vertices → functions.entry.start ≡ OldEntry
+        → IsEndTest apply.now.from m from → IsEndTest to.entry m test
+        → AreChangesOn flat.now.vertices (edges_between from (λ v. passes_words words.entry v && test v) flat.now.edges) m steps c.vectors.items) }
+{
     scratch.begin();
-    fold_from(alloc, apply, flat, functions, scratch)?;
-    let changes = scratch.changes(alloc, functions, apply.to)?;
+    fold_from(alloc, apply, flat, functions, words, scratch)?;
+    let changes = scratch.changes(alloc, functions, to)?;
     Ok(changes)
 }
 
-/// Folds the edges from the sources that pass.
+/// Folds the edges from the sources that pass to the destinations whose bits are set; words that are not given let all
+/// destinations through.
 fn fold_from(
     alloc: Global,
     apply: &Apply<'_>,
     flat: &Flat,
     functions: Functions<'_>,
+    to: Option<&[u64]>,
     scratch: &mut Scratch,
 ) -> Result<(), AllocError>
     ensures { OnOk result ((m : StateValue) (steps : List StepsTree) (from : ℕ → Bool) → AreFunctions functions.entry m steps → IsEndTest apply.now.from m from
-        → HasFolded functions.entry m steps [] scratch.old → HasFolded functions.entry m steps (filter (λ e. from e.0) flat.now.edges) scratch.new) }
+        → HasFolded functions.entry m steps [] scratch.old → HasFolded functions.entry m steps (edges_between from (passes_words to.entry) flat.now.edges) scratch.new) }
 {
     let mut block = [0u32; 128];
     match apply.from {
         None => {
-            fold_all(alloc, flat, functions, &mut block, scratch)?;
+            fold_all(alloc, flat, functions, to, &mut block, scratch)?;
             Ok(())
         }
         Some(end) => {
@@ -81,6 +183,7 @@ fn fold_from(
                 end,
                 flat,
                 functions,
+                to,
                 &mut block,
                 scratch,
             )?;
@@ -96,19 +199,20 @@ fn fold_from_end(
     from: End<'_>,
     flat: &Flat,
     functions: Functions<'_>,
+    to: Option<&[u64]>,
     block: &mut [u32],
     scratch: &mut Scratch,
 ) -> Result<(), AllocError>
     requires { length block.old ≡ 128 }
     ensures { OnOk result ((m : StateValue) (steps : List StepsTree) (test : ℕ → Bool) → AreFunctions functions.entry m steps → IsTest from.entry m test
-        → HasFolded functions.entry m steps [] scratch.old → HasFolded functions.entry m steps (filter (λ e. test e.0) flat.now.edges) scratch.new) }
+        → HasFolded functions.entry m steps [] scratch.old → HasFolded functions.entry m steps (edges_between test (passes_words to.entry) flat.now.edges) scratch.new) }
 {
     if let End::Members(set) = from {
         if direction != Direction::DensePush {
-            fold_members(alloc, flat, functions, set, block, scratch)?;
+            fold_members(alloc, flat, functions, set, to, block, scratch)?;
             return Ok(());
         }
     }
-    fold_passing(alloc, flat, functions, from, block, scratch)?;
+    fold_passing(alloc, flat, functions, from, to, block, scratch)?;
     Ok(())
 }

@@ -6,7 +6,8 @@
 //!
 //! Sources that are members of a set are gone over in the set, so that an apply costs what these and their edges cost,
 //! and nothing in proportion to the graph. By the direction `DensePush` all vertices with edges are tested. A filter is
-//! run over the vertices with edges, 128 at a time. Neighbours are read in blocks of 128 and folded by `edge_fold`.
+//! run over the vertices with edges, 128 at a time. Neighbours are read in blocks of 128 and folded by `edge_fold`. Where
+//! many edges are to come, the destinations that pass are put into bits first, and a block keeps only these.
 //!
 //! [`PushWork`] is an apply in pieces, for the workers of `crew`: the sources are listed once and cut as the schedule says
 //! (`piece_cuts`), a piece answers what the edges from its sources give, and [`PushWork::merge`] makes the changes of the
@@ -17,15 +18,19 @@
 
 mod apply;
 mod listed;
+mod members;
 mod merge;
 mod modified;
 mod parts;
+mod passing;
 mod sources;
 mod work;
 
-pub use apply::push;
+pub use apply::{is_work_above, push};
 pub use listed::members_of;
+pub use members::keep_members;
 pub use merge::{join_all, part_between};
 pub use modified::apply_modified;
 pub use parts::take_part;
+pub use passing::passing_set;
 pub use work::PushWork;

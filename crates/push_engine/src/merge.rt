@@ -1,18 +1,13 @@
 //! The pieces of an apply, and their merge.
-ghost use Rattle.std.specs.Prelude.{◌≡◌, ℕ, ◌+◌, ◌<◌, ◌≤◌, ◌++◌, Bool, List, [], length, slice_index_or, slice_range, IfOk, OnOk};
+ghost use Rattle.std.specs.Prelude.{◌≡◌, ℕ, ◌≤◌, Bool, List, [], length, slice_range, IfOk, OnOk};
 ghost use Rattle.std.specs.List.{filter, flat_map, range_with_len};
 ghost use Rattle.std.specs.List.Sorted.{IsPermutation};
-ghost use Rattle.syntax.specs.declared.statement.Reduction.{Reduction};
 ghost use Rattle.typed_tree.specs.StepTree.{StepsTree};
-ghost use Rattle.algorithm_meaning.specs.EdgeApply.{after_edges};
-ghost use Rattle.algorithm_meaning.specs.Laws.{IsGivenBy};
 ghost use Rattle.algorithm_meaning.specs.State.{StateValue};
-ghost use Rattle.algorithm_meaning.specs.Value.{entry};
-ghost use Rattle.stack_code.specs.Cells.{HasSizes};
-ghost use Rattle.edge_fold.specs.Between.{edges_between};
-ghost use Rattle.edge_fold.specs.Changed.{AreApart, changed, changes_of};
+ghost use Rattle.edge_fold.specs.Changed.{AreApart};
 ghost use Rattle.edge_fold.specs.Ends.{IsEndTest};
-ghost use Rattle.edge_fold.specs.Folded.{AreFunctions, AreKernels, HasFolded};
+ghost use Rattle.edge_fold.specs.Folded.{AreFunctions, HasFolded};
+ghost use Rattle.push_engine.specs.Applied.{AreChangesOf};
 ghost use Rattle.push_engine.specs.Pieces.{Answers, AreAnswers, EachGathered, pieces_of};
 ghost use Rattle.push_engine.specs.Rows.{rows};
 ghost use Rattle.push_engine.specs.Sources.{passing_in};
@@ -47,11 +42,7 @@ impl PushWork<'_> {
     ) -> Result<Changes, AllocError>
         ensures once { IfOk result (λ c. AreApart c.vectors.items) }
         ensures changes { IfOk result (λ c. AreAnswers self.now found.now → IsPermutation (pieces_of found.now) (range_with_len 1 (length self.now.cuts))
-            → (m : StateValue) (steps : List StepsTree) (from to : ℕ → Bool) → self.now.vectors.now.vectors ≡ m.vectors → HasSizes self.now.sizes.now m
-            → AreKernels self.now.apply.first.now self.now.apply.second steps → IsEndTest self.now.apply.from m from → IsEndTest self.now.apply.to m to
-            → (x : ℕ) (r : Reduction) → IsGivenBy r x steps m.sets m.vectors → self.now.flat.now.vertices ≤ length (slice_index_or m.vectors x [])
-            → changes_of x c.vectors.items ≡ changed self.now.flat.now.vertices (entry m.vectors x)
-            (entry (after_edges steps m.sets m.vectors (edges_between from to self.now.flat.now.edges) m.vectors) x)) }
+            → AreChangesOf self.now.apply self.now.flat.now self.now.vectors.now.vectors self.now.sizes.now c.vectors.items) }
     {
         let functions = Functions {
             first: self.apply.first,
@@ -83,7 +74,7 @@ impl PushWork<'_> {
             return Ok(());
         }
         let mut block = [0u32; 128];
-        fold_rows(alloc, self.flat, functions, part, &mut block, scratch)?;
+        fold_rows(alloc, self.flat, functions, part, None, &mut block, scratch)?;
         Ok(())
     }
 }
@@ -150,13 +141,13 @@ fn fold_passing_part(
     let mut block = [0u32; 128];
     match from {
         None => {
-            fold_rows(alloc, flat, functions, part, &mut block, scratch)?;
+            fold_rows(alloc, flat, functions, part, None, &mut block, scratch)?;
             Ok(())
         }
         Some(end) => {
             let mut kept = Vec::new(alloc);
             scratch.keep_passing(functions, end, part, &mut kept)?;
-            fold_rows(alloc, flat, functions, &kept, &mut block, scratch)?;
+            fold_rows(alloc, flat, functions, &kept, None, &mut block, scratch)?;
             Ok(())
         }
     }

@@ -4,12 +4,15 @@ ghost use Rattle.std.specs.List.{filter};
 ghost use Rattle.typed_tree.specs.StepTree.{StepsTree};
 ghost use Rattle.algorithm_meaning.specs.EdgeApply.{is_member};
 ghost use Rattle.algorithm_meaning.specs.State.{StateValue};
+ghost use Rattle.edge_fold.specs.Between.{edges_between};
 ghost use Rattle.edge_fold.specs.Ends.{IsTest};
 ghost use Rattle.edge_fold.specs.Folded.{AreFunctions, HasFolded};
 ghost use Rattle.edge_fold.specs.Given.{row};
 ghost use Rattle.tree_batch.specs.Neighbours.{destinations_of};
-ghost use Rattle.push_engine.specs.Rows.{rows};
+ghost use Rattle.push_engine.specs.Rows.{rows_to};
+ghost use Rattle.push_engine.specs.Words.{passes_words};
 
+use crate::members::keep_members;
 use crate::parts::take_part;
 use edge_fold::{Functions, Scratch};
 use flat_snapshot::Flat;
@@ -17,55 +20,58 @@ use kernels::End;
 use std::alloc::{AllocError, Global};
 use vertex_sets::VertexSet;
 
-/// Folds all edges.
+/// Folds all edges to the destinations whose bits are set; words that are not given let all through.
 pub(crate) fn fold_all(
     alloc: Global,
     flat: &Flat,
     functions: Functions<'_>,
+    to: Option<&[u64]>,
     block: &mut [u32],
     scratch: &mut Scratch,
 ) -> Result<(), AllocError>
     requires { length block.old ≡ 128 }
     ensures { OnOk result ((m : StateValue) (steps : List StepsTree) (from : ℕ → Bool) → AreFunctions functions.entry m steps → ((v : ℕ) → from v ≡ true)
-        → HasFolded functions.entry m steps [] scratch.old → HasFolded functions.entry m steps (filter (λ e. from e.0) flat.now.edges) scratch.new) }
+        → HasFolded functions.entry m steps [] scratch.old → HasFolded functions.entry m steps (edges_between from (passes_words to.entry) flat.now.edges) scratch.new) }
 {
     'sources: for (source, _) in flat.sources() {
-        fold_row(alloc, flat, functions, source, block, scratch)?;
+        fold_row(alloc, flat, functions, source, to, block, scratch)?;
     }
     Ok(())
 }
 
-/// Folds the edges from the members of a set.
+/// The same from the members of a set.
 pub(crate) fn fold_members(
     alloc: Global,
     flat: &Flat,
     functions: Functions<'_>,
     set: &VertexSet,
+    to: Option<&[u64]>,
     block: &mut [u32],
     scratch: &mut Scratch,
 ) -> Result<(), AllocError>
     requires { length block.old ≡ 128 }
     ensures { OnOk result ((m : StateValue) (steps : List StepsTree) (from : ℕ → Bool) → AreFunctions functions.entry m steps → ((v : ℕ) → from v ≡ is_member v set.now.members)
-        → HasFolded functions.entry m steps [] scratch.old → HasFolded functions.entry m steps (filter (λ e. from e.0) flat.now.edges) scratch.new) }
+        → HasFolded functions.entry m steps [] scratch.old → HasFolded functions.entry m steps (edges_between from (passes_words to.entry) flat.now.edges) scratch.new) }
 {
     'sources: for source in set.iter() {
-        fold_row(alloc, flat, functions, source, block, scratch)?;
+        fold_row(alloc, flat, functions, source, to, block, scratch)?;
     }
     Ok(())
 }
 
-/// Folds the edges from the sources that an end lets through. Each vertex with an edge is tested once.
+/// The same from the sources that an end lets through. Each vertex with an edge is tested once.
 pub(crate) fn fold_passing(
     alloc: Global,
     flat: &Flat,
     functions: Functions<'_>,
     from: End<'_>,
+    to: Option<&[u64]>,
     block: &mut [u32],
     scratch: &mut Scratch,
 ) -> Result<(), AllocError>
     requires { length block.old ≡ 128 }
     ensures { OnOk result ((m : StateValue) (steps : List StepsTree) (test : ℕ → Bool) → AreFunctions functions.entry m steps → IsTest from.entry m test
-        → HasFolded functions.entry m steps [] scratch.old → HasFolded functions.entry m steps (filter (λ e. test e.0) flat.now.edges) scratch.new) }
+        → HasFolded functions.entry m steps [] scratch.old → HasFolded functions.entry m steps (edges_between test (passes_words to.entry) flat.now.edges) scratch.new) }
 {
     let mut sources = flat.sources();
     let mut part = Vec::new(alloc);
@@ -77,47 +83,50 @@ pub(crate) fn fold_passing(
         }
         kept.clear();
         scratch.keep_passing(functions, from, &part, &mut kept)?;
-        fold_rows(alloc, flat, functions, &kept, block, scratch)?;
+        fold_rows(alloc, flat, functions, &kept, to, block, scratch)?;
     }
 }
 
-/// Folds the edges from these sources.
+/// The same from these sources.
 pub(crate) fn fold_rows(
     alloc: Global,
     flat: &Flat,
     functions: Functions<'_>,
     sources: &[u32],
+    to: Option<&[u64]>,
     block: &mut [u32],
     scratch: &mut Scratch,
 ) -> Result<(), AllocError>
     requires { length block.old ≡ 128 }
     ensures { OnOk result ((m : StateValue) (steps : List StepsTree) (edges : List (ℕ × ℕ)) → AreFunctions functions.entry m steps
-        → HasFolded functions.entry m steps edges scratch.old → HasFolded functions.entry m steps (edges ++ rows flat.now.edges sources.now) scratch.new) }
+        → HasFolded functions.entry m steps edges scratch.old → HasFolded functions.entry m steps (edges ++ rows_to (passes_words to.entry) flat.now.edges sources.now) scratch.new) }
 {
     'sources: for source in sources {
-        fold_row(alloc, flat, functions, *source, block, scratch)?;
+        fold_row(alloc, flat, functions, *source, to, block, scratch)?;
     }
     Ok(())
 }
 
-/// Folds the edges from a source.
+/// The same from a source.
 #[inline]
 fn fold_row(
     alloc: Global,
     flat: &Flat,
     functions: Functions<'_>,
     source: u32,
+    to: Option<&[u64]>,
     block: &mut [u32],
     scratch: &mut Scratch,
 ) -> Result<(), AllocError>
     requires { length block.old ≡ 128 }
     ensures { OnOk result ((m : StateValue) (steps : List StepsTree) (edges : List (ℕ × ℕ)) → AreFunctions functions.entry m steps
-        → HasFolded functions.entry m steps edges scratch.old → HasFolded functions.entry m steps (edges ++ row source (destinations_of source flat.now.edges)) scratch.new) }
+        → HasFolded functions.entry m steps edges scratch.old → HasFolded functions.entry m steps (edges ++ row source (filter (passes_words to.entry) (destinations_of source flat.now.edges))) scratch.new) }
 {
     let mut neighbours = flat.out(source);
     'rounds: while !neighbours.is_empty() {
         let count = neighbours.fill(block);
-        scratch.fold(alloc, functions, source, &block[..count])?;
+        let kept = keep_members(to, block, count);
+        scratch.fold(alloc, functions, source, &block[..kept])?;
     }
     Ok(())
 }

@@ -2,9 +2,9 @@ use Rattle.std.proofs.Common.{ℕ, sym, ap, ◌∙◌}
 use Rattle.std.proofs.lemmas.Result.{IfOk-weaker}
 use Rattle.algorithm_meaning.specs.EdgeApply.{is_member}
 use Rattle.vertex_sets.specs.VertexSet.{VertexSubset}
-use Rattle.pull_engine.specs.Words.{is_set}
-use Rattle.pull_engine.proofs.Bits.{words_have_members}
-use Rattle.pull_engine.proofs.Filtered.{between_same, changes_along}
+use Rattle.push_engine.specs.Words.{is_set}
+use Rattle.push_engine.proofs.Bits.{words_have_members}
+use Rattle.push_engine.proofs.Filtered.{between_same, changes_along}
 use Rattle.pull_engine.proofs.changes.pull_members.Goals as goal
 
 pub returns-in-Some-clause-changes : goal.returns-in-Some-clause-changes

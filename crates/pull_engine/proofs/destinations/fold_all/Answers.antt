@@ -4,7 +4,7 @@ use Rattle.edge_fold.proofs.Walks.{HasWalked, walk_begun, walk_more}
 use Rattle.push_engine.proofs.Walked.{degrees_rise}
 use Rattle.tree_batch.specs.Neighbours.{sources_of}
 use Rattle.pull_engine.specs.Columns.{columns}
-use Rattle.pull_engine.specs.Words.{passes_words}
+use Rattle.push_engine.specs.Words.{passes_words}
 use Rattle.pull_engine.proofs.ColumnFolds.{columns-append}
 use Rattle.pull_engine.proofs.Walked.{destinations_agree, one_destination, walked_all}
 use Rattle.pull_engine.proofs.destinations.fold_all.Goals as goal

@@ -2,7 +2,7 @@ use Rattle.std.proofs.Common.{rules, ◌≡◌, ℕ, List, ◌++◌, [], ap, ref
 use Rattle.edge_fold.specs.Given.{column}
 use Rattle.edge_fold.proofs.Walks.{HasWalked, folded_along, parts_of, walk_begun, walk_done, walk_more}
 use Rattle.tree_batch.specs.Neighbours.{sources_of}
-use Rattle.pull_engine.specs.Words.{passes_words}
+use Rattle.push_engine.specs.Words.{passes_words}
 use Rattle.pull_engine.proofs.ColumnFolds.{column_from, column_in_row}
 use Rattle.pull_engine.proofs.destinations.fold_column.Goals as goal
 
@@ -14,13 +14,13 @@ rounds-preserved c =
     let n = c.fill-count.result in
     let part = take n c.fill-count.new.block in
     let rest = c.fill-count.new.self in
-    let kept = take c.keep_sources-kept.result c.keep_sources-kept.new.block in
+    let kept = take c.keep_members-kept.result c.keep_members-kept.new.block in
     let then = c.fold_into.new.self in
     record {
       room = search rules;
       walked = walk_more a.functions (column_from from d) (sources_of d a.flat.now.edges) c.rounds.neighbours part rest a.scratch.now c.rounds.scratch then
           (column_in_row from d) (parts_of n c.rounds.neighbours part rest c.fill-count.ensures.filled c.fill-count.ensures.rest)
-          (λ m steps es are has. folded_along a.functions m steps (es ++ column d kept) (es ++ column_from from d part) then (ap (λ ks. es ++ column d ks) c.keep_sources-kept.ensures.kept) (c.in_ok-fold_into.ensures m steps es are has))
+          (λ m steps es are has. folded_along a.functions m steps (es ++ column d kept) (es ++ column_from from d part) then (ap (λ ks. es ++ column d ks) c.keep_members-kept.ensures.kept) (c.in_ok-fold_into.ensures m steps es are has))
           c.rounds.invariant.walked;
     }
 

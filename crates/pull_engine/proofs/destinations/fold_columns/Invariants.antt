@@ -3,7 +3,7 @@ use Rattle.typed_tree.specs.StepTree.{StepsTree}
 use Rattle.algorithm_meaning.specs.State.{StateValue}
 use Rattle.edge_fold.specs.Folded.{AreFunctions, HasFolded}
 use Rattle.pull_engine.specs.Columns.{columns}
-use Rattle.pull_engine.specs.Words.{passes_words}
+use Rattle.push_engine.specs.Words.{passes_words}
 use Rattle.pull_engine.proofs.destinations.fold_columns.Given as goal
 
 -- the columns of the destinations that have come are folded

@@ -2,24 +2,27 @@ use Rattle.std.proofs.Common.{rules, ℕ, List, [], ◌∷◌, ap, refl, subst, 
 use Rattle.edge_fold.specs.Between.{firsts}
 use Rattle.edge_fold.proofs.Walks.{HasWalked, walk_begun, walk_more}
 use Rattle.tree_batch.specs.Neighbours.{destinations_of}
-use Rattle.push_engine.specs.Rows.{rows}
-use Rattle.push_engine.proofs.RowFolds.{rows-append}
+use Rattle.push_engine.specs.Rows.{rows_to}
+use Rattle.push_engine.specs.Words.{passes_words}
+use Rattle.push_engine.proofs.RowFolds.{rows_to-append}
 use Rattle.push_engine.proofs.Walked.{degrees_rise, one_source, sources_agree, walked_all}
 use Rattle.push_engine.proofs.sources.fold_all.Goals as goal
 
 pub sources-init : goal.sources-init
 sources-init c =
     let a = c.args in
+    let to = passes_words a.to in
     let edges = a.flat.now.edges in
     let ds = c.sources-source-items.result in
     record {
       room = search rules;
-      walked = (ds, c.sources-source-items.ensures.degrees, subst (λ (is : List (ℕ × ℕ)). HasWalked a.functions (rows edges) (firsts ds) (firsts is) a.scratch.now a.scratch.now) (sym c.into_iter-source-iterator.ensures.into_iter_gives) (walk_begun a.functions (rows edges) (firsts ds) a.scratch.now refl));
+      walked = (ds, c.sources-source-items.ensures.degrees, subst (λ (is : List (ℕ × ℕ)). HasWalked a.functions (rows_to to edges) (firsts ds) (firsts is) a.scratch.now a.scratch.now) (sym c.into_iter-source-iterator.ensures.into_iter_gives) (walk_begun a.functions (rows_to to edges) (firsts ds) a.scratch.now refl));
     }
 
 pub sources-preserved : goal.sources-preserved
 sources-preserved c =
     let a = c.args in
+    let to = passes_words a.to in
     let edges = a.flat.now.edges in
     let w = c.sources.invariant.walked in
     let u = c.in-Some.source in
@@ -29,15 +32,16 @@ sources-preserved c =
       walked = (
         w.0,
         w.1,
-        walk_more a.functions (rows edges) (firsts w.0) (firsts c.sources.source-iterator) (u ∷ []) (firsts c.next.new.self) a.scratch.now c.sources.scratch then
-            (rows-append edges) (sym (ap firsts c.in-Some.ensures.steps)) (one_source a.functions edges u c.sources.scratch then c.in_ok-fold_row.ensures) w.2,
+        walk_more a.functions (rows_to to edges) (firsts w.0) (firsts c.sources.source-iterator) (u ∷ []) (firsts c.next.new.self) a.scratch.now c.sources.scratch then
+            (rows_to-append to edges) (sym (ap firsts c.in-Some.ensures.steps)) (one_source a.functions to edges u c.sources.scratch then c.in_ok-fold_row.ensures) w.2,
       );
     }
 
 pub returns : goal.returns
 returns c m steps from are is =
     let a = c.args in
+    let to = passes_words a.to in
     let edges = a.flat.now.edges in
     let w = c.sources.invariant.walked in
-    walked_all a.functions edges (firsts w.0) (firsts c.sources.source-iterator) a.scratch.now c.sources.scratch from (ap firsts c.in-None.ensures.steps.0)
+    walked_all a.functions edges (firsts w.0) (firsts c.sources.source-iterator) a.scratch.now c.sources.scratch from to (ap firsts c.in-None.ensures.steps.0)
     (degrees_rise (λ u. destinations_of u edges) w.0 w.1) (sources_agree edges w.0 from w.1 is) w.2 m steps are

@@ -1,11 +1,12 @@
 use Rattle.std.proofs.Common.{◌≡◌, length}
 use Rattle.edge_fold.proofs.Walks.{HasWalked}
-use Rattle.push_engine.specs.Rows.{rows}
+use Rattle.push_engine.specs.Rows.{rows_to}
+use Rattle.push_engine.specs.Words.{passes_words}
 use Rattle.push_engine.proofs.sources.fold_members.Given as goal
 
 -- some members are folded, and the rest is left
 abbrev pub invariant-sources : goal.invariant-sources
 invariant-sources l = record {
   room : length l.block ≡ 128;
-  walked : HasWalked l.functions (rows l.flat.edges) l.set.members l.source-iterator l.fn.scratch l.scratch;
+  walked : HasWalked l.functions (rows_to (passes_words l.to) l.flat.edges) l.set.members l.source-iterator l.fn.scratch l.scratch;
 }

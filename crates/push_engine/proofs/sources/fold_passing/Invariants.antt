@@ -3,14 +3,15 @@ use Rattle.flat_snapshot.specs.Neighbours.{AreDegreesOf}
 use Rattle.tree_batch.specs.Neighbours.{destinations_of}
 use Rattle.edge_fold.specs.Between.{firsts}
 use Rattle.edge_fold.proofs.Walks.{HasPassed}
-use Rattle.push_engine.specs.Rows.{rows}
+use Rattle.push_engine.specs.Rows.{rows_to}
+use Rattle.push_engine.specs.Words.{passes_words}
 use Rattle.push_engine.proofs.sources.fold_passing.Given as goal
 
 -- some of the vertices with edges are done, and the rest is left
 abbrev pub invariant-parts : goal.invariant-parts
 invariant-parts l = record {
   room : length l.block ≡ 128;
-  walked : (ds : List (ℕ × ℕ)) × AreDegreesOf (λ u. destinations_of u l.flat.edges) ds × HasPassed l.from l.functions (rows l.flat.edges) (firsts ds) (firsts l.sources) l.fn.scratch l.scratch;
+  walked : (ds : List (ℕ × ℕ)) × AreDegreesOf (λ u. destinations_of u l.flat.edges) ds × HasPassed l.from l.functions (rows_to (passes_words l.to) l.flat.edges) (firsts ds) (firsts l.sources) l.fn.scratch l.scratch;
 }
 
 abbrev pub decreases-parts : goal.decreases-parts

@@ -1,6 +1,7 @@
 use Rattle.std.proofs.Common.{rules, ◌<◌, ◌≤◌, ◌++◌, ◌+◌, length, take, ap}
 use Rattle.std.proofs.lemmas.List.{take_all}
-use Rattle.push_engine.specs.Rows.{rows}
+use Rattle.push_engine.specs.Rows.{rows_to}
+use Rattle.push_engine.specs.Words.{passes_words}
 use Rattle.edge_fold.proofs.Walks.{folded_along}
 use Rattle.push_engine.proofs.Walked.{rows_next}
 use Rattle.push_engine.proofs.sources.fold_rows.Goals as goal
@@ -9,18 +10,20 @@ pub sources-preserved : goal.sources-preserved
 sources-preserved c =
     let us = c.args.sources.now in
     let i = c.sources.source-index in
+    let to = passes_words c.args.to in
     let edges = c.args.flat.now.edges in
     let inside : i < length us = c.sources-test.true in
     record {
       room = search rules;
-      folded = λ m steps es are has. folded_along c.args.functions m steps _ (es ++ rows edges (take (i + 1) us)) c.fold_row.new.scratch (rows_next edges es us i inside)
-          (c.in_ok-fold_row.ensures m steps (es ++ rows edges (take i us)) are (c.sources.invariant.folded m steps es are has));
+      folded = λ m steps es are has. folded_along c.args.functions m steps _ (es ++ rows_to to edges (take (i + 1) us)) c.fold_row.new.scratch (rows_next to edges es us i inside)
+          (c.in_ok-fold_row.ensures m steps (es ++ rows_to to edges (take i us)) are (c.sources.invariant.folded m steps es are has));
     }
 
 pub returns : goal.returns
 returns c m steps es are has =
     let us = c.args.sources.now in
     let i = c.sources.source-index in
+    let to = passes_words c.args.to in
     let edges = c.args.flat.now.edges in
     let all : length us ≤ i = c.sources-test.false in
-    folded_along c.args.functions m steps (es ++ rows edges (take i us)) (es ++ rows edges us) c.sources.scratch (ap (λ ks. es ++ rows edges ks) (take_all i us all)) (c.sources.invariant.folded m steps es are has)
+    folded_along c.args.functions m steps (es ++ rows_to to edges (take i us)) (es ++ rows_to to edges us) c.sources.scratch (ap (λ ks. es ++ rows_to to edges ks) (take_all i us all)) (c.sources.invariant.folded m steps es are has)

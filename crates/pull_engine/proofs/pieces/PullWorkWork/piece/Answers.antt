@@ -3,7 +3,7 @@ use Rattle.edge_fold.specs.Gathered.{AreGatheredFor}
 use Rattle.piece_cuts.specs.Pieces.{end_of, piece_of}
 use Rattle.push_engine.proofs.SourceLists.{filter_all, piece_inside}
 use Rattle.pull_engine.specs.Columns.{columns}
-use Rattle.pull_engine.specs.Words.{passes_words}
+use Rattle.push_engine.specs.Words.{passes_words}
 use Rattle.pull_engine.proofs.Merging.{columns_agree}
 use Rattle.pull_engine.proofs.pieces.PullWorkWork.piece.Goals as goal
 

@@ -1,8 +1,9 @@
-use Rattle.std.proofs.Common.{[], sym, ap}
+use Rattle.std.proofs.Common.{true, [], sym, ap, ◌∙◌}
 use Rattle.std.specs.List.{filter}
 use Rattle.edge_fold.proofs.Walks.{folded_along}
-use Rattle.push_engine.specs.Rows.{rows}
+use Rattle.push_engine.specs.Rows.{rows, rows_to}
 use Rattle.push_engine.specs.Sources.{passing_in}
+use Rattle.push_engine.proofs.Filtered.{all_pass}
 use Rattle.push_engine.proofs.work.PushWork.fold_part.Goals as goal
 
 pub returns-then-self : goal.returns-then-self
@@ -16,5 +17,5 @@ pub returns : goal.returns
 returns c m steps from are is has =
     let a = c.args in
     let edges = a.self.now.flat.now.edges in
-    folded_along a.functions m steps (rows edges a.part.now) (rows edges (passing_in a.self.now.tested from a.part.now)) c.fold_rows.new.scratch
-    (ap (λ b. rows edges (passing_in b from a.part.now)) (sym c.if-self.false)) (c.in_ok-fold_rows.ensures m steps [] are has)
+    folded_along a.functions m steps (rows_to (λ v. true) edges a.part.now) (rows edges (passing_in a.self.now.tested from a.part.now)) c.fold_rows.new.scratch
+    (all_pass (rows edges a.part.now) ∙ ap (λ b. rows edges (passing_in b from a.part.now)) (sym c.if-self.false)) (c.in_ok-fold_rows.ensures m steps [] are has)

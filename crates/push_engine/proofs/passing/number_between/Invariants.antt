@@ -1,6 +1,6 @@
 use Rattle.std.proofs.Common.{◌≡◌, ◌-◌}
 use Rattle.std.specs.List.{range_with_len}
-use Rattle.pull_engine.proofs.passing.number_between.Given as goal
+use Rattle.push_engine.proofs.passing.number_between.Given as goal
 
 -- the numbers below the next are there
 abbrev pub invariant-vertices : goal.invariant-vertices

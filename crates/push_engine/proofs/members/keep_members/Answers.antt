@@ -1,8 +1,8 @@
 use Rattle.std.proofs.Common.{◌≡◌, Option, Bor, ℕ, List, take, sym, subst}
 use Rattle.std.specs.List.{filter}
-use Rattle.pull_engine.specs.Words.{passes_words}
-use Rattle.pull_engine.proofs.Filtered.{all_pass}
-use Rattle.pull_engine.proofs.members.keep_sources.Goals as goal
+use Rattle.push_engine.specs.Words.{passes_words}
+use Rattle.push_engine.proofs.Filtered.{all_pass}
+use Rattle.push_engine.proofs.members.keep_members.Goals as goal
 
 pub returns-in-None-clause-kept : goal.returns-in-None-clause-kept
 returns-in-None-clause-kept c =

@@ -7,7 +7,7 @@ use Rattle.algorithm_meaning.specs.EdgeApply.{is_member}
 use Rattle.vertex_sets.specs.VertexSet.{AreWordsOf, VertexSubset}
 use Rattle.edge_fold.proofs.Findings.{member_is}
 use Rattle.push_engine.proofs.Walked.{member_filtered}
-use Rattle.pull_engine.specs.Words.{is_set}
+use Rattle.push_engine.specs.Words.{is_set}
 
 -- the bits of a set's words are those of its members
 pub words_have_members : (s : VertexSubset) (words : List ℕ) → AreWordsOf s words → (v : ℕ) → is_set words v ≡ is_member v s.members

@@ -2,8 +2,8 @@ use Rattle.std.proofs.Common.{rules, ◌≡◌, ℕ, ◌+◌, ◌<◌, Bool, tru
 use Rattle.std.proofs.lemmas.Bool.Decides.{nat_tests}
 use Rattle.std.specs.List.{filter}
 use Rattle.algorithm_meaning.specs.EdgeApply.{is_member}
-use Rattle.pull_engine.proofs.Bits.{passing_more}
-use Rattle.pull_engine.proofs.passing.passing_set.Goals as goal
+use Rattle.push_engine.proofs.Bits.{passing_more}
+use Rattle.push_engine.proofs.passing.passing_set.Goals as goal
 
 pub parts-preserved : goal.parts-preserved
 parts-preserved c =

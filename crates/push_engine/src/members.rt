@@ -1,12 +1,12 @@
-//! Tests of sources in the bits of a set.
+//! Tests of vertices in the bits of a set.
 ghost use Rattle.std.specs.Prelude.{◌≡◌, ◌≤◌, length, take};
 ghost use Rattle.std.specs.List.{filter};
-ghost use Rattle.pull_engine.specs.Words.{is_set, passes_words};
+ghost use Rattle.push_engine.specs.Words.{is_set, passes_words};
 
-/// Keeps those of the first vertices of a block that pass, in their order, at its front, and gives their number. All
-/// pass where no words are given.
+/// Keeps those of the first vertices of a block whose bits are set, in their order, at its front, and gives their
+/// number. All are kept where no words are given.
 #[inline]
-pub(crate) fn keep_sources(words: Option<&[u64]>, block: &mut [u32], count: usize) -> usize
+pub fn keep_members(words: Option<&[u64]>, block: &mut [u32], count: usize) -> usize
     requires { count ≤ length block.old }
     ensures few { result ≤ count }
     ensures room { length block.new ≡ length block.old }
@@ -14,13 +14,13 @@ pub(crate) fn keep_sources(words: Option<&[u64]>, block: &mut [u32], count: usiz
 {
     match words {
         None => count,
-        Some(words) => keep_members(words, block, count),
+        Some(words) => keep_set(words, block, count),
     }
 }
 
 /// The same where words are given.
 #[inline(always)]
-fn keep_members(words: &[u64], block: &mut [u32], count: usize) -> usize
+fn keep_set(words: &[u64], block: &mut [u32], count: usize) -> usize
     requires { count ≤ length block.old }
     ensures few { result ≤ count }
     ensures room { length block.new ≡ length block.old }

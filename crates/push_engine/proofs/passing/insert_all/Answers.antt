@@ -1,9 +1,9 @@
 use Rattle.std.proofs.Common.{◌<◌, length, get_or, ap, ◌∙◌, arith}
 use Rattle.algorithm_meaning.specs.EdgeApply.{is_member}
 use Rattle.vertex_sets.specs.VertexSet.{VertexSubset}
-use Rattle.pull_engine.proofs.Inserted.{member_added, member_inserted, member_left_out}
-use Rattle.pull_engine.proofs.passing.insert_all.Goals as goal
-use Rattle.pull_engine.proofs.passing.insert_all.Goals.{then-vertex-vertices+in_ok-insert, else-vertex-vertices}
+use Rattle.push_engine.proofs.Inserted.{member_added, member_inserted, member_left_out}
+use Rattle.push_engine.proofs.passing.insert_all.Goals as goal
+use Rattle.push_engine.proofs.passing.insert_all.Goals.{then-vertex-vertices+in_ok-insert, else-vertex-vertices}
 
 pub vertices-preserved : goal.vertices-preserved
 vertices-preserved c =

@@ -4,7 +4,7 @@ use Rattle.algorithm_meaning.specs.State.{StateValue}
 use Rattle.edge_fold.specs.Ends.{IsTest}
 use Rattle.stack_code.specs.Cells.{HasSizes}
 use Rattle.vertex_sets.specs.declared.form.Form.TheVariants as form
-use Rattle.pull_engine.proofs.passing.passing_set.Given as goal
+use Rattle.push_engine.proofs.passing.passing_set.Given as goal
 
 -- those that pass among the numbers below the next are members
 abbrev pub invariant-parts : goal.invariant-parts

@@ -1,8 +1,8 @@
 use Rattle.std.proofs.Common.{rules, ◌≡◌, ℕ, ◌+◌, ◌<◌, Bool, true, false, List, length, get_or, set, refl, sym, ◌∙◌, subst, arith}
 use Rattle.std.proofs.lemmas.List.{drop-set-lt, length-set, take-set}
 use Rattle.std.proofs.lemmas.List.Filters.{FiltersInPlace, FiltersInPlace-more_no, FiltersInPlace-more_set}
-use Rattle.pull_engine.specs.Words.{is_set}
-use Rattle.pull_engine.proofs.members.keep_members.Goals as goal
+use Rattle.push_engine.specs.Words.{is_set}
+use Rattle.push_engine.proofs.members.keep_set.Goals as goal
 
 -- what is read is written at the front, and counts where it passes
 one_more : (p : ℕ → Bool) (xs ys : List ℕ) (k i x n : ℕ) (b : Bool) → FiltersInPlace p xs ys k i → i < length ys → p x ≡ b → x ≡ get_or ys i x → (b ≡ true → n ≡ k + 1) → (b ≡ false → n ≡ k) → FiltersInPlace p xs (set ys k x) n (i + 1)

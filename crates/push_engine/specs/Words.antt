@@ -1,4 +1,4 @@
--- For proofs only: tests by the bits of words.
+-- Tests by the bits of words.
 use Rattle.std.specs.Prelude.{ℕ, ◌/◌, ◌%◌, ◌==◌, Bool, true, Option, Some, None, List, slice_index}
 use Rattle.std.specs.Borrow.{Bor}
 use Rattle.std.specs.Int.{bit_at}

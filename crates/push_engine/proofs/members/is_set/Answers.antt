@@ -1,7 +1,7 @@
 use Rattle.std.proofs.Common.{◌≡◌, ◌/◌, ◌%◌, ◌==◌, slice_index, sym, ◌∙◌, ap, rules}
 use Rattle.std.specs.Int.{bit_at}
 use Rattle.std.proofs.lemmas.Nat.Bits.{shr_and_one, bit_at-zero}
-use Rattle.pull_engine.proofs.members.is_set.Goals as goal
+use Rattle.push_engine.proofs.members.is_set.Goals as goal
 
 pub returns-in-Some : goal.returns-in-Some
 returns-in-Some c =

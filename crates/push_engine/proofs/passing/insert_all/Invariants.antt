@@ -1,6 +1,6 @@
 use Rattle.std.proofs.Common.{◌≡◌, ℕ, ◌<◌, ◌||◌, take}
 use Rattle.algorithm_meaning.specs.EdgeApply.{is_member}
-use Rattle.pull_engine.proofs.passing.insert_all.Given as goal
+use Rattle.push_engine.proofs.passing.insert_all.Given as goal
 
 -- the vertices that have come are members
 abbrev pub invariant-vertices : goal.invariant-vertices

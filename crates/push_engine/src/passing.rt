@@ -12,7 +12,7 @@ use std::alloc::{AllocError, Global};
 use vertex_sets::{Form, VertexSet};
 
 /// The vertices that an end lets through, as bits. Each vertex is tested once. The only error is out of memory.
-pub(crate) fn passing_set(
+pub fn passing_set(
     alloc: Global,
     functions: Functions<'_>,
     end: End<'_>,

@@ -1,7 +1,7 @@
 use Rattle.std.proofs.Common.{◌≡◌, ℕ, ◌+◌, ◌-◌, ◌≤◌, ◌++◌, [], ◌∷◌, List, sym, ap, ◌∙◌, arith}
 use Rattle.std.specs.List.{range_with_len}
 use Rattle.vertex_sets.proofs.Ascending.{range_end}
-use Rattle.pull_engine.proofs.passing.number_between.Goals as goal
+use Rattle.push_engine.proofs.passing.number_between.Goals as goal
 
 pub vertices-preserved : goal.vertices-preserved
 vertices-preserved c =

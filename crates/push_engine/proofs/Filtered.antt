@@ -8,7 +8,7 @@ use Rattle.tree_batch.specs.Edge.{edge_eq, has_edge}
 use Rattle.tree_batch.specs.Digraph.{Digraph, IsDigraph}
 use Rattle.vectors.specs.declared.change.VectorChanges.{VectorChanges}
 use Rattle.edge_fold.specs.Between.{edges_between}
-use Rattle.pull_engine.specs.Applied.{AreChangesOn}
+use Rattle.push_engine.specs.Applied.{AreChangesOn}
 
 filtered_alike : (p q : ℕ × ℕ → Bool) (e : ℕ × ℕ) (ks ls : List (ℕ × ℕ)) (b : Bool) → p e ≡ b → q e ≡ b → ks ≡ ls → cond (p e) (e ∷ ks) ks ≡ cond (q e) (e ∷ ls) ls
 filtered_alike p q e ks ls b here there more =
@@ -33,6 +33,11 @@ pub between_same : (from other to : ℕ → Bool) (es : List (ℕ × ℕ)) → (
 between_same from other to es same =
     filter_agree (λ e. from e.0 && to e.1) (λ e. other e.0 && to e.1) es (λ e has. ap (λ (b : Bool). b && to e.1) (same e.0))
 
+-- the same of destinations
+pub to_same : (from to other : ℕ → Bool) (es : List (ℕ × ℕ)) → ((v : ℕ) → to v ≡ other v) → edges_between from to es ≡ edges_between from other es
+to_same from to other es same =
+    filter_agree (λ e. from e.0 && to e.1) (λ e. from e.0 && other e.1) es (λ e has. ap (λ (b : Bool). from e.0 && b) (same e.1))
+
 -- a filter that lets all through
 pub all_pass : {A : Type 0} (xs : List A) → filter (λ x. true) xs ≡ xs
 all_pass [] = refl
@@ -43,6 +48,14 @@ pub between_agree : (g : Digraph) (from other to : ℕ → Bool) → IsDigraph g
 between_agree g from other to is same =
     filter_agree (λ e. from e.0 && to e.1) (λ e. other e.0 && to e.1) g.edges (λ e has. ap (λ (b : Bool). b && to e.1) (same e.0 (is.within e has).0))
 
+pub to_agree : (g : Digraph) (from to other : ℕ → Bool) → IsDigraph g → ((v : ℕ) → v < g.vertices → to v ≡ other v) → edges_between from to g.edges ≡ edges_between from other g.edges
+to_agree g from to other is same =
+    filter_agree (λ e. from e.0 && to e.1) (λ e. from e.0 && other e.1) g.edges (λ e has. ap (λ (b : Bool). from e.0 && b) (same e.1 (is.within e has).1))
+
 -- the changes of an apply to the same edges
 pub changes_along : (n : ℕ) (es fs : List (ℕ × ℕ)) (m : StateValue) (steps : List StepsTree) (cs : List VectorChanges) → fs ≡ es → AreChangesOn n es m steps cs → AreChangesOn n fs m steps cs
 changes_along n es fs m steps cs same are = subst (λ (ks : List (ℕ × ℕ)). AreChangesOn n ks m steps cs) (sym same) are
+
+pub and_true : (b : Bool) → b && true ≡ b
+and_true true = refl
+and_true false = refl

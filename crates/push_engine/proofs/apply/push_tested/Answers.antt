@@ -1,0 +1,24 @@
+use Rattle.std.proofs.Common.{ℕ, refl, sym, subst, arith}
+use Rattle.std.proofs.lemmas.Result.{IfOk-weaker}
+use Rattle.algorithm_meaning.specs.EdgeApply.{is_member}
+use Rattle.kernels.specs.declared.apply.End.{End}
+use Rattle.edge_fold.specs.Ends.{IsTest}
+use Rattle.push_engine.proofs.Filtered.{changes_along, to_agree}
+use Rattle.push_engine.proofs.apply.push_tested.Goals as goal
+
+pub returns-in-Members-clause-changes : goal.returns-in-Members-clause-changes
+returns-in-Members-clause-changes c =
+    IfOk-weaker c.push_to_members.result _ _
+    (λ cs changes m steps from to are count starts is_from is_to. changes m steps from to are count starts is_from (subst (λ (e : End). IsTest e m to) c.in-Members.is is_to))
+    c.push_to_members.ensures.changes
+
+pub returns-in_ok-passing-in-Filter-clause-changes : goal.returns-in_ok-passing-in-Filter-clause-changes
+returns-in_ok-passing-in-Filter-clause-changes c =
+    let g = c.args.flat.now in
+    let found = c.in_ok-passing-in-Filter in
+    let is_passing = λ (v : ℕ). is_member v found.passing.members in
+    IfOk-weaker c.push_to_members-in-Filter.result _ _
+    (λ cs changes m steps from to are count starts is_from is_to. changes_along g.vertices _ _ m steps cs.vectors.items
+    (to_agree g from to is_passing c.vertices.ensures.graph (λ v l. sym (found.ensures.members m to are.vectors are.sizes is_to v (omega (arith, count, l)))))
+    (changes m steps from is_passing are count starts is_from (λ v. refl)))
+    c.push_to_members-in-Filter.ensures.changes
