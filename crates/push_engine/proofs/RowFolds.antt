@@ -143,14 +143,14 @@ rows_to-append to es us vs =
     ap (filter (λ (e : ℕ × ℕ). to e.1)) (rows-append es us vs) ∙ filter-append (λ (e : ℕ × ℕ). to e.1) (rows es us) (rows es vs)
 
 -- of a row the edges to the destinations that pass
+filter_one : (to : ℕ → Bool) (u d : ℕ) (ds : List ℕ) (b : Bool) → filter (λ e. to e.1) (row u ds) ≡ row u (filter to ds)
+    → cond b ((u, d) ∷ filter (λ e. to e.1) (row u ds)) (filter (λ e. to e.1) (row u ds)) ≡ row u (cond b (d ∷ filter to ds) (filter to ds))
+filter_one to u d ds true more = ap (λ (ks : List (ℕ × ℕ)). (u, d) ∷ ks) more
+filter_one to u d ds false more = more
+
 pub filter_row : (to : ℕ → Bool) (u : ℕ) (ds : List ℕ) → filter (λ e. to e.1) (row u ds) ≡ row u (filter to ds)
 filter_row to u [] = refl
-filter_row to u (d ∷ ds) = passing_edge (to d) (filter_row to u ds)
-  where
-    passing_edge : (b : Bool) → filter (λ (e : ℕ × ℕ). to e.1) (row u ds) ≡ row u (filter to ds)
-        → cond b ((u, d) ∷ filter (λ (e : ℕ × ℕ). to e.1) (row u ds)) (filter (λ (e : ℕ × ℕ). to e.1) (row u ds)) ≡ row u (cond b (d ∷ filter to ds) (filter to ds))
-    passing_edge true more = ap (λ (ks : List (ℕ × ℕ)). (u, d) ∷ ks) more
-    passing_edge false more = more
+filter_row to u (d ∷ ds) = filter_one to u d ds (to d) (filter_row to u ds)
 
 -- the rows of the sources that pass, to the destinations that pass, come to the edges between the ends
 pub rows_to_are_edges : (r : Reduction) (x v : ℕ) (g : ℕ × ℕ → List (ℕ × Reduction × ℤ)) (from to : ℕ → Bool) (us : List ℕ) → Rises 0 us → (es : List (ℕ × ℕ)) → Agree from us es → (n : ℤ)

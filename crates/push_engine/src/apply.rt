@@ -8,6 +8,7 @@ ghost use Rattle.edge_fold.specs.Changed.{AreApart};
 ghost use Rattle.edge_fold.specs.Ends.{IsEndTest, IsTest};
 ghost use Rattle.edge_fold.specs.declared.functions.Start.TheVariants.{OldEntry};
 ghost use Rattle.edge_fold.specs.Folded.{AreFunctions, HasFolded};
+ghost use Rattle.tree_batch.specs.Digraph.{IsDigraph};
 ghost use Rattle.push_engine.specs.Applied.{AreChangesOf, AreChangesOn};
 ghost use Rattle.push_engine.specs.Words.{passes_words};
 ghost use Rattle.push_engine.specs.Work.{work_from};
@@ -99,6 +100,7 @@ fn push_tested(
     to: End<'_>,
     scratch: &mut Scratch,
 ) -> Result<Changes, AllocError>
+    requires { IsDigraph flat.now }
     ensures once { IfOk result (λ c. AreApart c.vectors.items) }
     ensures changes { IfOk result (λ c. (m : StateValue) (steps : List StepsTree) (from test : ℕ → Bool) → AreFunctions functions.entry m steps → functions.entry.vertices ≡ flat.now.vertices → functions.entry.start ≡ OldEntry
         → IsEndTest apply.now.from m from → IsTest to.entry m test → AreChangesOn flat.now.vertices (edges_between from test flat.now.edges) m steps c.vectors.items) }

@@ -19,6 +19,6 @@ returns-in_ok-passing-in-Filter-clause-changes c =
     let is_passing = λ (v : ℕ). is_member v found.passing.members in
     IfOk-weaker c.push_to_members-in-Filter.result _ _
     (λ cs changes m steps from to are count starts is_from is_to. changes_along g.vertices _ _ m steps cs.vectors.items
-    (to_agree g from to is_passing c.vertices.ensures.graph (λ v l. sym (found.ensures.members m to are.vectors are.sizes is_to v (omega (arith, count, l)))))
+    (to_agree g from to is_passing c.requires (λ v l. sym (found.ensures.members m to are.vectors are.sizes is_to v (omega (arith, count, l)))))
     (changes m steps from is_passing are count starts is_from (λ v. refl)))
     c.push_to_members-in-Filter.ensures.changes
