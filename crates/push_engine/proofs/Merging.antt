@@ -1,5 +1,5 @@
 -- The pieces of an apply, put together.
-use Rattle.std.proofs.Common.{◌≡◌, ℕ, zero, suc, ◌+◌, ◌<◌, ℤ, Bool, true, false, cond, List, [], ◌∷◌, ◌++◌, length, get_or, take, refl, sym, ap, ◌∙◌, subst, arith, append_assoc}
+use Rattle.std.proofs.Common.{◌≡◌, ℕ, zero, suc, ◌+◌, ◌<◌, ℤ, Bool, true, false, List, [], ◌∷◌, ◌++◌, length, get_or, take, refl, sym, ap, ◌∙◌, subst, arith, append_assoc}
 use Rattle.std.proofs.lemmas.List.{append-nil, take_more}
 use Rattle.std.proofs.lemmas.List.Elements.{filter-append}
 use Rattle.std.specs.List.{filter, flat_map, range_with_len}
@@ -15,7 +15,6 @@ use Rattle.edge_fold.specs.Between.{edges_between}
 use Rattle.edge_fold.specs.Folded.{HasFolded}
 use Rattle.edge_fold.specs.Gathered.{AreGathered}
 use Rattle.edge_fold.specs.Given.{all_given, given_on, reduced_at}
-use Rattle.edge_fold.proofs.Meaning.{filtered_edges}
 use Rattle.edge_fold.proofs.Orders.{folded_alike, folded_in_any_order}
 use Rattle.edge_fold.proofs.Walks.{folded_along}
 use Rattle.piece_cuts.specs.Pieces.{AreEnds, piece_of}

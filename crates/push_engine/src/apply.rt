@@ -1,5 +1,5 @@
 //! A whole apply.
-ghost use Rattle.std.specs.Prelude.{◌≡◌, ◌&&◌, ℕ, Bool, List, [], length, nat_lt, IfOk, OnOk};
+ghost use Rattle.std.specs.Prelude.{◌≡◌, ◌<◌, ◌^◌, ◌&&◌, ℕ, Bool, List, [], length, nat_lt, IfOk, OnOk};
 ghost use Rattle.typed_tree.specs.StepTree.{StepsTree};
 ghost use Rattle.algorithm_meaning.specs.EdgeApply.{is_member};
 ghost use Rattle.algorithm_meaning.specs.State.{StateValue};
@@ -79,6 +79,7 @@ fn is_tested_first(flat: &Flat, from: Option<End<'_>>, to: End<'_>) -> bool {
 /// Whether some sources and the edges from them are more than a limit. It stops counting where they are, and takes no
 /// memory.
 pub fn is_work_above(flat: &Flat, sources: &VertexSet, limit: usize) -> bool
+    requires { limit < 2 ^ 63 }
     ensures { result ≡ nat_lt limit (work_from flat.now.edges sources.now.members) }
 {
     let mut work = 0usize;

@@ -1,4 +1,4 @@
-use Rattle.std.proofs.Common.{ℕ, ◌&&◌, List, ap, ◌∙◌, arith}
+use Rattle.std.proofs.Common.{ℕ, List, ap, ◌∙◌, arith}
 use Rattle.std.specs.List.{filter}
 use Rattle.algorithm_meaning.specs.EdgeApply.{after_edges}
 use Rattle.algorithm_meaning.specs.Value.{entry}
