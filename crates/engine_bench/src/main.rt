@@ -1,4 +1,4 @@
-//! The benchmark of what runs go by: flats, vertex sets, kernels, workers, and edge applies.
+//! The benchmark of runs and of what they go by: flats, vertex sets, kernels, workers, edge applies, and plans.
 //!
 //! With no word it does small work and prints what came of it, the same on every machine. With
 //! `--time` and a subject it prints a table of times. It promises to be safe and to end, and no more.
@@ -13,6 +13,8 @@ mod flats;
 mod kernel_runs;
 mod pair_loops;
 mod piece_applies;
+mod plan_runs;
+mod run_programs;
 mod samples;
 mod vertex_set_runs;
 
@@ -23,7 +25,7 @@ use std::process::ExitCode;
 use std::thread::Threads;
 
 const USAGE: &str =
-    "engine_bench [--time flats|vertices|kernels|crew|applies | --check crew|applies]";
+    "engine_bench [--time flats|vertices|kernels|crew|applies|runs | --check crew|applies|runs]";
 
 fn main(rt: HostRuntime) -> io::Result<ExitCode> {
     let words = words_of(&rt)?;
@@ -40,11 +42,17 @@ fn print<T: Threads + Sync>(
     subject: &str,
 ) -> io::Result<bool> {
     match option {
-        "" => is_printed(edge_applies::print_agreement(rt)),
+        "" => is_printed(print_agreement(rt)),
         "--check" => print_check(rt, threads, subject),
         "--time" => is_printed(print_times(rt, threads, subject)),
         _ => Ok(false),
     }
+}
+
+// Prints how many edge applies and how many runs of programs agree with the slow run.
+fn print_agreement(rt: &HostRuntime) -> io::Result<()> {
+    edge_applies::print_agreement(rt)?;
+    plan_runs::print_agreement(rt)
 }
 
 // Prints what comes of a check.
@@ -55,6 +63,7 @@ fn print_check<T: Threads + Sync>(
 ) -> io::Result<bool> {
     match subject {
         "applies" => is_printed(edge_applies::print_agreement(rt)),
+        "runs" => is_printed(plan_runs::print_agreement(rt)),
         "crew" => is_printed(crew_runs::print_found(rt, threads)),
         _ => Ok(false),
     }
@@ -65,6 +74,7 @@ fn print_times<T: Threads + Sync>(rt: &HostRuntime, threads: &T, subject: &str) 
     match subject {
         "flats" => flats::print_times(rt),
         "applies" => apply_times::print_times(rt),
+        "runs" => plan_runs::print_times(rt),
         "crew" => crew_runs::print_times(rt, threads),
         "kernels" => kernel_runs::print_times(rt),
         "vertices" => vertex_set_runs::print_times(rt),

@@ -38,7 +38,8 @@ impl Sample {
         Sample::of(alloc, &graph)
     }
 
-    fn of(alloc: Global, graph: &Graph) -> io::Result<Sample> {
+    /// A graph with its edges and its flat.
+    pub fn of(alloc: Global, graph: &Graph) -> io::Result<Sample> {
         Ok(Sample {
             vertices: graph.vertices(),
             edges: graph.edges().collect(alloc)?,
