@@ -196,15 +196,14 @@ impl Work {
     // The function by blocks of its kernel.
     fn run_blocks(&mut self) -> Result<(), AllocError> {
         for (sources, destinations) in self.sources.chunks(128).zip(self.destinations.chunks(128)) {
-            self.block.make_room(self.kernel.room())?;
-            let around = Around {
-                vectors: &self.vectors,
-                sizes: &[],
-                vertices: 1 << SCALE,
-                sources,
-                destinations,
-            };
-            run_block(&self.kernel, around, &mut self.block, &mut self.new);
+            let pairs = (sources, destinations);
+            run_block(
+                &self.kernel,
+                &self.vectors,
+                pairs,
+                &mut self.block,
+                &mut self.new,
+            )?;
         }
         Ok(())
     }
@@ -308,10 +307,27 @@ fn entry_and_one(alloc: Global) -> Result<Integer, AllocError> {
     Ok(Integer::Arithmetic(entry, vec![in alloc; one]?))
 }
 
-fn run_block(kernel: &EdgeKernel, around: Around<'_>, block: &mut Block, new: &mut [i64]) {
-    let destinations = around.destinations;
+fn run_block(
+    kernel: &EdgeKernel,
+    vectors: &Vectors,
+    (sources, destinations): (&[u32], &[u32]),
+    block: &mut Block,
+    new: &mut [i64],
+) -> Result<(), AllocError> {
+    if sources.len() > 128 || destinations.len() != sources.len() {
+        return Ok(());
+    }
+    block.make_room(kernel.room())?;
+    let around = Around {
+        vectors,
+        sizes: &[],
+        vertices: 1 << SCALE,
+        sources,
+        destinations,
+    };
     kernel.run(around, block);
     for place in 0..kernel.gifts() {
         join(kernel.gift(place, block), destinations, new);
     }
+    Ok(())
 }
