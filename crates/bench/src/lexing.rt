@@ -1,10 +1,10 @@
 //! How long the lexer takes for a long source, beside a plain loop over its bytes.
 
-use measuring::{Job, TURNS, print_head, print_row, times_of};
+use crate::parsing::parsed;
+use measuring::{Job, Turns, print_head, print_row};
 use std::alloc::{AllocError, Global};
 use std::io;
 use std::io::Error;
-use std::rt::Clock;
 
 // The source that is timed has at least so many bytes.
 const BYTES: usize = 10_000_000;
@@ -109,51 +109,55 @@ fn source(alloc: Global, bytes: usize) -> Result<String, AllocError> {
     Ok(text)
 }
 
+/// How often the lexer and the parser are timed.
+pub const TURNS: Turns = Turns {
+    count: 5,
+    rounds: 1,
+};
+
 /// Prints the times of the lexer and of a plain loop over the same bytes.
-pub fn print_times<R: Print + AllocGlobal + Clock>(rt: &R) -> io::Result<()> {
-    print_head(rt, "row", &HEADS)?;
+pub fn print_times(rt: &HostRuntime) -> io::Result<()> {
+    print_head(rt, "10,000,000 bytes")?;
     let text = source(rt.alloc(), BYTES)?;
-    print_of(rt, "lexer", &mut Lexing(rt.alloc(), text.as_bytes()))?;
-    print_of(rt, "plain loop", &mut PlainLoop(text.as_bytes()))
+    let mut reading = Reading(text.as_bytes());
+    print_row(rt, "lexer", TURNS, &mut reading, Row::Lexer)?;
+    print_row(rt, "plain loop", TURNS, &mut reading, Row::PlainLoop)?;
+    Ok(())
 }
 
-/// What the numbers of a row of this table, and of that of the parser, are.
-pub const HEADS: [&str; 3] = ["best us", "median us", "check"];
-
-/// Prints the row of a job.
-pub fn print_of<R: Print + AllocGlobal + Clock, J: Job>(
-    rt: &R,
-    name: &str,
-    job: &mut J,
-) -> io::Result<()> {
-    let times = times_of(rt, TURNS, job)?;
-    print_row(
-        rt,
-        name,
-        &[times.best / 1000, times.median / 1000, times.found],
-    )
-}
-
-/// The lexer on a text.
+/// The reading of a text.
 #[derive(Drop)]
-pub struct Lexing<'a>(pub Global, pub &'a [u8]);
+pub struct Reading<'a>(pub &'a [u8]);
 
-impl Job for Lexing<'_> {
-    fn run(&mut self) -> io::Result<u64> {
-        match lexer::tokens(self.0, self.1) {
-            Ok(tokens) => Ok(tokens.len() as u64),
-            Err(error) => Err(Error::other(error.to_string(self.0)?.as_str())),
+/// Who reads.
+#[derive(Clone, Copy)]
+pub enum Row {
+    Parser,
+    Lexer,
+    PlainLoop,
+}
+
+impl Job for Reading<'_> {
+    type Row = Row;
+
+    fn items(&self, _row: Row) -> u64 {
+        self.0.len() as u64
+    }
+
+    fn run(&mut self, rt: &HostRuntime, row: Row) -> io::Result<u64> {
+        match row {
+            Row::Parser => parsed(rt.alloc(), self.0),
+            Row::Lexer => cut(rt.alloc(), self.0),
+            Row::PlainLoop => Ok(class_runs(self.0)),
         }
     }
 }
 
-// A plain loop over a text.
-#[derive(Drop)]
-struct PlainLoop<'a>(&'a [u8]);
-
-impl Job for PlainLoop<'_> {
-    fn run(&mut self) -> io::Result<u64> {
-        Ok(class_runs(self.0))
+// How many tokens a text has.
+fn cut(alloc: Global, text: &[u8]) -> io::Result<u64> {
+    match lexer::tokens(alloc, text) {
+        Ok(tokens) => Ok(tokens.len() as u64),
+        Err(_) => Err(Error::other("the lexer refused a text")),
     }
 }
 

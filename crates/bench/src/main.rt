@@ -14,72 +14,74 @@ mod readers;
 mod script_times;
 mod workload;
 
-use measuring::Random;
+use measuring::{Random, is_printed, status_of, words_of};
 use outcome::hash_of;
+use std::io;
 use std::io::Error;
 use std::process::ExitCode;
 use std::rt::Clock;
 use std::sync::Wait;
 use std::thread::Threads;
-use std::{env, io};
 use workload::adds_script;
 
+const USAGE: &str = "bench [--time scripts|lexer|parser|commits|readers | --script ADDS]";
+
 fn main(rt: HostRuntime) -> io::Result<ExitCode> {
-    let args: Vec<String> = env::args(&rt)?.skip(1).collect(rt.alloc())?;
-    let words: Vec<&str> = args.iter().map(|word| word.as_str()).collect(rt.alloc())?;
-    if print(&rt, &words)? {
-        return Ok(ExitCode::SUCCESS);
-    }
-    eprintln!(rt; "usage: bench [--time scripts|lexer|parser|commits|readers | --script ADDS]")?;
-    Ok(ExitCode::from(2))
+    let words = words_of(&rt)?;
+    let printed = print(&rt, &rt, words.option.as_str(), words.subject.as_str());
+    drop(words);
+    status_of(&rt, printed?, USAGE)
 }
 
 // Prints what the words ask for, and tells whether they ask for something.
-fn print<R: Print + AllocGlobal + Clock + Threads + Wait + Sync>(
-    rt: &R,
-    words: &[&str],
+fn print<T: AllocGlobal + Clock + Threads + Wait + Sync>(
+    rt: &HostRuntime,
+    threads: &T,
+    option: &str,
+    subject: &str,
 ) -> io::Result<bool> {
-    let printed = match words {
-        [] => print_outcomes(rt),
-        ["--time", subject] => print_times(rt, subject),
-        ["--script", adds] => print_script(rt, adds),
-        _ => return Ok(false),
-    };
-    printed.map(|()| true)
+    match option {
+        "" => is_printed(print_outcomes(rt)),
+        "--time" => is_printed(print_times(rt, threads, subject)),
+        "--script" => is_printed(print_script(rt, subject)),
+        _ => Ok(false),
+    }
 }
 
 // Prints the times of a subject.
-fn print_times<R: Print + AllocGlobal + Clock + Threads + Wait + Sync>(
-    rt: &R,
+fn print_times<T: AllocGlobal + Clock + Threads + Wait + Sync>(
+    rt: &HostRuntime,
+    threads: &T,
     subject: &str,
 ) -> io::Result<()> {
     match subject {
         "scripts" => script_times::print_times(rt),
         "lexer" => lexing::print_times(rt),
         "parser" => parsing::print_times(rt),
-        "commits" => commits::print_times(rt),
-        "readers" => readers::print_times(rt),
+        "commits" => commits::print_times(rt, threads),
+        "readers" => readers::print_times(rt, threads),
         _ => Err(Error::other("nothing of this name is timed")),
     }
 }
 
 // Prints what comes of small work.
-fn print_outcomes<R: Print + AllocGlobal>(rt: &R) -> io::Result<()> {
+fn print_outcomes(rt: &HostRuntime) -> io::Result<()> {
     print_known(rt)?;
     script_times::print_outcomes(rt)
 }
 
 // Prints what the generator and the hash give where their authors have published it.
-fn print_known<R: Print + AllocGlobal>(rt: &R) -> io::Result<()> {
+fn print_known(rt: &HostRuntime) -> io::Result<()> {
     let mut random = Random::new(1_234_567);
     for _ in 0..3u32 {
-        println!(rt; "splitmix64 from 1234567: {}", random.next())?;
+        let bits = random.next();
+        println!(rt; "splitmix64 from 1234567: {bits}")?;
     }
     println!(rt; "FNV-1a of foobar: {:016x}", hash_of(b"foobar"))
 }
 
 // Prints the script of so many `add` lines.
-fn print_script<R: Print + AllocGlobal>(rt: &R, adds: &str) -> io::Result<()> {
+fn print_script(rt: &HostRuntime, adds: &str) -> io::Result<()> {
     let Ok(adds) = adds.parse::<u32>() else {
         return Err(Error::other("the number of adds is not one below 2^32"));
     };

@@ -1,17 +1,11 @@
 //! How long the parser takes for long sources of statements, beside the lexer alone.
 
-use crate::lexing::{HEADS, Lexing, print_of};
-use measuring::{Job, print_head};
+use crate::lexing::{Reading, Row, TURNS};
+use measuring::{print_head, print_row};
 use std::alloc::{AllocError, Global};
 use std::io;
 use std::io::Error;
-use std::rt::Clock;
 use syntax::{Declaration, Source};
-
-// The sources that are timed have at least so many bytes.
-const SHORT: usize = 100_000;
-
-const LONG: usize = 1_000_000;
 
 const BEGINS: &str = "\
 element Vertex end
@@ -47,26 +41,26 @@ fn source(alloc: Global, bytes: usize) -> Result<String, AllocError> {
 }
 
 /// Prints the times of the parser, and of the lexer on the same bytes.
-pub fn print_times<R: Print + AllocGlobal + Clock>(rt: &R) -> io::Result<()> {
-    for (rows, bytes) in [("100,000 bytes", SHORT), ("1,000,000 bytes", LONG)] {
-        print_head(rt, rows, &HEADS)?;
-        let text = source(rt.alloc(), bytes)?;
-        print_of(rt, "parser", &mut Parsing(rt.alloc(), text.as_bytes()))?;
-        print_of(rt, "lexer alone", &mut Lexing(rt.alloc(), text.as_bytes()))?;
-    }
+pub fn print_times(rt: &HostRuntime) -> io::Result<()> {
+    print_head(rt, "100,000 bytes")?;
+    print_bytes(rt, 100_000)?;
+    print_head(rt, "1,000,000 bytes")?;
+    print_bytes(rt, 1_000_000)
+}
+
+fn print_bytes(rt: &HostRuntime, bytes: usize) -> io::Result<()> {
+    let text = source(rt.alloc(), bytes)?;
+    let mut reading = Reading(text.as_bytes());
+    print_row(rt, "parser", TURNS, &mut reading, Row::Parser)?;
+    print_row(rt, "lexer alone", TURNS, &mut reading, Row::Lexer)?;
     Ok(())
 }
 
-// The parser on a text.
-#[derive(Drop)]
-struct Parsing<'a>(Global, &'a [u8]);
-
-impl Job for Parsing<'_> {
-    fn run(&mut self) -> io::Result<u64> {
-        match parser::parse(self.0, self.1) {
-            Ok(source) => Ok(statements_in(&source) as u64),
-            Err(error) => Err(Error::other(error.to_string(self.0)?.as_str())),
-        }
+/// How many statements the parser finds in the first function of a text.
+pub fn parsed(alloc: Global, text: &[u8]) -> io::Result<u64> {
+    match parser::parse(alloc, text) {
+        Ok(source) => Ok(statements_in(&source) as u64),
+        Err(_) => Err(Error::other("the parser refused a text")),
     }
 }
 

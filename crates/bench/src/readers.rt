@@ -4,7 +4,7 @@
 ghost use Rattle.std.specs.Prelude.{◌≡◌};
 ghost use Rattle.version_list.specs.Machine.{opened};
 
-use measuring::{Times, nanos_since, print_head, print_row};
+use measuring::{Taken, Times, nanos_since, print_head, print_times as print_row};
 use shared_graph::{Naming, Opening, Reader, SharedError, SharedGraph};
 use std::alloc::{AllocError, Global};
 use std::io::{self, Error};
@@ -92,103 +92,109 @@ fn told_shared(_: SharedError) -> Error {
     Error::other("the shared graph refused")
 }
 
-// Prints the nanoseconds of a step, at best and in the middle.
-fn print_steps<R: Print + AllocGlobal>(
-    rt: &R,
-    row: &str,
-    taken: &mut Vec<u64>,
-    steps: u32,
+/// Prints the times of snapshots and commits.
+pub fn print_times<R: AllocGlobal + Clock + Threads + Wait + Sync>(
+    rt: &HostRuntime,
+    threads: &R,
 ) -> io::Result<()> {
-    let (times, steps) = (Times::of(taken, 0)?, u64::from(steps).max(1));
-    print_row(rt, row, &[times.best / steps, times.median / steps])
-}
-
-/// Prints the table of times, in nanoseconds.
-pub fn print_times<R: AllocGlobal + Threads + Wait + Clock + Print + Sync>(
-    rt: &R,
-) -> io::Result<()> {
-    print_head(rt, "row", &["best ns", "median ns"])?;
+    print_head(rt, "readers")?;
     let mut versions = Versions::new(rt.alloc(), VERTICES, 64).map_err(told)?;
-    time_commits_alone(rt, &mut versions)?;
-    print_shared::<Brand, R>(rt, Opening::new())
+    let times = times_alone(rt, &mut versions)?;
+    drop(versions);
+    print_row(rt, "commit, versions alone", 1, times)?;
+    print_shared::<Brand, R>(rt, threads, Opening::new())
 }
 
-fn time_commits_alone<R: AllocGlobal + Clock + Print>(
-    rt: &R,
-    versions: &mut Versions,
-) -> io::Result<()> {
-    let mut taken = Vec::new(rt.alloc());
+fn times_alone(rt: &HostRuntime, versions: &mut Versions) -> io::Result<Times> {
+    let mut taken = Taken::new(rt.alloc());
     for _ in 0..TURNS {
         let start = Instant::now(rt)?;
-        commit_alone(rt.alloc(), versions).map_err(told)?;
-        taken.push(nanos_since(rt, start)?)?;
+        let last = commit_alone(rt.alloc(), versions).map_err(told)?;
+        taken.add(rt, start, u64::from(STEPS), last)?;
     }
-    print_steps(rt, "commit, versions alone", &mut taken, STEPS)
+    taken.times()
 }
 
-fn print_shared<J: Naming + Send + Sync, R: AllocGlobal + Threads + Wait + Clock + Print + Sync>(
-    rt: &R,
+fn print_shared<J: Naming + Send + Sync, R: AllocGlobal + Clock + Threads + Wait + Sync>(
+    rt: &HostRuntime,
+    threads: &R,
     opening: Opening,
 ) -> io::Result<()>
     requires book { opening ≡ J.book }
     requires base { J.base ≡ opened 1024 16777216 }
 {
-    let opened = SharedGraph::<J, &R>::open(rt, rt.alloc(), opening, VERTICES, 64, 4);
+    let opened = SharedGraph::<J, &R>::open(threads, rt.alloc(), opening, VERTICES, 64, 4);
     let (graph, readers) = opened.map_err(told_shared)?;
-    time_all(rt, &graph, readers)
+    print_all(rt, threads, &graph, readers)
 }
 
 // Times the commits of one of the readers and its snapshots, and then those of the others beside its
 // commits.
-fn time_all<
+fn print_all<
     J: Naming + Send + Sync,
     W: Wait + Drop + Send + Sync,
-    R: AllocGlobal + Threads + Wait + Clock + Print + Sync,
->(rt: &R, graph: &SharedGraph<J, W>, mut readers: Vec<Reader<J>>) -> io::Result<()> {
+    R: AllocGlobal + Clock + Threads + Wait + Sync,
+>(
+    rt: &HostRuntime,
+    threads: &R,
+    graph: &SharedGraph<J, W>,
+    mut readers: Vec<Reader<J>>,
+) -> io::Result<()> {
     let Some(mut writer) = readers.pop() else {
         return Ok(());
     };
-    let alone = time_one(rt, graph, &mut writer);
-    let beside = read_beside(rt, graph, &mut writer, readers);
+    let alone = print_one(rt, threads, graph, &mut writer);
+    let beside = read_beside(threads, graph, &mut writer, readers);
     drop(writer);
     alone?;
-    print_steps(rt, "latest, 3 beside commits", &mut beside?, READS)
+    print_beside(rt, &beside?)
 }
 
-fn time_one<J: Naming, W: Wait + Drop, R: AllocGlobal + Threads + Wait + Clock + Print + Sync>(
-    rt: &R,
+fn print_one<J: Naming, W: Wait + Drop, R: Threads + Wait + Sync>(
+    rt: &HostRuntime,
+    threads: &R,
     graph: &SharedGraph<J, W>,
     me: &mut Reader<J>,
 ) -> io::Result<()> {
-    time_commits(rt, graph, me)?;
-    time_latest(rt, me)
+    let commits = times_of_commits(rt, threads, graph, me)?;
+    print_row(rt, "commit, shared", 1, commits)?;
+    let snapshots = times_of_latest(rt, me)?;
+    print_row(rt, "latest, alone", 1, snapshots)
 }
 
-fn time_commits<J: Naming, W: Wait + Drop, R: AllocGlobal + Threads + Wait + Clock + Print + Sync>(
-    rt: &R,
+fn times_of_commits<J: Naming, W: Wait + Drop, R: Threads + Wait + Sync>(
+    rt: &HostRuntime,
+    threads: &R,
     graph: &SharedGraph<J, W>,
     me: &mut Reader<J>,
-) -> io::Result<()> {
-    let mut taken = Vec::new(rt.alloc());
+) -> io::Result<Times> {
+    let mut taken = Taken::new(rt.alloc());
     for _ in 0..TURNS {
         let start = Instant::now(rt)?;
-        commit(rt, rt.alloc(), graph, me).map_err(told_shared)?;
-        taken.push(nanos_since(rt, start)?)?;
+        let last = commit(threads, rt.alloc(), graph, me).map_err(told_shared)?;
+        taken.add(rt, start, u64::from(STEPS), last)?;
     }
-    print_steps(rt, "commit, shared", &mut taken, STEPS)
+    taken.times()
 }
 
-fn time_latest<J: Naming, R: AllocGlobal + Clock + Print>(
-    rt: &R,
-    me: &mut Reader<J>,
-) -> io::Result<()> {
-    let mut taken = Vec::new(rt.alloc());
+fn times_of_latest<J: Naming>(rt: &HostRuntime, me: &mut Reader<J>) -> io::Result<Times> {
+    let mut taken = Taken::new(rt.alloc());
     for _ in 0..TURNS {
         let start = Instant::now(rt)?;
-        take(me, STEPS).map_err(told_shared)?;
-        taken.push(nanos_since(rt, start)?)?;
+        let sum = take(me, STEPS).map_err(told_shared)?;
+        taken.add(rt, start, u64::from(STEPS), sum)?;
     }
-    print_steps(rt, "latest, alone", &mut taken, STEPS)
+    taken.times()
+}
+
+// Prints the times of readers that took so many nanoseconds each.
+fn print_beside(rt: &HostRuntime, nanos: &[u64]) -> io::Result<()> {
+    let mut taken = Taken::new(rt.alloc());
+    for each in nanos {
+        taken.push(*each, u64::from(READS), 0)?;
+    }
+    let times = taken.times()?;
+    print_row(rt, "latest, 3 beside commits", 1, times)
 }
 
 // The times of each of these readers beside the commits of another, which commits until they are done.

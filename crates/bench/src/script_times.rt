@@ -2,41 +2,58 @@
 
 use crate::outcome::{hash_of, replies_to};
 use crate::workload::adds_script;
-use measuring::{Job, TURNS, print_head, print_row, times_of};
-use std::alloc::Global;
+use measuring::{Job, Turns, print_head, print_row};
 use std::io;
-use std::rt::Clock;
+
+const TURNS: Turns = Turns {
+    count: 5,
+    rounds: 1,
+};
 
 /// Prints what small scripts reply.
-pub fn print_outcomes<R: Print + AllocGlobal>(rt: &R) -> io::Result<()> {
-    for adds in [0, 1, 1000, 20_000] {
-        let script = adds_script(rt.alloc(), adds)?;
-        let replies = replies_to(rt.alloc(), script.as_str())?;
-        let bytes = replies.len();
-        let hash = hash_of(replies.as_slice());
-        println!(rt; "script of {adds} adds: {bytes} bytes, hash {hash:016x}")?;
+pub fn print_outcomes(rt: &HostRuntime) -> io::Result<()> {
+    for adds in &[0, 1, 1000, 20_000] {
+        print_outcome(rt, *adds)?;
     }
     Ok(())
 }
 
-/// Prints the times of scripts of growing size.
-pub fn print_times<R: Print + AllocGlobal + Clock>(rt: &R) -> io::Result<()> {
-    print_head(rt, "row", &["adds", "best us", "median us"])?;
-    for adds in [1000, 10_000, 100_000, 1_000_000] {
-        let script = adds_script(rt.alloc(), adds)?;
-        let times = times_of(rt, TURNS, &mut Script(rt.alloc(), script.as_str()))?;
-        let numbers = [u64::from(adds), times.best / 1000, times.median / 1000];
-        print_row(rt, "script", &numbers)?;
+fn print_outcome(rt: &HostRuntime, adds: u32) -> io::Result<()> {
+    let script = adds_script(rt.alloc(), adds)?;
+    let replies = replies_to(rt.alloc(), script.as_str())?;
+    drop(script);
+    let (bytes, hash) = (replies.len(), hash_of(replies.as_slice()));
+    drop(replies);
+    println!(rt; "script of {adds} adds: {bytes} bytes, hash {hash:016x}")
+}
+
+/// Prints the times of scripts of growing size, whose items are their `add` lines.
+pub fn print_times(rt: &HostRuntime) -> io::Result<()> {
+    print_head(rt, "scripts")?;
+    for adds in &[1000, 10_000, 100_000, 1_000_000] {
+        print_row(
+            rt,
+            "script",
+            TURNS,
+            &mut Script(adds_script(rt.alloc(), *adds)?),
+            *adds,
+        )?;
     }
     Ok(())
 }
 
-// A script over memory.
+// A script over memory, of so many `add` lines.
 #[derive(Drop)]
-struct Script<'a>(Global, &'a str);
+struct Script(String);
 
-impl Job for Script<'_> {
-    fn run(&mut self) -> io::Result<u64> {
-        Ok(replies_to(self.0, self.1)?.len() as u64)
+impl Job for Script {
+    type Row = u32;
+
+    fn items(&self, adds: u32) -> u64 {
+        u64::from(adds)
+    }
+
+    fn run(&mut self, rt: &HostRuntime, _adds: u32) -> io::Result<u64> {
+        Ok(replies_to(rt.alloc(), self.0.as_str())?.len() as u64)
     }
 }

@@ -3,16 +3,15 @@
 ghost use Rattle.std.specs.Prelude.{◌≡◌};
 
 use crew::{CrewError, Found, Open, Share, Work, run_pieces};
-use measuring::{nanos_since, print_head, print_row};
+use measuring::{Taken, Times, print_head, print_times as print_row};
 use std::alloc::{AllocError, Global};
 use std::io;
 use std::io::Error;
-use std::rt::Clock;
 use std::thread::{self, Threads};
 use std::time::Instant;
 
 // How often a row is timed.
-const TURNS: usize = 25;
+const TURNS: u32 = 25;
 
 // The number of each piece.
 struct Numbers;
@@ -41,55 +40,76 @@ impl Work for Numbers {
 #[derive(Clone, Copy)]
 enum Row {
     Threads,
-    Claimed,
-    Fixed,
+    Pieces(Share),
 }
 
+const CLAIMED: Row = Row::Pieces(Share::Claimed);
+
+const FIXED: Row = Row::Pieces(Share::Fixed);
+
 // The row, the pieces or threads, the workers, and how often it is done in a turn.
-const ROWS: [(Row, usize, usize, u64); 14] = [
-    (Row::Threads, 1, 1, 100),
-    (Row::Threads, 3, 3, 100),
-    (Row::Threads, 63, 63, 10),
-    (Row::Claimed, 64, 1, 1000),
-    (Row::Claimed, 64, 2, 100),
-    (Row::Claimed, 64, 4, 100),
-    (Row::Claimed, 64, 64, 10),
-    (Row::Fixed, 64, 4, 100),
-    (Row::Fixed, 64, 64, 10),
-    (Row::Claimed, 1_000_000, 1, 1),
-    (Row::Claimed, 1_000_000, 2, 1),
-    (Row::Claimed, 1_000_000, 4, 1),
-    (Row::Claimed, 1_000_000, 64, 1),
-    (Row::Fixed, 1_000_000, 4, 1),
+const ROWS: [(&str, Row, usize, usize, u64); 14] = [
+    ("1 thread", Row::Threads, 1, 1, 100),
+    ("3 threads", Row::Threads, 3, 3, 100),
+    ("63 threads", Row::Threads, 63, 63, 10),
+    ("claimed by 1", CLAIMED, 64, 1, 1000),
+    ("claimed by 2", CLAIMED, 64, 2, 100),
+    ("claimed by 4", CLAIMED, 64, 4, 100),
+    ("claimed by 64", CLAIMED, 64, 64, 10),
+    ("fixed by 4", FIXED, 64, 4, 100),
+    ("fixed by 64", FIXED, 64, 64, 10),
+    ("claimed by 1", CLAIMED, 1_000_000, 1, 1),
+    ("claimed by 2", CLAIMED, 1_000_000, 2, 1),
+    ("claimed by 4", CLAIMED, 1_000_000, 4, 1),
+    ("claimed by 64", CLAIMED, 1_000_000, 64, 1),
+    ("fixed by 4", FIXED, 1_000_000, 4, 1),
 ];
 
-impl Row {
-    fn name(self) -> &'static str {
-        match self {
-            Row::Threads => "threads",
-            Row::Claimed => "claimed",
-            Row::Fixed => "fixed",
-        }
+/// Prints the times of runs of 64 and of 1,000,000 pieces, and of bare threads.
+pub fn print_times<T: Threads + Sync>(rt: &HostRuntime, threads: &T) -> io::Result<()> {
+    print_head(rt, "crew")?;
+    for (name, row, pieces, workers, rounds) in &ROWS {
+        let times = times_of(rt, threads, (*row, *pieces, *workers), *rounds)?;
+        print_row(rt, name, *pieces as u64, times)?;
     }
+    Ok(())
+}
 
-    // Does the work once, and gives the number of pieces or threads.
-    fn work<R: AllocGlobal + Threads + Sync>(
-        self,
-        rt: &R,
-        pieces: usize,
-        workers: usize,
-    ) -> io::Result<usize> {
-        match self {
-            Row::Threads => Ok(started(rt, pieces)?),
-            Row::Claimed => Ok(found(rt, pieces, workers, Share::Claimed)?.len()),
-            Row::Fixed => Ok(found(rt, pieces, workers, Share::Fixed)?.len()),
-        }
+// The times of so many rounds of a run.
+fn times_of<T: Threads + Sync>(
+    rt: &HostRuntime,
+    threads: &T,
+    run: (Row, usize, usize),
+    rounds: u64,
+) -> io::Result<Times> {
+    let mut taken = Taken::new(rt.alloc());
+    for _ in 0..TURNS {
+        let start = Instant::now(rt)?;
+        let found = done(rt.alloc(), threads, run, rounds)?;
+        taken.add(rt, start, rounds, found)?;
     }
+    taken.times()
+}
+
+fn done<T: Threads + Sync>(
+    alloc: Global,
+    threads: &T,
+    (row, pieces, workers): (Row, usize, usize),
+    rounds: u64,
+) -> io::Result<u64> {
+    let mut count = 0;
+    for _ in 0..rounds {
+        count = match row {
+            Row::Threads => started(alloc, threads, pieces)?,
+            Row::Pieces(share) => found(alloc, threads, pieces, workers, share)?.len(),
+        };
+    }
+    Ok(count as u64)
 }
 
 // So many threads, started one after another and then joined.
-fn started<R: AllocGlobal + Threads>(rt: &R, threads: usize) -> Result<usize, AllocError> {
-    let mut handles = Vec::with_capacity(rt.alloc(), threads)?;
+fn started<T: Threads>(alloc: Global, rt: &T, threads: usize) -> Result<usize, AllocError> {
+    let mut handles = Vec::with_capacity(alloc, threads)?;
     for one in 0..threads {
         handles.push(thread::spawn(rt, move || one)?)?;
     }
@@ -101,60 +121,28 @@ fn started<R: AllocGlobal + Threads>(rt: &R, threads: usize) -> Result<usize, Al
 }
 
 // What so many pieces, at most 1,000,000, come to.
-fn found<R: AllocGlobal + Threads + Sync>(
-    rt: &R,
+fn found<T: Threads + Sync>(
+    alloc: Global,
+    threads: &T,
     pieces: usize,
     workers: usize,
     share: Share,
 ) -> io::Result<Vec<Found<usize>>> {
-    let (alloc, pieces) = (rt.alloc(), pieces.min(1_000_000));
-    let mut states = Vec::new(alloc);
-    let found = run_pieces(
-        rt,
+    let (pieces, work, mut states) = (pieces.min(1_000_000), &Numbers, Vec::new(alloc));
+    match run_pieces(
+        threads,
         alloc,
         pieces,
         workers,
         share,
         &Open,
-        &Numbers,
+        work,
         &mut states,
-    );
-    match found {
+    ) {
         Ok(found) => Ok(found),
         Err(CrewError::NoMemory) => Err(Error::other("out of memory")),
         Err(CrewError::BadWorkers) => Err(Error::other("the workers were refused")),
     }
-}
-
-/// Prints the times of runs of 64 and of 1,000,000 pieces, and of bare threads.
-pub fn print_times<R: Print + AllocGlobal + Clock + Threads + Sync>(rt: &R) -> io::Result<()> {
-    print_head(rt, "row", &["pieces", "workers", "ns", "ns a piece"])?;
-    for (row, pieces, workers, rounds) in ROWS {
-        let nanos = best_time(rt, row, pieces, workers, rounds)? / rounds.max(1);
-        let each = nanos / (pieces as u64).max(1);
-        let numbers = [pieces as u64, workers as u64, nanos, each];
-        print_row(rt, row.name(), &numbers)?;
-    }
-    Ok(())
-}
-
-// The best time of so many rounds of a row, in nanoseconds.
-fn best_time<R: AllocGlobal + Clock + Threads + Sync>(
-    rt: &R,
-    row: Row,
-    pieces: usize,
-    workers: usize,
-    rounds: u64,
-) -> io::Result<u64> {
-    let mut best = u64::MAX;
-    for _ in 0..TURNS {
-        let start = Instant::now(rt)?;
-        for _ in 0..rounds {
-            row.work(rt, pieces, workers)?;
-        }
-        best = best.min(nanos_since(rt, start)?);
-    }
-    Ok(best)
 }
 
 // The pieces, the workers and the share of each run that is looked at.
@@ -166,13 +154,17 @@ const RUNS: [(usize, usize, Share); 4] = [
 ];
 
 /// Prints of some runs of pieces that each piece was found once, in order. Fails where one was not.
-pub fn print_found<R: Print + AllocGlobal + Threads + Sync>(rt: &R) -> io::Result<()> {
-    for (pieces, workers, share) in RUNS {
-        let found = found(rt, pieces, workers, share)?;
-        if !found.iter().map(|one| one.piece).eq(1..=pieces) {
+pub fn print_found<T: Threads + Sync>(rt: &HostRuntime, threads: &T) -> io::Result<()> {
+    for (pieces, workers, share) in &RUNS {
+        let found = found(rt.alloc(), threads, *pieces, *workers, *share)?;
+        if !is_each_once(&found, *pieces) {
             return Err(Error::other("a piece was not found once"));
         }
         println!(rt; "{pieces} pieces by {workers} workers: each found once")?;
     }
     Ok(())
+}
+
+fn is_each_once(found: &[Found<usize>], pieces: usize) -> bool {
+    found.iter().map(|one| one.piece).eq(1..=pieces)
 }

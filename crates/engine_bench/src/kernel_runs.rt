@@ -1,12 +1,11 @@
 //! Edge functions over the pairs of a random graph: a loop of Rust beside a loop by the kernel's shape, and blocks.
 
-use algorithm_meaning::reduce;
-use kernels::{Around, Block, EdgeKernel, Gift, Shape};
-use measuring::{Job, Random, print_head, print_row, times_of};
+use crate::pair_loops::{add_to_each, join, max_sources, min_entries, min_of_less};
+use kernels::{Around, Block, EdgeKernel, Shape};
+use measuring::{Job, Random, Turns, print_head, print_row, rmat_edge};
 use std::alloc::{AllocError, Global};
 use std::io;
 use std::io::Error;
-use std::rt::Clock;
 use syntax::Reduction;
 use typed_tree::{
     Comparison, Condition, Endpoint, Function, Integer, Operand, Operator, Sequence, Slot, Step,
@@ -18,14 +17,16 @@ const SCALE: u32 = 16;
 
 const PAIRS: usize = 1_000_000;
 
-// How often a row is timed.
-const TURNS: usize = 7;
+const TURNS: Turns = Turns {
+    count: 7,
+    rounds: 1,
+};
 
 const SEED: u64 = 2026;
 
 // The edge function that is timed.
 #[derive(Clone, Copy)]
-enum Row {
+enum Kind {
     /// `x[dst] min= y[src]`
     MinEntry,
     /// `x[dst] += 1`
@@ -36,20 +37,7 @@ enum Row {
     Choice,
 }
 
-const ROWS: [Row; 4] = [Row::MinEntry, Row::AddOne, Row::MaxSource, Row::Choice];
-
-impl Row {
-    fn name(self) -> &'static str {
-        match self {
-            Row::MinEntry => "x[dst] min= y[src]",
-            Row::AddOne => "x[dst] += 1",
-            Row::MaxSource => "x[dst] max= src",
-            Row::Choice => "three statements",
-        }
-    }
-}
-
-// How a row is done.
+// How it is done.
 #[derive(Clone, Copy)]
 enum Way {
     Loop,
@@ -57,75 +45,41 @@ enum Way {
     Blocks,
 }
 
-/// Prints the times of each edge function, in picoseconds a pair. Fails where two ways differ.
-pub fn print_times<R: Print + AllocGlobal + Clock>(rt: &R) -> io::Result<()> {
-    print_head(rt, "row", &["loop ps", "shape ps", "blocks ps"])?;
-    let mut work = Work::new(rt.alloc())?;
-    for row in ROWS {
-        print_ways(rt, row, &kernel_of(rt.alloc(), row)?, &mut work)?;
+const ROWS: [(&str, Kind, Way); 12] = [
+    ("x[dst] min= y[src], loop", Kind::MinEntry, Way::Loop),
+    ("x[dst] min= y[src], shape", Kind::MinEntry, Way::Shape),
+    ("x[dst] min= y[src], blocks", Kind::MinEntry, Way::Blocks),
+    ("x[dst] += 1, loop", Kind::AddOne, Way::Loop),
+    ("x[dst] += 1, shape", Kind::AddOne, Way::Shape),
+    ("x[dst] += 1, blocks", Kind::AddOne, Way::Blocks),
+    ("x[dst] max= src, loop", Kind::MaxSource, Way::Loop),
+    ("x[dst] max= src, shape", Kind::MaxSource, Way::Shape),
+    ("x[dst] max= src, blocks", Kind::MaxSource, Way::Blocks),
+    ("three statements, loop", Kind::Choice, Way::Loop),
+    ("three statements, shape", Kind::Choice, Way::Shape),
+    ("three statements, blocks", Kind::Choice, Way::Blocks),
+];
+
+/// Prints the times of each edge function, whose items are the pairs. Fails where a way comes to something else than the
+/// loop.
+pub fn print_times(rt: &HostRuntime) -> io::Result<()> {
+    print_head(rt, "edge functions")?;
+    for (name, kind, way) in &ROWS {
+        print_way(rt, name, *kind, *way)?;
     }
     Ok(())
 }
 
-fn print_ways<R: Print + AllocGlobal + Clock>(
-    rt: &R,
-    row: Row,
-    kernel: &EdgeKernel,
-    work: &mut Work,
-) -> io::Result<()> {
-    let (alone, sum) = time_of(rt, row, Way::Loop, kernel, work)?;
-    let (shape, by_shape) = time_of(rt, row, Way::Shape, kernel, work)?;
-    let (blocks, by_blocks) = time_of(rt, row, Way::Blocks, kernel, work)?;
-    if sum != by_shape || sum != by_blocks {
-        return Err(Error::other("a kernel came to something else than the loop"));
+fn print_way(rt: &HostRuntime, name: &str, kind: Kind, way: Way) -> io::Result<()> {
+    let mut work = Work::new(rt.alloc(), kind)?;
+    work.begin_anew();
+    work.run_loop();
+    let wanted = sum_of(&work.new);
+    print_row(rt, name, TURNS, &mut work, way)?;
+    if sum_of(&work.new) == wanted {
+        return Ok(());
     }
-    print_row(rt, row.name(), &[alone, shape, blocks])
-}
-
-// The least time of a row, in picoseconds a pair, and a sum of what it left.
-fn time_of<R: AllocGlobal + Clock>(
-    rt: &R,
-    row: Row,
-    way: Way,
-    kernel: &EdgeKernel,
-    work: &mut Work,
-) -> io::Result<(u64, i64)> {
-    let mut turn = Turn {
-        row,
-        way,
-        kernel,
-        work,
-    };
-    let best = times_of(rt, TURNS, &mut turn)?.best;
-    Ok((
-        best.saturating_mul(1000) / PAIRS as u64,
-        sum_of(&turn.work.new),
-    ))
-}
-
-// A way to do a row.
-#[derive(Drop)]
-struct Turn<'a> {
-    row: Row,
-    way: Way,
-    kernel: &'a EdgeKernel,
-    work: &'a mut Work,
-}
-
-impl Job for Turn<'_> {
-    fn begin(&mut self) -> io::Result<()> {
-        self.work.begin();
-        Ok(())
-    }
-
-    fn run(&mut self) -> io::Result<u64> {
-        match self.way {
-            Way::Loop => loop_over(self.row, self.work),
-            Way::Shape => shape_over(self.kernel, self.work)?,
-            Way::Blocks => run_over(self.kernel, self.work)?,
-        }
-        Ok(self.work.new.len() as u64)
-    }
+    Err(Error::other("a kernel came to something else than the loop"))
 }
 
 fn sum_of(numbers: &[i64]) -> i64 {
@@ -136,8 +90,10 @@ fn sum_of(numbers: &[i64]) -> i64 {
     sum
 }
 
-// The pairs of a graph, the vectors before an apply, and the first vector after it.
+// A function and its kernel, the pairs of a graph, the vectors before an apply, and the first vector after it.
 struct Work {
+    kind: Kind,
+    kernel: EdgeKernel,
     sources: Vec<u32>,
     destinations: Vec<u32>,
     first: Vec<i64>,
@@ -150,6 +106,8 @@ struct Work {
 impl Drop for Work {
     fn drop(self) {
         let Work {
+            kind: _,
+            kernel: _,
             sources: _,
             destinations: _,
             first: _,
@@ -162,188 +120,191 @@ impl Drop for Work {
 }
 
 impl Work {
-    fn new(alloc: Global) -> Result<Work, AllocError> {
-        let mut random = Random::new(SEED);
-        let pairs = &pairs(alloc, &mut random)?;
-        let first = numbers(alloc, &mut random)?;
-        let second = numbers(alloc, &mut random)?;
-        Ok(Work {
-            sources: pairs.iter().map(|pair| pair.0).collect(alloc)?,
-            destinations: pairs.iter().map(|pair| pair.1).collect(alloc)?,
-            new: first.clone()?,
-            vectors: vectors(alloc, &first, &second)?,
-            first,
-            second,
+    fn new(alloc: Global, kind: Kind) -> Result<Work, AllocError> {
+        let mut work = Work {
+            kind,
+            kernel: kernel_of(alloc, kind)?,
+            sources: Vec::new(alloc),
+            destinations: Vec::new(alloc),
+            first: Vec::new(alloc),
+            second: Vec::new(alloc),
+            vectors: Vectors::new(alloc, Vec::new(alloc))?,
+            new: Vec::new(alloc),
             block: Block::new(alloc),
-        })
+        };
+        work.fill(alloc)?;
+        Ok(work)
+    }
+
+    fn fill(&mut self, alloc: Global) -> Result<(), AllocError> {
+        let mut random = Random::new(SEED);
+        push_pairs(
+            alloc,
+            &mut random,
+            &mut self.sources,
+            &mut self.destinations,
+        )?;
+        push_numbers(&mut random, &mut self.first)?;
+        push_numbers(&mut random, &mut self.second)?;
+        self.new = Vec::from_slice(alloc, &self.first)?;
+        self.vectors = vectors(alloc, &self.first, &self.second)?;
+        Ok(())
     }
 
     // Begins anew with the first vector.
-    fn begin(&mut self) {
+    fn begin_anew(&mut self) {
         for (new, old) in self.new.iter_mut().zip(&self.first) {
             *new = *old;
         }
     }
+
+    // The function as a loop of Rust.
+    fn run_loop(&mut self) {
+        let (sources, destinations) = (self.sources.as_slice(), self.destinations.as_slice());
+        match self.kind {
+            Kind::MinEntry => min_entries(sources, destinations, &self.second, &mut self.new),
+            Kind::AddOne => add_to_each(destinations, 1, &mut self.new),
+            Kind::MaxSource => max_sources(sources, destinations, &mut self.new),
+            Kind::Choice => {
+                let (old, given) = (self.first.as_slice(), self.second.as_slice());
+                min_of_less(sources, destinations, old, given, &mut self.new);
+            }
+        }
+    }
+
+    // The function as one loop by the shape of its kernel; by blocks where it has none.
+    fn run_shape(&mut self) -> Result<(), AllocError> {
+        let (sources, destinations) = (self.sources.as_slice(), self.destinations.as_slice());
+        match self.kernel.shape() {
+            Shape::Entry(_, Reduction::Min, from) => {
+                let given = self.vectors.lane(from).entries().unwrap_or(&[]);
+                min_entries(sources, destinations, given, &mut self.new);
+                Ok(())
+            }
+            Shape::Constant(_, Reduction::Plus, given) => {
+                add_to_each(destinations, given, &mut self.new);
+                Ok(())
+            }
+            Shape::Source(_, Reduction::Max) => {
+                max_sources(sources, destinations, &mut self.new);
+                Ok(())
+            }
+            _ => self.run_blocks(),
+        }
+    }
+
+    // The function by blocks of its kernel.
+    fn run_blocks(&mut self) -> Result<(), AllocError> {
+        for (sources, destinations) in self.sources.chunks(128).zip(self.destinations.chunks(128)) {
+            let pairs = (sources, destinations);
+            run_block(
+                &self.kernel,
+                &self.vectors,
+                pairs,
+                &mut self.block,
+                &mut self.new,
+            )?;
+        }
+        Ok(())
+    }
 }
 
-// The edges of a graph, ascending.
-fn pairs(alloc: Global, random: &mut Random) -> Result<Vec<(u32, u32)>, AllocError> {
+impl Job for Work {
+    type Row = Way;
+
+    fn items(&self, _way: Way) -> u64 {
+        PAIRS as u64
+    }
+
+    fn begin(&mut self, _rt: &HostRuntime, _way: Way) -> io::Result<()> {
+        self.begin_anew();
+        Ok(())
+    }
+
+    fn run(&mut self, _rt: &HostRuntime, way: Way) -> io::Result<u64> {
+        match way {
+            Way::Loop => self.run_loop(),
+            Way::Shape => self.run_shape()?,
+            Way::Blocks => self.run_blocks()?,
+        }
+        Ok(self.new.len() as u64)
+    }
+}
+
+// The pairs of the edges of a graph, in the order of their sources.
+fn push_pairs(
+    alloc: Global,
+    random: &mut Random,
+    sources: &mut Vec<u32>,
+    destinations: &mut Vec<u32>,
+) -> Result<(), AllocError> {
+    let pairs = sorted_pairs(alloc, random)?;
+    for (source, destination) in &pairs {
+        sources.push(*source)?;
+        destinations.push(*destination)?;
+    }
+    Ok(())
+}
+
+fn sorted_pairs(alloc: Global, random: &mut Random) -> Result<Vec<(u32, u32)>, AllocError> {
     let mut pairs = Vec::with_capacity(alloc, PAIRS)?;
     for _ in 0..PAIRS {
-        pairs.push(edge(random))?;
+        pairs.push(rmat_edge(random, SCALE))?;
     }
     pairs.sort()?;
     Ok(pairs)
 }
 
-fn vectors(alloc: Global, first: &[i64], second: &[i64]) -> Result<Vectors, AllocError> {
-    let mut arrays = Vec::new(alloc);
-    for numbers in [first, second] {
-        arrays.push(Sequence::new(Vec::from_slice(alloc, numbers)?))?;
-    }
-    Vectors::new(alloc, arrays)
-}
-
 // A number for each vertex.
-fn numbers(alloc: Global, random: &mut Random) -> Result<Vec<i64>, AllocError> {
-    let mut numbers = Vec::new(alloc);
+fn push_numbers(random: &mut Random, numbers: &mut Vec<i64>) -> Result<(), AllocError> {
     for _ in 0..1u32 << SCALE {
         numbers.push((random.next() >> 32).cast_signed())?;
     }
-    Ok(numbers)
+    Ok(())
 }
 
-// An edge of an RMAT graph (Chakrabarti, Zhan, Faloutsos, SDM 2004).
-fn edge(random: &mut Random) -> (u32, u32) {
-    let mut source = 0u32;
-    let mut destination = 0u32;
-    for _ in 0..SCALE {
-        let part = random.below(100);
-        source = source.wrapping_mul(2) + u32::from(part >= 76);
-        destination = destination.wrapping_mul(2)
-            + u32::from((57..76).contains(&part) || part >= 95);
-    }
-    (source, destination)
+fn vectors(alloc: Global, first: &[i64], second: &[i64]) -> Result<Vectors, AllocError> {
+    let first = Sequence::new(Vec::from_slice(alloc, first)?);
+    let second = Sequence::new(Vec::from_slice(alloc, second)?);
+    Vectors::new(alloc, vec![in alloc; first, second]?)
 }
 
-// The kernel of the function of a row.
-fn kernel_of(alloc: Global, row: Row) -> Result<EdgeKernel, AllocError> {
-    let steps = steps_of(alloc, row)?;
+// The kernel of a function.
+fn kernel_of(alloc: Global, kind: Kind) -> Result<EdgeKernel, AllocError> {
+    let steps = steps_of(alloc, kind)?;
     EdgeKernel::of_function(alloc, &Function { name: 0, steps })
 }
 
-fn steps_of(alloc: Global, row: Row) -> Result<Vec<Step>, AllocError> {
-    let (reduction, given) = match row {
-        Row::MinEntry => (Reduction::Min, Integer::EntryAt(1, Endpoint::Source)),
-        Row::AddOne => (Reduction::Plus, Integer::Number(1)),
-        Row::MaxSource => (Reduction::Max, Integer::Parameter(Endpoint::Source)),
-        Row::Choice => return choice_steps(alloc),
-    };
+fn steps_of(alloc: Global, kind: Kind) -> Result<Vec<Step>, AllocError> {
+    match kind {
+        Kind::MinEntry => { one_step(alloc, Reduction::Min, Integer::EntryAt(1, Endpoint::Source)) }
+        Kind::AddOne => one_step(alloc, Reduction::Plus, Integer::Number(1)),
+        Kind::MaxSource => { one_step(alloc, Reduction::Max, Integer::Parameter(Endpoint::Source)) }
+        Kind::Choice => choice_steps(alloc),
+    }
+}
+
+fn one_step(alloc: Global, reduction: Reduction, given: Integer) -> Result<Vec<Step>, AllocError> {
     Ok(vec![in alloc; Step::ReduceEntry(0, reduction, given)]?)
 }
 
 fn choice_steps(alloc: Global) -> Result<Vec<Step>, AllocError> {
     let t = Slot { place: 0, name: 0 };
+    let sum = entry_and_one(alloc)?;
+    let body = one_step(alloc, Reduction::Min, Integer::Variable(t))?;
+    let entry = Integer::EntryAt(0, Endpoint::Destination);
+    let test = Condition::Compare(Comparison::Less, Integer::Variable(t), entry);
+    Ok(vec![in alloc; Step::DeclareInteger(0, sum), Step::If(test, body)]?)
+}
+
+// `y[src] + 1`
+fn entry_and_one(alloc: Global) -> Result<Integer, AllocError> {
+    let entry = Box::new(alloc, Integer::EntryAt(1, Endpoint::Source))?;
     let one = Operand {
         operator: Operator::Add,
         integer: Integer::Number(1),
     };
-    let entry = Box::new(alloc, Integer::EntryAt(1, Endpoint::Source))?;
-    let sum = Integer::Arithmetic(entry, vec![in alloc; one]?);
-    let body = vec![in alloc; Step::ReduceEntry(0, Reduction::Min, Integer::Variable(t))]?;
-    let test = Condition::Compare(
-        Comparison::Less,
-        Integer::Variable(t),
-        Integer::EntryAt(0, Endpoint::Destination),
-    );
-    Ok(vec![in alloc; Step::DeclareInteger(0, sum), Step::If(test, body)]?)
-}
-
-// The row as a loop of Rust.
-fn loop_over(row: Row, work: &mut Work) {
-    let (sources, destinations) = (work.sources.as_slice(), work.destinations.as_slice());
-    match row {
-        Row::MinEntry => min_entries(sources, destinations, &work.second, &mut work.new),
-        Row::AddOne => add_to_each(destinations, 1, &mut work.new),
-        Row::MaxSource => max_sources(sources, destinations, &mut work.new),
-        Row::Choice => {
-            let (old, given) = (work.first.as_slice(), work.second.as_slice());
-            min_of_less(sources, destinations, (old, given), &mut work.new);
-        }
-    }
-}
-
-fn entry(numbers: &[i64], vertex: u32) -> i64 {
-    numbers.get(vertex as usize).copied().unwrap_or(0)
-}
-
-fn min_entries(sources: &[u32], destinations: &[u32], given: &[i64], new: &mut [i64]) {
-    for (source, destination) in sources.iter().zip(destinations) {
-        let given = entry(given, *source);
-        if let Some(new) = new.get_mut(*destination as usize) {
-            *new = (*new).min(given);
-        }
-    }
-}
-
-fn add_to_each(destinations: &[u32], given: i64, new: &mut [i64]) {
-    for destination in destinations {
-        if let Some(new) = new.get_mut(*destination as usize) {
-            *new = new.wrapping_add(given);
-        }
-    }
-}
-
-fn max_sources(sources: &[u32], destinations: &[u32], new: &mut [i64]) {
-    for (source, destination) in sources.iter().zip(destinations) {
-        if let Some(new) = new.get_mut(*destination as usize) {
-            *new = (*new).max(i64::from(*source));
-        }
-    }
-}
-
-fn min_of_less(
-    sources: &[u32],
-    destinations: &[u32],
-    (old, given): (&[i64], &[i64]),
-    new: &mut [i64],
-) {
-    for (source, destination) in sources.iter().zip(destinations) {
-        let given = entry(given, *source).wrapping_add(1);
-        if given < entry(old, *destination)
-            && let Some(new) = new.get_mut(*destination as usize)
-        {
-            *new = (*new).min(given);
-        }
-    }
-}
-
-// The row as one loop by the shape of its kernel; by blocks where it has none.
-fn shape_over(kernel: &EdgeKernel, work: &mut Work) -> Result<(), AllocError> {
-    let (sources, destinations) = (work.sources.as_slice(), work.destinations.as_slice());
-    match kernel.shape() {
-        Shape::Entry(_, Reduction::Min, from) => {
-            match work.vectors.lane(from).entries() {
-                Some(entries) => min_entries(sources, destinations, entries, &mut work.new),
-                None => run_over(kernel, work)?,
-            }
-        }
-        Shape::Constant(_, Reduction::Plus, given) => {
-            add_to_each(destinations, given, &mut work.new);
-        }
-        Shape::Source(_, Reduction::Max) => max_sources(sources, destinations, &mut work.new),
-        _ => run_over(kernel, work)?,
-    }
-    Ok(())
-}
-
-// The row by blocks of its kernel.
-fn run_over(kernel: &EdgeKernel, work: &mut Work) -> Result<(), AllocError> {
-    for (sources, destinations) in work.sources.chunks(128).zip(work.destinations.chunks(128)) {
-        let pairs = (sources, destinations);
-        run_block(kernel, &work.vectors, pairs, &mut work.block, &mut work.new)?;
-    }
-    Ok(())
+    Ok(Integer::Arithmetic(entry, vec![in alloc; one]?))
 }
 
 fn run_block(
@@ -369,39 +330,4 @@ fn run_block(
         join(kernel.gift(place, block), destinations, new);
     }
     Ok(())
-}
-
-// Joins what is given to the destinations.
-fn join(gift: Gift<'_>, destinations: &[u32], new: &mut [i64]) {
-    match (gift.when, gift.reduction) {
-        (Some(when), reduction) => join_some(reduction, gift.numbers, when, destinations, new),
-        (None, Reduction::Min) => join_all(Reduction::Min, gift.numbers, destinations, new),
-        (None, Reduction::Max) => join_all(Reduction::Max, gift.numbers, destinations, new),
-        (None, Reduction::Plus) => join_all(Reduction::Plus, gift.numbers, destinations, new),
-    }
-}
-
-fn join_some(
-    reduction: Reduction,
-    numbers: &[i64],
-    when: &[i64],
-    destinations: &[u32],
-    new: &mut [i64],
-) {
-    for ((destination, given), active) in destinations.iter().zip(numbers).zip(when) {
-        if *active != 0
-            && let Some(new) = new.get_mut(*destination as usize)
-        {
-            *new = reduce(reduction, *new, *given);
-        }
-    }
-}
-
-#[inline(always)]
-fn join_all(reduction: Reduction, numbers: &[i64], destinations: &[u32], new: &mut [i64]) {
-    for (destination, given) in destinations.iter().zip(numbers) {
-        if let Some(new) = new.get_mut(*destination as usize) {
-            *new = reduce(reduction, *new, *given);
-        }
-    }
 }

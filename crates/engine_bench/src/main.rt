@@ -1,59 +1,81 @@
-//! The benchmark of what runs go by: flats, vertex sets, kernels, workers, and edge applies.
+//! The benchmark of runs and of what they go by: flats, vertex sets, kernels, workers, edge applies, and plans.
 //!
 //! With no word it does small work and prints what came of it, the same on every machine. With
 //! `--time` and a subject it prints a table of times. It promises to be safe and to end, and no more.
 //! Nothing stands on this crate.
 #![tactic(auto)]
 
+mod apply_texts;
 mod apply_times;
 mod crew_runs;
 mod edge_applies;
 mod flats;
 mod kernel_runs;
+mod pair_loops;
 mod piece_applies;
+mod plan_runs;
+mod run_programs;
+mod samples;
 mod vertex_set_runs;
 
+use measuring::{is_printed, status_of, words_of};
+use std::io;
 use std::io::Error;
 use std::process::ExitCode;
-use std::rt::Clock;
 use std::thread::Threads;
-use std::{env, io};
+
+const USAGE: &str =
+    "engine_bench [--time flats|vertices|kernels|crew|applies|runs | --check crew|applies|runs]";
 
 fn main(rt: HostRuntime) -> io::Result<ExitCode> {
-    let args: Vec<String> = env::args(&rt)?.skip(1).collect(rt.alloc())?;
-    let words: Vec<&str> = args.iter().map(|word| word.as_str()).collect(rt.alloc())?;
-    if print(&rt, &words)? {
-        return Ok(ExitCode::SUCCESS);
-    }
-    eprintln!(rt;
-        "usage: engine_bench [--time flats|vertices|kernels|crew|applies | --check crew|applies]"
-    )?;
-    Ok(ExitCode::from(2))
+    let words = words_of(&rt)?;
+    let printed = print(&rt, &rt, words.option.as_str(), words.subject.as_str());
+    drop(words);
+    status_of(&rt, printed?, USAGE)
 }
 
 // Prints what the words ask for, and tells whether they ask for something.
-fn print<R: Print + AllocGlobal + Clock + Threads + Sync>(
-    rt: &R,
-    words: &[&str],
+fn print<T: Threads + Sync>(
+    rt: &HostRuntime,
+    threads: &T,
+    option: &str,
+    subject: &str,
 ) -> io::Result<bool> {
-    let printed = match words {
-        [] | ["--check", "applies"] => edge_applies::print_agreement(rt),
-        ["--check", "crew"] => crew_runs::print_found(rt),
-        ["--time", subject] => print_times(rt, subject),
-        _ => return Ok(false),
-    };
-    printed.map(|()| true)
+    match option {
+        "" => is_printed(print_agreement(rt)),
+        "--check" => print_check(rt, threads, subject),
+        "--time" => is_printed(print_times(rt, threads, subject)),
+        _ => Ok(false),
+    }
+}
+
+// Prints how many edge applies and how many runs of programs agree with the slow run.
+fn print_agreement(rt: &HostRuntime) -> io::Result<()> {
+    edge_applies::print_agreement(rt)?;
+    plan_runs::print_agreement(rt)
+}
+
+// Prints what comes of a check.
+fn print_check<T: Threads + Sync>(
+    rt: &HostRuntime,
+    threads: &T,
+    subject: &str,
+) -> io::Result<bool> {
+    match subject {
+        "applies" => is_printed(edge_applies::print_agreement(rt)),
+        "runs" => is_printed(plan_runs::print_agreement(rt)),
+        "crew" => is_printed(crew_runs::print_found(rt, threads)),
+        _ => Ok(false),
+    }
 }
 
 // Prints the times of a subject.
-fn print_times<R: Print + AllocGlobal + Clock + Threads + Sync>(
-    rt: &R,
-    subject: &str,
-) -> io::Result<()> {
+fn print_times<T: Threads + Sync>(rt: &HostRuntime, threads: &T, subject: &str) -> io::Result<()> {
     match subject {
         "flats" => flats::print_times(rt),
         "applies" => apply_times::print_times(rt),
-        "crew" => crew_runs::print_times(rt),
+        "runs" => plan_runs::print_times(rt),
+        "crew" => crew_runs::print_times(rt, threads),
         "kernels" => kernel_runs::print_times(rt),
         "vertices" => vertex_set_runs::print_times(rt),
         _ => Err(Error::other("nothing of this name is timed")),

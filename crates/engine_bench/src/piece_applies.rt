@@ -23,12 +23,18 @@ pub fn changes_by_pieces(
     workers: usize,
     scratch: &mut Scratch,
 ) -> io::Result<(Changes, Changes)> {
-    if apply.direction == Direction::DensePull {
-        let work = PullWork::new(alloc, apply, flat, vectors, sizes, workers, scratch);
-        return Ok(pulled(alloc, &work.map_err(refused)?, scratch)?);
-    }
-    let work = PushWork::new(alloc, apply, flat, vectors, sizes, workers, scratch);
-    Ok(pushed(alloc, &work.map_err(refused)?, scratch)?)
+    let merged = if apply.direction == Direction::DensePull {
+        match PullWork::new(alloc, apply, flat, vectors, sizes, workers, scratch) {
+            Ok(work) => pulled(alloc, &work, scratch),
+            Err(error) => return Err(refused(error)),
+        }
+    } else {
+        match PushWork::new(alloc, apply, flat, vectors, sizes, workers, scratch) {
+            Ok(work) => pushed(alloc, &work, scratch),
+            Err(error) => return Err(refused(error)),
+        }
+    };
+    Ok(merged?)
 }
 
 fn pushed(
@@ -39,8 +45,9 @@ fn pushed(
     let mut found = pushed_pieces(alloc, work, scratch)?;
     let ascending = work.merge(alloc, &found, scratch)?;
     found.reverse();
-    let descending = work.merge(alloc, &found, scratch)?;
-    Ok((ascending, descending))
+    let descending = work.merge(alloc, &found, scratch);
+    drop(found);
+    Ok((ascending, descending?))
 }
 
 fn pulled(
@@ -51,8 +58,9 @@ fn pulled(
     let mut found = pulled_pieces(alloc, work, scratch)?;
     let ascending = work.merge(alloc, &found, scratch)?;
     found.reverse();
-    let descending = work.merge(alloc, &found, scratch)?;
-    Ok((ascending, descending))
+    let descending = work.merge(alloc, &found, scratch);
+    drop(found);
+    Ok((ascending, descending?))
 }
 
 // What each piece of a push answers, in order.

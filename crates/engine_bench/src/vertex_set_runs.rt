@@ -1,16 +1,17 @@
 //! Sets of vertices: how long they take to go over, to look in and to make.
 
-use measuring::{Job, Random, print_head, print_row, times_of};
+use measuring::{Job, Random, Turns, print_head, print_rows};
 use std::alloc::{AllocError, Global};
 use std::io;
-use std::rt::Clock;
 use vertex_sets::{Form, VertexSet};
 
 // How many vertices there are.
 const VERTICES: u32 = 1 << 22;
 
-// How often a row is timed.
-const TURNS: usize = 9;
+const TURNS: Turns = Turns {
+    count: 9,
+    rounds: 1,
+};
 
 const SEED: u64 = 2026;
 
@@ -21,89 +22,44 @@ const SPREADS: [u32; 3] = [1000, 20, 1];
 #[derive(Clone, Copy)]
 enum Row {
     PlainLoop,
-    IterateBits,
-    IterateFlags,
-    IterateList,
-    ContainsBits,
+    Iterate(Form),
+    Contains(Form),
     ContainsWords,
-    ContainsFlags,
     ContainsFlagSlice,
-    ListToBits,
-    ListToFlags,
-    EmptyBits,
-    TestToBits,
-    TestToFlags,
-    TestToList,
+    Convert(Form),
+    Empty(Form),
+    Test(Form),
 }
 
-const ROWS: [Row; 14] = [
-    Row::PlainLoop,
-    Row::IterateBits,
-    Row::IterateFlags,
-    Row::IterateList,
-    Row::ContainsBits,
-    Row::ContainsWords,
-    Row::ContainsFlags,
-    Row::ContainsFlagSlice,
-    Row::ListToBits,
-    Row::ListToFlags,
-    Row::EmptyBits,
-    Row::TestToBits,
-    Row::TestToFlags,
-    Row::TestToList,
+const ROWS: [(&str, Row); 14] = [
+    ("plain loop over words", Row::PlainLoop),
+    ("iter, bits", Row::Iterate(Form::Bits)),
+    ("iter, flags", Row::Iterate(Form::Flags)),
+    ("iter, list", Row::Iterate(Form::List)),
+    ("contains, bits", Row::Contains(Form::Bits)),
+    ("words(), a bit", Row::ContainsWords),
+    ("contains, flags", Row::Contains(Form::Flags)),
+    ("flags(), a flag", Row::ContainsFlagSlice),
+    ("list to bits", Row::Convert(Form::Bits)),
+    ("list to flags", Row::Convert(Form::Flags)),
+    ("empty, bits", Row::Empty(Form::Bits)),
+    ("from_test, bits", Row::Test(Form::Bits)),
+    ("from_test, flags", Row::Test(Form::Flags)),
+    ("from_test, list", Row::Test(Form::List)),
 ];
 
-impl Row {
-    fn name(self) -> &'static str {
-        match self {
-            Row::PlainLoop => "plain loop over words",
-            Row::IterateBits => "iter, bits",
-            Row::IterateFlags => "iter, flags",
-            Row::IterateList => "iter, list",
-            Row::ContainsBits => "contains, bits",
-            Row::ContainsWords => "words(), a bit",
-            Row::ContainsFlags => "contains, flags",
-            Row::ContainsFlagSlice => "flags(), a flag",
-            Row::ListToBits => "list to bits",
-            Row::ListToFlags => "list to flags",
-            Row::EmptyBits => "empty, bits",
-            Row::TestToBits => "from_test, bits",
-            Row::TestToFlags => "from_test, flags",
-            Row::TestToList => "from_test, list",
-        }
-    }
-}
-
-/// Prints the times of the work on sets of three densities, in microseconds.
-pub fn print_times<R: Print + AllocGlobal + Clock>(rt: &R) -> io::Result<()> {
-    print_head(rt, "row", &["members", "best us", "median us"])?;
-    for spread in SPREADS {
-        print_rows(rt, &Work::new(rt.alloc(), spread)?)?;
+/// Prints the times of the work on sets of three densities, whose items are the members.
+pub fn print_times(rt: &HostRuntime) -> io::Result<()> {
+    print_head(rt, "vertex sets")?;
+    for spread in &SPREADS {
+        print_spread(rt, *spread)?;
     }
     Ok(())
 }
 
-fn print_rows<R: Print + AllocGlobal + Clock>(rt: &R, work: &Work) -> io::Result<()> {
-    let members = work.list.len() as u64;
-    for row in ROWS {
-        let times = times_of(rt, TURNS, &mut Turn(rt.alloc(), row, work))?;
-        print_row(
-            rt,
-            row.name(),
-            &[members, times.best / 1000, times.median / 1000],
-        )?;
-    }
-    Ok(())
-}
-
-// A row on some sets.
-#[derive(Drop)]
-struct Turn<'a>(Global, Row, &'a Work);
-
-impl Job for Turn<'_> {
-    fn run(&mut self) -> io::Result<u64> {
-        done(self.0, self.1, self.2)
-    }
+fn print_spread(rt: &HostRuntime, spread: u32) -> io::Result<()> {
+    let mut work = Work::new(rt.alloc(), spread)?;
+    print_rows(rt, &ROWS, TURNS, &mut work)
 }
 
 // A set in each form, and vertices to look for.
@@ -130,46 +86,78 @@ impl Drop for Work {
 impl Work {
     fn new(alloc: Global, spread: u32) -> Result<Work, AllocError> {
         let mut random = Random::new(SEED);
-        let mut passes = Vec::with_capacity(alloc, VERTICES as usize)?;
-        let mut sought = Vec::with_capacity(alloc, VERTICES as usize)?;
-        for _ in 0..VERTICES {
-            passes.push(random.below(u64::from(spread.max(1))) == 0)?;
-            sought.push((random.next() % u64::from(VERTICES)) as u32)?;
+        let mut work = Work {
+            passes: Vec::new(alloc),
+            list: VertexSet::empty(alloc, VERTICES, Form::List)?,
+            flags: VertexSet::empty(alloc, VERTICES, Form::List)?,
+            bits: VertexSet::empty(alloc, VERTICES, Form::List)?,
+            sought: Vec::new(alloc),
+        };
+        draw(&mut work.passes, &mut work.sought, &mut random, spread)?;
+        work.list = tested(alloc, &work.passes, Form::List)?;
+        work.flags = work.list.to_form(alloc, Form::Flags)?;
+        work.bits = work.list.to_form(alloc, Form::Bits)?;
+        Ok(work)
+    }
+
+    fn set(&self, form: Form) -> &VertexSet {
+        match form {
+            Form::List => &self.list,
+            Form::Flags => &self.flags,
+            Form::Bits => &self.bits,
         }
-        let list = VertexSet::from_test(alloc, VERTICES, Form::List, |vertex| {
-            passes.get(vertex as usize).copied().unwrap_or(false)
-        })?;
-        let flags = list.to_form(alloc, Form::Flags)?;
-        let bits = list.to_form(alloc, Form::Bits)?;
-        Ok(Work {
-            passes,
-            list,
-            flags,
-            bits,
-            sought,
-        })
+    }
+
+    // The set that a row makes.
+    fn made(&self, alloc: Global, row: Row) -> Result<VertexSet, AllocError> {
+        match row {
+            Row::Convert(form) => self.list.to_form(alloc, form),
+            Row::Test(form) => tested(alloc, &self.passes, form),
+            _ => VertexSet::empty(alloc, VERTICES, Form::Bits),
+        }
     }
 }
 
-// Does the work of a row once, and gives what it came to.
-fn done(alloc: Global, row: Row, work: &Work) -> io::Result<u64> {
-    let found = match row {
-        Row::PlainLoop => plain_sum(work.bits.words().unwrap_or(&[])),
-        Row::IterateBits => sum(&work.bits),
-        Row::IterateFlags => sum(&work.flags),
-        Row::IterateList => sum(&work.list),
-        Row::ContainsBits => hits(&work.bits, &work.sought),
-        Row::ContainsWords => word_hits(work.bits.words().unwrap_or(&[]), &work.sought),
-        Row::ContainsFlags => hits(&work.flags, &work.sought),
-        Row::ContainsFlagSlice => flag_hits(work.flags.flags().unwrap_or(&[]), &work.sought),
-        Row::ListToBits => work.list.to_form(alloc, Form::Bits)?.len() as u64,
-        Row::ListToFlags => work.list.to_form(alloc, Form::Flags)?.len() as u64,
-        Row::EmptyBits => VertexSet::empty(alloc, VERTICES, Form::Bits)?.len() as u64,
-        Row::TestToBits => tested(alloc, work, Form::Bits)?,
-        Row::TestToFlags => tested(alloc, work, Form::Flags)?,
-        Row::TestToList => tested(alloc, work, Form::List)?,
-    };
-    Ok(found)
+impl Job for Work {
+    type Row = Row;
+
+    fn items(&self, _row: Row) -> u64 {
+        self.list.len() as u64
+    }
+
+    fn run(&mut self, rt: &HostRuntime, row: Row) -> io::Result<u64> {
+        match row {
+            Row::PlainLoop => Ok(plain_sum(self.bits.words().unwrap_or(&[]))),
+            Row::Iterate(form) => Ok(sum(self.set(form))),
+            Row::Contains(form) => Ok(hits(self.set(form), &self.sought)),
+            Row::ContainsWords => Ok(word_hits(self.bits.words().unwrap_or(&[]), &self.sought)),
+            Row::ContainsFlagSlice => {
+                Ok(flag_hits(self.flags.flags().unwrap_or(&[]), &self.sought))
+            }
+            _ => Ok(self.made(rt.alloc(), row)?.len() as u64),
+        }
+    }
+}
+
+// For each vertex whether it passes, and a vertex to look for.
+fn draw(
+    passes: &mut Vec<bool>,
+    sought: &mut Vec<u32>,
+    random: &mut Random,
+    spread: u32,
+) -> Result<(), AllocError> {
+    for _ in 0..VERTICES {
+        passes.push(random.below(u64::from(spread.max(1))) == 0)?;
+        sought.push((random.next() % u64::from(VERTICES)) as u32)?;
+    }
+    Ok(())
+}
+
+// The set of the vertices that pass.
+fn tested(alloc: Global, passes: &[bool], form: Form) -> Result<VertexSet, AllocError> {
+    VertexSet::from_test(alloc, VERTICES, form, |vertex| {
+        passes.get(vertex as usize).copied().unwrap_or(false)
+    })
 }
 
 // The sum of the vertices whose bits are set, by a plain loop.
@@ -223,13 +211,4 @@ fn flag_hits(flags: &[bool], sought: &[u32]) -> u64 {
         }
     }
     hits
-}
-
-// The number of members of the set of the vertices that pass.
-fn tested(alloc: Global, work: &Work, form: Form) -> Result<u64, AllocError> {
-    let passes: &[bool] = &work.passes;
-    let set = VertexSet::from_test(alloc, VERTICES, form, |vertex| {
-        passes.get(vertex as usize).copied().unwrap_or(false)
-    })?;
-    Ok(set.len() as u64)
 }

@@ -47,8 +47,9 @@ pub fn rmat_graph(alloc: Global, vertices: u32, edges: u32) -> io::Result<Graph>
     Ok(graph)
 }
 
-// An edge of it. Four levels take 64 random bits.
-fn rmat_edge(random: &mut Random, scale: u32) -> (u32, u32) {
+/// An edge of an RMAT graph of 2 to the power of `scale` vertices, where the scale is at most 32. Four levels take 64
+/// random bits.
+pub fn rmat_edge(random: &mut Random, scale: u32) -> (u32, u32) {
     let (mut source, mut destination, mut bits) = (0u32, 0u32, 0u64);
     for level in 0..scale {
         if level % 4 == 0 {

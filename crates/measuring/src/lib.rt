@@ -1,5 +1,5 @@
 //! What the benchmark programs share: random numbers and graphs, the same on every machine, times of work that is done
-//! again and again, and tables.
+//! again and again, tables, sums over tails, and the words of a command line.
 //!
 //! It promises to be safe and to end, and no more; only programs that measure stand on it.
 #![tactic(auto)]
@@ -7,9 +7,13 @@
 mod graphs;
 mod random;
 mod table;
+mod tails;
 mod timing;
+mod words;
 
-pub use graphs::{random_batch, random_graph, rmat_graph, told};
+pub use graphs::{random_batch, random_graph, rmat_edge, rmat_graph, told};
 pub use random::Random;
-pub use table::{print_head, print_row};
-pub use timing::{Job, TURNS, Times, nanos_since, times_of};
+pub use table::{print_head, print_row, print_rows, print_times};
+pub use tails::{sum_by_blocks, sum_of, sum_of_tails, tail_error};
+pub use timing::{Job, Taken, Times, Turns, nanos_since, times_of};
+pub use words::{Words, is_printed, status_of, words_of};

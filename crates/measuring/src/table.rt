@@ -1,24 +1,44 @@
 //! Tables of times.
 
-use std::fmt::Write;
+use crate::timing::{Job, Times, Turns, times_of};
 use std::io;
 
-/// Prints the head of a table: what its rows are, and what their numbers are.
-pub fn print_head<R: Print + AllocGlobal>(rt: &R, rows: &str, heads: &[&str]) -> io::Result<()> {
-    let mut line = String::new(rt.alloc());
-    write!(line, "{rows:<30}")?;
-    for head in heads {
-        write!(line, " {head:>14}")?;
-    }
-    println!(rt; "{line}")
+/// Prints the head of a table: what its rows are, and what `print_times` prints of each.
+pub fn print_head(rt: &HostRuntime, rows: &str) -> io::Result<()> {
+    print!(rt; "{rows:<30}          items        best ns")?;
+    println!(rt; "      median ns          found    ps an item")
 }
 
-/// Prints a row.
-pub fn print_row<R: Print + AllocGlobal>(rt: &R, row: &str, numbers: &[u64]) -> io::Result<()> {
-    let mut line = String::new(rt.alloc());
-    write!(line, "{row:<30}")?;
-    for number in numbers {
-        write!(line, " {number:>14}")?;
+/// Prints a row of a table: a name, how many items it goes over, its best and its median time in nanoseconds, what it
+/// came to, and the best time an item, in picoseconds.
+pub fn print_times(rt: &HostRuntime, name: &str, items: u64, times: Times) -> io::Result<()> {
+    let each = times.best.saturating_mul(1000) / items.max(1);
+    print!(rt; "{name:<30} {items:>14} {:>14}", times.best)?;
+    println!(rt; " {:>14} {:>14} {each:>14}", times.median, times.found)
+}
+
+/// Times some kinds of a job and prints a row for each.
+pub fn print_rows<J: Job>(
+    rt: &HostRuntime,
+    rows: &[(&str, J::Row)],
+    turns: Turns,
+    job: &mut J,
+) -> io::Result<()> {
+    for (name, row) in rows {
+        print_row(rt, name, turns, job, *row)?;
     }
-    println!(rt; "{line}")
+    Ok(())
+}
+
+/// Times a kind of a job and prints its row. Gives what it came to.
+pub fn print_row<J: Job>(
+    rt: &HostRuntime,
+    name: &str,
+    turns: Turns,
+    job: &mut J,
+    row: J::Row,
+) -> io::Result<u64> {
+    let times = times_of(rt, turns, job, row)?;
+    print_times(rt, name, job.items(row), times)?;
+    Ok(times.found)
 }

@@ -1,24 +1,35 @@
 //! The times of work that is done again and again.
 
+use std::alloc::Global;
 use std::io;
 use std::rt::Clock;
 use std::time::Instant;
 
-/// How often work is timed.
-pub const TURNS: usize = 5;
-
-/// Work that is done again and again.
+/// Work of one kind or of several, which is done again and again.
 pub trait Job {
+    /// Its kinds, each a row of a table.
+    type Row: Copy;
+
+    /// How many items a kind goes over.
+    fn items(&self, row: Self::Row) -> u64;
+
     /// Makes ready for the work, which is not timed.
-    fn begin(&mut self) -> io::Result<()> {
+    fn begin(&mut self, _rt: &HostRuntime, _row: Self::Row) -> io::Result<()> {
         Ok(())
     }
 
     /// Does the work once, and gives a number that depends on all of it.
-    fn run(&mut self) -> io::Result<u64>;
+    fn run(&mut self, rt: &HostRuntime, row: Self::Row) -> io::Result<u64>;
 }
 
-/// How long the shortest and the middle one of some turns took, in nanoseconds, and what the last one came to.
+/// How often work is timed, and how often it is done each time.
+#[derive(Clone, Copy)]
+pub struct Turns {
+    pub count: u64,
+    pub rounds: u64,
+}
+
+/// How long the work took in the shortest and in the middle one of some turns, in nanoseconds, and what it came to last.
 #[derive(Clone, Copy)]
 pub struct Times {
     pub best: u64,
@@ -26,31 +37,52 @@ pub struct Times {
     pub found: u64,
 }
 
-/// Does a job so many times.
-pub fn times_of<R: AllocGlobal + Clock, J: Job>(
-    rt: &R,
-    turns: usize,
-    job: &mut J,
-) -> io::Result<Times> {
-    let mut taken = Vec::with_capacity(rt.alloc(), turns)?;
-    let mut found = 0;
-    for _ in 0..turns {
-        job.begin()?;
-        let start = Instant::now(rt)?;
-        found = job.run()?;
-        taken.push(nanos_since(rt, start)?)?;
-    }
-    Times::of(&mut taken, found)
+/// The nanoseconds of turns, and what the last one came to.
+pub struct Taken {
+    nanos: Vec<u64>,
+    found: u64,
 }
 
-impl Times {
-    /// The times of turns that took so many nanoseconds each.
-    pub fn of(taken: &mut Vec<u64>, found: u64) -> io::Result<Times> {
-        taken.sort()?;
+impl Drop for Taken {
+    fn drop(self) {
+        let Taken { nanos: _, found: _ } = self;
+    }
+}
+
+impl Taken {
+    /// No turn so far.
+    pub fn new(alloc: Global) -> Taken {
+        Taken {
+            nanos: Vec::new(alloc),
+            found: 0,
+        }
+    }
+
+    /// Adds a turn that began at this time, did its work so often and came to this.
+    pub fn add(
+        &mut self,
+        rt: &HostRuntime,
+        start: Instant,
+        rounds: u64,
+        found: u64,
+    ) -> io::Result<()> {
+        let nanos = nanos_since(rt, start)?;
+        self.push(nanos, rounds, found)
+    }
+
+    /// Adds a turn that took so many nanoseconds, did its work so often and came to this.
+    pub fn push(&mut self, nanos: u64, rounds: u64, found: u64) -> io::Result<()> {
+        self.found = found;
+        Ok(self.nanos.push(nanos / rounds.max(1))?)
+    }
+
+    /// The times of the turns.
+    pub fn times(&mut self) -> io::Result<Times> {
+        self.nanos.sort()?;
         Ok(Times {
-            best: at(taken, 0),
-            median: at(taken, taken.len() / 2),
-            found,
+            best: at(&self.nanos, 0),
+            median: at(&self.nanos, self.nanos.len() / 2),
+            found: self.found,
         })
     }
 }
@@ -61,7 +93,42 @@ fn at(numbers: &[u64], place: usize) -> u64 {
 }
 
 /// How many nanoseconds went by.
-pub fn nanos_since<R: Clock>(rt: &R, start: Instant) -> io::Result<u64> {
-    let taken = start.elapsed(rt)?;
+pub fn nanos_since<C: Clock>(clock: &C, start: Instant) -> io::Result<u64> {
+    let taken = start.elapsed(clock)?;
     Ok(u64::try_from(taken.as_nanos()).unwrap_or(u64::MAX))
+}
+
+/// Does a row of a job so often.
+pub fn times_of<J: Job>(
+    rt: &HostRuntime,
+    turns: Turns,
+    job: &mut J,
+    row: J::Row,
+) -> io::Result<Times> {
+    let mut taken = Taken::new(rt.alloc());
+    for _ in 0..turns.count {
+        add_turn(rt, turns.rounds, job, row, &mut taken)?;
+    }
+    taken.times()
+}
+
+fn add_turn<J: Job>(
+    rt: &HostRuntime,
+    rounds: u64,
+    job: &mut J,
+    row: J::Row,
+    taken: &mut Taken,
+) -> io::Result<()> {
+    job.begin(rt, row)?;
+    let start = Instant::now(rt)?;
+    let found = done(rt, rounds, job, row)?;
+    taken.add(rt, start, rounds, found)
+}
+
+fn done<J: Job>(rt: &HostRuntime, rounds: u64, job: &mut J, row: J::Row) -> io::Result<u64> {
+    let mut found = 0;
+    for _ in 0..rounds {
+        found = job.run(rt, row)?;
+    }
+    Ok(found)
 }

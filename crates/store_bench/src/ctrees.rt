@@ -1,40 +1,13 @@
 //! Sets in chunks: how long they take to make and to walk, beside their bytes alone.
 
-use c_tree::{CTree, CTreeError};
-use measuring::{Job, Random, TURNS, print_head, print_row, times_of};
+use crate::sets::set_of;
+use c_tree::CTree;
+use measuring::{
+    Job, Random, Turns, print_head, print_rows, sum_by_blocks, sum_of, sum_of_tails, tail_error,
+};
 use std::alloc::{AllocError, Global};
 use std::io;
-use std::io::Error;
-use std::rt::Clock;
-use tail_codec::{Tail, TailError};
-
-// Of each size 1,000 sets are timed, in rounds so that memory holds them.
-#[derive(Clone, Copy)]
-struct Sets {
-    size: usize,
-    rounds: u64,
-    sets: usize,
-}
-
-const SETS: [Sets; 3] = [
-    Sets {
-        size: 16,
-        rounds: 1,
-        sets: 1000,
-    },
-    Sets {
-        size: 256,
-        rounds: 1,
-        sets: 1000,
-    },
-    Sets {
-        size: 65_536,
-        rounds: 50,
-        sets: 20,
-    },
-];
-
-const CHUNK_SIZE: u32 = 64;
+use tail_codec::Tail;
 
 const SEED: u64 = 2026;
 
@@ -42,52 +15,6 @@ const SEED: u64 = 2026;
 const BITS: usize = 24;
 
 const WORDS: usize = 1 << (BITS - 6);
-
-/// Prints the times of all sets of a size, and what a set's walk and making cost an element.
-pub fn print_times<R: Print + AllocGlobal + Clock>(rt: &R) -> io::Result<()> {
-    print_head(rt, "row", &["size", "us", "ps an element"])?;
-    let mut random = Random::new(SEED);
-    for sets in SETS {
-        let mut totals = [0u64; 6];
-        for _ in 0..sets.rounds {
-            add_times(rt, &Work::new(rt.alloc(), &mut random, sets)?, &mut totals)?;
-        }
-        print_rows(rt, sets, &totals)?;
-    }
-    Ok(())
-}
-
-// Adds the best time of each row to its total.
-fn add_times<R: AllocGlobal + Clock>(rt: &R, work: &Work, totals: &mut [u64]) -> io::Result<()> {
-    for (total, row) in totals.iter_mut().zip(ROWS) {
-        let times = times_of(rt, TURNS, &mut Turn(rt.alloc(), row, work))?;
-        *total = total.saturating_add(times.best);
-    }
-    Ok(())
-}
-
-// A row on some sets.
-#[derive(Drop)]
-struct Turn<'a>(Global, Row, &'a Work);
-
-impl Job for Turn<'_> {
-    fn run(&mut self) -> io::Result<u64> {
-        self.1.work(self.0, self.2)
-    }
-}
-
-fn print_rows<R: Print + AllocGlobal>(rt: &R, sets: Sets, totals: &[u64]) -> io::Result<()> {
-    let size = sets.size as u64;
-    let elements = sets
-        .rounds
-        .saturating_mul(sets.sets as u64)
-        .saturating_mul(size);
-    for (row, total) in ROWS.into_iter().zip(totals) {
-        let picos = total.saturating_mul(1000) / elements.max(1);
-        print_row(rt, row.name(), &[size, *total / 1000, picos])?;
-    }
-    Ok(())
-}
 
 // What is timed.
 #[derive(Clone, Copy)]
@@ -100,45 +27,48 @@ enum Row {
     WalkBlocks,
 }
 
-const ROWS: [Row; 6] = [
-    Row::Encode,
-    Row::Make,
-    Row::Decode,
-    Row::Walk,
-    Row::DecodeBlocks,
-    Row::WalkBlocks,
+const ROWS: [(&str, Row); 6] = [
+    ("encode", Row::Encode),
+    ("from_sorted", Row::Make),
+    ("tails", Row::Decode),
+    ("iter", Row::Walk),
+    ("tails, fill", Row::DecodeBlocks),
+    ("fill", Row::WalkBlocks),
 ];
 
-impl Row {
-    fn name(self) -> &'static str {
-        match self {
-            Row::Encode => "encode",
-            Row::Make => "from_sorted",
-            Row::Decode => "tails",
-            Row::Walk => "iter",
-            Row::DecodeBlocks => "tails, fill",
-            Row::WalkBlocks => "fill",
-        }
-    }
-
-    // Does the work once, and gives a number that depends on all of it.
-    fn work(self, alloc: Global, work: &Work) -> io::Result<u64> {
-        match self {
-            Row::Encode => encode_all(alloc, &work.lists),
-            Row::Make => make_all(alloc, &work.lists),
-            Row::Decode => Ok(sum_of_tails(&work.tails)),
-            Row::Walk => Ok(sum_of_sets(&work.sets)),
-            Row::DecodeBlocks => Ok(sum_of_tails_by_blocks(&work.tails)),
-            Row::WalkBlocks => Ok(sum_of_sets_by_blocks(&work.sets)),
-        }
-    }
+/// Prints the times of sets of three sizes, and what their walk and making cost an element.
+pub fn print_times(rt: &HostRuntime) -> io::Result<()> {
+    let mut random = Random::new(SEED);
+    print_head(rt, "sets of 16 elements")?;
+    print_size(rt, &mut random, 16, 1000, 1)?;
+    print_head(rt, "sets of 256 elements")?;
+    print_size(rt, &mut random, 256, 1000, 1)?;
+    print_head(rt, "sets of 65,536 elements")?;
+    print_size(rt, &mut random, 65_536, 20, 50)
 }
 
-// Lists, the sets of them, and the prefixes and tails of the sets.
+// Prints the rows of so many sets of a size, over which each turn goes so often.
+fn print_size(
+    rt: &HostRuntime,
+    random: &mut Random,
+    size: usize,
+    sets: u32,
+    rounds: u64,
+) -> io::Result<()> {
+    let turns = Turns { count: 5, rounds };
+    let mut work = Work::new(rt.alloc());
+    for _ in 0..sets {
+        work.add(rt.alloc(), random, size)?;
+    }
+    print_rows(rt, &ROWS, turns, &mut work)
+}
+
+// Lists, the sets of them, the prefixes and tails of the sets, and the number of elements.
 struct Work {
     lists: Vec<Vec<u32>>,
     sets: Vec<CTree>,
     tails: Vec<Tail>,
+    elements: u64,
 }
 
 impl Drop for Work {
@@ -147,29 +77,62 @@ impl Drop for Work {
             lists: _,
             sets: _,
             tails: _,
+            elements: _,
         } = self;
     }
 }
 
 impl Work {
-    fn new(alloc: Global, random: &mut Random, sets: Sets) -> io::Result<Work> {
-        let mut work = Work {
+    fn new(alloc: Global) -> Work {
+        Work {
             lists: Vec::new(alloc),
             sets: Vec::new(alloc),
             tails: Vec::new(alloc),
-        };
-        for _ in 0..sets.sets {
-            let list = neighbours(alloc, random, sets.size)?;
-            let set = made(CTree::from_sorted(alloc, CHUNK_SIZE, &list))?;
-            work.lists.push(list)?;
-            share_tails(&set, &mut work.tails)?;
-            work.sets.push(set)?;
+            elements: 0,
         }
-        Ok(work)
+    }
+
+    // Adds a set of so many elements.
+    fn add(&mut self, alloc: Global, random: &mut Random, size: usize) -> io::Result<()> {
+        let list = neighbours(alloc, random, size)?;
+        push_set(alloc, &list, &mut self.sets, &mut self.tails)?;
+        self.elements = self.elements.saturating_add(list.len() as u64);
+        Ok(self.lists.push(list)?)
     }
 }
 
-fn share_tails(set: &CTree, tails: &mut Vec<Tail>) -> io::Result<()> {
+impl Job for Work {
+    type Row = Row;
+
+    fn items(&self, _row: Row) -> u64 {
+        self.elements
+    }
+
+    fn run(&mut self, rt: &HostRuntime, row: Row) -> io::Result<u64> {
+        match row {
+            Row::Encode => encode_all(rt.alloc(), &self.lists),
+            Row::Make => make_all(rt.alloc(), &self.lists),
+            Row::Decode => Ok(sum_of_tails(&self.tails)),
+            Row::Walk => Ok(sum_of_sets(&self.sets)),
+            Row::DecodeBlocks => Ok(sum_by_blocks(&self.tails)),
+            Row::WalkBlocks => Ok(sum_of_sets_by_blocks(&self.sets)),
+        }
+    }
+}
+
+// Adds the set of a list, and its prefix and its tails.
+fn push_set(
+    alloc: Global,
+    list: &[u32],
+    sets: &mut Vec<CTree>,
+    tails: &mut Vec<Tail>,
+) -> io::Result<()> {
+    let set = set_of(alloc, list)?;
+    push_tails(&set, tails)?;
+    Ok(sets.push(set)?)
+}
+
+fn push_tails(set: &CTree, tails: &mut Vec<Tail>) -> Result<(), AllocError> {
     tails.push(set.prefix().share()?)?;
     for (_, tail) in set.heads() {
         tails.push(tail.share()?)?;
@@ -181,19 +144,19 @@ fn share_tails(set: &CTree, tails: &mut Vec<Tail>) -> io::Result<()> {
 // vertices, ascending; fewer where 16 draws for each do not give them.
 fn neighbours(alloc: Global, random: &mut Random, count: usize) -> Result<Vec<u32>, AllocError> {
     let mut words = vec![in alloc; 0u64; WORDS]?;
+    mark_some(&mut words, random, count);
+    let mut list = Vec::new(alloc);
+    push_all_marked(&mut list, &words)?;
+    Ok(list)
+}
+
+fn mark_some(words: &mut [u64], random: &mut Random, count: usize) {
     let mut found = 0usize;
     for _ in 0..count.saturating_mul(16) {
-        if found < count && mark(&mut words, destination(random)) {
+        if found < count && mark(words, destination(random)) {
             found = found.saturating_add(1);
         }
     }
-    let mut list = Vec::with_capacity(alloc, count)?;
-    let mut first = 0u32;
-    for word in words {
-        push_marked(&mut list, first, word)?;
-        first = first.wrapping_add(64);
-    }
-    Ok(list)
 }
 
 // Marks an element, and tells whether it was not marked.
@@ -207,11 +170,19 @@ fn mark(words: &mut [u64], element: u32) -> bool {
     is_new
 }
 
+fn push_all_marked(list: &mut Vec<u32>, words: &[u64]) -> Result<(), AllocError> {
+    let mut first = 0u32;
+    for word in words {
+        if *word != 0 {
+            push_marked(list, first, *word)?;
+        }
+        first = first.wrapping_add(64);
+    }
+    Ok(())
+}
+
 // Adds the elements that a word marks from the first on.
 fn push_marked(list: &mut Vec<u32>, first: u32, word: u64) -> Result<(), AllocError> {
-    if word == 0 {
-        return Ok(());
-    }
     for place in 0..64u32 {
         if word >> place & 1 == 1 {
             list.push(first.wrapping_add(place))?;
@@ -232,27 +203,24 @@ fn destination(random: &mut Random) -> u32 {
 fn encode_all(alloc: Global, lists: &[Vec<u32>]) -> io::Result<u64> {
     let mut tails = Vec::with_capacity(alloc, lists.len())?;
     for list in lists {
-        tails.push(Tail::encode(alloc, None, list).map_err(told)?)?;
+        push_encoded(alloc, list, &mut tails)?;
     }
     Ok(tails.len() as u64)
+}
+
+fn push_encoded(alloc: Global, list: &[u32], tails: &mut Vec<Tail>) -> io::Result<()> {
+    match Tail::encode(alloc, None, list) {
+        Ok(tail) => Ok(tails.push(tail)?),
+        Err(error) => Err(tail_error(error)),
+    }
 }
 
 fn make_all(alloc: Global, lists: &[Vec<u32>]) -> io::Result<u64> {
     let mut sets = Vec::with_capacity(alloc, lists.len())?;
     for list in lists {
-        sets.push(made(CTree::from_sorted(alloc, CHUNK_SIZE, list))?)?;
+        sets.push(set_of(alloc, list)?)?;
     }
     Ok(sets.len() as u64)
-}
-
-fn sum_of_tails(tails: &[Tail]) -> u64 {
-    let mut sum = 0u64;
-    for tail in tails {
-        for element in tail.iter() {
-            sum = sum.wrapping_add(u64::from(element));
-        }
-    }
-    sum
 }
 
 fn sum_of_sets(sets: &[CTree]) -> u64 {
@@ -265,59 +233,15 @@ fn sum_of_sets(sets: &[CTree]) -> u64 {
     sum
 }
 
-fn sum_of_tails_by_blocks(tails: &[Tail]) -> u64 {
+fn sum_of_sets_by_blocks(sets: &[CTree]) -> u64 {
     let mut sum = 0u64;
     let mut block = [0u32; 128];
-    for tail in tails {
-        let mut elements = tail.iter();
-        for _ in 0..=tail.len() / 128 {
+    for set in sets {
+        let mut elements = set.iter();
+        for _ in 0..=set.len() / 128 {
             let filled = elements.fill(&mut block);
             sum = sum.wrapping_add(sum_of(&block[..filled]));
         }
     }
     sum
-}
-
-fn sum_of_sets_by_blocks(sets: &[CTree]) -> u64 {
-    let mut sum = 0u64;
-    for set in sets {
-        sum = sum.wrapping_add(sum_by_blocks(set));
-    }
-    sum
-}
-
-fn sum_by_blocks(set: &CTree) -> u64 {
-    let mut sum = 0u64;
-    let mut block = [0u32; 128];
-    let mut elements = set.iter();
-    for _ in 0..=set.len() / 128 {
-        let filled = elements.fill(&mut block);
-        sum = sum.wrapping_add(sum_of(&block[..filled]));
-    }
-    sum
-}
-
-fn sum_of(block: &[u32]) -> u64 {
-    let mut sum = 0u64;
-    for element in block {
-        sum = sum.wrapping_add(u64::from(*element));
-    }
-    sum
-}
-
-fn made(answer: Result<CTree, CTreeError>) -> io::Result<CTree> {
-    match answer {
-        Ok(set) => Ok(set),
-        Err(CTreeError::NoMemory) => Err(Error::other("out of memory")),
-        Err(CTreeError::NotAscending | CTreeError::BadChunkSize) => {
-            Err(Error::other("a set was refused"))
-        }
-    }
-}
-
-fn told(error: TailError) -> Error {
-    match error {
-        TailError::NoMemory => Error::other("out of memory"),
-        TailError::NotAscending | TailError::BadTail => Error::other("a tail was refused"),
-    }
 }

@@ -11,46 +11,45 @@ mod sets;
 mod tails;
 mod trees;
 
+use measuring::{is_printed, status_of, words_of};
+use std::io;
 use std::io::Error;
 use std::process::ExitCode;
-use std::rt::Clock;
 use std::thread::Threads;
-use std::{env, io};
+
+const USAGE: &str = "store_bench [--time tails|trees|ctrees|sets | --check batches]";
 
 fn main(rt: HostRuntime) -> io::Result<ExitCode> {
-    let args: Vec<String> = env::args(&rt)?.skip(1).collect(rt.alloc())?;
-    let words: Vec<&str> = args.iter().map(|word| word.as_str()).collect(rt.alloc())?;
-    if print(&rt, &words)? {
-        return Ok(ExitCode::SUCCESS);
-    }
-    eprintln!(rt; "usage: store_bench [--time tails|trees|ctrees|sets | --check batches]")?;
-    Ok(ExitCode::from(2))
+    let words = words_of(&rt)?;
+    let printed = print(&rt, &rt, words.option.as_str(), words.subject.as_str());
+    drop(words);
+    status_of(&rt, printed?, USAGE)
 }
 
 // Prints what the words ask for, and tells whether they ask for something.
-fn print<R: Print + AllocGlobal + Clock + Threads + Sync>(
-    rt: &R,
-    words: &[&str],
+fn print<T: Threads + Sync>(
+    rt: &HostRuntime,
+    threads: &T,
+    option: &str,
+    subject: &str,
 ) -> io::Result<bool> {
-    let printed = match words {
-        [] => batches::print_agreement(rt, 1000),
-        ["--check", "batches"] => batches::print_agreement(rt, 100_000),
-        ["--time", subject] => print_times(rt, subject),
-        _ => return Ok(false),
-    };
-    printed.map(|()| true)
+    match option {
+        "" => is_printed(batches::print_agreement(rt, threads, 1000)),
+        "--check" if subject == "batches" => is_printed(batches::print_agreement(
+            rt, threads, 100_000,
+        )),
+        "--time" => is_printed(print_times(rt, threads, subject)),
+        _ => Ok(false),
+    }
 }
 
 // Prints the times of a subject.
-fn print_times<R: Print + AllocGlobal + Clock + Threads + Sync>(
-    rt: &R,
-    subject: &str,
-) -> io::Result<()> {
+fn print_times<T: Threads + Sync>(rt: &HostRuntime, threads: &T, subject: &str) -> io::Result<()> {
     match subject {
         "tails" => tails::print_times(rt),
         "trees" => trees::print_times(rt),
         "ctrees" => ctrees::print_times(rt),
-        "sets" => sets::print_times(rt),
+        "sets" => sets::print_times(rt, threads),
         _ => Err(Error::other("nothing of this name is timed")),
     }
 }

@@ -1,12 +1,11 @@
 //! Unions and differences of sets in chunks, beside a look-up and a merge of two sorted lists.
 
 use c_tree::{CTree, CTreeError};
-use measuring::{Random, TURNS, nanos_since, print_head, print_row};
+use measuring::{Random, Taken, Times, print_head, print_times as print_row};
 use set_ops::{Quiet, SetError, difference, difference_forked, union, union_forked};
 use std::alloc::{AllocError, Global};
 use std::io;
 use std::io::Error;
-use std::rt::Clock;
 use std::thread::Threads;
 use std::time::Instant;
 
@@ -20,54 +19,106 @@ const SIZE: u64 = 1_000_000;
 // The elements of the other set, and how often the work is done in a turn.
 const OTHERS: [(u64, u64); 3] = [(1, 1000), (1000, 50), (1_000_000, 1)];
 
+// How often a row is timed.
+const TURNS: u32 = 5;
+
+// The levels of the forked rows.
+const FORKS: u32 = 2;
+
+// What is timed.
+#[derive(Clone, Copy)]
+enum Row {
+    Contains,
+    Merge,
+    Combine(Way),
+}
+
+// How a set is made of two.
+#[derive(Clone, Copy)]
+enum Way {
+    Union,
+    UnionForked,
+    Difference,
+    DifferenceForked,
+}
+
+const ROWS: [(&str, Row); 6] = [
+    ("contains", Row::Contains),
+    ("merge", Row::Merge),
+    ("union", Row::Combine(Way::Union)),
+    ("union, forks 2", Row::Combine(Way::UnionForked)),
+    ("difference", Row::Combine(Way::Difference)),
+    ("difference, forks 2", Row::Combine(Way::DifferenceForked)),
+];
+
 /// Prints the times of the work on a set of 1,000,000 elements and sets of three sizes.
-pub fn print_times<R: Print + AllocGlobal + Clock + Threads + Sync>(rt: &R) -> io::Result<()> {
-    print_head(rt, "row", &["size", "ns"])?;
+pub fn print_times<T: Threads + Sync>(rt: &HostRuntime, threads: &T) -> io::Result<()> {
+    print_head(rt, "sets")?;
     let mut random = Random::new(SEED);
-    for (size, rounds) in OTHERS {
-        print_rows(rt, &Work::new(rt.alloc(), &mut random, size)?, size, rounds)?;
+    for (size, rounds) in &OTHERS {
+        print_size(rt, threads, &mut random, *size, *rounds)?;
     }
     Ok(())
 }
 
 // Prints all rows of a set and another of so many elements.
-fn print_rows<R: Print + AllocGlobal + Clock + Threads + Sync>(
-    rt: &R,
-    work: &Work,
+fn print_size<T: Threads + Sync>(
+    rt: &HostRuntime,
+    threads: &T,
+    random: &mut Random,
     size: u64,
     rounds: u64,
 ) -> io::Result<()> {
-    for row in ROWS {
-        let nanos = best_time(rt, row, work, rounds)? / rounds.max(1);
-        print_row(rt, row.name(), &[size, nanos])?;
+    let mut work = Work::new(rt.alloc(), random, size)?;
+    for (name, row) in &ROWS {
+        let times = times_of(rt, threads, &mut work, *row, rounds)?;
+        print_row(rt, name, size, times)?;
     }
     Ok(())
 }
 
-// The best time of so many rounds of a row, in nanoseconds.
-fn best_time<R: AllocGlobal + Clock + Threads + Sync>(
-    rt: &R,
+// The times of so many rounds of a row.
+fn times_of<T: Threads + Sync>(
+    rt: &HostRuntime,
+    threads: &T,
+    work: &mut Work,
     row: Row,
-    work: &Work,
     rounds: u64,
-) -> io::Result<u64> {
-    let mut best = u64::MAX;
+) -> io::Result<Times> {
+    let mut taken = Taken::new(rt.alloc());
     for _ in 0..TURNS {
         let start = Instant::now(rt)?;
-        for round in 0..rounds {
-            row.work(rt, work, round)?;
-        }
-        best = best.min(nanos_since(rt, start)?);
+        let found = done(rt.alloc(), threads, work, row, rounds)?;
+        taken.add(rt, start, rounds, found)?;
     }
-    Ok(best)
+    taken.times()
 }
 
-// Two lists and the sets of them.
+fn done<T: Threads + Sync>(
+    alloc: Global,
+    threads: &T,
+    work: &mut Work,
+    row: Row,
+    rounds: u64,
+) -> io::Result<u64> {
+    let mut found = 0;
+    for _ in 0..rounds {
+        found = match row {
+            Row::Contains => work.look(),
+            Row::Merge => work.merge(alloc)?,
+            Row::Combine(way) => length_of(combined(threads, alloc, way, work))?,
+        };
+    }
+    Ok(found)
+}
+
+// Two lists and the sets of them, and how often an element was looked for.
 struct Work {
     first: Vec<u32>,
     second: Vec<u32>,
     one: CTree,
     other: CTree,
+    looked: u64,
 }
 
 impl Drop for Work {
@@ -77,6 +128,7 @@ impl Drop for Work {
             second: _,
             one: _,
             other: _,
+            looked: _,
         } = self;
     }
 }
@@ -85,14 +137,62 @@ impl Work {
     fn new(alloc: Global, random: &mut Random, size: u64) -> io::Result<Work> {
         let first = ascending(alloc, random, SIZE)?;
         let second = ascending(alloc, random, size)?;
-        let one = CTree::from_sorted(alloc, CHUNK_SIZE, &first).map_err(told)?;
-        let other = CTree::from_sorted(alloc, CHUNK_SIZE, &second).map_err(told)?;
-        Ok(Work {
-            first,
-            second,
-            one,
-            other,
-        })
+        let one = set_of(alloc, &first)?;
+        match set_of(alloc, &second) {
+            Ok(other) => Ok(Work {
+                first,
+                second,
+                one,
+                other,
+                looked: 0,
+            }),
+            Err(error) => Err(error),
+        }
+    }
+
+    // Looks for an element, another one each time.
+    fn look(&mut self) -> u64 {
+        self.looked = self.looked.wrapping_add(1);
+        let element = u32::try_from(self.looked.wrapping_mul(3_999_991) % (1 << 32)).unwrap_or(0);
+        u64::from(self.one.contains(element))
+    }
+
+    fn merge(&self, alloc: Global) -> io::Result<u64> {
+        Ok(merged(alloc, &self.first, &self.second)?.len() as u64)
+    }
+}
+
+// The set that is made of two.
+fn combined<T: Threads + Sync>(
+    threads: &T,
+    alloc: Global,
+    way: Way,
+    work: &Work,
+) -> Result<CTree, SetError> {
+    match way {
+        Way::Union => union(alloc, &work.one, &work.other),
+        Way::UnionForked => union_forked(threads, alloc, &work.one, &work.other, FORKS, &Quiet),
+        Way::Difference => difference(alloc, &work.one, &work.other),
+        Way::DifferenceForked => {
+            difference_forked(threads, alloc, &work.one, &work.other, FORKS, &Quiet)
+        }
+    }
+}
+
+fn length_of(set: Result<CTree, SetError>) -> io::Result<u64> {
+    match set {
+        Ok(set) => Ok(set.len() as u64),
+        Err(SetError::NoMemory) => Err(Error::other("out of memory")),
+        Err(_) => Err(Error::other("a set was refused")),
+    }
+}
+
+/// The set of an ascending list.
+pub fn set_of(alloc: Global, list: &[u32]) -> io::Result<CTree> {
+    match CTree::from_sorted(alloc, CHUNK_SIZE, list) {
+        Ok(set) => Ok(set),
+        Err(CTreeError::NoMemory) => Err(Error::other("out of memory")),
+        Err(_) => Err(Error::other("a set was refused")),
     }
 }
 
@@ -109,102 +209,27 @@ fn ascending(alloc: Global, random: &mut Random, size: u64) -> Result<Vec<u32>, 
     Ok(list)
 }
 
-// What is timed.
-#[derive(Clone, Copy)]
-enum Row {
-    Contains,
-    Merge,
-    Union,
-    UnionForked,
-    Difference,
-    DifferenceForked,
-}
-
-const ROWS: [Row; 6] = [
-    Row::Contains,
-    Row::Merge,
-    Row::Union,
-    Row::UnionForked,
-    Row::Difference,
-    Row::DifferenceForked,
-];
-
-// The levels of the forked rows.
-const FORKS: u32 = 2;
-
-impl Row {
-    fn name(self) -> &'static str {
-        match self {
-            Row::Contains => "contains",
-            Row::Merge => "merge",
-            Row::Union => "union",
-            Row::UnionForked => "union, forks 2",
-            Row::Difference => "difference",
-            Row::DifferenceForked => "difference, forks 2",
-        }
-    }
-
-    // Does the work once, and gives the length of what came of it.
-    fn work<R: AllocGlobal + Threads + Sync>(
-        self,
-        rt: &R,
-        work: &Work,
-        turn: u64,
-    ) -> io::Result<usize> {
-        let alloc = rt.alloc();
-        let (one, other) = (&work.one, &work.other);
-        let set = match self {
-            Row::Contains => {
-                let element = u32::try_from(turn.wrapping_mul(3_999_991) % (1 << 32)).unwrap_or(0);
-                return Ok(usize::from(one.contains(element)));
-            }
-            Row::Merge => return Ok(merged(alloc, &work.first, &work.second)?.len()),
-            Row::Union => union(alloc, one, other),
-            Row::UnionForked => union_forked(rt, alloc, one, other, FORKS, &Quiet),
-            Row::Difference => difference(alloc, one, other),
-            Row::DifferenceForked => difference_forked(rt, alloc, one, other, FORKS, &Quiet),
-        };
-        Ok(set.map_err(refused)?.len())
-    }
-}
-
 // The numbers of two ascending lists in order, each once.
 fn merged(alloc: Global, xs: &[u32], ys: &[u32]) -> Result<Vec<u32>, AllocError> {
     let most = xs.len().saturating_add(ys.len());
     let mut list = Vec::with_capacity(alloc, most)?;
     let (mut i, mut j) = (0usize, 0usize);
     for _ in 0..most {
-        let least = match (xs.get(i).copied(), ys.get(j).copied()) {
-            (None, None) => return Ok(list),
-            (Some(x), None) => {
-                i = i.wrapping_add(1);
-                x
-            }
-            (None, Some(y)) => {
-                j = j.wrapping_add(1);
-                y
-            }
-            (Some(x), Some(y)) => {
-                i = i.wrapping_add(usize::from(x <= y));
-                j = j.wrapping_add(usize::from(y <= x));
-                x.min(y)
-            }
+        let (x, y) = (number_at(xs, i), number_at(ys, j));
+        let Ok(least) = u32::try_from(x.min(y)) else {
+            break;
         };
         list.push(least)?;
+        i = i.wrapping_add(usize::from(x <= y));
+        j = j.wrapping_add(usize::from(y <= x));
     }
     Ok(list)
 }
 
-fn told(error: CTreeError) -> Error {
-    match error {
-        CTreeError::NoMemory => Error::other("out of memory"),
-        CTreeError::NotAscending | CTreeError::BadChunkSize => Error::other("a set was refused"),
-    }
-}
+// Above each number of a list.
+const END: u64 = 1 << 32;
 
-fn refused(error: SetError) -> Error {
-    match error {
-        SetError::NoMemory => Error::other("out of memory"),
-        SetError::NotAscending | SetError::ChunkSizesDiffer => Error::other("a set was refused"),
-    }
+// The number at a place, `END` behind the last.
+fn number_at(list: &[u32], place: usize) -> u64 {
+    list.get(place).map_or(END, |number| u64::from(*number))
 }

@@ -1,10 +1,10 @@
 //! Tails: how long they take to read and to make.
 
-use measuring::{Job, Random, print_head, print_row, times_of};
+use measuring::{
+    Job, Random, Turns, print_head, print_rows, sum_by_blocks, sum_of_tails, tail_error,
+};
 use std::alloc::{AllocError, Global};
 use std::io;
-use std::io::Error;
-use std::rt::Clock;
 use tail_codec::{Tail, TailError};
 
 // How many tails are timed together, and how many elements each has.
@@ -12,84 +12,34 @@ const TAILS: u32 = 4096;
 
 const ELEMENTS: u32 = 64;
 
-// How often a row is timed.
-const TURNS: usize = 25;
+const TURNS: Turns = Turns {
+    count: 25,
+    rounds: 1,
+};
 
 const SEED: u64 = 2026;
 
 // How many numbers lie between an element and the one before it: `least` and the bits of `mask`.
 #[derive(Clone, Copy)]
 struct Gaps {
-    name: &'static str,
     least: u64,
     mask: u64,
 }
 
-const GAPS: [Gaps; 3] = [
-    Gaps {
-        name: "one-byte",
-        least: 0,
-        mask: 0x7f,
-    },
-    Gaps {
-        name: "two-byte",
-        least: 128,
-        mask: 0x1fff,
-    },
-    Gaps {
-        name: "mixed",
-        least: 0,
-        mask: 0xff,
-    },
-];
+const ONE_BYTE: Gaps = Gaps {
+    least: 0,
+    mask: 0x7f,
+};
 
-/// Prints the times of a pass over all tails, in nanoseconds.
-pub fn print_times<R: Print + AllocGlobal + Clock>(rt: &R) -> io::Result<()> {
-    for gaps in GAPS {
-        print_head(rt, gaps.name, &["elements", "best ns", "median ns", "sum"])?;
-        print_rows(rt, gaps)?;
-    }
-    Ok(())
-}
+const TWO_BYTES: Gaps = Gaps {
+    least: 128,
+    mask: 0x1fff,
+};
 
-fn print_rows<R: Print + AllocGlobal + Clock>(rt: &R, gaps: Gaps) -> io::Result<()> {
-    let alloc = rt.alloc();
-    let lists = &lists(alloc, gaps)?;
-    let made = &tails(alloc, lists).map_err(told)?;
-    for row in [Row::Iterate, Row::Fill, Row::Encode, Row::Read] {
-        let mut turn = Turn {
-            alloc,
-            row,
-            lists,
-            made,
-        };
-        let times = times_of(rt, TURNS, &mut turn)?;
-        let elements = u64::from(TAILS * ELEMENTS);
-        print_row(
-            rt,
-            row.name(),
-            &[elements, times.best, times.median, times.found],
-        )?;
-    }
-    Ok(())
-}
-
-// A row on some lists and their tails.
-#[derive(Drop)]
-struct Turn<'a> {
-    alloc: Global,
-    row: Row,
-    lists: &'a [Vec<u32>],
-    made: &'a [Tail],
-}
-
-impl Job for Turn<'_> {
-    fn run(&mut self) -> io::Result<u64> {
-        self.row
-            .work(self.alloc, self.lists, self.made)
-            .map_err(told)
-    }
-}
+const MIXED: Gaps = Gaps {
+    least: 0,
+    mask: 0xff,
+};
 
 // What is timed.
 #[derive(Clone, Copy)]
@@ -100,51 +50,108 @@ enum Row {
     Read,
 }
 
-impl Row {
-    fn name(self) -> &'static str {
-        match self {
-            Row::Iterate => "iter",
-            Row::Fill => "fill",
-            Row::Encode => "encode",
-            Row::Read => "read",
-        }
-    }
+// The rows of tails with gaps of a kind.
+type Rows = [(&'static str, Row); 4];
 
-    // Does the work once, and gives a number that depends on all of it.
-    fn work(self, alloc: Global, lists: &[Vec<u32>], made: &[Tail]) -> Result<u64, TailError> {
-        match self {
-            Row::Iterate => Ok(sum_of(made)),
-            Row::Fill => Ok(sum_by_blocks(made)),
-            Row::Encode => {
-                let again = tails(alloc, lists)?;
-                Ok(byte_count(again.as_slice()))
-            }
-            Row::Read => {
-                let again = read_again(alloc, made)?;
-                Ok(byte_count(again.as_slice()))
-            }
+const ONE_BYTE_ROWS: Rows = [
+    ("iter one-byte", Row::Iterate),
+    ("fill one-byte", Row::Fill),
+    ("encode one-byte", Row::Encode),
+    ("read one-byte", Row::Read),
+];
+
+const TWO_BYTE_ROWS: Rows = [
+    ("iter two-byte", Row::Iterate),
+    ("fill two-byte", Row::Fill),
+    ("encode two-byte", Row::Encode),
+    ("read two-byte", Row::Read),
+];
+
+const MIXED_ROWS: Rows = [
+    ("iter mixed", Row::Iterate),
+    ("fill mixed", Row::Fill),
+    ("encode mixed", Row::Encode),
+    ("read mixed", Row::Read),
+];
+
+/// Prints the times of a pass over all tails.
+pub fn print_times(rt: &HostRuntime) -> io::Result<()> {
+    print_head(rt, "tails")?;
+    print_gaps(rt, ONE_BYTE, &ONE_BYTE_ROWS)?;
+    print_gaps(rt, TWO_BYTES, &TWO_BYTE_ROWS)?;
+    print_gaps(rt, MIXED, &MIXED_ROWS)
+}
+
+fn print_gaps(rt: &HostRuntime, gaps: Gaps, rows: &Rows) -> io::Result<()> {
+    print_rows(rt, rows, TURNS, &mut Work::new(rt.alloc(), gaps)?)
+}
+
+// Lists and their tails.
+struct Work {
+    lists: Vec<Vec<u32>>,
+    tails: Vec<Tail>,
+}
+
+impl Drop for Work {
+    fn drop(self) {
+        let Work { lists: _, tails: _ } = self;
+    }
+}
+
+impl Work {
+    fn new(alloc: Global, gaps: Gaps) -> io::Result<Work> {
+        let lists = lists(alloc, gaps)?;
+        match encoded(alloc, &lists) {
+            Ok(tails) => Ok(Work { lists, tails }),
+            Err(error) => Err(tail_error(error)),
         }
     }
 }
 
-// The lists of a row, each above its own place.
+impl Job for Work {
+    type Row = Row;
+
+    fn items(&self, _row: Row) -> u64 {
+        u64::from(TAILS * ELEMENTS)
+    }
+
+    fn run(&mut self, rt: &HostRuntime, row: Row) -> io::Result<u64> {
+        match row {
+            Row::Iterate => Ok(sum_of_tails(&self.tails)),
+            Row::Fill => Ok(sum_by_blocks(&self.tails)),
+            Row::Encode => byte_count(encoded(rt.alloc(), &self.lists)),
+            Row::Read => byte_count(read_again(rt.alloc(), &self.tails)),
+        }
+    }
+}
+
+// The lists of tails, each above its own place.
 fn lists(alloc: Global, gaps: Gaps) -> Result<Vec<Vec<u32>>, AllocError> {
     let mut random = Random::new(SEED);
     let mut lists = Vec::new(alloc);
     for base in 0..TAILS {
-        let mut list = Vec::new(alloc);
-        let mut element = u64::from(base);
-        for _ in 0..ELEMENTS {
-            let gap = (random.next() & gaps.mask).saturating_add(gaps.least);
-            element = element.saturating_add(gap).saturating_add(1);
-            list.push(u32::try_from(element).unwrap_or(u32::MAX))?;
-        }
-        lists.push(list)?;
+        lists.push(list_above(alloc, base, gaps, &mut random)?)?;
     }
     Ok(lists)
 }
 
-fn tails(alloc: Global, lists: &[Vec<u32>]) -> Result<Vec<Tail>, TailError> {
+fn list_above(
+    alloc: Global,
+    base: u32,
+    gaps: Gaps,
+    random: &mut Random,
+) -> Result<Vec<u32>, AllocError> {
+    let mut list = Vec::new(alloc);
+    let mut element = u64::from(base);
+    for _ in 0..ELEMENTS {
+        let gap = (random.next() & gaps.mask).saturating_add(gaps.least);
+        element = element.saturating_add(gap).saturating_add(1);
+        list.push(u32::try_from(element).unwrap_or(u32::MAX))?;
+    }
+    Ok(list)
+}
+
+fn encoded(alloc: Global, lists: &[Vec<u32>]) -> Result<Vec<Tail>, TailError> {
     let mut tails = Vec::with_capacity(alloc, lists.len())?;
     let mut base = 0u32;
     for list in lists {
@@ -162,40 +169,18 @@ fn read_again(alloc: Global, tails: &[Tail]) -> Result<Vec<Tail>, TailError> {
     Ok(made)
 }
 
-fn sum_of(tails: &[Tail]) -> u64 {
-    let mut sum = 0u64;
-    for tail in tails {
-        for element in tail.iter() {
-            sum = sum.wrapping_add(u64::from(element));
-        }
+// The bytes of all tails that were made.
+fn byte_count(tails: Result<Vec<Tail>, TailError>) -> io::Result<u64> {
+    match tails {
+        Ok(tails) => Ok(bytes_of(&tails)),
+        Err(error) => Err(tail_error(error)),
     }
-    sum
 }
 
-fn sum_by_blocks(tails: &[Tail]) -> u64 {
-    let mut sum = 0u64;
-    let mut block = [0u32; 128];
-    for tail in tails {
-        let mut elements = tail.iter();
-        let filled = elements.fill(&mut block);
-        for element in block.iter().take(filled) {
-            sum = sum.wrapping_add(u64::from(*element));
-        }
-    }
-    sum
-}
-
-fn byte_count(tails: &[Tail]) -> u64 {
+fn bytes_of(tails: &[Tail]) -> u64 {
     let mut count = 0u64;
     for tail in tails {
         count = count.saturating_add(tail.bytes().len() as u64);
     }
     count
-}
-
-fn told(error: TailError) -> Error {
-    match error {
-        TailError::NoMemory => Error::other("out of memory"),
-        TailError::NotAscending | TailError::BadTail => Error::other("a tail was refused"),
-    }
 }

@@ -1,14 +1,18 @@
 //! Persistent trees beside the `BTreeMap` of std, on the same work.
 
-use measuring::{Job, Random, TURNS, print_head, print_row, times_of};
+use measuring::{Job, Random, Turns, print_head, print_row};
 use shared_tree::{Share, Tree, TreeError};
-use std::alloc::Global;
+use std::alloc::{AllocError, Global};
 use std::collections::BTreeMap;
 use std::io::Error;
-use std::rt::Clock;
 use std::{io, mem};
 
-// How many entries the trees have that are timed.
+const TURNS: Turns = Turns {
+    count: 5,
+    rounds: 1,
+};
+
+// How many entries are there.
 const ENTRIES: u32 = 1_000_000;
 
 const FINDS: u32 = 1_000_000;
@@ -20,25 +24,6 @@ const GAP: u32 = 4;
 
 const SEED: u64 = 2026;
 
-/// Prints the times of trees and of maps: of each row the best of some turns, in microseconds. Fails where a tree and
-/// a map come to something else.
-pub fn print_times<R: Print + AllocGlobal + Clock>(rt: &R) -> io::Result<()> {
-    print_head(rt, "row", &["count", "tree us", "map us"])?;
-    for row in ROWS {
-        let tree = times_of(rt, TURNS, &mut OfTree::new(rt.alloc(), row)?)?;
-        let map = times_of(rt, TURNS, &mut OfMap::new(rt.alloc(), row)?)?;
-        if tree.found != map.found {
-            return Err(Error::other("a tree and a map differ"));
-        }
-        print_row(
-            rt,
-            row.name(),
-            &[row.count(), tree.best / 1000, map.best / 1000],
-        )?;
-    }
-    Ok(())
-}
-
 // What is timed.
 #[derive(Clone, Copy)]
 enum Row {
@@ -49,164 +34,191 @@ enum Row {
     InsertShared,
 }
 
-const ROWS: [Row; 5] = [
-    Row::Build,
-    Row::Walk,
-    Row::Find,
-    Row::Insert,
-    Row::InsertShared,
+// The rows, by their names for trees and for maps.
+const ROWS: [(&str, &str, Row); 5] = [
+    ("from_sorted, tree", "from_sorted, map", Row::Build),
+    ("iter, tree", "iter, map", Row::Walk),
+    ("find, tree", "find, map", Row::Find),
+    ("insert, tree", "insert, map", Row::Insert),
+    (
+        "insert, shared tree",
+        "insert, map again",
+        Row::InsertShared,
+    ),
 ];
 
-impl Row {
-    fn name(self) -> &'static str {
-        match self {
-            Row::Build => "from_sorted",
-            Row::Walk => "iter",
-            Row::Find => "find",
-            Row::Insert => "insert",
-            Row::InsertShared => "insert, shared",
+/// Prints the times of trees and of maps. Fails where a tree and a map come to something else.
+pub fn print_times(rt: &HostRuntime) -> io::Result<()> {
+    print_head(rt, "trees")?;
+    let mut trees = Kept::new(rt.alloc(), Tree::new());
+    let mut maps = Kept::new(rt.alloc(), BTreeMap::new(rt.alloc()));
+    print_rows(rt, &mut trees, &mut maps)
+}
+
+fn print_rows(
+    rt: &HostRuntime,
+    trees: &mut Kept<Tree<u64>>,
+    maps: &mut Kept<BTreeMap<u32, u64>>,
+) -> io::Result<()> {
+    for (of_trees, of_maps, row) in &ROWS {
+        let tree = print_row(rt, of_trees, TURNS, trees, *row)?;
+        let map = print_row(rt, of_maps, TURNS, maps, *row)?;
+        if tree != map {
+            return Err(Error::other("a tree and a map differ"));
+        }
+    }
+    Ok(())
+}
+
+// What a tree and a map both do.
+trait Ordered: Drop {
+    // What holds just these entries, whose keys ascend.
+    fn built(alloc: Global, entries: Vec<(u32, u64)>) -> io::Result<Self>;
+
+    // A sum of all keys and values.
+    fn sum(&self) -> u64;
+
+    // The value of a key.
+    fn value(&self, key: u32) -> Option<u64>;
+
+    fn put(&mut self, alloc: Global, key: u32, value: u64) -> io::Result<()>;
+
+    // The same while what it was has a second owner, as a version that a reader holds.
+    fn put_shared(&mut self, alloc: Global, key: u32, value: u64) -> io::Result<()>;
+}
+
+impl Ordered for Tree<u64> {
+    fn built(alloc: Global, entries: Vec<(u32, u64)>) -> io::Result<Tree<u64>> {
+        match Tree::from_sorted(alloc, entries) {
+            Ok(tree) => Ok(tree),
+            Err(TreeError::NoMemory) => Err(Error::other("out of memory")),
+            Err(_) => Err(Error::other("a tree was refused")),
         }
     }
 
-    fn count(self) -> u64 {
-        match self {
+    fn sum(&self) -> u64 {
+        let mut sum = 0u64;
+        for (key, value) in self.iter() {
+            sum = sum.wrapping_add(u64::from(key) ^ *value);
+        }
+        sum
+    }
+
+    fn value(&self, key: u32) -> Option<u64> {
+        self.find(key).copied()
+    }
+
+    fn put(&mut self, alloc: Global, key: u32, value: u64) -> io::Result<()> {
+        let tree = mem::replace(self, Tree::new());
+        *self = tree.insert(alloc, key, value)?;
+        Ok(())
+    }
+
+    fn put_shared(&mut self, alloc: Global, key: u32, value: u64) -> io::Result<()> {
+        let before = self.share()?;
+        let put = self.put(alloc, key, value);
+        drop(before);
+        put
+    }
+}
+
+impl Ordered for BTreeMap<u32, u64> {
+    fn built(alloc: Global, entries: Vec<(u32, u64)>) -> io::Result<BTreeMap<u32, u64>> {
+        Ok(entries.into_iter().collect(alloc)?)
+    }
+
+    fn sum(&self) -> u64 {
+        let mut sum = 0u64;
+        for (key, value) in self.iter() {
+            sum = sum.wrapping_add(u64::from(*key) ^ *value);
+        }
+        sum
+    }
+
+    fn value(&self, key: u32) -> Option<u64> {
+        self.get(&key).copied()
+    }
+
+    fn put(&mut self, _alloc: Global, key: u32, value: u64) -> io::Result<()> {
+        self.insert(key, value)?;
+        Ok(())
+    }
+
+    fn put_shared(&mut self, alloc: Global, key: u32, value: u64) -> io::Result<()> {
+        self.put(alloc, key, value)
+    }
+}
+
+// Entries of what is built next, and what holds entries.
+struct Kept<T> {
+    entries: Vec<(u32, u64)>,
+    kept: T,
+}
+
+impl<T: Drop> Drop for Kept<T> {
+    fn drop(self) {
+        let Kept {
+            entries: _,
+            kept: _,
+        } = self;
+    }
+}
+
+impl<T: Ordered> Kept<T> {
+    fn new(alloc: Global, kept: T) -> Kept<T> {
+        Kept {
+            entries: Vec::new(alloc),
+            kept,
+        }
+    }
+
+    fn build(&mut self, alloc: Global) -> io::Result<u64> {
+        let entries = mem::replace(&mut self.entries, Vec::new(alloc));
+        self.kept = T::built(alloc, entries)?;
+        Ok(0)
+    }
+}
+
+impl<T: Ordered> Job for Kept<T> {
+    type Row = Row;
+
+    fn items(&self, row: Row) -> u64 {
+        match row {
             Row::Build | Row::Walk => u64::from(ENTRIES),
             Row::Find => u64::from(FINDS),
             Row::Insert | Row::InsertShared => u64::from(INSERTS),
         }
     }
-}
 
-// A row on a tree, with the entries of the next one.
-struct OfTree {
-    alloc: Global,
-    row: Row,
-    entries: Vec<(u32, u64)>,
-    tree: Tree<u64>,
-}
-
-impl Drop for OfTree {
-    fn drop(self) {
-        let OfTree {
-            alloc: _,
-            row: _,
-            entries: _,
-            tree: _,
-        } = self;
-    }
-}
-
-impl OfTree {
-    fn new(alloc: Global, row: Row) -> io::Result<OfTree> {
-        Ok(OfTree {
-            alloc,
-            row,
-            entries: Vec::new(alloc),
-            tree: tree_of(alloc, ENTRIES)?,
-        })
-    }
-}
-
-impl Job for OfTree {
-    fn begin(&mut self) -> io::Result<()> {
-        match self.row {
-            Row::Build => self.entries = entries_of(self.alloc, ENTRIES)?,
-            Row::Insert | Row::InsertShared => self.tree = tree_of(self.alloc, ENTRIES)?,
-            Row::Walk | Row::Find => {}
+    fn begin(&mut self, rt: &HostRuntime, row: Row) -> io::Result<()> {
+        if let Row::Find = row {
+            return Ok(());
         }
+        self.entries = entries(rt.alloc())?;
+        if let Row::Build = row {
+            return Ok(());
+        }
+        self.build(rt.alloc())?;
         Ok(())
     }
 
-    fn run(&mut self) -> io::Result<u64> {
-        match self.row {
-            Row::Build => {
-                let entries = mem::replace(&mut self.entries, Vec::new(self.alloc));
-                self.tree = made(self.alloc, Tree::from_sorted(self.alloc, entries))?;
-                Ok(0)
-            }
-            Row::Walk => Ok(sum_of_tree(&self.tree)),
-            Row::Find => Ok(sum_of_finds(&self.tree)),
-            Row::Insert => grow_tree(self.alloc, &mut self.tree, false),
-            Row::InsertShared => grow_tree(self.alloc, &mut self.tree, true),
+    fn run(&mut self, rt: &HostRuntime, row: Row) -> io::Result<u64> {
+        match row {
+            Row::Build => self.build(rt.alloc()),
+            Row::Walk => Ok(self.kept.sum()),
+            Row::Find => Ok(found(&self.kept)),
+            Row::Insert => grow(rt.alloc(), &mut self.kept, false),
+            Row::InsertShared => grow(rt.alloc(), &mut self.kept, true),
         }
     }
 }
 
-// A row on a map, with the entries of the next one.
-struct OfMap {
-    alloc: Global,
-    row: Row,
-    entries: Vec<(u32, u64)>,
-    map: BTreeMap<u32, u64>,
-}
-
-impl Drop for OfMap {
-    fn drop(self) {
-        let OfMap {
-            alloc: _,
-            row: _,
-            entries: _,
-            map: _,
-        } = self;
-    }
-}
-
-impl OfMap {
-    fn new(alloc: Global, row: Row) -> io::Result<OfMap> {
-        Ok(OfMap {
-            alloc,
-            row,
-            entries: Vec::new(alloc),
-            map: map_of(alloc, ENTRIES)?,
-        })
-    }
-}
-
-impl Job for OfMap {
-    fn begin(&mut self) -> io::Result<()> {
-        match self.row {
-            Row::Build => self.entries = entries_of(self.alloc, ENTRIES)?,
-            Row::Insert | Row::InsertShared => self.map = map_of(self.alloc, ENTRIES)?,
-            Row::Walk | Row::Find => {}
-        }
-        Ok(())
-    }
-
-    fn run(&mut self) -> io::Result<u64> {
-        match self.row {
-            Row::Build => {
-                let entries = mem::replace(&mut self.entries, Vec::new(self.alloc));
-                self.map = entries.into_iter().collect(self.alloc)?;
-                Ok(0)
-            }
-            Row::Walk => Ok(sum_of_map(&self.map)),
-            Row::Find => Ok(sum_of_map_finds(&self.map)),
-            Row::Insert | Row::InsertShared => grow_map(&mut self.map),
-        }
-    }
-}
-
-fn entries_of(alloc: Global, count: u32) -> io::Result<Vec<(u32, u64)>> {
-    let mut entries = Vec::with_capacity(alloc, count as usize)?;
-    for i in 0..count {
+fn entries(alloc: Global) -> Result<Vec<(u32, u64)>, AllocError> {
+    let mut entries = Vec::with_capacity(alloc, ENTRIES as usize)?;
+    for i in 0..ENTRIES {
         entries.push((i.wrapping_mul(GAP), u64::from(i)))?;
     }
     Ok(entries)
-}
-
-fn tree_of(alloc: Global, count: u32) -> io::Result<Tree<u64>> {
-    made(alloc, Tree::from_sorted(alloc, entries_of(alloc, count)?))
-}
-
-fn map_of(alloc: Global, count: u32) -> io::Result<BTreeMap<u32, u64>> {
-    Ok(entries_of(alloc, count)?.into_iter().collect(alloc)?)
-}
-
-fn made(alloc: Global, answer: Result<Tree<u64>, TreeError>) -> io::Result<Tree<u64>> {
-    match answer {
-        Ok(tree) => Ok(tree),
-        Err(error) => Err(Error::other(error.to_string(alloc)?.as_str())),
-    }
 }
 
 // A key of an entry, or one between two of them.
@@ -215,59 +227,27 @@ fn key_among(random: &mut Random) -> u32 {
     u32::try_from(random.next() % bound).unwrap_or(0)
 }
 
-// Puts new entries into a tree. Where `shared` is said, it has a second owner at each step, as a version that a
-// reader holds.
-fn grow_tree(alloc: Global, tree: &mut Tree<u64>, shared: bool) -> io::Result<u64> {
+// Puts new entries.
+fn grow<T: Ordered>(alloc: Global, kept: &mut T, shared: bool) -> io::Result<u64> {
     let mut random = Random::new(SEED);
     for i in 0..INSERTS {
-        let other = if shared { tree.share()? } else { Tree::new() };
-        let grown = mem::replace(tree, Tree::new());
-        *tree = grown.insert(alloc, key_among(&mut random), u64::from(i))?;
-        drop(other);
+        let key = key_among(&mut random);
+        if shared {
+            kept.put_shared(alloc, key, u64::from(i))?;
+        } else {
+            kept.put(alloc, key, u64::from(i))?;
+        }
     }
     Ok(0)
 }
 
-fn grow_map(map: &mut BTreeMap<u32, u64>) -> io::Result<u64> {
-    let mut random = Random::new(SEED);
-    for i in 0..INSERTS {
-        map.insert(key_among(&mut random), u64::from(i))?;
-    }
-    Ok(0)
-}
-
-fn sum_of_finds(tree: &Tree<u64>) -> u64 {
+// The sum of the values of random keys, 1 for a key that is not there.
+fn found<T: Ordered>(kept: &T) -> u64 {
     let mut random = Random::new(SEED);
     let mut sum = 0u64;
     for _ in 0..FINDS {
         let key = key_among(&mut random) / GAP * GAP;
-        sum = sum.wrapping_add(tree.find(key).copied().unwrap_or(1));
-    }
-    sum
-}
-
-fn sum_of_map_finds(map: &BTreeMap<u32, u64>) -> u64 {
-    let mut random = Random::new(SEED);
-    let mut sum = 0u64;
-    for _ in 0..FINDS {
-        let key = key_among(&mut random) / GAP * GAP;
-        sum = sum.wrapping_add(map.get(&key).copied().unwrap_or(1));
-    }
-    sum
-}
-
-fn sum_of_tree(tree: &Tree<u64>) -> u64 {
-    let mut sum = 0u64;
-    for (key, value) in tree.iter() {
-        sum = sum.wrapping_add(u64::from(key) ^ *value);
-    }
-    sum
-}
-
-fn sum_of_map(map: &BTreeMap<u32, u64>) -> u64 {
-    let mut sum = 0u64;
-    for (key, value) in map.iter() {
-        sum = sum.wrapping_add(u64::from(*key) ^ *value);
+        sum = sum.wrapping_add(kept.value(key).unwrap_or(1));
     }
     sum
 }

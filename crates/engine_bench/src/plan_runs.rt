@@ -1,0 +1,181 @@
+//! Runs of programs by their plans, beside the slow run.
+
+use crate::run_programs::{PROGRAMS, Scheduled};
+use crate::samples::Sample;
+use algorithm_meaning::{NamedSet, NamedVector, Outcome, plain_run};
+use measuring::{Job, Random, Turns, print_head, print_rows, rmat_graph};
+use programs::Program;
+use std::alloc::{AllocError, Global};
+use std::io;
+use std::io::Error;
+
+const SEED: u64 = 2027;
+
+// The vertices of random graphs, and about how many edges they have.
+const GRAPHS: [(u32, u32); 6] = [(1, 2), (3, 4), (60, 40), (60, 900), (400, 400), (400, 3000)];
+
+// The bounds of turns.
+const BOUNDS: [u64; 5] = [0, 1, 2, 5, 1000];
+
+/// Runs each program on random graphs, and prints how many runs agree with the slow run. Fails where one does not.
+pub fn print_agreement(rt: &HostRuntime) -> io::Result<()> {
+    let mut random = Random::new(SEED);
+    for (vertices, edges) in &GRAPHS {
+        let sample = Sample::new(rt.alloc(), &mut random, *vertices, *edges)?;
+        print_graph(rt, &sample)?;
+    }
+    Ok(())
+}
+
+fn print_graph(rt: &HostRuntime, sample: &Sample) -> io::Result<()> {
+    for scheduled in &PROGRAMS {
+        let run = Run::new(rt.alloc(), sample, scheduled)?;
+        run.compare(rt.alloc())?;
+    }
+    let (vertices, count) = (sample.vertices, PROGRAMS.len() * BOUNDS.len());
+    println!(rt; "{vertices} vertices: {count} runs as by the slow run")
+}
+
+const TURNS: Turns = Turns {
+    count: 5,
+    rounds: 1,
+};
+
+// Who runs.
+#[derive(Clone, Copy)]
+enum Row {
+    Plan,
+    Slow,
+}
+
+const BOTH: [(&str, Row); 2] = [("by its plan", Row::Plan), ("by the slow run", Row::Slow)];
+
+/// Prints the times of runs, whose items are the edges: on a graph of 2^12 vertices and 2^16 edges by both, and on one of
+/// 2^16 vertices and 2^20 edges by plans alone.
+pub fn print_times(rt: &HostRuntime) -> io::Result<()> {
+    print_graph_times(rt, 12, 16, &BOTH)?;
+    print_graph_times(rt, 16, 20, &[("by its plan", Row::Plan)])
+}
+
+// Prints the rows of each program on a graph, by the powers of 2 that its vertices and its edges are.
+fn print_graph_times(
+    rt: &HostRuntime,
+    vertices: u32,
+    edges: u32,
+    rows: &[(&str, Row)],
+) -> io::Result<()> {
+    let graph = rmat_graph(rt.alloc(), vertices, edges)?;
+    let sample = Sample::of(rt.alloc(), &graph)?;
+    drop(graph);
+    for scheduled in &PROGRAMS {
+        print_head(rt, scheduled.0)?;
+        print_rows(
+            rt,
+            rows,
+            TURNS,
+            &mut Run::new(rt.alloc(), &sample, scheduled)?,
+        )?;
+    }
+    Ok(())
+}
+
+// A program on a graph.
+struct Run<'a> {
+    program: Program,
+    sample: &'a Sample,
+}
+
+impl Drop for Run<'_> {
+    fn drop(self) {
+        let Run {
+            program: _,
+            sample: _,
+        } = self;
+    }
+}
+
+impl<'a> Run<'a> {
+    fn new(alloc: Global, sample: &'a Sample, scheduled: &Scheduled) -> io::Result<Run<'a>> {
+        let mut text = String::new(alloc);
+        text.push_str(scheduled.1)?;
+        text.push_str(scheduled.2)?;
+        match Program::compile(alloc, text.as_bytes()) {
+            Ok(program) => Ok(Run { program, sample }),
+            Err(_) => Err(Error::other("a program is refused")),
+        }
+    }
+
+    // Fails where the program shows something else by its plan than by the slow run, within some bound of turns.
+    fn compare(&self, alloc: Global) -> io::Result<()> {
+        for turns in &BOUNDS {
+            if !self.shows_the_same(alloc, *turns)? {
+                return Err(Error::other("a run differs from the slow run"));
+            }
+        }
+        Ok(())
+    }
+
+    fn shows_the_same(&self, alloc: Global, turns: u64) -> Result<bool, AllocError> {
+        let by_plan = self.by_plan(alloc, turns)?;
+        match self.slowly(alloc, turns) {
+            Ok(slowly) => Ok(is_same(&by_plan, &slowly)),
+            Err(error) => Err(error),
+        }
+    }
+
+    fn by_plan(&self, alloc: Global, turns: u64) -> Result<Outcome, AllocError> {
+        self.program.run(alloc, &self.sample.flat, turns)
+    }
+
+    fn slowly(&self, alloc: Global, turns: u64) -> Result<Outcome, AllocError> {
+        let (vertices, edges) = (self.sample.vertices, self.sample.edges.as_slice());
+        plain_run(alloc, self.program.typed(), vertices, edges, turns)
+    }
+}
+
+impl Job for Run<'_> {
+    type Row = Row;
+
+    fn items(&self, _row: Row) -> u64 {
+        self.sample.edges.len() as u64
+    }
+
+    fn run(&mut self, rt: &HostRuntime, row: Row) -> io::Result<u64> {
+        let outcome = match row {
+            Row::Plan => self.by_plan(rt.alloc(), 1_000_000),
+            Row::Slow => self.slowly(rt.alloc(), 1_000_000),
+        };
+        Ok(outcome?.turns)
+    }
+}
+
+// Whether two runs show the same.
+fn is_same(one: &Outcome, other: &Outcome) -> bool {
+    one.end == other.end
+        && one.turns == other.turns
+        && one.text.as_slice() == other.text.as_slice()
+        && are_same_vectors(one.vectors.as_slice(), other.vectors.as_slice())
+        && are_same_sets(one.sets.as_slice(), other.sets.as_slice())
+}
+
+fn are_same_vectors(some: &[NamedVector], others: &[NamedVector]) -> bool {
+    for (one, other) in some.iter().zip(others) {
+        if one.name.as_slice() != other.name.as_slice()
+            || one.entries.as_slice() != other.entries.as_slice()
+        {
+            return false;
+        }
+    }
+    some.len() == others.len()
+}
+
+fn are_same_sets(some: &[NamedSet], others: &[NamedSet]) -> bool {
+    for (one, other) in some.iter().zip(others) {
+        if one.name.as_slice() != other.name.as_slice()
+            || one.members.as_slice() != other.members.as_slice()
+        {
+            return false;
+        }
+    }
+    some.len() == others.len()
+}
