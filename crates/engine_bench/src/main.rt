@@ -5,10 +5,10 @@
 //! Nothing stands on this crate.
 #![tactic(auto)]
 
+mod applies;
 mod apply_texts;
 mod apply_times;
 mod crew_runs;
-mod edge_applies;
 mod flats;
 mod kernel_runs;
 mod pair_loops;
@@ -51,7 +51,7 @@ fn print<T: Threads + Sync>(
 
 // Prints how many edge applies and how many runs of programs agree with the slow run.
 fn print_agreement(rt: &HostRuntime) -> io::Result<()> {
-    edge_applies::print_agreement(rt)?;
+    applies::print_agreement(rt)?;
     plan_runs::print_agreement(rt)
 }
 
@@ -62,7 +62,7 @@ fn print_check<T: Threads + Sync>(
     subject: &str,
 ) -> io::Result<bool> {
     match subject {
-        "applies" => is_printed(edge_applies::print_agreement(rt)),
+        "applies" => is_printed(applies::print_agreement(rt)),
         "runs" => is_printed(plan_runs::print_agreement(rt)),
         "crew" => is_printed(crew_runs::print_found(rt, threads)),
         _ => Ok(false),
