@@ -101,7 +101,7 @@ template <class Work> void time_row(const char *row, const char *gaps, Work work
     uint64_t sum = 0;
     for (int turn = 0; turn < kTurns; turn++) {
         auto start = std::chrono::steady_clock::now();
-        sum += work();
+        sum = work();
         auto taken = std::chrono::steady_clock::now() - start;
         times.push_back(std::chrono::duration_cast<std::chrono::nanoseconds>(taken).count());
     }
