@@ -1,11 +1,11 @@
 -- Files that are compiled one after another.
-use Rattle.std.proofs.Common.{◌≡◌, ℕ, ◌+◌, ◌<◌, List, [], ◌∷◌, ◌++◌, length, map, drop, get_or, Bor, inr, sym, ap, ◌∙◌, subst, append-nil, append_assoc}
+use Rattle.std.proofs.Common.{◌≡◌, ℕ, ◌+◌, ◌<◌, List, [], ◌∷◌, ◌++◌, length, map, drop, get_or, Bor, inl, inr, sym, ap, ◌∙◌, subst, append-nil, append_assoc}
 use Rattle.std.proofs.lemmas.List.{map-append, drop_more}
 use Rattle.std.specs.declared.io.Error.{Error}
 use Rattle.typed_tree.specs.ProgramTree.{ProgramTree}
 use Rattle.programs.specs.declared.program.Program.{Program}
 use Rattle.programs.specs.Program.{program_tree}
-use Rattle.driver.specs.Reading.{HoldPrograms, HoldsProgram, LacksProgram}
+use Rattle.driver.specs.Reading.{HoldPrograms, HoldsProgram, IsNoProgram, LacksProgram}
 use Rattle.driver.specs.declared.error.ServeError.{ServeError}
 
 -- some files of all were compiled: what is left to compile, and how that fails, makes up the whole
@@ -36,3 +36,11 @@ compiled_at holds fails all names place none compiled new p within c held is =
     let first = subst (λ (ns : List (Bor (List ℕ))). Compiles holds fails all (map (λ n. n.now) ns) (map program_tree compiled)) (drop_more names place none within) c in
     subst (Compiles holds fails all left) (sym (ap (map program_tree) is ∙ map-append program_tree compiled (p ∷ [])))
     (one_compiled holds fails all left (map program_tree compiled) (get_or names place none).now (program_tree p) first held)
+
+-- the file at a place is no program
+pub lacks_at : (holds : List ℕ → List ℕ → Type 0) (fails : List ℕ → Error → Type 0) (all : List (List ℕ)) (names : List (Bor (List ℕ))) (place : ℕ) (none : Bor (List ℕ)) (compiled : List Program) (e : ServeError) → place < length names
+    → Compiles holds fails all (map (λ n. n.now) (drop place names)) (map program_tree compiled) → IsNoProgram (holds (get_or names place none).now) (fails (get_or names place none).now) (get_or names place none).now e
+    → LacksProgram holds fails all e
+lacks_at holds fails all names place none compiled e within c lacks =
+    let first = subst (λ (ns : List (Bor (List ℕ))). Compiles holds fails all (map (λ n. n.now) ns) (map program_tree compiled)) (drop_more names place none within) c in
+    first.fails_on e (inl lacks)

@@ -1,6 +1,7 @@
 use Rattle.std.proofs.Common.{◌≤◌, ◌<◌, List, ℕ, length, map, ap, arith, Bor}
 use Rattle.std.proofs.lemmas.List.{drop_all}
-use Rattle.driver.proofs.Compiling.{all_compiled, compiled_at}
+use Rattle.std.proofs.lemmas.Result.{err_from_is_err_and}
+use Rattle.driver.proofs.Compiling.{all_compiled, compiled_at, lacks_at}
 use Rattle.driver.proofs.serving.compiled_files.Goals as goal
 
 pub returns : goal.returns
@@ -12,3 +13,9 @@ pub names-preserved : goal.names-preserved
 names-preserved g c =
     let within : c.names.name-index < length c.args.names.now = omega (arith, c.names-test.true, c.names.auto.name-index-end) in
     compiled_at _ _ _ c.args.names.now c.names.name-index _ c.names.compiled.items _ c.in_ok-compiled_file.field-0 within c.names.invariant c.in_ok-compiled_file.ensures c.in_ok-push.ensures.items
+
+pub returns-in_err-compiled_file : goal.returns-in_err-compiled_file
+returns-in_err-compiled_file g c =
+    let within : c.names.name-index < length c.args.names.now = omega (arith, c.names-test.true, c.names.auto.name-index-end) in
+    let p = err_from_is_err_and c.from_residual.result c.from_residual.ensures.1 in
+    rw (p.1, p.2) (lacks_at _ _ _ c.args.names.now c.names.name-index _ c.names.compiled.items c.in_err-compiled_file.field-0.0 within c.names.invariant c.in_err-compiled_file.ensures)
