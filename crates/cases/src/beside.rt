@@ -4,9 +4,9 @@
 //! `plain_run` of `algorithm_meaning`, which goes edge by edge and knows nothing of plans. Both must show
 //! the same.
 
-use algorithm_meaning::{NamedSet, NamedVector, Outcome, plain_run};
 use flat_snapshot::Flat;
 use programs::Program;
+use run_comparison::shows_the_same;
 use std::alloc::{AllocError, Global};
 use std::io;
 use std::io::ErrorKind;
@@ -81,19 +81,6 @@ fn add_on_graph(
     Ok(())
 }
 
-// Whether a program shows the same by its plan and by the slow run.
-fn shows_the_same(
-    alloc: Global,
-    program: &Program,
-    graph: &Flat,
-    edges: &[(u32, u32)],
-    turns: u64,
-) -> Result<bool, AllocError> {
-    let by_plan = program.run(alloc, graph, turns)?;
-    let slowly = plain_run(alloc, program.typed(), graph.vertices(), edges, turns)?;
-    Ok(is_same(&by_plan, &slowly))
-}
-
 // A graph of so many vertices with these edges.
 fn graph_of(alloc: Global, vertices: u32, edges: &[(u32, u32)]) -> io::Result<Flat> {
     let mut batch = Batch::new(alloc);
@@ -109,30 +96,4 @@ fn graph_of(alloc: Global, vertices: u32, edges: &[(u32, u32)]) -> io::Result<Fl
         return Err(io::Error::from(ErrorKind::InvalidData));
     };
     Ok(Flat::of(alloc, &graph)?)
-}
-
-// Whether two runs show the same.
-fn is_same(one: &Outcome, other: &Outcome) -> bool {
-    let (vectors, sets) = (one.vectors.as_slice(), one.sets.as_slice());
-    let (other_vectors, other_sets) = (other.vectors.as_slice(), other.sets.as_slice());
-    one.end == other.end
-        && one.turns == other.turns
-        && one.text.as_slice() == other.text.as_slice()
-        && vectors.len() == other_vectors.len()
-        && sets.len() == other_sets.len()
-        && vectors
-            .iter()
-            .zip(other_vectors)
-            .all(|(a, b)| is_same_vector(a, b))
-        && sets.iter().zip(other_sets).all(|(a, b)| is_same_set(a, b))
-}
-
-fn is_same_vector(one: &NamedVector, other: &NamedVector) -> bool {
-    one.name.as_slice() == other.name.as_slice()
-        && one.entries.as_slice() == other.entries.as_slice()
-}
-
-fn is_same_set(one: &NamedSet, other: &NamedSet) -> bool {
-    one.name.as_slice() == other.name.as_slice()
-        && one.members.as_slice() == other.members.as_slice()
 }

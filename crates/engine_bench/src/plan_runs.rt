@@ -2,9 +2,10 @@
 
 use crate::run_programs::{PROGRAMS, Scheduled};
 use crate::samples::Sample;
-use algorithm_meaning::{NamedSet, NamedVector, Outcome, plain_run};
+use algorithm_meaning::{Outcome, plain_run};
 use measuring::{Job, Random, Turns, print_head, print_rows, rmat_graph};
 use programs::Program;
+use run_comparison::shows_the_same;
 use std::alloc::{AllocError, Global};
 use std::io;
 use std::io::Error;
@@ -116,11 +117,8 @@ impl<'a> Run<'a> {
     }
 
     fn shows_the_same(&self, alloc: Global, turns: u64) -> Result<bool, AllocError> {
-        let by_plan = self.by_plan(alloc, turns)?;
-        match self.slowly(alloc, turns) {
-            Ok(slowly) => Ok(is_same(&by_plan, &slowly)),
-            Err(error) => Err(error),
-        }
+        let edges = self.sample.edges.as_slice();
+        shows_the_same(alloc, &self.program, &self.sample.flat, edges, turns)
     }
 
     fn by_plan(&self, alloc: Global, turns: u64) -> Result<Outcome, AllocError> {
@@ -147,35 +145,4 @@ impl Job for Run<'_> {
         };
         Ok(outcome?.turns)
     }
-}
-
-// Whether two runs show the same.
-fn is_same(one: &Outcome, other: &Outcome) -> bool {
-    one.end == other.end
-        && one.turns == other.turns
-        && one.text.as_slice() == other.text.as_slice()
-        && are_same_vectors(one.vectors.as_slice(), other.vectors.as_slice())
-        && are_same_sets(one.sets.as_slice(), other.sets.as_slice())
-}
-
-fn are_same_vectors(some: &[NamedVector], others: &[NamedVector]) -> bool {
-    for (one, other) in some.iter().zip(others) {
-        if one.name.as_slice() != other.name.as_slice()
-            || one.entries.as_slice() != other.entries.as_slice()
-        {
-            return false;
-        }
-    }
-    some.len() == others.len()
-}
-
-fn are_same_sets(some: &[NamedSet], others: &[NamedSet]) -> bool {
-    for (one, other) in some.iter().zip(others) {
-        if one.name.as_slice() != other.name.as_slice()
-            || one.members.as_slice() != other.members.as_slice()
-        {
-            return false;
-        }
-    }
-    some.len() == others.len()
 }

@@ -4,7 +4,10 @@ ghost use Rattle.algorithm_meaning.specs.EdgeApply.{is_member};
 ghost use Rattle.algorithm_meaning.specs.State.{StateValue};
 ghost use Rattle.schedule.specs.declared.choice.Parallelization.TheVariants.{EdgeAwareDynamicVertex};
 ghost use Rattle.stack_code.specs.Cells.{HasSizes};
+ghost use Rattle.crew.specs.Outcome.{AreWorkers};
 ghost use Rattle.edge_fold.specs.Ends.{IsEndTest, IsTest};
+ghost use Rattle.piece_cuts.specs.Ends.{ends_by};
+ghost use Rattle.piece_cuts.specs.Pieces.{AreEnds};
 ghost use Rattle.tree_batch.specs.Neighbours.{sources_of};
 ghost use Rattle.push_engine.specs.Sources.{AscendsFrom};
 ghost use Rattle.pull_engine.specs.Destinations.{AreDestinations, passes_set};
@@ -13,6 +16,7 @@ ghost use Rattle.push_engine.specs.Words.{passes_words};
 use edge_fold::{Functions, Scratch};
 use flat_snapshot::Flat;
 use kernels::End;
+use piece_cuts::Cuts;
 use push_engine::{members_of, passing_set};
 use schedule::Parallelization;
 use std::alloc::{AllocError, Global};
@@ -79,8 +83,29 @@ fn all_destinations(alloc: Global, flat: &Flat) -> Result<Vec<u32>, AllocError>
     Ok(found)
 }
 
+/// Where a schedule cuts destinations for so many workers. The only error is out of memory.
+pub(crate) fn cut_destinations(
+    alloc: Global,
+    parallelization: Parallelization,
+    workers: usize,
+    flat: &Flat,
+    destinations: &[u32],
+) -> Result<Cuts, AllocError>
+    requires { AreWorkers workers }
+    ensures ends { IfOk result (λ c. c ≡ ends_by parallelization workers (length destinations.now) (map (λ v. length (sources_of v flat.now.edges)) destinations.now)) }
+    ensures whole { IfOk result (λ c. AreEnds 0 (length destinations.now) c) }
+{
+    let count = destinations.len();
+    // A graph has fewer vertices.
+    if count > u32::MAX as usize {
+        return Err(AllocError);
+    }
+    let degrees = degrees_for(alloc, parallelization, flat, destinations)?;
+    Cuts::of(alloc, parallelization, workers, count, &degrees)
+}
+
 /// How many edges there are to each destination, where a schedule asks for it, and else none.
-pub(crate) fn degrees_for(
+fn degrees_for(
     alloc: Global,
     parallelization: Parallelization,
     flat: &Flat,

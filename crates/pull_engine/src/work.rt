@@ -13,7 +13,7 @@ ghost use Rattle.tree_batch.specs.Neighbours.{sources_of};
 ghost use Rattle.vertex_sets.specs.declared.form.Form.TheVariants as Form;
 ghost use Rattle.pull_engine.specs.Destinations.{AreDestinations, passes_set};
 
-use crate::listed::{degrees_for, list_destinations, source_bits};
+use crate::listed::{cut_destinations, list_destinations, source_bits};
 use crew::CrewError;
 use edge_fold::{Functions, Scratch, Start};
 use flat_snapshot::Flat;
@@ -80,13 +80,7 @@ impl<'a> PullWork<'a> {
         };
         let destinations = list_destinations(alloc, apply.to, flat, functions, scratch)?;
         let bits = source_bits(alloc, apply.from, functions, scratch)?;
-        let count = destinations.len();
-        // A graph has fewer vertices.
-        if count > u32::MAX as usize {
-            return Err(CrewError::NoMemory);
-        }
-        let degrees = degrees_for(alloc, apply.parallelization, flat, &destinations)?;
-        let cuts = Cuts::of(alloc, apply.parallelization, workers, count, &degrees)?;
+        let cuts = cut_destinations(alloc, apply.parallelization, workers, flat, &destinations)?;
         Ok(PullWork {
             apply: *apply,
             flat,

@@ -76,8 +76,8 @@ fn is_tested_first(flat: &Flat, from: Option<End<'_>>, to: End<'_>) -> bool {
     }
 }
 
-/// Whether some sources and the edges from them are more than a limit. It stops counting where they are, and takes no
-/// memory.
+/// Whether some sources and the edges from them are more than a limit, which is less than 2^63. It stops counting where
+/// they are, and takes no memory.
 pub fn is_work_above(flat: &Flat, sources: &VertexSet, limit: usize) -> bool
     requires { limit < 2 ^ 63 }
     ensures { result ≡ nat_lt limit (work_from flat.now.edges sources.now.members) }

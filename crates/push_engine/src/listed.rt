@@ -4,13 +4,17 @@ ghost use Rattle.algorithm_meaning.specs.EdgeApply.{is_member};
 ghost use Rattle.algorithm_meaning.specs.State.{StateValue};
 ghost use Rattle.schedule.specs.declared.choice.Parallelization.TheVariants.{EdgeAwareDynamicVertex};
 ghost use Rattle.stack_code.specs.Cells.{HasSizes};
+ghost use Rattle.crew.specs.Outcome.{AreWorkers};
 ghost use Rattle.edge_fold.specs.Ends.{IsEndTest, IsTest};
+ghost use Rattle.piece_cuts.specs.Ends.{ends_by};
+ghost use Rattle.piece_cuts.specs.Pieces.{AreEnds};
 ghost use Rattle.tree_batch.specs.Neighbours.{destinations_of};
 ghost use Rattle.push_engine.specs.Sources.{AreSources, AscendsFrom};
 
 use edge_fold::{Functions, Scratch};
 use flat_snapshot::Flat;
 use kernels::{Apply, End};
+use piece_cuts::Cuts;
 use schedule::{Direction, Parallelization};
 use std::alloc::{AllocError, Global};
 use vertex_sets::VertexSet;
@@ -124,8 +128,29 @@ pub fn members_of(alloc: Global, set: &VertexSet) -> Result<Vec<u32>, AllocError
     Ok(found)
 }
 
+/// Where a schedule cuts sources for so many workers. The only error is out of memory.
+pub(crate) fn cut_sources(
+    alloc: Global,
+    parallelization: Parallelization,
+    workers: usize,
+    flat: &Flat,
+    sources: &[u32],
+) -> Result<Cuts, AllocError>
+    requires { AreWorkers workers }
+    ensures ends { IfOk result (λ c. c ≡ ends_by parallelization workers (length sources.now) (map (λ u. length (destinations_of u flat.now.edges)) sources.now)) }
+    ensures whole { IfOk result (λ c. AreEnds 0 (length sources.now) c) }
+{
+    let count = sources.len();
+    // A graph has fewer vertices.
+    if count > u32::MAX as usize {
+        return Err(AllocError);
+    }
+    let degrees = degrees_for(alloc, parallelization, flat, sources)?;
+    Cuts::of(alloc, parallelization, workers, count, &degrees)
+}
+
 /// How many edges there are from each source, where a schedule asks for it, and else none.
-pub(crate) fn degrees_for(
+fn degrees_for(
     alloc: Global,
     parallelization: Parallelization,
     flat: &Flat,

@@ -12,7 +12,7 @@ ghost use Rattle.std.proofs.Props.{props};
 ghost use Rattle.push_engine.specs.Propositions.{AreEnds-prop, AscendsFrom-prop};
 ghost use Rattle.push_engine.specs.Sources.{AreSources};
 
-use crate::listed::{degrees_for, list_sources};
+use crate::listed::{cut_sources, list_sources};
 use crew::CrewError;
 use edge_fold::{Functions, Scratch, Start};
 use flat_snapshot::Flat;
@@ -74,13 +74,7 @@ impl<'a> PushWork<'a> {
             start: Start::Unit,
         };
         let listed = list_sources(alloc, apply, flat, functions, scratch)?;
-        let count = listed.sources.len();
-        // A graph has fewer vertices.
-        if count > u32::MAX as usize {
-            return Err(CrewError::NoMemory);
-        }
-        let degrees = degrees_for(alloc, apply.parallelization, flat, &listed.sources)?;
-        let cuts = Cuts::of(alloc, apply.parallelization, workers, count, &degrees)?;
+        let cuts = cut_sources(alloc, apply.parallelization, workers, flat, &listed.sources)?;
         Ok(PushWork {
             apply: *apply,
             flat,

@@ -48,6 +48,31 @@ IsReady keep shown op.Turn = Unit {0}
 IsReady keep shown (op.Jump to) = Unit {0}
 IsReady keep shown op.End = Unit {0}
 
+-- it says where the run goes on, or that it ends
+abbrev pub IsControl : Operation → Type 0
+IsControl (op.Unless k to) = Unit {0}
+IsControl (op.Enter name k) = Unit {0}
+IsControl (op.UnlessBelow name to) = Unit {0}
+IsControl (op.Advance name) = Unit {0}
+IsControl op.Turn = Unit {0}
+IsControl (op.Jump to) = Unit {0}
+IsControl op.End = Unit {0}
+IsControl other = ⊥
+
+-- it takes values of expressions, and the run goes on at the next place
+abbrev pub TakesValues : Operation → Type 0
+TakesValues (op.DeclareInteger name k) = Unit {0}
+TakesValues (op.DeclareCondition name k) = Unit {0}
+TakesValues (op.SetInteger slot k) = Unit {0}
+TakesValues (op.SetCondition slot k) = Unit {0}
+TakesValues (op.ReduceInteger slot reduction k) = Unit {0}
+TakesValues (op.SetEntry vector index k) = Unit {0}
+TakesValues (op.ReduceEntry vector index reduction k) = Unit {0}
+TakesValues (op.AddVertex slot k) = Unit {0}
+TakesValues (op.PrintInteger k) = Unit {0}
+TakesValues (op.PrintCondition k) = Unit {0}
+TakesValues other = ⊥
+
 -- they are the kernels of some program's functions
 pub record HaveTrees (f : Functions) : Type 0 where
   pub program : ProgramTree

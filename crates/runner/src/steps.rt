@@ -3,17 +3,17 @@ ghost use Rattle.std.specs.Prelude.{◌≡◌, ◌<◌, None, OnOk, OnErr};
 ghost use Rattle.typed_tree.specs.ProgramTree.{ProgramTree};
 ghost use Rattle.schedule.specs.Schedule.{ScheduleTree};
 ghost use Rattle.algorithm_meaning.specs.State.{GraphValue};
-ghost use Rattle.plans.specs.Instruction.{InstructionTree};
+ghost use Rattle.plans.specs.Instruction.{InstructionTree, OperationTree};
 ghost use Rattle.plans.specs.Fused.{FitTogether};
 ghost use Rattle.plans.specs.Machine.{act, step};
 ghost use Rattle.plans.specs.Plan.{plan_of};
 ghost use Rattle.plans.specs.Reducing.{AppliesReduce, OperationReduces};
 ghost use Rattle.instructions.specs.Functions.{AreFunctions};
-ghost use Rattle.instructions.specs.Operation.{IsInstruction};
+ghost use Rattle.instructions.specs.Operation.{IsInstruction, IsOperation};
 ghost use Rattle.instructions.specs.Plan.{IsPlan};
 ghost use Rattle.run_state.specs.State.{graph_value};
-ghost use Rattle.runner.specs.Done.{AreLevel, HasDone, HaveTrees, IsAsBefore, IsBefore, IsReady};
-ghost use Rattle.runner.specs.Position.{configuration_of, loops_of, steps_left, waiting};
+ghost use Rattle.runner.specs.Done.{AreLevel, HasDone, HaveTrees, IsAsBefore, IsBefore, IsControl, IsReady, TakesValues};
+ghost use Rattle.runner.specs.Position.{configuration_of, IsOn, loops_of, steps_left, waiting};
 
 use crate::run::Run;
 use algorithm_meaning::End;
@@ -77,6 +77,82 @@ impl Run {
     {
         let functions = &plan.functions;
         match &i.operation {
+            Operation::DeclareSet { name, members } => {
+                self.declare_set(alloc, functions, i, next, *name, *members)
+            }
+            Operation::AssignSet { slot, members } => {
+                self.assign_set(alloc, functions, i, next, *slot, *members)
+            }
+            Operation::ApplyVertices { set, first, second } => {
+                self.apply_vertices(functions, i, next, *set, *first, *second)
+            }
+            Operation::ApplyEdges {
+                ends,
+                first,
+                second,
+            } => {
+                let apply = EdgeApply {
+                    ends: *ends,
+                    part: *first,
+                };
+                self.apply_edges(alloc, functions, graph, i, next, apply, *second)
+            }
+            Operation::Unless { .. }
+            | Operation::Enter { .. }
+            | Operation::UnlessBelow { .. }
+            | Operation::Advance { .. }
+            | Operation::Turn
+            | Operation::Jump { .. }
+            | Operation::End => self.go_on(i, next),
+            _ => self.evaluate(i, next),
+        }
+    }
+
+    /// Does an instruction that says where the run goes on, or that it ends.
+    fn go_on(&mut self, i: &Instruction, next: usize) -> Result<(), AllocError>
+        requires before { IsBefore i.now next self.old }
+        requires ready { IsReady i.now.keep i.now.shown i.now.operation }
+        requires control { IsControl i.now.operation }
+        ensures done { OnOk result ((p : ProgramTree) (g : GraphValue) (t : OperationTree) → IsOn g self.old
+            → IsOperation i.now.keep i.now.shown i.now.operation t → HasDone i.now self.old self.new p g t) }
+        ensures vertices { self.new.state.vertices ≡ self.old.state.vertices }
+        ensures err { OnErr result (IsAsBefore self.old self.new) }
+    {
+        match &i.operation {
+            Operation::Unless { test, to } => self.unless(i, next, test, *to),
+            Operation::Enter { name: _, end } => self.enter(i, next, end),
+            Operation::UnlessBelow { name: _, to } => {
+                self.unless_below(i, next, *to);
+                Ok(())
+            }
+            Operation::Advance { name: _ } => self.advance(i, next),
+            Operation::Turn => {
+                self.turn(i, next);
+                Ok(())
+            }
+            Operation::Jump { to } => {
+                self.place = *to;
+                Ok(())
+            }
+            Operation::End => {
+                self.finish(i.shown, End::Finished);
+                Ok(())
+            }
+            _ => unreachable!(),
+        }
+    }
+
+    /// Does an instruction that takes values of expressions and goes on at the next place.
+    fn evaluate(&mut self, i: &Instruction, next: usize) -> Result<(), AllocError>
+        requires before { IsBefore i.now next self.old }
+        requires ready { IsReady i.now.keep i.now.shown i.now.operation }
+        requires values { TakesValues i.now.operation }
+        ensures done { OnOk result ((p : ProgramTree) (g : GraphValue) (t : OperationTree) → IsOn g self.old
+            → IsOperation i.now.keep i.now.shown i.now.operation t → HasDone i.now self.old self.new p g t) }
+        ensures vertices { self.new.state.vertices ≡ self.old.state.vertices }
+        ensures err { OnErr result (IsAsBefore self.old self.new) }
+    {
+        match &i.operation {
             Operation::DeclareInteger { name: _, value } => self.declare_integer(i, next, value),
             Operation::DeclareCondition { name: _, value } => self.declare_condition(
                 i, next, value,
@@ -99,48 +175,10 @@ impl Run {
                 reduction,
                 value,
             } => self.reduce_entry(i, next, *vector, index, *reduction, value),
-            Operation::DeclareSet { name, members } => {
-                self.declare_set(alloc, functions, i, next, *name, *members)
-            }
-            Operation::AssignSet { slot, members } => {
-                self.assign_set(alloc, functions, i, next, *slot, *members)
-            }
             Operation::AddVertex { slot, vertex } => self.add_vertex(i, next, *slot, vertex),
             Operation::PrintInteger { value } => self.print_integer(i, next, value),
             Operation::PrintCondition { value } => self.print_condition(i, next, value),
-            Operation::ApplyVertices { set, first, second } => {
-                self.apply_vertices(functions, i, next, *set, *first, *second)
-            }
-            Operation::ApplyEdges {
-                ends,
-                first,
-                second,
-            } => {
-                let apply = EdgeApply {
-                    ends: *ends,
-                    part: *first,
-                };
-                self.apply_edges(alloc, functions, graph, i, next, apply, *second)
-            }
-            Operation::Unless { test, to } => self.unless(i, next, test, *to),
-            Operation::Enter { name: _, end } => self.enter(i, next, end),
-            Operation::UnlessBelow { name: _, to } => {
-                self.unless_below(i, next, *to);
-                Ok(())
-            }
-            Operation::Advance { name: _ } => self.advance(i, next),
-            Operation::Turn => {
-                self.turn(i, next);
-                Ok(())
-            }
-            Operation::Jump { to } => {
-                self.place = *to;
-                Ok(())
-            }
-            Operation::End => {
-                self.finish(i.shown, End::Finished);
-                Ok(())
-            }
+            _ => unreachable!(),
         }
     }
 }

@@ -4,4 +4,5 @@ pub mod SendingLaws
 pub mod ProgramLaws
 pub mod ReadingLaws
 pub mod Running
+pub mod RunReplies
 pub mod TextLaws

@@ -1,0 +1,35 @@
+-- How a run is answered.
+use Rattle.std.proofs.Common.{◌≡◌, ℕ, ◌<◌, ◌≤◌, ◌⊎◌, Bool, true, false, Option, Some, None, Result, Ok, Err, ap, ◌∙◌, if◌then◌else◌, arith}
+use Rattle.std.specs.Result.{OnOk}
+use Rattle.tree_batch.specs.Digraph.{Digraph}
+use Rattle.typed_tree.specs.ProgramTree.{ProgramTree}
+use Rattle.scripts.specs.Replies.{OpenState, is_worker_count, meaning_on, ran, refused, running}
+
+-- the version is not there
+pub runs_nowhere : (o : OpenState) (turns workers : ℕ) (p : ProgramTree) (g : Option Digraph) → g ≡ None → running o turns workers (Some p) g ≡ refused o 122
+runs_nowhere o turns workers p g is = ap (running o turns workers (Some p)) is
+
+-- on a version that is there, by so many workers as there may be, or not
+runs_by : (o : OpenState) (turns workers : ℕ) (p : ProgramTree) (g : Option Digraph) (graph : Digraph) (may : Bool) → g ≡ Some graph → is_worker_count workers ≡ may
+    → running o turns workers (Some p) g ≡ (if may then ran o (meaning_on graph p turns) else refused o 411)
+runs_by o turns workers p g graph may is count =
+    ap (running o turns workers (Some p)) is ∙ ap (λ (b : Bool). if b then ran o (meaning_on graph p turns) else refused o 411) count
+
+too_many : (workers : ℕ) → (workers ≡ 0) ⊎ (64 < workers) → is_worker_count workers ≡ false
+too_many workers is = grind arith
+
+pub runs_by_too_many : (o : OpenState) (turns workers : ℕ) (p : ProgramTree) (g : Option Digraph) (graph : Digraph) → g ≡ Some graph → (workers ≡ 0) ⊎ (64 < workers)
+    → running o turns workers (Some p) g ≡ refused o 411
+runs_by_too_many o turns workers p g graph is many = runs_by o turns workers p g graph false is (too_many workers many)
+
+enough : (workers : ℕ) → (workers ≡ 0 → ⊥) → workers ≤ 64 → is_worker_count workers ≡ true
+enough workers some few = grind arith
+
+pub runs : (o : OpenState) (turns workers : ℕ) (p : ProgramTree) (g : Option Digraph) (graph : Digraph) → g ≡ Some graph → (workers ≡ 0 → ⊥) → workers ≤ 64
+    → running o turns workers (Some p) g ≡ ran o (meaning_on graph p turns)
+runs o turns workers p g graph is some few = runs_by o turns workers p g graph true is (enough workers some few)
+
+-- what is so whatever a call answers
+pub on_ok_where : {T E P : Type 0} (r : Result T E) → P → OnOk r P
+on_ok_where (Ok x) p = p
+on_ok_where (Err e) p = tt
