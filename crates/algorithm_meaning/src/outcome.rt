@@ -27,7 +27,6 @@ pub struct NamedSet {
 }
 
 /// What a run shows.
-#[derive(Drop)]
 pub struct Outcome {
     pub end: End,
     /// How many turns were used.
@@ -39,4 +38,16 @@ pub struct Outcome {
     pub sets: Sequence<NamedSet>,
     /// The printed bytes.
     pub text: Sequence<u8>,
+}
+
+impl Drop for Outcome {
+    fn drop(self) {
+        let Outcome {
+            end: _,
+            turns: _,
+            vectors: _,
+            sets: _,
+            text: _,
+        } = self;
+    }
 }

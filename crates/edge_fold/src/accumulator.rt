@@ -2,7 +2,6 @@
 ghost use Rattle.std.specs.Prelude.{◌≡◌, ℕ, ◌<◌, ◌≤◌, Contains, slice_index_or, vec_len};
 
 /// The new entries of one vector, at the vertices that an apply has given something.
-#[derive(Drop)]
 pub(crate) struct Accumulator {
     pub(crate) values: Vec<i64>,
     pub(crate) stamps: Vec<u32>,
@@ -12,4 +11,15 @@ pub(crate) struct Accumulator {
     ghost same: { vec_len stamps ≤ vec_len values },
     ghost past: { (v : ℕ) → slice_index_or stamps.items v 0 ≤ stamp },
     ghost covers: { (v : ℕ) → ¬ Contains touched.items v → ¬ (slice_index_or stamps.items v 0 ≡ stamp) },
+}
+
+impl Drop for Accumulator {
+    fn drop(self) {
+        let Accumulator {
+            values: _,
+            stamps: _,
+            touched: _,
+            stamp: _,
+        } = self;
+    }
 }

@@ -36,9 +36,14 @@ pub struct GatheredIn {
 }
 
 /// What edges give: to each vector all that is listed for it.
-#[derive(Drop)]
 pub struct Gathered {
     pub vectors: Vec<GatheredIn>,
+}
+
+impl Drop for Gathered {
+    fn drop(self) {
+        let Gathered { vectors: _ } = self;
+    }
 }
 
 impl Scratch {

@@ -9,11 +9,20 @@ use kernels::Block;
 use std::alloc::{AllocError, Global};
 
 /// Memory for applies of edge functions, kept from one to the next.
-#[derive(Drop)]
 pub struct Scratch {
     pub(crate) slots: Slots,
     pub(crate) pairs: Pairs,
     pub(crate) block: Block,
+}
+
+impl Drop for Scratch {
+    fn drop(self) {
+        let Scratch {
+            slots: _,
+            pairs: _,
+            block: _,
+        } = self;
+    }
 }
 
 impl Scratch {

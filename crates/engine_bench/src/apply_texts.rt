@@ -1,10 +1,9 @@
 //! Programs that apply one function of each shape, with every pair of ends.
 
-use compiler::compile;
+use crate::kernels_of::compiled;
 use std::alloc::Global;
 use std::fmt::Write;
 use std::io;
-use std::io::Error;
 use typed_tree::Typed;
 use vertex_sets::VertexSet;
 
@@ -94,10 +93,7 @@ pub fn program(
         text,
         "var m : vertexset{{Vertex}} = edges{from}{to}.applyModified(f, {vector});\nend\n"
     )?;
-    match compile(alloc, text.as_bytes()) {
-        Ok(program) => Ok(program),
-        Err(_) => Err(Error::other("a program is refused")),
-    }
+    compiled(alloc, text.as_str())
 }
 
 fn add_members(text: &mut String, set: &VertexSet) -> io::Result<()> {

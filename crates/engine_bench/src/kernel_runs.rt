@@ -1,5 +1,6 @@
 //! Edge functions over the pairs of a random graph: a loop of Rust beside a loop by the kernel's shape, and blocks.
 
+use crate::kernels_of::edge_kernel;
 use crate::pair_loops::{add_to_each, join, max_sources, min_entries, min_of_less};
 use kernels::{Around, Block, EdgeKernel, Shape};
 use measuring::{Job, Random, Turns, print_head, print_row, rmat_edge};
@@ -7,9 +8,7 @@ use std::alloc::{AllocError, Global};
 use std::io;
 use std::io::Error;
 use syntax::Reduction;
-use typed_tree::{
-    Comparison, Condition, Endpoint, Function, Integer, Operand, Operator, Sequence, Slot, Step,
-};
+use typed_tree::Sequence;
 use vectors::Vectors;
 
 // How many vertices there are, as a power of 2, and how many pairs.
@@ -27,15 +26,33 @@ const SEED: u64 = 2026;
 // The edge function that is timed.
 #[derive(Clone, Copy)]
 enum Kind {
-    /// `x[dst] min= y[src]`
     MinEntry,
-    /// `x[dst] += 1`
     AddOne,
-    /// `x[dst] max= src`
     MaxSource,
-    /// `var t : int = y[src] + 1; if t < x[dst] x[dst] min= t; end`
     Choice,
 }
+
+impl Kind {
+    // Its place among the edge functions of the program.
+    fn place(self) -> usize {
+        match self {
+            Kind::MinEntry => 0,
+            Kind::AddOne => 1,
+            Kind::MaxSource => 2,
+            Kind::Choice => 3,
+        }
+    }
+}
+
+const PROGRAM: &str = "element Vertex end\nelement Edge end\n\
+    const edges : edgeset{Edge}(Vertex, Vertex) = load(argv[1]);\n\
+    const x : vector{Vertex}(int) = 0; const y : vector{Vertex}(int) = 0;\n\
+    func min_entry(s : Vertex, d : Vertex) x[d] min= y[s]; end\n\
+    func add_one(s : Vertex, d : Vertex) x[d] += 1; end\n\
+    func max_source(s : Vertex, d : Vertex) x[d] max= s; end\n\
+    func choice(s : Vertex, d : Vertex)\n\
+    var t : int = y[s] + 1; if t < x[d] x[d] min= t; end end\n\
+    func main()\nend\n";
 
 // How it is done.
 #[derive(Clone, Copy)]
@@ -120,10 +137,10 @@ impl Drop for Work {
 }
 
 impl Work {
-    fn new(alloc: Global, kind: Kind) -> Result<Work, AllocError> {
+    fn new(alloc: Global, kind: Kind) -> io::Result<Work> {
         let mut work = Work {
             kind,
-            kernel: kernel_of(alloc, kind)?,
+            kernel: edge_kernel(alloc, PROGRAM, kind.place())?,
             sources: Vec::new(alloc),
             destinations: Vec::new(alloc),
             first: Vec::new(alloc),
@@ -267,44 +284,6 @@ fn vectors(alloc: Global, first: &[i64], second: &[i64]) -> Result<Vectors, Allo
     let first = Sequence::new(Vec::from_slice(alloc, first)?);
     let second = Sequence::new(Vec::from_slice(alloc, second)?);
     Vectors::new(alloc, vec![in alloc; first, second]?)
-}
-
-// The kernel of a function.
-fn kernel_of(alloc: Global, kind: Kind) -> Result<EdgeKernel, AllocError> {
-    let steps = steps_of(alloc, kind)?;
-    EdgeKernel::of_function(alloc, &Function { name: 0, steps })
-}
-
-fn steps_of(alloc: Global, kind: Kind) -> Result<Vec<Step>, AllocError> {
-    match kind {
-        Kind::MinEntry => { one_step(alloc, Reduction::Min, Integer::EntryAt(1, Endpoint::Source)) }
-        Kind::AddOne => one_step(alloc, Reduction::Plus, Integer::Number(1)),
-        Kind::MaxSource => { one_step(alloc, Reduction::Max, Integer::Parameter(Endpoint::Source)) }
-        Kind::Choice => choice_steps(alloc),
-    }
-}
-
-fn one_step(alloc: Global, reduction: Reduction, given: Integer) -> Result<Vec<Step>, AllocError> {
-    Ok(vec![in alloc; Step::ReduceEntry(0, reduction, given)]?)
-}
-
-fn choice_steps(alloc: Global) -> Result<Vec<Step>, AllocError> {
-    let t = Slot { place: 0, name: 0 };
-    let sum = entry_and_one(alloc)?;
-    let body = one_step(alloc, Reduction::Min, Integer::Variable(t))?;
-    let entry = Integer::EntryAt(0, Endpoint::Destination);
-    let test = Condition::Compare(Comparison::Less, Integer::Variable(t), entry);
-    Ok(vec![in alloc; Step::DeclareInteger(0, sum), Step::If(test, body)]?)
-}
-
-// `y[src] + 1`
-fn entry_and_one(alloc: Global) -> Result<Integer, AllocError> {
-    let entry = Box::new(alloc, Integer::EntryAt(1, Endpoint::Source))?;
-    let one = Operand {
-        operator: Operator::Add,
-        integer: Integer::Number(1),
-    };
-    Ok(Integer::Arithmetic(entry, vec![in alloc; one]?))
 }
 
 fn run_block(

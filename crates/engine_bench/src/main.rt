@@ -11,6 +11,7 @@ mod apply_times;
 mod crew_runs;
 mod flats;
 mod kernel_runs;
+mod kernels_of;
 mod pair_loops;
 mod piece_applies;
 mod plan_runs;

@@ -1,6 +1,6 @@
 //! Runs of programs by their plans, beside the slow run.
 
-use crate::run_programs::{PROGRAMS, Scheduled};
+use crate::run_programs::{PROGRAMS, SEARCHES_AND_LABELS, Scheduled};
 use crate::samples::Sample;
 use algorithm_meaning::{Outcome, plain_run};
 use measuring::{Job, Random, Turns, print_head, print_rows, rmat_graph};
@@ -51,11 +51,17 @@ enum Row {
 
 const BOTH: [(&str, Row); 2] = [("by its plan", Row::Plan), ("by the slow run", Row::Slow)];
 
-/// Prints the times of runs, whose items are the edges: on a graph of 2^12 vertices and 2^16 edges by both, and on one of
-/// 2^16 vertices and 2^20 edges by plans alone.
+const PLAN: [(&str, Row); 1] = [("by its plan", Row::Plan)];
+
+/// Prints the times of runs, whose items are the edges: on a graph of 2^12 vertices and 2^16 edges by both, on one of
+/// 2^16 vertices and 2^20 edges by plans alone, and so those of searches and labels on one of 2^20 vertices and 2^24 edges.
 pub fn print_times(rt: &HostRuntime) -> io::Result<()> {
-    print_graph_times(rt, 12, 16, &BOTH)?;
-    print_graph_times(rt, 16, 20, &[("by its plan", Row::Plan)])
+    println!(rt; "2^12 vertices, 2^16 edges")?;
+    print_graph_times(rt, 12, 16, &PROGRAMS, &BOTH)?;
+    println!(rt; "2^16 vertices, 2^20 edges")?;
+    print_graph_times(rt, 16, 20, &PROGRAMS, &PLAN)?;
+    println!(rt; "2^20 vertices, 2^24 edges")?;
+    print_graph_times(rt, 20, 24, &PROGRAMS[..SEARCHES_AND_LABELS], &PLAN)
 }
 
 // Prints the rows of each program on a graph, by the powers of 2 that its vertices and its edges are.
@@ -63,12 +69,13 @@ fn print_graph_times(
     rt: &HostRuntime,
     vertices: u32,
     edges: u32,
+    programs: &[Scheduled],
     rows: &[(&str, Row)],
 ) -> io::Result<()> {
     let graph = rmat_graph(rt.alloc(), vertices, edges)?;
     let sample = Sample::of(rt.alloc(), &graph)?;
     drop(graph);
-    for scheduled in &PROGRAMS {
+    for scheduled in programs {
         print_head(rt, scheduled.0)?;
         print_rows(
             rt,

@@ -3,7 +3,7 @@
 /// A program under a schedule: its name, its text, and the schedule's text.
 pub type Scheduled = (&'static str, &'static str, &'static str);
 
-/// The programs that are run.
+/// The programs that are run, searches and labels first.
 pub const PROGRAMS: [Scheduled; 15] = [
     ("search, push", SEARCH, ""),
     ("search, dense push", SEARCH, DENSE_PUSH),
@@ -21,6 +21,9 @@ pub const PROGRAMS: [Scheduled; 15] = [
     ("a loop with a fault, fused", FAULT, FUSED),
     ("a loop with a fault, fields", FAULT, FIELDS),
 ];
+
+/// How many of them are searches and labels.
+pub const SEARCHES_AND_LABELS: usize = 8;
 
 // Breadth-first search from vertex 0, which tells of each vertex how far it is.
 const SEARCH: &str = "element Vertex end\nelement Edge end\n\

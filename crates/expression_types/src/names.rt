@@ -8,9 +8,14 @@ use std::marker::Model;
 
 /// Names in the order in which they came, each with what it stands for. A look-up takes the time of the name,
 /// however many there are.
-#[derive(Drop)]
 pub struct Names<T> {
     entries: IndexMap<Vec<u8>, T>,
+}
+
+impl<T: Drop> Drop for Names<T> {
+    fn drop(self) {
+        let Names { entries: _ } = self;
+    }
 }
 
 impl<T> Model for Names<T> {

@@ -57,13 +57,24 @@ pub enum Inside {
 }
 
 /// The names that are visible at a point of a source.
-#[derive(Drop)]
 pub struct Scope {
     names: Names<Entity>,
     inside: Inside,
     integers: usize,
     conditions: usize,
     sets: usize,
+}
+
+impl Drop for Scope {
+    fn drop(self) {
+        let Scope {
+            names: _,
+            inside: _,
+            integers: _,
+            conditions: _,
+            sets: _,
+        } = self;
+    }
 }
 
 impl Model for Scope {

@@ -25,7 +25,6 @@ use vertex_sets::VertexSet;
 
 /// An apply in pieces, which workers may do side by side: the destinations are cut as its schedule says, and a piece
 /// answers what the edges into its destinations give. [`PullWork::merge`] makes the changes of the whole apply of it.
-#[derive(Drop)]
 pub struct PullWork<'a> {
     pub(crate) apply: Apply<'a>,
     pub(crate) flat: &'a Flat,
@@ -40,6 +39,20 @@ pub struct PullWork<'a> {
         → (v : ℕ) → v < flat.now.vertices → passes_set bits v ≡ from v } by { Prim.hlevel (props) },
     ghost passing: { (m : StateValue) (to : ℕ → Bool) → vectors.now.vectors ≡ m.vectors → HasSizes sizes.now m → IsEndTest apply.to m to
         → AreDestinations flat.now.edges to destinations.items } by { Prim.hlevel (AscendsFrom-prop, props) },
+}
+
+impl Drop for PullWork<'_> {
+    fn drop(self) {
+        let PullWork {
+            apply: _,
+            flat: _,
+            vectors: _,
+            sizes: _,
+            bits: _,
+            destinations: _,
+            cuts: _,
+        } = self;
+    }
 }
 
 impl<'a> PullWork<'a> {

@@ -23,7 +23,6 @@ use vectors::Vectors;
 
 /// An apply in pieces, which workers may do side by side: the sources are cut as its schedule says, and a piece answers
 /// what the edges from its sources give. [`PushWork::merge`] makes the changes of the whole apply of it.
-#[derive(Drop)]
 pub struct PushWork<'a> {
     pub(crate) apply: Apply<'a>,
     pub(crate) flat: &'a Flat,
@@ -35,6 +34,20 @@ pub struct PushWork<'a> {
     ghost whole: { AreEnds 0 (length sources.items) cuts } by { AreEnds-prop 0 (length sources.items) cuts },
     ghost passing: { (m : StateValue) (from : ℕ → Bool) → vectors.now.vectors ≡ m.vectors → HasSizes sizes.now m → IsEndTest apply.from m from
         → AreSources flat.now.edges from tested sources.items } by { Prim.hlevel (AscendsFrom-prop, props) },
+}
+
+impl Drop for PushWork<'_> {
+    fn drop(self) {
+        let PushWork {
+            apply: _,
+            flat: _,
+            vectors: _,
+            sizes: _,
+            sources: _,
+            tested: _,
+            cuts: _,
+        } = self;
+    }
 }
 
 impl<'a> PushWork<'a> {

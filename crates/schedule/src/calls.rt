@@ -20,7 +20,6 @@ use syntax::Setting;
 use typed_tree::{Name, ScheduleCall, Sequence, Typed};
 
 /// What the calls of a program are looked up in.
-#[derive(Drop)]
 struct Tables<'a> {
     program: &'a Typed,
     labels: Names<usize>,
@@ -29,6 +28,17 @@ struct Tables<'a> {
     ghost labels_found: { ArePlaces labels (program_tree program.now).labels },
     ghost vectors_found: { ArePlaces vectors (vector_names (program_tree program.now).names (program_tree program.now).vectors) },
     ghost sites_found: { AreSites sites (program_tree program.now).main },
+}
+
+impl Drop for Tables<'_> {
+    fn drop(self) {
+        let Tables {
+            program: _,
+            labels: _,
+            vectors: _,
+            sites: _,
+        } = self;
+    }
 }
 
 /// What a program's schedule says. The time is in proportion to the program and to the calls, and for a fusing to

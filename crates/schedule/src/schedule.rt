@@ -14,10 +14,18 @@ use typed_tree::Sequence;
 
 /// An accepted schedule: what its calls say of the applies with labels, and which vectors are kept together.
 /// Labels and vectors are named by their places in the program's lists.
-#[derive(Drop)]
 pub struct Schedule {
     choices: IndexMap<usize, Choice>,
     groups: Vec<Sequence<usize>>,
+}
+
+impl Drop for Schedule {
+    fn drop(self) {
+        let Schedule {
+            choices: _,
+            groups: _,
+        } = self;
+    }
 }
 
 impl Model for Schedule {

@@ -37,9 +37,14 @@ pub struct Site {
 }
 
 /// The labels of the statements of `main`, each with what it stands before.
-#[derive(Drop)]
 pub(crate) struct Sites {
     entries: IndexMap<usize, Site>,
+}
+
+impl Drop for Sites {
+    fn drop(self) {
+        let Sites { entries: _ } = self;
+    }
 }
 
 impl Model for Sites {

@@ -31,10 +31,18 @@ const FORKS: u32 = 2;
 
 /// The versions, which stand in the replay of their history, and the history as the ledger has it,
 /// which is the same. Contracts see it as the history.
-#[derive(Drop)]
 pub(crate) struct Desk<J: Naming, R: Wait + Drop> {
     versions: Versions,
     ledger: Ledger<J, R>,
+}
+
+impl<J: Naming, R: Wait + Drop> Drop for Desk<J, R> {
+    fn drop(self) {
+        let Desk {
+            versions: _,
+            ledger: _,
+        } = self;
+    }
 }
 
 impl<J: Naming, R: Wait + Drop> Model for Desk<J, R> {

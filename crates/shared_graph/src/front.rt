@@ -15,11 +15,20 @@ use version_list::Done;
 
 /// A beginning of the shared history that was seen, of which the code keeps the length alone.
 /// Contracts see it as its entries.
-#[derive(Drop)]
 pub(crate) struct Front<J: Naming> {
     count: u64,
     seen: Seen<Entry, u64, Law>,
     of: PhantomData<J>,
+}
+
+impl<J: Naming> Drop for Front<J> {
+    fn drop(self) {
+        let Front {
+            count: _,
+            seen: _,
+            of: _,
+        } = self;
+    }
 }
 
 impl<J: Naming> Model for Front<J> {

@@ -26,7 +26,6 @@ use version_list::{Done, VersionError};
 
 /// The shared history, which is the one that was published, and how many of its entries each reader
 /// made. Contracts see it as the history.
-#[derive(Drop)]
 pub(crate) struct Ledger<J: Naming, R: Wait + Drop> {
     vertices: u32,
     room: u64,
@@ -34,6 +33,19 @@ pub(crate) struct Ledger<J: Naming, R: Wait + Drop> {
     front: Front<J>,
     counts: Vec<u64>,
     publisher: Publisher<R>,
+}
+
+impl<J: Naming, R: Wait + Drop> Drop for Ledger<J, R> {
+    fn drop(self) {
+        let Ledger {
+            vertices: _,
+            room: _,
+            book: _,
+            front: _,
+            counts: _,
+            publisher: _,
+        } = self;
+    }
 }
 
 impl<J: Naming, R: Wait + Drop> Model for Ledger<J, R> {

@@ -20,7 +20,6 @@ use tree_batch::Graph;
 
 /// The newest version with its number, and the history that made it. Contracts see it as its
 /// history, with the book of that history and the state in which it began.
-#[derive(Drop)]
 pub(crate) struct Shown {
     number: u64,
     graph: Arc<Graph>,
@@ -28,6 +27,19 @@ pub(crate) struct Shown {
     room: u64,
     count: u64,
     seen: Seen<Entry, u64, Law>,
+}
+
+impl Drop for Shown {
+    fn drop(self) {
+        let Shown {
+            number: _,
+            graph: _,
+            vertices: _,
+            room: _,
+            count: _,
+            seen: _,
+        } = self;
+    }
 }
 
 impl Model for Shown {

@@ -15,7 +15,12 @@ pub struct VectorChanges {
 }
 
 /// What an apply changes, for each vector that it writes.
-#[derive(Drop)]
 pub struct Changes {
     pub vectors: Vec<VectorChanges>,
+}
+
+impl Drop for Changes {
+    fn drop(self) {
+        let Changes { vectors: _ } = self;
+    }
 }

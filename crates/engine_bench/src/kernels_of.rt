@@ -1,0 +1,25 @@
+//! Programs that are given as texts, and the kernels of their functions.
+
+use compiler::compile;
+use kernels::EdgeKernel;
+use std::alloc::Global;
+use std::io;
+use std::io::Error;
+use typed_tree::Typed;
+
+/// The program of a text.
+pub fn compiled(alloc: Global, text: &str) -> io::Result<Typed> {
+    match compile(alloc, text.as_bytes()) {
+        Ok(program) => Ok(program),
+        Err(_) => Err(Error::other("a program is refused")),
+    }
+}
+
+/// The kernel of the edge function at a place of a program, counted from 0.
+pub fn edge_kernel(alloc: Global, text: &str, place: usize) -> io::Result<EdgeKernel> {
+    let program = compiled(alloc, text)?;
+    match program.edge_functions.get(place) {
+        Some(function) => Ok(EdgeKernel::of_function(alloc, function)?),
+        None => Err(Error::other("a program has no such function")),
+    }
+}
