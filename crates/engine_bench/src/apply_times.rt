@@ -47,7 +47,12 @@ fn print_graph(rt: &HostRuntime, name: &str, vertices: u32) -> io::Result<()> {
     print_flat(rt, name, &Flat::of(rt.alloc(), &graph)?, &frontier)
 }
 
-fn print_flat(rt: &HostRuntime, name: &str, flat: &Flat, frontier: &VertexSet) -> io::Result<()> {
+fn print_flat<'a>(
+    rt: &HostRuntime,
+    name: &str,
+    flat: &'a Flat,
+    frontier: &'a VertexSet,
+) -> io::Result<()> {
     let kernel = edge_kernel(rt.alloc(), PROGRAM, 0)?;
     let mut work = Work {
         flat,
