@@ -1,30 +1,27 @@
-//! The benchmark of texts, scripts and versions: how long work of known size takes.
+//! The benchmark of texts and versions: how long work of known size takes.
 //!
 //! With no word it does small work and prints what came of it, the same on every machine. With
-//! `--time` and a subject it prints a table of times, and with `--script N` the script of N `add`
-//! lines that it times, so that other programs can be timed on it. It promises to be safe and to end,
-//! and no more. Nothing stands on this crate.
+//! `--time` and a subject it prints a table of times, and with `--script N` a script of N `add`
+//! lines, so that programs can be timed on it. It promises to be safe and to end, and no more.
+//! Nothing stands on this crate.
 #![tactic(auto)]
 
 mod commits;
 mod lexing;
-mod outcome;
 mod parsing;
 mod readers;
-mod script_times;
 mod workload;
 
 use measuring::{Random, is_printed, status_of, words_of};
-use outcome::hash_of;
 use std::io;
 use std::io::Error;
 use std::process::ExitCode;
 use std::rt::Clock;
 use std::sync::Wait;
 use std::thread::Threads;
-use workload::adds_script;
+use workload::{adds_script, hash_of};
 
-const USAGE: &str = "bench [--time scripts|lexer|parser|commits|readers | --script ADDS]";
+const USAGE: &str = "bench [--time lexer|parser|commits|readers | --script ADDS]";
 
 fn main(rt: HostRuntime) -> io::Result<ExitCode> {
     let words = words_of(&rt)?;
@@ -55,7 +52,6 @@ fn print_times<T: AllocGlobal + Clock + Threads + Wait + Sync>(
     subject: &str,
 ) -> io::Result<()> {
     match subject {
-        "scripts" => script_times::print_times(rt),
         "lexer" => lexing::print_times(rt),
         "parser" => parsing::print_times(rt),
         "commits" => commits::print_times(rt, threads),
@@ -67,7 +63,18 @@ fn print_times<T: AllocGlobal + Clock + Threads + Wait + Sync>(
 // Prints what comes of small work.
 fn print_outcomes(rt: &HostRuntime) -> io::Result<()> {
     print_known(rt)?;
-    script_times::print_outcomes(rt)
+    for adds in &[0, 1, 1000, 20_000] {
+        print_size(rt, *adds)?;
+    }
+    Ok(())
+}
+
+// Prints how large a script is, and its hash.
+fn print_size(rt: &HostRuntime, adds: u32) -> io::Result<()> {
+    let script = adds_script(rt.alloc(), adds)?;
+    let (bytes, hash) = (script.len(), hash_of(script.as_bytes()));
+    drop(script);
+    println!(rt; "script of {adds} adds: {bytes} bytes, hash {hash:016x}")
 }
 
 // Prints what the generator and the hash give where their authors have published it.

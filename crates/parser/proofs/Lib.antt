@@ -5,6 +5,7 @@ pub mod ExpressionAnswers
 pub mod Faults
 pub mod Fronts
 pub mod InitialLaws
+pub mod Keywords
 pub mod Lists
 pub mod Offsets
 pub mod ParseLaws
