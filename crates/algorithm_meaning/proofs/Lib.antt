@@ -12,3 +12,4 @@ pub mod VertexApplies
 pub mod Works
 pub mod Wrapping
 pub mod WrittenEntries
+pub mod InOrder

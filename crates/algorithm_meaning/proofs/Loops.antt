@@ -5,6 +5,7 @@ use Rattle.algorithm_meaning.specs.declared.outcome.End.TheVariants.{TurnsOver, 
 use Rattle.algorithm_meaning.specs.State.{StateValue}
 use Rattle.algorithm_meaning.specs.Stand.{Stand, Live, Over, then_do, with_value, choose}
 use Rattle.std.specs.Option.{is_some}
+use Rattle.std.specs.Prelude.{IfNone}
 use Rattle.std.proofs.lemmas.Bool.{false≢true}
 use Rattle.algorithm_meaning.specs.Seen.{stand}
 use Rattle.algorithm_meaning.specs.Loop.{take_turn, loop}
@@ -92,3 +93,9 @@ pub again_over : (A : Type 0) (test : A → StateValue → Option Bool) (body : 
     → Again A test body next number a s b u → test b u ≡ Some true → stand end t ≡ take_turn u.turns u (body b) → is_some end ≡ true → stand end t ≡ loop test body next number s.turns a s
 again_over A test body next number a s b u t None r holds ran some = absurd (false≢true some)
 again_over A test body next number a s b u t (Some end) r holds ran some = again_ends A test body next number a s b u t end r holds (sym ran)
+
+-- the same of a turn that goes on
+pub again_goes : (A : Type 0) (test : A → StateValue → Option Bool) (body : A → StateValue → Stand) (next : A → A) (number : ℕ) (a : A) (s : StateValue) (b : A) (u t : StateValue) (end : Option End)
+    → Again A test body next number a s b u → test b u ≡ Some true → stand end t ≡ take_turn u.turns u (body b) → is_some end ≡ false → IfNone end (t.turns < u.turns) → Again A test body next number a s (next b) t
+again_goes A test body next number a s b u t None r holds ran goes fewer = again_turn A test body next number a s b u t r holds (sym ran) fewer
+again_goes A test body next number a s b u t (Some end) r holds ran goes fewer = absurd (false≢true (sym goes))

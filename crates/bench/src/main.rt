@@ -19,7 +19,7 @@ use std::process::ExitCode;
 use std::rt::Clock;
 use std::sync::Wait;
 use std::thread::Threads;
-use workload::{adds_script, hash_of};
+use workload::adds_script;
 
 const USAGE: &str = "bench [--time lexer|parser|commits|readers | --script ADDS]";
 
@@ -93,4 +93,13 @@ fn print_script(rt: &HostRuntime, adds: &str) -> io::Result<()> {
         return Err(Error::other("the number of adds is not one below 2^32"));
     };
     rt.print(adds_script(rt.alloc(), adds)?)
+}
+
+// The FNV-1a hash of 64 bits.
+fn hash_of(bytes: &[u8]) -> u64 {
+    let mut hash: u64 = 0xcbf2_9ce4_8422_2325;
+    for byte in bytes {
+        hash = (hash ^ u64::from(*byte)).wrapping_mul(0x0100_0000_01b3);
+    }
+    hash
 }

@@ -23,12 +23,3 @@ pub fn adds_script(alloc: Global, adds: u32) -> Result<String, AllocError> {
     script.push_str("commit\nedges\n")?;
     Ok(script)
 }
-
-/// The FNV-1a hash of 64 bits.
-pub fn hash_of(bytes: &[u8]) -> u64 {
-    let mut hash: u64 = 0xcbf2_9ce4_8422_2325;
-    for byte in bytes {
-        hash = (hash ^ u64::from(*byte)).wrapping_mul(0x0100_0000_01b3);
-    }
-    hash
-}

@@ -1,5 +1,5 @@
 -- What was found grows piece by piece.
-use Rattle.std.proofs.Common.{◌≡◌, ℕ, zero, suc, ◌+◌, ◌<◌, ◌≤◌, Bool, true, false, cond, eqb, ltb, Option, Some, option_to_list, List, [], ◌∷◌, ◌++◌, length, length-append, sym, refl, ap, ◌∙◌, subst, arith, slice_get}
+use Rattle.std.proofs.Common.{◌≡◌, ℕ, zero, suc, ◌+◌, ◌<◌, ◌≤◌, Bool, true, false, cond, eqb, ltb, Option, Some, option_to_list, List, [], ◌∷◌, ◌++◌, length, length-append, sym, refl, ap, ◌∙◌, subst, arith, slice_get, slice_index_or, Result, Ok, Err, IfOk, Vec, Global, vec_len}
 use Rattle.std.specs.List.{All}
 use Rattle.std.proofs.lemmas.List.{map-append}
 use Rattle.std.proofs.lemmas.List.Elements.{All-push, All-append}
@@ -49,6 +49,15 @@ module _ {X : Type 0} where
   pub length_popped : (old new : List X) (r : Option X) (x : X) → old ≡ new ++ option_to_list r → r ≡ Some x → length old ≡ length new + 1
   length_popped old new r x is some =
       length_pushed (length new) new old x (is ∙ ap (λ (o : Option X). new ++ option_to_list o) some) refl
+
+  -- as many are there as jobs, and P holds of each
+  pub all_given : {J E : Type 0} (P : X → Type 0) (jobs : Vec J Global) (r : Result (Vec X Global) E) → IfOk r (λ v. vec_len v ≡ vec_len jobs)
+      → IfOk r (λ v. (i : ℕ) (d : X) → i < length jobs.items → P (slice_index_or v.items i d)) → IfOk r (λ v. (length v.items ≡ length jobs.items) × All P v.items)
+  all_given P jobs (Ok v) len each =
+      let many = v.ok.0 in
+      let known = jobs.ok.0 in
+      (omega arith, λ k d below. each k d (omega arith))
+  all_given P jobs (Err e) len each = tt
 
   pub slice_get-left : (xs ys : List X) (j : ℕ) (x : X) → slice_get xs j ≡ Some x → slice_get (xs ++ ys) j ≡ Some x
   slice_get-left [] ys j x at = absurd (cc)

@@ -27,10 +27,27 @@ pub(crate) fn run_alone<G: Gate, W: Work>(
         return Ok(Vec::new(alloc));
     }
     let mut state = state_or_new(alloc, work, states.pop())?;
+    let found = do_pieces(alloc, gate, work, pieces, &mut state)?;
+    states.push(state)?;
+    Ok(found)
+}
+
+// Does all pieces in their order, with the state of worker 1.
+fn do_pieces<G: Gate, W: Work>(
+    alloc: Global,
+    gate: &G,
+    work: &W,
+    pieces: usize,
+    state: &mut W::State,
+) -> Result<Vec<Found<W::Out>>, AllocError>
+    requires pieces { pieces ≤ W.pieces work.now }
+    requires state { W.keeps work.now state.old }
+    ensures found { IfOk result (λ found. AreFound (W.answers work.now) pieces found.items) }
+    ensures state { IfOk result (λ _. W.keeps work.now state.new) }
+{
     let mut found = Vec::with_capacity(alloc, pieces)?;
     for place in 0..pieces {
-        do_piece(alloc, gate, work, 1, place, pieces, &mut state, &mut found)?;
+        do_piece(alloc, gate, work, 1, place, pieces, state, &mut found)?;
     }
-    states.push(state)?;
     Ok(found)
 }

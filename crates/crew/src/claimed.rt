@@ -36,7 +36,26 @@ pub(crate) fn find_claimed<R: Threads + Sync, G: Gate + Sync, W: Work + Sync>(
     let (table, mut own) = open_word(alloc)?;
     let word = &table.shared;
     let jobs = hire_all::<W>(alloc, word, &mut own, work, workers, states)?;
-    let done = thread::map_vec(
+    let done = claim_all(rt, alloc, word, gate, work, pieces, jobs)?;
+    gather(alloc, word, own, work, pieces, done, states)
+}
+
+// What these workers bring back, each of which claims pieces on a thread of its own.
+fn claim_all<R: Threads + Sync, G: Gate + Sync, W: Work + Sync>(
+    rt: &R,
+    alloc: Global,
+    word: &ClaimWord,
+    gate: &G,
+    work: &W,
+    pieces: usize,
+    jobs: Vec<Job<Claim, W::State>>,
+) -> Result<Vec<Result<Done<Claim, W::State, W::Out>, AllocError>>, AllocError>
+    requires pieces { (pieces ≤ W.pieces work.now) × (pieces ≤ 2 ^ 32) }
+    requires jobs { All (IsHired (W.keeps work.now) word.now.table_id) jobs.items }
+    ensures { IfOk result (λ done. (length done.items ≡ length jobs.items)
+        × All (λ r. IfOk r (HasClaimed (W.keeps work.now) (W.answers work.now) word.now.table_id pieces)) done.items) }
+{
+    thread::map_vec(
         rt,
         jobs,
         &|job: Job<Claim, W::State>| -> Result<Done<Claim, W::State, W::Out>, AllocError>
@@ -45,8 +64,7 @@ pub(crate) fn find_claimed<R: Threads + Sync, G: Gate + Sync, W: Work + Sync>(
             ensures { IfOk result (HasClaimed (W.keeps work.entry.now) (W.answers work.entry.now)
                 word.entry.now.table_id pieces) }
         { claim_pieces(alloc, word, gate, work, pieces, job) },
-    )?;
-    gather(alloc, word, own, work, pieces, done, states)
+    )
 }
 
 // The workers from the last to the first, which `map_vec` leaves to the caller. `work` says what their

@@ -1,5 +1,6 @@
 -- Operands in a row: each further one is beside all that stand at its left.
-use Rattle.std.proofs.Common.{◌≡◌, refl, ap, ◌∙◌, ℕ, false, true≢false, map, List, [], ◌∷◌, length, ◌==◌, Option}
+use Rattle.std.proofs.lemmas.Bool.{eqb-true}
+use Rattle.std.proofs.Common.{◌≡◌, refl, ap, ◌∙◌, ℕ, false, true, true≢false, map, List, [], ◌∷◌, length, ◌==◌, Option, arith}
 use Rattle.syntax.specs.declared.operators.Addition.{Addition}
 use Rattle.syntax.specs.declared.operators.Multiplication.{Multiplication}
 use Rattle.syntax.specs.declared.expression.Unary.{Unary}
@@ -110,3 +111,27 @@ expression_begins scope at first (m ∷ more) old new v some is =
     then_noted old new (conjunction_value scope at first) v (λ v. disjuncts scope at (first_condition v) (expression_from (conjunction_of m) (map conjunction_of more)) >>= grouped_conditions at) is
     ∙ ap (λ n. outcome new (n >>= grouped_conditions at)) (disjuncts_row scope at (first_condition v) (conjunction_of m) more
     ∙ row_first (conjunction_value scope at (conjunction_of m)) (λ w. beside_condition connective.Or (first_condition v) (first_condition w)) (expression_step scope at) more)
+
+pub sum_alone : (scope : ScopeTree) (at : ℕ) (first : TermTree) (more : List (Addition × Term)) (old new : Option Fault) (v : ValueTree)
+    → (length more == 0) ≡ true → outcome old (term_value scope at first) ≡ (v, new) → outcome old (sum_value scope at (sum_from first (map (λ m. (m.0, term_of m.1)) more))) ≡ (v, new)
+sum_alone scope at first [] old new v none is = is
+sum_alone scope at first (m ∷ more) old new v none is =
+    let no_more : length (m ∷ more) ≡ 0 = eqb-true _ 0 none in absurd (omega arith)
+
+pub term_alone : (scope : ScopeTree) (at : ℕ) (first : UnaryTree) (more : List (Multiplication × Unary)) (old new : Option Fault) (v : ValueTree)
+    → (length more == 0) ≡ true → outcome old (unary_value scope at first) ≡ (v, new) → outcome old (term_value scope at (term_from first (map (λ m. (m.0, unary_of m.1)) more))) ≡ (v, new)
+term_alone scope at first [] old new v none is = is
+term_alone scope at first (m ∷ more) old new v none is =
+    let no_more : length (m ∷ more) ≡ 0 = eqb-true _ 0 none in absurd (omega arith)
+
+pub conjunction_alone : (scope : ScopeTree) (at : ℕ) (first : ComparisonTree) (more : List Comparison) (old new : Option Fault) (v : ValueTree)
+    → (length more == 0) ≡ true → outcome old (comparison_value scope at first) ≡ (v, new) → outcome old (conjunction_value scope at (conjunction_from first (map comparison_of more))) ≡ (v, new)
+conjunction_alone scope at first [] old new v none is = is
+conjunction_alone scope at first (m ∷ more) old new v none is =
+    let no_more : length (m ∷ more) ≡ 0 = eqb-true _ 0 none in absurd (omega arith)
+
+pub expression_alone : (scope : ScopeTree) (at : ℕ) (first : ConjunctionTree) (more : List Conjunction) (old new : Option Fault) (v : ValueTree)
+    → (length more == 0) ≡ true → outcome old (conjunction_value scope at first) ≡ (v, new) → outcome old (value_of scope at (expression_from first (map conjunction_of more))) ≡ (v, new)
+expression_alone scope at first [] old new v none is = is
+expression_alone scope at first (m ∷ more) old new v none is =
+    let no_more : length (m ∷ more) ≡ 0 = eqb-true _ 0 none in absurd (omega arith)

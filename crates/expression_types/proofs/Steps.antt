@@ -1,6 +1,6 @@
 -- Values with the faults on the way to them, one after the other.
-use Rattle.std.proofs.Common.{◌≡◌, refl, ap, sym, ◌∙◌, ℕ, suc, ◌+◌, ◌<◌, List, [], ◌∷◌, ◌++◌, length, drop, get_or, drop-cons, add-one, Option, Some, Result, Ok, Err}
-use Rattle.std.proofs.lemmas.List.{append-nil, append_assoc}
+use Rattle.std.proofs.Common.{◌≡◌, refl, ap, sym, ◌∙◌, ℕ, suc, ◌+◌, ◌<◌, ◌≤◌, List, [], ◌∷◌, ◌++◌, length, drop, get_or, drop-cons, add-one, Option, Some, Result, Ok, Err}
+use Rattle.std.proofs.lemmas.List.{append-nil, append_assoc, at_drop_all}
 use Rattle.expression_types.specs.declared.fault.Fault.{Fault}
 use Rattle.expression_types.specs.Faults.{earlier, least_of}
 use Rattle.std.specs.declared.alloc.AllocError.{AllocError}
@@ -50,3 +50,10 @@ pub notes_then : {T A B : Type 0} (view : T → B) (old between new : Option Fau
     → outcome old m ≡ (x, between) → Notes view between new answer (next x) → Notes view old new answer (m >>= next)
 notes_then view old between new m x next (Ok y) is notes = then_noted old between m x next is ∙ notes
 notes_then view old between new m x next (Err e) is notes = tt
+
+-- the answer behind the last item of a row
+pub row_ends : {S L T A : Type 0} (view : T → A) (old between new : Option Fault) (m : Noted A) (step : S → L → Noted S) (s : S) (items : List L) (i : ℕ) (next : S → Noted A)
+    (answer : Result T AllocError) → length items ≤ i → outcome old m ≡ outcome between (row step s (drop i items) >>= next) → Notes view between new answer (next s)
+    → Notes view old new answer m
+row_ends view old between new m step s items i next (Ok y) all is notes = is ∙ at_drop_all (λ xs. outcome between (row step s xs >>= next)) items i all ∙ notes
+row_ends view old between new m step s items i next (Err e) all is notes = tt

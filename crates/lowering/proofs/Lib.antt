@@ -1,3 +1,4 @@
+pub mod Copying
 pub mod Measures
 pub mod Modified
 pub mod Within

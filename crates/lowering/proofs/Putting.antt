@@ -1,11 +1,11 @@
 -- Laws of what is put behind instructions.
-use Rattle.std.proofs.Common.{◌≡◌, ℕ, suc, ◌+◌, List, [], ◌∷◌, ◌++◌, length, slice_set, refl, sym, ap, ◌∙◌, append_assoc, length-append}
+use Rattle.std.proofs.Common.{◌≡◌, ℕ, suc, ◌+◌, List, [], ◌∷◌, ◌++◌, length, slice_set, refl, sym, ap, ◌∙◌, subst, append_assoc, length-append}
 use Rattle.std.proofs.lemmas.List.{append-nil}
 use Rattle.typed_tree.specs.ProgramTree.{ProgramTree}
 use Rattle.plans.specs.Instruction.{InstructionTree}
 use Rattle.instructions.specs.declared.instruction.Instruction.{Instruction}
 use Rattle.instructions.proofs.Pairwise.{pairwise_append}
-use Rattle.lowering.specs.Putting.{Puts}
+use Rattle.lowering.specs.Putting.{Fills, KeepsPlace, Puts}
 use Rattle.lowering.specs.Text.{AreWritten, IsWritten}
 
 pub puts_nothing : (p : ProgramTree) (a : List Instruction) → Puts p a a []
@@ -44,3 +44,12 @@ puts_patched p a b c x i t ts n e puts at is = record {
       ∙ set_behind a x i puts.more;
   are = (is, puts.are);
 }
+
+-- an instruction that fills the place that was kept before them
+pub puts_filled : (p : ProgramTree) (a b c e : List Instruction) (n : ℕ) (t : InstructionTree) (ts : List InstructionTree)
+    → KeepsPlace a b n → Puts p b c ts → Fills p c e n t → Puts p a e (t ∷ ts)
+puts_filled p a b c e n t ts keeps puts fills =
+    subst (λ xs. Puts p a xs (t ∷ ts)) (sym fills.is) (puts_patched p a b c keeps.kept fills.instruction t ts n keeps.is puts keeps.at fills.written)
+
+pub place_length : (a b : List Instruction) (n : ℕ) → KeepsPlace a b n → length b ≡ length a + 1
+place_length a b n keeps = ap length keeps.is ∙ length-append a (keeps.kept ∷ [])

@@ -1,8 +1,9 @@
 -- The instructions of statements with blocks, and of blocks.
-use Rattle.std.proofs.Common.{◌≡◌, ℕ, ◌+◌, Bool, false, Option, List, [], ◌∷◌, ◌++◌, length, slice_set, sym, ap, ◌∙◌, arith, subst, append_assoc, length-append}
+use Rattle.std.proofs.Common.{◌≡◌, ℕ, ◌+◌, Bool, false, Option, List, [], ◌∷◌, ◌++◌, length, refl, sym, ap, ◌∙◌, arith, subst, append-nil, append_assoc}
+use Rattle.typed_tree.specs.declared.statement.Statement.{Statement}
 use Rattle.typed_tree.specs.IntegerTree.{IntegerTree}
 use Rattle.typed_tree.specs.ConditionTree.{ConditionTree}
-use Rattle.typed_tree.specs.BlockTree.{ActionTree, DeclareInteger, If, IfElse, While, For, BlockTree, Then}
+use Rattle.typed_tree.specs.BlockTree.{ActionTree, DeclareInteger, If, IfElse, While, For, BlockTree, Then, block_tree}
 use Rattle.typed_tree.specs.ProgramTree.{ProgramTree}
 use Rattle.schedule.specs.Schedule.{ScheduleTree}
 use Rattle.plans.specs.declared.depth.Depth.{Depth}
@@ -12,9 +13,9 @@ use Rattle.plans.specs.Plan.{behind, behind_all, in_loop, main_depth, plan_of, w
 use Rattle.plans.proofs.Places.{length_in, length-plan, length-plan_all}
 use Rattle.instructions.specs.declared.instruction.Instruction.{Instruction}
 use Rattle.instructions.proofs.Pairwise.{pairwise_append}
-use Rattle.lowering.specs.Putting.{Puts}
+use Rattle.lowering.specs.Putting.{BeginsLoop, Fills, KeepsPlace, Puts}
 use Rattle.lowering.specs.Text.{AreWritten, IsWritten}
-use Rattle.lowering.proofs.Putting.{puts_one, puts_both, puts_length, puts_patched}
+use Rattle.lowering.proofs.Putting.{place_length, puts_both, puts_filled, puts_length, puts_nothing}
 
 module _ (p : ProgramTree) (s : ScheduleTree) where
   -- of instructions to be put, these are put, and those of the statements that are left come behind them
@@ -39,70 +40,78 @@ module _ (p : ProgramTree) (s : ScheduleTree) where
             ∙ ap (λ n. (before.done ++ own) ++ plan_all p s n (behind action d) (takes_next company) rest) (sym to);
       }
 
+  -- none of them is put yet, and all are
+  pub has_put_none : (a : List Instruction) (d : Depth) (is_done : Bool) (left : BlockTree) → HasPut (plan_all p s (length a) d is_done left) a a d is_done left
+  has_put_none a d is_done left = record { done = []; puts = puts_nothing p a; is = refl }
+
+  pub has_put_all : (whole : List InstructionTree) (a b : List Instruction) (d : Depth) (is_done : Bool) (left : List Statement)
+      → length left ≡ 0 → HasPut whole a b d is_done (block_tree left) → Puts p a b whole
+  has_put_all whole a b d is_done [] none put = subst (Puts p a b) (sym (put.is ∙ append-nil put.done)) put.puts
+  has_put_all whole a b d is_done (first ∷ left) none put = absurd (omega (arith, none))
+
   -- where a block's instructions end
   ends_at : (b c : List Instruction) (d : Depth) (body : BlockTree) → Puts p b c (plan_all p s (length b) d false body) → length c ≡ length b + size_all p s d false body
   ends_at b c d body puts = puts_length p b c (plan_all p s (length b) d false body) puts ∙ ap (λ n. length b + n) (length-plan_all p s body (length b) d false)
 
-  one_more : (a b : List Instruction) (x : Instruction) → b ≡ a ++ x ∷ [] → length b ≡ length a + 1
-  one_more a b x e = ap length e ∙ length-append a (x ∷ [])
+  pub puts_if : (a b c e : List Instruction) (n to : ℕ) (d : Depth) (number : ℕ) (label : Option ℕ) (t : ConditionTree) (body : BlockTree)
+      → KeepsPlace a b n → Puts p b c (plan_all p s (length b) d false body) → to ≡ length c → Fills p c e n (plain number d (Unless t to))
+      → Puts p a e (plan p s (length a) d number label (If t body))
+  puts_if a b c e n to d number label t body keeps puts behind fills =
+      let one = place_length a b n keeps in
+      let place : to ≡ length a + 1 + size_all p s d false body = behind ∙ ends_at b c d body puts ∙ ap (λ m. m + size_all p s d false body) one in
+      puts_filled p a b c e n _ _ keeps (subst (λ m. Puts p b c (plan_all p s m d false body)) one puts) (subst (λ m. Fills p c e n (plain number d (Unless t m))) place fills)
 
-  pub puts_if : (a b c : List Instruction) (x i : Instruction) (n : ℕ) (d : Depth) (number : ℕ) (label : Option ℕ) (t : ConditionTree) (body : BlockTree)
-      → b ≡ a ++ x ∷ [] → Puts p b c (plan_all p s (length b) d false body) → n ≡ length a → IsWritten p i (plain number d (Unless t (length c)))
-      → Puts p a (slice_set c n i) (plan p s (length a) d number label (If t body))
-  puts_if a b c x i n d number label t body e puts at is =
-      let one = one_more a b x e in
-      let to : length c ≡ length a + 1 + size_all p s d false body = ends_at b c d body puts ∙ ap (λ m. m + size_all p s d false body) one in
-      puts_patched p a b c x i _ _ n e (subst (λ m. Puts p b c (plan_all p s m d false body)) one puts) at (subst (λ m. IsWritten p i (plain number d (Unless t m))) to is)
+  pub puts_choice : (a b c e k g h : List Instruction) (n to m : ℕ) (d : Depth) (number : ℕ) (label : Option ℕ) (t : ConditionTree) (body other : BlockTree)
+      → KeepsPlace a b n → Puts p b c (plan_all p s (length b) d false body) → to ≡ length c + 1 → Fills p c e n (plain number d (Unless t to))
+      → KeepsPlace e k m → Puts p k g (plan_all p s (length k) d false other) → Fills p g h m (loop_step number d d (Jump (length g)))
+      → Puts p a h (plan p s (length a) d number label (IfElse t body other))
+  puts_choice a b c e k g h n to m d number label t body other keeps puts otherwise fills keeps_jump more jump =
+      let one = place_length a b n keeps in
+      let inside : length c ≡ length a + 1 + size_all p s d false body = ends_at b c d body puts ∙ ap (λ q. q + size_all p s d false body) one in
+      let place : to ≡ length a + 1 + size_all p s d false body + 1 = otherwise ∙ ap (λ q. q + 1) inside in
+      let first = puts_filled p a b c e n _ _ keeps (subst (λ q. Puts p b c (plan_all p s q d false body)) one puts) (subst (λ q. Fills p c e n (plain number d (Unless t q))) place fills) in
+      let long : length e ≡ length a + 1 + size_all p s d false body = puts_length p a e _ first ∙ omega (arith, length-plan_all p s body (length a + 1) d false) in
+      let second : length k ≡ length a + 1 + size_all p s d false body + 1 = place_length e k m keeps_jump ∙ ap (λ q. q + 1) long in
+      let end : length g ≡ length a + 1 + size_all p s d false body + 1 + size_all p s d false other = ends_at k g d other more ∙ ap (λ q. q + size_all p s d false other) second in
+      puts_both p a e h _ _ first
+      (puts_filled p e k g h m _ _ keeps_jump (subst (λ q. Puts p k g (plan_all p s q d false other)) second more) (subst (λ q. Fills p g h m (loop_step number d d (Jump q))) end jump))
 
-  pub puts_choice : (a b c k e : List Instruction) (x y i j : Instruction) (n m : ℕ) (d : Depth) (number : ℕ) (label : Option ℕ) (t : ConditionTree) (body other : BlockTree)
-      → b ≡ a ++ x ∷ [] → Puts p b c (plan_all p s (length b) d false body) → k ≡ c ++ y ∷ [] → Puts p k e (plan_all p s (length k) d false other)
-      → n ≡ length a → m ≡ length c → IsWritten p i (plain number d (Unless t (length k))) → IsWritten p j (loop_step number d d (Jump (length e)))
-      → Puts p a (slice_set (slice_set e m j) n i) (plan p s (length a) d number label (IfElse t body other))
-  puts_choice a b c k e x y i j n m d number label t body other first puts second more at there unless jump =
-      let one = one_more a b x first in
-      let to : length c ≡ length a + 1 + size_all p s d false body = ends_at b c d body puts ∙ ap (λ q. q + size_all p s d false body) one in
-      let otherwise : length k ≡ length a + 1 + size_all p s d false body + 1 = one_more c k y second ∙ ap (λ q. q + 1) to in
-      let end : length e ≡ length a + 1 + size_all p s d false body + 1 + size_all p s d false other = ends_at k e d other more ∙ ap (λ q. q + size_all p s d false other) otherwise in
-      let behind = puts_patched p c k e y j _ _ m second (subst (λ q. Puts p k e (plan_all p s q d false other)) otherwise more) there (subst (λ q. IsWritten p j (plain number d (Jump q))) end jump) in
-      puts_patched p a b (slice_set e m j) x i _ _ n first
-      (puts_both p b c (slice_set e m j) _ _ (subst (λ q. Puts p b c (plan_all p s q d false body)) one puts) behind)
-      at (subst (λ q. IsWritten p i (plain number d (Unless t q))) otherwise unless)
+  pub puts_while : (a b c g e : List Instruction) (n to : ℕ) (d : Depth) (number : ℕ) (label : Option ℕ) (t : ConditionTree) (body : BlockTree)
+      → BeginsLoop p a b n (loop_step number d d Turn) → Puts p b c (plan_all p s (length b) d false body)
+      → Puts p c g (loop_step number d d (Jump n) ∷ []) → to ≡ length g → Fills p g e n (plain number d (Unless t to))
+      → Puts p a e (plan p s (length a) d number label (While t body))
+  puts_while a b c g e n to d number label t body begins puts jump behind fills =
+      let one = place_length a begins.test n begins.keeps in
+      let two : length b ≡ length a + 2 = puts_length p begins.test b _ begins.turns ∙ omega (arith, one) in
+      let place : to ≡ length a + 2 + size_all p s d false body + 1 = behind ∙ puts_length p c g _ jump ∙ omega (arith, ends_at b c d body puts, two) in
+      puts_filled p a begins.test g e n _ _ begins.keeps
+      (puts_both p begins.test b g _ _ begins.turns
+      (puts_both p b c g _ _ (subst (λ q. Puts p b c (plan_all p s q d false body)) two puts)
+      (subst (λ q. Puts p c g (loop_step number d d (Jump q) ∷ [])) begins.keeps.at jump)))
+      (subst (λ q. Fills p g e n (plain number d (Unless t q))) place fills)
 
-  pub puts_while : (a b k c e : List Instruction) (x u j i : Instruction) (n : ℕ) (d : Depth) (number : ℕ) (label : Option ℕ) (t : ConditionTree) (body : BlockTree)
-      → b ≡ a ++ x ∷ [] → k ≡ b ++ u ∷ [] → IsWritten p u (loop_step number d d Turn) → Puts p k c (plan_all p s (length k) d false body)
-      → e ≡ c ++ j ∷ [] → IsWritten p j (loop_step number d d (Jump n)) → n ≡ length a → IsWritten p i (plain number d (Unless t (length e)))
-      → Puts p a (slice_set e n i) (plan p s (length a) d number label (While t body))
-  puts_while a b k c e x u j i n d number label t body first second turn puts last jump at unless =
-      let one = one_more a b x first in
-      let two : length k ≡ length a + 2 = one_more b k u second ∙ omega (arith, one) in
-      let to : length e ≡ length a + 2 + size_all p s d false body + 1 =
-      one_more c e j last ∙ ap (λ q. q + 1) (ends_at k c d body puts ∙ ap (λ q. q + size_all p s d false body) two) in
-      puts_patched p a b e x i _ _ n first
-      (puts_both p b k e _ _ (puts_one p b k u _ second turn)
-      (puts_both p k c e _ _ (subst (λ q. Puts p k c (plan_all p s q d false body)) two puts)
-      (puts_one p c e j _ last (subst (λ q. IsWritten p j (plain number d (Jump q))) at jump))))
-      at (subst (λ q. IsWritten p i (plain number d (Unless t q))) to unless)
-
-  pub puts_for : (a f b k c g e : List Instruction) (x u v j i : Instruction) (n : ℕ) (d : Depth) (number : ℕ) (label : Option ℕ) (name : ℕ) (first end : IntegerTree) (body : BlockTree)
+  pub puts_for : (a f b c g e : List Instruction) (n : ℕ) (d : Depth) (number : ℕ) (label : Option ℕ) (name : ℕ) (first end : IntegerTree) (body : BlockTree)
       → Puts p a f (plain number d (Do (DeclareInteger name first)) ∷ loop_step number (with_integer d) d (Enter name end) ∷ [])
-      → b ≡ f ++ x ∷ [] → k ≡ b ++ u ∷ [] → IsWritten p u (loop_step number (in_loop d) d Turn) → Puts p k c (plan_all p s (length k) (in_loop d) false body)
-      → g ≡ c ++ v ∷ [] → IsWritten p v (plain number d (Advance name)) → e ≡ g ++ j ∷ [] → IsWritten p j (loop_step number (in_loop d) d (Jump n))
-      → n ≡ length f → IsWritten p i (loop_step number (in_loop d) d (UnlessBelow name (length e)))
-      → Puts p a (slice_set e n i) (plan p s (length a) d number label (For name first end body))
-  puts_for a f b k c g e x u v j i n d number label name first end body bounds test second turn puts third advance last jump at below =
+      → BeginsLoop p f b n (loop_step number (in_loop d) d Turn) → Puts p b c (plan_all p s (length b) (in_loop d) false body)
+      → Puts p c g (plain number d (Advance name) ∷ loop_step number (in_loop d) d (Jump n) ∷ []) → Fills p g e n (loop_step number (in_loop d) d (UnlessBelow name (length g)))
+      → Puts p a e (plan p s (length a) d number label (For name first end body))
+  puts_for a f b c g e n d number label name first end body bounds begins puts back fills =
       let head : length f ≡ length a + 2 = puts_length p a f _ bounds in
-      let one = one_more f b x test in
-      let two : length k ≡ length a + 4 = one_more b k u second ∙ omega (arith, one, head) in
-      let to : length e ≡ length a + 4 + size_all p s (in_loop d) false body + 2 =
-      one_more g e j last ∙ omega (arith, one_more c g v third, ends_at k c (in_loop d) body puts, two) in
-      let place : n ≡ length a + 2 = at ∙ head in
-      puts_both p a f (slice_set e n i) _ _ bounds
-      (puts_patched p f b e x i _ _ n test
-      (puts_both p b k e _ _ (puts_one p b k u _ second turn)
-      (puts_both p k c e _ _ (subst (λ q. Puts p k c (plan_all p s q (in_loop d) false body)) two puts)
-      (puts_both p c g e _ _ (puts_one p c g v _ third advance)
-      (puts_one p g e j _ last (subst (λ q. IsWritten p j (loop_step number (in_loop d) d (Jump q))) place jump)))))
-      at (subst (λ q. IsWritten p i (loop_step number (in_loop d) d (UnlessBelow name q))) to below))
+      let one = place_length f begins.test n begins.keeps in
+      let two : length b ≡ length a + 4 = puts_length p begins.test b _ begins.turns ∙ omega (arith, one, head) in
+      let to : length g ≡ length a + 4 + size_all p s (in_loop d) false body + 2 = puts_length p c g _ back ∙ omega (arith, ends_at b c (in_loop d) body puts, two) in
+      let place : n ≡ length a + 2 = begins.keeps.at ∙ head in
+      puts_both p a f e _ _ bounds
+      (puts_filled p f begins.test g e n _ _ begins.keeps
+      (puts_both p begins.test b g _ _ begins.turns
+      (puts_both p b c g _ _ (subst (λ q. Puts p b c (plan_all p s q (in_loop d) false body)) two puts)
+      (subst (λ q. Puts p c g (plain number d (Advance name) ∷ loop_step number (in_loop d) d (Jump q) ∷ [])) place back)))
+      (subst (λ q. Fills p g e n (loop_step number (in_loop d) d (UnlessBelow name q))) to fills))
+
+-- nothing is declared where no statement is left
+pub behind_none : (left : List Statement) (d : Depth) → length left ≡ 0 → behind_all (block_tree left) d ≡ d
+behind_none [] d none = refl
+behind_none (first ∷ left) d none = absurd (omega (arith, none))
 
 -- main, and the end
 pub whole_plan : (p : ProgramTree) (s : ScheduleTree) (a b k : List Instruction) (d : Depth) (i : Instruction)

@@ -9,10 +9,9 @@ ghost use Rattle.plans.specs.Plan.{behind, behind_all, plan, plan_all, plan_in};
 ghost use Rattle.lowering.specs.Putting.{Puts};
 ghost use Rattle.lowering.specs.Visible.{depth_of};
 
-use crate::leaves::{plain, replace};
 use crate::visible::Visible;
 use fusing::pair_at;
-use instructions::{Instruction, Operation};
+use instructions::Instruction;
 use schedule::Schedule;
 use std::alloc::{AllocError, Global};
 use typed_tree::{Action, Condition, Integer, Statement, Typed};
@@ -129,12 +128,9 @@ impl Lowering<'_> {
         ensures visible { OnOk result (depth_of visible.new ≡ depth_of visible.old) }
     {
         let depth = visible.depth();
-        let test = code.len();
-        code.push(plain(number, depth, Operation::End, Vec::new(self.alloc)))?;
+        let test = self.keep_place(number, depth, code)?;
         self.put_inside(body, visible, code)?;
-        let unless = self.unless(number, depth, c, code.len())?;
-        replace(code, test, unless);
-        Ok(())
+        self.fill_unless(number, depth, c, code.len(), test, code)
     }
 
     /// `if` and `else`: between the two blocks stands a jump behind the second.
@@ -152,17 +148,12 @@ impl Lowering<'_> {
         ensures visible { OnOk result (depth_of visible.new ≡ depth_of visible.old) }
     {
         let depth = visible.depth();
-        let test = code.len();
-        code.push(plain(number, depth, Operation::End, Vec::new(self.alloc)))?;
+        let test = self.keep_place(number, depth, code)?;
         self.put_inside(body, visible, code)?;
-        let jump = code.len();
-        code.push(plain(number, depth, Operation::End, Vec::new(self.alloc)))?;
-        let unless = self.unless(number, depth, c, code.len())?;
+        self.fill_unless(number, depth, c, code.len() + 1, test, code)?;
+        let jump = self.keep_place(number, depth, code)?;
         self.put_inside(other, visible, code)?;
-        let behind = self.jump(number, depth, depth, code.len())?;
-        replace(code, jump, behind);
-        replace(code, test, unless);
-        Ok(())
+        self.fill_jump(number, depth, jump, code)
     }
 
     /// `while`: a test, a turn, the body, and a jump back.
@@ -179,14 +170,10 @@ impl Lowering<'_> {
         ensures visible { OnOk result (depth_of visible.new ≡ depth_of visible.old) }
     {
         let depth = visible.depth();
-        let test = code.len();
-        code.push(plain(number, depth, Operation::End, Vec::new(self.alloc)))?;
-        code.push(self.turn(number, depth, depth)?)?;
+        let test = self.begin_loop(number, depth, depth, code)?;
         self.put_inside(body, visible, code)?;
-        code.push(self.jump(number, depth, depth, test)?)?;
-        let unless = self.unless(number, depth, c, code.len())?;
-        replace(code, test, unless);
-        Ok(())
+        self.put_jump(number, depth, depth, test, code)?;
+        self.fill_unless(number, depth, c, code.len(), test, code)
     }
 
     /// `for`: the name and the bound get their values; then a test, a turn, the body, the next value and a jump back.
@@ -207,14 +194,10 @@ impl Lowering<'_> {
         let depth = visible.depth();
         self.put_bounds(number, name, first, end, visible, code)?;
         let inside = visible.depth();
-        let test = code.len();
-        code.push(plain(number, depth, Operation::End, Vec::new(self.alloc)))?;
-        code.push(self.turn(number, inside, depth)?)?;
+        let test = self.begin_loop(number, inside, depth, code)?;
         self.put_inside(body, visible, code)?;
-        code.push(self.advance(number, depth, name)?)?;
-        code.push(self.jump(number, inside, depth, test)?)?;
-        let below = self.unless_below(number, inside, depth, name, code.len())?;
-        replace(code, test, below);
+        self.put_back(number, inside, depth, name, test, code)?;
+        self.fill_unless_below(number, inside, depth, name, test, code)?;
         visible.cut(depth);
         Ok(())
     }

@@ -1,5 +1,5 @@
 //! Single instructions.
-ghost use Rattle.std.specs.Prelude.{◌≡◌, ◌++◌, ◌∷◌, [], IfOk, OnOk, slice_set, vec_len};
+ghost use Rattle.std.specs.Prelude.{◌≡◌, ◌++◌, ◌∷◌, [], IfOk, OnOk, length, slice_set, vec_len};
 ghost use Rattle.typed_tree.specs.BlockTree.{DeclareInteger, action_tree};
 ghost use Rattle.typed_tree.specs.ConditionTree.{condition_tree};
 ghost use Rattle.typed_tree.specs.IntegerTree.{integer_tree};
@@ -11,7 +11,7 @@ ghost use Rattle.plan_text.specs.Words.{spaced};
 ghost use Rattle.fusing.specs.Parts.{part_tree, together_tree};
 ghost use Rattle.instructions.specs.Operation.{IsOperation};
 ghost use Rattle.lowering.specs.Kinds.{HasNoBlock};
-ghost use Rattle.lowering.specs.Putting.{Puts};
+ghost use Rattle.lowering.specs.Putting.{BeginsLoop, Fills, KeepsPlace, Puts};
 ghost use Rattle.lowering.specs.Text.{IsWritten, operation_words, shown_part};
 ghost use Rattle.lowering.specs.Visible.{depth_of};
 
@@ -46,7 +46,7 @@ pub(crate) fn plain(number: u64, depth: Depth, operation: Operation, words: Vec<
 }
 
 /// Puts an instruction in the place of one that is there.
-pub(crate) fn replace(code: &mut Vec<Instruction>, place: usize, instruction: Instruction)
+fn replace(code: &mut Vec<Instruction>, place: usize, instruction: Instruction)
     ensures { code.new.items ≡ slice_set code.old.items place instruction }
 {
     if place < code.len() {
@@ -56,7 +56,7 @@ pub(crate) fn replace(code: &mut Vec<Instruction>, place: usize, instruction: In
 
 impl Lowering<'_> {
     /// `unless [c] X`
-    pub(crate) fn unless(
+    fn unless(
         self,
         number: u64,
         depth: Depth,
@@ -75,12 +75,7 @@ impl Lowering<'_> {
     }
 
     /// `turn`
-    pub(crate) fn turn(
-        self,
-        number: u64,
-        keep: Depth,
-        shown: Depth,
-    ) -> Result<Instruction, AllocError>
+    fn turn(self, number: u64, keep: Depth, shown: Depth) -> Result<Instruction, AllocError>
         ensures { IfOk result (λ i. IsWritten (program_tree self.entry.program.now) i (loop_step number keep shown Turn)) }
     {
         let mut words = Vec::new(self.alloc);
@@ -96,7 +91,7 @@ impl Lowering<'_> {
     }
 
     /// `jump X`
-    pub(crate) fn jump(
+    fn jump(
         self,
         number: u64,
         keep: Depth,
@@ -118,12 +113,7 @@ impl Lowering<'_> {
     }
 
     /// `set i [i 1 +]`
-    pub(crate) fn advance(
-        self,
-        number: u64,
-        depth: Depth,
-        name: usize,
-    ) -> Result<Instruction, AllocError>
+    fn advance(self, number: u64, depth: Depth, name: usize) -> Result<Instruction, AllocError>
         ensures { IfOk result (λ i. IsWritten (program_tree self.entry.program.now) i (plain_tree number depth (Advance name))) }
     {
         let mut words = Vec::new(self.alloc);
@@ -135,7 +125,7 @@ impl Lowering<'_> {
     }
 
     /// `unless [i i.end <] X`
-    pub(crate) fn unless_below(
+    fn unless_below(
         self,
         number: u64,
         keep: Depth,
@@ -160,6 +150,21 @@ impl Lowering<'_> {
         })
     }
 
+    /// Puts that a `for`'s name gets its first value.
+    fn put_first(
+        self,
+        number: u64,
+        depth: Depth,
+        name: usize,
+        e: &Integer,
+        code: &mut Vec<Instruction>,
+    ) -> Result<(), AllocError>
+        ensures { OnOk result (Puts (program_tree self.entry.program.now) code.old.items code.new.items (plain_tree number depth (Do (DeclareInteger name (integer_tree e.now))) ∷ [])) }
+    {
+        code.push(self.first(number, depth, name, e)?)?;
+        Ok(())
+    }
+
     /// `set i [a]`
     fn first(
         self,
@@ -182,6 +187,22 @@ impl Lowering<'_> {
             Operation::DeclareInteger { name, value },
             words,
         ))
+    }
+
+    /// Puts that a `for`'s bound gets its value.
+    fn put_enter(
+        self,
+        number: u64,
+        keep: Depth,
+        shown: Depth,
+        name: usize,
+        e: &Integer,
+        code: &mut Vec<Instruction>,
+    ) -> Result<(), AllocError>
+        ensures { OnOk result (Puts (program_tree self.entry.program.now) code.old.items code.new.items (loop_step number keep shown (Enter name (integer_tree e.now)) ∷ [])) }
+    {
+        code.push(self.enter(number, keep, shown, name, e)?)?;
+        Ok(())
     }
 
     /// `set i.end [b]`
@@ -211,6 +232,115 @@ impl Lowering<'_> {
         })
     }
 
+    /// Keeps a place for an instruction that is known when the block behind it stands. Answers the place.
+    pub(crate) fn keep_place(
+        self,
+        number: u64,
+        depth: Depth,
+        code: &mut Vec<Instruction>,
+    ) -> Result<usize, AllocError>
+        ensures { IfOk result (λ place. KeepsPlace code.old.items code.new.items place) }
+    {
+        let place = code.len();
+        code.push(plain(number, depth, Operation::End, Vec::new(self.alloc)))?;
+        Ok(place)
+    }
+
+    /// Keeps a place for the test of a loop, and puts the turn. Answers the place.
+    pub(crate) fn begin_loop(
+        self,
+        number: u64,
+        keep: Depth,
+        shown: Depth,
+        code: &mut Vec<Instruction>,
+    ) -> Result<usize, AllocError>
+        ensures { IfOk result (λ place. BeginsLoop (program_tree self.entry.program.now) code.old.items code.new.items place (loop_step number keep shown Turn)) }
+    {
+        let place = self.keep_place(number, shown, code)?;
+        code.push(self.turn(number, keep, shown)?)?;
+        Ok(place)
+    }
+
+    /// Puts a jump.
+    pub(crate) fn put_jump(
+        self,
+        number: u64,
+        keep: Depth,
+        shown: Depth,
+        to: usize,
+        code: &mut Vec<Instruction>,
+    ) -> Result<(), AllocError>
+        ensures { OnOk result (Puts (program_tree self.entry.program.now) code.old.items code.new.items (loop_step number keep shown (Jump to) ∷ [])) }
+    {
+        code.push(self.jump(number, keep, shown, to)?)?;
+        Ok(())
+    }
+
+    /// Puts that the name of a `for` gets its next value, and the jump to the test.
+    pub(crate) fn put_back(
+        self,
+        number: u64,
+        keep: Depth,
+        shown: Depth,
+        name: usize,
+        test: usize,
+        code: &mut Vec<Instruction>,
+    ) -> Result<(), AllocError>
+        ensures { OnOk result (Puts (program_tree self.entry.program.now) code.old.items code.new.items (plain_tree number shown (Advance name) ∷ loop_step number keep shown (Jump test) ∷ [])) }
+    {
+        code.push(self.advance(number, shown, name)?)?;
+        self.put_jump(number, keep, shown, test, code)
+    }
+
+    /// Puts a test into the place that was kept for it.
+    pub(crate) fn fill_unless(
+        self,
+        number: u64,
+        depth: Depth,
+        c: &Condition,
+        to: usize,
+        place: usize,
+        code: &mut Vec<Instruction>,
+    ) -> Result<(), AllocError>
+        ensures { OnOk result (Fills (program_tree self.entry.program.now) code.old.items code.new.items place (plain_tree number depth (Unless (condition_tree c.now) to))) }
+    {
+        let unless = self.unless(number, depth, c, to)?;
+        replace(code, place, unless);
+        Ok(())
+    }
+
+    /// Puts the test of a `for`, which goes behind the code, into the place that was kept for it.
+    pub(crate) fn fill_unless_below(
+        self,
+        number: u64,
+        keep: Depth,
+        shown: Depth,
+        name: usize,
+        place: usize,
+        code: &mut Vec<Instruction>,
+    ) -> Result<(), AllocError>
+        ensures { OnOk result (Fills (program_tree self.entry.program.now) code.old.items code.new.items place (loop_step number keep shown (UnlessBelow name (length code.old.items)))) }
+    {
+        let below = self.unless_below(number, keep, shown, name, code.len())?;
+        replace(code, place, below);
+        Ok(())
+    }
+
+    /// Puts a jump behind the code into the place that was kept for it.
+    pub(crate) fn fill_jump(
+        self,
+        number: u64,
+        depth: Depth,
+        place: usize,
+        code: &mut Vec<Instruction>,
+    ) -> Result<(), AllocError>
+        ensures { OnOk result (Fills (program_tree self.entry.program.now) code.old.items code.new.items place (loop_step number depth depth (Jump (length code.old.items)))) }
+    {
+        let jump = self.jump(number, depth, depth, code.len())?;
+        replace(code, place, jump);
+        Ok(())
+    }
+
     /// Puts that a `for`'s name and bound get their values; behind them both are visible.
     pub(crate) fn put_bounds(
         self,
@@ -227,9 +357,9 @@ impl Lowering<'_> {
         ensures visible { OnOk result (depth_of visible.new ≡ in_loop (depth_of visible.old)) }
     {
         let depth = visible.depth();
-        code.push(self.first(number, depth, name, first)?)?;
+        self.put_first(number, depth, name, first, code)?;
         visible.declare_integer(name)?;
-        code.push(self.enter(number, visible.depth(), depth, name, end)?)?;
+        self.put_enter(number, visible.depth(), depth, name, end, code)?;
         visible.declare_integer(name)
     }
 

@@ -1,5 +1,5 @@
 //! Statements.
-ghost use Rattle.std.specs.Prelude.{◌≤◌, [], ◌∷◌, length, IfOk};
+ghost use Rattle.std.specs.Prelude.{◌≤◌, [], ◌∷◌, length, IfOk, None, Some};
 ghost use Rattle.syntax.specs.Terminals.{OfKeyword, OfSymbol};
 ghost use Rattle.parser.specs.Readers.{terminals, Gives};
 ghost use Rattle.syntax.specs.SourceReading.{reduction_at, ended_at, entry_at, entry_by, after_terminal, after_terminals, method_by, added_at, applied_at, reduced_at, named_action};
@@ -119,15 +119,41 @@ fn entry_value(
         (entry_by vector index (terminals cursor.entry) (after_terminal (OfSymbol Symbol.Assign) (terminals cursor.entry))) }
     ensures shorter { IfOk result (λ x. length (terminals x.1) ≤ length (terminals cursor.entry)) }
 {
-    if let Some(after) = cursor.after_symbol(Symbol::Assign) {
-        let (value, behind) = ended(alloc, after)?;
-        let action = Action::SetEntry {
-            vector,
-            index,
-            value,
-        };
-        return Ok((action, behind));
+    match cursor.after_symbol(Symbol::Assign) {
+        Some(after) => entry_assigned(alloc, vector, index, after),
+        None => entry_reduced(alloc, vector, index, cursor),
     }
+}
+
+/// The value that is assigned to an entry, from behind `=`.
+fn entry_assigned(
+    alloc: Global,
+    vector: Name,
+    index: Expression,
+    cursor: Cursor<'_>,
+) -> Result<(Action, Cursor<'_>), SyntaxError>
+    ensures reads { Gives action_tree result (entry_by vector index (terminals cursor.entry) (Some (terminals cursor.entry))) }
+    ensures shorter { IfOk result (λ x. length (terminals x.1) ≤ length (terminals cursor.entry)) }
+{
+    let (value, behind) = ended(alloc, cursor)?;
+    let action = Action::SetEntry {
+        vector,
+        index,
+        value,
+    };
+    Ok((action, behind))
+}
+
+/// The reduction of an entry and its value, from behind the index.
+fn entry_reduced(
+    alloc: Global,
+    vector: Name,
+    index: Expression,
+    cursor: Cursor<'_>,
+) -> Result<(Action, Cursor<'_>), SyntaxError>
+    ensures reads { Gives action_tree result (entry_by vector index (terminals cursor.entry) None) }
+    ensures shorter { IfOk result (λ x. length (terminals x.1) ≤ length (terminals cursor.entry)) }
+{
     let (reduction, rest) = reduction(cursor)?;
     let (value, behind) = ended(alloc, rest)?;
     let action = Action::ReduceEntry {

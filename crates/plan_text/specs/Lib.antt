@@ -2,3 +2,4 @@ pub mod Words
 pub mod Expressions
 pub mod Rows
 pub mod Lines
+pub mod Statements

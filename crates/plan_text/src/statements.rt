@@ -6,7 +6,9 @@ ghost use Rattle.typed_tree.specs.IntegerTree.{integer_tree};
 ghost use Rattle.typed_tree.specs.ProgramTree.{program_tree};
 ghost use Rattle.plan_text.specs.Expressions.{condition_words, integer_words, name_at};
 ghost use Rattle.plan_text.specs.Lines.{advance_words, below_words, bound_words, end_name, put_words, reducing_word, reduction_word, set_line, set_words, statement_words, unless_words, vertices_words};
+ghost use Rattle.plan_text.specs.Statements.{TakesValues};
 ghost use Rattle.plan_text.specs.Words.{bracketed, spaced};
+ghost use Rattle.schedule.specs.declared.choice.Choice.{Choice};
 
 use crate::expressions::{put_condition, put_integer};
 use crate::names::Lines;
@@ -29,22 +31,8 @@ impl Lines<'_> {
         ensures { OnOk result (out.new.items ≡ out.old.items ++ spaced (statement_words (program_tree self.entry.program.now) (action_tree action.now) choice)) }
     {
         match action {
-            Action::DeclareInteger(name, e) => self.put_set_integer(out, *name, e),
-            Action::DeclareCondition(name, c) => self.put_set_condition(out, *name, c),
-            Action::SetInteger(slot, e) => self.put_set_integer(out, slot.name, e),
-            Action::SetCondition(slot, c) => self.put_set_condition(out, slot.name, c),
-            Action::ReduceInteger(slot, reduction, e) => {
-                self.put_reduction(out, slot.name, *reduction, e)
-            }
-            Action::SetEntry(vector, index, e) => self.put_put(out, *vector, index, b"=", e),
-            Action::ReduceEntry(vector, index, reduction, e) => {
-                self.put_put(out, *vector, index, reduction_text(*reduction), e)
-            }
             Action::DeclareSet(name, value) => self.put_set(out, *name, *value, choice),
             Action::AssignSet(slot, value) => self.put_set(out, slot.name, *value, choice),
-            Action::AddVertex(slot, e) => self.put_add_vertex(out, slot.name, e),
-            Action::PrintInteger(e) => self.put_print(out, e),
-            Action::PrintCondition(c) => self.put_condition_behind(out, b"print", c),
             Action::ApplyVertex(set, function) => self.put_vertices(out, *set, *function, None),
             Action::ApplyEdges(ends, function) => {
                 let part = Part {
@@ -57,6 +45,31 @@ impl Lines<'_> {
             | Action::IfElse(_, _, _)
             | Action::While(_, _)
             | Action::For(_, _, _, _) => Ok(()),
+            _ => self.put_values(out, action),
+        }
+    }
+
+    /// Puts the words of a statement that takes values of expressions, and has no block.
+    fn put_values(self, out: &mut Vec<u8>, action: &Action) -> Result<(), AllocError>
+        requires { TakesValues action.now }
+        ensures { (choice : Choice) → OnOk result (out.new.items ≡ out.old.items ++ spaced (statement_words (program_tree self.entry.program.now) (action_tree action.now) choice)) }
+    {
+        match action {
+            Action::DeclareInteger(name, e) => self.put_set_integer(out, *name, e),
+            Action::DeclareCondition(name, c) => self.put_set_condition(out, *name, c),
+            Action::SetInteger(slot, e) => self.put_set_integer(out, slot.name, e),
+            Action::SetCondition(slot, c) => self.put_set_condition(out, slot.name, c),
+            Action::ReduceInteger(slot, reduction, e) => {
+                self.put_reduction(out, slot.name, *reduction, e)
+            }
+            Action::SetEntry(vector, index, e) => self.put_put(out, *vector, index, b"=", e),
+            Action::ReduceEntry(vector, index, reduction, e) => {
+                self.put_put(out, *vector, index, reduction_text(*reduction), e)
+            }
+            Action::AddVertex(slot, e) => self.put_add_vertex(out, slot.name, e),
+            Action::PrintInteger(e) => self.put_print(out, e),
+            Action::PrintCondition(c) => self.put_condition_behind(out, b"print", c),
+            _ => unreachable!(),
         }
     }
 

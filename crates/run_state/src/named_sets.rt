@@ -143,9 +143,7 @@ impl NamedSets {
         ensures ok { OnOk result (self.new ≡ with_state self.old (with_taken (with_taken self.old.state first) second)) }
         ensures err { OnErr result (self.new ≡ self.old) }
     {
-        self.names.reserve(2)?;
-        self.members.reserve(2)?;
-        self.sizes.reserve(2)?;
+        make_room(&mut self.names, &mut self.members, &mut self.sizes, 2)?;
         take_set(&mut self.names, &mut self.members, &mut self.sizes, first);
         take_set(&mut self.names, &mut self.members, &mut self.sizes, second);
         Ok(())
@@ -157,9 +155,7 @@ impl NamedSets {
         ensures ok { OnOk result (self.new ≡ with_state self.old (with_new_set self.old.state name set.members)) }
         ensures err { OnErr result (self.new ≡ self.old) }
     {
-        self.names.reserve(1)?;
-        self.members.reserve(1)?;
-        self.sizes.reserve(1)?;
+        make_room(&mut self.names, &mut self.members, &mut self.sizes, 1)?;
         self.names.push_reserved(name);
         self.sizes.push_reserved(size_of(&set));
         self.members.push_reserved(set);
@@ -208,6 +204,26 @@ fn size_of(set: &VertexSet) -> i64
 {
     let _vertices = set.vertices();
     set.len() as i64
+}
+
+/// Makes room for so many more names, sets and sizes. The only error is out of memory.
+fn make_room(
+    names: &mut Vec<usize>,
+    members: &mut Vec<VertexSet>,
+    sizes: &mut Vec<i64>,
+    more: usize,
+) -> Result<(), AllocError>
+    ensures names { names.new.items ≡ names.old.items }
+    ensures members { members.new.items ≡ members.old.items }
+    ensures sizes { sizes.new.items ≡ sizes.old.items }
+    ensures names_room { OnOk result (vec_len names.new + more ≤ vec_capacity names.new) }
+    ensures members_room { OnOk result (vec_len members.new + more ≤ vec_capacity members.new) }
+    ensures sizes_room { OnOk result (vec_len sizes.new + more ≤ vec_capacity sizes.new) }
+{
+    names.reserve(more)?;
+    members.reserve(more)?;
+    sizes.reserve(more)?;
+    Ok(())
 }
 
 /// Takes a set into names, sets and their sizes, which have room for one more.

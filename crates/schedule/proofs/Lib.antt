@@ -5,6 +5,7 @@ pub mod Defaults
 pub mod FusedOnce
 pub mod FusedPairs
 pub mod Groups
+pub mod Growing
 pub mod Places
 pub mod Values
 pub mod Uses

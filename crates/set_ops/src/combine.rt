@@ -25,8 +25,7 @@ pub(crate) fn combine(
         second.now.elements c.part c.common) }
 {
     if are_mixed(first, second) {
-        let (xs, ys) = (first.elements(alloc)?, second.elements(alloc)?);
-        return combine_lists(alloc, task, first.chunk_size(), &xs, &ys);
+        return combine_elements(alloc, task, first, second);
     }
     let halves = match begin(alloc, task, first, second)? {
         Begun::Whole(combined) => return Ok(combined),
@@ -42,5 +41,28 @@ pub(crate) fn combine(
         halves.second.found,
         below,
         above,
+    )
+}
+
+/// As [`combine`], with both views read as lists and each chunk made anew.
+fn combine_elements(
+    alloc: Global,
+    task: Task,
+    first: &View<'_>,
+    second: &View<'_>,
+) -> Result<Combined, AllocError>
+    requires first_over { Ascends task.base first.now.elements }
+    requires second_over { Ascends task.base second.now.elements }
+    ensures { IfOk result (λ c. IsCombined task.operation first.now.chunk_size first.now.elements
+        second.now.elements c.part c.common) }
+{
+    let first_elements = first.elements(alloc)?;
+    let second_elements = second.elements(alloc)?;
+    combine_lists(
+        alloc,
+        task,
+        first.chunk_size(),
+        &first_elements,
+        &second_elements,
     )
 }

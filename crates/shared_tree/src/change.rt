@@ -25,16 +25,21 @@ impl<V: Share> Tree<V> {
         let Some((left, root_key, value, right)) = self.parts() else {
             return Ok((Tree::new(), None, Tree::new()));
         };
+        let value = value.share()?;
         if key < root_key {
+            let right = right.share()?;
             let (below, found, inner) = left.split(alloc, key)?;
-            let above = join(alloc, inner, root_key, value.share()?, right.share()?)?;
+            let above = join(alloc, inner, root_key, value, right)?;
             Ok((below, found, above))
         } else if root_key < key {
+            let left = left.share()?;
             let (inner, found, above) = right.split(alloc, key)?;
-            let below = join(alloc, left.share()?, root_key, value.share()?, inner)?;
+            let below = join(alloc, left, root_key, value, inner)?;
             Ok((below, found, above))
         } else {
-            Ok((left.share()?, Some(value.share()?), right.share()?))
+            let left = left.share()?;
+            let right = right.share()?;
+            Ok((left, Some(value), right))
         }
     }
 

@@ -148,7 +148,7 @@ pub(crate) fn with_left<V: Share>(
     let (left_depth, right_depth) = (left.depth(), node.right.depth());
     if left_depth > right_depth + 1 || right_depth > left_depth + 1 {
         let (right, node) = without_right(alloc, node)?;
-        return Ok(balance(alloc, left, key, Slot { node }, right)?);
+        return balance(alloc, left, key, Slot { node }, right);
     }
     let mut node = node;
     match Arc::get_mut(&mut node) {
@@ -158,7 +158,7 @@ pub(crate) fn with_left<V: Share>(
         }
         None => {
             let value = node.value.share()?;
-            Ok(fork_new(alloc, left, key, value, node.right.share()?)?)
+            fork_new(alloc, left, key, value, node.right.share()?)
         }
     }
 }
@@ -179,7 +179,7 @@ pub(crate) fn with_right<V: Share>(
     let (left_depth, right_depth) = (node.left.depth(), right.depth());
     if left_depth > right_depth + 1 || right_depth > left_depth + 1 {
         let (left, node) = without_left(alloc, node)?;
-        return Ok(balance(alloc, left, key, Slot { node }, right)?);
+        return balance(alloc, left, key, Slot { node }, right);
     }
     let mut node = node;
     match Arc::get_mut(&mut node) {
@@ -189,7 +189,7 @@ pub(crate) fn with_right<V: Share>(
         }
         None => {
             let value = node.value.share()?;
-            Ok(fork_new(alloc, node.left.share()?, key, value, right)?)
+            fork_new(alloc, node.left.share()?, key, value, right)
         }
     }
 }

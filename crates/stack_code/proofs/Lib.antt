@@ -6,3 +6,4 @@ pub mod Functions
 pub mod Given
 pub mod CodeLaws
 pub mod VertexRuns
+pub mod StepCodes

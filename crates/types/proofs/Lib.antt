@@ -31,5 +31,6 @@ pub mod StepLaws
 pub mod StepOffsets
 pub mod UsedNames
 pub mod ValueOffsets
+pub mod Variables
 pub mod VertexNames
 pub mod WellTyped

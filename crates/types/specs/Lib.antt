@@ -18,5 +18,6 @@ pub mod Program
 pub mod Statement
 pub mod Step
 pub mod UsedNames
+pub mod Variables
 pub mod Wanted
 pub mod WellTyped

@@ -10,6 +10,7 @@ ghost use Rattle.expression_types.specs.ValueTree.{value_tree};
 ghost use Rattle.types.specs.Checker.{checker_of};
 ghost use Rattle.types.specs.Given.{given_tree};
 ghost use Rattle.types.specs.Step.{assign_step, assigned_step, declare_step, declare_step_as, entry_step, may_reduce, may_set, no_add, no_apply, no_step, one_reduction, own_vertex, reduce_entry_step, reduce_step, reduced_step, reduction_step, same_endpoint, same_reduction, set_entry_step, written_at};
+ghost use Rattle.types.specs.Variables.{step_variable_as};
 
 use crate::checker::{Checker, declare};
 use crate::initial::{Given, read_end, read_initial};
@@ -74,29 +75,39 @@ fn declare_given(
     ensures typed { Notes (λ s. (step_tree s, checker_of checker.new)) noted.old noted.new result (declare_step_as (checker_of checker.old) at variable.now.name (given_tree given) variable.now.declared) }
     ensures kept { OnOk result (Keeps checker.old.scope checker.new.scope) }
 {
-    match variable.declared {
+    let (entity, step) = declaration(alloc, checker, at, variable.declared, given, noted);
+    declare(alloc, checker, &variable.name, entity, noted)?;
+    Ok(step)
+}
+
+/// What a variable of this type is, and the statement that declares it.
+fn declaration(
+    alloc: Global,
+    checker: &Checker,
+    at: usize,
+    declared: DeclaredType,
+    given: Given,
+    noted: &mut Option<Fault>,
+) -> (Entity, Step)
+    ensures { outcome noted.old (step_variable_as (checker_of checker.now) at (given_tree given) declared) ≡ ((result.0, step_tree result.1), noted.new) }
+{
+    match declared {
         DeclaredType::Int => {
             let value = given.into_integer(at, noted);
             let slot = checker.integer_slot();
-            let entity = Entity::IntegerVariable(slot);
-            declare(alloc, checker, &variable.name, entity, noted)?;
-            Ok(Step::DeclareInteger(slot.name, value))
+            let step = Step::DeclareInteger(slot.name, value);
+            (Entity::IntegerVariable(slot), step)
         }
         DeclaredType::Bool => {
             let value = given.into_condition(at, noted);
             let slot = checker.condition_slot();
-            let entity = Entity::ConditionVariable(slot);
-            declare(alloc, checker, &variable.name, entity, noted)?;
-            Ok(Step::DeclareCondition(slot.name, value))
+            let step = Step::DeclareCondition(slot.name, value);
+            (Entity::ConditionVariable(slot), step)
         }
         DeclaredType::VertexSet
         | DeclaredType::Vertex
         | DeclaredType::Vector
-        | DeclaredType::EdgeSet => {
-            let step = wrong(at, alloc, noted);
-            declare(alloc, checker, &variable.name, Entity::Unclear, noted)?;
-            Ok(step)
-        }
+        | DeclaredType::EdgeSet => (Entity::Unclear, wrong(at, alloc, noted)),
     }
 }
 

@@ -12,6 +12,7 @@ ghost use Rattle.types.specs.Checker.{checker_of};
 ghost use Rattle.types.specs.Given.{end_tree, given_tree};
 ghost use Rattle.types.specs.Initial.{edge_function, is_unclear, vertex_function};
 ghost use Rattle.types.specs.Statement.{add_vertex as vertex_added, added, applied, apply as apply_statement, assign as assignment, assigned, declare_as, declare_variable as variable_declared, edges_applied, entry_reduced, entry_set, has_ends as ends_are_written, no_action, print as print_statement, printed, reduce as reduction_statement, reduce_entry as entry_reduction, reduced, set_entry as entry_setting, vertices_applied};
+ghost use Rattle.types.specs.Variables.{variable_as};
 
 use crate::checker::{Checker, declare};
 use crate::initial::{
@@ -69,30 +70,42 @@ fn declare_given(
     ensures typed { Notes (λ a. (action_tree a, checker_of checker.new)) noted.old noted.new result (declare_as (checker_of checker.old) at variable.now.name (given_tree given) variable.now.declared) }
     ensures kept { OnOk result (Keeps checker.old.scope checker.new.scope) }
 {
-    let name = &variable.name;
-    match variable.declared {
+    let (entity, action) = declaration(checker, at, variable.declared, given, noted);
+    declare(alloc, checker, &variable.name, entity, noted)?;
+    Ok(action)
+}
+
+/// What a variable of this type is, and the statement that declares it.
+fn declaration(
+    checker: &Checker,
+    at: usize,
+    declared: DeclaredType,
+    given: Given,
+    noted: &mut Option<Fault>,
+) -> (Entity, Action)
+    ensures { outcome noted.old (variable_as (checker_of checker.now) at (given_tree given) declared) ≡ ((result.0, action_tree result.1), noted.new) }
+{
+    match declared {
         DeclaredType::Int => {
             let value = given.into_integer(at, noted);
             let slot = checker.integer_slot();
-            declare(alloc, checker, name, Entity::IntegerVariable(slot), noted)?;
-            Ok(Action::DeclareInteger(slot.name, value))
+            let action = Action::DeclareInteger(slot.name, value);
+            (Entity::IntegerVariable(slot), action)
         }
         DeclaredType::Bool => {
             let value = given.into_condition(at, noted);
             let slot = checker.condition_slot();
-            declare(alloc, checker, name, Entity::ConditionVariable(slot), noted)?;
-            Ok(Action::DeclareCondition(slot.name, value))
+            let action = Action::DeclareCondition(slot.name, value);
+            (Entity::ConditionVariable(slot), action)
         }
         DeclaredType::VertexSet => {
             let value = given.into_members(at, noted);
             let slot = checker.set_slot();
-            declare(alloc, checker, name, Entity::SetVariable(slot), noted)?;
-            Ok(Action::DeclareSet(slot.name, value))
+            let action = Action::DeclareSet(slot.name, value);
+            (Entity::SetVariable(slot), action)
         }
         DeclaredType::Vertex | DeclaredType::Vector | DeclaredType::EdgeSet => {
-            let action = wrong(at, noted);
-            declare(alloc, checker, name, Entity::Unclear, noted)?;
-            Ok(action)
+            (Entity::Unclear, wrong(at, noted))
         }
     }
 }

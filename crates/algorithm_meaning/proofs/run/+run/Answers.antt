@@ -1,14 +1,16 @@
-use Rattle.std.proofs.Common.{true, false, Bool, Some, ap, sym, ◌∙◌}
+use Rattle.std.proofs.Common.{ℕ, ◌<◌, ◌≤◌, true, false, Bool, Option, Some, length, ap, sym, ◌∙◌, subst, arith}
 use Rattle.typed_tree.specs.IntegerTree.{integer_tree}
 use Rattle.typed_tree.specs.ConditionTree.{condition_tree}
 use Rattle.typed_tree.specs.BlockTree.{action_tree, block_tree}
 use Rattle.typed_tree.specs.ProgramTree.{program_tree}
 use Rattle.typed_tree.proofs.Blocks.{action_tree-If, action_tree-IfElse, action_tree-While, action_tree-For}
+use Rattle.algorithm_meaning.specs.declared.outcome.End.{End}
 use Rattle.algorithm_meaning.specs.declared.state.Bounds.{Bounds}
-use Rattle.algorithm_meaning.specs.Loop.{for_test, for_body, next_of}
+use Rattle.algorithm_meaning.specs.Loop.{for_test, for_body, next_of, while_body, while_test}
 use Rattle.algorithm_meaning.specs.Meaning.{after_all}
-use Rattle.algorithm_meaning.specs.Seen.{graph_of, state_of}
-use Rattle.algorithm_meaning.proofs.Loops.{again_over}
+use Rattle.algorithm_meaning.specs.Seen.{graph_of, stand, state_of}
+use Rattle.algorithm_meaning.proofs.InOrder.{all_done, ends_in, goes_on}
+use Rattle.algorithm_meaning.proofs.Loops.{Again, again_faults, again_goes, again_over, again_stops}
 use Rattle.algorithm_meaning.proofs.Blocks.{after-If_true, after-IfElse, after-For}
 use Rattle.algorithm_meaning.proofs.run.+run.Goals as goal
 
@@ -56,3 +58,69 @@ run_for-returns-then-is_some-clause-meaning t c =
     let below = ap (λ (b : Bool). Some b) (sym c.is_below.ensures ∙ c.if-not-is_below.false) in
     again_over Bounds for_test body next_of c.args.number c.args.bounds (state_of c.args.state.now) c.turns.bounds (state_of c.turns.state) (state_of c.run_for_turn.new.state) c.in_ok-end.end
     c.turns.invariant.0 below c.in_ok-end.ensures.meaning (sym c.is_some.ensures ∙ c.if-is_some.true)
+
+pub run_all-statements-preserved : goal.run_all-statements-preserved
+run_all-statements-preserved t c =
+    let within : c.statements.statement-index < length c.args.block.now = omega (arith, c.statements-test.true, c.statements.auto.statement-index-end) in
+    let goes = sym c.is_some.ensures ∙ c.if-is_some.false in
+    (
+      goes_on (program_tree c.args.program.now) (graph_of c.args.graph.now) c.args.block.now c.statements.statement-index c.statement-item.result c.statement-item.result
+      (state_of c.statements.state) (state_of c.run_statement.new.state) c.in_ok-end.end _ within c.statement-item.is c.in_ok-end.ensures.meaning goes c.statements.invariant.0,
+      omega (arith, c.statements.invariant.1, c.in_ok-end.ensures.turns),
+    )
+
+pub run_all-returns-then-is_some-clause-meaning : goal.run_all-returns-then-is_some-clause-meaning
+run_all-returns-then-is_some-clause-meaning t c =
+    let within : c.statements.statement-index < length c.args.block.now = omega (arith, c.statements-test.true, c.statements.auto.statement-index-end) in
+    ends_in (program_tree c.args.program.now) (graph_of c.args.graph.now) c.args.block.now c.statements.statement-index c.statement-item.result c.statement-item.result
+    (state_of c.statements.state) (state_of c.run_statement.new.state) c.in_ok-end.end _ within c.statement-item.is c.in_ok-end.ensures.meaning (sym c.is_some.ensures ∙ c.if-is_some.true) c.statements.invariant.0
+
+pub run_all-returns-clause-meaning : goal.run_all-returns-clause-meaning
+run_all-returns-clause-meaning t c =
+    let past : length c.args.block.now ≤ c.statements.statement-index = omega (arith, c.statements-test.false, c.statements.auto.statement-index-end) in
+    all_done (program_tree c.args.program.now) (graph_of c.args.graph.now) c.args.block.now c.statements.statement-index (state_of c.statements.state) _ past c.statements.invariant.0
+
+pub run_for-turns-preserved : goal.run_for-turns-preserved
+run_for-turns-preserved t c =
+    let body = for_body (after_all (program_tree c.args.program.now) (graph_of c.args.graph.now) (block_tree c.args.body.now)) in
+    let below = ap (λ (b : Bool). Some b) (sym c.is_below.ensures ∙ c.if-not-is_below.false) in
+    let again = again_goes Bounds for_test body next_of c.args.number c.args.bounds (state_of c.args.state.now) c.turns.bounds (state_of c.turns.state) (state_of c.run_for_turn.new.state) c.in_ok-end.end
+    c.turns.invariant.0 below c.in_ok-end.ensures.meaning (sym c.is_some.ensures ∙ c.if-is_some.false) c.in_ok-end.ensures.fewer in
+    (
+      subst (λ (b : Bounds). Again Bounds for_test body next_of c.args.number c.args.bounds (state_of c.args.state.now) b (state_of c.run_for_turn.new.state)) (sym c.go_on.ensures) again,
+      omega (arith, c.turns.invariant.1, c.in_ok-end.ensures.turns),
+    )
+
+pub run_while-turns-preserved : goal.run_while-turns-preserved
+run_while-turns-preserved t c =
+    let test = while_test c.args.graph.now.vertices (condition_tree c.args.test.now) in
+    let body = while_body (after_all (program_tree c.args.program.now) (graph_of c.args.graph.now) (block_tree c.args.body.now)) in
+    let holds = sym c.decide.ensures ∙ c.in-Some-true.is ∙ ap (λ (b : Bool). Some b) c.in-Some-true.field-0-test in
+    (
+      again_goes ℕ test body (λ (n : ℕ). n) c.args.number 0 (state_of c.args.state.now) 0 (state_of c.turns.state) (state_of c.run_turn.new.state) c.in_ok-end.end
+      c.turns.invariant.0 holds c.in_ok-end.ensures.meaning (sym c.is_some.ensures ∙ c.if-is_some.false) c.in_ok-end.ensures.fewer,
+      omega (arith, c.turns.invariant.1, c.in_ok-end.ensures.turns),
+    )
+
+pub run_while-returns-then-is_some-clause-meaning : goal.run_while-returns-then-is_some-clause-meaning
+run_while-returns-then-is_some-clause-meaning t c =
+    let test = while_test c.args.graph.now.vertices (condition_tree c.args.test.now) in
+    let body = while_body (after_all (program_tree c.args.program.now) (graph_of c.args.graph.now) (block_tree c.args.body.now)) in
+    let holds = sym c.decide.ensures ∙ c.in-Some-true.is ∙ ap (λ (b : Bool). Some b) c.in-Some-true.field-0-test in
+    again_over ℕ test body (λ (n : ℕ). n) c.args.number 0 (state_of c.args.state.now) 0 (state_of c.turns.state) (state_of c.run_turn.new.state) c.in_ok-end.end
+    c.turns.invariant.0 holds c.in_ok-end.ensures.meaning (sym c.is_some.ensures ∙ c.if-is_some.true)
+
+pub run_while-returns-in-None-clause-meaning : goal.run_while-returns-in-None-clause-meaning
+run_while-returns-in-None-clause-meaning t c =
+    let test = while_test c.args.graph.now.vertices (condition_tree c.args.test.now) in
+    let body = while_body (after_all (program_tree c.args.program.now) (graph_of c.args.graph.now) (block_tree c.args.body.now)) in
+    let here = state_of c.turns.state in
+    ap (λ (end : Option End). stand end here) c.fault.ensures
+    ∙ again_faults ℕ test body (λ (n : ℕ). n) c.args.number 0 (state_of c.args.state.now) 0 here c.turns.invariant.0 (sym c.decide.ensures ∙ c.in-None.is)
+
+pub run_while-returns-in-Some-false-clause-meaning : goal.run_while-returns-in-Some-false-clause-meaning
+run_while-returns-in-Some-false-clause-meaning t c =
+    let test = while_test c.args.graph.now.vertices (condition_tree c.args.test.now) in
+    let body = while_body (after_all (program_tree c.args.program.now) (graph_of c.args.graph.now) (block_tree c.args.body.now)) in
+    let fails = sym c.decide.ensures ∙ c.in-Some-false.is ∙ ap (λ (b : Bool). Some b) c.in-Some-false.field-0-test in
+    again_stops ℕ test body (λ (n : ℕ). n) c.args.number 0 (state_of c.args.state.now) 0 (state_of c.turns.state) c.turns.invariant.0 fails

@@ -1,4 +1,4 @@
-use Rattle.std.proofs.Common.{◌≡◌, ◌==◌, ◌<◌, ap, sym, subst, ◌∙◌, length, get_or}
+use Rattle.std.proofs.Common.{◌≡◌, ◌==◌, ◌<◌, ◌≤◌, ap, sym, subst, ◌∙◌, length, get_or}
 use Rattle.syntax.specs.ExpressionViews.{unary_of, term_of, sum_of, primary_of, comparison_of, comparison_from, conjunction_of}
 use Rattle.typed_tree.specs.declared.expression.Connective.TheVariants as connective
 use Rattle.expression_types.specs.declared.fault.Rule.TheVariants as rule
@@ -8,9 +8,9 @@ use Rattle.expression_types.specs.Operands.{conditions_of, integers_of}
 use Rattle.expression_types.specs.Operators.{added, multiplied, given, related_value, entry_value, first_integer, first_condition, beside_integer, beside_condition, grouped_integers, grouped_conditions}
 use Rattle.expression_types.specs.Signs.{signs_value}
 use Rattle.expression_types.specs.ValueTree.{value_tree}
-use Rattle.expression_types.proofs.Levels.{sum_step, sum_begins, term_step, term_begins, conjunction_step, conjunction_begins, expression_step, expression_begins}
+use Rattle.expression_types.proofs.Levels.{sum_step, sum_begins, sum_alone, term_step, term_begins, term_alone, conjunction_step, conjunction_begins, conjunction_alone, expression_step, expression_begins, expression_alone}
 use Rattle.expression_types.proofs.SignLaws.{unary_value-behind}
-use Rattle.expression_types.proofs.Steps.{row, row_on, then_noted, notes_then}
+use Rattle.expression_types.proofs.Steps.{row, row_on, row_ends, then_noted, notes_then}
 use Rattle.expression_types.proofs.expression.+types.Goals as goal
 
 pub sum-operands-init : goal.sum-operands-init
@@ -138,3 +138,51 @@ unary-returns t c =
     subst (λ m. Notes value_tree c.args.noted.now c.behind_signs.new.noted c.behind_signs.result m) (sym (unary_value-behind scope at signs p))
     (notes_then value_tree c.args.noted.now c.primary.new.noted c.behind_signs.new.noted (primary_value scope at p) v (signs_value at signs) c.behind_signs.result c.in_ok-value.ensures
     (subst (λ signs. Notes value_tree c.primary.new.noted c.behind_signs.new.noted c.behind_signs.result (signs_value at signs v)) c.deref.ensures.value c.behind_signs.ensures))
+
+pub sum-returns-then-is_empty : goal.sum-returns-then-is_empty
+sum-returns-then-is_empty t c =
+    sum_alone c.args.scope.now c.args.at (term_of c.args.sum.now.first) c.args.sum.now.more.items c.args.noted.now c.term.new.noted (value_tree c.in_ok-first.first)
+    (ap (λ n. n == 0) (sym c.args.sum.now.more.ok.0) ∙ sym c.is_empty.ensures ∙ c.if-is_empty.true) c.in_ok-first.ensures
+
+pub sum-returns : goal.sum-returns
+sum-returns t c =
+    let items = c.args.sum.now.more.items in
+    let ended : length items ≤ c.operands.operator-index = rw (← c.deref-operator-items.ensures.value) c.operands-test.false in
+    row_ends value_tree c.args.noted.now c.operands.noted c.group.new.noted (sum_value c.args.scope.now c.args.at (sum_of c.args.sum.now)) (sum_step c.args.scope.now c.args.at)
+    (integers_of c.operands.operands) items c.operands.operator-index (grouped_integers c.args.at) c.group.result ended c.operands.invariant c.group.ensures
+
+pub term-returns-then-is_empty : goal.term-returns-then-is_empty
+term-returns-then-is_empty t c =
+    term_alone c.args.scope.now c.args.at (unary_of c.args.term.now.first) c.args.term.now.more.items c.args.noted.now c.unary.new.noted (value_tree c.in_ok-first.first)
+    (ap (λ n. n == 0) (sym c.args.term.now.more.ok.0) ∙ sym c.is_empty.ensures ∙ c.if-is_empty.true) c.in_ok-first.ensures
+
+pub term-returns : goal.term-returns
+term-returns t c =
+    let items = c.args.term.now.more.items in
+    let ended : length items ≤ c.operands.operator-index = rw (← c.deref-operator-items.ensures.value) c.operands-test.false in
+    row_ends value_tree c.args.noted.now c.operands.noted c.group.new.noted (term_value c.args.scope.now c.args.at (term_of c.args.term.now)) (term_step c.args.scope.now c.args.at)
+    (integers_of c.operands.operands) items c.operands.operator-index (grouped_integers c.args.at) c.group.result ended c.operands.invariant c.group.ensures
+
+pub conjunction-returns-then-is_empty : goal.conjunction-returns-then-is_empty
+conjunction-returns-then-is_empty t c =
+    conjunction_alone c.args.scope.now c.args.at (comparison_of c.args.conjunction.now.first) c.args.conjunction.now.more.items c.args.noted.now c.comparison.new.noted (value_tree c.in_ok-first.first)
+    (ap (λ n. n == 0) (sym c.args.conjunction.now.more.ok.0) ∙ sym c.is_empty.ensures ∙ c.if-is_empty.true) c.in_ok-first.ensures
+
+pub conjunction-returns : goal.conjunction-returns
+conjunction-returns t c =
+    let items = c.args.conjunction.now.more.items in
+    let ended : length items ≤ c.operands.operand-index = rw (← c.deref-operand-items.ensures.value) c.operands-test.false in
+    row_ends value_tree c.args.noted.now c.operands.noted c.group.new.noted (conjunction_value c.args.scope.now c.args.at (conjunction_of c.args.conjunction.now)) (conjunction_step c.args.scope.now c.args.at)
+    (conditions_of connective.And c.operands.operands) items c.operands.operand-index (grouped_conditions c.args.at) c.group.result ended c.operands.invariant c.group.ensures
+
+pub type_expression-returns-then-is_empty : goal.type_expression-returns-then-is_empty
+type_expression-returns-then-is_empty t c =
+    sym (ap (λ e. outcome c.args.noted.now (value_of c.args.scope.now c.args.at e)) c.expression.view_is)
+    ∙ expression_alone c.args.scope.now c.args.at (conjunction_of c.expression.inside.first) c.expression.inside.more.items c.args.noted.now c.conjunction.new.noted (value_tree c.in_ok-first.first)
+    (ap (λ n. n == 0) (sym c.expression.inside.more.ok.0) ∙ sym c.is_empty.ensures ∙ c.if-is_empty.true) c.in_ok-first.ensures
+
+pub type_expression-returns : goal.type_expression-returns
+type_expression-returns t c =
+    row_ends value_tree c.args.noted.now c.operands.noted c.group.new.noted (value_of c.args.scope.now c.args.at c.args.expression.now) (expression_step c.args.scope.now c.args.at)
+    (conditions_of connective.Or c.operands.operands) c.deref-operand-items.result.now c.operands.operand-index (grouped_conditions c.args.at) c.group.result c.operands-test.false
+    c.operands.invariant c.group.ensures

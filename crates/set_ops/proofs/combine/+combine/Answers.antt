@@ -9,7 +9,7 @@ combine-requires t c =
     let a = c.args.first.now in
     let b = c.args.second.now in
     let h = c.in-Halved.halves in
-    let is : AreHalves a b h.left h.key h.right h.second = search rules in
+    let is : AreHalves a b h.left h.key h.right h.second = rw c.in-Halved.is at c.in_ok-combined.ensures in
     let less = (halves_less c.args.task.base a b h.left h.key h.right h.second is c.requires.first_over c.requires.second_over).0 in
     let over = halves_over c.args.task.base a b h.left h.key h.right h.second is c.requires.first_over c.requires.second_over c.requires.sizes in
     (omega (arith, less), rw c.view-below.ensures (over.below.sizes, (over.below.first, over.below.second)))
@@ -19,7 +19,7 @@ combine-requires-2 t c =
     let a = c.args.first.now in
     let b = c.args.second.now in
     let h = c.in-Halved.halves in
-    let is : AreHalves a b h.left h.key h.right h.second = search rules in
+    let is : AreHalves a b h.left h.key h.right h.second = rw c.in-Halved.is at c.in_ok-combined.ensures in
     let less = (halves_less c.args.task.base a b h.left h.key h.right h.second is c.requires.first_over c.requires.second_over).1 in
     let over = halves_over c.args.task.base a b h.left h.key h.right h.second is c.requires.first_over c.requires.second_over c.requires.sizes in
     (omega (arith, less), rw (c.view-above.ensures, c.above.ensures) (over.above.sizes, (over.above.first, over.above.second)))
@@ -30,10 +30,8 @@ rejoin-requires-clause-ascending t c =
     let b = c.args.second.now in
     let h = c.in-Halved.halves in
     let op = c.args.task.operation in
-    let is : AreHalves a b h.left h.key h.right h.second = search rules in
-    let lo : IsCombined op h.left.chunk_size h.left.elements c.view-below.result.elements c.in_ok-below.below.part c.in_ok-below.below.common = search rules in
-    let hi : IsCombined c.above.result.operation h.right.chunk_size h.right.elements c.view-above.result.elements c.in_ok-above.above.part c.in_ok-above.above.common = search rules in
-    let are : AreAnswers op h.left h.right h.second c.in_ok-below.below c.in_ok-above.above = record { below = rw c.view-below.ensures at lo; above = rw (c.above.ensures, c.view-above.ensures) at hi } in
+    let is : AreHalves a b h.left h.key h.right h.second = rw c.in-Halved.is at c.in_ok-combined.ensures in
+    let are : AreAnswers op h.left h.right h.second c.in_ok-below.below c.in_ok-above.above = record { below = rw c.view-below.ensures at c.in_ok-below.ensures; above = rw (c.above.ensures, c.view-above.ensures) at c.in_ok-above.ensures } in
     (halves_rejoin c.args.task.base a b h.left h.key h.right h.second is c.requires.first_over c.requires.second_over op c.in_ok-below.below c.in_ok-above.above are).ascending
 
 pub rejoin-requires-clause-below_room : goal.rejoin-requires-clause-below_room
@@ -42,10 +40,8 @@ rejoin-requires-clause-below_room t c =
     let b = c.args.second.now in
     let h = c.in-Halved.halves in
     let op = c.args.task.operation in
-    let is : AreHalves a b h.left h.key h.right h.second = search rules in
-    let lo : IsCombined op h.left.chunk_size h.left.elements c.view-below.result.elements c.in_ok-below.below.part c.in_ok-below.below.common = search rules in
-    let hi : IsCombined c.above.result.operation h.right.chunk_size h.right.elements c.view-above.result.elements c.in_ok-above.above.part c.in_ok-above.above.common = search rules in
-    let are : AreAnswers op h.left h.right h.second c.in_ok-below.below c.in_ok-above.above = record { below = rw c.view-below.ensures at lo; above = rw (c.above.ensures, c.view-above.ensures) at hi } in
+    let is : AreHalves a b h.left h.key h.right h.second = rw c.in-Halved.is at c.in_ok-combined.ensures in
+    let are : AreAnswers op h.left h.right h.second c.in_ok-below.below c.in_ok-above.above = record { below = rw c.view-below.ensures at c.in_ok-below.ensures; above = rw (c.above.ensures, c.view-above.ensures) at c.in_ok-above.ensures } in
     (halves_rejoin c.args.task.base a b h.left h.key h.right h.second is c.requires.first_over c.requires.second_over op c.in_ok-below.below c.in_ok-above.above are).below_room
 
 pub rejoin-requires-clause-above_room : goal.rejoin-requires-clause-above_room
@@ -54,10 +50,8 @@ rejoin-requires-clause-above_room t c =
     let b = c.args.second.now in
     let h = c.in-Halved.halves in
     let op = c.args.task.operation in
-    let is : AreHalves a b h.left h.key h.right h.second = search rules in
-    let lo : IsCombined op h.left.chunk_size h.left.elements c.view-below.result.elements c.in_ok-below.below.part c.in_ok-below.below.common = search rules in
-    let hi : IsCombined c.above.result.operation h.right.chunk_size h.right.elements c.view-above.result.elements c.in_ok-above.above.part c.in_ok-above.above.common = search rules in
-    let are : AreAnswers op h.left h.right h.second c.in_ok-below.below c.in_ok-above.above = record { below = rw c.view-below.ensures at lo; above = rw (c.above.ensures, c.view-above.ensures) at hi } in
+    let is : AreHalves a b h.left h.key h.right h.second = rw c.in-Halved.is at c.in_ok-combined.ensures in
+    let are : AreAnswers op h.left h.right h.second c.in_ok-below.below c.in_ok-above.above = record { below = rw c.view-below.ensures at c.in_ok-below.ensures; above = rw (c.above.ensures, c.view-above.ensures) at c.in_ok-above.ensures } in
     (halves_rejoin c.args.task.base a b h.left h.key h.right h.second is c.requires.first_over c.requires.second_over op c.in_ok-below.below c.in_ok-above.above are).above_room
 
 pub returns : goal.returns
@@ -66,10 +60,8 @@ returns t c =
     let b = c.args.second.now in
     let h = c.in-Halved.halves in
     let op = c.args.task.operation in
-    let is : AreHalves a b h.left h.key h.right h.second = search rules in
-    let lo : IsCombined op h.left.chunk_size h.left.elements c.view-below.result.elements c.in_ok-below.below.part c.in_ok-below.below.common = search rules in
-    let hi : IsCombined c.above.result.operation h.right.chunk_size h.right.elements c.view-above.result.elements c.in_ok-above.above.part c.in_ok-above.above.common = search rules in
-    let are : AreAnswers op h.left h.right h.second c.in_ok-below.below c.in_ok-above.above = record { below = rw c.view-below.ensures at lo; above = rw (c.above.ensures, c.view-above.ensures) at hi } in
+    let is : AreHalves a b h.left h.key h.right h.second = rw c.in-Halved.is at c.in_ok-combined.ensures in
+    let are : AreAnswers op h.left h.right h.second c.in_ok-below.below c.in_ok-above.above = record { below = rw c.view-below.ensures at c.in_ok-below.ensures; above = rw (c.above.ensures, c.view-above.ensures) at c.in_ok-above.ensures } in
     ok_is
     (λ m. IsRejoined op c.in_ok-below.below h.key h.second.found c.in_ok-above.above m.part m.common)
     (λ m. IsCombined op a.chunk_size a.elements b.elements m.part m.common)

@@ -1,33 +1,48 @@
-use Rattle.std.proofs.Common.{◌+◌, ◌^◌, arith, refl}
-use Rattle.shared_tree.proofs.Order.{rises_from, rises_to}
+use Rattle.std.proofs.Common.{arith, ap, refl}
+use Rattle.shared_tree.proofs.ChangedMaps.{below_map, above_map}
+use Rattle.shared_tree.proofs.Forks.{fork_length}
 use Rattle.shared_tree.proofs.Splits.{split_left, split_right, split_here}
 use Rattle.shared_tree.proofs.tree.Tree.+split.Goals as goal
+
+pub split-requires : goal.split-requires
+split-requires g t c κs within =
+    let short = fork_length _ _ _ _ _ c.in-Some.ensures in
+    (omega arith, within)
+
+pub split-requires-then-root_key-key : goal.split-requires-then-root_key-key
+split-requires-then-root_key-key g t c κs within =
+    let short = fork_length _ _ _ _ _ c.in-Some.ensures in
+    (omega arith, within)
+
+pub returns-in_default : goal.returns-in_default
+returns-in_default g t c =
+    rw (c.new.ensures, c.new-in_default.ensures) (record { whole = ap (λ tree. tree.entries) c.in_default.ensures; below = omega arith; above = omega arith })
 
 pub join-requires : goal.join-requires
 join-requires g t c =
     let root = c.in-Some.ensures in
-    let whole = split_left c.args.key _ _ _ _ _ root.map root.entries _ _ _ _ (omega arith) c.in_ok-below.ensures refl in
-    rw (c.in_ok-share.ensures, c.in_ok-share-2.ensures) (rises_from 0 (c.args.key + 1) (2 ^ 32) _ (omega arith) whole.above)
+    let whole = split_left c.args.key _ _ _ _ _ root.map root.entries _ _ _ _ c.if-key-root_key.true c.in_ok-below.ensures refl in
+    rw (c.in_ok-value.ensures, c.in_ok-right.ensures) (above_map c.args.key _ _ _ _ whole)
 
 pub join-requires-then-root_key-key : goal.join-requires-then-root_key-key
 join-requires-then-root_key-key g t c =
     let root = c.in-Some.ensures in
-    let whole = split_right c.args.key _ _ _ _ _ root.map root.entries _ _ _ _ (omega arith) c.in_ok-inner.ensures refl in
-    rw (c.in_ok-share-3.ensures, c.in_ok-share-4.ensures) (rises_to 0 c.args.key (2 ^ 32) _ whole.below (omega arith))
+    let whole = split_right c.args.key _ _ _ _ _ root.map root.entries _ _ _ _ c.if-root_key-key.true c.in_ok-inner.ensures refl in
+    rw (c.in_ok-left.ensures, c.in_ok-value.ensures) (below_map c.args.key _ _ _ _ whole)
 
 pub returns-in_ok-above : goal.returns-in_ok-above
 returns-in_ok-above g t c =
     let root = c.in-Some.ensures in
-    let above = rw (c.in_ok-share.ensures, c.in_ok-share-2.ensures) at c.in_ok-above.ensures.entries in
-    split_left c.args.key _ _ _ _ _ root.map root.entries _ _ _ _ (omega arith) c.in_ok-below.ensures above
+    let above = rw (c.in_ok-value.ensures, c.in_ok-right.ensures) at c.in_ok-above.ensures.entries in
+    split_left c.args.key _ _ _ _ _ root.map root.entries _ _ _ _ c.if-key-root_key.true c.in_ok-below.ensures above
 
 pub returns-in_ok-below-2 : goal.returns-in_ok-below-2
 returns-in_ok-below-2 g t c =
     let root = c.in-Some.ensures in
-    let below = rw (c.in_ok-share-3.ensures, c.in_ok-share-4.ensures) at c.in_ok-below-2.ensures.entries in
-    split_right c.args.key _ _ _ _ _ root.map root.entries _ _ _ _ (omega arith) c.in_ok-inner.ensures below
+    let below = rw (c.in_ok-left.ensures, c.in_ok-value.ensures) at c.in_ok-below-2.ensures.entries in
+    split_right c.args.key _ _ _ _ _ root.map root.entries _ _ _ _ c.if-root_key-key.true c.in_ok-inner.ensures below
 
-pub returns-in_ok-share-7 : goal.returns-in_ok-share-7
-returns-in_ok-share-7 g t c =
+pub returns-in_ok-right-2 : goal.returns-in_ok-right-2
+returns-in_ok-right-2 g t c =
     let root = c.in-Some.ensures in
-    rw (c.in_ok-share-5.ensures, c.in_ok-share-6.ensures, c.in_ok-share-7.ensures) (split_here c.args.key _ _ _ _ _ root.map root.entries (omega arith))
+    rw (c.in_ok-value.ensures, c.in_ok-left-2.ensures, c.in_ok-right-2.ensures) (split_here c.args.key _ _ _ _ _ root.map root.entries (omega arith))

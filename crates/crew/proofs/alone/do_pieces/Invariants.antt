@@ -1,10 +1,8 @@
-use Rattle.std.specs.List.{All}
 use Rattle.crew.specs.Pieces.{AreFound}
-use Rattle.crew.proofs.alone.run_alone.Given as goal
+use Rattle.crew.proofs.alone.do_pieces.Given as goal
 
 abbrev pub invariant-loop-place : goal.invariant-loop-place
 invariant-loop-place g l = record {
   state : g.W.Work.keeps l.work l.state;
-  states : All (g.W.Work.keeps l.work) l.states.items;
   found : AreFound (g.W.Work.answers l.work) l.place l.found.items;
 }

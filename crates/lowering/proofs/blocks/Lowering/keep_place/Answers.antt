@@ -1,0 +1,9 @@
+use Rattle.std.proofs.Common.{◌∙◌, rules}
+use Rattle.lowering.proofs.blocks.Lowering.keep_place.Goals as goal
+
+pub returns : goal.returns
+returns c = record {
+  kept = c.plain.result;
+  is = search rules;
+  at = c.len-place.ensures ∙ c.args.code.now.ok.0;
+}
