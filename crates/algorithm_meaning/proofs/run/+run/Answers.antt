@@ -62,10 +62,9 @@ run_for-returns-then-is_some-clause-meaning t c =
 pub run_all-statements-preserved : goal.run_all-statements-preserved
 run_all-statements-preserved t c =
     let within : c.statements.statement-index < length c.args.block.now = omega (arith, c.statements-test.true, c.statements.auto.statement-index-end) in
-    let goes = sym c.is_some.ensures ∙ c.if-is_some.false in
-    (
+    let goes = sym c.is_some.ensures ∙ c.if-is_some.false in (
       goes_on (program_tree c.args.program.now) (graph_of c.args.graph.now) c.args.block.now c.statements.statement-index c.statement-item.result c.statement-item.result
-      (state_of c.statements.state) (state_of c.run_statement.new.state) c.in_ok-end.end _ within c.statement-item.is c.in_ok-end.ensures.meaning goes c.statements.invariant.0,
+          (state_of c.statements.state) (state_of c.run_statement.new.state) c.in_ok-end.end _ within c.statement-item.is c.in_ok-end.ensures.meaning goes c.statements.invariant.0,
       omega (arith, c.statements.invariant.1, c.in_ok-end.ensures.turns),
     )
 
@@ -85,8 +84,7 @@ run_for-turns-preserved t c =
     let body = for_body (after_all (program_tree c.args.program.now) (graph_of c.args.graph.now) (block_tree c.args.body.now)) in
     let below = ap (λ (b : Bool). Some b) (sym c.is_below.ensures ∙ c.if-not-is_below.false) in
     let again = again_goes Bounds for_test body next_of c.args.number c.args.bounds (state_of c.args.state.now) c.turns.bounds (state_of c.turns.state) (state_of c.run_for_turn.new.state) c.in_ok-end.end
-    c.turns.invariant.0 below c.in_ok-end.ensures.meaning (sym c.is_some.ensures ∙ c.if-is_some.false) c.in_ok-end.ensures.fewer in
-    (
+    c.turns.invariant.0 below c.in_ok-end.ensures.meaning (sym c.is_some.ensures ∙ c.if-is_some.false) c.in_ok-end.ensures.fewer in (
       subst (λ (b : Bounds). Again Bounds for_test body next_of c.args.number c.args.bounds (state_of c.args.state.now) b (state_of c.run_for_turn.new.state)) (sym c.go_on.ensures) again,
       omega (arith, c.turns.invariant.1, c.in_ok-end.ensures.turns),
     )
@@ -95,10 +93,9 @@ pub run_while-turns-preserved : goal.run_while-turns-preserved
 run_while-turns-preserved t c =
     let test = while_test c.args.graph.now.vertices (condition_tree c.args.test.now) in
     let body = while_body (after_all (program_tree c.args.program.now) (graph_of c.args.graph.now) (block_tree c.args.body.now)) in
-    let holds = sym c.decide.ensures ∙ c.in-Some-true.is ∙ ap (λ (b : Bool). Some b) c.in-Some-true.field-0-test in
-    (
+    let holds = sym c.decide.ensures ∙ c.in-Some-true.is ∙ ap (λ (b : Bool). Some b) c.in-Some-true.field-0-test in (
       again_goes ℕ test body (λ (n : ℕ). n) c.args.number 0 (state_of c.args.state.now) 0 (state_of c.turns.state) (state_of c.run_turn.new.state) c.in_ok-end.end
-      c.turns.invariant.0 holds c.in_ok-end.ensures.meaning (sym c.is_some.ensures ∙ c.if-is_some.false) c.in_ok-end.ensures.fewer,
+          c.turns.invariant.0 holds c.in_ok-end.ensures.meaning (sym c.is_some.ensures ∙ c.if-is_some.false) c.in_ok-end.ensures.fewer,
       omega (arith, c.turns.invariant.1, c.in_ok-end.ensures.turns),
     )
 
