@@ -1,8 +1,9 @@
 -- What was found grows piece by piece.
-use Rattle.std.proofs.Common.{◌≡◌, ℕ, zero, suc, ◌+◌, ◌<◌, ◌≤◌, Bool, true, false, cond, eqb, ltb, Option, Some, option_to_list, List, [], ◌∷◌, ◌++◌, length, length-append, sym, refl, ap, ◌∙◌, subst, arith, slice_get, slice_index_or, Result, Ok, Err, IfOk, Vec, Global, vec_len}
+use Rattle.std.proofs.Common.{◌≡◌, ℕ, zero, suc, ◌+◌, ◌<◌, ◌≤◌, Bool, true, false, cond, eqb, ltb, Option, Some, option_to_list, List, [], ◌∷◌, ◌++◌, length, length-append, sym, refl, ap, ◌∙◌, subst, arith, slice_get, slice_index_or, Result, Ok, Err, IfOk, IfSome, Vec, Global, vec_len}
 use Rattle.std.specs.List.{All}
 use Rattle.std.proofs.lemmas.List.{map-append}
-use Rattle.std.proofs.lemmas.List.Elements.{All-push, All-append}
+use Rattle.std.proofs.lemmas.List.Elements.{All-push, All-append, All-pop}
+use Rattle.std.proofs.lemmas.Result.{IfOk-at_ok}
 use Rattle.std.proofs.lemmas.Bool.{ltb-false}
 use Rattle.std.proofs.lemmas.Bool.Decides.{nat_tests}
 use mathlib.Core.Logic.{dite}
@@ -49,6 +50,11 @@ module _ {X : Type 0} where
   pub length_popped : (old new : List X) (r : Option X) (x : X) → old ≡ new ++ option_to_list r → r ≡ Some x → length old ≡ length new + 1
   length_popped old new r x is some =
       length_pushed (length new) new old x (is ∙ ap (λ (o : Option X). new ++ option_to_list o) some) refl
+
+  -- what was popped and is no error is as all of them are
+  pub done_popped : {E : Type 0} (P : X → Type 0) (old new : List (Result X E)) (popped : Option (Result X E)) (r : Result X E) (x : X) → old ≡ new ++ option_to_list popped
+      → popped ≡ Some r → r ≡ Ok x → All (λ r. IfOk r P) old → P x
+  done_popped P old new popped r x is some ok all = IfOk-at_ok P ok (subst (λ o. IfSome o (λ r. IfOk r P)) some (All-pop (λ r. IfOk r P) old new popped is all).1)
 
   -- as many are there as jobs, and P holds of each
   pub all_given : {J E : Type 0} (P : X → Type 0) (jobs : Vec J Global) (r : Result (Vec X Global) E) → IfOk r (λ v. vec_len v ≡ vec_len jobs)

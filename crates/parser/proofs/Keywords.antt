@@ -1,11 +1,13 @@
 -- That a keyword is or is not the first terminal.
-use Rattle.std.proofs.Common.{◌≡◌, ◌≢◌, refl, sym, ◌∙◌, ap, ℕ, List, ◌∷◌, Option, Some, None}
+use Rattle.std.proofs.Common.{◌≡◌, ◌≢◌, refl, sym, ◌∙◌, ap, ℕ, true, List, ◌∷◌, Option, Some, None, if◌then◌else◌}
+use Rattle.std.proofs.lemmas.Slice.Eq.{bytes_eq-Decides}
 use Rattle.lexer.specs.declared.keyword.Keyword.{Keyword}
 use Rattle.lexer.specs.declared.keyword.Keyword.TheVariants as keyword
 use Rattle.lexer.specs.declared.token.TokenKind.{TokenKind}
 use Rattle.lexer.specs.declared.token.TokenKind.TheVariants as kind
+use Rattle.lexer.specs.Spelling.{keyword_spelling}
 use Rattle.syntax.specs.Terminals.{Terminal, OfKeyword, Opening, keyword_terminal, terminal_of}
-use Rattle.syntax.specs.SourceReading.{after_terminal}
+use Rattle.syntax.specs.SourceReading.{same_terminal, after_terminal}
 use Rattle.syntax.proofs.TerminalLaws.{after_terminal-sound}
 
 keyword-injective : (a b : Keyword) → OfKeyword a ≡ OfKeyword b → a ≡ b
@@ -56,3 +58,18 @@ without terminal ws (Some rest) is differs = absurd (differs rest (after_termina
 pub none_behind : (found : TokenKind) (bytes : List ℕ) (at : ℕ) (word : Keyword) (ws left : List Terminal) → ws ≡ terminal_of found bytes at ∷ left
     → found ≢ kind.Keyword word → after_terminal (OfKeyword word) ws ≡ None
 none_behind found bytes at word ws left is differs = without (OfKeyword word) ws (after_terminal (OfKeyword word) ws) refl (no_keyword found bytes at word ws left is differs)
+
+-- a token of the keyword is its terminal
+pub is_keyword : (found : TokenKind) (bytes : List ℕ) (at : ℕ) (word : Keyword) (ws left : List Terminal) → ws ≡ terminal_of found bytes at ∷ left → found ≡ kind.Keyword word
+    → ((at : ℕ) → keyword_terminal word at ≡ OfKeyword word) → ws ≡ OfKeyword word ∷ left
+is_keyword found bytes at word ws left is same plain = is ∙ ap (λ k. terminal_of k bytes at ∷ left) same ∙ ap (λ v. v ∷ left) (plain at)
+
+same_terminal-same : (word : Keyword) → same_terminal (OfKeyword word) (OfKeyword word) ≡ true
+same_terminal-same word = (bytes_eq-Decides (keyword_spelling word) (keyword_spelling word)).1 refl
+
+-- so what follows it is behind it
+pub some_behind : (found : TokenKind) (bytes : List ℕ) (at : ℕ) (word : Keyword) (ws left : List Terminal) → ws ≡ terminal_of found bytes at ∷ left → found ≡ kind.Keyword word
+    → ((at : ℕ) → keyword_terminal word at ≡ OfKeyword word) → after_terminal (OfKeyword word) ws ≡ Some left
+some_behind found bytes at word ws left is same plain =
+    ap (λ l. after_terminal (OfKeyword word) l) (is_keyword found bytes at word ws left is same plain)
+    ∙ ap (λ b. if b then Some left else None) (same_terminal-same word)

@@ -1,13 +1,13 @@
 -- A tree after a change on one side of its root.
-use Rattle.std.proofs.Common.{◌≡◌, ℕ, ◌<◌, Option, Some, None, sym, subst, Global, arith}
+use Rattle.std.proofs.Common.{◌≡◌, ℕ, ◌<◌, Option, Some, None, [], refl, sym, subst, Global, arith}
 use Rattle.std.specs.declared.sync.Arc.{Arc}
-use Rattle.shared_tree.specs.declared.tree.Link.TheVariants.{Fork}
+use Rattle.shared_tree.specs.declared.tree.Link.TheVariants.{Empty, Fork}
 use Rattle.shared_tree.specs.declared.tree.Node.{Node}
 use Rattle.shared_tree.specs.Shape.{IsBelow}
 use Rattle.shared_tree.specs.Changes.{IsInserted, IsRemoved}
-use Rattle.shared_tree.specs.Balanced.{Balanced, IsFork}
+use Rattle.shared_tree.specs.Balanced.{Balanced, empty, IsFork}
 use Rattle.shared_tree.specs.Joins.{IsJoin, IsConcatenation}
-use Rattle.shared_tree.proofs.Splits.{change_left, change_right, change_here}
+use Rattle.shared_tree.proofs.Splits.{split_here, change_left, change_right, change_here}
 use Rattle.shared_tree.proofs.Depths.{grown, shrunk}
 
 -- the root that a link leads to
@@ -68,3 +68,14 @@ module _ {V : Type 0} (k j : ℕ) (w : V) (t l r n : Balanced V) (root : IsFork 
     not_less = omega (arith, root.depth, q.near root.balanced);
     not_more = omega (arith, root.depth, q.not_more);
   }
+
+-- an entry put into a tree that has none
+pub inserted_first : {V : Type 0} (k : ℕ) (v : V) (t n : Balanced V) → IsBelow Empty t → IsFork n empty k v empty → IsInserted k v t n
+inserted_first k v t n b f =
+    let is = split_here k k v n.entries [] [] f.map f.entries refl in
+    rw b.same (record {
+      old = None;
+      entries = record { front = []; back = []; was = record { whole = refl; below = is.below; above = is.above }; is = is };
+      not_less = omega arith;
+      not_more = omega (arith, f.depth);
+    })

@@ -53,22 +53,22 @@ impl<V: Share> Tree<V> {
     {
         let (root_key, node) = match self.into_link() {
             Link::Empty => {
-                return Ok(fork_new(alloc, Tree::new(), key, value, Tree::new())?);
+                return fork_new(alloc, Tree::new(), key, value, Tree::new());
             }
             Link::Fork { key, node, .. } => (key, node),
         };
         if key < root_key {
             let (left, node) = without_left(alloc, node)?;
             let left = left.insert(alloc, key, value)?;
-            Ok(with_left(alloc, left, root_key, node)?)
+            with_left(alloc, left, root_key, node)
         } else if root_key < key {
             let (right, node) = without_right(alloc, node)?;
             let right = right.insert(alloc, key, value)?;
-            Ok(with_right(alloc, right, root_key, node)?)
+            with_right(alloc, right, root_key, node)
         } else {
             let root = take_apart(alloc, key, node)?;
             let slot = root.slot.with(alloc, value)?;
-            Ok(fork(alloc, root.left, key, slot, root.right)?)
+            fork(alloc, root.left, key, slot, root.right)
         }
     }
 

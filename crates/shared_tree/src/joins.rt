@@ -27,7 +27,7 @@ pub fn join<V: Share>(
     ensures { IfOk result (λ t. IsJoin left key value right t) }
 {
     let slot = Slot::new(alloc, value)?;
-    Ok(joined(alloc, left, key, slot, right)?)
+    joined(alloc, left, key, slot, right)
 }
 
 /// The tree of the entries of `left` and then those of `right`. The caller sees to it that all keys
@@ -40,7 +40,7 @@ pub fn join2<V: Share>(alloc: Global, left: Tree<V>, right: Tree<V>) -> Result<T
 {
     match pop_last(alloc, left)? {
         None => Ok(right),
-        Some(Last { front, key, slot }) => Ok(joined(alloc, front, key, slot, right)?),
+        Some(Last { front, key, slot }) => joined(alloc, front, key, slot, right),
     }
 }
 
@@ -98,15 +98,15 @@ pub(crate) fn joined<V: Share>(
             unreachable!()
         };
         let inner = joined(alloc, top.right, key, slot, right)?;
-        Ok(balance(alloc, top.left, top.key, top.slot, inner)?)
+        balance(alloc, top.left, top.key, top.slot, inner)
     } else if right.depth() > left.depth() + 1 {
         let Some(top) = open(alloc, right)? else {
             unreachable!()
         };
         let inner = joined(alloc, left, key, slot, top.left)?;
-        Ok(balance(alloc, inner, top.key, top.slot, top.right)?)
+        balance(alloc, inner, top.key, top.slot, top.right)
     } else {
-        Ok(fork(alloc, left, key, slot, right)?)
+        fork(alloc, left, key, slot, right)
     }
 }
 
@@ -124,11 +124,11 @@ pub(crate) fn balance<V: Share>(
     ensures { IfOk result (λ t. IsJoin left key slot.node.value.value right t) }
 {
     if left.depth() == right.depth() + 2 {
-        Ok(rotate_right(alloc, left, key, slot, right)?)
+        rotate_right(alloc, left, key, slot, right)
     } else if right.depth() == left.depth() + 2 {
-        Ok(rotate_left(alloc, left, key, slot, right)?)
+        rotate_left(alloc, left, key, slot, right)
     } else {
-        Ok(fork(alloc, left, key, slot, right)?)
+        fork(alloc, left, key, slot, right)
     }
 }
 
@@ -211,14 +211,14 @@ fn rotate_right<V: Share>(
     };
     if top.left.depth() >= top.right.depth() {
         let lower = fork(alloc, top.right, key, slot, right)?;
-        return Ok(fork(alloc, top.left, top.key, top.slot, lower)?);
+        return fork(alloc, top.left, top.key, top.slot, lower);
     }
     let Some(middle) = open(alloc, top.right)? else {
         unreachable!()
     };
     let before = fork(alloc, top.left, top.key, top.slot, middle.left)?;
     let after = fork(alloc, middle.right, key, slot, right)?;
-    Ok(fork(alloc, before, middle.key, middle.slot, after)?)
+    fork(alloc, before, middle.key, middle.slot, after)
 }
 
 /// As `fork`, for a right side that is two deeper.
@@ -238,12 +238,12 @@ fn rotate_left<V: Share>(
     };
     if top.right.depth() >= top.left.depth() {
         let lower = fork(alloc, left, key, slot, top.left)?;
-        return Ok(fork(alloc, lower, top.key, top.slot, top.right)?);
+        return fork(alloc, lower, top.key, top.slot, top.right);
     }
     let Some(middle) = open(alloc, top.left)? else {
         unreachable!()
     };
     let before = fork(alloc, left, key, slot, middle.left)?;
     let after = fork(alloc, middle.right, top.key, top.slot, top.right)?;
-    Ok(fork(alloc, before, middle.key, middle.slot, after)?)
+    fork(alloc, before, middle.key, middle.slot, after)
 }

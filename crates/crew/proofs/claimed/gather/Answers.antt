@@ -1,18 +1,25 @@
-use Rattle.std.proofs.Common.{◌≡◌, subst, length, IfSome, IfOk, arith}
+use Rattle.std.proofs.Common.{◌≡◌, subst, length, IfOk, arith}
 use Rattle.std.proofs.lemmas.List.Elements.{All-pop}
-use Rattle.std.proofs.lemmas.Result.{IfOk-at_ok}
 use Rattle.crew.specs.Claims.{view_of}
 use Rattle.crew.specs.Finding.{pieces_of, IsAnswered}
 use Rattle.crew.specs.Workers.{HasClaimed}
-use Rattle.crew.proofs.Findings.{all_pushed, all_appended, length_popped, pieces_of-appended}
+use Rattle.crew.proofs.Findings.{all_pushed, all_appended, length_popped, done_popped, pieces_of-appended}
 use Rattle.crew.proofs.Gathering.{IsGathered, gathers_more, gathered, none_left}
 use Rattle.crew.proofs.claimed.gather.Goals as goal
+
+pub dismiss-requires-clause-worker : goal.dismiss-requires-clause-worker
+dismiss-requires-clause-worker g c =
+    let Claimed = HasClaimed (g.W.Work.keeps c.args.work.now) (g.W.Work.answers c.args.work.now) c.args.word.now.table_id c.args.pieces in
+    (done_popped Claimed _ _ _ _ _ c.pop.ensures.items c.in-Some.is c.in_ok-turn.was c.loop-worker.invariant.workers).0
+
+pub loop-worker-smaller : goal.loop-worker-smaller
+loop-worker-smaller g c = let one = length_popped _ _ _ _ c.pop.ensures.items c.in-Some.is in omega arith
 
 pub loop-worker-preserved : goal.loop-worker-preserved
 loop-worker-preserved g c =
     let Claimed = HasClaimed (g.W.Work.keeps c.args.work.now) (g.W.Work.answers c.args.work.now) c.args.word.now.table_id c.args.pieces in
     let popped = All-pop (λ r. IfOk r Claimed) _ _ _ c.pop.ensures.items c.loop-worker.invariant.workers in
-    let done = IfOk-at_ok Claimed c.in_ok-turn.was (subst (λ o. IfSome o (λ r. IfOk r Claimed)) c.in-Some.is popped.1) in
+    let done = done_popped Claimed _ _ _ _ _ c.pop.ensures.items c.in-Some.is c.in_ok-turn.was c.loop-worker.invariant.workers in
     let theirs = c.in_ok-turn.field-0 in
     let out = length_popped _ _ _ _ c.pop.ensures.items c.in-Some.is in
     record {

@@ -1,11 +1,16 @@
 use Rattle.std.proofs.Common.{◌≡◌, ◌+◌, ◌-◌, ◌%◌, ◌<◌, ℕ, subst, length, arith}
+use Rattle.std.proofs.Math.Nat.{mod-lt}
 use Rattle.std.proofs.lemmas.Result.{IfOk-at_ok}
 use Rattle.crew.specs.ClaimWord.{times}
 use Rattle.crew.specs.Finding.{pieces_of, IsAnswered}
 use Rattle.crew.specs.Workers.{HasEvery, GivesEvery}
 use Rattle.crew.proofs.Findings.{all_pushed, all_appended, length_popped, pieces_of-appended}
+use Rattle.crew.proofs.Gathering.{none_left}
 use Rattle.crew.proofs.Turns.{each_popped, last_popped, every_gathered}
 use Rattle.crew.proofs.fixed.gather.Goals as goal
+
+pub loop-worker-smaller : goal.loop-worker-smaller
+loop-worker-smaller g c = let one = length_popped _ _ _ _ c.pop.ensures.items c.in-Some.is in omega arith
 
 pub loop-worker-preserved : goal.loop-worker-preserved
 loop-worker-preserved g c =
@@ -29,3 +34,11 @@ loop-worker-preserved g c =
           (λ worker is. (done worker is).2);
       states = all_pushed keeps _ _ _ c.in_ok-bring_back.ensures.states c.loop-worker.invariant.states some.0;
     }
+
+pub returns-clause-found : goal.returns-clause-found
+returns-clause-found g c =
+    let empty = none_left c.pop.result c.loop-worker.workers.len c.in_default.not-Some c.pop.ensures.variant in
+    let none : length c.loop-worker.workers.items ≡ 0 = omega (arith, c.loop-worker.workers.ok.0) in (
+      c.loop-worker.invariant.answered,
+      λ j below. c.loop-worker.invariant.every j below (omega (arith, none, mod-lt j c.requires.some)),
+    )

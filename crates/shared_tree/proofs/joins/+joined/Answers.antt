@@ -1,4 +1,5 @@
 use Rattle.std.proofs.Common.{arith, rules}
+use Rattle.std.proofs.lemmas.Result.{IfOk-weaker}
 use Rattle.shared_tree.proofs.Forks.{fork_length}
 use Rattle.shared_tree.proofs.Rotations.{opened, map_right, map_left, map_around_right, map_around_left}
 use Rattle.shared_tree.proofs.Deepened.{forked, near_on_right, joined_on_right, near_on_left, joined_on_left}
@@ -25,10 +26,10 @@ balance-requires-clause-right_near g t c =
     let top = opened c.args.left _ _ c.in-Some.is c.in_ok-top.ensures in
     (near_on_right _ _ _ _ _ top _ _ _ (omega arith) _ c.in_ok-inner.ensures).1
 
-pub returns-in_ok-balance : goal.returns-in_ok-balance
-returns-in_ok-balance g t c =
+pub returns-in_ok-inner : goal.returns-in_ok-inner
+returns-in_ok-inner g t c =
     let top = opened c.args.left _ _ c.in-Some.is c.in_ok-top.ensures in
-    joined_on_right _ _ _ _ _ top _ _ _ (omega arith) _ _ c.in_ok-inner.ensures c.in_ok-balance.ensures
+    IfOk-weaker c.balance.result _ _ (λ t f. joined_on_right _ _ _ _ _ top _ _ _ (omega arith) _ _ c.in_ok-inner.ensures f) c.balance.ensures
 
 pub joined-requires-then-depth-2 : goal.joined-requires-then-depth-2
 joined-requires-then-depth-2 g t c κs within =
@@ -51,10 +52,10 @@ balance-requires-then-depth-2-clause-right_near g t c =
     let top = opened c.args.right _ _ c.in-Some-2.is c.in_ok-top-2.ensures in
     (near_on_left _ _ _ _ _ top _ _ _ (omega arith) _ c.in_ok-inner-2.ensures).1
 
-pub returns-in_ok-balance-2 : goal.returns-in_ok-balance-2
-returns-in_ok-balance-2 g t c =
+pub returns-in_ok-inner-2 : goal.returns-in_ok-inner-2
+returns-in_ok-inner-2 g t c =
     let top = opened c.args.right _ _ c.in-Some-2.is c.in_ok-top-2.ensures in
-    joined_on_left _ _ _ _ _ top _ _ _ (omega arith) _ _ c.in_ok-inner-2.ensures c.in_ok-balance-2.ensures
+    IfOk-weaker c.balance-then-depth-2.result _ _ (λ t f. joined_on_left _ _ _ _ _ top _ _ _ (omega arith) _ _ c.in_ok-inner-2.ensures f) c.balance-then-depth-2.ensures
 
-pub returns-in_ok-fork : goal.returns-in_ok-fork
-returns-in_ok-fork g t c = forked _ _ _ _ _ c.in_ok-fork.ensures
+pub returns-else-depth-2 : goal.returns-else-depth-2
+returns-else-depth-2 g t c = IfOk-weaker c.fork.result _ _ (λ t f. forked _ _ _ _ _ f) c.fork.ensures

@@ -1,4 +1,5 @@
 use Rattle.std.proofs.Common.{arith}
+use Rattle.std.proofs.lemmas.Result.{IfOk-weaker}
 use Rattle.shared_tree.proofs.Rotations.{opened, map_right, map_left, map_around_left, map_middle_left}
 use Rattle.shared_tree.proofs.Deepened.{forked, joined_on_left}
 use Rattle.shared_tree.proofs.Rotated.{single_left, double_left, rotated_left}
@@ -63,10 +64,10 @@ fork-requires-4-clause-balanced g c =
 pub returns-then-depth : goal.returns-then-depth
 returns-then-depth g c =
     let top = opened c.args.right _ _ c.in-Some.is c.in_ok-top.ensures in
-    joined_on_left _ _ _ _ _ top _ _ _ (omega arith) _ _ (forked _ _ _ _ _ c.in_ok-lower.ensures) (forked _ _ _ _ _ c.in_ok-fork.ensures)
+    IfOk-weaker c.fork-then-depth.result _ _ (λ t f. joined_on_left _ _ _ _ _ top _ _ _ (omega arith) _ _ (forked _ _ _ _ _ c.in_ok-lower.ensures) (forked _ _ _ _ _ f)) c.fork-then-depth.ensures
 
 pub returns : goal.returns
 returns g c =
     let top = opened c.args.right _ _ c.in-Some.is c.in_ok-top.ensures in
     let middle = opened c.in-Some.top.left _ _ c.in-Some-2.is c.in_ok-middle.ensures in
-    rotated_left _ _ _ _ _ top _ _ _ c.requires.deeper _ _ _ _ _ _ _ middle (omega arith) c.in_ok-before.ensures c.in_ok-after.ensures c.in_ok-fork-2.ensures
+    IfOk-weaker c.fork-4.result _ _ (λ t f. rotated_left _ _ _ _ _ top _ _ _ c.requires.deeper _ _ _ _ _ _ _ middle (omega arith) c.in_ok-before.ensures c.in_ok-after.ensures f) c.fork-4.ensures

@@ -1,8 +1,39 @@
-use Rattle.std.proofs.Common.{None, arith}
+use Rattle.std.proofs.Common.{None, arith, rules}
+use Rattle.shared_tree.proofs.Forks.{fork_length}
 use Rattle.shared_tree.proofs.Rotations.{opened}
 use Rattle.shared_tree.proofs.Splits.{map_changed_left, map_changed_right, map_changed_here}
 use Rattle.shared_tree.proofs.Edits.{removed_left, removed_right, removed_here}
 use Rattle.shared_tree.proofs.tree.Tree.+remove.Goals as goal
+
+pub remove-requires : goal.remove-requires
+remove-requires g t c κs within =
+    let short = fork_length _ _ _ _ _ (opened c.args.self _ _ c.in-Some.is c.in_ok-root.ensures) in
+    (omega arith, search rules)
+
+pub balance-requires-clause-left_near : goal.balance-requires-clause-left_near
+balance-requires-clause-left_near g t c =
+    let near = (opened c.args.self _ _ c.in-Some.is c.in_ok-root.ensures).balanced in
+    omega (arith, near.0, near.1, c.in_ok-left.ensures.not_less, c.in_ok-left.ensures.not_more)
+
+pub balance-requires-clause-right_near : goal.balance-requires-clause-right_near
+balance-requires-clause-right_near g t c =
+    let near = (opened c.args.self _ _ c.in-Some.is c.in_ok-root.ensures).balanced in
+    omega (arith, near.0, near.1, c.in_ok-left.ensures.not_less, c.in_ok-left.ensures.not_more)
+
+pub remove-requires-then-root_key-key : goal.remove-requires-then-root_key-key
+remove-requires-then-root_key-key g t c κs within =
+    let short = fork_length _ _ _ _ _ (opened c.args.self _ _ c.in-Some.is c.in_ok-root.ensures) in
+    (omega arith, search rules)
+
+pub balance-requires-then-root_key-key-clause-left_near : goal.balance-requires-then-root_key-key-clause-left_near
+balance-requires-then-root_key-key-clause-left_near g t c =
+    let near = (opened c.args.self _ _ c.in-Some.is c.in_ok-root.ensures).balanced in
+    omega (arith, near.0, near.1, c.in_ok-right.ensures.not_less, c.in_ok-right.ensures.not_more)
+
+pub balance-requires-then-root_key-key-clause-right_near : goal.balance-requires-then-root_key-key-clause-right_near
+balance-requires-then-root_key-key-clause-right_near g t c =
+    let near = (opened c.args.self _ _ c.in-Some.is c.in_ok-root.ensures).balanced in
+    omega (arith, near.0, near.1, c.in_ok-right.ensures.not_less, c.in_ok-right.ensures.not_more)
 
 pub balance-requires-clause-map : goal.balance-requires-clause-map
 balance-requires-clause-map g t c =
