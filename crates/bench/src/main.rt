@@ -1,4 +1,4 @@
-//! The benchmark of texts and versions: how long work of known size takes.
+//! The benchmark of versions: how long work of known size takes.
 //!
 //! With no word it does small work and prints what came of it, the same on every machine. With
 //! `--time` and a subject it prints a table of times, and with `--script N` a script of N `add`
@@ -7,8 +7,6 @@
 #![tactic(auto)]
 
 mod commits;
-mod lexing;
-mod parsing;
 mod readers;
 mod workload;
 
@@ -21,7 +19,7 @@ use std::sync::Wait;
 use std::thread::Threads;
 use workload::adds_script;
 
-const USAGE: &str = "bench [--time lexer|parser|commits|readers | --script ADDS]";
+const USAGE: &str = "bench [--time commits|readers | --script ADDS]";
 
 fn main(rt: HostRuntime) -> io::Result<ExitCode> {
     let words = words_of(&rt)?;
@@ -52,8 +50,6 @@ fn print_times<T: AllocGlobal + Clock + Threads + Wait + Sync>(
     subject: &str,
 ) -> io::Result<()> {
     match subject {
-        "lexer" => lexing::print_times(rt),
-        "parser" => parsing::print_times(rt),
         "commits" => commits::print_times(rt, threads),
         "readers" => readers::print_times(rt, threads),
         _ => Err(Error::other("nothing of this name is timed")),

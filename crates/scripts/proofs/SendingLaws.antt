@@ -1,5 +1,5 @@
 -- Texts that are sent one after another.
-use Rattle.std.proofs.Common.{◌≡◌, ℕ, List, [], ◌∷◌, ◌++◌, ◌+◌, ◌<◌, length, get_or, take, drop, Result, Ok, Err, refl, sym, ap, ◌∙◌, subst, append_assoc, append-nil, arith}
+use Rattle.std.proofs.Common.{◌≡◌, ℕ, List, [], ◌∷◌, ◌++◌, ◌+◌, ◌<◌, length, get_or, take, drop, Result, Ok, Err, IfErr, refl, sym, ap, ◌∙◌, subst, append_assoc, append-nil, arith}
 use Rattle.std.proofs.lemmas.List.{take-append-drop, drop_more, take_more}
 use Rattle.std.proofs.lemmas.Grind.{flat_map-append}
 use Rattle.std.specs.List.{flat_map}
@@ -68,6 +68,11 @@ part_none o t = part_before o o o [] t (sends_none o) refl refl
 -- a call that sent nothing and lacked memory
 pub emits_none : {A : Type 0} (o : Output) (t : List ℕ) (r : Result A ScriptError) → IsErrAnd r (λ d. d ≡ NoMemory) → Emits o o t r
 emits_none o t r is = emits_failed o o t r NoMemory is (part_none o t)
+
+-- a call that sends nothing, and can only lack memory
+pub emits_nothing : {A : Type 0} (o : Output) (r : Result A ScriptError) → IfErr r (λ e. e ≡ NoMemory) → Emits o o [] r
+emits_nothing o (Ok x) is = sends_none o
+emits_nothing o (Err e) is = rw is (part_none o [])
 
 -- a text, and then a call that fails
 pub fails_then : (a b c : Output) (t u : List ℕ) (e : ScriptError) → Sends a b t → Fails b c u e → Fails a c (t ++ u) e

@@ -1,12 +1,13 @@
 //! What a script has once a graph is open, and the commands on it.
-ghost use Rattle.std.specs.Prelude.{◌≡◌, ◌∷◌, ◌++◌, [], false, nat_eq, IfOk, IfSome, OnOk, Some, map};
+ghost use Rattle.std.specs.Prelude.{◌≡◌, [], false, nat_eq, IfErr, IfOk, IfSome, OnOk, Some, map};
 ghost use Rattle.std.specs.Option.{option_copied, option_map};
 ghost use Rattle.indexmap.specs.IndexMap.{get};
 ghost use Rattle.programs.specs.Program.{program_tree};
 ghost use Rattle.tree_batch.specs.Digraph.{Digraph};
 ghost use Rattle.version_list.specs.declared.step.Step.TheVariants as step;
 ghost use Rattle.version_list.specs.Machine.{opened};
-ghost use Rattle.scripts.specs.Replies.{on_open, stepping, which_of, graph_of, listing, running, program_of, meaning_on};
+ghost use Rattle.scripts.specs.declared.error.ScriptError.TheVariants.{NoMemory};
+ghost use Rattle.scripts.specs.Replies.{on_open, joined, stepping, which_of, graph_of, listing, running, program_of, meaning_on};
 ghost use Rattle.scripts.specs.Sending.{Emits};
 ghost use Rattle.scripts.specs.Snapshots.{IsVersion, MayGain};
 ghost use Rattle.scripts.specs.Stepping.{IsAnswered, refusal_of};
@@ -109,11 +110,11 @@ impl OpenGraph {
             Command::Add {
                 source,
                 destination,
-            } => Ok(self.join(Entry::Add(source, destination))?),
+            } => self.join(Entry::Add(source, destination)),
             Command::Remove {
                 source,
                 destination,
-            } => Ok(self.join(Entry::Remove(source, destination))?),
+            } => self.join(Entry::Remove(source, destination)),
             Command::Commit => {
                 let reply = self.commit(alloc)?;
                 replies.send_line(reply)
@@ -140,14 +141,13 @@ impl OpenGraph {
         }
     }
 
-    fn join(&mut self, entry: Entry) -> Result<(), AllocError>
-        ensures versions { self.new.versions ≡ self.old.versions }
-        ensures pending { OnOk result (self.new.pending ≡ self.old.pending ++ entry ∷ []) }
-        ensures faulted { self.new.faulted ≡ self.old.faulted }
+    fn join(&mut self, entry: Entry) -> Result<(), ScriptError>
+        ensures state { OnOk result (self.new ≡ (joined self.old entry).state) }
+        ensures err { IfErr result (λ e. e ≡ NoMemory) }
     {
         match self.pending.push(entry) {
             Ok(()) => Ok(()),
-            Err(_) => Err(AllocError),
+            Err(_) => Err(ScriptError::NoMemory),
         }
     }
 

@@ -4,17 +4,21 @@ use Rattle.typed_tree.specs.ProgramTree.{ProgramTree}
 use Rattle.programs.specs.Program.{program_tree}
 use Rattle.scripts.specs.declared.commands.Command.{Command}
 use Rattle.scripts.specs.Replies.{on_open, running, graph_of}
-use Rattle.scripts.proofs.SendingLaws.{emits_as, emits_none}
+use Rattle.scripts.proofs.SendingLaws.{emits_as, emits_none, emits_nothing}
 use Rattle.scripts.proofs.open_graph.OpenGraph.answer.Goals as goal
 
-pub returns-in_err-join-in-Add-clause-emits : goal.returns-in_err-join-in-Add-clause-emits
-returns-in_err-join-in-Add-clause-emits g c = emits_none _ _ _ c.from_residual.ensures.1
+pub returns-in-Add-clause-emits : goal.returns-in-Add-clause-emits
+returns-in-Add-clause-emits g c =
+    let text = ap (λ (k : Command). (on_open (map program_tree c.args.programs.now) c.args.self.now k).text) c.in-Add.is in
+    emits_as _ _ _ _ _ (emits_nothing _ c.join.result c.join.ensures.err) text
 
-pub returns-in_err-join-in-Remove-clause-emits : goal.returns-in_err-join-in-Remove-clause-emits
-returns-in_err-join-in-Remove-clause-emits g c = emits_none _ _ _ c.from_residual-in_err-join-in-Remove.ensures.1
+pub returns-in-Remove-clause-emits : goal.returns-in-Remove-clause-emits
+returns-in-Remove-clause-emits g c =
+    let text = ap (λ (k : Command). (on_open (map program_tree c.args.programs.now) c.args.self.now k).text) c.in-Remove.is in
+    emits_as _ _ _ _ _ (emits_nothing _ c.join-in-Remove.result c.join-in-Remove.ensures.err) text
 
 pub returns-in_err-reply-in-Commit-clause-emits : goal.returns-in_err-reply-in-Commit-clause-emits
-returns-in_err-reply-in-Commit-clause-emits g c = emits_none _ _ _ c.from_residual-in_err-reply-in-Commit.ensures.1
+returns-in_err-reply-in-Commit-clause-emits g c = emits_none _ _ _ c.from_residual.ensures.1
 
 pub returns-in_err-reply-in-Hold-clause-emits : goal.returns-in_err-reply-in-Hold-clause-emits
 returns-in_err-reply-in-Hold-clause-emits g c = emits_none _ _ _ c.from_residual-in_err-reply-in-Hold.ensures.1

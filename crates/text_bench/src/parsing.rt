@@ -56,6 +56,14 @@ fn print_bytes(rt: &HostRuntime, bytes: usize) -> io::Result<()> {
     Ok(())
 }
 
+/// Prints how many statements the parser finds in a source of so many bytes of them.
+pub fn print_statements(rt: &HostRuntime, bytes: usize) -> io::Result<()> {
+    let text = source(rt.alloc(), bytes)?;
+    let (length, statements) = (text.len(), parsed(rt.alloc(), text.as_bytes())?);
+    drop(text);
+    println!(rt; "source of {length} bytes: {statements} statements")
+}
+
 /// How many statements the parser finds in the first function of a text.
 pub fn parsed(alloc: Global, text: &[u8]) -> io::Result<u64> {
     match parser::parse(alloc, text) {
