@@ -35,6 +35,14 @@ HasNoBlock (rust.While' c shape body) = ⊥
 HasNoBlock (rust.For' name first end shape body) = ⊥
 HasNoBlock action = Unit
 
+-- the statement makes a set or goes over one
+abbrev pub IsOverSets : Action → Type 0
+IsOverSets (rust.DeclareSet name value) = Unit
+IsOverSets (rust.AssignSet slot value) = Unit
+IsOverSets (rust.ApplyVertex set function) = Unit
+IsOverSets (rust.ApplyEdges ends function) = Unit
+IsOverSets action = ⊥
+
 -- what a function works on
 abbrev pub work_of : List (List ℤ) → Work → WorkValue
 work_of vectors w = record { vectors = vectors; scope = scope_of w.scope; given = w.given.items }

@@ -1,5 +1,5 @@
 //! The slow run of programs.
-ghost use Rattle.std.specs.Prelude.{◌≡◌, ◌<◌, ◌≤◌, [], ◌∷◌, IfOk, IfNone, OnOk};
+ghost use Rattle.std.specs.Prelude.{◌≡◌, ◌<◌, ◌≤◌, ℕ, [], ◌∷◌, IfOk, IfNone, OnOk};
 ghost use Rattle.typed_tree.specs.ConditionTree.{condition_tree};
 ghost use Rattle.typed_tree.specs.BlockTree.{action_tree, block_tree};
 ghost use Rattle.typed_tree.specs.ProgramTree.{program_tree};
@@ -7,8 +7,9 @@ ghost use Rattle.algorithm_meaning.specs.EdgeApply.{after_edge_apply};
 ghost use Rattle.algorithm_meaning.specs.Entries.{with_vectors};
 ghost use Rattle.algorithm_meaning.specs.Loop.{after_for, after_while, for_body, inside, take_turn};
 ghost use Rattle.algorithm_meaning.specs.Meaning.{after, after_all};
-ghost use Rattle.algorithm_meaning.specs.Seen.{HasNoBlock, graph_of, stand, state_of};
+ghost use Rattle.algorithm_meaning.specs.Seen.{HasNoBlock, IsOverSets, graph_of, stand, state_of};
 ghost use Rattle.algorithm_meaning.specs.Shown.{meaning};
+ghost use Rattle.algorithm_meaning.specs.Stand.{Live};
 
 use crate::edge_apply::apply_edges;
 use crate::entries::{reduce_entry, set_entry_in};
@@ -131,35 +132,51 @@ fn run_without_block(
         Action::ReduceEntry(vector, index, reduction, e) => Ok(reduce_entry(
             *vector, index, *reduction, e, number, vertices, state,
         )),
-        Action::DeclareSet(name, value) => {
-            declare_set(alloc, *name, *value, program, graph, state)?;
-            Ok(None)
-        }
-        Action::AssignSet(slot, value) => {
-            assign_set(alloc, slot.place, *value, program, graph, state)?;
-            Ok(None)
-        }
         Action::AddVertex(slot, e) => add_vertex(alloc, slot.place, e, number, vertices, state),
         Action::PrintInteger(e) => print_integer_in(e, number, vertices, state),
         Action::PrintCondition(c) => print_condition_in(c, number, vertices, state),
-        Action::ApplyVertex(set, function) => {
-            apply_vertex(
-                alloc,
-                &program.vertex_functions,
-                set.place,
-                *function,
-                state,
-            )?;
-            Ok(None)
-        }
-        Action::ApplyEdges(ends, function) => {
-            apply_in(alloc, *ends, *function, program, graph, state)?;
+        Action::DeclareSet(_, _)
+        | Action::AssignSet(_, _)
+        | Action::ApplyVertex(_, _)
+        | Action::ApplyEdges(_, _) => {
+            run_over_sets(alloc, action, program, graph, state)?;
             Ok(None)
         }
         Action::If(_, _)
         | Action::IfElse(_, _, _)
         | Action::While(_, _)
         | Action::For(_, _, _, _) => { unreachable!() }
+    }
+}
+
+/// Runs a statement that makes a set or goes over one. It never faults.
+fn run_over_sets(
+    alloc: Global,
+    action: &Action,
+    program: &Typed,
+    graph: &Graph,
+    state: &mut State,
+) -> Result<(), AllocError>
+    requires { IsOverSets action.now }
+    ensures meaning { OnOk result ((number : ℕ) → Live (state_of state.new)
+        ≡ after (program_tree program.now) (graph_of graph.now) number (action_tree action.now) (state_of state.old)) }
+    ensures turns { state.new.turns ≡ state.old.turns }
+{
+    match action {
+        Action::DeclareSet(name, value) => {
+            declare_set(alloc, *name, *value, program, graph, state)
+        }
+        Action::AssignSet(slot, value) => {
+            assign_set(alloc, slot.place, *value, program, graph, state)
+        }
+        Action::ApplyVertex(set, function) => {
+            let functions = &program.vertex_functions;
+            apply_vertex(alloc, functions, set.place, *function, state)
+        }
+        Action::ApplyEdges(ends, function) => {
+            apply_in(alloc, *ends, *function, program, graph, state)
+        }
+        _ => { unreachable!() }
     }
 }
 

@@ -68,21 +68,33 @@ fn run<R: Threads + AllocGlobal + Sync>(
     Ok((found, watch.0.load(Ordering::SeqCst)))
 }
 
+// Whether all squares are found, in order.
+fn are_squares(found: &[Found<usize>], pieces: usize) -> bool {
+    let numbered = found.iter().zip(1..=pieces);
+    numbered.fold(found.len() == pieces, |all, (one, piece)| {
+        all && one.piece == piece && one.out == piece.wrapping_mul(piece)
+    })
+}
+
+// Whether two runs find the squares, and the workers keep how many pieces they did in both.
+fn run_twice<R: Threads + AllocGlobal + Sync>(
+    rt: &R,
+    (pieces, workers, share): (usize, usize, Share),
+) -> Result<bool, CrewError> {
+    let mut states = Vec::new(rt.alloc());
+    run(rt, (pieces, workers, share), 0, &mut states)?;
+    let (found, _) = run(rt, (pieces, workers, share), 0, &mut states)?;
+    let done = states.iter().fold(0usize, |sum, n| sum.wrapping_add(*n));
+    let kept = done == pieces.wrapping_mul(2) && states.len() == workers.min(pieces);
+    Ok(kept && are_squares(&found, pieces))
+}
+
 #[test]
 fn pieces_are_found_in_order_and_states_kept(rt: HostRuntime) -> Result<(), Fail> {
-    for (pieces, workers) in [(0, 1), (0, 4), (1, 64), (5, 1), (5, 3), (1000, 64)] {
-        for share in [Share::Claimed, Share::Fixed] {
-            let mut states = Vec::new(rt.alloc());
-            run(&rt, (pieces, workers, share), 0, &mut states)?;
-            let (found, _) = run(&rt, (pieces, workers, share), 0, &mut states)?;
-            let numbered = found.iter().zip(1..=pieces);
-            let all = numbered.fold(found.len() == pieces, |all, (one, piece)| {
-                all && one.piece == piece && one.out == piece.wrapping_mul(piece)
-            });
-            let done = states.iter().fold(0usize, |sum, n| sum.wrapping_add(*n));
-            let kept = done == pieces.wrapping_mul(2) && states.len() == workers.min(pieces);
-            assert!(rt; all && kept, "{pieces} by {workers}");
-        }
+    for (pieces, workers) in &[(0, 1), (0, 4), (1, 64), (5, 1), (5, 3), (1000, 64)] {
+        let claimed = run_twice(&rt, (*pieces, *workers, Share::Claimed))?;
+        let fixed = run_twice(&rt, (*pieces, *workers, Share::Fixed))?;
+        assert!(rt; claimed && fixed, "{pieces} by {workers}");
     }
     Ok(())
 }

@@ -1,5 +1,5 @@
 //! Tests of what only a call of a library shows: devices that fail, pieces of input, spans of tokens,
-//! histories with little room, bytes of tails and sets, what kernels give, forks and threads. What a script or a
+//! histories with little room, bytes of tails and sets, forks and threads. What a script or a
 //! program can show is a case in `crates/cases/data`, and what a contract says of every value is not said again here.
 //!
 //! They stand above the crates that they test, so that each of those is proved once.
@@ -13,8 +13,6 @@ mod crew_runs;
 mod forked_graphs;
 #[cfg(test)]
 mod forked_sets;
-#[cfg(test)]
-mod kernel_values;
 #[cfg(test)]
 mod script_devices;
 #[cfg(test)]

@@ -37,34 +37,50 @@ const HOLD: Asked = Acquire(Which::Newest);
 
 const FULL: Reply = Refused(123);
 
+const SHORT: [Asked; 6] = [HOLD, Commit, Commit, HOLD, Release(1), Commit];
+
+const SHORT_REPLIES: [Reply; 6] = [Ticket(1, 0), Version(1), FULL, FULL, Released, FULL];
+
 #[test]
 fn tickets_hold_room(rt: HostRuntime) -> Result<(), Fail> {
-    let asked = [HOLD, Commit, Commit, HOLD, Release(1), Commit];
-    let replies = replies_to(rt.alloc(), 3, &asked)?;
-    let wanted = [Ticket(1, 0), Version(1), FULL, FULL, Released, FULL];
-    assert_eq!(rt; replies.as_slice(), wanted.as_slice());
+    let replies = replies_to(rt.alloc(), 3, &SHORT)?;
+    assert!(rt; replies.as_slice() == SHORT_REPLIES.as_slice());
     Ok(())
 }
 
+const LONG: [Asked; 12] = [
+    HOLD,
+    HOLD,
+    HOLD,
+    HOLD,
+    Acquire(Which::At(1)),
+    Commit,
+    Commit,
+    Release(1),
+    Release(2),
+    Release(3),
+    Release(1),
+    Commit,
+];
+
+const LONG_REPLIES: [Reply; 12] = [
+    Ticket(1, 0),
+    Ticket(2, 0),
+    Ticket(3, 0),
+    FULL,
+    Refused(121),
+    Version(1),
+    FULL,
+    Released,
+    Released,
+    Released,
+    Refused(122),
+    FULL,
+];
+
 #[test]
 fn a_full_history_releases_all_tickets(rt: HostRuntime) -> Result<(), Fail> {
-    let held = [
-        HOLD,
-        HOLD,
-        HOLD,
-        HOLD,
-        Acquire(Which::At(1)),
-        Commit,
-        Commit,
-    ];
-    let released = [Release(1), Release(2), Release(3), Release(1), Commit];
-    let mut asked = Vec::from_slice(rt.alloc(), &held)?;
-    asked.extend_from_slice(&released)?;
-    let replies = replies_to(rt.alloc(), 7, &asked)?;
-    let tickets = [Ticket(1, 0), Ticket(2, 0), Ticket(3, 0)];
-    let mut wanted = Vec::from_slice(rt.alloc(), &tickets)?;
-    wanted.extend_from_slice(&[FULL, Refused(121), Version(1), FULL])?;
-    wanted.extend_from_slice(&[Released, Released, Released, Refused(122), FULL])?;
-    assert_eq!(rt; replies.as_slice(), wanted.as_slice());
+    let replies = replies_to(rt.alloc(), 7, &LONG)?;
+    assert!(rt; replies.as_slice() == LONG_REPLIES.as_slice());
     Ok(())
 }

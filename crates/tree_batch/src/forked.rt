@@ -63,15 +63,27 @@ fn sides<R: Threads + Sync, F: Fork + Sync>(
     ensures { IfOk result (λ p. AreSides middle.now p.0 p.1) }
 {
     if middle.is_heavy {
-        let below = changed(alloc, &middle.below.tree, middle.below.runs)?;
-        let above = changed(alloc, &middle.above.tree, middle.above.runs)?;
-        return Ok((below, above));
+        return sides_alone(alloc, middle);
     }
     let (lower, upper) = (&middle.below, &middle.above);
     let trees = (&lower.tree, &upper.tree);
     in_two(
         rt, alloc, trees.0, lower.runs, trees.1, upper.runs, forks, level, fork,
     )
+}
+
+/// Both sides of a vertex, one after the other.
+fn sides_alone(
+    alloc: Global,
+    middle: &Middle<'_>,
+) -> Result<(Changed<CTree>, Changed<CTree>), AllocError>
+    requires below { IsMap middle.now.below.runs.now }
+    requires above { IsMap middle.now.above.runs.now }
+    ensures { IfOk result (λ p. AreSides middle.now p.0 p.1) }
+{
+    let below = changed(alloc, &middle.below.tree, middle.below.runs)?;
+    let above = changed(alloc, &middle.above.tree, middle.above.runs)?;
+    Ok((below, above))
 }
 
 /// Two trees, each on a thread of its own.
@@ -127,7 +139,7 @@ fn changed(
     requires { IsMap runs.now }
     ensures { IfOk result (λ c. IsChangedTree runs.now tree.now.entries c) }
 {
-    Ok(tree.change_all(alloc, runs)?)
+    tree.change_all(alloc, runs)
 }
 
 /// The set of the vertex in the middle.
@@ -142,9 +154,9 @@ fn set_after<R: Threads + Sync, F: Fork + Sync>(
 {
     let found = middle.found.as_ref();
     if middle.is_heavy {
-        Ok(middle.run.change_forked(rt, alloc, found, forks, fork)?)
+        middle.run.change_forked(rt, alloc, found, forks, fork)
     } else {
-        Ok(middle.run.change(alloc, found)?)
+        middle.run.change(alloc, found)
     }
 }
 

@@ -109,18 +109,48 @@ impl Run {
         ensures { IfOk result (λ new. IsSetAfter self.now (option_copied old.entry) new) }
     {
         let Some(set) = old else {
-            return Ok(self.change(alloc, old)?);
+            return self.change(alloc, old);
         };
-        let more = begun(alloc, set.chunk_size(), &self.added)?;
-        let fewer = begun(alloc, set.chunk_size(), &self.removed)?;
-        let grown = united(union_forked(rt, alloc, set, &more, forks, fork))?;
-        let rest = united(difference_forked(rt, alloc, &grown, &fewer, forks, fork))?;
+        let grown = with_added_forked(rt, alloc, set, &self.added, forks, fork)?;
+        let rest = without_forked(rt, alloc, grown, &self.removed, forks, fork)?;
         let left = rest.len();
         if left == 0 {
             return Ok(None);
         }
         Ok(Some(rest))
     }
+}
+
+/// The set with an ascending list added, with halves on two threads at so many levels.
+fn with_added_forked<R: Threads + Sync, F: Fork + Sync>(
+    rt: &R,
+    alloc: Global,
+    set: &CTree,
+    added: &[u32],
+    forks: u32,
+    fork: &F,
+) -> Result<CTree, AllocError>
+    requires { Ascends None added.now }
+    ensures { IfOk result (IsSetOf (union set.now.elements added.now) set.now.chunk_size) }
+{
+    let more = begun(alloc, set.chunk_size(), added)?;
+    united(union_forked(rt, alloc, set, &more, forks, fork))
+}
+
+/// The set without the elements of an ascending list, with halves on two threads at so many levels.
+fn without_forked<R: Threads + Sync, F: Fork + Sync>(
+    rt: &R,
+    alloc: Global,
+    set: CTree,
+    removed: &[u32],
+    forks: u32,
+    fork: &F,
+) -> Result<CTree, AllocError>
+    requires { Ascends None removed.now }
+    ensures { IfOk result (IsSetOf (difference set.elements removed.now) set.chunk_size) }
+{
+    let fewer = begun(alloc, set.chunk_size(), removed)?;
+    united(difference_forked(rt, alloc, &set, &fewer, forks, fork))
 }
 
 /// The set that sets of one chunk size were put together to.

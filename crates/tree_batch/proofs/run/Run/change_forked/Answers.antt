@@ -4,17 +4,13 @@ use Rattle.tree_batch.proofs.run.Run.change_forked.Goals as goal
 
 pub returns-then-left-eq0 : goal.returns-then-left-eq0
 returns-then-left-eq0 g c =
-    let added = rw c.deref.ensures.value at c.in_ok-more.ensures in
-    let removed = rw c.deref-2.ensures.value at c.in_ok-fewer.ensures in
-    let grown = rw (c.in_ok-grown.ensures, added.elements) at c.union_forked.ensures in
-    let rest = rw (c.in_ok-rest.ensures, removed.elements) at c.difference_forked.ensures in
+    let grown = rw c.deref.ensures.value at c.in_ok-grown.ensures in
+    let rest = rw c.deref-2.ensures.value at c.in_ok-rest.ensures in
     let none : c.in_ok-rest.rest.elements ≡ [] = no_number c.in_ok-rest.rest.elements (omega (arith, c.len-left.ensures.len)) in
-    rw (← c.self.view_is, c.in-Some.is) (no_set_after _ (Some c.in-Some.set.now) c.in_ok-grown.grown c.in_ok-rest.rest grown.1 rest.1 none)
+    rw (← c.self.view_is, c.in-Some.is) (no_set_after _ (Some c.in-Some.set.now) c.in_ok-grown.grown c.in_ok-rest.rest grown rest none)
 
 pub returns : goal.returns
 returns g c =
-    let added = rw c.deref.ensures.value at c.in_ok-more.ensures in
-    let removed = rw c.deref-2.ensures.value at c.in_ok-fewer.ensures in
-    let grown = rw (c.in_ok-grown.ensures, added.elements) at c.union_forked.ensures in
-    let rest = rw (c.in_ok-rest.ensures, removed.elements) at c.difference_forked.ensures in
-    rw (← c.self.view_is, c.in-Some.is) (set_after _ (Some c.in-Some.set.now) c.in_ok-grown.grown c.in_ok-rest.rest grown.1 rest.1 c.len-left.ensures.valid (omega (arith, c.len-left.ensures.len)))
+    let grown = rw c.deref.ensures.value at c.in_ok-grown.ensures in
+    let rest = rw c.deref-2.ensures.value at c.in_ok-rest.ensures in
+    rw (← c.self.view_is, c.in-Some.is) (set_after _ (Some c.in-Some.set.now) c.in_ok-grown.grown c.in_ok-rest.rest grown rest c.len-left.ensures.valid (omega (arith, c.len-left.ensures.len)))
