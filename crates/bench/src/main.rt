@@ -1,4 +1,4 @@
-//! The benchmark of versions: how long work of known size takes.
+//! The benchmark of batches: how long batches of known size take on graphs of known size.
 //!
 //! With no word it does small work and prints what came of it, the same on every machine. With
 //! `--time` and a subject it prints a table of times, and with `--script N` a script of N `add`
@@ -7,19 +7,16 @@
 #![tactic(auto)]
 
 mod commits;
-mod readers;
 mod workload;
 
 use measuring::{Random, is_printed, status_of, words_of};
 use std::io;
 use std::io::Error;
 use std::process::ExitCode;
-use std::rt::Clock;
-use std::sync::Wait;
 use std::thread::Threads;
 use workload::adds_script;
 
-const USAGE: &str = "bench [--time commits|readers | --script ADDS]";
+const USAGE: &str = "bench [--time commits | --script ADDS]";
 
 fn main(rt: HostRuntime) -> io::Result<ExitCode> {
     let words = words_of(&rt)?;
@@ -29,7 +26,7 @@ fn main(rt: HostRuntime) -> io::Result<ExitCode> {
 }
 
 // Prints what the words ask for, and tells whether they ask for something.
-fn print<T: AllocGlobal + Clock + Threads + Wait + Sync>(
+fn print<T: Threads + Sync>(
     rt: &HostRuntime,
     threads: &T,
     option: &str,
@@ -44,14 +41,9 @@ fn print<T: AllocGlobal + Clock + Threads + Wait + Sync>(
 }
 
 // Prints the times of a subject.
-fn print_times<T: AllocGlobal + Clock + Threads + Wait + Sync>(
-    rt: &HostRuntime,
-    threads: &T,
-    subject: &str,
-) -> io::Result<()> {
+fn print_times<T: Threads + Sync>(rt: &HostRuntime, threads: &T, subject: &str) -> io::Result<()> {
     match subject {
         "commits" => commits::print_times(rt, threads),
-        "readers" => readers::print_times(rt, threads),
         _ => Err(Error::other("nothing of this name is timed")),
     }
 }

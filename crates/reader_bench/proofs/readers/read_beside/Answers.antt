@@ -4,7 +4,7 @@ use denote.Param.Send.{IsSync, param_send, arg_send, shr_send, mut_send}
 use Rattle.std.proofs.Crossing.{crosses}
 use Rattle.std.specs.contracts.sync.atomic.AtomicU64 as atomic
 use Rattle.shared_graph.proofs.Crossing.{reader_send, graph_shared, four_send}
-use Rattle.bench.proofs.readers.read_beside.Goals as goal
+use Rattle.reader_bench.proofs.readers.read_beside.Goals as goal
 
 -- the writer goes to another thread, which shares the graph
 pub join-committed-requires-send-F : goal.join-committed-requires-send-F

@@ -1,5 +1,5 @@
 use Rattle.version_list.specs.Machine.{opened}
-use Rattle.bench.proofs.readers.print_times.Given as goal
+use Rattle.reader_bench.proofs.readers.print_times.Given as goal
 
 -- the graph that was just opened
 abbrev pub ghosts-print_shared : goal.ghosts-print_shared

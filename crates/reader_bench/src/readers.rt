@@ -76,9 +76,9 @@ fn commit<J: Naming, W: Wait + Drop, R: Threads + Wait + Sync>(
 }
 
 // Commits so many edges to versions alone.
-fn commit_alone(alloc: Global, versions: &mut Versions) -> Result<u64, VersionError> {
+fn commit_alone(alloc: Global, versions: &mut Versions, steps: u32) -> Result<u64, VersionError> {
     let mut last = 0;
-    for step in 0..STEPS {
+    for step in 0..steps {
         last = versions.commit(alloc, one_edge(alloc, step)?)?;
     }
     Ok(last)
@@ -90,6 +90,14 @@ fn told(_: VersionError) -> Error {
 
 fn told_shared(_: SharedError) -> Error {
     Error::other("the shared graph refused")
+}
+
+/// Prints the number of the version after a few commits.
+pub fn print_outcome(rt: &HostRuntime) -> io::Result<()> {
+    let mut versions = Versions::new(rt.alloc(), VERTICES, 64).map_err(told)?;
+    let last = commit_alone(rt.alloc(), &mut versions, 100).map_err(told)?;
+    drop(versions);
+    println!(rt; "100 commits of an edge: version {last}")
 }
 
 /// Prints the times of snapshots and commits.
@@ -109,7 +117,7 @@ fn times_alone(rt: &HostRuntime, versions: &mut Versions) -> io::Result<Times> {
     let mut taken = Taken::new(rt.alloc());
     for _ in 0..TURNS {
         let start = Instant::now(rt)?;
-        let last = commit_alone(rt.alloc(), versions).map_err(told)?;
+        let last = commit_alone(rt.alloc(), versions, STEPS).map_err(told)?;
         taken.add(rt, start, u64::from(STEPS), last)?;
     }
     taken.times()

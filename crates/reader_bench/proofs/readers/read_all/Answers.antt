@@ -1,7 +1,7 @@
 use denote.Param.Send.{sendable}
 use Rattle.std.proofs.Crossing.{crosses}
 use Rattle.shared_graph.proofs.Crossing.{reader_send}
-use Rattle.bench.proofs.readers.read_all.Goals as goal
+use Rattle.reader_bench.proofs.readers.read_all.Goals as goal
 
 -- readers go to other threads
 pub map_vec-requires-send-J : goal.map_vec-requires-send-J
