@@ -12,7 +12,8 @@ use Rattle.edge_fold.specs.Changed.{AreApart, changed, changes_of}
 use Rattle.push_engine.specs.Applied.{AreChangesOn}
 use Rattle.vectors.specs.declared.change.VectorChanges.{VectorChanges}
 use Rattle.plans.specs.Reducing.{AreReduced, steps_at}
-use Rattle.edge_applies.specs.Applied.{AreChangesTo, HasEntryForEach}
+use Rattle.edge_applies.specs.Applied.{AreChangesTo}
+use Rattle.run_state.specs.View.{HasEntryForEach}
 use Rattle.edge_applies.proofs.Between.{count_after_edges, entry_past, matching_between, rows_after_edges}
 use Rattle.edge_applies.proofs.WrittenChanges.{changes_make}
 

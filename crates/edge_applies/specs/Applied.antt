@@ -5,10 +5,6 @@ use Rattle.edge_fold.specs.Changed.{changed, changes_of}
 use Rattle.vectors.specs.declared.change.VectorChanges.{VectorChanges}
 use Rattle.vectors.specs.Changes.{with_all_changes}
 
--- each vector has an entry for each of so many vertices
-abbrev pub HasEntryForEach : (vertices : ℕ) → List (List ℤ) → Type 0
-HasEntryForEach vertices vectors = (x : ℕ) → x < length vectors → vertices ≤ length (slice_index_or vectors x [])
-
 -- the changes make the vectors before into those after, and are, for each vector, the vertices whose entry differs, with
 -- the entries after
 pub record AreChangesTo (vertices : ℕ) (before after : List (List ℤ)) (cs : List VectorChanges) : Type 0 where

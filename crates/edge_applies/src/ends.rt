@@ -5,10 +5,10 @@ ghost use Rattle.algorithm_meaning.specs.EdgeApply.{passes};
 ghost use Rattle.algorithm_meaning.specs.State.{StateValue};
 ghost use Rattle.edge_fold.specs.Ends.{IsEndTest};
 ghost use Rattle.instructions.specs.Functions.{AreFunctions};
-ghost use Rattle.edge_applies.specs.View.{HasSets};
+ghost use Rattle.run_state.specs.View.{HasSets};
 
-use crate::run_view::RunView;
 use kernels::End;
+use run_state::RunView;
 use typed_tree::EndFilter;
 use vertex_sets::VertexSet;
 

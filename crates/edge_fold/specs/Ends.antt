@@ -4,8 +4,8 @@ use Rattle.typed_tree.specs.StepTree.{StepsTree}
 use Rattle.algorithm_meaning.specs.EdgeApply.{is_member}
 use Rattle.algorithm_meaning.specs.Filter.{result_of}
 use Rattle.algorithm_meaning.specs.State.{StateValue}
-use Rattle.kernels.specs.declared.apply.End.{End}
-use Rattle.kernels.specs.declared.apply.End.TheVariants as end
+use Rattle.kernels.specs.declared.end.End.{End}
+use Rattle.kernels.specs.declared.end.End.TheVariants as end
 use Rattle.kernels.specs.declared.kernel.FilterKernel.{FilterKernel}
 use Rattle.kernels.specs.Kernels.{IsFilterKernel}
 

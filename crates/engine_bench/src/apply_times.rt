@@ -3,9 +3,10 @@
 use crate::kernels_of::edge_kernel;
 use edge_fold::Scratch;
 use flat_snapshot::Flat;
-use kernels::{Apply, EdgeKernel, End};
+use kernels::{EdgeKernel, End};
 use measuring::{Job, Random, Turns, print_head, print_row, told};
 use pull_engine::apply_edges;
+use push_engine::Apply;
 use schedule::{DenseVertexSet, Direction, Parallelization};
 use std::alloc::{AllocError, Global};
 use std::io;

@@ -3,9 +3,8 @@
 use crew::{CrewError, Found, Work};
 use edge_fold::{Gathered, Scratch};
 use flat_snapshot::Flat;
-use kernels::Apply;
 use pull_engine::PullWork;
-use push_engine::PushWork;
+use push_engine::{Apply, PushWork};
 use schedule::Direction;
 use std::alloc::{AllocError, Global};
 use std::io;

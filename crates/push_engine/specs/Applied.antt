@@ -6,7 +6,6 @@ use Rattle.algorithm_meaning.specs.EdgeApply.{after_edges}
 use Rattle.algorithm_meaning.specs.Laws.{IsGivenBy}
 use Rattle.algorithm_meaning.specs.State.{StateValue}
 use Rattle.algorithm_meaning.specs.Value.{entry}
-use Rattle.kernels.specs.declared.apply.Apply.{Apply}
 use Rattle.stack_code.specs.Cells.{HasSizes}
 use Rattle.tree_batch.specs.Digraph.{Digraph}
 use Rattle.vectors.specs.declared.change.VectorChanges.{VectorChanges}
@@ -14,6 +13,7 @@ use Rattle.edge_fold.specs.Between.{edges_between}
 use Rattle.edge_fold.specs.Changed.{changed, changes_of}
 use Rattle.edge_fold.specs.Ends.{IsEndTest}
 use Rattle.edge_fold.specs.Folded.{AreKernels}
+use Rattle.push_engine.specs.declared.edge_apply.Apply.{Apply}
 
 -- for each vector that has an entry for each vertex and to which the functions give by one reduction, the vertices whose
 -- entry an apply to these edges of a graph of n vertices changes, ascending, with the entries after it

@@ -13,11 +13,12 @@ ghost use Rattle.push_engine.specs.Applied.{AreChangesOf, AreChangesOn};
 ghost use Rattle.push_engine.specs.Words.{passes_words};
 ghost use Rattle.push_engine.specs.Work.{work_from};
 
+use crate::edge_apply::Apply;
 use crate::passing::passing_set;
 use crate::sources::{fold_all, fold_members, fold_passing};
 use edge_fold::{Functions, Scratch, Start};
 use flat_snapshot::Flat;
-use kernels::{Apply, End};
+use kernels::End;
 use schedule::Direction;
 use std::alloc::{AllocError, Global};
 use vectors::{Changes, Vectors};

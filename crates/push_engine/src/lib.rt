@@ -17,6 +17,7 @@
 #![tactic(auto)]
 
 mod apply;
+mod edge_apply;
 mod listed;
 mod members;
 mod merge;
@@ -27,6 +28,7 @@ mod sources;
 mod work;
 
 pub use apply::{is_work_above, push};
+pub use edge_apply::Apply;
 pub use listed::members_of;
 pub use members::keep_members;
 pub use merge::{join_all, part_between};

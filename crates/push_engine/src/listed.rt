@@ -11,9 +11,10 @@ ghost use Rattle.piece_cuts.specs.Pieces.{AreEnds};
 ghost use Rattle.tree_batch.specs.Neighbours.{destinations_of};
 ghost use Rattle.push_engine.specs.Sources.{AreSources, AscendsFrom};
 
+use crate::edge_apply::Apply;
 use edge_fold::{Functions, Scratch};
 use flat_snapshot::Flat;
-use kernels::{Apply, End};
+use kernels::End;
 use piece_cuts::Cuts;
 use schedule::{Direction, Parallelization};
 use std::alloc::{AllocError, Global};

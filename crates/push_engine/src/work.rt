@@ -12,11 +12,11 @@ ghost use Rattle.std.proofs.Props.{props};
 ghost use Rattle.push_engine.specs.Propositions.{AreEnds-prop, AscendsFrom-prop};
 ghost use Rattle.push_engine.specs.Sources.{AreSources};
 
+use crate::edge_apply::Apply;
 use crate::listed::{cut_sources, list_sources};
 use crew::CrewError;
 use edge_fold::{Functions, Scratch, Start};
 use flat_snapshot::Flat;
-use kernels::Apply;
 use piece_cuts::Cuts;
 use std::alloc::Global;
 use vectors::Vectors;

@@ -5,7 +5,7 @@ use Rattle.algorithm_meaning.specs.Value.{members_of}
 use Rattle.algorithm_meaning.specs.VertexSets.{with_members, with_new_set}
 use Rattle.vertex_sets.specs.VertexSet.{IsAscendingBelow, VertexSubset}
 use Rattle.vertex_sets.proofs.Ascending.{ascending_below, contains_nothing}
-use Rattle.edge_applies.specs.View.{members_in}
+use Rattle.run_state.specs.View.{members_in}
 use Rattle.run_state.specs.NamedSets.{AreNamed, AreSetsOf, named, nothing, size_of, sizes_of, with_first_set, with_first_sets}
 
 pub named_push : (ns : List ℕ) (ms : List VertexSubset) (n : ℕ) (m : VertexSubset) → length ns ≡ length ms → named (ns ++ n ∷ []) (ms ++ m ∷ []) ≡ with_new_set (named ns ms) n m.members

@@ -3,3 +3,4 @@ pub mod Taken
 pub mod NamedSets
 pub mod Passing
 pub mod VertexKernels
+pub mod View

@@ -5,20 +5,22 @@
 //! (`RunState` in `specs/State.antt`). Each call does to it what a statement, or a part of one, does there. No call looks
 //! a name up, and one that runs out of memory leaves the state as it was.
 //!
-//! Expressions, vertex functions and filters come as kernels. An edge apply stands outside: it reads what
-//! [`State::view`] lends, [`State::write`] writes what it found, and [`State::take_both`] takes the sets that it makes.
+//! Expressions, vertex functions and filters come as kernels. An edge apply stands outside, in `edge_applies`: it reads
+//! the [`RunView`] that [`State::view`] lends, [`State::write`] writes what it found, and [`State::take_both`] takes the sets that it makes.
 //!
-//! The runner stands on it.
+//! `edge_applies` and the runner stand on it.
 #![tactic(auto)]
 
 mod filtering;
 mod named_sets;
 mod opening;
+mod run_view;
 mod show;
 mod state;
 mod taken;
 mod text;
 mod vertices;
 
+pub use run_view::RunView;
 pub use state::State;
 pub use taken::Taken;

@@ -6,7 +6,7 @@ ghost use Rattle.algorithm_meaning.specs.State.{GraphValue};
 ghost use Rattle.algorithm_meaning.specs.Meaning.{all_vertices};
 ghost use Rattle.algorithm_meaning.specs.Value.{members_of};
 ghost use Rattle.algorithm_meaning.specs.VertexSets.{inserted, with_members, with_new_set};
-ghost use Rattle.edge_applies.specs.View.{members_in};
+ghost use Rattle.run_state.specs.View.{members_in};
 ghost use Rattle.vertex_sets.specs.VertexSet.{IsVertexSet};
 ghost use Rattle.run_state.specs.NamedSets.{AreNamed, named, size_of as size};
 ghost use Rattle.run_state.specs.Taken.{IsTakenOf, with_taken};

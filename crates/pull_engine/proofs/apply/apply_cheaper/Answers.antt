@@ -1,7 +1,7 @@
 use Rattle.std.proofs.Common.{ℕ, Option, refl, sym, subst, arith}
 use Rattle.std.proofs.lemmas.Result.{IfOk-weaker}
 use Rattle.algorithm_meaning.specs.EdgeApply.{is_member}
-use Rattle.kernels.specs.declared.apply.End.{End}
+use Rattle.kernels.specs.declared.end.End.{End}
 use Rattle.edge_fold.specs.Ends.{IsEndTest}
 use Rattle.push_engine.proofs.Filtered.{between_agree, changes_along}
 use Rattle.pull_engine.proofs.apply.apply_cheaper.Goals as goal

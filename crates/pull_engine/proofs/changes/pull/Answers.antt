@@ -1,7 +1,7 @@
 use Rattle.std.proofs.Common.{ℕ, true, Option, refl, sym, subst, arith}
 use Rattle.std.proofs.lemmas.Result.{IfOk-weaker}
 use Rattle.algorithm_meaning.specs.EdgeApply.{is_member}
-use Rattle.kernels.specs.declared.apply.End.{End}
+use Rattle.kernels.specs.declared.end.End.{End}
 use Rattle.edge_fold.specs.Ends.{IsEndTest, IsTest}
 use Rattle.push_engine.proofs.Filtered.{between_agree, between_same, changes_along}
 use Rattle.pull_engine.proofs.changes.pull.Goals as goal

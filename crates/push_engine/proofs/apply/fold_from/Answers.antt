@@ -1,5 +1,5 @@
 use Rattle.std.proofs.Common.{Option, subst}
-use Rattle.kernels.specs.declared.apply.End.{End}
+use Rattle.kernels.specs.declared.end.End.{End}
 use Rattle.edge_fold.specs.Ends.{IsEndTest}
 use Rattle.push_engine.proofs.apply.fold_from.Goals as goal
 

@@ -1,5 +1,5 @@
 use Rattle.std.proofs.Common.{subst}
-use Rattle.kernels.specs.declared.apply.End.{End}
+use Rattle.kernels.specs.declared.end.End.{End}
 use Rattle.edge_fold.specs.Ends.{IsTest}
 use Rattle.push_engine.proofs.apply.fold_from_end.Goals as goal
 

@@ -1,6 +1,6 @@
 use Rattle.std.proofs.Common.{Option, refl, subst}
 use Rattle.std.proofs.lemmas.Result.{IfOk-weaker}
-use Rattle.kernels.specs.declared.apply.End.{End}
+use Rattle.kernels.specs.declared.end.End.{End}
 use Rattle.edge_fold.specs.Ends.{IsEndTest}
 use Rattle.push_engine.proofs.apply.push.Goals as goal
 

@@ -1,7 +1,7 @@
 use Rattle.std.proofs.Common.{ℕ, refl, sym, subst, arith}
 use Rattle.std.proofs.lemmas.Result.{IfOk-weaker}
 use Rattle.algorithm_meaning.specs.EdgeApply.{is_member}
-use Rattle.kernels.specs.declared.apply.End.{End}
+use Rattle.kernels.specs.declared.end.End.{End}
 use Rattle.edge_fold.specs.Ends.{IsTest}
 use Rattle.push_engine.proofs.Filtered.{changes_along, to_agree}
 use Rattle.push_engine.proofs.apply.push_tested.Goals as goal

@@ -1,6 +1,6 @@
 use Rattle.std.proofs.Common.{◌++◌, ℕ, true, [], List, Option, sym, ap, ◌∙◌, subst}
 use Rattle.std.specs.List.{filter}
-use Rattle.kernels.specs.declared.apply.End.{End}
+use Rattle.kernels.specs.declared.end.End.{End}
 use Rattle.edge_fold.specs.Ends.{IsEndTest}
 use Rattle.edge_fold.proofs.Walks.{folded_along}
 use Rattle.push_engine.specs.Rows.{rows, rows_to}

@@ -1,7 +1,7 @@
 use Rattle.std.proofs.Common.{◌<◌, ◌≤◌, length, slice_get, refl, ap, sym, arith, ◌∙◌}
 use Rattle.std.proofs.lemmas.Option.{slice_get_past, slice_get_read}
 use Rattle.algorithm_meaning.specs.Value.{members_of}
-use Rattle.edge_applies.specs.View.{members_in}
+use Rattle.run_state.specs.View.{members_in}
 use Rattle.run_state.specs.State.{RunState}
 use Rattle.run_state.proofs.Named.{found_vertices, named_members}
 use Rattle.run_state.proofs.named_sets.NamedSets.get.Goals as goal

@@ -5,7 +5,7 @@ use Rattle.algorithm_meaning.specs.State.{StateValue}
 use Rattle.algorithm_meaning.specs.Value.{members_of}
 use Rattle.algorithm_meaning.specs.VertexSets.{inserted, with_members}
 use Rattle.vertex_sets.specs.VertexSet.{IsAscendingBelow, VertexSubset}
-use Rattle.edge_applies.specs.View.{members_in}
+use Rattle.run_state.specs.View.{members_in}
 use Rattle.run_state.specs.NamedSets.{named, size_of}
 use Rattle.run_state.specs.State.{RunState, with_state}
 use Rattle.run_state.proofs.Inserted.{inserted_is}

@@ -1,7 +1,7 @@
 use Rattle.std.proofs.Common.{List, slice_get, ap, ◌∙◌}
 use Rattle.algorithm_meaning.specs.Value.{members_of}
 use Rattle.vertex_sets.specs.VertexSet.{VertexSubset}
-use Rattle.edge_applies.specs.View.{members_in}
+use Rattle.run_state.specs.View.{members_in}
 use Rattle.run_state.specs.State.{RunState}
 use Rattle.run_state.proofs.Named.{named_members}
 use Rattle.run_state.proofs.named_sets.NamedSets.members.Goals as goal

@@ -1,7 +1,8 @@
 use Rattle.std.proofs.Common.{◌≡◌, ◌∙◌, ◌+◌, ℕ, List, Option, ap, arith, sym, subst}
 use Rattle.algorithm_meaning.specs.EdgeApply.{after_edge_apply}
 use Rattle.algorithm_meaning.specs.State.{GraphValue}
-use Rattle.edge_applies.specs.Applied.{AreChangesTo, HasEntryForEach}
+use Rattle.edge_applies.specs.Applied.{AreChangesTo}
+use Rattle.run_state.specs.View.{HasEntryForEach}
 use Rattle.plans.specs.Machine.{At}
 use Rattle.plans.specs.Reducing.{AreReduced, places_of, steps_at}
 use Rattle.runner.specs.declared.run.Run.{Run}

@@ -1,16 +1,6 @@
 //! Applies of edge functions.
-use crate::kernel::{EdgeKernel, FilterKernel};
+use kernels::{EdgeKernel, End};
 use schedule::{DenseVertexSet, Direction, Parallelization};
-use vertex_sets::VertexSet;
-
-/// Which vertices an end of an edge may be.
-#[derive(Clone, Copy)]
-pub enum End<'a> {
-    /// The members of a set.
-    Members(&'a VertexSet),
-    /// Those that a filter lets through.
-    Filter(&'a FilterKernel),
-}
 
 /// An apply of one or two edge functions to the edges between two ends, and the values that its schedule has for it.
 /// An end that is not given lets all vertices through.

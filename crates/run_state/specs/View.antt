@@ -1,12 +1,12 @@
 -- What a run lends, in the words of the meaning.
-use Rattle.std.specs.Prelude.{◌≡◌, ℕ, List, [], slice_get, Option, Some, None}
+use Rattle.std.specs.Prelude.{◌≡◌, ℕ, ◌<◌, ◌≤◌, ℤ, List, [], length, slice_get, slice_index_or, Option, Some, None}
 use Rattle.typed_tree.specs.ProgramTree.{ProgramTree}
 use Rattle.algorithm_meaning.specs.State.{GraphValue, StateValue}
 use Rattle.algorithm_meaning.specs.Value.{members_of}
 use Rattle.instructions.specs.Functions.{AreFunctions}
 use Rattle.stack_code.specs.Cells.{HasSizes}
 use Rattle.vertex_sets.specs.VertexSet.{VertexSubset}
-use Rattle.edge_applies.specs.declared.run_view.RunView.{RunView}
+use Rattle.run_state.specs.declared.run_view.RunView.{RunView}
 
 -- the members of a vertex set, none where there is no set
 abbrev pub members_in : Option VertexSubset → List ℕ
@@ -16,6 +16,10 @@ members_in (Some set) = set.members
 -- at each place there are the members of a state's set
 abbrev pub HasSets : RunView → StateValue → Type 0
 HasSets run m = (place : ℕ) → members_in (slice_get run.sets.now place) ≡ members_of (slice_get m.sets place)
+
+-- each vector has an entry for each of so many vertices
+abbrev pub HasEntryForEach : (vertices : ℕ) → List (List ℤ) → Type 0
+HasEntryForEach vertices vectors = (x : ℕ) → x < length vectors → vertices ≤ length (slice_index_or vectors x [])
 
 -- it has the functions of a program, the vertex sets and the vectors of a state, and a graph
 pub record IsViewOf (run : RunView) (p : ProgramTree) (m : StateValue) (g : GraphValue) : Type 0 where
