@@ -1,8 +1,11 @@
 //! Tests of edge applies by the engines, alone and in pieces: small graphs whose answers were worked out by hand.
 //!
-//! Random applies are compared with the slow run by `engine_bench`. Shapes of kernels stand here too.
+//! Random applies are compared with the slow run by `engine_bench`. Shapes of kernels stand here too, and runs of plans
+//! that go one instruction at a time.
 #![tactic(auto)]
 
+#[cfg(test)]
+mod jobs;
 #[cfg(test)]
 mod kernel_shapes;
 #[cfg(test)]
