@@ -1,5 +1,5 @@
 -- Files that are compiled one after another.
-use Rattle.std.proofs.Common.{◌≡◌, ℕ, ◌+◌, ◌<◌, List, [], ◌∷◌, ◌++◌, length, map, drop, get_or, Bor, inl, inr, sym, ap, ◌∙◌, subst, append-nil, append_assoc}
+use Rattle.std.proofs.Common.{◌≡◌, refl, ℕ, ◌+◌, ◌<◌, List, [], ◌∷◌, ◌++◌, length, map, drop, get_or, Bor, inl, inr, sym, ap, ◌∙◌, subst, append-nil, append_assoc}
 use Rattle.std.proofs.lemmas.List.{map-append, drop_more}
 use Rattle.std.specs.declared.io.Error.{Error}
 use Rattle.typed_tree.specs.ProgramTree.{ProgramTree}
@@ -7,11 +7,17 @@ use Rattle.programs.specs.declared.program.Program.{Program}
 use Rattle.programs.specs.Program.{program_tree}
 use Rattle.driver.specs.Reading.{HoldPrograms, HoldsProgram, IsNoProgram, LacksProgram}
 use Rattle.driver.specs.declared.error.ServeError.{ServeError}
+use Rattle.driver.specs.declared.error.ServeError.TheVariants.{NoMemory}
 
 -- some files of all were compiled: what is left to compile, and how that fails, makes up the whole
 pub record Compiles (holds : List ℕ → List ℕ → Type 0) (fails : List ℕ → Error → Type 0) (all left : List (List ℕ)) (programs : List ProgramTree) : Type 0 where
   pub goes_on : (more : List ProgramTree) → HoldPrograms holds left more → HoldPrograms holds all (programs ++ more)
   pub fails_on : (e : ServeError) → LacksProgram holds fails left e → LacksProgram holds fails all e
+
+-- no file was compiled yet
+pub nothing_compiled : (holds : List ℕ → List ℕ → Type 0) (fails : List ℕ → Error → Type 0) (all : List (List ℕ)) (compiled : List Program) → compiled ≡ [] → Compiles holds fails all all (map program_tree compiled)
+nothing_compiled holds fails all compiled none =
+    subst (λ (ps : List Program). Compiles holds fails all all (map program_tree ps)) (sym none) (record { goes_on = λ more rest. rest; fails_on = λ e lacks. lacks })
 
 -- all files were compiled
 pub all_compiled : (holds : List ℕ → List ℕ → Type 0) (fails : List ℕ → Error → Type 0) (all left : List (List ℕ)) (programs : List ProgramTree) → Compiles holds fails all left programs → left ≡ []
@@ -44,3 +50,12 @@ pub lacks_at : (holds : List ℕ → List ℕ → Type 0) (fails : List ℕ → 
 lacks_at holds fails all names place none compiled e within c lacks =
     let first = subst (λ (ns : List (Bor (List ℕ))). Compiles holds fails all (map (λ n. n.now) ns) (map program_tree compiled)) (drop_more names place none within) c in
     first.fails_on e (inl lacks)
+
+-- memory may run out at any of the files
+lacks_memory : (holds : List ℕ → List ℕ → Type 0) (fails : List ℕ → Error → Type 0) (left : List (List ℕ)) → LacksProgram holds fails left NoMemory
+lacks_memory holds fails [] = refl
+lacks_memory holds fails (name ∷ names) = inl tt
+
+-- memory ran out behind some files
+pub memory_ends : (holds : List ℕ → List ℕ → Type 0) (fails : List ℕ → Error → Type 0) (all left : List (List ℕ)) (programs : List ProgramTree) → Compiles holds fails all left programs → LacksProgram holds fails all NoMemory
+memory_ends holds fails all left programs c = c.fails_on NoMemory (lacks_memory holds fails left)

@@ -1,7 +1,7 @@
 use Rattle.std.proofs.Common.{◌≤◌, ◌<◌, List, ℕ, length, map, ap, arith, Bor}
 use Rattle.std.proofs.lemmas.List.{drop_all}
 use Rattle.std.proofs.lemmas.Result.{err_from_is_err_and}
-use Rattle.driver.proofs.Compiling.{all_compiled, compiled_at, lacks_at}
+use Rattle.driver.proofs.Compiling.{all_compiled, compiled_at, lacks_at, memory_ends, nothing_compiled}
 use Rattle.driver.proofs.serving.compiled_files.Goals as goal
 
 pub returns : goal.returns
@@ -19,3 +19,11 @@ returns-in_err-compiled_file g c =
     let within : c.names.name-index < length c.args.names.now = omega (arith, c.names-test.true, c.names.auto.name-index-end) in
     let p = err_from_is_err_and c.from_residual.result c.from_residual.ensures.1 in
     rw (p.1, p.2) (lacks_at _ _ _ c.args.names.now c.names.name-index _ c.names.compiled.items c.in_err-compiled_file.field-0.0 within c.names.invariant c.in_err-compiled_file.ensures)
+
+pub names-init : goal.names-init
+names-init g c = nothing_compiled _ _ _ c.new-compiled.result.items c.new-compiled.ensures.items
+
+pub returns-in_err-push : goal.returns-in_err-push
+returns-in_err-push g c =
+    let p = err_from_is_err_and c.from_residual-in_err-push.result c.from_residual-in_err-push.ensures.1 in
+    rw (p.1, p.2) (memory_ends _ _ _ _ _ c.names.invariant)
