@@ -112,8 +112,7 @@ impl<J: Naming, R: Wait + Drop> Desk<J, R> {
             Ok(prepared) => prepared,
             Err(error) => return Err(self.ledger.refuse(rt, me, error)),
         };
-        let newest = self.ledger.newest()?;
-        let graph = Arc::new(alloc, prepared.graph.clone()?)?;
+        let (newest, graph) = self.ledger.before_hold(alloc, &prepared.graph)?;
         let done = Done {
             step: Step::Acquire(which),
             reply: Reply::Ticket(prepared.ticket.number, prepared.version),

@@ -108,6 +108,22 @@ impl<J: Naming, R: Wait + Drop> Ledger<J, R> {
         self.publisher.published().snapshot()
     }
 
+    /// What a hold needs before its step: the newest version, to be published again, and the held graph once more.
+    ///
+    /// Errors: `AllocError` where one of them cannot be shared once more.
+    pub(crate) fn before_hold(
+        &self,
+        alloc: Global,
+        graph: &Graph,
+    ) -> Result<(Snapshot, Arc<Graph>), AllocError>
+        ensures newest { IfOk result (λ r. IsNewest (state_at J.base self.now) r.0.number (arc_value r.0.graph)) }
+        ensures graph { IfOk result (λ r. arc_value r.1 ≡ graph.now) }
+    {
+        let newest = self.newest()?;
+        let graph = Arc::new(alloc, graph.clone()?)?;
+        Ok((newest, graph))
+    }
+
     /// Puts a reader's step at the end of the history and publishes the newest version after it, whose
     /// number and graph these are. Takes no memory; waits for readers.
     pub(crate) fn record<T: Wait>(

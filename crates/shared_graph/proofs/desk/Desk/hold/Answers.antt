@@ -31,7 +31,7 @@ returns-clause-graph g c =
     let e : Entry = record { by = c.args.me.now.number; done = record { step = Acquire c.args.which; reply = Ticket p.ticket.number p.version } } in
     let kept = timeline_kept base log c.self.inside.versions c.prepare_acquire.new.self (Acquire c.args.which) 2 (λ t q. IsPreparedAcquire t c.args.which q) (Ok p) c.self.invariant c.in-Ok.ensures in
     let shown_is : c.record.new.me.shown ≡ log ++ e ∷ [] = c.record.ensures.shown ∙ c.record.ensures.log in
-    let graph_is : arc_value c.in_ok-graph.graph ≡ p.graph = c.in_ok-graph.ensures.ok ∙ c.in_ok-clone.ensures.cases in
-    let h : Hold = c.new-2.result in
+    let graph_is : arc_value c.in_ok-newest.graph ≡ p.graph = c.in_ok-newest.ensures.graph in
+    let h : Hold = c.new.result in
     subst (λ (l : List Entry). HoldsVersion (state_at base l) c.args.which h) (sym shown_is)
-    (holds_version c.prepare_acquire.new.self c.args.which p base log e h kept c.in-Ok.ensures.1 refl (ap (λ (x : Hold). x.version) c.new-2.ensures) (ap (λ (x : Hold). x.graph) c.new-2.ensures ∙ graph_is))
+    (holds_version c.prepare_acquire.new.self c.args.which p base log e h kept c.in-Ok.ensures.1 refl (ap (λ (x : Hold). x.version) c.new.ensures) (ap (λ (x : Hold). x.graph) c.new.ensures ∙ graph_is))
