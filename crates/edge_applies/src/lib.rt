@@ -7,7 +7,7 @@
 //!
 //! Nothing is written here. The promise is for a program whose functions give each vector numbers by one reduction
 //! (`specs/Reducing.antt` of `plans`), and for vectors with an entry for each vertex
-//! (`specs/Applied.antt`).
+//! (`specs/View.antt` of `run_state`).
 //!
 //! The runner stands on it.
 #![tactic(auto)]
