@@ -3,12 +3,15 @@
 ghost use Rattle.std.specs.Prelude.{◌≡◌, [], IfOk, IfErr, true};
 ghost use Rattle.version_list.specs.declared.step.Step.TheVariants.{Commit, Acquire, Release};
 ghost use Rattle.version_list.specs.declared.step.Reply.TheVariants as reply;
+ghost use Rattle.std.specs.Arc.{arc_value};
 ghost use Rattle.version_list.specs.Machine.{is_open};
+ghost use Rattle.version_list.specs.Prepared.{IsPrepared, IsPreparedAcquire};
 ghost use Rattle.version_list.specs.Timeline.{beginning};
 ghost use Rattle.shared_graph.specs.declared.error.SharedError.TheVariants.{NoMemory};
-ghost use Rattle.shared_graph.specs.Histories.{state_at};
+ghost use Rattle.shared_graph.specs.Histories.{state_at, IsNewest};
 ghost use Rattle.shared_graph.specs.Holding.{HoldsVersion};
-ghost use Rattle.shared_graph.specs.Outcome.{Answers, AnswersRelease};
+ghost use Rattle.shared_graph.specs.Locked.{IsTimelineOf};
+ghost use Rattle.shared_graph.specs.Outcome.{Answers, AnswersRelease, Refuses};
 
 use crate::error::SharedError;
 use crate::held::{Held, Unreleased};
@@ -20,8 +23,10 @@ use std::alloc::Global;
 use std::marker::Model;
 use std::sync::{Arc, Wait};
 use std::thread::Threads;
-use tree_batch::Batch;
-use version_list::{Done, MAX_HISTORY, Reply, Step, VersionError, Versions, Which};
+use tree_batch::{Batch, Graph};
+use version_list::{
+    Done, MAX_HISTORY, Prepared, PreparedAcquire, Reply, Step, VersionError, Versions, Which,
+};
 
 /// From how many entries on a batch is worth the start of threads.
 const MANY_ENTRIES: usize = 4096;
@@ -79,16 +84,14 @@ impl<J: Naming, R: Wait + Drop> Desk<J, R> {
         ensures err { IfErr result (λ _. self.new ≡ self.old) }
     {
         prove!(self.versions.history().len() as u64 <= MAX_HISTORY);
-        let forks = if batch.entries().len() < MANY_ENTRIES {
-            0
-        } else {
-            FORKS
-        };
-        let prepared = match self.versions.prepare(rt, alloc, batch, forks) {
-            Ok(prepared) => prepared,
-            Err(error) => return Err(self.ledger.refuse(rt, me, error)),
-        };
-        let graph = Arc::new(alloc, prepared.graph.clone()?)?;
+        let (prepared, graph) = prepare_commit(
+            &mut self.versions,
+            &self.ledger,
+            rt,
+            alloc,
+            me,
+            batch,
+        )?;
         self.ledger
             .record(rt, me, &prepared.done, prepared.number, graph);
         Ok(self.versions.finish(prepared))
@@ -108,11 +111,14 @@ impl<J: Naming, R: Wait + Drop> Desk<J, R> {
         ensures err { IfErr result (λ _. self.new ≡ self.old) }
     {
         prove!(self.versions.history().len() as u64 <= MAX_HISTORY);
-        let prepared = match self.versions.prepare_acquire(which) {
-            Ok(prepared) => prepared,
-            Err(error) => return Err(self.ledger.refuse(rt, me, error)),
-        };
-        let (newest, graph) = self.ledger.before_hold(alloc, &prepared.graph)?;
+        let (prepared, newest, graph) = prepare_hold(
+            &mut self.versions,
+            &self.ledger,
+            rt,
+            alloc,
+            me,
+            which,
+        )?;
         let done = Done {
             step: Step::Acquire(which),
             reply: Reply::Ticket(prepared.ticket.number, prepared.version),
@@ -159,4 +165,59 @@ impl<J: Naming, R: Wait + Drop> Desk<J, R> {
         held.into_snapshot();
         Ok(())
     }
+}
+
+// Prepares the commit of a batch, and its graph to be published. A refusal is shown to the reader.
+fn prepare_commit<J: Naming, R: Wait + Drop, T: Threads + Wait + Sync>(
+    versions: &mut Versions,
+    ledger: &Ledger<J, R>,
+    rt: &T,
+    alloc: Global,
+    me: &mut Reader<J>,
+    batch: Batch,
+) -> Result<(Prepared, Arc<Graph>), SharedError>
+    requires { IsTimelineOf J.base ledger.now versions.old }
+    ensures timeline { IsTimelineOf J.base ledger.now versions.new }
+    ensures prepared { IfOk result (λ r. IsPrepared versions.new batch r.0) }
+    ensures graph { IfOk result (λ r. arc_value r.1 ≡ r.0.graph) }
+    ensures same { IfOk result (λ _. me.new ≡ me.old) }
+    ensures err { IfErr result (λ e. Refuses J.base me.old (Commit batch) e me.new) }
+{
+    let forks = if batch.entries().len() < MANY_ENTRIES {
+        0
+    } else {
+        FORKS
+    };
+    let prepared = match versions.prepare(rt, alloc, batch, forks) {
+        Ok(prepared) => prepared,
+        Err(error) => return Err(ledger.refuse(rt, me, error)),
+    };
+    let graph = Arc::new(alloc, prepared.graph.clone()?)?;
+    Ok((prepared, graph))
+}
+
+// Prepares the hold of a version, the newest version to be published again, and the held graph once
+// more. A refusal is shown to the reader.
+fn prepare_hold<J: Naming, R: Wait + Drop, T: Wait>(
+    versions: &mut Versions,
+    ledger: &Ledger<J, R>,
+    rt: &T,
+    alloc: Global,
+    me: &mut Reader<J>,
+    which: Which,
+) -> Result<(PreparedAcquire, Snapshot, Arc<Graph>), SharedError>
+    requires { IsTimelineOf J.base ledger.now versions.old }
+    ensures timeline { IsTimelineOf J.base ledger.now versions.new }
+    ensures prepared { IfOk result (λ r. IsPreparedAcquire versions.new which r.0) }
+    ensures newest { IfOk result (λ r. IsNewest (state_at J.base ledger.now) r.1.number (arc_value r.1.graph)) }
+    ensures graph { IfOk result (λ r. arc_value r.2 ≡ r.0.graph) }
+    ensures same { IfOk result (λ _. me.new ≡ me.old) }
+    ensures err { IfErr result (λ e. Refuses J.base me.old (Acquire which) e me.new) }
+{
+    let prepared = match versions.prepare_acquire(which) {
+        Ok(prepared) => prepared,
+        Err(error) => return Err(ledger.refuse(rt, me, error)),
+    };
+    let (newest, graph) = ledger.before_hold(alloc, &prepared.graph)?;
+    Ok((prepared, newest, graph))
 }

@@ -141,11 +141,9 @@ impl<J: Naming, R: Wait + Drop> Ledger<J, R> {
         ensures made { HasMade J.base me.old done.now.step done.now.reply me.new }
         ensures shown { me.new.shown ≡ self.new }
     {
-        let (place, steps) = meet(rt, &self.front, &self.counts, me);
-        extend(rt, &self.book, &mut self.front, place, done);
+        make_step(rt, &self.book, &mut self.front, &mut self.counts, me, done);
         let shown = Shown::new(self.vertices, self.room, number, graph, &self.front);
         self.publisher.publish(shown);
-        self.counts[place] = steps + 1;
         me.has_made(&self.front);
     }
 
@@ -190,6 +188,27 @@ fn meet<J: Naming, T: Wait>(
     }
     front.len();
     (place, steps)
+}
+
+// Puts a reader's step at the end of the history, and counts it.
+fn make_step<J: Naming, T: Wait>(
+    rt: &T,
+    book: &Book<J>,
+    front: &mut Front<J>,
+    counts: &mut Vec<u64>,
+    me: &Reader<J>,
+    done: &Done,
+)
+    requires few { length front.old ≤ 16777216 }
+    requires follows { MayFollow J.base front.old done.now }
+    requires counts { AreCounts front.old counts.old.items }
+    ensures front { front.new ≡ front.old ++ record { by = me.now.number; done = done.now } ∷ [] }
+    ensures counts { AreCounts front.new counts.new.items }
+    ensures made { HasMade J.base me.now done.now.step done.now.reply (record me.now { shown = front.new; last = front.new }) }
+{
+    let (place, steps) = meet(rt, front, counts, me);
+    extend(rt, book, front, place, done);
+    counts[place] = steps + 1;
 }
 
 // Puts a reader's step at the end of the history, all of which was seen, under the lock; had it not

@@ -89,19 +89,11 @@ impl<J: Naming> Reader<J> {
         let Some(reader) = self.read.take() else {
             return Err(SharedError::Closed);
         };
-        match reader.enter_as::<Seeing>() {
-            Ok(reading) => {
-                let seen = see(reading.get(), &self.front);
-                self.read = Some(reading.leave());
-                let (snapshot, front) = seen?;
-                self.front = front;
-                Ok(snapshot)
-            }
-            Err(reader) => {
-                self.read = Some(reader);
-                Err(SharedError::Closed)
-            }
-        }
+        let (reader, seen) = read_shown(reader, &self.front);
+        self.read = Some(reader);
+        let (snapshot, front) = seen?;
+        self.front = front;
+        Ok(snapshot)
     }
 
     /// What this reader showed after its last accepted step, or the empty history before the first,
@@ -175,6 +167,26 @@ impl<J: Naming> Model for Token<J> {
     ghost Value = { List Entry };
 
     ghost view = { λ t. t.front };
+}
+
+// What is shown, as `see` has it, and the reader with which it was read.
+fn read_shown<J: Naming>(
+    reader: ShownReader,
+    front: &Front<J>,
+) -> (ShownReader, Result<(Snapshot, Front<J>), SharedError>)
+    requires { Knows J.book J.base (view_of reader.place) }
+    ensures knows { Knows J.book J.base (view_of result.0.place) }
+    ensures seen { IfOk result.1 (λ r. IsPrefix front.now r.1 × IsLegal J.base (steps_of r.1)) }
+    ensures newest { IfOk result.1 (λ r. IsNewest (state_at J.base r.1) r.0.number (arc_value r.0.graph)) }
+    ensures err { IfErr result.1 (λ e. (e ≡ Closed) ⊎ (e ≡ NoMemory)) }
+{
+    match reader.enter_as::<Seeing>() {
+        Ok(reading) => {
+            let seen = see(reading.get(), front);
+            (reading.leave(), seen)
+        }
+        Err(reader) => (reader, Err(SharedError::Closed)),
+    }
 }
 
 // The version that is shown, and the history that made it, where that begins with what was seen.

@@ -1,5 +1,6 @@
 //! Expressions, one function for each level of the grammar.
 ghost use Rattle.std.specs.Prelude.{◌++◌, ◌∷◌, OnOk};
+ghost use Rattle.syntax.specs.ExpressionTrees.{Size};
 ghost use Rattle.syntax.specs.ExpressionViews.{comparison_of, conjunction_of, primary_of, sum_of, term_of, unary_of};
 ghost use Rattle.syntax.specs.ExpressionSpelling.{addition_terminal, comparison_terminals, conjunction_terminals, expression_terminals, multiplication_terminal, prefix_terminal, primary_terminals, relation_terminal, sum_terminals, term_terminals, unary_terminals};
 ghost use Rattle.source_text.specs.Written.{Puts, signs_before};
@@ -8,8 +9,8 @@ use crate::text::{put_keyword, put_name, put_number, put_symbol};
 use lexer::{Keyword, Symbol};
 use std::alloc::AllocError;
 use syntax::{
-    Addition, Comparison, Conjunction, Expression, Multiplication, Prefix, Primary, Relation, Sum,
-    Term, Unary,
+    Addition, Comparison, Conjunction, Expression, Multiplication, Name, Prefix, Primary, Relation,
+    Sum, Term, Unary,
 };
 
 /// Puts an expression down.
@@ -98,19 +99,23 @@ fn put_primary(out: &mut Vec<u8>, primary: &Primary) -> Result<(), AllocError>
             put_expression(out, index)?;
             put_symbol(out, Symbol::CloseBracket)
         }
-        Primary::Size(name) => {
-            put_name(out, name)?;
-            put_symbol(out, Symbol::Dot)?;
-            put_keyword(out, Keyword::GetVertexSetSize)?;
-            put_symbol(out, Symbol::OpenParenthesis)?;
-            put_symbol(out, Symbol::CloseParenthesis)
-        }
+        Primary::Size(name) => put_size(out, name),
         Primary::Parentheses(inside) => {
             put_symbol(out, Symbol::OpenParenthesis)?;
             put_expression(out, inside)?;
             put_symbol(out, Symbol::CloseParenthesis)
         }
     }
+}
+
+fn put_size(out: &mut Vec<u8>, set: &Name) -> Result<(), AllocError>
+    ensures { OnOk result (Puts (λ rest. primary_terminals (Size set.now) ++ rest) out.old.items out.new.items) }
+{
+    put_name(out, set)?;
+    put_symbol(out, Symbol::Dot)?;
+    put_keyword(out, Keyword::GetVertexSetSize)?;
+    put_symbol(out, Symbol::OpenParenthesis)?;
+    put_symbol(out, Symbol::CloseParenthesis)
 }
 
 /// Puts the signs of an operand down, in their order.

@@ -10,16 +10,13 @@ pub new-shown-requires-clause-newest : goal.new-shown-requires-clause-newest
 new-shown-requires-clause-newest g c =
     let base : State = g.J.Naming.base in
     let log : List Entry = c.self.inside.front in
-    let e : Entry = record { by = c.meet-place.result.0; done = c.args.done.now } in
-    let after : state_at base c.extend.new.front ≡ state_after (state_at base log) e.done.step = ap (state_at base) c.extend.ensures ∙ state_at-push base log e in
+    let e : Entry = record { by = c.args.me.now.number; done = c.args.done.now } in
+    let after : state_at base c.make_step.new.front ≡ state_after (state_at base log) e.done.step = ap (state_at base) c.make_step.ensures.front ∙ state_at-push base log e in
     let before : state_after (state_at base log) e.done.step ≡ state_after (state_at base c.args.self.now) e.done.step = ap (λ (l : List Entry). state_after (state_at base l) e.done.step) c.self.view_is in
     subst (λ (s : State). IsNewest s c.args.number (arc_value c.args.graph)) (sym (after ∙ before)) c.requires.newest
 
 pub has_made-requires-clause-few : goal.has_made-requires-clause-few
 has_made-requires-clause-few g c =
     let log : List Entry = c.self.inside.front in
-    let e : Entry = record { by = c.meet-place.result.0; done = c.args.done.now } in
-    omega (arith, length-own c.args.me.now.number c.extend.new.front, ap length c.extend.ensures, length-append log (e ∷ []), ap length c.self.view_is, c.requires.few)
-
-pub overflow_add-steps : goal.overflow_add-steps
-overflow_add-steps g c = omega (arith, c.meet-place.ensures.steps.0, length-own c.args.me.now.number c.self.inside.front, ap length c.self.view_is, c.requires.few)
+    let e : Entry = record { by = c.args.me.now.number; done = c.args.done.now } in
+    omega (arith, length-own c.args.me.now.number c.make_step.new.front, ap length c.make_step.ensures.front, length-append log (e ∷ []), ap length c.self.view_is, c.requires.few)
