@@ -168,14 +168,18 @@ fn script_words(folder: &Folder<'_>, name: &str) -> io::Result<Vec<String>> {
     let mut words = Vec::new(alloc);
     words.push(String::from_str(alloc, "script")?)?;
     words.push(format!(in alloc; "{name}.script")?)?;
-    if folder.read_with(name, "program")?.is_some() {
-        words.push(format!(in alloc; "{name}.program")?)?;
-    }
+    add_program(folder, name, &mut words)?;
     for number in 1..10 {
         let program = format!(in alloc; "{name}.{number}")?;
-        if folder.read_with(program.as_str(), "program")?.is_some() {
-            words.push(format!(in alloc; "{name}.{number}.program")?)?;
-        }
+        add_program(folder, program.as_str(), &mut words)?;
     }
     Ok(words)
+}
+
+// Adds the file of a program to the words, where it is there.
+fn add_program(folder: &Folder<'_>, name: &str, words: &mut Vec<String>) -> io::Result<()> {
+    if folder.read_with(name, "program")?.is_some() {
+        words.push(format!(in folder.rt.alloc(); "{name}.program")?)?;
+    }
+    Ok(())
 }

@@ -111,24 +111,49 @@ fn changes_of(
         }
         Way::Pieces(cut, workers) => {
             let apply = apply_of(kernel, cut);
-            let work = PushWork::new(alloc, &apply, flat, vectors, &[], workers, &mut scratch)?;
-            let found = pieces_of(alloc, &work, &mut scratch)?;
-            Ok(work.merge(alloc, &found, &mut scratch)?)
+            pushed_in_pieces(alloc, &apply, flat, vectors, workers, false, &mut scratch)
         }
         Way::PiecesTurned(cut, workers) => {
             let apply = apply_of(kernel, cut);
-            let work = PushWork::new(alloc, &apply, flat, vectors, &[], workers, &mut scratch)?;
-            let mut found = pieces_of(alloc, &work, &mut scratch)?;
-            found.reverse();
-            Ok(work.merge(alloc, &found, &mut scratch)?)
+            pushed_in_pieces(alloc, &apply, flat, vectors, workers, true, &mut scratch)
         }
         Way::PullPieces(cut, workers) => {
             let apply = apply_of(kernel, cut);
-            let work = PullWork::new(alloc, &apply, flat, vectors, &[], workers, &mut scratch)?;
-            let found = pulled_pieces_of(alloc, &work, &mut scratch)?;
-            Ok(work.merge(alloc, &found, &mut scratch)?)
+            pulled_in_pieces(alloc, &apply, flat, vectors, workers, &mut scratch)
         }
     }
+}
+
+// What an apply by push in pieces changes, merged from the first piece on or from the last.
+fn pushed_in_pieces(
+    alloc: Global,
+    apply: &Apply<'_>,
+    flat: &Flat,
+    vectors: &Vectors,
+    workers: usize,
+    turned: bool,
+    scratch: &mut Scratch,
+) -> Result<Changes, Fail> {
+    let work = PushWork::new(alloc, apply, flat, vectors, &[], workers, scratch)?;
+    let mut found = pieces_of(alloc, &work, scratch)?;
+    if turned {
+        found.reverse();
+    }
+    Ok(work.merge(alloc, &found, scratch)?)
+}
+
+// What an apply by pull in pieces changes.
+fn pulled_in_pieces(
+    alloc: Global,
+    apply: &Apply<'_>,
+    flat: &Flat,
+    vectors: &Vectors,
+    workers: usize,
+    scratch: &mut Scratch,
+) -> Result<Changes, Fail> {
+    let work = PullWork::new(alloc, apply, flat, vectors, &[], workers, scratch)?;
+    let found = pulled_pieces_of(alloc, &work, scratch)?;
+    Ok(work.merge(alloc, &found, scratch)?)
 }
 
 // What each piece answers, in order.
