@@ -204,11 +204,12 @@ fn applied(
     let (ends, dot) = ends(alloc, cursor)?;
     let open = dot.expect_all(&APPLY)?;
     let (function, semicolon) = open.argument(alloc)?;
-    let behind = semicolon.expect_symbol(Symbol::Semicolon)?;
-    let action = Action::Apply {
-        target,
-        ends,
-        function,
-    };
-    Ok((action, behind))
+    semicolon.expect_symbol(Symbol::Semicolon).map(|behind| {
+        let action = Action::Apply {
+            target,
+            ends,
+            function,
+        };
+        (action, behind)
+    })
 }

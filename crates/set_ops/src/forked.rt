@@ -1,6 +1,6 @@
 //! The recursion by halves that go to two threads.
 
-ghost use Rattle.std.specs.Prelude.{◌≡◌, ◌+◌, ◌<◌, ◌≤◌, IfOk};
+ghost use Rattle.std.specs.Prelude.{◌≡◌, ◌+◌, ◌<◌, ◌≤◌, IfOk, Ok};
 ghost use denote.Param.Send.{IsSync};
 ghost use Rattle.tail_codec.specs.Spelling.{Ascends};
 ghost use Rattle.set_ops.specs.Answers.{IsCombined};
@@ -87,5 +87,15 @@ fn in_two<R: Threads + Sync, F: Fork + Sync>(
             combine_forked(rt, alloc, task, &first, &second, forks - 1, level + 1, fork)
         },
     );
+    both(below, above)
+}
+
+/// Both answers, or the error of the first that has one.
+fn both(
+    below: Result<Combined, AllocError>,
+    above: Result<Combined, AllocError>,
+) -> Result<(Combined, Combined), AllocError>
+    ensures { IfOk result (λ p. (below ≡ Ok p.0) × (above ≡ Ok p.1)) }
+{
     Ok((below?, above?))
 }

@@ -72,3 +72,9 @@ statement_before s rest = label_terminals s.label ++ action_before (action_tree 
 pub block_before-each : (items : List Statement) (rest : List Terminal) → block_before (block_tree items) rest ≡ each_before statement_before items rest
 block_before-each [] rest = refl
 block_before-each (s ∷ items) rest = ap (λ r. label_terminals s.label ++ action_before (action_tree s.action) r) (block_before-each items rest)
+
+-- what stands before a last terminal is put down
+pub puts_all_but : (terminals : List Terminal) (last : Terminal) (old new : List ℕ) → Puts (λ rest. terminals ++ rest) old new
+    → (rest : List Terminal) (whole : List ℕ) → Completes old ((terminals ++ last ∷ []) ++ rest) whole → Completes new (last ∷ rest) whole
+puts_all_but terminals last old new puts rest whole h =
+    puts (last ∷ rest) whole (completes_same old whole _ _ (append_assoc terminals (last ∷ []) rest) h)

@@ -1,4 +1,5 @@
-use Rattle.std.proofs.Common.{IfOk, subst, arith}
+use Rattle.std.proofs.Common.{◌≡◌, IfOk, Ok, subst, arith}
+use Rattle.std.proofs.lemmas.Result.{IfOk-weaker}
 use Rattle.set_ops.specs.Answers.{IsRejoined, IsCombined}
 use Rattle.set_ops.specs.Halving.{AreHalves, AreAnswers, IsBelow, IsAbove}
 use Rattle.set_ops.proofs.Combining.{halves_over, halves_rejoin, ok_is}
@@ -75,7 +76,11 @@ pub in_two-returns : goal.in_two-returns
 in_two-returns g t c =
     let op = c.args.task.operation in
     let h = c.args.halves.now in
-    record {
-      below = subst (λ o. IfOk o (IsBelow op h.first.below h.second)) c.in_ok-below.was c.join-below.ensures.first;
-      above = subst (λ o. IfOk o (IsAbove op h.first.above h.second)) c.in_ok-above.was c.join-below.ensures.second;
-    }
+    IfOk-weaker c.both.result
+    (λ p. (c.join-below.result.0 ≡ Ok p.0) × (c.join-below.result.1 ≡ Ok p.1))
+    (λ p. AreAnswers op h.first.below h.first.above h.second p.0 p.1)
+    (λ p are. record {
+      below = subst (λ o. IfOk o (IsBelow op h.first.below h.second)) {x = c.join-below.result.0} are.0 c.join-below.ensures.first;
+      above = subst (λ o. IfOk o (IsAbove op h.first.above h.second)) {x = c.join-below.result.1} are.1 c.join-below.ensures.second;
+    })
+    c.both.ensures

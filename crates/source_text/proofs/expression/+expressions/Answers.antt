@@ -1,11 +1,13 @@
-use Rattle.std.proofs.Common.{◌++◌, ◌≡◌, ◌<◌, ◌≤◌, sym, ◌∙◌, ap, length, get_or}
+use Rattle.std.proofs.Common.{[], ◌∷◌, ◌++◌, ◌≡◌, ◌<◌, ◌≤◌, sym, ◌∙◌, ap, length, get_or}
 use Rattle.std.proofs.lemmas.Result.{on_ok_weaker}
 use Rattle.syntax.specs.ExpressionViews.{comparison_of, conjunction_of, primary_of, term_of, unary_of}
 use Rattle.syntax.specs.ExpressionSpelling.{comparison_terminals, conjunction_terminals, expression_terminals, primary_terminals, term_terminals, unary_terminals}
 use Rattle.syntax.specs.SourceSpelling.{each_before}
 use Rattle.source_text.specs.Written.{signs_before}
 use Rattle.source_text.proofs.Levels.{or_before, and_before, added_before, multiplied_before, expression_split, conjunction_split, sum_split, term_split, unary_split}
-use Rattle.source_text.proofs.Puts.{up_to_first, up_to_more, up_to_all, completes_same}
+use Rattle.source_text.proofs.Puts.{up_to_first, up_to_more, up_to_all, completes_same, puts_all_but}
+use Rattle.lexer.specs.declared.symbol.Symbol.TheVariants as symbol
+use Rattle.syntax.specs.Terminals.{OfSymbol}
 use Rattle.source_text.proofs.expression.+expressions.Goals as goal
 
 pub put_conjunction-others-init : goal.put_conjunction-others-init
@@ -91,3 +93,22 @@ put_unary-returns t c =
     puts rest whole (c.in_ok-put_signs.ensures (primary_terminals p ++ rest) whole
     (completes_same c.args.out.now.items whole _ _ (unary_split signs p rest ∙ ap (λ s. signs_before s (primary_terminals p ++ rest)) (sym c.deref.ensures.value)) h)))
     c.put_primary.ensures
+
+pub put_primary-returns-in_ok-put_expression-in-Entry : goal.put_primary-returns-in_ok-put_expression-in-Entry
+put_primary-returns-in_ok-put_expression-in-Entry t c =
+    let inside = expression_terminals c.deref.result.now in
+    on_ok_weaker c.put_symbol-in-Entry.result (λ puts rest whole h.
+    puts rest whole (puts_all_but inside (OfSymbol symbol.CloseBracket) c.put_symbol.new.out.items c.put_expression.new.out.items c.in_ok-put_expression-in-Entry.ensures rest whole
+    (c.in_ok-put_symbol-in-Entry.ensures ((inside ++ OfSymbol symbol.CloseBracket ∷ []) ++ rest) whole
+    (c.in_ok-put_name-in-Entry.ensures (OfSymbol symbol.OpenBracket ∷ ((inside ++ OfSymbol symbol.CloseBracket ∷ []) ++ rest)) whole
+    (rw (c.in-Entry.is, ← c.deref.ensures) at h)))))
+    c.put_symbol-in-Entry.ensures
+
+pub put_primary-returns-in_ok-put_expression-in-Parentheses : goal.put_primary-returns-in_ok-put_expression-in-Parentheses
+put_primary-returns-in_ok-put_expression-in-Parentheses t c =
+    let inside = expression_terminals c.deref-in-Parentheses.result.now in
+    on_ok_weaker c.put_symbol-in-Parentheses-2.result (λ puts rest whole h.
+    puts rest whole (puts_all_but inside (OfSymbol symbol.CloseParenthesis) c.put_symbol-in-Parentheses.new.out.items c.put_expression-in-Parentheses.new.out.items c.in_ok-put_expression-in-Parentheses.ensures rest whole
+    (c.in_ok-put_symbol-in-Parentheses.ensures ((inside ++ OfSymbol symbol.CloseParenthesis ∷ []) ++ rest) whole
+    (rw (c.in-Parentheses.is, ← c.deref-in-Parentheses.ensures) at h))))
+    c.put_symbol-in-Parentheses-2.ensures
