@@ -1,4 +1,5 @@
 pub mod AnswerLaws
+pub mod ApplyLaws
 pub mod BlockLaws
 pub mod DeclarationLaws
 pub mod ExpressionAnswers

@@ -9,7 +9,7 @@ use Rattle.syntax.specs.declared.declaration.DeclaredType.{DeclaredType}
 use Rattle.syntax.specs.declared.declaration.DeclaredType.TheVariants as type
 use Rattle.syntax.specs.declared.schedule.Setting.{Setting}
 use Rattle.syntax.specs.declared.schedule.Setting.TheVariants as setting
-use Rattle.syntax.specs.SourceTrees.{InitialTree, NewSet, Load, Vertices, OutDegrees, Filter, ApplyModified}
+use Rattle.syntax.specs.SourceTrees.{ActionTree, InitialTree, Apply, NewSet, Load, Vertices, OutDegrees, Filter, ApplyModified}
 use Rattle.syntax.specs.SourceReading.{in_braces, in_parentheses, after_terminal, after_terminals, closed, name_at, number_at, argument_at, method_at, ends_at}
 
 -- the type that begins with a keyword
@@ -64,6 +64,15 @@ abbrev pub modified_by : Identifier → Reader InitialTree
 modified_by name ws =
     ends_at ws >>= λ e. after_terminals (OfSymbol symbol.Dot ∷ OfKeyword keyword.ApplyModified ∷ []) e.1 >>= λ a.
     name_pair_at a >>= λ p. Some (ApplyModified name e.0 p.0.0 p.0.1, p.1)
+
+-- `.apply`, its function in parentheses and `;`
+abbrev pub applied_function_at : Reader Identifier
+applied_function_at ws =
+    after_terminals (OfSymbol symbol.Dot ∷ OfKeyword keyword.Apply ∷ []) ws >>= λ a. argument_at a >>= closed (OfSymbol symbol.Semicolon ∷ [])
+
+-- what an apply and its ends give
+abbrev pub applied_by : Identifier → Reader ActionTree
+applied_by target ws = ends_at ws >>= λ e. applied_function_at e.1 >>= λ f. Some (Apply target e.0 f.0, f.1)
 
 -- what stands behind `filter`
 abbrev pub filter_at : Identifier → Reader InitialTree

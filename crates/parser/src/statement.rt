@@ -2,7 +2,8 @@
 ghost use Rattle.std.specs.Prelude.{◌≤◌, [], ◌∷◌, length, IfOk, None, Some};
 ghost use Rattle.syntax.specs.Terminals.{OfKeyword, OfSymbol};
 ghost use Rattle.parser.specs.Readers.{terminals, Gives};
-ghost use Rattle.syntax.specs.SourceReading.{reduction_at, ended_at, entry_at, entry_by, after_terminal, after_terminals, method_by, added_at, applied_at, reduced_at, named_action};
+ghost use Rattle.parser.specs.Fronts.{applied_by, applied_function_at};
+ghost use Rattle.syntax.specs.SourceReading.{reduction_at, ended_at, entry_at, entry_by, after_terminal, after_terminals, method_by, added_at, reduced_at, named_action};
 ghost use Rattle.syntax.specs.SourceViews.{action_tree};
 
 use crate::cursor::Cursor;
@@ -198,18 +199,26 @@ fn applied(
     target: Name,
     cursor: Cursor<'_>,
 ) -> Result<(Action, Cursor<'_>), SyntaxError>
-    ensures reads { Gives action_tree result (applied_at target (terminals cursor.entry)) }
+    ensures reads { Gives action_tree result (applied_by target (terminals cursor.entry)) }
     ensures shorter { IfOk result (λ x. length (terminals x.1) ≤ length (terminals cursor.entry)) }
 {
     let (ends, dot) = ends(alloc, cursor)?;
-    let open = dot.expect_all(&APPLY)?;
+    let (function, behind) = applied_function(alloc, dot)?;
+    let action = Action::Apply {
+        target,
+        ends,
+        function,
+    };
+    Ok((action, behind))
+}
+
+/// The function of an apply, from behind its ends.
+fn applied_function(alloc: Global, cursor: Cursor<'_>) -> Result<(Name, Cursor<'_>), SyntaxError>
+    ensures reads { Gives (λ n. n) result (applied_function_at (terminals cursor.entry)) }
+    ensures shorter { IfOk result (λ x. length (terminals x.1) ≤ length (terminals cursor.entry)) }
+{
+    let open = cursor.expect_all(&APPLY)?;
     let (function, semicolon) = open.argument(alloc)?;
-    semicolon.expect_symbol(Symbol::Semicolon).map(|behind| {
-        let action = Action::Apply {
-            target,
-            ends,
-            function,
-        };
-        (action, behind)
-    })
+    let behind = semicolon.expect_symbol(Symbol::Semicolon)?;
+    Ok((function, behind))
 }
