@@ -200,16 +200,23 @@ fn a_turn_reads_what_was_before_it(rt: HostRuntime) -> Result<(), Fail> {
     let flat = graph_of(alloc, 3, &[(0, 1), (1, 2)])?;
     let kernel = kernel_of(alloc, "x[d] max= x[s];")?;
     for way in WAYS {
-        let mut vectors = vectors_of(alloc, &[0, 0, 0], &[1, 0, 0])?;
-        for vertex in [1, 2] {
-            let changes = changes_of(alloc, way, &kernel, &flat, &vectors)?;
-            assert!(rt; in_x(&changes) == [Change { vertex, number: 1 }].as_slice());
-            vectors.write(&changes);
-        }
-        let changes = changes_of(alloc, way, &kernel, &flat, &vectors)?;
-        assert!(rt; in_x(&changes).is_empty());
+        let steps = spreads_by_one(alloc, way, &kernel, &flat)?;
+        assert!(rt; steps);
     }
     Ok(())
+}
+
+// Whether 1 goes from vertex 0 to 1, then to 2, and then no further, one edge a turn.
+fn spreads_by_one(alloc: Global, way: Way, kernel: &EdgeKernel, flat: &Flat) -> Result<bool, Fail> {
+    let mut vectors = vectors_of(alloc, &[0, 0, 0], &[1, 0, 0])?;
+    let mut steps = true;
+    for vertex in [1, 2] {
+        let changes = changes_of(alloc, way, kernel, flat, &vectors)?;
+        steps = steps && in_x(&changes) == [Change { vertex, number: 1 }].as_slice();
+        vectors.write(&changes);
+    }
+    let changes = changes_of(alloc, way, kernel, flat, &vectors)?;
+    Ok(steps && in_x(&changes).is_empty())
 }
 
 #[test]

@@ -306,14 +306,33 @@ fn comes_back<J: Naming, K: Naming, W: Wait + Drop, R: Wait>(
     let ([mine], [theirs]) = (ones, twos) else {
         return Err(SharedError::BadSeats);
     };
+    comes_back_to(rt, alloc, (one, mine), (two, theirs))
+}
+
+// The same of one reader of each graph.
+fn comes_back_to<J: Naming, K: Naming, W: Wait + Drop, R: Wait>(
+    rt: &R,
+    alloc: Global,
+    (one, mine): (&SharedGraph<J, W>, &mut Reader<J>),
+    (two, theirs): (&SharedGraph<K, W>, &mut Reader<K>),
+) -> Result<bool, SharedError> {
     let held = one.hold(rt, alloc, mine, Which::Newest)?;
     match two.release(rt, theirs, held) {
         Ok(()) => Ok(false),
-        Err(Unreleased { error, held }) => {
-            let released = release(rt, one, mine, held);
-            Ok(error.number() == 122 && released.is_none())
-        }
+        Err(refused) => Ok(is_released_by(rt, one, mine, refused)),
     }
+}
+
+// Whether a version was refused as another graph's, and its own releases it.
+fn is_released_by<J: Naming, W: Wait + Drop, R: Wait>(
+    rt: &R,
+    graph: &SharedGraph<J, W>,
+    me: &mut Reader<J>,
+    refused: Unreleased,
+) -> bool {
+    let Unreleased { error, held } = refused;
+    let released = release(rt, graph, me, held);
+    error.number() == 122 && released.is_none()
 }
 
 #[test]
