@@ -465,18 +465,25 @@ fn fill<J: Naming, W: Wait + Drop, R: Threads + Wait + Sync>(
     let first = graph.hold(rt, alloc, me, Which::Newest);
     let second = graph.hold(rt, alloc, me, Which::Newest);
     let third = graph.hold(rt, alloc, me, Which::Newest);
-    let fourth = hold_and_release(rt, alloc, graph, me, Which::Newest);
-    let committed = commit_nothing(rt, alloc, graph, me);
-    let full = commit_nothing(rt, alloc, graph, me);
+    let filled = one_commit_fills(rt, alloc, graph, me);
     let released = [
         release_held(rt, graph, me, first),
         release_held(rt, graph, me, second),
         release_held(rt, graph, me, third),
     ];
     let still_full = commit_nothing(rt, alloc, graph, me);
-    fourth == Err(123)
-        && committed == Ok(1)
-        && full == Err(123)
-        && released == [None; 3]
-        && still_full == Err(123)
+    filled && released == [None; 3] && still_full == Err(123)
+}
+
+// Whether a hold is refused for room and one commit is taken, and no other.
+fn one_commit_fills<J: Naming, W: Wait + Drop, R: Threads + Wait + Sync>(
+    rt: &R,
+    alloc: Global,
+    graph: &SharedGraph<J, W>,
+    me: &mut Reader<J>,
+) -> bool {
+    let held = hold_and_release(rt, alloc, graph, me, Which::Newest);
+    let committed = commit_nothing(rt, alloc, graph, me);
+    let full = commit_nothing(rt, alloc, graph, me);
+    held == Err(123) && committed == Ok(1) && full == Err(123)
 }
