@@ -1,15 +1,8 @@
-pub mod Blocks
-pub mod Chains
-pub mod Degrees
 pub mod Division
 pub mod EdgeApplies
-pub mod Flags
 pub mod Lists
-pub mod Loops
 pub mod Members
 pub mod Reductions
 pub mod VertexApplies
-pub mod Works
 pub mod Wrapping
 pub mod WrittenEntries
-pub mod InOrder

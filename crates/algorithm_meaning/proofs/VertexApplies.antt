@@ -2,7 +2,7 @@
 use Rattle.std.proofs.Common.{◌≡◌, ℕ, ◌==◌, ℤ, Bool, true, false, cond, ◌||◌, List, [], ◌∷◌, ap, sym, ◌∙◌, refl}
 use Rattle.std.proofs.lemmas.Bool.{false≢true}
 use Rattle.typed_tree.specs.StepTree.{StepTree, DeclareInteger, DeclareCondition, SetInteger, SetCondition, ReduceInteger, SetEntry, ReduceEntry, If, IfElse, StepsTree, NoStep, StepThen}
-use Rattle.algorithm_meaning.specs.declared.function.Writing.TheVariants.{AtOnce}
+use Rattle.algorithm_meaning.specs.declared.contribution.Writing.TheVariants.{AtOnce}
 use Rattle.algorithm_meaning.specs.declared.state.VertexSet.{VertexSet}
 use Rattle.algorithm_meaning.specs.Arithmetic.{reduced}
 use Rattle.algorithm_meaning.specs.State.{vertex_scope}

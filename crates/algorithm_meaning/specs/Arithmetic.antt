@@ -3,10 +3,10 @@ use Rattle.std.specs.Prelude.{◌≡◌, zero, suc, ◌<◌, unsigned_abs, ℤ, 
 use Rattle.std.specs.Int.{int_wrap, int_min, int_max, w64}
 use Rattle.typed_tree.specs.declared.expression.Operator.{Operator}
 use Rattle.typed_tree.specs.declared.expression.Operator.TheVariants as operator
-use Rattle.syntax.specs.declared.statement.Reduction.{Reduction}
-use Rattle.syntax.specs.declared.statement.Reduction.TheVariants as reduction
-use Rattle.typed_tree.specs.declared.expression.Comparison.{Comparison}
-use Rattle.typed_tree.specs.declared.expression.Comparison.TheVariants as comparison
+use Rattle.apply_options.specs.declared.reduction.Reduction.{Reduction}
+use Rattle.apply_options.specs.declared.reduction.Reduction.TheVariants as reduction
+use Rattle.typed_tree.specs.declared.expression.ComparisonOperator.{ComparisonOperator}
+use Rattle.typed_tree.specs.declared.expression.ComparisonOperator.TheVariants as comparison
 use Rattle.typed_tree.specs.declared.expression.Connective.{Connective}
 use Rattle.typed_tree.specs.declared.expression.Connective.TheVariants as connective
 
@@ -46,7 +46,7 @@ negative a = wrapped (neg_ℤ a)
 abbrev pub int_equal : ℤ → ℤ → Bool
 int_equal a b = not (int_lt a b) && not (int_lt b a)
 
-abbrev pub compared : Comparison → ℤ → ℤ → Bool
+abbrev pub compared : ComparisonOperator → ℤ → ℤ → Bool
 compared comparison.Equal a b = int_equal a b
 compared comparison.NotEqual a b = not (int_equal a b)
 compared comparison.Less a b = int_lt a b

@@ -1,12 +1,12 @@
 -- `apply` of edge functions, and `applyModified`.
 use Rattle.std.specs.Prelude.{ℕ, ℤ, Bool, true, not, ◌&&◌, nat_lt, ◌==◌, List, [], ◌∷◌, ◌++◌, map, Option, Some, None, slice_get}
 use Rattle.std.specs.List.{filter, list_any, range_with_len}
-use Rattle.typed_tree.specs.declared.statement.Ends.{Ends}
-use Rattle.typed_tree.specs.declared.statement.EndFilter.{EndFilter}
-use Rattle.typed_tree.specs.declared.statement.EndFilter.TheVariants as end
+use Rattle.typed_tree.specs.declared.statement.ApplyEnds.{ApplyEnds}
+use Rattle.typed_tree.specs.declared.statement.VertexFilter.{VertexFilter}
+use Rattle.typed_tree.specs.declared.statement.VertexFilter.TheVariants as end
 use Rattle.typed_tree.specs.StepTree.{StepsTree, FunctionTree}
-use Rattle.algorithm_meaning.specs.declared.function.Contribution.{Contribution}
-use Rattle.algorithm_meaning.specs.declared.function.Writing.TheVariants.{Collected}
+use Rattle.algorithm_meaning.specs.declared.contribution.Contribution.{Contribution}
+use Rattle.algorithm_meaning.specs.declared.contribution.Writing.TheVariants.{Collected}
 use Rattle.algorithm_meaning.specs.declared.state.VertexSet.{VertexSet}
 use Rattle.algorithm_meaning.specs.Arithmetic.{int_equal}
 use Rattle.algorithm_meaning.specs.State.{GraphValue, StateValue, edge_scope}
@@ -19,17 +19,17 @@ abbrev pub is_member : ℕ → List ℕ → Bool
 is_member v members = list_any (λ m. m == v) members
 
 -- whether an end of an edge lets a vertex through, over the vectors before the apply; one that is not given lets all through
-abbrev pub passes : List FunctionTree → StateValue → Option EndFilter → ℕ → Bool
+abbrev pub passes : List FunctionTree → StateValue → Option VertexFilter → ℕ → Bool
 passes filters s None v = true
 passes filters s (Some (end.Members slot)) v = is_member v (members_of (slice_get s.sets slot.place))
 passes filters s (Some (end.Function function)) v = lets_through filters function s.sets s.vectors v
 
 -- the same of a vertex of the graph
-abbrev pub is_end : List FunctionTree → GraphValue → StateValue → Option EndFilter → ℕ → Bool
+abbrev pub is_end : List FunctionTree → GraphValue → StateValue → Option VertexFilter → ℕ → Bool
 is_end filters g s end v = nat_lt v g.vertices && passes filters s end v
 
 -- the edges that an apply looks at, in their order
-abbrev pub matching : List FunctionTree → GraphValue → StateValue → Ends → List (ℕ × ℕ)
+abbrev pub matching : List FunctionTree → GraphValue → StateValue → ApplyEnds → List (ℕ × ℕ)
 matching filters g s ends = filter (λ e. is_end filters g s ends.from e.0 && is_end filters g s ends.to e.1) g.edges
 
 -- what an edge function gives the destination of an edge; it reads these vectors only
@@ -53,7 +53,7 @@ after_edges functions sets before (edge ∷ edges) vectors =
     after_edges functions sets before edges (with_given edge.1 (all_give functions sets before edge) vectors)
 
 -- the vectors after the functions at these places were applied to the edges between the ends
-abbrev pub after_edge_apply : (filters functions : List FunctionTree) → GraphValue → Ends → List ℕ → StateValue → List (List ℤ)
+abbrev pub after_edge_apply : (filters functions : List FunctionTree) → GraphValue → ApplyEnds → List ℕ → StateValue → List (List ℤ)
 after_edge_apply filters functions g ends places s =
     after_edges (map (λ place. steps_of (slice_get functions place)) places) s.sets s.vectors (matching filters g s ends) s.vectors
 

@@ -1,6 +1,6 @@
 -- The statements of main that write an entry of a vector.
 use Rattle.std.specs.Prelude.{ℕ, ℤ, List}
-use Rattle.syntax.specs.declared.statement.Reduction.{Reduction}
+use Rattle.apply_options.specs.declared.reduction.Reduction.{Reduction}
 use Rattle.typed_tree.specs.IntegerTree.{IntegerTree}
 use Rattle.algorithm_meaning.specs.State.{StateValue}
 use Rattle.algorithm_meaning.specs.Value.{with_entry, reduce_at}

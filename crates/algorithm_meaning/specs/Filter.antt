@@ -2,7 +2,7 @@
 use Rattle.std.specs.Prelude.{ℕ, ℤ, Bool, false, List, slice_get, slice_index_or}
 use Rattle.std.specs.List.{filter}
 use Rattle.typed_tree.specs.StepTree.{StepsTree, FunctionTree}
-use Rattle.algorithm_meaning.specs.declared.function.Writing.TheVariants.{Collected}
+use Rattle.algorithm_meaning.specs.declared.contribution.Writing.TheVariants.{Collected}
 use Rattle.algorithm_meaning.specs.declared.state.VertexSet.{VertexSet}
 use Rattle.algorithm_meaning.specs.State.{filter_scope}
 use Rattle.algorithm_meaning.specs.Function.{first_work, after_steps, steps_of}

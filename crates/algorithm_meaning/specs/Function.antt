@@ -1,10 +1,10 @@
 -- Statements of functions. One definition does for all functions: what a statement writes changes the vectors at once in a vertex function, and is collected in an edge function, which reads the vectors as they were.
 use Rattle.std.specs.Prelude.{ℕ, ℤ, List, [], ◌∷◌, ◌++◌, if◌then◌else◌, Option, Some, None}
-use Rattle.syntax.specs.declared.statement.Reduction.{Reduction}
+use Rattle.apply_options.specs.declared.reduction.Reduction.{Reduction}
 use Rattle.typed_tree.specs.StepTree.{StepTree, DeclareInteger, DeclareCondition, SetInteger, SetCondition, ReduceInteger, SetEntry, ReduceEntry, If, IfElse, StepsTree, NoStep, StepThen, FunctionTree}
-use Rattle.algorithm_meaning.specs.declared.function.Contribution.{Contribution}
-use Rattle.algorithm_meaning.specs.declared.function.Writing.{Writing}
-use Rattle.algorithm_meaning.specs.declared.function.Writing.TheVariants as writing
+use Rattle.algorithm_meaning.specs.declared.contribution.Contribution.{Contribution}
+use Rattle.algorithm_meaning.specs.declared.contribution.Writing.{Writing}
+use Rattle.algorithm_meaning.specs.declared.contribution.Writing.TheVariants as writing
 use Rattle.algorithm_meaning.specs.declared.state.VertexSet.{VertexSet}
 use Rattle.algorithm_meaning.specs.State.{ScopeValue}
 use Rattle.algorithm_meaning.specs.Value.{value, truth, with_entry, reduce_at}

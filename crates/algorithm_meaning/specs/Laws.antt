@@ -2,10 +2,10 @@
 use Rattle.std.specs.Prelude.{◌≡◌, ℕ, ℤ, pos, negsuc, FitsSigned, if◌then◌else◌, ◌==◌, List, [], ◌∷◌, ◌++◌}
 use Rattle.std.specs.Int.{w64}
 use Rattle.std.specs.List.{All}
-use Rattle.syntax.specs.declared.statement.Reduction.{Reduction}
-use Rattle.syntax.specs.declared.statement.Reduction.TheVariants as reduction
+use Rattle.apply_options.specs.declared.reduction.Reduction.{Reduction}
+use Rattle.apply_options.specs.declared.reduction.Reduction.TheVariants as reduction
 use Rattle.typed_tree.specs.StepTree.{StepsTree}
-use Rattle.algorithm_meaning.specs.declared.function.Contribution.{Contribution}
+use Rattle.algorithm_meaning.specs.declared.contribution.Contribution.{Contribution}
 use Rattle.algorithm_meaning.specs.declared.state.VertexSet.{VertexSet}
 use Rattle.algorithm_meaning.specs.Arithmetic.{reduced}
 use Rattle.algorithm_meaning.specs.EdgeApply.{all_give}

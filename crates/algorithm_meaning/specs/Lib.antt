@@ -2,7 +2,6 @@ pub mod Arithmetic
 pub mod State
 pub mod Value
 pub mod Stand
-pub mod Chain
 pub mod Variables
 pub mod Entries
 pub mod Print
@@ -10,11 +9,8 @@ pub mod Function
 pub mod VertexApply
 pub mod Filter
 pub mod EdgeApply
-pub mod Flags
 pub mod VertexSets
 pub mod Laws
-pub mod Seen
 pub mod Loop
-pub mod Degrees
 pub mod Meaning
 pub mod Shown

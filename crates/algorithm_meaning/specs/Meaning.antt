@@ -1,7 +1,7 @@
 -- What statements of main do, and the state before the first one.
 use Rattle.std.specs.Prelude.{ℕ, suc, ℤ, pos, if◌then◌else◌, ◌==◌, List, [], ◌∷◌, map, replicate}
-use Rattle.typed_tree.specs.declared.program.Beginning.{Beginning}
-use Rattle.typed_tree.specs.declared.program.Beginning.TheVariants as beginning
+use Rattle.typed_tree.specs.declared.program.InitialValue.{InitialValue}
+use Rattle.typed_tree.specs.declared.program.InitialValue.TheVariants as beginning
 use Rattle.typed_tree.specs.BlockTree.{ActionTree, DeclareInteger, DeclareCondition, SetInteger, SetCondition, ReduceInteger, SetEntry, ReduceEntry, DeclareSet, AssignSet, AddVertex, PrintInteger, PrintCondition, ApplyVertex, ApplyEdges, If, IfElse, While, For, BlockTree, Empty, Then}
 use Rattle.typed_tree.specs.ProgramTree.{ProgramTree}
 use Rattle.algorithm_meaning.specs.declared.state.VertexSet.{VertexSet}
@@ -53,7 +53,7 @@ out_degree v [] = 0
 out_degree v (edge ∷ edges) = if edge.0 == v then suc (out_degree v edges) else out_degree v edges
 
 -- what a vector begins with; a degree is an int
-abbrev pub opening_entries : GraphValue → Beginning → List ℤ
+abbrev pub opening_entries : GraphValue → InitialValue → List ℤ
 opening_entries g (beginning.Number n) = replicate g.vertices n
 opening_entries g beginning.OutDegrees = map (λ v. wrapped (pos (out_degree v g.edges))) (all_below g.vertices)
 

@@ -1,7 +1,7 @@
 -- The values of expressions.
 use Rattle.std.specs.Prelude.{ℕ, ℤ, pos, negsuc, Bool, true, false, not, ◌&&◌, nat_lt, List, [], length, slice_get, slice_index_or, slice_set, Option, Some, None}
 use Rattle.std.specs.Int.{cast_signed, w64}
-use Rattle.syntax.specs.declared.statement.Reduction.{Reduction}
+use Rattle.apply_options.specs.declared.reduction.Reduction.{Reduction}
 use Rattle.typed_tree.specs.declared.expression.Endpoint.{Endpoint}
 use Rattle.typed_tree.specs.declared.expression.Endpoint.TheVariants as endpoint
 use Rattle.typed_tree.specs.IntegerTree as integer

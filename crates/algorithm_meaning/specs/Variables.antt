@@ -1,6 +1,6 @@
 -- Variables, in functions and in main, and the statements of main on them.
 use Rattle.std.specs.Prelude.{ℕ, ℤ, pos, Bool, [], ◌∷◌, ◌++◌, take, length, slice_index_or, slice_set}
-use Rattle.syntax.specs.declared.statement.Reduction.{Reduction}
+use Rattle.apply_options.specs.declared.reduction.Reduction.{Reduction}
 use Rattle.typed_tree.specs.IntegerTree.{IntegerTree}
 use Rattle.typed_tree.specs.ConditionTree.{ConditionTree}
 use Rattle.algorithm_meaning.specs.Arithmetic.{reduced}

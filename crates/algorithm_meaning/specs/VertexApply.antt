@@ -1,7 +1,7 @@
 -- `apply` of a vertex function.
 use Rattle.std.specs.Prelude.{ℕ, ℤ, List, [], ◌∷◌, slice_get}
 use Rattle.typed_tree.specs.StepTree.{StepsTree, FunctionTree}
-use Rattle.algorithm_meaning.specs.declared.function.Writing.TheVariants.{AtOnce}
+use Rattle.algorithm_meaning.specs.declared.contribution.Writing.TheVariants.{AtOnce}
 use Rattle.algorithm_meaning.specs.declared.state.VertexSet.{VertexSet}
 use Rattle.algorithm_meaning.specs.State.{StateValue, vertex_scope}
 use Rattle.algorithm_meaning.specs.Value.{members_of}

@@ -3,8 +3,8 @@ ghost use Rattle.std.specs.Prelude.{◌≡◌, ◌<◌, ℤ, FitsSigned, int_div
 ghost use Rattle.std.specs.Int.{IsNonZero, w64};
 ghost use Rattle.algorithm_meaning.specs.Arithmetic.{DividesWithRemainder, arithmetic, compared, connected, negative, quotient, reduced, remainder, wrapped};
 
-use syntax::Reduction;
-use typed_tree::{Comparison, Connective, Operator};
+use apply_options::Reduction;
+use typed_tree::{ComparisonOperator, Connective, Operator};
 
 /// What an operator gives.
 pub fn arithmetic_of(operator: Operator, left: i64, right: i64) -> i64
@@ -55,16 +55,16 @@ pub fn negate(n: i64) -> i64
 }
 
 /// Whether a comparison of two ints holds.
-pub fn compare(comparison: Comparison, left: i64, right: i64) -> bool
+pub fn compare(comparison: ComparisonOperator, left: i64, right: i64) -> bool
     ensures { result ≡ compared comparison left right }
 {
     match comparison {
-        Comparison::Equal => left == right,
-        Comparison::NotEqual => left != right,
-        Comparison::Less => left < right,
-        Comparison::LessOrEqual => left <= right,
-        Comparison::Greater => left > right,
-        Comparison::GreaterOrEqual => left >= right,
+        ComparisonOperator::Equal => left == right,
+        ComparisonOperator::NotEqual => left != right,
+        ComparisonOperator::Less => left < right,
+        ComparisonOperator::LessOrEqual => left <= right,
+        ComparisonOperator::Greater => left > right,
+        ComparisonOperator::GreaterOrEqual => left >= right,
     }
 }
 

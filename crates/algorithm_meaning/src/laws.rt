@@ -1,9 +1,9 @@
 //! Laws of the definitions. The calls do nothing.
 ghost use Rattle.std.specs.Prelude.{◌≡◌, ◌<◌, false, ℕ, ℤ, List, [], ◌∷◌, ◌++◌, length, slice_index_or};
 ghost use Rattle.std.specs.List.Sorted.{IsPermutation};
-ghost use Rattle.syntax.specs.declared.statement.Reduction.{Reduction};
+ghost use Rattle.apply_options.specs.declared.reduction.Reduction.{Reduction};
 ghost use Rattle.typed_tree.specs.StepTree.{StepsTree};
-ghost use Rattle.algorithm_meaning.specs.declared.function.Contribution.{Contribution};
+ghost use Rattle.algorithm_meaning.specs.declared.contribution.Contribution.{Contribution};
 ghost use Rattle.algorithm_meaning.specs.declared.state.VertexSet.{VertexSet};
 ghost use Rattle.algorithm_meaning.specs.Arithmetic.{remainder};
 ghost use Rattle.algorithm_meaning.specs.EdgeApply.{after_edges, is_member};

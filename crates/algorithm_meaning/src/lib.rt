@@ -1,4 +1,4 @@
-//! What programs mean, and a slow run that is proved to give that meaning.
+//! What programs mean.
 //!
 //! The definitions stand in `specs/`, over the pure trees of `typed_tree`: what operators give
 //! (`Arithmetic`), the state that a run works on (`State`), the values of expressions (`Value`) and where
@@ -6,44 +6,32 @@
 //! functions (`Function`), applies (`VertexApply`, `EdgeApply`), filters (`Filter`), vertex sets
 //! (`VertexSets`), `print` (`Print`), loops with their turns (`Loop`), statements of `main` in order
 //! (`Meaning`), and what a run shows in the end (`Shown`). They are total on all trees: a place outside a
-//! list reads as 0, as false or as the empty list, and a write there changes nothing. So `plain_run` needs
-//! no premise on types.
+//! list reads as 0, as false or as the empty list, and a write there changes nothing. So no run needs
+//! a premise on types.
 //!
 //! A vertex function writes its own vertex at once. An edge function reads the vectors as they were before
 //! the apply, and what it gives a destination is collected. An expression of `main` has a value exactly
 //! where each index in it, wherever it stands, is a vertex. A run ends by a fault where a statement lacks a
 //! value, and then the statement has changed nothing.
 //!
-//! `plain_run` goes over the trees and gives the meaning, whole. It is what compiled plans are to be
-//! compared with. The laws of the definitions stand above it (`Laws`): what division leaves, that
+//! The laws of the definitions (`Laws`) say: what division leaves, that
 //! reductions are commutative and associative, that numbers given by one reduction may come in any order,
 //! that an edge apply reduces each entry with all that the edges into its vertex give, so that edges may
 //! come in any order, and that a vertex apply leaves other vertices alone. Their functions do nothing when called.
 #![tactic(auto)]
 
 mod arithmetic;
-mod edge_apply;
-mod entries;
-mod evaluate;
-mod filter;
-mod function;
+mod contribution;
 mod laws;
-mod opening;
 mod outcome;
-mod print;
-mod read;
-mod run;
-mod sets;
-mod show;
 mod state;
-mod variables;
-mod vertex_apply;
 
 pub use arithmetic::{arithmetic_of, compare, connect, negate, quotients_leave_remainders, reduce};
+pub use contribution::{Contribution, Writing};
 pub use laws::{
     edge_applies_reduce_entries, edges_come_in_any_order, given_numbers_change_places,
     reductions_have_no_order, remainders_have_the_sign_of_the_dividend,
     vertex_applies_leave_others,
 };
 pub use outcome::{End, NamedSet, NamedVector, Outcome};
-pub use run::plain_run;
+pub use state::{Bounds, Depth, VertexSet};

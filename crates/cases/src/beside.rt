@@ -5,8 +5,7 @@
 //! the same.
 
 use flat_snapshot::Flat;
-use programs::Program;
-use run_comparison::shows_the_same;
+use run_comparison::{TestedProgram, shows_the_same};
 use std::alloc::{AllocError, Global};
 use std::io;
 use std::io::ErrorKind;
@@ -52,7 +51,7 @@ pub fn add_differences(
     case: &str,
     text: &[u8],
 ) -> io::Result<()> {
-    let Ok(program) = Program::compile(alloc, text) else {
+    let Some(program) = TestedProgram::of(alloc, text) else {
         return Ok(());
     };
     for edges in GRAPHS {
@@ -66,7 +65,7 @@ fn add_on_graph(
     alloc: Global,
     told: &mut String,
     case: &str,
-    program: &Program,
+    program: &TestedProgram,
     (vertices, edges): Edges,
 ) -> io::Result<()> {
     let graph = graph_of(alloc, vertices, edges)?;

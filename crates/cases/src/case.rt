@@ -5,7 +5,7 @@ use crate::compare::{Output, add_differences};
 use crate::listing::Place;
 use crate::repeated::expanded;
 use devices::Device;
-use driver::{Files, Session, run};
+use driver::{Files, run};
 use std::alloc::{AllocError, Global};
 use std::io::ErrorKind;
 use std::{fs, io, str};
@@ -103,14 +103,13 @@ fn outcome_on(folder: &Folder<'_>, words: &[&str], input: &[u8]) -> io::Result<O
     let alloc = folder.rt.alloc();
     let mut out = Vec::new(alloc);
     let mut err = Vec::new(alloc);
-    let status = run(
+    let (status, _state) = run(
         alloc,
         words,
         folder,
         &mut Device::new(input),
         &mut Device::new(&mut out),
         &mut Device::new(&mut err),
-        &mut Session::new(alloc),
     );
     let status = Vec::from_slice(alloc, format!(in alloc; "{status}\n")?.as_bytes())?;
     Ok(Outcome { status, out, err })

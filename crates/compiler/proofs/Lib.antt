@@ -1,2 +1,3 @@
 pub mod Offsets
 pub mod Refused
+pub mod Reduced

@@ -11,8 +11,9 @@ use Rattle.expression_types.proofs.LeastLaws.{told_is_least}
 use Rattle.types.specs.Program.{program_of}
 use Rattle.types.proofs.SourceOffsets.{faults_stand, schedule_calls_stand}
 use Rattle.schedule.specs.Calls.{after_call, with_call, with_calls}
-use Rattle.schedule.specs.Schedule.{ScheduleTree, empty_schedule}
-use Rattle.schedule.specs.declared.error.Rule.{Rule}
+use Rattle.apply_options.specs.ScheduleTree.{ScheduleTree}
+use Rattle.schedule.specs.Schedule.{empty_schedule}
+use Rattle.schedule.specs.declared.error.ScheduleRule.{ScheduleRule}
 use Rattle.compiler.specs.declared.error.CompileError.{CompileError}
 use Rattle.compiler.specs.declared.error.CompileError.TheVariants.{NotParsed, NotTyped, NotScheduled, NoMemory}
 use Rattle.compiler.specs.Outcome.{Compiles, HasFault, HasFaultyCall, StandsIn}
@@ -26,18 +27,18 @@ fault_within text fault told =
     All-contains (λ (f : Fault). f.at ≤ length text) faults fault (All-from_recursion (λ (f : Fault). f.at ≤ length text) faults all) least.0
 
 -- the call that is told is one of all
-after_stands : (P : ℕ → Type 0) (here : ℕ) (done : Result ScheduleTree Rule) (rest : ScheduleTree → Result ScheduleTree (Rule × ℕ)) (rule : Rule) (at : ℕ)
+after_stands : (P : ℕ → Type 0) (here : ℕ) (done : Result ScheduleTree ScheduleRule) (rest : ScheduleTree → Result ScheduleTree (ScheduleRule × ℕ)) (rule : ScheduleRule) (at : ℕ)
     → after_call here done rest ≡ Err (rule, at) → P here → ((s : ScheduleTree) → rest s ≡ Err (rule, at) → P at) → P at
 after_stands P here (Ok s) rest rule at told stands behind = behind s told
-after_stands P here (Err r) rest rule at told stands behind = let both : ◌≡◌ {A = Rule × ℕ} (r, here) (rule, at) = cc told in subst P (ap (λ (x : Rule × ℕ). x.1) both) stands
+after_stands P here (Err r) rest rule at told stands behind = let both : ◌≡◌ {A = ScheduleRule × ℕ} (r, here) (rule, at) = cc told in subst P (ap (λ (x : ScheduleRule × ℕ). x.1) both) stands
 
-calls_stand : (P : ℕ → Type 0) (p : ProgramTree) (calls : List ScheduleCallTree) (s : ScheduleTree) (rule : Rule) (at : ℕ)
+calls_stand : (P : ℕ → Type 0) (p : ProgramTree) (calls : List ScheduleCallTree) (s : ScheduleTree) (rule : ScheduleRule) (at : ℕ)
     → with_calls p calls s ≡ Err (rule, at) → AllByRecursion (λ call. P call.at) calls → P at
 calls_stand P p [] s rule at told all = absurd cc
 calls_stand P p (call ∷ calls) s rule at told all =
     after_stands P call.at (with_call p call s) (λ new. with_calls p calls new) rule at told all.0 (λ new told. calls_stand P p calls new rule at told all.1)
 
-call_within : (text : List ℕ) (rule : Rule) (at : ℕ) → HasFaultyCall text rule at → at ≤ length text
+call_within : (text : List ℕ) (rule : ScheduleRule) (at : ℕ) → HasFaultyCall text rule at → at ≤ length text
 call_within text rule at told =
     let typed = told.typed in
     let all = schedule_calls_stand (λ at. at ≤ length text) typed.source (length text) (source_within text typed.source typed.parsed) in

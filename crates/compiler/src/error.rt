@@ -1,9 +1,11 @@
 ghost use Rattle.std.specs.Prelude.{◌≡◌};
+ghost use Rattle.compiler.specs.declared.error.CompileError.TheVariants.{NoMemory};
 ghost use Rattle.compiler.specs.Refusal.{number_of, offset_of, of_parser, of_schedule, of_types};
 
 use expression_types::Fault;
 use parser::ParseError;
-use schedule::{Rule, ScheduleError};
+use schedule::{ScheduleError, ScheduleRule};
+use std::alloc::AllocError;
 use thiserror::Error;
 use types::CheckError;
 
@@ -19,7 +21,7 @@ pub enum CompileError {
     /// It is a program with a schedule that is not accepted: the first faulty call, whose first token is at this
     /// offset in bytes, breaks this rule.
     #[error("the schedule breaks a rule")]
-    NotScheduled { rule: Rule, at: usize },
+    NotScheduled { rule: ScheduleRule, at: usize },
     #[error("out of memory")]
     NoMemory,
 }
@@ -80,5 +82,13 @@ impl From<ScheduleError> for CompileError {
             ScheduleError::Faulty { rule, at } => CompileError::NotScheduled { rule, at },
             ScheduleError::NoMemory => CompileError::NoMemory,
         }
+    }
+}
+
+impl From<AllocError> for CompileError {
+    ghost from_gives = { λ error e. e ≡ NoMemory };
+
+    fn from(_error: AllocError) -> CompileError {
+        CompileError::NoMemory
     }
 }

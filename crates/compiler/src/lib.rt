@@ -1,16 +1,21 @@
-//! The compiler: makes of a program's text what is run.
+//! The compiler: makes of a program's text the plan that is run.
 //!
-//! [`compile`] parses a text, checks it and looks at its schedule. A contract sees the answer as the program that
-//! the text is: the text is a source by the grammar, the source has that program by the rules of types, and the
-//! program's schedule is accepted (`specs/Outcome.antt`); each refusal names its cause and comes only where that holds.
-//! [`refusals_stand_in_the_text`] is the law that the offset of a refusal is at most the text's length; it does nothing
-//! when called.
+//! [`compile`] is a list of passes: the text is parsed, the source checked, its schedule accepted, and the program lowered to its
+//! plan under that schedule. A contract says what the answer is of the text (`specs/Outcome.antt`): the text is a source by the
+//! grammar, the source has a program by the rules of types, the program's schedule is accepted, and the plan, with its text, is that of
+//! the program under that schedule; each refusal names its cause and comes only where that holds, from the first pass that refuses.
 //!
-//! The program `gsnap` stands on this crate.
+//! Laws, each the contract of a function that does nothing: [`refusals_stand_in_the_text`], and
+//! [`checked_programs_reduce_each_vector_in_one_way`], by which `parse`, `check`, `accept`, `lower` and a run of the plan make a
+//! road on which each premise is met.
+//!
+//! Whoever runs programs gets them from here.
 #![tactic(auto)]
 
 mod error;
-mod program;
+mod passes;
 
 pub use error::CompileError;
-pub use program::{compile, refusals_stand_in_the_text};
+pub use passes::{
+    checked_programs_reduce_each_vector_in_one_way, compile, refusals_stand_in_the_text,
+};

@@ -3,3 +3,7 @@ pub mod Findings
 pub mod Gathering
 pub mod Ordered
 pub mod Turns
+pub mod Runs
+pub mod Reaching
+pub mod PieceLists
+pub mod AllPartitions

@@ -6,3 +6,6 @@ pub mod Outcome
 pub mod Pieces
 pub mod Refusal
 pub mod Workers
+pub mod Boundaries
+pub mod Limits
+pub mod Partition

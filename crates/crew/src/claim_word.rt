@@ -69,7 +69,7 @@ pub(crate) fn open_word(alloc: Global) -> Result<(ClaimTable, Claim), AllocError
     Table::of_words(alloc, &[0], &())
 }
 
-/// Cuts a worker's rights off a claim that has claimed nothing.
+/// Partition a worker's rights off a claim that has claimed nothing.
 pub(crate) fn hire(word: &ClaimWord, claim: &mut Claim) -> Claim
     requires claim { IsClaimAt word.now.table_id claim.old }
     requires idle { (view_of claim.old).claimed ≡ [] }

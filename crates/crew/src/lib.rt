@@ -17,7 +17,14 @@
 //! afterwards, in time `O(n)`. A [`Gate`] is told of each piece before it is done. [`workers_for`] says
 //! how many workers are worth their threads.
 //!
-//! It is made for the engines, which do an apply in pieces. It stands on none of the other crates.
+//! [`Partition`] cuts a list of vertices into pieces, which are runs of it, one behind the other, as a schedule says: one piece, one
+//! for each worker, or four for each, of as many vertices or of as many vertices and edges. A contract sees it as the list of the
+//! pieces' ends (`specs/Boundaries.antt`). Its laws say that the pieces are disjoint and make the whole list
+//! ([`boundaries_cut_the_list`], [`pieces_make_the_list`]), that there is a piece for each worker
+//! ([`static_pieces_are_those_of_workers`]), and where a piece of vertices and edges ends ([`edge_aware_pieces_end_at_the_limit`]). The
+//! edge-aware way is GraphIt's (Zhang et al., OOPSLA 2018).
+//!
+//! It is made for the engines, which do an apply in pieces.
 #![tactic(auto)]
 
 mod alone;
@@ -29,6 +36,8 @@ mod found;
 mod gate;
 mod in_order;
 mod job;
+mod partition;
+mod partition_laws;
 mod piece;
 mod run;
 mod share;
@@ -38,6 +47,11 @@ mod workers;
 pub use error::CrewError;
 pub use found::Found;
 pub use gate::{Gate, Open};
+pub use partition::Partition;
+pub use partition_laws::{
+    boundaries_cut_the_list, edge_aware_pieces_end_at_the_limit, pieces_make_the_list,
+    static_pieces_are_those_of_workers, worked_partitions,
+};
 pub use run::run_pieces;
 pub use share::Share;
 pub use work::Work;

@@ -13,12 +13,16 @@
 //! A history says what the reader or writer inside answered. That those bytes reached a disk or a
 //! screen is more than a contract can know.
 //!
+//! `TextFeed` is the reader of a text that is at hand.
+//!
 //! Who uses it: code that runs scripts from one device to another.
 #![tactic(auto)]
 
 mod account;
 mod adapter;
+mod text_feed;
 mod traits;
 
 pub use adapter::Device;
+pub use text_feed::{Text, TextFeed};
 pub use traits::{Drain, Feed, write_all};

@@ -3,11 +3,21 @@ use Rattle.std.proofs.Common.{◌≡◌, refl, ℕ, ◌+◌, ◌<◌, List, [], 
 use Rattle.std.proofs.lemmas.List.{map-append, drop_more}
 use Rattle.std.specs.declared.io.Error.{Error}
 use Rattle.typed_tree.specs.ProgramTree.{ProgramTree}
-use Rattle.programs.specs.declared.program.Program.{Program}
-use Rattle.programs.specs.Program.{program_tree}
-use Rattle.driver.specs.Reading.{HoldPrograms, HoldsProgram, IsNoProgram, LacksProgram}
+use Rattle.driver.specs.declared.compiled_plan.CompiledPlan.{CompiledPlan}
+use Rattle.driver.specs.Programs.{tree_of}
+use Rattle.plans.specs.declared.plan.Plan.{Plan}
+use Rattle.plans.specs.PlanOf.{program_of}
+use Rattle.driver.specs.Reading.{HoldPrograms, HoldsPlan, HoldsProgram, IsNoProgram, LacksProgram}
 use Rattle.driver.specs.declared.error.ServeError.{ServeError}
 use Rattle.driver.specs.declared.error.ServeError.TheVariants.{NoMemory}
+
+-- a file that may hold the text of a plan may hold that of its program
+pub holds_program : (holds : List ℕ → Type 0) (plan : Plan) → HoldsPlan holds plan → HoldsProgram holds (program_of plan)
+holds_program holds plan held = record {
+  text = held.text;
+  held = held.held;
+  compiled = record { typed = held.planned.typed; schedule = held.planned.schedule; accepted = held.planned.accepted };
+}
 
 -- some files of all were compiled: what is left to compile, and how that fails, makes up the whole
 pub record Compiles (holds : List ℕ → List ℕ → Type 0) (fails : List ℕ → Error → Type 0) (all left : List (List ℕ)) (programs : List ProgramTree) : Type 0 where
@@ -15,9 +25,9 @@ pub record Compiles (holds : List ℕ → List ℕ → Type 0) (fails : List ℕ
   pub fails_on : (e : ServeError) → LacksProgram holds fails left e → LacksProgram holds fails all e
 
 -- no file was compiled yet
-pub nothing_compiled : (holds : List ℕ → List ℕ → Type 0) (fails : List ℕ → Error → Type 0) (all : List (List ℕ)) (compiled : List Program) → compiled ≡ [] → Compiles holds fails all all (map program_tree compiled)
+pub nothing_compiled : (holds : List ℕ → List ℕ → Type 0) (fails : List ℕ → Error → Type 0) (all : List (List ℕ)) (compiled : List CompiledPlan) → compiled ≡ [] → Compiles holds fails all all (map tree_of compiled)
 nothing_compiled holds fails all compiled none =
-    subst (λ (ps : List Program). Compiles holds fails all all (map program_tree ps)) (sym none) (record { goes_on = λ more rest. rest; fails_on = λ e lacks. lacks })
+    subst (λ (ps : List CompiledPlan). Compiles holds fails all all (map tree_of ps)) (sym none) (record { goes_on = λ more rest. rest; fails_on = λ e lacks. lacks })
 
 -- all files were compiled
 pub all_compiled : (holds : List ℕ → List ℕ → Type 0) (fails : List ℕ → Error → Type 0) (all left : List (List ℕ)) (programs : List ProgramTree) → Compiles holds fails all left programs → left ≡ []
@@ -34,21 +44,21 @@ one_compiled holds fails all left programs name p c held = record {
 }
 
 -- the file at a place was compiled
-pub compiled_at : (holds : List ℕ → List ℕ → Type 0) (fails : List ℕ → Error → Type 0) (all : List (List ℕ)) (names : List (Bor (List ℕ))) (place : ℕ) (none : Bor (List ℕ)) (compiled new : List Program) (p : Program) → place < length names
-    → Compiles holds fails all (map (λ n. n.now) (drop place names)) (map program_tree compiled) → HoldsProgram (holds (get_or names place none).now) (program_tree p) → new ≡ compiled ++ p ∷ []
-    → Compiles holds fails all (map (λ n. n.now) (drop (place + 1) names)) (map program_tree new)
+pub compiled_at : (holds : List ℕ → List ℕ → Type 0) (fails : List ℕ → Error → Type 0) (all : List (List ℕ)) (names : List (Bor (List ℕ))) (place : ℕ) (none : Bor (List ℕ)) (compiled new : List CompiledPlan) (p : CompiledPlan) → place < length names
+    → Compiles holds fails all (map (λ n. n.now) (drop place names)) (map tree_of compiled) → HoldsProgram (holds (get_or names place none).now) (tree_of p) → new ≡ compiled ++ p ∷ []
+    → Compiles holds fails all (map (λ n. n.now) (drop (place + 1) names)) (map tree_of new)
 compiled_at holds fails all names place none compiled new p within c held is =
     let left = map (λ (n : Bor (List ℕ)). n.now) (drop (place + 1) names) in
-    let first = subst (λ (ns : List (Bor (List ℕ))). Compiles holds fails all (map (λ n. n.now) ns) (map program_tree compiled)) (drop_more names place none within) c in
-    subst (Compiles holds fails all left) (sym (ap (map program_tree) is ∙ map-append program_tree compiled (p ∷ [])))
-    (one_compiled holds fails all left (map program_tree compiled) (get_or names place none).now (program_tree p) first held)
+    let first = subst (λ (ns : List (Bor (List ℕ))). Compiles holds fails all (map (λ n. n.now) ns) (map tree_of compiled)) (drop_more names place none within) c in
+    subst (Compiles holds fails all left) (sym (ap (map tree_of) is ∙ map-append tree_of compiled (p ∷ [])))
+    (one_compiled holds fails all left (map tree_of compiled) (get_or names place none).now (tree_of p) first held)
 
 -- the file at a place is no program
-pub lacks_at : (holds : List ℕ → List ℕ → Type 0) (fails : List ℕ → Error → Type 0) (all : List (List ℕ)) (names : List (Bor (List ℕ))) (place : ℕ) (none : Bor (List ℕ)) (compiled : List Program) (e : ServeError) → place < length names
-    → Compiles holds fails all (map (λ n. n.now) (drop place names)) (map program_tree compiled) → IsNoProgram (holds (get_or names place none).now) (fails (get_or names place none).now) (get_or names place none).now e
+pub lacks_at : (holds : List ℕ → List ℕ → Type 0) (fails : List ℕ → Error → Type 0) (all : List (List ℕ)) (names : List (Bor (List ℕ))) (place : ℕ) (none : Bor (List ℕ)) (compiled : List CompiledPlan) (e : ServeError) → place < length names
+    → Compiles holds fails all (map (λ n. n.now) (drop place names)) (map tree_of compiled) → IsNoProgram (holds (get_or names place none).now) (fails (get_or names place none).now) (get_or names place none).now e
     → LacksProgram holds fails all e
 lacks_at holds fails all names place none compiled e within c lacks =
-    let first = subst (λ (ns : List (Bor (List ℕ))). Compiles holds fails all (map (λ n. n.now) ns) (map program_tree compiled)) (drop_more names place none within) c in
+    let first = subst (λ (ns : List (Bor (List ℕ))). Compiles holds fails all (map (λ n. n.now) ns) (map tree_of compiled)) (drop_more names place none within) c in
     first.fails_on e (inl lacks)
 
 -- memory may run out at any of the files

@@ -3,3 +3,4 @@ pub mod Endings
 pub mod Reading
 pub mod Running
 pub mod Serving
+pub mod Programs

@@ -4,14 +4,13 @@ use Rattle.std.specs.Global.{Vec}
 use Rattle.std.specs.declared.io.Error.{Error}
 use Rattle.compiler.specs.declared.error.CompileError.{CompileError}
 use Rattle.compiler.specs.declared.error.CompileError.TheVariants as compiler
-use Rattle.compiler.specs.Outcome.{Compiles, IsProgram}
-use Rattle.instructions.specs.declared.plan.Plan.{Plan}
-use Rattle.lowering.specs.Compiling.{IsPlanOfText}
-use Rattle.programs.specs.declared.program.Program.{Program}
-use Rattle.programs.specs.Program.{program_tree}
+use Rattle.compiler.specs.Outcome.{Compiles, IsPlanOfText, IsProgram}
+use Rattle.plans.specs.declared.plan.Plan.{Plan}
 use Rattle.typed_tree.specs.ProgramTree.{ProgramTree}
 use Rattle.driver.specs.Endings.{of_read}
 use Rattle.driver.specs.declared.error.ServeError.{ServeError}
+use Rattle.driver.specs.declared.compiled_plan.CompiledPlan.{CompiledPlan}
+use Rattle.driver.specs.Programs.{tree_of}
 use Rattle.driver.specs.declared.error.ServeError.TheVariants.{NoMemory, ReadFailed, WriteFailed, Refused}
 
 -- a read answered with bytes that the file may hold, or failed as it may fail
@@ -52,14 +51,9 @@ IsNoProgram holds fails name WriteFailed = ⊥
 IsNoProgram holds fails name (Refused file error) = (file.now ≡ name) × HoldsRefused holds error
 
 -- what is made of the file of this name
-abbrev pub CompilesFile : (List ℕ → Type 0) → (Error → Type 0) → List ℕ → Result Program ServeError → Type 0
-CompilesFile holds fails name (Ok program) = HoldsProgram holds (program_tree program)
+abbrev pub CompilesFile : (List ℕ → Type 0) → (Error → Type 0) → List ℕ → Result Plan ServeError → Type 0
+CompilesFile holds fails name (Ok plan) = HoldsPlan holds plan
 CompilesFile holds fails name (Err e) = IsNoProgram holds fails name e
-
--- what is made of the file of this name, down to its plan
-abbrev pub PlansFile : (List ℕ → Type 0) → (Error → Type 0) → List ℕ → Result Plan ServeError → Type 0
-PlansFile holds fails name (Ok plan) = HoldsPlan holds plan
-PlansFile holds fails name (Err e) = IsNoProgram holds fails name e
 
 -- the files of these names may hold these programs, one for one
 abbrev pub HoldPrograms : (List ℕ → List ℕ → Type 0) → List (List ℕ) → List ProgramTree → Type 0
@@ -75,6 +69,6 @@ LacksProgram holds fails (name ∷ names) e =
     IsNoProgram (holds name) (fails name) name e ⊎ ((p : ProgramTree) × (HoldsProgram (holds name) p × LacksProgram holds fails names e))
 
 -- what is made of the files of these names
-abbrev pub CompilesFiles : (List ℕ → List ℕ → Type 0) → (List ℕ → Error → Type 0) → List (List ℕ) → Result (Vec Program) ServeError → Type 0
-CompilesFiles holds fails names (Ok programs) = HoldPrograms holds names (map program_tree programs.items)
+abbrev pub CompilesFiles : (List ℕ → List ℕ → Type 0) → (List ℕ → Error → Type 0) → List (List ℕ) → Result (Vec CompiledPlan) ServeError → Type 0
+CompilesFiles holds fails names (Ok programs) = HoldPrograms holds names (map tree_of programs.items)
 CompilesFiles holds fails names (Err e) = LacksProgram holds fails names e

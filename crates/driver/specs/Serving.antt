@@ -2,7 +2,8 @@
 use Rattle.std.specs.Prelude.{◌≡◌, ℕ, ◌<◌, Bool, false, List, [], ◌∷◌, ◌++◌, ◌⊎◌, Result, Ok, Err, map, codes}
 use Rattle.std.specs.declared.io.Error.{Error}
 use Rattle.devices.specs.Drain.{TakesPart}
-use Rattle.instructions.specs.declared.plan.Plan.{Plan}
+use Rattle.plans.specs.declared.plan.Plan.{Plan}
+use Rattle.plans.specs.PlanOf.{program_of}
 use Rattle.lowering.specs.Text.{text_of}
 use Rattle.typed_tree.specs.ProgramTree.{ProgramTree}
 use Rattle.scripts.specs.declared.error.ScriptError.{ScriptError}
@@ -57,7 +58,7 @@ ChecksFile holds fails name before after (Err e) = TellsNothing holds fails name
 
 -- the text of the plan of the program that a file may hold
 abbrev pub plan_text : {holds : List ℕ → Type 0} {plan : Plan} → HoldsPlan holds plan → List ℕ
-plan_text held = text_of held.planned.program held.planned.schedule
+plan_text {plan = plan} held = text_of (program_of plan) held.planned.schedule
 
 -- the file may hold a program, of which this is the plan, and all of its text was written
 pub record TellsPlan (holds : List ℕ → Type 0) (before after : Taken) (faulted : Bool) : Type 0 where

@@ -13,8 +13,10 @@
 #![tactic(auto)]
 
 mod command_line;
+mod compiled_plan;
 mod error;
 mod files;
+mod programs;
 mod requests;
 mod running;
 mod serving;
@@ -25,5 +27,5 @@ pub use error::ServeError;
 pub use files::{Disk, Files};
 pub use requests::{Request, RequestError};
 pub use running::run;
-pub use scripts::Session;
+pub use scripts::ScriptState;
 pub use serving::serve;

@@ -10,15 +10,15 @@ use crate::files::Files;
 use crate::requests::RequestError;
 use crate::serving::{Text, serve};
 use devices::{Drain, Feed};
-use scripts::Session;
+use scripts::ScriptState;
 use std::alloc::Global;
 use std::fmt::Write;
 
 /// Reads the words after the program's name, and does what they ask for; the answer is the exit status.
 ///
 /// It is that of `serve` where the words are a request. Where they are none, or ask for help, it is 2, and 4
-/// where memory runs out over them; `err` is then told why, and `out` took nothing. A script opens its graph
-/// in the session, which begins anew.
+/// where memory runs out over them; `err` is then told why, and `out` took nothing. With it comes what a script
+/// opened, as by `serve`.
 pub fn run<F: Files, R: Feed, W: Drain, E: Drain>(
     alloc: Global,
     words: &[&str],
@@ -26,17 +26,16 @@ pub fn run<F: Files, R: Feed, W: Drain, E: Drain>(
     input: &mut R,
     out: &mut W,
     err: &mut E,
-    session: &mut Session,
-) -> u8
+) -> (u8, Option<ScriptState>)
     ensures { Runs (F.may_hold files.now) (F.may_fail files.now) (map (λ w. w.now) words.entry.now)
         (input_of (R.given input.old) (R.ended input.old) (R.failures input.old))
         (input_of (R.given input.new) (R.ended input.new) (R.failures input.new))
         (taken_by (W.taken out.old) (W.failures out.old))
-        (taken_by (W.taken out.new) (W.failures out.new)) result }
+        (taken_by (W.taken out.new) (W.failures out.new)) result.0 }
 {
     match request(alloc, words) {
-        Ok(request) => serve(alloc, &request, files, input, out, err, session),
-        Err(error) => refused(&error, err),
+        Ok(request) => serve(alloc, &request, files, input, out, err),
+        Err(error) => (refused(&error, err), None),
     }
 }
 

@@ -3,18 +3,19 @@
 ghost use Rattle.std.specs.Prelude.{◌≡◌, ◌++◌, map};
 ghost use Rattle.scripts.specs.Script.{input as input_of, taken_by, RunsScript};
 ghost use Rattle.driver.specs.Endings.{status_of_end};
-ghost use Rattle.driver.specs.Reading.{CompilesFile, CompilesFiles, PlansFile};
-ghost use Rattle.driver.specs.Serving.{ChecksFile, PrintsPlan, RunsFiles, RunsInput, Serves};
+ghost use Rattle.driver.specs.Reading.{CompilesFile, CompilesFiles};
+ghost use Rattle.driver.specs.Serving.{end_of, ChecksFile, PrintsPlan, RunsFiles, RunsInput, Serves};
 
+use crate::compiled_plan::CompiledPlan;
 use crate::error::ServeError;
 use crate::files::Files;
+use crate::programs::CompiledPrograms;
 use crate::requests::Request;
 use crate::status;
-use compiler::CompileError;
+use compiler::{CompileError, compile};
 use devices::{Drain, Feed, write_all};
-use lowering::Plan;
-use programs::Program;
-use scripts::{Session, run_text, script};
+use plans::Plan;
+use scripts::{NoPrograms, ScriptError, ScriptState, run_text, script};
 use std::alloc::Global;
 use std::fmt;
 use std::fmt::Write;
@@ -24,8 +25,8 @@ const OK_LINE: &[u8] = b"ok\n";
 
 /// Does a request, and answers the exit status: 0 where all was done, or 3 where some run of the script
 /// ended by a fault. `out` has then taken the line `ok` of a check, the text of a plan, or the replies of the
-/// script. A script opens its graph in the session, which begins anew; a check and a plan leave the session as
-/// it is.
+/// script. With it comes what a script opened, where one was run, for the caller to let go: that takes time in
+/// proportion to the graph.
 ///
 /// `Check` and `Plan` write once the program is compiled. `Script` compiles each program before it reads the next
 /// file, and reads the script's file last. The status is 1 where a program's text is refused; `err` is
@@ -40,20 +41,23 @@ pub fn serve<F: Files, R: Feed, W: Drain, E: Drain>(
     input: &mut R,
     out: &mut W,
     err: &mut E,
-    session: &mut Session,
-) -> u8
+) -> (u8, Option<ScriptState>)
     ensures { Serves (F.may_hold files.now) (F.may_fail files.now) request.now
         (input_of (R.given input.old) (R.ended input.old) (R.failures input.old))
         (input_of (R.given input.new) (R.ended input.new) (R.failures input.new))
         (taken_by (W.taken out.old) (W.failures out.old))
-        (taken_by (W.taken out.new) (W.failures out.new)) result }
+        (taken_by (W.taken out.new) (W.failures out.new)) result.0 }
 {
     match request {
-        Request::Input => told(run_input(alloc, input, out, session), err),
-        Request::Check { file } => told(check_file(alloc, file, files, out), err),
-        Request::Plan { file } => told(print_plan(alloc, file, files, out), err),
+        Request::Input => {
+            let (ended, state) = run_input(alloc, input, out);
+            (told(ended, err), Some(state))
+        }
+        Request::Check { file } => (told(check_file(alloc, file, files, out), err), None),
+        Request::Plan { file } => (told(print_plan(alloc, file, files, out), err), None),
         Request::Script { script, programs } => {
-            told(run_files(alloc, script, programs, files, out, session), err)
+            let (ended, state) = run_files(alloc, script, programs, files, out);
+            (told(ended, err), state)
         }
     }
 }
@@ -78,15 +82,25 @@ fn run_input<'a, R: Feed, W: Drain>(
     alloc: Global,
     input: &mut R,
     out: &mut W,
-    session: &mut Session,
-) -> Result<bool, ServeError<'a>>
+) -> (Result<bool, ServeError<'a>>, ScriptState)
     ensures { RunsInput
         (input_of (R.given input.old) (R.ended input.old) (R.failures input.old))
         (input_of (R.given input.new) (R.ended input.new) (R.failures input.new))
         (taken_by (W.taken out.old) (W.failures out.old))
-        (taken_by (W.taken out.new) (W.failures out.new)) result }
+        (taken_by (W.taken out.new) (W.failures out.new)) result.0 }
 {
-    Ok(script(alloc, &[], input, out, session)?)
+    let (ended, state) = script(alloc, &NoPrograms, input, out);
+    (ended_as(ended), state)
+}
+
+// The end of a script, with the errors of requests.
+fn ended_as<'a>(ended: Result<bool, ScriptError>) -> Result<bool, ServeError<'a>>
+    ensures { result ≡ end_of ended }
+{
+    match ended {
+        Ok(faulted) => Ok(faulted),
+        Err(error) => Err(ServeError::from(error)),
+    }
 }
 
 // Compiles the program in the file of this name, and then writes the line `ok`. No run ends by a fault.
@@ -118,7 +132,7 @@ fn print_plan<'a, F: Files, W: Drain>(
         (taken_by (W.taken out.old) (W.failures out.old))
         (taken_by (W.taken out.new) (W.failures out.new)) result }
 {
-    let plan = planned_file(alloc, file, files)?;
+    let plan = compiled_file(alloc, file, files)?;
     let text = lowering::write(alloc, &plan)?;
     match write_all(out, &text) {
         Ok(()) => Ok(false),
@@ -133,15 +147,21 @@ fn run_files<'a, F: Files, W: Drain>(
     programs: &[&'a str],
     files: &F,
     out: &mut W,
-    session: &mut Session,
-) -> Result<bool, ServeError<'a>>
+) -> (Result<bool, ServeError<'a>>, Option<ScriptState>)
     ensures { RunsFiles (F.may_hold files.now) (F.may_fail files.now) script.now (map (λ p. p.now) programs.entry.now)
         (taken_by (W.taken out.old) (W.failures out.old))
-        (taken_by (W.taken out.new) (W.failures out.new)) result }
+        (taken_by (W.taken out.new) (W.failures out.new)) result.0 }
 {
-    let compiled = compiled_files(alloc, programs, files)?;
-    let text = files.read(alloc, script)?;
-    Ok(run_text(alloc, &compiled, &text, out, session)?)
+    let plans = match compiled_files(alloc, programs, files) {
+        Ok(plans) => plans,
+        Err(error) => return (Err(error), None),
+    };
+    let text = match files.read(alloc, script) {
+        Ok(text) => text,
+        Err(error) => return (Err(ServeError::from(error)), None),
+    };
+    let (ended, state) = run_text(alloc, &CompiledPrograms { plans }, &text, out);
+    (ended_as(ended), Some(state))
 }
 
 // The programs in the files of these names.
@@ -149,42 +169,27 @@ fn compiled_files<'a, F: Files>(
     alloc: Global,
     names: &[&'a str],
     files: &F,
-) -> Result<Vec<Program>, ServeError<'a>>
+) -> Result<Vec<CompiledPlan>, ServeError<'a>>
     ensures { CompilesFiles (F.may_hold files.now) (F.may_fail files.now) (map (λ n. n.now) names.entry.now) result }
 {
     let mut compiled = Vec::new(alloc);
     'names: for name in names {
-        compiled.push(compiled_file(alloc, name, files)?)?;
+        let plan = compiled_file(alloc, name, files)?;
+        compiled.push(CompiledPlan { plan })?;
     }
     Ok(compiled)
 }
 
-// The program in the file of this name.
+// The plan of the program in the file of this name.
 fn compiled_file<'a, F: Files>(
     alloc: Global,
     file: &'a str,
     files: &F,
-) -> Result<Program, ServeError<'a>>
+) -> Result<Plan, ServeError<'a>>
     ensures { CompilesFile (F.may_hold files.now file.entry.now) (F.may_fail files.now file.entry.now) file.entry.now result }
 {
     let text = files.read(alloc, file)?;
-    match Program::compile(alloc, &text) {
-        Ok(program) => Ok(program),
-        Err(CompileError::NoMemory) => Err(ServeError::NoMemory),
-        Err(error) => Err(ServeError::Refused { file, error }),
-    }
-}
-
-// The plan of the program in the file of this name.
-fn planned_file<'a, F: Files>(
-    alloc: Global,
-    file: &'a str,
-    files: &F,
-) -> Result<Plan, ServeError<'a>>
-    ensures { PlansFile (F.may_hold files.now file.entry.now) (F.may_fail files.now file.entry.now) file.entry.now result }
-{
-    let text = files.read(alloc, file)?;
-    match lowering::compile(alloc, &text) {
+    match compile(alloc, &text) {
         Ok(plan) => Ok(plan),
         Err(CompileError::NoMemory) => Err(ServeError::NoMemory),
         Err(error) => Err(ServeError::Refused { file, error }),

@@ -4,9 +4,9 @@ use Rattle.std.proofs.lemmas.Bool.Decides.{nat_tests}
 use Rattle.std.proofs.lemmas.Bool.{false≢true}
 use Rattle.std.proofs.lemmas.List.Elements.{All-head, All-tail}
 use Rattle.std.specs.List.{All, filter}
-use Rattle.syntax.specs.declared.statement.Reduction.{Reduction}
+use Rattle.apply_options.specs.declared.reduction.Reduction.{Reduction}
 use Rattle.typed_tree.specs.StepTree.{StepsTree}
-use Rattle.algorithm_meaning.specs.declared.function.Contribution.{Contribution}
+use Rattle.algorithm_meaning.specs.declared.contribution.Contribution.{Contribution}
 use Rattle.algorithm_meaning.specs.Arithmetic.{reduced}
 use Rattle.algorithm_meaning.specs.EdgeApply.{after_edges, all_give, gives}
 use Rattle.algorithm_meaning.specs.Laws.{IsGivenBy, given_to, reduced_all, for_vector as for_one}
@@ -14,7 +14,7 @@ use Rattle.algorithm_meaning.specs.State.{StateValue}
 use Rattle.algorithm_meaning.specs.Value.{entry}
 use Rattle.algorithm_meaning.proofs.EdgeApplies.{entry_after_edges}
 use Rattle.algorithm_meaning.proofs.Reductions.{reduced_all-append}
-use Rattle.stack_code.specs.FunctionCode.{each}
+use Rattle.register_code.specs.FunctionCode.{each}
 use Rattle.edge_fold.specs.Given.{IsBy, IsReducedBy, all_given, for_vector, given_on, reduced_at}
 use Rattle.edge_fold.proofs.Folds.{reduced_at-append}
 

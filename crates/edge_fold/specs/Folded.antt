@@ -1,11 +1,11 @@
 -- What a scratch has folded.
 use Rattle.std.specs.Prelude.{◌≡◌, ℕ, ◌<◌, ℤ, Option, Some, None, List, [], ◌∷◌, take}
 use Rattle.std.specs.Borrow.{Bor}
-use Rattle.syntax.specs.declared.statement.Reduction.{Reduction}
+use Rattle.apply_options.specs.declared.reduction.Reduction.{Reduction}
 use Rattle.typed_tree.specs.StepTree.{StepsTree}
 use Rattle.algorithm_meaning.specs.State.{StateValue}
 use Rattle.kernels.specs.declared.kernel.EdgeKernel.{EdgeKernel}
-use Rattle.stack_code.specs.Cells.{HasSizes}
+use Rattle.register_code.specs.Cells.{HasSizes}
 use Rattle.kernels.specs.Kernels.{IsEdgeKernel}
 use Rattle.edge_fold.specs.declared.functions.Functions.{Functions}
 use Rattle.edge_fold.specs.declared.pairs.Pairs.{Pairs}

@@ -1,6 +1,6 @@
 -- What new entries are folded from.
 use Rattle.std.specs.Prelude.{ℕ, ℤ}
-use Rattle.syntax.specs.declared.statement.Reduction.{Reduction}
+use Rattle.apply_options.specs.declared.reduction.Reduction.{Reduction}
 use Rattle.algorithm_meaning.specs.Arithmetic.{reduced}
 use Rattle.algorithm_meaning.specs.Value.{entry}
 use Rattle.vectors.specs.Lanes.{lane_entry}

@@ -1,6 +1,6 @@
 -- What slots have.
 use Rattle.std.specs.Prelude.{◌≡◌, ℕ, suc, ℤ, ◌==◌, if◌then◌else◌, List, [], ◌∷◌, take}
-use Rattle.syntax.specs.declared.statement.Reduction.{Reduction}
+use Rattle.apply_options.specs.declared.reduction.Reduction.{Reduction}
 use Rattle.edge_fold.specs.declared.functions.Functions.{Functions}
 use Rattle.edge_fold.specs.declared.slot.Slot.{Slot}
 use Rattle.edge_fold.specs.declared.slot.Slots.{Slots}

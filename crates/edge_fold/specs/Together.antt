@@ -1,6 +1,6 @@
 -- What several sources give a destination.
 use Rattle.std.specs.Prelude.{◌≡◌, ℕ, ℤ, List, [], ◌∷◌}
-use Rattle.syntax.specs.declared.statement.Reduction.{Reduction}
+use Rattle.apply_options.specs.declared.reduction.Reduction.{Reduction}
 use Rattle.algorithm_meaning.specs.Arithmetic.{reduced}
 use Rattle.edge_fold.specs.declared.functions.Sent.{Sent}
 use Rattle.edge_fold.specs.Given.{reduced_at}

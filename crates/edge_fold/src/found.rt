@@ -2,13 +2,13 @@
 ghost use Rattle.std.specs.Prelude.{◌≡◌, ℕ, ℤ, ◌==◌, ◌<◌, ◌≤◌, Contains, ◌++◌, Bool, if◌then◌else◌, List, [], length, slice_index_or, IfOk, OnOk};
 ghost use Rattle.std.specs.List.{filter};
 ghost use Rattle.std.specs.List.Sorted.{IsNonDecreasing};
-ghost use Rattle.syntax.specs.declared.statement.Reduction.{Reduction};
+ghost use Rattle.apply_options.specs.declared.reduction.Reduction.{Reduction};
 ghost use Rattle.typed_tree.specs.StepTree.{StepsTree};
 ghost use Rattle.algorithm_meaning.specs.EdgeApply.{after_edges};
 ghost use Rattle.algorithm_meaning.specs.Laws.{IsGivenBy};
 ghost use Rattle.algorithm_meaning.specs.State.{StateValue};
 ghost use Rattle.algorithm_meaning.specs.Value.{entry};
-ghost use Rattle.stack_code.specs.Cells.{HasSizes};
+ghost use Rattle.register_code.specs.Cells.{HasSizes};
 ghost use Rattle.edge_fold.specs.Changed.{AreApart, changed, changes_of, changes_or, is_named};
 ghost use Rattle.vectors.specs.declared.change.Change.{Change};
 ghost use Rattle.edge_fold.specs.declared.functions.Functions.{Functions};

@@ -3,8 +3,8 @@ ghost use Rattle.std.specs.Prelude.{◌≡◌, ℕ, ℤ};
 ghost use Rattle.edge_fold.specs.Seeds.{first_entry, opening_seed, start_of};
 
 use crate::opening::Opening;
+use apply_options::Reduction;
 use kernels::EdgeKernel;
-use syntax::Reduction;
 use vectors::Vectors;
 
 /// What the new entry of a vertex begins with, when the vertex is first given something.

@@ -2,10 +2,10 @@
 ghost use Rattle.std.specs.Prelude.{◌≡◌, ℕ, ℤ, ◌<◌, ◌++◌, Bool, Contains, List, if◌then◌else◌, IfOk, OnOk};
 ghost use Rattle.std.specs.List.{filter};
 ghost use Rattle.std.specs.List.Sorted.{IsNonDecreasing};
-ghost use Rattle.syntax.specs.declared.statement.Reduction.{Reduction};
+ghost use Rattle.apply_options.specs.declared.reduction.Reduction.{Reduction};
 ghost use Rattle.typed_tree.specs.StepTree.{StepsTree};
 ghost use Rattle.algorithm_meaning.specs.State.{StateValue};
-ghost use Rattle.stack_code.specs.Cells.{HasSizes};
+ghost use Rattle.register_code.specs.Cells.{HasSizes};
 ghost use Rattle.edge_fold.specs.declared.functions.Start.TheVariants.{Unit as FromUnit};
 ghost use Rattle.edge_fold.specs.Ends.{IsEndTest};
 ghost use Rattle.edge_fold.specs.Folded.{AreFunctions, HasFolded};
@@ -21,9 +21,9 @@ use crate::passing::keep_passing;
 use crate::scratch::Scratch;
 use crate::slot::{Slot, Slots};
 use crate::slots::find;
+use apply_options::Reduction;
 use kernels::{Block, End};
 use std::alloc::{AllocError, Global};
-use syntax::Reduction;
 use vectors::Change;
 
 /// What edges give one vector, by its place: the reduction, and numbers for vertices. A number that is reduced with those

@@ -10,9 +10,9 @@ use crate::accumulator::Accumulator;
 use crate::opening::Opening;
 use crate::passing::keep_where;
 use algorithm_meaning::reduce;
+use apply_options::Reduction;
 use kernels::Gift;
 use std::alloc::{AllocError, Global};
-use syntax::Reduction;
 use vectors::Change;
 
 impl Accumulator {

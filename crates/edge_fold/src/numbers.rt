@@ -6,7 +6,7 @@ ghost use Rattle.edge_fold.specs.Together.{IsReducedTo, reduced_with};
 ghost use Rattle.vectors.specs.Lanes.{lane_entry};
 
 use algorithm_meaning::{arithmetic_of, reduce};
-use syntax::Reduction;
+use apply_options::Reduction;
 use typed_tree::Operator;
 use vectors::Lane;
 

@@ -4,7 +4,7 @@ ghost use Rattle.algorithm_meaning.specs.Arithmetic.{reduced};
 ghost use Rattle.edge_fold.specs.Seeds.{combined, opening_seed, start_of};
 
 use algorithm_meaning::reduce;
-use syntax::Reduction;
+use apply_options::Reduction;
 use vectors::Lane;
 
 /// What the new entries of a vector begin with: the old ones, or the unit of a reduction.

@@ -6,16 +6,16 @@ ghost use Rattle.edge_fold.specs.Held.{held_with};
 ghost use Rattle.edge_fold.specs.Slots.{HaveJoined, active, held_in_with, place_in, reduction_in};
 ghost use Rattle.kernels.specs.Gifts.{gift_at};
 ghost use Rattle.kernels.specs.Kernels.{HasCells, given_at};
-ghost use Rattle.syntax.specs.declared.statement.Reduction.{Reduction};
+ghost use Rattle.apply_options.specs.declared.reduction.Reduction.{Reduction};
 
 use crate::accumulator::Accumulator;
 use crate::functions::{Functions, Sent};
 use crate::gathered::GatheredIn;
 use crate::joins::gives_some;
 use crate::slot::{Slot, Slots};
+use apply_options::Reduction;
 use kernels::{Block, EdgeKernel, Gift};
 use std::alloc::{AllocError, Global};
-use syntax::Reduction;
 
 impl Slots {
     /// No vector.

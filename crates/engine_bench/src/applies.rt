@@ -4,13 +4,15 @@
 use crate::apply_texts::{ENDS, FUNCTIONS, Side, program, vector_of};
 use crate::piece_applies::changes_by_pieces;
 use crate::samples::Sample;
-use algorithm_meaning::{NamedVector, Outcome, plain_run};
+use algorithm_meaning::{NamedVector, Outcome};
+use apply_options::{DenseVertexSet, Direction, Parallelization};
 use edge_fold::Scratch;
 use kernels::{EdgeKernel, End, FilterKernel};
 use measuring::Random;
-use pull_engine::{apply_edges, pull};
+use plain_run::plain_run;
+use pull_engine::pull;
 use push_engine::{Apply, apply_modified, push};
-use schedule::{DenseVertexSet, Direction, Parallelization};
+use runner::push_or_pull;
 use std::alloc::{AllocError, Global};
 use std::io;
 use std::io::Error;
@@ -251,7 +253,7 @@ impl<'a> Trial<'a> {
         let changes = match way {
             Way::Push(_) => push(alloc, &apply, flat, before, sizes, scratch),
             Way::Pull => pull(alloc, &apply, flat, before, sizes, scratch),
-            Way::Scheduled(_) => apply_edges(alloc, &apply, flat, before, sizes, scratch),
+            Way::Scheduled(_) => push_or_pull(alloc, &apply, flat, before, sizes, scratch),
         };
         self.require(alloc, &changes?)
     }

@@ -1,13 +1,13 @@
 //! How long a push from ten vertices takes, in a small graph and in a large one.
 
 use crate::kernels_of::edge_kernel;
+use apply_options::{DenseVertexSet, Direction, Parallelization};
 use edge_fold::Scratch;
 use flat_snapshot::Flat;
 use kernels::{EdgeKernel, End};
 use measuring::{Job, Random, Turns, print_head, print_row, told};
-use pull_engine::apply_edges;
 use push_engine::Apply;
-use schedule::{DenseVertexSet, Direction, Parallelization};
+use runner::push_or_pull;
 use std::alloc::{AllocError, Global};
 use std::io;
 use tree_batch::{Batch, Entry, Graph};
@@ -86,7 +86,7 @@ impl Drop for Work<'_> {
 
 impl Work<'_> {
     fn changes(&mut self, alloc: Global) -> Result<Changes, AllocError> {
-        apply_edges(
+        push_or_pull(
             alloc,
             &self.apply,
             self.flat,

@@ -2,12 +2,12 @@
 
 use crate::kernels_of::edge_kernel;
 use crate::pair_loops::{add_to_each, join, max_sources, min_entries, min_of_less};
+use apply_options::Reduction;
 use kernels::{Around, Block, EdgeKernel, Shape};
 use measuring::{Job, Random, Turns, print_head, print_row, rmat_edge};
 use std::alloc::{AllocError, Global};
 use std::io;
 use std::io::Error;
-use syntax::Reduction;
 use typed_tree::Sequence;
 use vectors::Vectors;
 

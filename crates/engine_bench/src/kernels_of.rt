@@ -1,17 +1,17 @@
 //! Programs that are given as texts, and the kernels of their functions.
 
-use compiler::compile;
 use kernels::EdgeKernel;
+use run_comparison::checked;
 use std::alloc::Global;
 use std::io;
 use std::io::Error;
 use typed_tree::Typed;
 
-/// The program of a text.
+/// The checked program of a text.
 pub fn compiled(alloc: Global, text: &str) -> io::Result<Typed> {
-    match compile(alloc, text.as_bytes()) {
-        Ok(program) => Ok(program),
-        Err(_) => Err(Error::other("a program is refused")),
+    match checked(alloc, text.as_bytes()) {
+        Some(program) => Ok(program),
+        None => Err(Error::other("a program is refused")),
     }
 }
 

@@ -1,8 +1,8 @@
 //! Loops over pairs that join numbers to the entries of their destinations.
 
 use algorithm_meaning::reduce;
+use apply_options::Reduction;
 use kernels::Gift;
-use syntax::Reduction;
 
 fn entry(numbers: &[i64], vertex: u32) -> i64 {
     numbers.get(vertex as usize).copied().unwrap_or(0)

@@ -1,11 +1,11 @@
 //! Edge applies in pieces, which are done one after another.
 
+use apply_options::Direction;
 use crew::{CrewError, Found, Work};
 use edge_fold::{Gathered, Scratch};
 use flat_snapshot::Flat;
 use pull_engine::PullWork;
 use push_engine::{Apply, PushWork};
-use schedule::Direction;
 use std::alloc::{AllocError, Global};
 use std::io;
 use std::io::Error;

@@ -2,10 +2,11 @@
 
 use crate::run_programs::{PROGRAMS, SEARCHES_AND_LABELS, Scheduled};
 use crate::samples::Sample;
-use algorithm_meaning::{Outcome, plain_run};
+use algorithm_meaning::Outcome;
 use measuring::{Job, Random, Turns, print_head, print_rows, rmat_graph};
-use programs::Program;
-use run_comparison::shows_the_same;
+use plain_run::plain_run;
+use run_comparison::{TestedProgram, shows_the_same};
+use runner::run_alone;
 use std::alloc::{AllocError, Global};
 use std::io;
 use std::io::Error;
@@ -89,7 +90,7 @@ fn print_graph_times(
 
 // A program on a graph.
 struct Run<'a> {
-    program: Program,
+    program: TestedProgram,
     sample: &'a Sample,
 }
 
@@ -107,9 +108,9 @@ impl<'a> Run<'a> {
         let mut text = String::new(alloc);
         text.push_str(scheduled.1)?;
         text.push_str(scheduled.2)?;
-        match Program::compile(alloc, text.as_bytes()) {
-            Ok(program) => Ok(Run { program, sample }),
-            Err(_) => Err(Error::other("a program is refused")),
+        match TestedProgram::of(alloc, text.as_bytes()) {
+            Some(program) => Ok(Run { program, sample }),
+            None => Err(Error::other("a program is refused")),
         }
     }
 
@@ -129,12 +130,12 @@ impl<'a> Run<'a> {
     }
 
     fn by_plan(&self, alloc: Global, turns: u64) -> Result<Outcome, AllocError> {
-        self.program.run(alloc, &self.sample.flat, turns)
+        run_alone(alloc, &self.program.plan, &self.sample.flat, turns)
     }
 
     fn slowly(&self, alloc: Global, turns: u64) -> Result<Outcome, AllocError> {
         let (vertices, edges) = (self.sample.vertices, self.sample.edges.as_slice());
-        plain_run(alloc, self.program.typed(), vertices, edges, turns)
+        plain_run(alloc, &self.program.typed, vertices, edges, turns)
     }
 }
 

@@ -2,8 +2,9 @@
 
 use algorithm_meaning::{End, Outcome};
 use flat_snapshot::Flat;
-use runner::{Job, Stand};
-use std::alloc::Global;
+use runner::{Alone, Job, Stand};
+use std::alloc::{AllocError, Global};
+use std::sync::Arc;
 use std::test::Fail;
 use tree_batch::{Batch, Entry, Graph};
 
@@ -31,11 +32,13 @@ fn fork(alloc: Global) -> Result<Flat, Fail> {
 
 // How a job of a program stands after so many steps on the fork, and what it shows then.
 fn after(alloc: Global, text: &[u8], turns: u64, steps: usize) -> Result<(Stand, Outcome), Fail> {
-    let plan = lowering::compile(alloc, text)?;
-    let mut job = Job::new(alloc, &plan, fork(alloc)?, turns)?;
+    let plan = Arc::new(alloc, compiler::compile(alloc, text)?).map_err(|_| AllocError)?;
+    let graph = Arc::new(alloc, fork(alloc)?).map_err(|_| AllocError)?;
+    let mut job = Job::new(alloc, plan, graph, turns)?;
+    let mut alone = Alone::new(alloc);
     let mut stand = Stand::Going;
     for _step in 0..steps {
-        stand = job.step(alloc)?;
+        stand = job.step(alloc, &mut alone)?;
     }
     let outcome = job.outcome(alloc)?;
     Ok((stand, outcome))

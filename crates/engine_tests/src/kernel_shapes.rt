@@ -1,7 +1,7 @@
 //! Shapes of kernels. That a shape gives what its function means is a contract's; that the common functions have one
 //! is not.
-use compiler::compile;
 use kernels::{EdgeKernel, Shape};
+use run_comparison::checked;
 use std::alloc::Global;
 use std::test::Fail;
 
@@ -15,7 +15,7 @@ fn shape_of(alloc: Global, body: &str) -> Result<Shape, Fail> {
     let text = format!(in alloc;
         "{HEAD}func f(s : Vertex, d : Vertex)\n  {body}\nend\nfunc main()\nend\n"
     )?;
-    let program = compile(alloc, text.as_bytes())?;
+    let program = checked(alloc, text.as_bytes()).ok_or("a program")?;
     let function = program.edge_functions.first().ok_or("a function")?;
     Ok(EdgeKernel::of_function(alloc, function)?.shape())
 }

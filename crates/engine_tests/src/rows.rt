@@ -1,13 +1,14 @@
 //! Applies on small graphs, in every direction and in pieces.
 
-use compiler::compile;
+use apply_options::{DenseVertexSet, Direction, Parallelization};
 use crew::{Found, Work};
 use edge_fold::{Gathered, Scratch};
 use flat_snapshot::Flat;
 use kernels::EdgeKernel;
-use pull_engine::{PullWork, is_pull_cheaper, pull};
+use pull_engine::{PullWork, pull};
 use push_engine::{Apply, PushWork, push};
-use schedule::{DenseVertexSet, Direction, Parallelization};
+use run_comparison::checked;
+use runner::pick_direction;
 use std::alloc::Global;
 use std::io::Error;
 use std::test::Fail;
@@ -60,7 +61,7 @@ fn kernel_of(alloc: Global, body: &str) -> Result<EdgeKernel, Fail> {
         const w : vector{{Vertex}}(int) = 0; const x : vector{{Vertex}}(int) = 0; \
         func give(s : Vertex, d : Vertex) {body} end func main() end"
     )?;
-    let program = compile(alloc, text.as_bytes())?;
+    let program = checked(alloc, text.as_bytes()).ok_or("a program")?;
     first_kernel(alloc, &program)
 }
 
@@ -243,7 +244,8 @@ fn the_hybrid_pulls_from_many_edges(rt: HostRuntime) -> Result<(), Fail> {
     for (source, pulls) in [(0, true), (1, false)] {
         let mut sources = VertexSet::empty(alloc, 50, Form::List)?;
         sources.insert(source)?;
-        assert!(rt; is_pull_cheaper(&flat, &sources) == pulls);
+        let is_pull = pick_direction(&flat, &sources) == Direction::DensePull;
+        assert!(rt; is_pull == pulls);
     }
     Ok(())
 }

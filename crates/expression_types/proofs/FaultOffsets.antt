@@ -9,31 +9,31 @@ use Rattle.syntax.specs.ExpressionTrees as tree
 use Rattle.syntax.specs.ExpressionTrees.{ExpressionTree, ConjunctionTree, ComparisonTree, SumTree, TermTree, UnaryTree, PrimaryTree}
 use Rattle.syntax.specs.ExpressionSpelling.{comparison_terminals, conjunction_terminals, expression_terminals, primary_terminals, sum_terminals, term_terminals, unary_terminals}
 use Rattle.syntax.proofs.Behind.{all_both, all_left, all_right}
-use Rattle.typed_tree.specs.declared.expression.Slot.{Slot}
+use Rattle.typed_tree.specs.declared.expression.VarRef.{VarRef}
 use Rattle.typed_tree.specs.IntegerTree as integer
 use Rattle.typed_tree.specs.IntegerTree.{IntegerTree}
 use Rattle.expression_types.specs.declared.fault.Fault.{Fault}
-use Rattle.expression_types.specs.declared.fault.Rule.{Rule}
-use Rattle.expression_types.specs.declared.fault.Rule.TheVariants as rule
+use Rattle.expression_types.specs.declared.fault.TypeRule.{TypeRule}
+use Rattle.expression_types.specs.declared.fault.TypeRule.TheVariants as rule
 use Rattle.expression_types.specs.declared.scope.Entity.{Entity}
 use Rattle.expression_types.specs.declared.scope.Entity.TheVariants as entity
 use Rattle.expression_types.specs.declared.scope.Inside.{Inside}
 use Rattle.expression_types.specs.declared.scope.Inside.TheVariants as inside
-use Rattle.expression_types.specs.Expression.{as_size, as_vector, comparison_value, conjunction_value, conjuncts, disjuncts, factors, name_value, primary_value, size_of, size_value, sum_value, summands, term_value, unary_value, used, used_as, value_of, vector_at, vector_place}
+use Rattle.expression_types.specs.Expression.{as_size, as_vector, comparison_value, conjunction_value, conjuncts, disjuncts, factors, index_as, index_lacks_value, index_value, name_value, no_vertex, primary_value, size_of, size_value, sum_value, summands, term_value, unary_value, used, used_as, value_of, vector_at, vector_place}
 use Rattle.expression_types.specs.Names.{found}
-use Rattle.expression_types.specs.Noted.{Noted, fault_at, sure}
-use Rattle.expression_types.specs.Operators.{IntegersTree, Integers, MixedIntegers, FaultyIntegers, ConditionsTree, Conditions, MixedConditions, FaultyConditions, condition_index, entry_value, first_condition, first_integer, function_entry, given, grouped_conditions, grouped_integers, integer_index, main_entry, related_value, signed_value}
+use Rattle.expression_types.specs.WithFaults.{WithFaults, fault_at, sure}
+use Rattle.expression_types.specs.Operators.{IntegersTree, Integers, MixedIntegers, ErrorIntegers, ConditionsTree, Conditions, MixedConditions, ErrorConditions, condition_index, entry_value, first_condition, first_integer, function_entry, given, grouped_conditions, grouped_integers, integer_index, main_entry, related_value, signed_value}
 use Rattle.expression_types.specs.ScopeTree.{ScopeTree, declared, declared_over}
-use Rattle.expression_types.specs.ValueTree.{ValueTree, Integer, Condition, Vertex, Set, Faulty, condition_reads_entry, named_set, named_value, named_vector, reads_entry}
+use Rattle.expression_types.specs.ValueTree.{ValueTree, Integer, Condition, Vertex, Set, ErrorValue, condition_reads_entry, named_set, named_value, named_vector, reads_entry}
 
 -- P holds of the offset of each fault
-abbrev pub FaultsStand : {A : Type 0} → (ℕ → Type 0) → Noted A → Type 0
+abbrev pub FaultsStand : {A : Type 0} → (ℕ → Type 0) → WithFaults A → Type 0
 FaultsStand P m = AllByRecursion (λ f. P f.at) m.faults
 
 pub both_stand : (P : ℕ → Type 0) (fs gs : List Fault) → AllByRecursion (λ f. P f.at) fs → AllByRecursion (λ f. P f.at) gs → AllByRecursion (λ f. P f.at) (fs ++ gs)
 both_stand P fs gs first second = all_both (λ f. P f.at) fs gs first second
 
-pub if_stand : {A : Type 0} (P : ℕ → Type 0) (b : Bool) (x y : Noted A) → FaultsStand P x → FaultsStand P y → FaultsStand P (if b then x else y)
+pub if_stand : {A : Type 0} (P : ℕ → Type 0) (b : Bool) (x y : WithFaults A) → FaultsStand P x → FaultsStand P y → FaultsStand P (if b then x else y)
 if_stand P true x y first second = first
 if_stand P false x y first second = second
 
@@ -53,19 +53,19 @@ pub declared_stands : (P : ℕ → Type 0) (name : Identifier) (e : Entity) (sco
 declared_stands P name e scope there = declared_over_stands P (found name.bytes scope.visible) name e scope there
 
 -- values
-given_stands : (P : ℕ → Type 0) (at : ℕ) (rule : Rule) (o : Option ValueTree) → P at → FaultsStand P (given at rule o)
+given_stands : (P : ℕ → Type 0) (at : ℕ) (rule : TypeRule) (o : Option ValueTree) → P at → FaultsStand P (given at rule o)
 given_stands P at rule None here = (here, tt)
 given_stands P at rule (Some v) here = tt
 
 integers_stand : (P : ℕ → Type 0) (at : ℕ) (x : IntegersTree) → P at → FaultsStand P (grouped_integers at x)
 integers_stand P at (Integers e) here = tt
 integers_stand P at MixedIntegers here = (here, tt)
-integers_stand P at FaultyIntegers here = tt
+integers_stand P at ErrorIntegers here = tt
 
 conditions_stand : (P : ℕ → Type 0) (at : ℕ) (x : ConditionsTree) → P at → FaultsStand P (grouped_conditions at x)
 conditions_stand P at (Conditions c) here = tt
 conditions_stand P at MixedConditions here = (here, tt)
-conditions_stand P at FaultyConditions here = tt
+conditions_stand P at ErrorConditions here = tt
 
 name_stands : (P : ℕ → Type 0) (scope : ScopeTree) (at : ℕ) (name : Identifier) → P at → P name.at → FaultsStand P (name_value scope at name)
 name_stands P scope at name here there =
@@ -76,19 +76,19 @@ vector_at_stands P at None here = (here, tt)
 vector_at_stands P at (Some place) here = tt
 
 as_vector_stands : (P : ℕ → Type 0) (at : ℕ) (e : Entity) → P at → FaultsStand P (as_vector at e)
-as_vector_stands P at entity.Unclear here = tt
+as_vector_stands P at entity.Error here = tt
 as_vector_stands P at e here = vector_at_stands P at (named_vector e) here
 
 pub vector_stands : (P : ℕ → Type 0) (scope : ScopeTree) (at : ℕ) (name : Identifier) → P at → P name.at → FaultsStand P (vector_place scope at name)
 vector_stands P scope at name here there =
     let e = used scope name in both_stand P e.faults _ (used_stands P scope name there) (as_vector_stands P at e.value here)
 
-size_of_stands : (P : ℕ → Type 0) (at : ℕ) (o : Option Slot) → P at → FaultsStand P (size_of at o)
+size_of_stands : (P : ℕ → Type 0) (at : ℕ) (o : Option VarRef) → P at → FaultsStand P (size_of at o)
 size_of_stands P at None here = (here, tt)
 size_of_stands P at (Some slot) here = tt
 
 as_size_stands : (P : ℕ → Type 0) (at : ℕ) (e : Entity) → P at → FaultsStand P (as_size at e)
-as_size_stands P at entity.Unclear here = tt
+as_size_stands P at entity.Error here = tt
 as_size_stands P at e here = size_of_stands P at (named_set e) here
 
 size_stands : (P : ℕ → Type 0) (scope : ScopeTree) (at : ℕ) (name : Identifier) → P at → P name.at → FaultsStand P (size_value scope at name)
@@ -98,7 +98,7 @@ size_stands P scope at name here there =
 -- entries
 integer_index_stands : (P : ℕ → Type 0) (at vector : ℕ) (e : IntegerTree) → P at → FaultsStand P (integer_index at vector e)
 integer_index_stands P at vector e here =
-    if_stand P (reads_entry e) (fault_at at rule.WrongIndex Faulty) (sure (Integer (integer.Entry vector e))) (here, tt) tt
+    if_stand P (reads_entry e) (fault_at at rule.WrongIndex ErrorValue) (sure (Integer (integer.Entry vector e))) (here, tt) tt
 
 condition_index_stands : (P : ℕ → Type 0) (at : ℕ) (b : Bool) → P at → FaultsStand P (condition_index at b)
 condition_index_stands P at true here = (here, (here, tt))
@@ -109,14 +109,14 @@ main_entry_stands P at vector (Integer e) here = integer_index_stands P at vecto
 main_entry_stands P at vector (Condition c) here = condition_index_stands P at (condition_reads_entry c) here
 main_entry_stands P at vector (Vertex p) here = integer_index_stands P at vector (integer.Parameter p) here
 main_entry_stands P at vector (Set slot) here = (here, tt)
-main_entry_stands P at vector Faulty here = tt
+main_entry_stands P at vector ErrorValue here = tt
 
 function_entry_stands : (P : ℕ → Type 0) (at vector : ℕ) (v : ValueTree) → P at → FaultsStand P (function_entry at vector v)
 function_entry_stands P at vector (Integer e) here = (here, tt)
 function_entry_stands P at vector (Condition c) here = (here, tt)
 function_entry_stands P at vector (Vertex p) here = tt
 function_entry_stands P at vector (Set slot) here = (here, tt)
-function_entry_stands P at vector Faulty here = tt
+function_entry_stands P at vector ErrorValue here = tt
 
 entry_stands : (P : ℕ → Type 0) (where_it_is : Inside) (at : ℕ) (vector : Option ℕ) (v : ValueTree) → P at → FaultsStand P (entry_value where_it_is at vector v)
 entry_stands P where_it_is at None v here = tt
@@ -124,6 +124,9 @@ entry_stands P inside.Main at (Some vector) v here = main_entry_stands P at vect
 entry_stands P inside.EdgeFunction at (Some vector) v here = function_entry_stands P at vector v here
 entry_stands P inside.VertexFunction at (Some vector) v here = function_entry_stands P at vector v here
 entry_stands P inside.Filter at (Some vector) v here = function_entry_stands P at vector v here
+
+pub index_stands : (P : ℕ → Type 0) (scope : ScopeTree) (index : ExpressionTree) (value : WithFaults ValueTree) → FaultsStand P value → FaultsStand P (index_as scope index value)
+index_stands P scope index value stand = if_stand P (index_lacks_value scope.inside scope index) (sure no_vertex) value tt stand
 
 -- before and behind an operator
 before : (P : ℕ → Type 0) (xs : List Terminal) (w : Terminal) (ys : List Terminal) → StandWhere P (xs ++ w ∷ ys) → StandWhere P xs
@@ -228,9 +231,9 @@ mutual
   primary_stands P scope at (tree.Variable name) here all = name_stands P scope at name here all.0
   primary_stands P scope at (tree.Entry name index) here all =
       let vector = vector_place scope at name in
-      let v = value_of scope at index in
+      let v = index_value scope at index in
       both_stand P vector.faults _ (vector_stands P scope at name here all.0)
-      (both_stand P v.faults _ (value_stands P scope at index here (before P (expression_terminals index) _ _ all.1.1))
+      (both_stand P v.faults _ (index_stands P scope index (value_of scope at index) (value_stands P scope at index here (before P (expression_terminals index) _ _ all.1.1)))
       (entry_stands P scope.inside at vector.value v.value here))
   primary_stands P scope at (tree.Size name) here all = size_stands P scope at name here all.0
   primary_stands P scope at (tree.Parentheses inside) here all = value_stands P scope at inside here (before P (expression_terminals inside) _ _ all.1)

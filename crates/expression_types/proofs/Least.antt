@@ -9,6 +9,6 @@ stays first [] = refl
 stays first (f ∷ faults) = stays (earlier (Some first) f) faults
 
 -- where none is noted in the end there was none
-pub none_noted : (faults : List Fault) → least_of None faults ≡ None → faults ≡ []
-none_noted [] none = refl
-none_noted (f ∷ faults) none = absurd (true≢false (sym (stays f faults) ∙ ap is_some none))
+pub none_told : (faults : List Fault) → least_of None faults ≡ None → faults ≡ []
+none_told [] none = refl
+none_told (f ∷ faults) none = absurd (true≢false (sym (stays f faults) ∙ ap is_some none))

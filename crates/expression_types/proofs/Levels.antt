@@ -12,14 +12,14 @@ use Rattle.syntax.specs.ExpressionTrees.{ConjunctionTree, ComparisonTree, TermTr
 use Rattle.typed_tree.specs.declared.expression.Connective.TheVariants as connective
 use Rattle.expression_types.specs.declared.fault.Fault.{Fault}
 use Rattle.expression_types.specs.Expression.{value_of, disjuncts, conjunction_value, conjuncts, comparison_value, sum_value, summands, term_value, factors, unary_value}
-use Rattle.expression_types.specs.Noted.{Noted, sure, outcome, ◌>>=◌}
+use Rattle.expression_types.specs.WithFaults.{WithFaults, sure, outcome, ◌>>=◌}
 use Rattle.expression_types.specs.Operators.{added, multiplied, IntegersTree, ConditionsTree, first_integer, first_condition, beside_integer, beside_condition, grouped_integers, grouped_conditions}
 use Rattle.expression_types.specs.ScopeTree.{ScopeTree}
 use Rattle.expression_types.specs.ValueTree.{ValueTree}
-use Rattle.expression_types.proofs.Steps.{row, row_first, then_noted}
+use Rattle.expression_types.proofs.Steps.{row, row_first, outcome_then}
 
 -- one operand more of a level
-abbrev pub sum_step : ScopeTree → ℕ → IntegersTree → Addition × Term → Noted IntegersTree
+abbrev pub sum_step : ScopeTree → ℕ → IntegersTree → Addition × Term → WithFaults IntegersTree
 sum_step scope at left m = term_value scope at (term_of m.1) >>= λ v. sure (beside_integer (added m.0) left (first_integer v))
 
 summands_row : (scope : ScopeTree) (at : ℕ) (left : IntegersTree) (o : Addition) (first : TermTree) (more : List (Addition × Term))
@@ -38,12 +38,12 @@ pub sum_begins : (scope : ScopeTree) (at : ℕ) (first : TermTree) (more : List 
     ≡ outcome new (row (sum_step scope at) (first_integer v) more >>= grouped_integers at)
 sum_begins scope at first [] old new v some is = absurd (true≢false some)
 sum_begins scope at first (m ∷ more) old new v some is =
-    then_noted old new (term_value scope at first) v (λ v. summands scope at (first_integer v) m.0 (sum_from (term_of m.1) (map (λ m. (m.0, term_of m.1)) more)) >>= grouped_integers at) is
+    outcome_then old new (term_value scope at first) v (λ v. summands scope at (first_integer v) m.0 (sum_from (term_of m.1) (map (λ m. (m.0, term_of m.1)) more)) >>= grouped_integers at) is
     ∙ ap (λ n. outcome new (n >>= grouped_integers at)) (summands_row scope at (first_integer v) m.0 (term_of m.1) more
     ∙ row_first (term_value scope at (term_of m.1)) (λ w. beside_integer (added m.0) (first_integer v) (first_integer w)) (sum_step scope at) more)
 
 -- one operand more of a level
-abbrev pub term_step : ScopeTree → ℕ → IntegersTree → Multiplication × Unary → Noted IntegersTree
+abbrev pub term_step : ScopeTree → ℕ → IntegersTree → Multiplication × Unary → WithFaults IntegersTree
 term_step scope at left m = unary_value scope at (unary_of m.1) >>= λ v. sure (beside_integer (multiplied m.0) left (first_integer v))
 
 factors_row : (scope : ScopeTree) (at : ℕ) (left : IntegersTree) (o : Multiplication) (first : UnaryTree) (more : List (Multiplication × Unary))
@@ -62,12 +62,12 @@ pub term_begins : (scope : ScopeTree) (at : ℕ) (first : UnaryTree) (more : Lis
     ≡ outcome new (row (term_step scope at) (first_integer v) more >>= grouped_integers at)
 term_begins scope at first [] old new v some is = absurd (true≢false some)
 term_begins scope at first (m ∷ more) old new v some is =
-    then_noted old new (unary_value scope at first) v (λ v. factors scope at (first_integer v) m.0 (term_from (unary_of m.1) (map (λ m. (m.0, unary_of m.1)) more)) >>= grouped_integers at) is
+    outcome_then old new (unary_value scope at first) v (λ v. factors scope at (first_integer v) m.0 (term_from (unary_of m.1) (map (λ m. (m.0, unary_of m.1)) more)) >>= grouped_integers at) is
     ∙ ap (λ n. outcome new (n >>= grouped_integers at)) (factors_row scope at (first_integer v) m.0 (unary_of m.1) more
     ∙ row_first (unary_value scope at (unary_of m.1)) (λ w. beside_integer (multiplied m.0) (first_integer v) (first_integer w)) (term_step scope at) more)
 
 -- one operand more of a level
-abbrev pub conjunction_step : ScopeTree → ℕ → ConditionsTree → Comparison → Noted ConditionsTree
+abbrev pub conjunction_step : ScopeTree → ℕ → ConditionsTree → Comparison → WithFaults ConditionsTree
 conjunction_step scope at left m = comparison_value scope at (comparison_of m) >>= λ v. sure (beside_condition connective.And left (first_condition v))
 
 conjuncts_row : (scope : ScopeTree) (at : ℕ) (left : ConditionsTree) (first : ComparisonTree) (more : List Comparison)
@@ -85,12 +85,12 @@ pub conjunction_begins : (scope : ScopeTree) (at : ℕ) (first : ComparisonTree)
     ≡ outcome new (row (conjunction_step scope at) (first_condition v) more >>= grouped_conditions at)
 conjunction_begins scope at first [] old new v some is = absurd (true≢false some)
 conjunction_begins scope at first (m ∷ more) old new v some is =
-    then_noted old new (comparison_value scope at first) v (λ v. conjuncts scope at (first_condition v) (conjunction_from (comparison_of m) (map comparison_of more)) >>= grouped_conditions at) is
+    outcome_then old new (comparison_value scope at first) v (λ v. conjuncts scope at (first_condition v) (conjunction_from (comparison_of m) (map comparison_of more)) >>= grouped_conditions at) is
     ∙ ap (λ n. outcome new (n >>= grouped_conditions at)) (conjuncts_row scope at (first_condition v) (comparison_of m) more
     ∙ row_first (comparison_value scope at (comparison_of m)) (λ w. beside_condition connective.And (first_condition v) (first_condition w)) (conjunction_step scope at) more)
 
 -- one operand more of a level
-abbrev pub expression_step : ScopeTree → ℕ → ConditionsTree → Conjunction → Noted ConditionsTree
+abbrev pub expression_step : ScopeTree → ℕ → ConditionsTree → Conjunction → WithFaults ConditionsTree
 expression_step scope at left m = conjunction_value scope at (conjunction_of m) >>= λ v. sure (beside_condition connective.Or left (first_condition v))
 
 disjuncts_row : (scope : ScopeTree) (at : ℕ) (left : ConditionsTree) (first : ConjunctionTree) (more : List Conjunction)
@@ -108,7 +108,7 @@ pub expression_begins : (scope : ScopeTree) (at : ℕ) (first : ConjunctionTree)
     ≡ outcome new (row (expression_step scope at) (first_condition v) more >>= grouped_conditions at)
 expression_begins scope at first [] old new v some is = absurd (true≢false some)
 expression_begins scope at first (m ∷ more) old new v some is =
-    then_noted old new (conjunction_value scope at first) v (λ v. disjuncts scope at (first_condition v) (expression_from (conjunction_of m) (map conjunction_of more)) >>= grouped_conditions at) is
+    outcome_then old new (conjunction_value scope at first) v (λ v. disjuncts scope at (first_condition v) (expression_from (conjunction_of m) (map conjunction_of more)) >>= grouped_conditions at) is
     ∙ ap (λ n. outcome new (n >>= grouped_conditions at)) (disjuncts_row scope at (first_condition v) (conjunction_of m) more
     ∙ row_first (conjunction_value scope at (conjunction_of m)) (λ w. beside_condition connective.Or (first_condition v) (first_condition w)) (expression_step scope at) more)
 

@@ -3,6 +3,7 @@ pub mod FaultOffsets
 pub mod Least
 pub mod LeastLaws
 pub mod Levels
+pub mod LoneOperands
 pub mod NamesLaws
 pub mod OperandLaws
 pub mod SignLaws

@@ -6,22 +6,22 @@ use Rattle.syntax.specs.declared.operators.Prefix.TheVariants as prefix
 use Rattle.syntax.specs.ExpressionTrees.{PrimaryTree, Bare}
 use Rattle.syntax.specs.ExpressionViews.{behind}
 use Rattle.typed_tree.specs.declared.expression.Endpoint.{Endpoint}
-use Rattle.typed_tree.specs.declared.expression.Slot.{Slot}
+use Rattle.typed_tree.specs.declared.expression.VarRef.{VarRef}
 use Rattle.typed_tree.specs.ConditionTree.{ConditionTree, turned}
 use Rattle.typed_tree.specs.IntegerTree.{IntegerTree, Parameter, negated}
 use Rattle.expression_types.specs.declared.fault.Fault.{Fault}
-use Rattle.expression_types.specs.declared.fault.Rule.TheVariants as rule
+use Rattle.expression_types.specs.declared.fault.TypeRule.TheVariants as rule
 use Rattle.expression_types.specs.Faults.{earlier}
-use Rattle.expression_types.specs.Noted.{Noted, sure, fault_at, outcome, ◌>>=◌}
+use Rattle.expression_types.specs.WithFaults.{WithFaults, sure, fault_at, outcome, ◌>>=◌}
 use Rattle.expression_types.specs.Operators.{given, signed_value}
 use Rattle.expression_types.specs.Expression.{unary_value, primary_value}
 use Rattle.expression_types.specs.ScopeTree.{ScopeTree}
 use Rattle.expression_types.proofs.Steps.{bind-sure, bind-bind}
 use Rattle.expression_types.specs.Signs.{signs_value, all_minus, all_not}
-use Rattle.expression_types.specs.ValueTree.{ValueTree, Integer, Condition, Vertex, Set, Faulty, is_faulty, is_condition, as_integer, as_condition}
+use Rattle.expression_types.specs.ValueTree.{ValueTree, Integer, Condition, Vertex, Set, ErrorValue, is_error, is_condition, as_integer, as_condition}
 
 -- one sign more
-abbrev signed : ℕ → Prefix → Noted ValueTree → Noted ValueTree
+abbrev signed : ℕ → Prefix → WithFaults ValueTree → WithFaults ValueTree
 signed at sign m = m >>= λ v. given at rule.WrongType (signed_value sign v)
 
 nots : (at : ℕ) (signs : List Prefix) (c : ConditionTree) → all_not signs ≡ true → signs_value at signs (Condition c) ≡ sure (Condition (turned (length signs) c))
@@ -30,12 +30,12 @@ nots at (prefix.Not ∷ signs) c all = ap (signed at prefix.Not) (nots at signs 
 nots at (prefix.Minus ∷ signs) c all = absurd (false≢true all)
 
 minus_on_condition : (at : ℕ) (signs : List Prefix) (c : ConditionTree) (all : Bool) → all_not signs ≡ all
-    → (all_not signs ≡ false → signs_value at signs (Condition c) ≡ fault_at at rule.WrongType Faulty)
-    → signs_value at (prefix.Minus ∷ signs) (Condition c) ≡ fault_at at rule.WrongType Faulty
+    → (all_not signs ≡ false → signs_value at signs (Condition c) ≡ fault_at at rule.WrongType ErrorValue)
+    → signs_value at (prefix.Minus ∷ signs) (Condition c) ≡ fault_at at rule.WrongType ErrorValue
 minus_on_condition at signs c true is misses = ap (signed at prefix.Minus) (nots at signs c is)
 minus_on_condition at signs c false is misses = ap (signed at prefix.Minus) (misses is)
 
-not_nots : (at : ℕ) (signs : List Prefix) (c : ConditionTree) → all_not signs ≡ false → signs_value at signs (Condition c) ≡ fault_at at rule.WrongType Faulty
+not_nots : (at : ℕ) (signs : List Prefix) (c : ConditionTree) → all_not signs ≡ false → signs_value at signs (Condition c) ≡ fault_at at rule.WrongType ErrorValue
 not_nots at [] c some = absurd (true≢false some)
 not_nots at (prefix.Not ∷ signs) c some = ap (signed at prefix.Not) (not_nots at signs c some)
 not_nots at (prefix.Minus ∷ signs) c some = minus_on_condition at signs c (all_not signs) refl (λ is. not_nots at signs c is)
@@ -46,12 +46,12 @@ minuses at (prefix.Minus ∷ signs) e all = ap (signed at prefix.Minus) (minuses
 minuses at (prefix.Not ∷ signs) e all = absurd (false≢true all)
 
 not_on_integer : (at : ℕ) (signs : List Prefix) (e : IntegerTree) (all : Bool) → all_minus signs ≡ all
-    → (all_minus signs ≡ false → signs_value at signs (Integer e) ≡ fault_at at rule.WrongType Faulty)
-    → signs_value at (prefix.Not ∷ signs) (Integer e) ≡ fault_at at rule.WrongType Faulty
+    → (all_minus signs ≡ false → signs_value at signs (Integer e) ≡ fault_at at rule.WrongType ErrorValue)
+    → signs_value at (prefix.Not ∷ signs) (Integer e) ≡ fault_at at rule.WrongType ErrorValue
 not_on_integer at signs e true is misses = ap (signed at prefix.Not) (minuses at signs e is)
 not_on_integer at signs e false is misses = ap (signed at prefix.Not) (misses is)
 
-not_minuses : (at : ℕ) (signs : List Prefix) (e : IntegerTree) → all_minus signs ≡ false → signs_value at signs (Integer e) ≡ fault_at at rule.WrongType Faulty
+not_minuses : (at : ℕ) (signs : List Prefix) (e : IntegerTree) → all_minus signs ≡ false → signs_value at signs (Integer e) ≡ fault_at at rule.WrongType ErrorValue
 not_minuses at [] e some = absurd (true≢false some)
 not_minuses at (prefix.Minus ∷ signs) e some = ap (signed at prefix.Minus) (not_minuses at signs e some)
 not_minuses at (prefix.Not ∷ signs) e some = not_on_integer at signs e (all_minus signs) refl (λ is. not_minuses at signs e is)
@@ -63,80 +63,80 @@ as_number at prefix.Minus [] p = refl
 as_number at prefix.Not [] p = refl
 as_number at sign (s ∷ signs) p = ap (signed at sign) (as_number at s signs p)
 
-on_set : (at : ℕ) (sign : Prefix) (signs : List Prefix) (slot : Slot) → signs_value at (sign ∷ signs) (Set slot) ≡ fault_at at rule.WrongType Faulty
+on_set : (at : ℕ) (sign : Prefix) (signs : List Prefix) (slot : VarRef) → signs_value at (sign ∷ signs) (Set slot) ≡ fault_at at rule.WrongType ErrorValue
 on_set at prefix.Minus [] slot = refl
 on_set at prefix.Not [] slot = refl
 on_set at prefix.Minus (s ∷ signs) slot = ap (signed at prefix.Minus) (on_set at s signs slot)
 on_set at prefix.Not (s ∷ signs) slot = ap (signed at prefix.Not) (on_set at s signs slot)
 
-on_faulty : (at : ℕ) (signs : List Prefix) → signs_value at signs Faulty ≡ sure Faulty
-on_faulty at [] = refl
-on_faulty at (prefix.Minus ∷ signs) = ap (signed at prefix.Minus) (on_faulty at signs)
-on_faulty at (prefix.Not ∷ signs) = ap (signed at prefix.Not) (on_faulty at signs)
+on_error : (at : ℕ) (signs : List Prefix) → signs_value at signs ErrorValue ≡ sure ErrorValue
+on_error at [] = refl
+on_error at (prefix.Minus ∷ signs) = ap (signed at prefix.Minus) (on_error at signs)
+on_error at (prefix.Not ∷ signs) = ap (signed at prefix.Not) (on_error at signs)
 
 -- a fault of a type, where others were noted before
 abbrev pub wrong : ℕ → Option Fault → Option Fault
-wrong at noted = Some (earlier noted (record { at = at; rule = rule.WrongType }))
+wrong at first_fault = Some (earlier first_fault (record { at = at; rule = rule.WrongType }))
 
-pub faulty_stays : (at : ℕ) (noted : Option Fault) (signs : List Prefix) (v : ValueTree) → is_faulty v ≡ true
-    → outcome noted (signs_value at signs v) ≡ (v, noted)
-faulty_stays at noted signs (Integer e) is = absurd (false≢true is)
-faulty_stays at noted signs (Condition c) is = absurd (false≢true is)
-faulty_stays at noted signs (Vertex p) is = absurd (false≢true is)
-faulty_stays at noted signs (Set slot) is = absurd (false≢true is)
-faulty_stays at noted signs Faulty is = ap (outcome noted) (on_faulty at signs)
+pub error_stays : (at : ℕ) (first_fault : Option Fault) (signs : List Prefix) (v : ValueTree) → is_error v ≡ true
+    → outcome first_fault (signs_value at signs v) ≡ (v, first_fault)
+error_stays at first_fault signs (Integer e) is = absurd (false≢true is)
+error_stays at first_fault signs (Condition c) is = absurd (false≢true is)
+error_stays at first_fault signs (Vertex p) is = absurd (false≢true is)
+error_stays at first_fault signs (Set slot) is = absurd (false≢true is)
+error_stays at first_fault signs ErrorValue is = ap (outcome first_fault) (on_error at signs)
 
-pub condition_turned : (at : ℕ) (noted : Option Fault) (signs : List Prefix) (v : ValueTree) (c : ConditionTree) → Some c ≡ as_condition v → all_not signs ≡ true
-    → outcome noted (signs_value at signs v) ≡ (Condition (turned (length signs) c), noted)
-condition_turned at noted signs (Integer e) c is all = cc
-condition_turned at noted signs (Condition d) c is all =
-    ap (outcome noted) (nots at signs d all) ∙ ap (λ d. (Condition (turned (length signs) d), noted)) (let h : d ≡ c = cc in h)
-condition_turned at noted signs (Vertex p) c is all = cc
-condition_turned at noted signs (Set slot) c is all = cc
-condition_turned at noted signs Faulty c is all = cc
+pub condition_turned : (at : ℕ) (first_fault : Option Fault) (signs : List Prefix) (v : ValueTree) (c : ConditionTree) → Some c ≡ as_condition v → all_not signs ≡ true
+    → outcome first_fault (signs_value at signs v) ≡ (Condition (turned (length signs) c), first_fault)
+condition_turned at first_fault signs (Integer e) c is all = cc
+condition_turned at first_fault signs (Condition d) c is all =
+    ap (outcome first_fault) (nots at signs d all) ∙ ap (λ d. (Condition (turned (length signs) d), first_fault)) (let h : d ≡ c = cc in h)
+condition_turned at first_fault signs (Vertex p) c is all = cc
+condition_turned at first_fault signs (Set slot) c is all = cc
+condition_turned at first_fault signs ErrorValue c is all = cc
 
-pub condition_misses : (at : ℕ) (noted : Option Fault) (signs : List Prefix) (v : ValueTree) (c : ConditionTree) → Some c ≡ as_condition v → all_not signs ≡ false
-    → outcome noted (signs_value at signs v) ≡ (Faulty, wrong at noted)
-condition_misses at noted signs (Integer e) c is some = cc
-condition_misses at noted signs (Condition d) c is some = ap (outcome noted) (not_nots at signs d some)
-condition_misses at noted signs (Vertex p) c is some = cc
-condition_misses at noted signs (Set slot) c is some = cc
-condition_misses at noted signs Faulty c is some = cc
+pub condition_misses : (at : ℕ) (first_fault : Option Fault) (signs : List Prefix) (v : ValueTree) (c : ConditionTree) → Some c ≡ as_condition v → all_not signs ≡ false
+    → outcome first_fault (signs_value at signs v) ≡ (ErrorValue, wrong at first_fault)
+condition_misses at first_fault signs (Integer e) c is some = cc
+condition_misses at first_fault signs (Condition d) c is some = ap (outcome first_fault) (not_nots at signs d some)
+condition_misses at first_fault signs (Vertex p) c is some = cc
+condition_misses at first_fault signs (Set slot) c is some = cc
+condition_misses at first_fault signs ErrorValue c is some = cc
 
-pub integer_negated : (at : ℕ) (noted : Option Fault) (signs : List Prefix) (v : ValueTree) (e : IntegerTree) → signs ≢ [] → Some e ≡ as_integer v → all_minus signs ≡ true
-    → outcome noted (signs_value at signs v) ≡ (Integer (negated (length signs) e), noted)
-integer_negated at noted [] v e some is all = absurd (some refl)
-integer_negated at noted (s ∷ signs) (Integer d) e some is all =
-    ap (outcome noted) (minuses at (s ∷ signs) d all) ∙ ap (λ d. (Integer (negated (length (s ∷ signs)) d), noted)) (let h : d ≡ e = cc in h)
-integer_negated at noted (s ∷ signs) (Condition c) e some is all = cc
-integer_negated at noted (s ∷ signs) (Vertex p) e some is all =
-    ap (outcome noted) (as_number at s signs p ∙ minuses at (s ∷ signs) (Parameter p) all)
-    ∙ ap (λ d. (Integer (negated (length (s ∷ signs)) d), noted)) (let h : Parameter p ≡ e = cc in h)
-integer_negated at noted (s ∷ signs) (Set slot) e some is all = cc
-integer_negated at noted (s ∷ signs) Faulty e some is all = cc
+pub integer_negated : (at : ℕ) (first_fault : Option Fault) (signs : List Prefix) (v : ValueTree) (e : IntegerTree) → signs ≢ [] → Some e ≡ as_integer v → all_minus signs ≡ true
+    → outcome first_fault (signs_value at signs v) ≡ (Integer (negated (length signs) e), first_fault)
+integer_negated at first_fault [] v e some is all = absurd (some refl)
+integer_negated at first_fault (s ∷ signs) (Integer d) e some is all =
+    ap (outcome first_fault) (minuses at (s ∷ signs) d all) ∙ ap (λ d. (Integer (negated (length (s ∷ signs)) d), first_fault)) (let h : d ≡ e = cc in h)
+integer_negated at first_fault (s ∷ signs) (Condition c) e some is all = cc
+integer_negated at first_fault (s ∷ signs) (Vertex p) e some is all =
+    ap (outcome first_fault) (as_number at s signs p ∙ minuses at (s ∷ signs) (Parameter p) all)
+    ∙ ap (λ d. (Integer (negated (length (s ∷ signs)) d), first_fault)) (let h : Parameter p ≡ e = cc in h)
+integer_negated at first_fault (s ∷ signs) (Set slot) e some is all = cc
+integer_negated at first_fault (s ∷ signs) ErrorValue e some is all = cc
 
-pub integer_misses : (at : ℕ) (noted : Option Fault) (signs : List Prefix) (v : ValueTree) (e : IntegerTree) → signs ≢ [] → Some e ≡ as_integer v → all_minus signs ≡ false
-    → outcome noted (signs_value at signs v) ≡ (Faulty, wrong at noted)
-integer_misses at noted [] v e some is missing = absurd (some refl)
-integer_misses at noted (s ∷ signs) (Integer d) e some is missing = ap (outcome noted) (not_minuses at (s ∷ signs) d missing)
-integer_misses at noted (s ∷ signs) (Condition c) e some is missing = cc
-integer_misses at noted (s ∷ signs) (Vertex p) e some is missing =
-    ap (outcome noted) (as_number at s signs p ∙ not_minuses at (s ∷ signs) (Parameter p) missing)
-integer_misses at noted (s ∷ signs) (Set slot) e some is missing = cc
-integer_misses at noted (s ∷ signs) Faulty e some is missing = cc
+pub integer_misses : (at : ℕ) (first_fault : Option Fault) (signs : List Prefix) (v : ValueTree) (e : IntegerTree) → signs ≢ [] → Some e ≡ as_integer v → all_minus signs ≡ false
+    → outcome first_fault (signs_value at signs v) ≡ (ErrorValue, wrong at first_fault)
+integer_misses at first_fault [] v e some is missing = absurd (some refl)
+integer_misses at first_fault (s ∷ signs) (Integer d) e some is missing = ap (outcome first_fault) (not_minuses at (s ∷ signs) d missing)
+integer_misses at first_fault (s ∷ signs) (Condition c) e some is missing = cc
+integer_misses at first_fault (s ∷ signs) (Vertex p) e some is missing =
+    ap (outcome first_fault) (as_number at s signs p ∙ not_minuses at (s ∷ signs) (Parameter p) missing)
+integer_misses at first_fault (s ∷ signs) (Set slot) e some is missing = cc
+integer_misses at first_fault (s ∷ signs) ErrorValue e some is missing = cc
 
-pub other_misses : (at : ℕ) (noted : Option Fault) (signs : List Prefix) (v : ValueTree) → signs ≢ [] → is_faulty v ≡ false → is_condition v ≡ false
-    → None ≡ as_integer v → outcome noted (signs_value at signs v) ≡ (Faulty, wrong at noted)
-other_misses at noted [] v some sound not none = absurd (some refl)
-other_misses at noted (s ∷ signs) (Integer d) some sound not none = cc
-other_misses at noted (s ∷ signs) (Condition c) some sound not none = absurd (true≢false not)
-other_misses at noted (s ∷ signs) (Vertex p) some sound not none = cc
-other_misses at noted (s ∷ signs) (Set slot) some sound not none = ap (outcome noted) (on_set at s signs slot)
-other_misses at noted (s ∷ signs) Faulty some sound not none = absurd (true≢false sound)
+pub other_misses : (at : ℕ) (first_fault : Option Fault) (signs : List Prefix) (v : ValueTree) → signs ≢ [] → is_error v ≡ false → is_condition v ≡ false
+    → None ≡ as_integer v → outcome first_fault (signs_value at signs v) ≡ (ErrorValue, wrong at first_fault)
+other_misses at first_fault [] v some sound not none = absurd (some refl)
+other_misses at first_fault (s ∷ signs) (Integer d) some sound not none = cc
+other_misses at first_fault (s ∷ signs) (Condition c) some sound not none = absurd (true≢false not)
+other_misses at first_fault (s ∷ signs) (Vertex p) some sound not none = cc
+other_misses at first_fault (s ∷ signs) (Set slot) some sound not none = ap (outcome first_fault) (on_set at s signs slot)
+other_misses at first_fault (s ∷ signs) ErrorValue some sound not none = absurd (true≢false sound)
 
 -- the value and what is noted, under other names
 pub named_so : {A B : Type 0} {m : A × B} {x y : A} {n k : B} → m ≡ (x, n) → y ≡ x → k ≡ n → m ≡ (y, k)
-named_so is value noted = is ∙ (λ i. (sym value i, sym noted i))
+named_so is value first_fault = is ∙ (λ i. (sym value i, sym first_fault i))
 
 -- a list that a test says is not empty
 pub not_empty : {signs : List Prefix} → (length signs == 0) ≡ false → signs ≢ []

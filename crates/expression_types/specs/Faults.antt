@@ -1,10 +1,10 @@
 -- Faults, and which of several is told.
 use Rattle.std.specs.Prelude.{ℕ, Bool, ◌&&◌, ◌||◌, nat_lt, ◌==◌, if◌then◌else◌, List, [], ◌∷◌, Option, Some, None}
 use Rattle.expression_types.specs.declared.fault.Fault.{Fault}
-use Rattle.expression_types.specs.declared.fault.Rule.{Rule}
-use Rattle.expression_types.specs.declared.fault.Rule.TheVariants as rule
+use Rattle.expression_types.specs.declared.fault.TypeRule.{TypeRule}
+use Rattle.expression_types.specs.declared.fault.TypeRule.TheVariants as rule
 
-abbrev pub number_of : Rule → ℕ
+abbrev pub number_of : TypeRule → ℕ
 number_of rule.UnknownName = 221
 number_of rule.Redeclared = 222
 number_of rule.WrongType = 223

@@ -1,8 +1,9 @@
+pub mod BareNames
 pub mod Expression
 pub mod Faults
 pub mod Least
 pub mod Names
-pub mod Noted
+pub mod WithFaults
 pub mod Operands
 pub mod Operators
 pub mod ScopeTree

@@ -1,4 +1,4 @@
--- What operands in a row are seen as.
+-- Views of operand rows.
 use Rattle.typed_tree.specs.declared.expression.Connective.{Connective}
 use Rattle.typed_tree.specs.IntegerTree.{integer_tree, operands_tree}
 use Rattle.typed_tree.specs.ConditionTree.{condition_tree, conditions_tree}
@@ -6,14 +6,14 @@ use Rattle.expression_types.specs.declared.operands.Integers as integers
 use Rattle.expression_types.specs.declared.operands.Integers.TheVariants as some_integers
 use Rattle.expression_types.specs.declared.operands.Conditions as conditions
 use Rattle.expression_types.specs.declared.operands.Conditions.TheVariants as some_conditions
-use Rattle.expression_types.specs.Operators.{IntegersTree, Integers, MixedIntegers, FaultyIntegers, ConditionsTree, Conditions, MixedConditions, FaultyConditions}
+use Rattle.expression_types.specs.Operators.{IntegersTree, Integers, MixedIntegers, ErrorIntegers, ConditionsTree, Conditions, MixedConditions, ErrorConditions}
 
 abbrev pub integers_of : integers.Integers → IntegersTree
 integers_of (some_integers.Typed first more) = Integers (operands_tree (integer_tree first) more.items)
 integers_of some_integers.Mixed = MixedIntegers
-integers_of some_integers.Faulty = FaultyIntegers
+integers_of some_integers.Error = ErrorIntegers
 
 abbrev pub conditions_of : Connective → conditions.Conditions → ConditionsTree
 conditions_of o (some_conditions.Typed first more) = Conditions (conditions_tree o (condition_tree first) more.items)
 conditions_of o some_conditions.Mixed = MixedConditions
-conditions_of o some_conditions.Faulty = FaultyConditions
+conditions_of o some_conditions.Error = ErrorConditions

@@ -1,14 +1,14 @@
--- The names that are visible at a point of a source.
+-- Scopes: the names that are visible at a point of a source, with what they are.
 use Rattle.std.specs.Prelude.{◌≡◌, ℕ, ◌+◌, List, [], ◌∷◌, ◌++◌, take, length, Option, Some, None}
 use Rattle.syntax.specs.Terminals.{Identifier}
-use Rattle.expression_types.specs.declared.fault.Rule.TheVariants as rule
+use Rattle.expression_types.specs.declared.fault.TypeRule.TheVariants as rule
 use Rattle.expression_types.specs.declared.scope.Entity.{Entity}
 use Rattle.expression_types.specs.declared.scope.Entity.TheVariants as entity
 use Rattle.expression_types.specs.declared.scope.Inside.{Inside}
 use Rattle.expression_types.specs.declared.scope.Inside.TheVariants as inside
 use Rattle.expression_types.specs.declared.scope.Mark.{Mark}
 use Rattle.expression_types.specs.Names.{found}
-use Rattle.expression_types.specs.Noted.{Noted, sure, fault_at}
+use Rattle.expression_types.specs.WithFaults.{WithFaults, sure, fault_at}
 
 -- Names with what they are, in the order in which they became visible; where expressions stand; and how many places of visible
 -- integers, conditions and vertex sets are taken. The constant sets of the whole program have the first places of sets.
@@ -39,7 +39,7 @@ integers_of (entity.EdgeFunction place) = 0
 integers_of (entity.VertexFunction place) = 0
 integers_of (entity.Filter place) = 0
 integers_of entity.Main = 0
-integers_of entity.Unclear = 0
+integers_of entity.Error = 0
 
 -- how many places of conditions
 abbrev pub conditions_of : Entity → ℕ
@@ -57,7 +57,7 @@ conditions_of (entity.EdgeFunction place) = 0
 conditions_of (entity.VertexFunction place) = 0
 conditions_of (entity.Filter place) = 0
 conditions_of entity.Main = 0
-conditions_of entity.Unclear = 0
+conditions_of entity.Error = 0
 
 -- how many places of vertex sets, of which the constant ones were taken at the beginning
 abbrev pub sets_of : Entity → ℕ
@@ -75,7 +75,7 @@ sets_of (entity.EdgeFunction place) = 0
 sets_of (entity.VertexFunction place) = 0
 sets_of (entity.Filter place) = 0
 sets_of entity.Main = 0
-sets_of entity.Unclear = 0
+sets_of entity.Error = 0
 
 -- the scope with one more name
 abbrev pub with_entity : List ℕ → Entity → ScopeTree → ScopeTree
@@ -88,11 +88,11 @@ with_entity name entity scope = record {
 }
 
 -- a name that is visible already stays what it was
-abbrev pub declared_over : Option Entity → Identifier → Entity → ScopeTree → Noted ScopeTree
+abbrev pub declared_over : Option Entity → Identifier → Entity → ScopeTree → WithFaults ScopeTree
 declared_over None name entity scope = sure (with_entity name.bytes entity scope)
 declared_over (Some old) name entity scope = fault_at name.at rule.Redeclared scope
 
-abbrev pub declared : Identifier → Entity → ScopeTree → Noted ScopeTree
+abbrev pub declared : Identifier → Entity → ScopeTree → WithFaults ScopeTree
 declared name entity scope = declared_over (found name.bytes scope.visible) name entity scope
 
 -- the scope of a function, before its parameters

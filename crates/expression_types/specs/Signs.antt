@@ -2,13 +2,13 @@
 use Rattle.std.specs.Prelude.{ℕ, Bool, true, false, List, [], ◌∷◌}
 use Rattle.syntax.specs.declared.operators.Prefix.{Prefix}
 use Rattle.syntax.specs.declared.operators.Prefix.TheVariants as prefix
-use Rattle.expression_types.specs.declared.fault.Rule.TheVariants as rule
-use Rattle.expression_types.specs.Noted.{Noted, sure, ◌>>=◌}
+use Rattle.expression_types.specs.declared.fault.TypeRule.TheVariants as rule
+use Rattle.expression_types.specs.WithFaults.{WithFaults, sure, ◌>>=◌}
 use Rattle.expression_types.specs.Operators.{given, signed_value}
 use Rattle.expression_types.specs.ValueTree.{ValueTree}
 
 -- behind signs, of which the last is the closest
-abbrev pub signs_value : ℕ → List Prefix → ValueTree → Noted ValueTree
+abbrev pub signs_value : ℕ → List Prefix → ValueTree → WithFaults ValueTree
 signs_value at [] value = sure value
 signs_value at (sign ∷ signs) value = signs_value at signs value >>= λ v. given at rule.WrongType (signed_value sign v)
 

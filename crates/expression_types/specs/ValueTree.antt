@@ -1,8 +1,8 @@
--- Typed expressions, without pointers.
+-- Values: typed expressions, without pointers.
 use Rattle.std.specs.Prelude.{ℕ, Bool, true, false, ◌||◌, List, [], ◌∷◌, Option, Some, None}
 use Rattle.typed_tree.specs.declared.expression.Endpoint.{Endpoint}
 use Rattle.typed_tree.specs.declared.expression.Operand.{Operand}
-use Rattle.typed_tree.specs.declared.expression.Slot.{Slot}
+use Rattle.typed_tree.specs.declared.expression.VarRef.{VarRef}
 use Rattle.typed_tree.specs.IntegerTree as integer
 use Rattle.typed_tree.specs.IntegerTree.{IntegerTree, integer_tree}
 use Rattle.typed_tree.specs.ConditionTree as condition
@@ -17,8 +17,8 @@ pub data ValueTree : Type 0 where
   Integer : IntegerTree → ValueTree
   Condition : ConditionTree → ValueTree
   Vertex : Endpoint → ValueTree
-  Set : Slot → ValueTree
-  Faulty : ValueTree
+  Set : VarRef → ValueTree
+  ErrorValue : ValueTree
 
 -- the tree that a Rust tree is
 abbrev pub value_tree : Value → ValueTree
@@ -26,21 +26,21 @@ value_tree (rust.Integer e) = Integer (integer_tree e)
 value_tree (rust.Condition c) = Condition (condition_tree c)
 value_tree (rust.Vertex at) = Vertex at
 value_tree (rust.Set slot) = Set slot
-value_tree rust.Faulty = Faulty
+value_tree rust.Error = ErrorValue
 
-abbrev pub is_faulty : ValueTree → Bool
-is_faulty (Integer e) = false
-is_faulty (Condition c) = false
-is_faulty (Vertex at) = false
-is_faulty (Set slot) = false
-is_faulty Faulty = true
+abbrev pub is_error : ValueTree → Bool
+is_error (Integer e) = false
+is_error (Condition c) = false
+is_error (Vertex at) = false
+is_error (Set slot) = false
+is_error ErrorValue = true
 
 abbrev pub is_condition : ValueTree → Bool
 is_condition (Integer e) = false
 is_condition (Condition c) = true
 is_condition (Vertex at) = false
 is_condition (Set slot) = false
-is_condition Faulty = false
+is_condition ErrorValue = false
 
 -- the vertex of a function that it is
 abbrev pub as_vertex : ValueTree → Option Endpoint
@@ -48,15 +48,15 @@ as_vertex (Integer e) = None
 as_vertex (Condition c) = None
 as_vertex (Vertex at) = Some at
 as_vertex (Set slot) = None
-as_vertex Faulty = None
+as_vertex ErrorValue = None
 
 -- the vertex set that it is
-abbrev pub as_set : ValueTree → Option Slot
+abbrev pub as_set : ValueTree → Option VarRef
 as_set (Integer e) = None
 as_set (Condition c) = None
 as_set (Vertex at) = None
 as_set (Set slot) = Some slot
-as_set Faulty = None
+as_set ErrorValue = None
 
 -- the value that a name has alone, where it has one
 abbrev pub named_value : Entity → Option ValueTree
@@ -74,7 +74,7 @@ named_value (entity.EdgeFunction place) = None
 named_value (entity.VertexFunction place) = None
 named_value (entity.Filter place) = None
 named_value entity.Main = None
-named_value entity.Unclear = Some Faulty
+named_value entity.Error = Some ErrorValue
 
 -- the vector that a name is
 abbrev pub named_vector : Entity → Option ℕ
@@ -92,10 +92,10 @@ named_vector (entity.EdgeFunction place) = None
 named_vector (entity.VertexFunction place) = None
 named_vector (entity.Filter place) = None
 named_vector entity.Main = None
-named_vector entity.Unclear = None
+named_vector entity.Error = None
 
 -- the vertex set that a name is
-abbrev pub named_set : Entity → Option Slot
+abbrev pub named_set : Entity → Option VarRef
 named_set entity.Edges = None
 named_set (entity.Vector place) = None
 named_set (entity.ConstantSet slot) = Some slot
@@ -110,7 +110,7 @@ named_set (entity.EdgeFunction place) = None
 named_set (entity.VertexFunction place) = None
 named_set (entity.Filter place) = None
 named_set entity.Main = None
-named_set entity.Unclear = None
+named_set entity.Error = None
 
 -- the integer that a value reads as: a vertex reads as its number
 abbrev pub as_integer : ValueTree → Option IntegerTree
@@ -118,14 +118,14 @@ as_integer (Integer e) = Some e
 as_integer (Condition c) = None
 as_integer (Vertex at) = Some (integer.Parameter at)
 as_integer (Set slot) = None
-as_integer Faulty = None
+as_integer ErrorValue = None
 
 abbrev pub as_condition : ValueTree → Option ConditionTree
 as_condition (Integer e) = None
 as_condition (Condition c) = Some c
 as_condition (Vertex at) = None
 as_condition (Set slot) = None
-as_condition Faulty = None
+as_condition ErrorValue = None
 
 -- an entry of a vector is read in it
 abbrev pub reads_entry : IntegerTree → Bool

@@ -1,10 +1,10 @@
-//! Faults: the rule that a source breaks, and where.
+//! Faults of types: the rule that a source breaks, and where; and the least of several.
 ghost use Rattle.std.specs.Prelude.{◌≡◌};
 ghost use Rattle.expression_types.specs.Faults.{comes_before, earlier, number_of};
 
 /// A rule of types.
 #[derive(Clone, Copy, Debug, PartialEq, Eq)]
-pub enum Rule {
+pub enum TypeRule {
     /// A used name is visible.
     UnknownName,
     /// A declared name is not visible already, and there is one edgeset at most.
@@ -29,39 +29,39 @@ pub enum Rule {
 #[derive(Clone, Copy, Debug, PartialEq, Eq)]
 pub struct Fault {
     pub at: usize,
-    pub rule: Rule,
+    pub rule: TypeRule,
 }
 
-impl Rule {
+impl TypeRule {
     /// The number by which users know the rule: 221 to 229.
     pub fn number(self) -> u16
         ensures { result ≡ number_of self }
     {
         match self {
-            Rule::UnknownName => 221,
-            Rule::Redeclared => 222,
-            Rule::WrongType => 223,
-            Rule::NotReduction => 224,
-            Rule::MixedReductions => 225,
-            Rule::WrongIndex => 226,
-            Rule::PrintOutsideMain => 227,
-            Rule::NoMain => 228,
-            Rule::BadLabel => 229,
+            TypeRule::UnknownName => 221,
+            TypeRule::Redeclared => 222,
+            TypeRule::WrongType => 223,
+            TypeRule::NotReduction => 224,
+            TypeRule::MixedReductions => 225,
+            TypeRule::WrongIndex => 226,
+            TypeRule::PrintOutsideMain => 227,
+            TypeRule::NoMain => 228,
+            TypeRule::BadLabel => 229,
         }
     }
 }
 
 /// Notes one more fault: of all that are noted the one with the least offset is kept, and of several at one
 /// offset the one with the least number.
-pub fn note(first: &mut Option<Fault>, at: usize, rule: Rule)
-    ensures { first.new ≡ Some (earlier first.old (record { at = at; rule = rule })) }
+pub fn note(first_fault: &mut Option<Fault>, at: usize, rule: TypeRule)
+    ensures { first_fault.new ≡ Some (earlier first_fault.old (record { at = at; rule = rule })) }
 {
     let fault = Fault { at, rule };
-    match *first {
-        None => *first = Some(fault),
-        Some(noted) => {
-            if is_before(fault, noted) {
-                *first = Some(fault);
+    match *first_fault {
+        None => *first_fault = Some(fault),
+        Some(earliest) => {
+            if is_before(fault, earliest) {
+                *first_fault = Some(fault);
             }
         }
     }

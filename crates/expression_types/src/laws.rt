@@ -1,4 +1,4 @@
-//! Laws of faults. The call does nothing.
+//! The law of the least fault. The call does nothing.
 ghost use Rattle.std.specs.Prelude.{◌≡◌, List, None, Some};
 ghost use Rattle.expression_types.specs.declared.fault.Fault as fault;
 ghost use Rattle.expression_types.specs.Faults.{least_of};

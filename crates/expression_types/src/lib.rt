@@ -4,10 +4,10 @@
 //! A contract sees a [`Scope`] as a `ScopeTree`: the visible names in the order in which they became visible,
 //! each with the [`Entity`] that it stands for, and how many places of integers, conditions and vertex sets are
 //! taken. [`type_expression`] looks each name up there and gives the [`Value`] of an expression: a tree of
-//! `typed_tree` for an integer or a condition, a vertex, a set, or `Faulty` where a part of it breaks a rule.
+//! `typed_tree` for an integer or a condition, a vertex, a set, or `Error` where a part of it breaks a rule.
 //!
 //! `specs/Expression.antt` says which value an expression has and which faults, with one equation for each rule
-//! of the grammar. Each definition gives a `Noted`, which is a value with the list of the faults on the way to
+//! of the grammar. Each definition gives a `WithFaults`, which is a value with the list of the faults on the way to
 //! it, and `>>=` goes on behind a fault. An expression with a faulty part has no further fault of its own. Each
 //! call answers with the value of its definition, and keeps of all faults so far the one with the least offset,
 //! of several there the one with the least number (`specs/Faults.antt`, [`note`]). `least_fault_is_told` is the law
@@ -20,6 +20,7 @@
 //! The checker of statements and declarations, `types`, stands on this crate.
 #![tactic(auto)]
 
+mod bare_name;
 mod expression;
 mod fault;
 mod laws;
@@ -29,8 +30,9 @@ mod operators;
 mod scope;
 mod value;
 
-pub use expression::{entity, type_expression, vector};
-pub use fault::{Fault, Rule, note};
+pub use bare_name::lone_operand;
+pub use expression::{entity, type_expression, type_index, vector};
+pub use fault::{Fault, TypeRule, note};
 pub use laws::least_fault_is_told;
 pub use names::Names;
 pub use scope::{Entity, Inside, Mark, Scope};

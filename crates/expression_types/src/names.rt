@@ -1,4 +1,4 @@
-//! Names with what they stand for, found by a hash.
+//! Name tables: names in the order in which they came, found by a hash.
 ghost use Rattle.std.specs.Prelude.{◌≡◌, ◌<◌, ◌^◌, ◌++◌, ◌∷◌, [], None, length, take, OnErr, OnOk};
 ghost use Rattle.expression_types.specs.Names.{found};
 

@@ -1,43 +1,43 @@
-//! Operands of operators in a row.
+//! Operand rows: the typed operands of operators in a row.
 ghost use Rattle.std.specs.Prelude.{◌≡◌};
 ghost use Rattle.typed_tree.specs.ConditionTree.{conditions_tree, condition_tree};
 ghost use Rattle.typed_tree.specs.IntegerTree.{integer_tree, operands_tree};
 ghost use Rattle.std.specs.Prelude.{IfOk};
 ghost use Rattle.expression_types.specs.Operands.{conditions_of, integers_of};
 ghost use Rattle.expression_types.specs.Operators.{beside_condition, beside_integer, first_condition, first_integer, grouped_conditions, grouped_integers};
-ghost use Rattle.expression_types.specs.Noted.{Notes};
+ghost use Rattle.expression_types.specs.WithFaults.{ReportsFaults};
 ghost use Rattle.expression_types.specs.ValueTree.{value_tree};
 
-use crate::fault::{Fault, Rule, note};
+use crate::fault::{Fault, TypeRule, note};
 use crate::value::Value;
 use std::alloc::{AllocError, Global};
-use typed_tree::{Condition, Connective, Integer, Operand, Operator};
+use typed_tree::{BoolExpression, Connective, IntExpression, Operand, Operator};
 
 /// The operands so far of operators that take integers.
 pub(crate) enum Integers {
     /// The first and those behind it, each with its operator.
-    Typed(Integer, Vec<Operand>),
+    Typed(IntExpression, Vec<Operand>),
     /// One is no integer.
     Mixed,
     /// One has a faulty part.
-    Faulty,
+    Error,
 }
 
 /// The operands so far of an operator that takes conditions.
 pub(crate) enum Conditions {
     /// The first and those behind it.
-    Typed(Condition, Vec<Condition>),
+    Typed(BoolExpression, Vec<BoolExpression>),
     /// One is no condition.
     Mixed,
     /// One has a faulty part.
-    Faulty,
+    Error,
 }
 
 impl Drop for Integers {
     fn drop(self) {
         match self {
             Integers::Typed(_, _) => {}
-            Integers::Mixed | Integers::Faulty => {}
+            Integers::Mixed | Integers::Error => {}
         }
     }
 }
@@ -46,7 +46,7 @@ impl Drop for Conditions {
     fn drop(self) {
         match self {
             Conditions::Typed(_, _) => {}
-            Conditions::Mixed | Conditions::Faulty => {}
+            Conditions::Mixed | Conditions::Error => {}
         }
     }
 }
@@ -56,8 +56,8 @@ impl Integers {
     pub(crate) fn first(alloc: Global, value: Value) -> Integers
         ensures { integers_of result ≡ first_integer (value_tree value) }
     {
-        if value.is_faulty() {
-            return Integers::Faulty;
+        if value.is_error() {
+            return Integers::Error;
         }
         match value.into_integer() {
             None => Integers::Mixed,
@@ -70,11 +70,11 @@ impl Integers {
     pub(crate) fn beside(self, operator: Operator, value: Value) -> Result<Integers, AllocError>
         ensures { IfOk result (λ all. integers_of all ≡ beside_integer operator (integers_of self) (first_integer (value_tree value))) }
     {
-        if value.is_faulty() {
-            return Ok(Integers::Faulty);
+        if value.is_error() {
+            return Ok(Integers::Error);
         }
         match self {
-            Integers::Faulty => Ok(Integers::Faulty),
+            Integers::Error => Ok(Integers::Error),
             Integers::Mixed => Ok(Integers::Mixed),
             Integers::Typed(first, more) => match value.into_integer() {
                 None => Ok(Integers::Mixed),
@@ -92,20 +92,20 @@ impl Integers {
         self,
         alloc: Global,
         at: usize,
-        noted: &mut Option<Fault>,
+        first_fault: &mut Option<Fault>,
     ) -> Result<Value, AllocError>
-        ensures { Notes value_tree noted.old noted.new result (grouped_integers at (integers_of self)) }
+        ensures { ReportsFaults value_tree first_fault.old first_fault.new result (grouped_integers at (integers_of self)) }
     {
         match self {
             Integers::Typed(first, more) => {
                 let first = Box::new(alloc, first)?;
-                Ok(Value::Integer(Integer::Arithmetic(first, more)))
+                Ok(Value::Integer(IntExpression::Arithmetic(first, more)))
             }
             Integers::Mixed => {
-                note(noted, at, Rule::WrongType);
-                Ok(Value::Faulty)
+                note(first_fault, at, TypeRule::WrongType);
+                Ok(Value::Error)
             }
-            Integers::Faulty => Ok(Value::Faulty),
+            Integers::Error => Ok(Value::Error),
         }
     }
 }
@@ -115,8 +115,8 @@ impl Conditions {
     pub(crate) fn first(alloc: Global, value: Value) -> Conditions
         ensures { (o : Connective) → conditions_of o result ≡ first_condition (value_tree value) }
     {
-        if value.is_faulty() {
-            return Conditions::Faulty;
+        if value.is_error() {
+            return Conditions::Error;
         }
         match value.into_condition() {
             None => Conditions::Mixed,
@@ -128,11 +128,11 @@ impl Conditions {
     pub(crate) fn beside(self, value: Value) -> Result<Conditions, AllocError>
         ensures { IfOk result (λ all. (o : Connective) → conditions_of o all ≡ beside_condition o (conditions_of o self) (first_condition (value_tree value))) }
     {
-        if value.is_faulty() {
-            return Ok(Conditions::Faulty);
+        if value.is_error() {
+            return Ok(Conditions::Error);
         }
         match self {
-            Conditions::Faulty => Ok(Conditions::Faulty),
+            Conditions::Error => Ok(Conditions::Error),
             Conditions::Mixed => Ok(Conditions::Mixed),
             Conditions::Typed(first, more) => match value.into_condition() {
                 None => Ok(Conditions::Mixed),
@@ -151,20 +151,20 @@ impl Conditions {
         alloc: Global,
         connective: Connective,
         at: usize,
-        noted: &mut Option<Fault>,
+        first_fault: &mut Option<Fault>,
     ) -> Result<Value, AllocError>
-        ensures { Notes value_tree noted.old noted.new result (grouped_conditions at (conditions_of connective self)) }
+        ensures { ReportsFaults value_tree first_fault.old first_fault.new result (grouped_conditions at (conditions_of connective self)) }
     {
         match self {
             Conditions::Typed(first, more) => {
                 let first = Box::new(alloc, first)?;
-                Ok(Value::Condition(Condition::Connect(connective, first, more)))
+                Ok(Value::Condition(BoolExpression::Connect(connective, first, more)))
             }
             Conditions::Mixed => {
-                note(noted, at, Rule::WrongType);
-                Ok(Value::Faulty)
+                note(first_fault, at, TypeRule::WrongType);
+                Ok(Value::Error)
             }
-            Conditions::Faulty => Ok(Value::Faulty),
+            Conditions::Error => Ok(Value::Error),
         }
     }
 }

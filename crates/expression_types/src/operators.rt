@@ -1,18 +1,18 @@
-//! What operators make of typed operands.
+//! Typing of operators: what signs, relations, rows and indexes make of typed operands.
 ghost use Rattle.std.specs.Prelude.{◌≡◌, Some, false, IfOk, IsTrue};
 ghost use Rattle.std.specs.Option.{option_map};
-ghost use Rattle.expression_types.specs.Noted.{Notes, outcome};
+ghost use Rattle.expression_types.specs.WithFaults.{ReportsFaults, outcome};
 ghost use Rattle.expression_types.specs.Operators.{added, compared_value, entry_value, equated_value, function_entry, given, main_entry, multiplied, related_value};
 ghost use Rattle.expression_types.specs.Faults.{earlier};
 ghost use Rattle.expression_types.specs.Signs.{all_minus, all_not, signs_value};
-ghost use Rattle.expression_types.specs.ValueTree.{Faulty, is_condition, is_faulty, value_tree};
+ghost use Rattle.expression_types.specs.ValueTree.{ErrorValue, is_condition, is_error, value_tree};
 
-use crate::fault::{Fault, Rule, note};
+use crate::fault::{Fault, TypeRule, note};
 use crate::scope::Inside;
 use crate::value::{Value, reads_entry};
 use std::alloc::{AllocError, Global};
 use syntax::{Addition, Multiplication, Prefix, Relation};
-use typed_tree::{Comparison, Condition, Connective, Integer, Operator};
+use typed_tree::{BoolExpression, ComparisonOperator, Connective, IntExpression, Operator};
 
 /// The operator that stands between the terms of a sum.
 pub(crate) fn addition(operator: Addition) -> Operator
@@ -36,22 +36,22 @@ pub(crate) fn multiplication(operator: Multiplication) -> Operator
 }
 
 /// A comparison of two integers, or `None` where an operand is none.
-fn compare(comparison: Comparison, left: Value, right: Value) -> Option<Value>
+fn compare(comparison: ComparisonOperator, left: Value, right: Value) -> Option<Value>
     ensures { option_map value_tree result ≡ compared_value comparison (value_tree left) (value_tree right) }
 {
-    if left.is_faulty() || right.is_faulty() {
-        return Some(Value::Faulty);
+    if left.is_error() || right.is_error() {
+        return Some(Value::Error);
     }
     let left = left.into_integer()?;
     let right = right.into_integer()?;
-    Some(Value::Condition(Condition::Compare(comparison, left, right)))
+    Some(Value::Condition(BoolExpression::Compare(comparison, left, right)))
 }
 
 /// `==` or `!=` of two conditions or of two integers, or `None` where the operands are neither.
 fn equate(
     alloc: Global,
     connective: Connective,
-    comparison: Comparison,
+    comparison: ComparisonOperator,
     left: Value,
     right: Value,
 ) -> Result<Option<Value>, AllocError>
@@ -60,8 +60,8 @@ fn equate(
     if !left.is_condition() {
         return Ok(compare(comparison, left, right));
     }
-    if right.is_faulty() {
-        return Ok(Some(Value::Faulty));
+    if right.is_error() {
+        return Ok(Some(Value::Error));
     }
     let (Some(left), Some(right)) = (left.into_condition(), right.into_condition()) else {
         return Ok(None);
@@ -69,7 +69,7 @@ fn equate(
     let left = Box::new(alloc, left)?;
     let mut others = Vec::new(alloc);
     others.push(right)?;
-    Ok(Some(Value::Condition(Condition::Connect(connective, left, others))))
+    Ok(Some(Value::Condition(BoolExpression::Connect(connective, left, others))))
 }
 
 /// A relation of two values. The fault is noted where it does not take such operands.
@@ -79,23 +79,23 @@ pub(crate) fn relate(
     left: Value,
     right: Value,
     at: usize,
-    noted: &mut Option<Fault>,
+    first_fault: &mut Option<Fault>,
 ) -> Result<Value, AllocError>
-    ensures { Notes value_tree noted.old noted.new result (given at Rule.WrongType (related_value operator (value_tree left) (value_tree right))) }
+    ensures { ReportsFaults value_tree first_fault.old first_fault.new result (given at TypeRule.WrongType (related_value operator (value_tree left) (value_tree right))) }
 {
     match relation(alloc, operator, left, right)? {
         Some(value) => Ok(value),
-        None => Ok(fault(at, Rule::WrongType, noted)),
+        None => Ok(fault(at, TypeRule::WrongType, first_fault)),
     }
 }
 
 /// Notes a fault of an expression.
-pub(crate) fn fault(at: usize, rule: Rule, noted: &mut Option<Fault>) -> Value
-    ensures value { value_tree result ≡ Faulty }
-    ensures noted { noted.new ≡ Some (earlier noted.old (record { at = at; rule = rule })) }
+pub(crate) fn fault(at: usize, rule: TypeRule, first_fault: &mut Option<Fault>) -> Value
+    ensures value { value_tree result ≡ ErrorValue }
+    ensures first_fault { first_fault.new ≡ Some (earlier first_fault.old (record { at = at; rule = rule })) }
 {
-    note(noted, at, rule);
-    Value::Faulty
+    note(first_fault, at, rule);
+    Value::Error
 }
 
 /// A relation of two values, or `None` where it does not take such operands.
@@ -108,18 +108,24 @@ fn relation(
     ensures { IfOk result (λ v. option_map value_tree v ≡ related_value relation (value_tree left) (value_tree right)) }
 {
     match relation {
-        Relation::Equal => equate(alloc, Connective::Equal, Comparison::Equal, left, right),
-        Relation::NotEqual => equate(
+        Relation::Equal => equate(
             alloc,
-            Connective::NotEqual,
-            Comparison::NotEqual,
+            Connective::Equal,
+            ComparisonOperator::Equal,
             left,
             right,
         ),
-        Relation::Less => Ok(compare(Comparison::Less, left, right)),
-        Relation::LessOrEqual => Ok(compare(Comparison::LessOrEqual, left, right)),
-        Relation::Greater => Ok(compare(Comparison::Greater, left, right)),
-        Relation::GreaterOrEqual => Ok(compare(Comparison::GreaterOrEqual, left, right)),
+        Relation::NotEqual => equate(
+            alloc,
+            Connective::NotEqual,
+            ComparisonOperator::NotEqual,
+            left,
+            right,
+        ),
+        Relation::Less => Ok(compare(ComparisonOperator::Less, left, right)),
+        Relation::LessOrEqual => Ok(compare(ComparisonOperator::LessOrEqual, left, right)),
+        Relation::Greater => Ok(compare(ComparisonOperator::Greater, left, right)),
+        Relation::GreaterOrEqual => Ok(compare(ComparisonOperator::GreaterOrEqual, left, right)),
     }
 }
 
@@ -129,27 +135,27 @@ pub(crate) fn behind_signs(
     signs: &[Prefix],
     value: Value,
     at: usize,
-    noted: &mut Option<Fault>,
+    first_fault: &mut Option<Fault>,
 ) -> Result<Value, AllocError>
-    ensures { Notes value_tree noted.old noted.new result (signs_value at signs.now (value_tree value)) }
+    ensures { ReportsFaults value_tree first_fault.old first_fault.new result (signs_value at signs.now (value_tree value)) }
 {
     if signs.is_empty() {
         return Ok(value);
     }
-    if value.is_faulty() {
+    if value.is_error() {
         return Ok(value);
     }
     if value.is_condition() {
-        return turned(alloc, signs, value, at, noted);
+        return turned(alloc, signs, value, at, first_fault);
     }
     let Some(e) = value.into_integer() else {
-        return Ok(fault(at, Rule::WrongType, noted));
+        return Ok(fault(at, TypeRule::WrongType, first_fault));
     };
     if !are_all_minus(signs) {
-        return Ok(fault(at, Rule::WrongType, noted));
+        return Ok(fault(at, TypeRule::WrongType, first_fault));
     }
     let e = Box::new(alloc, e)?;
-    Ok(Value::Integer(Integer::Negative(signs.len(), e)))
+    Ok(Value::Integer(IntExpression::Negative(signs.len(), e)))
 }
 
 /// A condition behind signs.
@@ -158,19 +164,19 @@ fn turned(
     signs: &[Prefix],
     value: Value,
     at: usize,
-    noted: &mut Option<Fault>,
+    first_fault: &mut Option<Fault>,
 ) -> Result<Value, AllocError>
     requires { IsTrue (is_condition (value_tree value)) }
-    ensures { Notes value_tree noted.old noted.new result (signs_value at signs.now (value_tree value)) }
+    ensures { ReportsFaults value_tree first_fault.old first_fault.new result (signs_value at signs.now (value_tree value)) }
 {
     let Some(c) = value.into_condition() else {
         unreachable!()
     };
     if !are_all_not(signs) {
-        return Ok(fault(at, Rule::WrongType, noted));
+        return Ok(fault(at, TypeRule::WrongType, first_fault));
     }
     let c = Box::new(alloc, c)?;
-    Ok(Value::Condition(Condition::Not(signs.len(), c)))
+    Ok(Value::Condition(BoolExpression::Not(signs.len(), c)))
 }
 
 /// Whether each sign is a `-`.
@@ -204,20 +210,20 @@ pub(crate) fn entry(
     at: usize,
     vector: Option<usize>,
     index: Value,
-    noted: &mut Option<Fault>,
+    first_fault: &mut Option<Fault>,
 ) -> Result<Value, AllocError>
-    ensures { Notes value_tree noted.old noted.new result (entry_value inside at vector (value_tree index)) }
+    ensures { ReportsFaults value_tree first_fault.old first_fault.new result (entry_value inside at vector (value_tree index)) }
 {
     let Some(vector) = vector else {
-        return Ok(Value::Faulty);
+        return Ok(Value::Error);
     };
-    if index.is_faulty() {
-        return Ok(Value::Faulty);
+    if index.is_error() {
+        return Ok(Value::Error);
     }
     match inside {
-        Inside::Main => entry_in_main(alloc, at, vector, index, noted),
+        Inside::Main => entry_in_main(alloc, at, vector, index, first_fault),
         Inside::EdgeFunction | Inside::VertexFunction | Inside::Filter => {
-            Ok(entry_in_function(at, vector, index, noted))
+            Ok(entry_in_function(at, vector, index, first_fault))
         }
     }
 }
@@ -228,28 +234,33 @@ fn entry_in_main(
     at: usize,
     vector: usize,
     index: Value,
-    noted: &mut Option<Fault>,
+    first_fault: &mut Option<Fault>,
 ) -> Result<Value, AllocError>
-    requires { is_faulty (value_tree index) ≡ false }
-    ensures { Notes value_tree noted.old noted.new result (main_entry at vector (value_tree index)) }
+    requires { is_error (value_tree index) ≡ false }
+    ensures { ReportsFaults value_tree first_fault.old first_fault.new result (main_entry at vector (value_tree index)) }
 {
     let Some(e) = index.into_integer() else {
-        return Ok(fault(at, Rule::WrongType, noted));
+        return Ok(fault(at, TypeRule::WrongType, first_fault));
     };
     if reads_entry(&e) {
-        return Ok(fault(at, Rule::WrongIndex, noted));
+        return Ok(fault(at, TypeRule::WrongIndex, first_fault));
     }
     let e = Box::new(alloc, e)?;
-    Ok(Value::Integer(Integer::Entry(vector, e)))
+    Ok(Value::Integer(IntExpression::Entry(vector, e)))
 }
 
 /// The entry of a vector at an index of a function.
-fn entry_in_function(at: usize, vector: usize, index: Value, noted: &mut Option<Fault>) -> Value
-    requires { is_faulty (value_tree index) ≡ false }
-    ensures { outcome noted.old (function_entry at vector (value_tree index)) ≡ (value_tree result, noted.new) }
+fn entry_in_function(
+    at: usize,
+    vector: usize,
+    index: Value,
+    first_fault: &mut Option<Fault>,
+) -> Value
+    requires { is_error (value_tree index) ≡ false }
+    ensures { outcome first_fault.old (function_entry at vector (value_tree index)) ≡ (value_tree result, first_fault.new) }
 {
     match index.vertex() {
-        Some(endpoint) => Value::Integer(Integer::EntryAt(vector, endpoint)),
-        None => fault(at, Rule::WrongIndex, noted),
+        Some(endpoint) => Value::Integer(IntExpression::EntryAt(vector, endpoint)),
+        None => fault(at, TypeRule::WrongIndex, first_fault),
     }
 }

@@ -1,15 +1,15 @@
-//! What names are, and which are visible.
+//! Scopes: which names are visible at a point of a source, and what each is.
 ghost use Rattle.std.specs.Prelude.{◌≡◌, ◌≤◌, ◌+◌, ◌*◌, ◌^◌, OnErr, length};
 ghost use Rattle.expression_types.specs.Names.{found};
-ghost use Rattle.expression_types.specs.Noted.{Notes};
+ghost use Rattle.expression_types.specs.WithFaults.{ReportsFaults};
 ghost use Rattle.expression_types.specs.ScopeTree.{Keeps, conditions_of, declared, empty_scope, entered, integers_of, left, mark_of, sets_of};
 
-use crate::fault::{Fault, Rule, note};
+use crate::fault::{Fault, TypeRule, note};
 use crate::names::Names;
 use std::alloc::{AllocError, Global};
 use std::marker::Model;
 use syntax::Name;
-use typed_tree::{Endpoint, Slot};
+use typed_tree::{Endpoint, VarRef};
 
 /// What a visible name is.
 #[derive(Clone, Copy, Debug, PartialEq, Eq)]
@@ -19,19 +19,19 @@ pub enum Entity {
     /// The constant vector at this place.
     Vector(usize),
     /// A constant vertex set.
-    ConstantSet(Slot),
+    ConstantSet(VarRef),
     /// A constant int: the place of its name in the program's names, and its value.
     IntegerConstant(usize, i64),
     /// A constant bool, in the same way.
     ConditionConstant(usize, bool),
     /// A variable of type int.
-    IntegerVariable(Slot),
+    IntegerVariable(VarRef),
     /// A variable of type bool, or a filter's result.
-    ConditionVariable(Slot),
+    ConditionVariable(VarRef),
     /// A variable that is a vertex set.
-    SetVariable(Slot),
+    SetVariable(VarRef),
     /// The name of a `for`.
-    LoopVariable(Slot),
+    LoopVariable(VarRef),
     /// A parameter of the function: a vertex that it works on.
     Parameter(Endpoint),
     /// The edge function at this place.
@@ -43,7 +43,7 @@ pub enum Entity {
     /// The function that is run.
     Main,
     /// Its declaration is faulty, so that its uses cause no fault.
-    Unclear,
+    Error,
 }
 
 /// Where expressions and statements stand.
@@ -197,14 +197,14 @@ impl Scope {
         alloc: Global,
         name: &Name,
         entity: Entity,
-        first: &mut Option<Fault>,
+        first_fault: &mut Option<Fault>,
     ) -> Result<(), AllocError>
-        ensures declared { Notes (λ _. self.new) first.old first.new result (declared name.now entity self.old) }
+        ensures declared { ReportsFaults (λ _. self.new) first_fault.old first_fault.new result (declared name.now entity self.old) }
         ensures kept { Keeps self.old self.new }
         ensures err { OnErr result (self.new ≡ self.old) }
     {
         if self.names.get(name.bytes()).is_some() {
-            note(first, name.at(), Rule::Redeclared);
+            note(first_fault, name.at(), TypeRule::Redeclared);
             return Ok(());
         }
         self.names.push(alloc, name.bytes(), entity)?;

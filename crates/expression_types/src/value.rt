@@ -1,41 +1,41 @@
-//! Typed expressions.
-ghost use Rattle.std.specs.Prelude.{◌≡◌};
+//! Values: typed expressions, and those that names have alone.
+ghost use Rattle.std.specs.Prelude.{◌≡◌, is_some};
 ghost use Rattle.std.specs.Option.{option_map};
 ghost use Rattle.typed_tree.specs.ConditionTree.{condition_tree};
 ghost use Rattle.typed_tree.specs.IntegerTree.{integer_tree};
-ghost use Rattle.expression_types.specs.ValueTree.{as_condition, as_integer, as_set, as_vertex, is_condition as condition, is_faulty as faulty, named_set, named_value, named_vector, operands_read_entry, reads_entry as entry_is_read, value_tree};
+ghost use Rattle.expression_types.specs.ValueTree.{as_condition, as_integer, as_set, as_vertex, is_condition as condition, is_error as error, named_set, named_value, named_vector, operands_read_entry, reads_entry as entry_is_read, value_tree};
 
 use crate::scope::Entity;
-use typed_tree::{Condition, Endpoint, Integer, Operand, Slot};
+use typed_tree::{BoolExpression, Endpoint, IntExpression, Operand, VarRef};
 
 /// A typed expression.
 pub enum Value {
-    Integer(Integer),
-    Condition(Condition),
+    Integer(IntExpression),
+    Condition(BoolExpression),
     /// A vertex that the function works on.
     Vertex(Endpoint),
     /// A visible vertex set.
-    Set(Slot),
+    Set(VarRef),
     /// A part of it is faulty.
-    Faulty,
+    Error,
 }
 
 impl Drop for Value {
     fn drop(self) {
         match self {
             Value::Integer(_) | Value::Condition(_) => {}
-            Value::Vertex(_) | Value::Set(_) | Value::Faulty => {}
+            Value::Vertex(_) | Value::Set(_) | Value::Error => {}
         }
     }
 }
 
 impl Value {
     /// Whether a part of it is faulty.
-    pub fn is_faulty(&self) -> bool
-        ensures { result ≡ faulty (value_tree self.now) }
+    pub fn is_error(&self) -> bool
+        ensures { result ≡ error (value_tree self.now) }
     {
         match self {
-            Value::Faulty => true,
+            Value::Error => true,
             _ => false,
         }
     }
@@ -61,7 +61,7 @@ impl Value {
     }
 
     /// The vertex set that it is, or `None` where it is none.
-    pub fn set(&self) -> Option<Slot>
+    pub fn set(&self) -> Option<VarRef>
         ensures { result ≡ as_set (value_tree self.now) }
     {
         match self {
@@ -71,23 +71,23 @@ impl Value {
     }
 
     /// The integer that the value reads as, or `None` where it is none; a vertex reads as its number.
-    pub fn into_integer(self) -> Option<Integer>
+    pub fn into_integer(self) -> Option<IntExpression>
         ensures { option_map integer_tree result ≡ as_integer (value_tree self) }
     {
         match self {
             Value::Integer(e) => Some(e),
-            Value::Vertex(at) => Some(Integer::Parameter(at)),
-            Value::Condition(_) | Value::Set(_) | Value::Faulty => None,
+            Value::Vertex(at) => Some(IntExpression::Parameter(at)),
+            Value::Condition(_) | Value::Set(_) | Value::Error => None,
         }
     }
 
     /// The condition that the value is, or `None` where it is none.
-    pub fn into_condition(self) -> Option<Condition>
+    pub fn into_condition(self) -> Option<BoolExpression>
         ensures { option_map condition_tree result ≡ as_condition (value_tree self) }
     {
         match self {
             Value::Condition(c) => Some(c),
-            Value::Integer(_) | Value::Vertex(_) | Value::Set(_) | Value::Faulty => None,
+            Value::Integer(_) | Value::Vertex(_) | Value::Set(_) | Value::Error => None,
         }
     }
 }
@@ -98,15 +98,32 @@ pub(crate) fn value_named(entity: Entity) -> Option<Value>
 {
     match entity {
         Entity::ConstantSet(slot) | Entity::SetVariable(slot) => Some(Value::Set(slot)),
-        Entity::IntegerConstant(name, n) => Some(Value::Integer(Integer::Constant(name, n))),
-        Entity::ConditionConstant(name, b) => Some(Value::Condition(Condition::Constant(name, b))),
+        Entity::IntegerConstant(name, n) => Some(Value::Integer(IntExpression::Constant(name, n))),
+        Entity::ConditionConstant(name, b) => Some(Value::Condition(BoolExpression::Constant(
+            name, b,
+        ))),
         Entity::IntegerVariable(slot) | Entity::LoopVariable(slot) => {
-            Some(Value::Integer(Integer::Variable(slot)))
+            Some(Value::Integer(IntExpression::Variable(slot)))
         }
-        Entity::ConditionVariable(slot) => Some(Value::Condition(Condition::Variable(slot))),
+        Entity::ConditionVariable(slot) => Some(Value::Condition(BoolExpression::Variable(slot))),
         Entity::Parameter(at) => Some(Value::Vertex(at)),
-        Entity::Unclear => Some(Value::Faulty),
+        Entity::Error => Some(Value::Error),
         _ => None,
+    }
+}
+
+/// Whether a name has a value alone.
+pub(crate) fn has_value(entity: Entity) -> bool
+    ensures { result ≡ is_some (named_value entity) }
+{
+    match entity {
+        Entity::Edges
+        | Entity::Vector(_)
+        | Entity::EdgeFunction(_)
+        | Entity::VertexFunction(_)
+        | Entity::Filter(_)
+        | Entity::Main => false,
+        _ => true,
     }
 }
 
@@ -121,7 +138,7 @@ pub fn vector_named(entity: Entity) -> Option<usize>
 }
 
 /// The vertex set that a name is, or `None` where it is none.
-pub fn set_named(entity: Entity) -> Option<Slot>
+pub fn set_named(entity: Entity) -> Option<VarRef>
     ensures { result ≡ named_set entity }
 {
     match entity {
@@ -132,18 +149,18 @@ pub fn set_named(entity: Entity) -> Option<Slot>
 
 /// Whether an entry of a vector is read in the expression.
 #[cycle(entries)]
-pub fn reads_entry(e: &Integer) -> bool
+pub fn reads_entry(e: &IntExpression) -> bool
     ensures { result ≡ entry_is_read (integer_tree e.now) }
 {
     match e {
-        Integer::EntryAt(_, _) | Integer::Entry(_, _) => true,
-        Integer::Number(_)
-        | Integer::Constant(_, _)
-        | Integer::Variable(_)
-        | Integer::Parameter(_)
-        | Integer::SetSize(_) => false,
-        Integer::Negative(_, e) => reads_entry(e),
-        Integer::Arithmetic(first, more) => reads_entry(first) || any_reads_entry(more),
+        IntExpression::EntryAt(_, _) | IntExpression::Entry(_, _) => true,
+        IntExpression::Number(_)
+        | IntExpression::Constant(_, _)
+        | IntExpression::Variable(_)
+        | IntExpression::Parameter(_)
+        | IntExpression::SetSize(_) => false,
+        IntExpression::Negative(_, e) => reads_entry(e),
+        IntExpression::Arithmetic(first, more) => reads_entry(first) || any_reads_entry(more),
     }
 }
 

@@ -5,7 +5,7 @@
 #![tactic(auto)]
 
 use devices::Device;
-use driver::{Disk, RequestError, Session, run};
+use driver::{Disk, RequestError, ScriptState, run};
 use std::env;
 use std::io::ErrorKind;
 use std::mem::forget;
@@ -13,17 +13,16 @@ use std::process::ExitCode;
 use std::rt::Env;
 
 fn main(rt: HostRuntime) -> ExitCode {
-    let mut session = Session::new(rt.alloc());
-    let status = match words(&rt) {
-        Ok(words) => serve(&rt, &words, &mut session),
+    let (status, state) = match words(&rt) {
+        Ok(words) => serve(&rt, &words),
         Err(error) => {
             // Where this fails too, the exit status alone tells.
             let _ = eprint!(rt; "{error}");
-            error.status()
+            (error.status(), None)
         }
     };
     // The graph goes with the process: to let go of its nodes one by one takes time, and nobody needs them freed.
-    forget(session);
+    forget(state);
     ExitCode::from(status)
 }
 
@@ -36,23 +35,15 @@ fn words(rt: &(impl Env + AllocGlobal)) -> Result<Vec<String>, RequestError> {
     }
 }
 
-// Does what the words ask for, and answers the exit status.
-fn serve(rt: &HostRuntime, words: &[String], session: &mut Session) -> u8 {
+// Does what the words ask for, and answers the exit status and what a script opened.
+fn serve(rt: &HostRuntime, words: &[String]) -> (u8, Option<ScriptState>) {
     let alloc = rt.alloc();
     let Ok(words) = words.iter().map(|word| word.as_str()).collect(alloc) else {
-        return RequestError::NoMemory.status();
+        return (RequestError::NoMemory.status(), None);
     };
     let words: Vec<&str> = words;
     let mut input = Device::new(rt.stdin());
     let mut out = Device::new(rt.stdout());
     let mut err = Device::new(rt.stderr());
-    run(
-        alloc,
-        &words,
-        &Disk(rt),
-        &mut input,
-        &mut out,
-        &mut err,
-        session,
-    )
+    run(alloc, &words, &Disk(rt), &mut input, &mut out, &mut err)
 }

@@ -1,3 +1,4 @@
 pub mod CellColumns
 pub mod VertexRows
 pub mod ShapeLaws
+pub mod MainCells

@@ -4,3 +4,4 @@ pub mod Gifts
 pub mod Expressions
 pub mod Columns
 pub mod Shapes
+pub mod MainCells

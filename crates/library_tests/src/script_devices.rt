@@ -1,6 +1,6 @@
 //! Scripts and their replies, over readers and writers that fail or go slowly.
 use devices::Device;
-use scripts::{ScriptError, Session, script};
+use scripts::{NoPrograms, ScriptError, script};
 use std::alloc::Global;
 use std::io;
 use std::io::{Error, ErrorKind, Read, Write};
@@ -63,9 +63,8 @@ fn run(alloc: Global, bytes: &[u8], room: usize) -> (Result<bool, ScriptError>, 
         bytes,
         is_interrupted: false,
     });
-    let mut session = Session::new(alloc);
     let mut out = Device::new(&mut writer);
-    let result = script(alloc, &[], &mut reader, &mut out, &mut session);
+    let (result, _state) = script(alloc, &NoPrograms, &mut reader, &mut out);
     drop(out);
     (result, writer.bytes)
 }
@@ -162,8 +161,7 @@ fn replies_before_it_reads_on(rt: HostRuntime) {
         missed: &missed,
     });
     let mut writer = Device::new(CountingWriter(&taken));
-    let mut session = Session::new(rt.alloc());
-    let ended = script(rt.alloc(), &[], &mut reader, &mut writer, &mut session);
+    let (ended, _state) = script(rt.alloc(), &NoPrograms, &mut reader, &mut writer);
     let all = taken.load(Ordering::SeqCst) == FIRST_REPLIES.len();
     assert!(rt; ended == Ok(false) && all && missed.load(Ordering::SeqCst) == 0);
 }

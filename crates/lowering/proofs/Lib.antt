@@ -5,4 +5,5 @@ pub mod Within
 pub mod Putting
 pub mod PlanLines
 pub mod Statements
-pub mod Reduced
+pub mod Rows
+pub mod SetsRead

@@ -6,10 +6,10 @@ use Rattle.plans.specs.declared.depth.Depth.{Depth}
 use Rattle.plans.specs.Instruction.{OperationTree, InstructionTree}
 use Rattle.plan_text.specs.Words.{joined, spaced}
 use Rattle.plan_text.proofs.Spaces.{absurd_cons, spaced_append}
-use Rattle.instructions.specs.declared.instruction.Instruction.{Instruction}
-use Rattle.instructions.specs.declared.operation.Operation.{Operation}
-use Rattle.instructions.specs.declared.operation.Operation.TheVariants as op
-use Rattle.instructions.specs.Operation.{AreInstructions, IsOperation}
+use Rattle.plans.specs.declared.instruction.Instruction.{Instruction}
+use Rattle.plans.specs.declared.operation.Operation.{Operation}
+use Rattle.plans.specs.declared.operation.Operation.TheVariants as op
+use Rattle.plans.specs.Operation.{AreInstructions, IsOperation}
 use Rattle.lowering.specs.Targets.{places_of}
 use Rattle.lowering.specs.Text.{AreWritten, IsWritten, instruction_line, instruction_lines, operation_words, target_words}
 

@@ -3,8 +3,8 @@ use Rattle.std.proofs.Common.{◌≡◌, ℕ, suc, ◌+◌, List, [], ◌∷◌,
 use Rattle.std.proofs.lemmas.List.{append-nil}
 use Rattle.typed_tree.specs.ProgramTree.{ProgramTree}
 use Rattle.plans.specs.Instruction.{InstructionTree}
-use Rattle.instructions.specs.declared.instruction.Instruction.{Instruction}
-use Rattle.instructions.proofs.Pairwise.{pairwise_append}
+use Rattle.plans.specs.declared.instruction.Instruction.{Instruction}
+use Rattle.plans.proofs.Pairwise.{pairwise_append}
 use Rattle.lowering.specs.Putting.{Fills, KeepsPlace, Puts}
 use Rattle.lowering.specs.Text.{AreWritten, IsWritten}
 

@@ -1,18 +1,18 @@
 -- The instructions of statements with blocks, and of blocks.
 use Rattle.std.proofs.Common.{◌≡◌, ℕ, ◌+◌, Bool, false, Option, List, [], ◌∷◌, ◌++◌, length, refl, sym, ap, ◌∙◌, arith, subst, append-nil, append_assoc}
-use Rattle.typed_tree.specs.declared.statement.Statement.{Statement}
+use Rattle.typed_tree.specs.declared.statement.MainStatement.{MainStatement}
 use Rattle.typed_tree.specs.IntegerTree.{IntegerTree}
 use Rattle.typed_tree.specs.ConditionTree.{ConditionTree}
 use Rattle.typed_tree.specs.BlockTree.{ActionTree, DeclareInteger, If, IfElse, While, For, BlockTree, Then, block_tree}
 use Rattle.typed_tree.specs.ProgramTree.{ProgramTree}
-use Rattle.schedule.specs.Schedule.{ScheduleTree}
+use Rattle.apply_options.specs.ScheduleTree.{ScheduleTree}
 use Rattle.plans.specs.declared.depth.Depth.{Depth}
 use Rattle.plans.specs.Instruction.{InstructionTree, Do, Unless, Enter, UnlessBelow, Advance, Turn, Jump, End}
 use Rattle.plans.specs.Fusing.{company_of, takes_next}
 use Rattle.plans.specs.Plan.{behind, behind_all, in_loop, main_depth, plan_of, with_integer, plain, loop_step, plan_in, size_in, size, size_all, plan, plan_all}
 use Rattle.plans.proofs.Places.{length_in, length-plan, length-plan_all}
-use Rattle.instructions.specs.declared.instruction.Instruction.{Instruction}
-use Rattle.instructions.proofs.Pairwise.{pairwise_append}
+use Rattle.plans.specs.declared.instruction.Instruction.{Instruction}
+use Rattle.plans.proofs.Pairwise.{pairwise_append}
 use Rattle.lowering.specs.Putting.{BeginsLoop, Fills, KeepsPlace, Puts}
 use Rattle.lowering.specs.Text.{AreWritten, IsWritten}
 use Rattle.lowering.proofs.Putting.{place_length, puts_both, puts_filled, puts_length, puts_nothing}
@@ -44,7 +44,7 @@ module _ (p : ProgramTree) (s : ScheduleTree) where
   pub has_put_none : (a : List Instruction) (d : Depth) (is_done : Bool) (left : BlockTree) → HasPut (plan_all p s (length a) d is_done left) a a d is_done left
   has_put_none a d is_done left = record { done = []; puts = puts_nothing p a; is = refl }
 
-  pub has_put_all : (whole : List InstructionTree) (a b : List Instruction) (d : Depth) (is_done : Bool) (left : List Statement)
+  pub has_put_all : (whole : List InstructionTree) (a b : List Instruction) (d : Depth) (is_done : Bool) (left : List MainStatement)
       → length left ≡ 0 → HasPut whole a b d is_done (block_tree left) → Puts p a b whole
   has_put_all whole a b d is_done [] none put = subst (Puts p a b) (sym (put.is ∙ append-nil put.done)) put.puts
   has_put_all whole a b d is_done (first ∷ left) none put = absurd (omega (arith, none))
@@ -109,7 +109,7 @@ module _ (p : ProgramTree) (s : ScheduleTree) where
       (subst (λ q. Fills p g e n (loop_step number (in_loop d) d (UnlessBelow name q))) to fills))
 
 -- nothing is declared where no statement is left
-pub behind_none : (left : List Statement) (d : Depth) → length left ≡ 0 → behind_all (block_tree left) d ≡ d
+pub behind_none : (left : List MainStatement) (d : Depth) → length left ≡ 0 → behind_all (block_tree left) d ≡ d
 behind_none [] d none = refl
 behind_none (first ∷ left) d none = absurd (omega (arith, none))
 

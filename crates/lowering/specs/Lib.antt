@@ -3,4 +3,5 @@ pub mod Kinds
 pub mod Text
 pub mod Targets
 pub mod Putting
-pub mod Compiling
+pub mod Omitting
+pub mod Rows

@@ -2,7 +2,7 @@
 use Rattle.std.specs.Prelude.{◌≡◌, ℕ, List, [], ◌∷◌, ◌++◌, length, slice_set}
 use Rattle.typed_tree.specs.ProgramTree.{ProgramTree}
 use Rattle.plans.specs.Instruction.{InstructionTree}
-use Rattle.instructions.specs.declared.instruction.Instruction.{Instruction}
+use Rattle.plans.specs.declared.instruction.Instruction.{Instruction}
 use Rattle.lowering.specs.Text.{AreWritten, IsWritten}
 
 -- the code has grown by these instructions of a program

@@ -1,7 +1,7 @@
 -- For proofs only: where operations may go, as words.
 use Rattle.std.specs.Prelude.{ℕ, List, [], ◌∷◌, decimal}
-use Rattle.instructions.specs.declared.operation.Operation.{Operation}
-use Rattle.instructions.specs.declared.operation.Operation.TheVariants.{Unless, UnlessBelow, Jump}
+use Rattle.plans.specs.declared.operation.Operation.{Operation}
+use Rattle.plans.specs.declared.operation.Operation.TheVariants.{Unless, UnlessBelow, Jump}
 
 abbrev pub places_of : Operation → List (List ℕ)
 places_of (Unless test to) = decimal to ∷ []

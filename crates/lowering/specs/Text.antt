@@ -1,18 +1,18 @@
 -- The text of a plan: a line for each group of vectors, and then one for each instruction.
 use Rattle.std.specs.Prelude.{◌≡◌, ℕ, ◌+◌, List, [], ◌∷◌, ◌++◌, Option, Some, None, codes, decimal}
 use Rattle.typed_tree.specs.ProgramTree.{ProgramTree}
-use Rattle.schedule.specs.declared.choice.Choice.{Choice}
-use Rattle.schedule.specs.Schedule.{ScheduleTree}
+use Rattle.apply_options.specs.declared.apply_schedule.ApplySchedule.{ApplySchedule}
+use Rattle.apply_options.specs.ScheduleTree.{ScheduleTree}
 use Rattle.plans.specs.Instruction.{ResultTree, Dropped, Declared, Assigned, EdgePartTree, OperationTree, Do, ApplyEdgesTogether, ApplyVerticesTogether, Unless, Enter, UnlessBelow, Advance, Turn, Jump, End, InstructionTree}
 use Rattle.plans.specs.Plan.{plan_of}
 use Rattle.plan_text.specs.declared.part.ChangedSet.{ChangedSet}
 use Rattle.plan_text.specs.declared.part.Part.{Part}
 use Rattle.plan_text.specs.Lines.{advance_words, below_words, bound_words, edges_words, group_words, statement_words, unless_words, vertices_words}
 use Rattle.plan_text.specs.Words.{joined, spaced}
-use Rattle.instructions.specs.declared.instruction.Instruction.{Instruction}
-use Rattle.instructions.specs.declared.plan.Plan.{Plan}
-use Rattle.instructions.specs.Kernels.{ArePairwise}
-use Rattle.instructions.specs.Operation.{IsInstruction}
+use Rattle.plans.specs.declared.instruction.Instruction.{Instruction}
+use Rattle.plans.specs.declared.plan.Plan.{Plan}
+use Rattle.plans.specs.Kernels.{ArePairwise}
+use Rattle.plans.specs.Operation.{IsInstruction}
 
 -- an edge function as the text names it
 abbrev pub changed_set : ResultTree → Option ChangedSet
@@ -24,7 +24,7 @@ abbrev pub shown_part : EdgePartTree → Part
 shown_part part = record { function = part.function; changed = changed_set part.result }
 
 -- the words of an operation, before the place that it may go to; an apply is done as the schedule says
-abbrev pub operation_words : ProgramTree → Choice → OperationTree → List (List ℕ)
+abbrev pub operation_words : ProgramTree → ApplySchedule → OperationTree → List (List ℕ)
 operation_words p choice (Do action) = statement_words p action choice
 operation_words p choice (ApplyEdgesTogether ends first second) = edges_words p ends (shown_part first) (Some (shown_part second)) choice
 operation_words p choice (ApplyVerticesTogether set first second) = vertices_words p set first (Some second)

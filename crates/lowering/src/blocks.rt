@@ -9,12 +9,12 @@ ghost use Rattle.plans.specs.Plan.{behind, behind_all, plan, plan_all, plan_in};
 ghost use Rattle.lowering.specs.Putting.{Puts};
 ghost use Rattle.lowering.specs.Visible.{depth_of};
 
+use crate::fusing::pair_at;
 use crate::visible::Visible;
-use fusing::pair_at;
-use instructions::Instruction;
+use plans::Instruction;
 use schedule::Schedule;
 use std::alloc::{AllocError, Global};
-use typed_tree::{Action, Condition, Integer, Statement, Typed};
+use typed_tree::{BoolExpression, IntExpression, MainStatement, StatementKind, Typed};
 
 /// Lowers the statements of a program under a schedule.
 #[derive(Clone, Copy)]
@@ -29,7 +29,7 @@ impl Lowering<'_> {
     #[cycle(lower)]
     pub(crate) fn put_all(
         self,
-        statements: &[Statement],
+        statements: &[MainStatement],
         visible: &mut Visible,
         code: &mut Vec<Instruction>,
     ) -> Result<(), AllocError>
@@ -50,8 +50,8 @@ impl Lowering<'_> {
     #[cycle(lower)]
     fn put_next(
         self,
-        statement: &Statement,
-        rest: &[Statement],
+        statement: &MainStatement,
+        rest: &[MainStatement],
         is_done: bool,
         visible: &mut Visible,
         code: &mut Vec<Instruction>,
@@ -90,7 +90,7 @@ impl Lowering<'_> {
     #[cycle(lower)]
     fn put_statement(
         self,
-        statement: &Statement,
+        statement: &MainStatement,
         visible: &mut Visible,
         code: &mut Vec<Instruction>,
     ) -> Result<(), AllocError>
@@ -99,12 +99,12 @@ impl Lowering<'_> {
     {
         let number = statement.number;
         match &statement.action {
-            Action::If(c, body) => self.put_if(number, c, body, visible, code),
-            Action::IfElse(c, body, other) => self.put_choice(
+            StatementKind::If(c, body) => self.put_if(number, c, body, visible, code),
+            StatementKind::IfElse(c, body, other) => self.put_choice(
                 number, c, body, other, visible, code,
             ),
-            Action::While(c, body) => self.put_while(number, c, body, visible, code),
-            Action::For(name, first, end, body) => {
+            StatementKind::While(c, body) => self.put_while(number, c, body, visible, code),
+            StatementKind::For(name, first, end, body) => {
                 self.put_for(number, *name, first, end, body, visible, code)
             }
             action => {
@@ -119,8 +119,8 @@ impl Lowering<'_> {
     fn put_if(
         self,
         number: u64,
-        c: &Condition,
-        body: &[Statement],
+        c: &BoolExpression,
+        body: &[MainStatement],
         visible: &mut Visible,
         code: &mut Vec<Instruction>,
     ) -> Result<(), AllocError>
@@ -138,9 +138,9 @@ impl Lowering<'_> {
     fn put_choice(
         self,
         number: u64,
-        c: &Condition,
-        body: &[Statement],
-        other: &[Statement],
+        c: &BoolExpression,
+        body: &[MainStatement],
+        other: &[MainStatement],
         visible: &mut Visible,
         code: &mut Vec<Instruction>,
     ) -> Result<(), AllocError>
@@ -161,8 +161,8 @@ impl Lowering<'_> {
     fn put_while(
         self,
         number: u64,
-        c: &Condition,
-        body: &[Statement],
+        c: &BoolExpression,
+        body: &[MainStatement],
         visible: &mut Visible,
         code: &mut Vec<Instruction>,
     ) -> Result<(), AllocError>
@@ -182,9 +182,9 @@ impl Lowering<'_> {
         self,
         number: u64,
         name: usize,
-        first: &Integer,
-        end: &Integer,
-        body: &[Statement],
+        first: &IntExpression,
+        end: &IntExpression,
+        body: &[MainStatement],
         visible: &mut Visible,
         code: &mut Vec<Instruction>,
     ) -> Result<(), AllocError>
@@ -206,7 +206,7 @@ impl Lowering<'_> {
     #[cycle(lower)]
     fn put_inside(
         self,
-        body: &[Statement],
+        body: &[MainStatement],
         visible: &mut Visible,
         code: &mut Vec<Instruction>,
     ) -> Result<(), AllocError>

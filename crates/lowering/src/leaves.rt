@@ -4,12 +4,12 @@ ghost use Rattle.typed_tree.specs.BlockTree.{DeclareInteger, action_tree};
 ghost use Rattle.typed_tree.specs.ConditionTree.{condition_tree};
 ghost use Rattle.typed_tree.specs.IntegerTree.{integer_tree};
 ghost use Rattle.typed_tree.specs.ProgramTree.{program_tree};
-ghost use Rattle.schedule.specs.Schedule.{no_choice};
+ghost use Rattle.apply_options.specs.ScheduleTree.{no_choice};
 ghost use Rattle.plans.specs.Instruction.{Advance, Do, Enter, Jump, Turn, Unless, UnlessBelow};
 ghost use Rattle.plans.specs.Plan.{chosen, in_loop, loop_step, plain as plain_tree, with_integer};
 ghost use Rattle.plan_text.specs.Words.{spaced};
-ghost use Rattle.fusing.specs.Parts.{part_tree, together_tree};
-ghost use Rattle.instructions.specs.Operation.{IsOperation};
+ghost use Rattle.plans.specs.Parts.{part_tree, together_tree};
+ghost use Rattle.plans.specs.Operation.{IsOperation};
 ghost use Rattle.lowering.specs.Kinds.{HasNoBlock};
 ghost use Rattle.lowering.specs.Putting.{BeginsLoop, Fills, KeepsPlace, Puts};
 ghost use Rattle.lowering.specs.Text.{IsWritten, operation_words, shown_part};
@@ -18,13 +18,11 @@ ghost use Rattle.lowering.specs.Visible.{depth_of};
 use crate::blocks::Lowering;
 use crate::operations::{condition_kernel, integer_kernel, operation_of};
 use crate::visible::Visible;
-use fusing::{EdgePart, PartResult, Together};
-use instructions::{Instruction, Operation};
+use apply_options::ApplySchedule;
 use plan_text::{ChangedSet, Lines, Part};
-use plans::Depth;
-use schedule::Choice;
+use plans::{Depth, EdgePart, FusedPair, Instruction, Operation, PartResult};
 use std::alloc::AllocError;
-use typed_tree::{Action, Condition, Integer, Statement};
+use typed_tree::{BoolExpression, IntExpression, MainStatement, StatementKind};
 
 /// An instruction at what is visible.
 pub(crate) fn plain(number: u64, depth: Depth, operation: Operation, words: Vec<u8>) -> Instruction
@@ -39,7 +37,7 @@ pub(crate) fn plain(number: u64, depth: Depth, operation: Operation, words: Vec<
         number,
         keep: depth,
         shown: depth,
-        choice: Choice::none(),
+        choice: ApplySchedule::none(),
         operation,
         words,
     }
@@ -60,7 +58,7 @@ impl Lowering<'_> {
         self,
         number: u64,
         depth: Depth,
-        c: &Condition,
+        c: &BoolExpression,
         to: usize,
     ) -> Result<Instruction, AllocError>
         ensures { IfOk result (λ i. IsWritten (program_tree self.entry.program.now) i (plain_tree number depth (Unless (condition_tree c.now) to))) }
@@ -84,7 +82,7 @@ impl Lowering<'_> {
             number,
             keep,
             shown,
-            choice: Choice::none(),
+            choice: ApplySchedule::none(),
             operation: Operation::Turn,
             words,
         })
@@ -106,7 +104,7 @@ impl Lowering<'_> {
             number,
             keep,
             shown,
-            choice: Choice::none(),
+            choice: ApplySchedule::none(),
             operation: Operation::Jump { to },
             words,
         })
@@ -144,7 +142,7 @@ impl Lowering<'_> {
             number,
             keep,
             shown,
-            choice: Choice::none(),
+            choice: ApplySchedule::none(),
             operation: Operation::UnlessBelow { name, to },
             words,
         })
@@ -156,7 +154,7 @@ impl Lowering<'_> {
         number: u64,
         depth: Depth,
         name: usize,
-        e: &Integer,
+        e: &IntExpression,
         code: &mut Vec<Instruction>,
     ) -> Result<(), AllocError>
         ensures { OnOk result (Puts (program_tree self.entry.program.now) code.old.items code.new.items (plain_tree number depth (Do (DeclareInteger name (integer_tree e.now))) ∷ [])) }
@@ -171,7 +169,7 @@ impl Lowering<'_> {
         number: u64,
         depth: Depth,
         name: usize,
-        e: &Integer,
+        e: &IntExpression,
     ) -> Result<Instruction, AllocError>
         ensures { IfOk result (λ i. IsWritten (program_tree self.entry.program.now) i (plain_tree number depth (Do (DeclareInteger name (integer_tree e.now))))) }
     {
@@ -196,7 +194,7 @@ impl Lowering<'_> {
         keep: Depth,
         shown: Depth,
         name: usize,
-        e: &Integer,
+        e: &IntExpression,
         code: &mut Vec<Instruction>,
     ) -> Result<(), AllocError>
         ensures { OnOk result (Puts (program_tree self.entry.program.now) code.old.items code.new.items (loop_step number keep shown (Enter name (integer_tree e.now)) ∷ [])) }
@@ -212,7 +210,7 @@ impl Lowering<'_> {
         keep: Depth,
         shown: Depth,
         name: usize,
-        e: &Integer,
+        e: &IntExpression,
     ) -> Result<Instruction, AllocError>
         ensures { IfOk result (λ i. IsWritten (program_tree self.entry.program.now) i (loop_step number keep shown (Enter name (integer_tree e.now)))) }
     {
@@ -226,7 +224,7 @@ impl Lowering<'_> {
             number,
             keep,
             shown,
-            choice: Choice::none(),
+            choice: ApplySchedule::none(),
             operation: Operation::Enter { name, end },
             words,
         })
@@ -297,7 +295,7 @@ impl Lowering<'_> {
         self,
         number: u64,
         depth: Depth,
-        c: &Condition,
+        c: &BoolExpression,
         to: usize,
         place: usize,
         code: &mut Vec<Instruction>,
@@ -346,8 +344,8 @@ impl Lowering<'_> {
         self,
         number: u64,
         name: usize,
-        first: &Integer,
-        end: &Integer,
+        first: &IntExpression,
+        end: &IntExpression,
         visible: &mut Visible,
         code: &mut Vec<Instruction>,
     ) -> Result<(), AllocError>
@@ -366,7 +364,7 @@ impl Lowering<'_> {
     /// Puts the instruction of a statement without a block.
     pub(crate) fn put_simple(
         self,
-        statement: &Statement,
+        statement: &MainStatement,
         depth: Depth,
         code: &mut Vec<Instruction>,
     ) -> Result<(), AllocError>
@@ -393,8 +391,8 @@ impl Lowering<'_> {
     /// Puts the instruction of two applies that are done together.
     pub(crate) fn put_pair(
         self,
-        statement: &Statement,
-        pair: Together,
+        statement: &MainStatement,
+        pair: FusedPair,
         depth: Depth,
         code: &mut Vec<Instruction>,
     ) -> Result<(), AllocError>
@@ -417,8 +415,8 @@ impl Lowering<'_> {
     fn put_pair_words(
         self,
         words: &mut Vec<u8>,
-        pair: Together,
-        choice: Choice,
+        pair: FusedPair,
+        choice: ApplySchedule,
     ) -> Result<(), AllocError>
         ensures { OnOk result (words.new.items ≡ words.old.items ++ spaced (operation_words (program_tree self.entry.program.now) choice (together_tree pair))) }
     {
@@ -426,12 +424,12 @@ impl Lowering<'_> {
             program: self.program,
         };
         match pair {
-            Together::Edges {
+            FusedPair::Edges {
                 ends,
                 first,
                 second,
             } => { lines.put_edges(words, ends, part_of(first), Some(part_of(second)), choice) }
-            Together::Vertices { set, first, second } => {
+            FusedPair::Vertices { set, first, second } => {
                 lines.put_vertices(words, set, first, Some(second))
             }
         }
@@ -439,11 +437,11 @@ impl Lowering<'_> {
 }
 
 /// What two applies that are done together do.
-fn operation_of_pair(pair: Together) -> Operation
+fn operation_of_pair(pair: FusedPair) -> Operation
     ensures { (keep shown : Depth) → IsOperation keep shown result (together_tree pair) }
 {
     match pair {
-        Together::Edges {
+        FusedPair::Edges {
             ends,
             first,
             second,
@@ -452,7 +450,7 @@ fn operation_of_pair(pair: Together) -> Operation
             first,
             second: Some(second),
         },
-        Together::Vertices { set, first, second } => Operation::ApplyVertices {
+        FusedPair::Vertices { set, first, second } => Operation::ApplyVertices {
             set,
             first,
             second: Some(second),

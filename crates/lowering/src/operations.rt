@@ -6,21 +6,20 @@ ghost use Rattle.typed_tree.specs.IntegerTree.{integer_tree};
 ghost use Rattle.kernels.specs.Expressions.{IsConditionKernel, IsIntegerKernel};
 ghost use Rattle.plans.specs.Fusing.{EdgeApplyTree, edge_apply_of as edge_apply_in};
 ghost use Rattle.plans.specs.Instruction.{Do};
-ghost use Rattle.instructions.specs.Members.{set_value};
-ghost use Rattle.instructions.specs.Operation.{IsFor, IsOperation};
+ghost use Rattle.plans.specs.Members.{set_value};
+ghost use Rattle.plans.specs.Operation.{IsFor, IsOperation};
 ghost use Rattle.lowering.specs.Kinds.{HasNoBlock, IsModified, IsOnSets, IsOther};
 
-use fusing::edge_apply_of;
-use instructions::{Members, Operation};
+use crate::fusing::edge_apply_of;
 use kernels::ExpressionKernel;
-use plans::Depth;
+use plans::{Depth, Members, Operation};
 use std::alloc::{AllocError, Global};
-use typed_tree::{Action, Condition, Integer, SetValue};
+use typed_tree::{BoolExpression, IntExpression, SetValue, StatementKind};
 
 /// The kernel of an expression of type `int` where so much is visible.
 pub(crate) fn integer_kernel(
     alloc: Global,
-    e: &Integer,
+    e: &IntExpression,
     depth: Depth,
 ) -> Result<ExpressionKernel, AllocError>
     ensures kernel { IfOk result (λ k. IsIntegerKernel k (integer_tree e.now)) }
@@ -32,7 +31,7 @@ pub(crate) fn integer_kernel(
 /// The same of type `bool`.
 pub(crate) fn condition_kernel(
     alloc: Global,
-    c: &Condition,
+    c: &BoolExpression,
     depth: Depth,
 ) -> Result<ExpressionKernel, AllocError>
     ensures kernel { IfOk result (λ k. IsConditionKernel k (condition_tree c.now)) }
@@ -44,29 +43,29 @@ pub(crate) fn condition_kernel(
 /// What a statement without a block does, where so much is visible.
 pub(crate) fn operation_of(
     alloc: Global,
-    action: &Action,
+    action: &StatementKind,
     depth: Depth,
 ) -> Result<Operation, AllocError>
     ensures { IfOk result (λ o. HasNoBlock (action_tree action.now) → IsOperation depth depth o (Do (action_tree action.now))) }
 {
     match action {
-        Action::DeclareInteger(name, e) => {
+        StatementKind::DeclareInteger(name, e) => {
             let value = integer_kernel(alloc, e, depth)?;
             Ok(Operation::DeclareInteger { name: *name, value })
         }
-        Action::DeclareCondition(name, c) => {
+        StatementKind::DeclareCondition(name, c) => {
             let value = condition_kernel(alloc, c, depth)?;
             Ok(Operation::DeclareCondition { name: *name, value })
         }
-        Action::SetInteger(slot, e) => {
+        StatementKind::SetInteger(slot, e) => {
             let value = integer_kernel(alloc, e, depth)?;
             Ok(Operation::SetInteger { slot: *slot, value })
         }
-        Action::SetCondition(slot, c) => {
+        StatementKind::SetCondition(slot, c) => {
             let value = condition_kernel(alloc, c, depth)?;
             Ok(Operation::SetCondition { slot: *slot, value })
         }
-        Action::ReduceInteger(slot, reduction, e) => {
+        StatementKind::ReduceInteger(slot, reduction, e) => {
             let value = integer_kernel(alloc, e, depth)?;
             Ok(Operation::ReduceInteger {
                 slot: *slot,
@@ -74,31 +73,35 @@ pub(crate) fn operation_of(
                 value,
             })
         }
-        Action::PrintCondition(c) => {
+        StatementKind::PrintCondition(c) => {
             let value = condition_kernel(alloc, c, depth)?;
             Ok(Operation::PrintCondition { value })
         }
-        Action::SetEntry(_, _, _)
-        | Action::ReduceEntry(_, _, _, _)
-        | Action::AddVertex(_, _)
-        | Action::PrintInteger(_)
-        | Action::DeclareSet(_, _)
-        | Action::AssignSet(_, _)
-        | Action::ApplyVertex(_, _)
-        | Action::ApplyEdges(_, _) => other_operation(alloc, action, depth),
-        Action::If(_, _)
-        | Action::IfElse(_, _, _)
-        | Action::While(_, _)
-        | Action::For(_, _, _, _) => Ok(Operation::End),
+        StatementKind::SetEntry(_, _, _)
+        | StatementKind::ReduceEntry(_, _, _, _)
+        | StatementKind::AddVertex(_, _)
+        | StatementKind::PrintInteger(_)
+        | StatementKind::DeclareSet(_, _)
+        | StatementKind::AssignSet(_, _)
+        | StatementKind::ApplyVertex(_, _)
+        | StatementKind::ApplyEdges(_, _) => other_operation(alloc, action, depth),
+        StatementKind::If(_, _)
+        | StatementKind::IfElse(_, _, _)
+        | StatementKind::While(_, _)
+        | StatementKind::For(_, _, _, _) => Ok(Operation::End),
     }
 }
 
 /// The same of statements on vectors, sets and edges, and of `print`.
-fn other_operation(alloc: Global, action: &Action, depth: Depth) -> Result<Operation, AllocError>
+fn other_operation(
+    alloc: Global,
+    action: &StatementKind,
+    depth: Depth,
+) -> Result<Operation, AllocError>
     ensures { IfOk result (λ o. IsOther (action_tree action.now) → IsOperation depth depth o (Do (action_tree action.now))) }
 {
     match action {
-        Action::SetEntry(vector, index, e) => {
+        StatementKind::SetEntry(vector, index, e) => {
             let index = integer_kernel(alloc, index, depth)?;
             let value = integer_kernel(alloc, e, depth)?;
             Ok(Operation::SetEntry {
@@ -107,7 +110,7 @@ fn other_operation(alloc: Global, action: &Action, depth: Depth) -> Result<Opera
                 value,
             })
         }
-        Action::ReduceEntry(vector, index, reduction, e) => {
+        StatementKind::ReduceEntry(vector, index, reduction, e) => {
             let index = integer_kernel(alloc, index, depth)?;
             let value = integer_kernel(alloc, e, depth)?;
             Ok(Operation::ReduceEntry {
@@ -117,56 +120,56 @@ fn other_operation(alloc: Global, action: &Action, depth: Depth) -> Result<Opera
                 value,
             })
         }
-        Action::AddVertex(slot, e) => {
+        StatementKind::AddVertex(slot, e) => {
             let vertex = integer_kernel(alloc, e, depth)?;
             Ok(Operation::AddVertex {
                 slot: *slot,
                 vertex,
             })
         }
-        Action::PrintInteger(e) => {
+        StatementKind::PrintInteger(e) => {
             let value = integer_kernel(alloc, e, depth)?;
             Ok(Operation::PrintInteger { value })
         }
-        Action::DeclareSet(_, _)
-        | Action::AssignSet(_, _)
-        | Action::ApplyVertex(_, _)
-        | Action::ApplyEdges(_, _) => Ok(set_operation(action)),
+        StatementKind::DeclareSet(_, _)
+        | StatementKind::AssignSet(_, _)
+        | StatementKind::ApplyVertex(_, _)
+        | StatementKind::ApplyEdges(_, _) => Ok(set_operation(action)),
         _ => Ok(Operation::End),
     }
 }
 
 /// The same of a statement on a vertex set, and of an apply.
-fn set_operation(action: &Action) -> Operation
+fn set_operation(action: &StatementKind) -> Operation
     ensures { (keep shown : Depth) → IsOnSets (action_tree action.now) → IsOperation keep shown result (Do (action_tree action.now)) }
 {
     match action {
-        Action::ApplyVertex(set, function) => Operation::ApplyVertices {
+        StatementKind::ApplyVertex(set, function) => Operation::ApplyVertices {
             set: *set,
             first: *function,
             second: None,
         },
-        Action::DeclareSet(name, value) => match members_of(*value) {
+        StatementKind::DeclareSet(name, value) => match members_of(*value) {
             Some(members) => Operation::DeclareSet {
                 name: *name,
                 members,
             },
             None => edge_operation(action),
         },
-        Action::AssignSet(slot, value) => match members_of(*value) {
+        StatementKind::AssignSet(slot, value) => match members_of(*value) {
             Some(members) => Operation::AssignSet {
                 slot: *slot,
                 members,
             },
             None => edge_operation(action),
         },
-        Action::ApplyEdges(_, _) => edge_operation(action),
+        StatementKind::ApplyEdges(_, _) => edge_operation(action),
         _ => Operation::End,
     }
 }
 
 /// The edge apply that a statement is.
-fn edge_operation(action: &Action) -> Operation
+fn edge_operation(action: &StatementKind) -> Operation
     ensures { (keep shown : Depth) (x : EdgeApplyTree) → edge_apply_in (action_tree action.now) ≡ Some x → IsOperation keep shown result (Do (action_tree action.now)) }
 {
     match edge_apply_of(action) {

@@ -3,17 +3,18 @@ ghost use Rattle.std.specs.Prelude.{◌≡◌, ◌++◌, IfOk, OnOk};
 ghost use Rattle.typed_tree.specs.ProgramTree.{program_tree};
 ghost use Rattle.plans.specs.Plan.{plan_of};
 ghost use Rattle.plan_text.specs.Lines.{group_words};
-ghost use Rattle.instructions.specs.Plan.{IsPlan};
+ghost use Rattle.plans.specs.PlanOf.{IsPlan, program_of};
 ghost use Rattle.lowering.specs.Text.{AreWritten, HasText, group_lines, line_of};
 
 use crate::blocks::Lowering;
 use crate::copies::copied;
 use crate::leaves::plain;
 use crate::visible::Visible;
-use instructions::{Functions, Instruction, Operation, Plan};
 use plan_text::{Lines, end_line};
+use plans::{FunctionKernels, Instruction, Operation, Plan};
 use schedule::Schedule;
 use std::alloc::{AllocError, Global};
+use std::snapshot::Snapshot;
 use typed_tree::Typed;
 
 /// The plan of a checked program under a schedule, which must be one that was accepted for it where a plan of it is to
@@ -21,10 +22,11 @@ use typed_tree::Typed;
 /// fuses to what decides whether they fit. The only error is out of memory.
 pub fn lower(alloc: Global, program: &Typed, schedule: &Schedule) -> Result<Plan, AllocError>
     ensures plan { IfOk result (λ plan. IsPlan plan (program_tree program.now) schedule.now) }
+    ensures program { IfOk result (λ plan. program_of plan ≡ program_tree program.now) }
     ensures text { IfOk result (λ plan. HasText plan (program_tree program.now) schedule.now) }
 {
     let instructions = instructions_of(alloc, program, schedule)?;
-    let functions = Functions::of(alloc, program)?;
+    let functions = FunctionKernels::of(alloc, program)?;
     let vectors = Vec::from_slice(alloc, &program.vectors)?;
     let sets = Vec::from_slice(alloc, &program.sets)?;
     let names = copied(alloc, &program.names)?;
@@ -38,6 +40,7 @@ pub fn lower(alloc: Global, program: &Typed, schedule: &Schedule) -> Result<Plan
         names,
         groups,
         fields,
+        program: Snapshot::of(program),
     })
 }
 

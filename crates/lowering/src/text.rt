@@ -1,15 +1,15 @@
 //! The text of plans.
 ghost use Rattle.std.specs.Prelude.{◌≡◌, ◌++◌, IfOk, OnOk};
 ghost use Rattle.typed_tree.specs.ProgramTree.{ProgramTree};
-ghost use Rattle.schedule.specs.Schedule.{ScheduleTree};
+ghost use Rattle.apply_options.specs.ScheduleTree.{ScheduleTree};
 ghost use Rattle.plans.specs.Instruction.{InstructionTree};
 ghost use Rattle.plan_text.specs.Words.{spaced};
 ghost use Rattle.lowering.specs.Targets.{places_of};
 ghost use Rattle.lowering.specs.Text.{HasText, IsWritten, instruction_line, text_of};
 
 use decimal::push_number;
-use instructions::{Instruction, Operation, Plan};
 use plan_text::end_line;
+use plans::{Instruction, Operation, Plan};
 use std::alloc::{AllocError, Global};
 
 /// The text of a plan: a line `fields` with names for each group of vectors, in the order of the schedule; then a line for

@@ -6,7 +6,7 @@ ghost use Rattle.lowering.specs.Visible.{IsWithin, depth_of};
 
 use plans::Depth;
 use std::alloc::{AllocError, Global};
-use typed_tree::Action;
+use typed_tree::StatementKind;
 
 /// The names of the variables and vertex sets of `main` that are visible, by their places. They are counted by lists, so
 /// that a count never overflows.
@@ -42,13 +42,13 @@ impl Visible {
     }
 
     /// With what a statement declares behind it.
-    pub(crate) fn declare(&mut self, action: &Action) -> Result<(), AllocError>
+    pub(crate) fn declare(&mut self, action: &StatementKind) -> Result<(), AllocError>
         ensures { OnOk result (depth_of self.new ≡ behind (action_tree action.now) (depth_of self.old)) }
     {
         match action {
-            Action::DeclareInteger(name, _) => self.integers.push(*name)?,
-            Action::DeclareCondition(name, _) => self.conditions.push(*name)?,
-            Action::DeclareSet(name, _) => self.sets.push(*name)?,
+            StatementKind::DeclareInteger(name, _) => self.integers.push(*name)?,
+            StatementKind::DeclareCondition(name, _) => self.conditions.push(*name)?,
+            StatementKind::DeclareSet(name, _) => self.sets.push(*name)?,
             _ => {}
         }
         Ok(())

@@ -7,8 +7,8 @@ use Rattle.syntax.specs.Terminals.{Terminal, Identifier, Name, OfKeyword, OfSymb
 use Rattle.syntax.specs.ExpressionReading.{Reader, ◌>>=◌}
 use Rattle.syntax.specs.declared.declaration.DeclaredType.{DeclaredType}
 use Rattle.syntax.specs.declared.declaration.DeclaredType.TheVariants as type
-use Rattle.syntax.specs.declared.schedule.Setting.{Setting}
-use Rattle.syntax.specs.declared.schedule.Setting.TheVariants as setting
+use Rattle.apply_options.specs.declared.setting.Setting.{Setting}
+use Rattle.apply_options.specs.declared.setting.Setting.TheVariants as setting
 use Rattle.syntax.specs.SourceTrees.{ActionTree, InitialTree, Apply, NewSet, Load, Vertices, OutDegrees, Filter, ApplyModified}
 use Rattle.syntax.specs.SourceReading.{in_braces, in_parentheses, after_terminal, after_terminals, closed, name_at, number_at, argument_at, method_at, ends_at}
 

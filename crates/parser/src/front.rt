@@ -12,7 +12,7 @@ use crate::expression::read_expression;
 use crate::syntax_error::SyntaxError;
 use lexer::{Keyword, Symbol, TokenKind};
 use std::alloc::Global;
-use syntax::{Expression, NESTING_LIMIT, Name, Text};
+use syntax::{Expression, NESTING_LIMIT, Name, QuotedText};
 
 impl<'a> Cursor<'a> {
     /// The place behind a dot and a keyword that opens nothing, if these are the next two tokens.
@@ -84,7 +84,7 @@ impl<'a> Cursor<'a> {
     }
 
     /// The text in quotes at the front, and the place behind it.
-    pub(crate) fn text(self, alloc: Global) -> Result<(Text, Cursor<'a>), SyntaxError>
+    pub(crate) fn text(self, alloc: Global) -> Result<(QuotedText, Cursor<'a>), SyntaxError>
         ensures reads { Gives text_of result (text_at (terminals self.entry)) }
         ensures shorter { IfOk result (λ x. length (terminals x.1) < length (terminals self.entry)) }
     {
@@ -94,7 +94,7 @@ impl<'a> Cursor<'a> {
         match token.kind {
             TokenKind::Text => {
                 let bytes = Vec::from_slice(alloc, self.bytes(token.span))?;
-                Ok((Text::new(bytes), after))
+                Ok((QuotedText::new(bytes), after))
             }
             _ => Err(self.unexpected()),
         }

@@ -9,9 +9,10 @@ ghost use Rattle.parser.specs.Views.{each};
 
 use crate::cursor::Cursor;
 use crate::syntax_error::SyntaxError;
+use apply_options::Setting;
 use lexer::{Keyword, Symbol, TokenKind};
 use std::alloc::Global;
-use syntax::{Call, Chain, Setting, Text};
+use syntax::{Call, Chain, QuotedText};
 
 /// The schedule's part, where the source has it, and the place behind it.
 pub(crate) fn schedule(
@@ -92,7 +93,10 @@ fn call(alloc: Global, cursor: Cursor<'_>) -> Result<(Call, Cursor<'_>), SyntaxE
 }
 
 /// The texts behind the first, each behind a comma.
-fn more_texts(alloc: Global, cursor: Cursor<'_>) -> Result<(Vec<Text>, Cursor<'_>), SyntaxError>
+fn more_texts(
+    alloc: Global,
+    cursor: Cursor<'_>,
+) -> Result<(Vec<QuotedText>, Cursor<'_>), SyntaxError>
     ensures reads { Gives (each text_of) result (each_at next_text (terminals cursor.entry)) }
     ensures shorter { IfOk result (λ x. length (terminals x.1) ≤ length (terminals cursor.entry)) }
 {

@@ -9,9 +9,10 @@ ghost use Rattle.syntax.specs.SourceViews.{action_tree};
 use crate::cursor::Cursor;
 use crate::initial::{assigned, ends};
 use crate::syntax_error::SyntaxError;
+use apply_options::Reduction;
 use lexer::{Keyword, Symbol, TokenKind};
 use std::alloc::Global;
-use syntax::{Action, Expression, Name, Reduction};
+use syntax::{Action, Expression, Name};
 
 /// `.apply`
 static APPLY: [TokenKind; 2] = [

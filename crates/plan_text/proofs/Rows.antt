@@ -2,18 +2,18 @@
 use Rattle.std.proofs.Common.{rules, ◌≡◌, ◌≢◌, ℕ, zero, suc, List, [], ◌∷◌, ◌++◌, codes, sym, ◌∙◌, ap, append_assoc, append-nil}
 use Rattle.typed_tree.specs.declared.expression.Connective.{Connective}
 use Rattle.typed_tree.specs.declared.expression.Operand.{Operand}
-use Rattle.typed_tree.specs.declared.expression.Condition.{Condition}
+use Rattle.typed_tree.specs.declared.expression.BoolExpression.{BoolExpression}
 use Rattle.typed_tree.specs.IntegerTree as integer
 use Rattle.typed_tree.specs.IntegerTree.{IntegerTree, negated, integer_tree, operands_tree}
 use Rattle.typed_tree.specs.ConditionTree as condition
 use Rattle.typed_tree.specs.ConditionTree.{ConditionTree, turned, condition_tree, conditions_tree}
 use Rattle.typed_tree.specs.ProgramTree.{ProgramTree}
 use Rattle.std.specs.Global.{Box}
-use Rattle.typed_tree.specs.declared.expression.Integer.{Integer}
-use Rattle.typed_tree.specs.declared.expression.Integer.TheViews as integer_views
-use Rattle.typed_tree.specs.declared.expression.Integer.TheViews.{the_lemmas}
-use Rattle.typed_tree.specs.declared.expression.Condition.TheViews as condition_views
-use Rattle.typed_tree.specs.declared.expression.Condition.TheViews.{the_lemmas as the_condition_lemmas}
+use Rattle.typed_tree.specs.declared.expression.IntExpression.{IntExpression}
+use Rattle.typed_tree.specs.declared.expression.IntExpression.TheViews as integer_views
+use Rattle.typed_tree.specs.declared.expression.IntExpression.TheViews.{the_lemmas}
+use Rattle.typed_tree.specs.declared.expression.BoolExpression.TheViews as condition_views
+use Rattle.typed_tree.specs.declared.expression.BoolExpression.TheViews.{the_lemmas as the_condition_lemmas}
 use Rattle.plan_text.specs.Expressions.{integer_words, condition_words, operator_word, connective_word, entry_word, comparison_word}
 use Rattle.plan_text.specs.Rows.{operand_words, connected_words, times}
 use Rattle.plan_text.proofs.Spaces.{absurd_cons, behind_some, times_suc}
@@ -39,7 +39,7 @@ words_operands p left (o ∷ os) =
     ∙ append_assoc (integer_words p left ++ integer_words p (integer_tree o.integer)) (operator_word o.operator ∷ []) (operand_words p os)
     ∙ append_assoc (integer_words p left) (integer_words p (integer_tree o.integer)) (operator_word o.operator ∷ operand_words p os)
 
-pub words_connected : (p : ProgramTree) (connective : Connective) (left : ConditionTree) (conditions : List Condition)
+pub words_connected : (p : ProgramTree) (connective : Connective) (left : ConditionTree) (conditions : List BoolExpression)
     → condition_words p (conditions_tree connective left conditions) ≡ condition_words p left ++ connected_words p connective conditions
 words_connected p connective left [] = sym (append-nil (condition_words p left))
 words_connected p connective left (c ∷ cs) =
@@ -68,11 +68,11 @@ condition_words_some p (condition.Compare comparison a b) = behind_some (integer
 condition_words_some p (condition.Connect connective a b) = behind_some (condition_words p a ++ condition_words p b) (connective_word connective) []
 
 -- the trees of expressions
-pub integer_tree-Entry : (vector : ℕ) (index : Box Integer) → integer_tree (integer_views.Entry vector index) ≡ integer.Entry vector (integer_tree index.value)
+pub integer_tree-Entry : (vector : ℕ) (index : Box IntExpression) → integer_tree (integer_views.Entry vector index) ≡ integer.Entry vector (integer_tree index.value)
 integer_tree-Entry vector index = search (rules, the_lemmas)
 
-pub integer_tree-Negative : (signs : ℕ) (e : Box Integer) → integer_tree (integer_views.Negative signs e) ≡ negated signs (integer_tree e.value)
+pub integer_tree-Negative : (signs : ℕ) (e : Box IntExpression) → integer_tree (integer_views.Negative signs e) ≡ negated signs (integer_tree e.value)
 integer_tree-Negative signs e = search (rules, the_lemmas)
 
-pub condition_tree-Not : (turns : ℕ) (c : Box Condition) → condition_tree (condition_views.Not turns c) ≡ turned turns (condition_tree c.value)
+pub condition_tree-Not : (turns : ℕ) (c : Box BoolExpression) → condition_tree (condition_views.Not turns c) ≡ turned turns (condition_tree c.value)
 condition_tree-Not turns c = search (rules, the_condition_lemmas)

@@ -1,8 +1,8 @@
 -- The words of expressions of `main`, operands first.
 use Rattle.std.specs.Prelude.{ℕ, Bool, true, false, List, [], ◌∷◌, ◌++◌, Option, Some, None, codes, slice_get, slice_index_or}
 use Rattle.std.specs.Fmt.{signed_decimal}
-use Rattle.typed_tree.specs.declared.expression.Comparison.{Comparison}
-use Rattle.typed_tree.specs.declared.expression.Comparison.TheVariants as comparison
+use Rattle.typed_tree.specs.declared.expression.ComparisonOperator.{ComparisonOperator}
+use Rattle.typed_tree.specs.declared.expression.ComparisonOperator.TheVariants as comparison
 use Rattle.typed_tree.specs.declared.expression.Connective.{Connective}
 use Rattle.typed_tree.specs.declared.expression.Connective.TheVariants as connective
 use Rattle.typed_tree.specs.declared.expression.Operator.{Operator}
@@ -32,7 +32,7 @@ operator_word operator.Multiply = codes "*"
 operator_word operator.Divide = codes "/"
 operator_word operator.Remainder = codes "%"
 
-abbrev pub comparison_word : Comparison → List ℕ
+abbrev pub comparison_word : ComparisonOperator → List ℕ
 comparison_word comparison.Equal = codes "=="
 comparison_word comparison.NotEqual = codes "!="
 comparison_word comparison.Less = codes "<"

@@ -1,11 +1,11 @@
 -- The words of instructions.
 use Rattle.std.specs.Prelude.{ℕ, List, [], ◌∷◌, ◌++◌, Option, Some, None, codes, map, slice_get}
-use Rattle.syntax.specs.declared.statement.Reduction.{Reduction}
-use Rattle.syntax.specs.declared.statement.Reduction.TheVariants as reduction
-use Rattle.typed_tree.specs.declared.expression.Slot.{Slot}
-use Rattle.typed_tree.specs.declared.statement.EndFilter.{EndFilter}
-use Rattle.typed_tree.specs.declared.statement.EndFilter.TheVariants as end
-use Rattle.typed_tree.specs.declared.statement.Ends.{Ends}
+use Rattle.apply_options.specs.declared.reduction.Reduction.{Reduction}
+use Rattle.apply_options.specs.declared.reduction.Reduction.TheVariants as reduction
+use Rattle.typed_tree.specs.declared.expression.VarRef.{VarRef}
+use Rattle.typed_tree.specs.declared.statement.VertexFilter.{VertexFilter}
+use Rattle.typed_tree.specs.declared.statement.VertexFilter.TheVariants as end
+use Rattle.typed_tree.specs.declared.statement.ApplyEnds.{ApplyEnds}
 use Rattle.typed_tree.specs.declared.statement.SetValue.{SetValue}
 use Rattle.typed_tree.specs.declared.statement.SetValue.TheVariants as set
 use Rattle.typed_tree.specs.IntegerTree.{IntegerTree}
@@ -13,13 +13,13 @@ use Rattle.typed_tree.specs.ConditionTree.{ConditionTree}
 use Rattle.typed_tree.specs.StepTree.{FunctionTree}
 use Rattle.typed_tree.specs.BlockTree.{ActionTree, DeclareInteger, DeclareCondition, SetInteger, SetCondition, ReduceInteger, SetEntry, ReduceEntry, DeclareSet, AssignSet, AddVertex, PrintInteger, PrintCondition, ApplyVertex, ApplyEdges, If, IfElse, While, For}
 use Rattle.typed_tree.specs.ProgramTree.{ProgramTree}
-use Rattle.schedule.specs.declared.choice.Choice.{Choice}
-use Rattle.schedule.specs.declared.choice.DenseVertexSet.{DenseVertexSet}
-use Rattle.schedule.specs.declared.choice.DenseVertexSet.TheVariants as dense
-use Rattle.schedule.specs.declared.choice.Direction.{Direction}
-use Rattle.schedule.specs.declared.choice.Direction.TheVariants as direction
-use Rattle.schedule.specs.declared.choice.Parallelization.{Parallelization}
-use Rattle.schedule.specs.declared.choice.Parallelization.TheVariants as parallelization
+use Rattle.apply_options.specs.declared.apply_schedule.ApplySchedule.{ApplySchedule}
+use Rattle.apply_options.specs.declared.apply_schedule.DenseVertexSet.{DenseVertexSet}
+use Rattle.apply_options.specs.declared.apply_schedule.DenseVertexSet.TheVariants as dense
+use Rattle.apply_options.specs.declared.apply_schedule.Direction.{Direction}
+use Rattle.apply_options.specs.declared.apply_schedule.Direction.TheVariants as direction
+use Rattle.apply_options.specs.declared.apply_schedule.Parallelization.{Parallelization}
+use Rattle.apply_options.specs.declared.apply_schedule.Parallelization.TheVariants as parallelization
 use Rattle.plan_text.specs.declared.part.Part.{Part}
 use Rattle.plan_text.specs.declared.part.ChangedSet.{ChangedSet}
 use Rattle.plan_text.specs.Words.{bracketed}
@@ -73,7 +73,7 @@ put_words p vector index word value =
     codes "put" ∷ vector_at p vector ∷ bracketed (integer_words p index) ∷ word ∷ bracketed (integer_words p value) ∷ []
 
 -- an end of an edge apply, `-` where it is not given
-abbrev pub end_word : ProgramTree → Option EndFilter → List ℕ
+abbrev pub end_word : ProgramTree → Option VertexFilter → List ℕ
 end_word p None = codes "-"
 end_word p (Some (end.Members slot)) = name_at p slot.name
 end_word p (Some (end.Function place)) = function_at p p.filters place
@@ -91,7 +91,7 @@ second_words p None = []
 second_words p (Some part) = part_words p part
 
 -- eapply FROM TO f g : DIRECTION PARALLELIZATION DENSE
-abbrev pub edges_words : ProgramTree → Ends → Part → Option Part → Choice → List (List ℕ)
+abbrev pub edges_words : ProgramTree → ApplyEnds → Part → Option Part → ApplySchedule → List (List ℕ)
 edges_words p ends first second choice =
     codes "eapply" ∷ end_word p ends.from ∷ end_word p ends.to
     ∷ (part_words p first ++ (second_words p second
@@ -102,7 +102,7 @@ abbrev pub second_function_words : ProgramTree → Option ℕ → List (List ℕ
 second_function_words p None = []
 second_function_words p (Some place) = function_at p p.vertex_functions place ∷ []
 
-abbrev pub vertices_words : ProgramTree → (set : Slot) → (first : ℕ) → (second : Option ℕ) → List (List ℕ)
+abbrev pub vertices_words : ProgramTree → (set : VarRef) → (first : ℕ) → (second : Option ℕ) → List (List ℕ)
 vertices_words p set first second =
     codes "vapply" ∷ name_at p set.name ∷ function_at p p.vertex_functions first ∷ second_function_words p second
 
@@ -119,7 +119,7 @@ abbrev pub one_part : (function : ℕ) → Option ChangedSet → Part
 one_part function changed = record { function = function; changed = changed }
 
 -- a set that gets a value; what an apply changes is that apply, as the schedule says
-abbrev pub set_line : ProgramTree → (name : ℕ) → SetValue → Choice → List (List ℕ)
+abbrev pub set_line : ProgramTree → (name : ℕ) → SetValue → ApplySchedule → List (List ℕ)
 set_line p name (set.Modified ends function vector) choice = edges_words p ends (one_part function (Some (record { name = name; vector = vector }))) None choice
 set_line p name set.Empty choice = set_value_words p name set.Empty
 set_line p name set.All choice = set_value_words p name set.All
@@ -127,7 +127,7 @@ set_line p name (set.Copy slot) choice = set_value_words p name (set.Copy slot)
 set_line p name (set.Filter slot place) choice = set_value_words p name (set.Filter slot place)
 
 -- a statement without a block; what stands for one with a block is no instruction of its own
-abbrev pub statement_words : ProgramTree → ActionTree → Choice → List (List ℕ)
+abbrev pub statement_words : ProgramTree → ActionTree → ApplySchedule → List (List ℕ)
 statement_words p (DeclareInteger name e) choice = set_words (name_at p name) (integer_words p e)
 statement_words p (DeclareCondition name c) choice = set_words (name_at p name) (condition_words p c)
 statement_words p (SetInteger slot e) choice = set_words (name_at p slot.name) (integer_words p e)

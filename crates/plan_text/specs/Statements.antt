@@ -1,9 +1,9 @@
 -- For proofs only: kinds of statements.
-use Rattle.typed_tree.specs.declared.statement.Action.{Action}
-use Rattle.typed_tree.specs.declared.statement.Action.TheVariants as rust
+use Rattle.typed_tree.specs.declared.statement.StatementKind.{StatementKind}
+use Rattle.typed_tree.specs.declared.statement.StatementKind.TheVariants as rust
 
 -- the statement takes values of expressions, and has no block
-abbrev pub TakesValues : Action → Type 0
+abbrev pub TakesValues : StatementKind → Type 0
 TakesValues (rust.DeclareSet name value) = ⊥
 TakesValues (rust.AssignSet slot value) = ⊥
 TakesValues (rust.ApplyVertex set function) = ⊥

@@ -8,9 +8,9 @@ ghost use Rattle.plan_text.specs.Words.{spaced};
 use crate::names::Lines;
 use crate::part::{ChangedSet, Part};
 use crate::words::put_word;
-use schedule::{Choice, DenseVertexSet, Direction, Parallelization};
+use apply_options::{ApplySchedule, DenseVertexSet, Direction, Parallelization};
 use std::alloc::AllocError;
-use typed_tree::{EndFilter, Ends};
+use typed_tree::{ApplyEnds, VertexFilter};
 
 impl<'a> Lines<'a> {
     /// Puts the words of an edge apply, of one function or of two that are done together. The only error is out of memory.
@@ -18,10 +18,10 @@ impl<'a> Lines<'a> {
     pub fn put_edges(
         self,
         out: &mut Vec<u8>,
-        ends: Ends,
+        ends: ApplyEnds,
         first: Part,
         second: Option<Part>,
-        choice: Choice,
+        choice: ApplySchedule,
     ) -> Result<(), AllocError>
         ensures { OnOk result (out.new.items ≡ out.old.items ++ spaced (edges_words (program_tree self.entry.program.now) ends first second choice)) }
     {
@@ -32,7 +32,7 @@ impl<'a> Lines<'a> {
     }
 
     /// `eapply FROM TO`
-    fn put_ends(self, out: &mut Vec<u8>, ends: Ends) -> Result<(), AllocError>
+    fn put_ends(self, out: &mut Vec<u8>, ends: ApplyEnds) -> Result<(), AllocError>
         ensures { OnOk result (out.new.items ≡ out.old.items
             ++ spaced (codes "eapply" ∷ end_word (program_tree self.entry.program.now) ends.from ∷ end_word (program_tree self.entry.program.now) ends.to ∷ [])) }
     {
@@ -75,13 +75,13 @@ impl<'a> Lines<'a> {
     }
 
     /// An end of an edge apply.
-    fn end(self, end: Option<EndFilter>) -> &'a [u8]
+    fn end(self, end: Option<VertexFilter>) -> &'a [u8]
         ensures { result.now ≡ end_word (program_tree self.entry.program.now) end }
     {
         match end {
             None => b"-",
-            Some(EndFilter::Members(slot)) => self.name(slot.name),
-            Some(EndFilter::Function(place)) => self.function(&self.program.filters, place),
+            Some(VertexFilter::Members(slot)) => self.name(slot.name),
+            Some(VertexFilter::Function(place)) => self.function(&self.program.filters, place),
         }
     }
 
@@ -104,7 +104,7 @@ impl<'a> Lines<'a> {
 }
 
 /// `: DIRECTION PARALLELIZATION DENSE`
-fn put_choice(out: &mut Vec<u8>, choice: Choice) -> Result<(), AllocError>
+fn put_choice(out: &mut Vec<u8>, choice: ApplySchedule) -> Result<(), AllocError>
     ensures { OnOk result (out.new.items ≡ out.old.items
         ++ spaced (codes ":" ∷ direction_word choice.direction ∷ parallelization_word choice.parallelization ∷ dense_word choice.dense_vertex_set ∷ [])) }
 {

@@ -12,33 +12,35 @@ use crate::names::Lines;
 use crate::words::{put_marked, put_times, put_word};
 use decimal::push_integer;
 use std::alloc::AllocError;
-use typed_tree::{Comparison, Condition, Connective, Integer, Operand, Operator};
+use typed_tree::{
+    BoolExpression, ComparisonOperator, Connective, IntExpression, Operand, Operator,
+};
 
 /// Puts the words of an expression of type `int`.
 #[cycle(integers)]
 pub(crate) fn put_integer(
     out: &mut Vec<u8>,
     lines: Lines<'_>,
-    e: &Integer,
+    e: &IntExpression,
 ) -> Result<(), AllocError>
     ensures { OnOk result (out.new.items ≡ out.old.items ++ spaced (integer_words (program_tree lines.entry.program.now) (integer_tree e.now))) }
 {
     match e {
-        Integer::Number(n) => put_number(out, *n),
-        Integer::Constant(name, _) => put_word(out, lines.name(*name)),
-        Integer::Variable(slot) => put_word(out, lines.name(slot.name)),
-        Integer::Parameter(_) => put_word(out, b"vertex"),
-        Integer::EntryAt(vector, _) => put_entry(out, lines, *vector),
-        Integer::Entry(vector, index) => {
+        IntExpression::Number(n) => put_number(out, *n),
+        IntExpression::Constant(name, _) => put_word(out, lines.name(*name)),
+        IntExpression::Variable(slot) => put_word(out, lines.name(slot.name)),
+        IntExpression::Parameter(_) => put_word(out, b"vertex"),
+        IntExpression::EntryAt(vector, _) => put_entry(out, lines, *vector),
+        IntExpression::Entry(vector, index) => {
             put_integer(out, lines, index)?;
             put_entry(out, lines, *vector)
         }
-        Integer::SetSize(slot) => put_size(out, lines, slot.name),
-        Integer::Negative(signs, e) => {
+        IntExpression::SetSize(slot) => put_size(out, lines, slot.name),
+        IntExpression::Negative(signs, e) => {
             put_integer(out, lines, e)?;
             put_times(out, b"neg", *signs)
         }
-        Integer::Arithmetic(first, operands) => {
+        IntExpression::Arithmetic(first, operands) => {
             put_integer(out, lines, first)?;
             put_operands(out, lines, operands)
         }
@@ -62,24 +64,24 @@ fn put_operands(out: &mut Vec<u8>, lines: Lines<'_>, operands: &[Operand]) -> Re
 pub(crate) fn put_condition(
     out: &mut Vec<u8>,
     lines: Lines<'_>,
-    c: &Condition,
+    c: &BoolExpression,
 ) -> Result<(), AllocError>
     ensures { OnOk result (out.new.items ≡ out.old.items ++ spaced (condition_words (program_tree lines.entry.program.now) (condition_tree c.now))) }
 {
     match c {
-        Condition::Literal(b) => put_word(out, truth_text(*b)),
-        Condition::Constant(name, _) => put_word(out, lines.name(*name)),
-        Condition::Variable(slot) => put_word(out, lines.name(slot.name)),
-        Condition::Not(turns, c) => {
+        BoolExpression::Literal(b) => put_word(out, truth_text(*b)),
+        BoolExpression::Constant(name, _) => put_word(out, lines.name(*name)),
+        BoolExpression::Variable(slot) => put_word(out, lines.name(slot.name)),
+        BoolExpression::Not(turns, c) => {
             put_condition(out, lines, c)?;
             put_times(out, b"not", *turns)
         }
-        Condition::Compare(comparison, left, right) => {
+        BoolExpression::Compare(comparison, left, right) => {
             put_integer(out, lines, left)?;
             put_integer(out, lines, right)?;
             put_word(out, comparison_text(*comparison))
         }
-        Condition::Connect(connective, first, others) => {
+        BoolExpression::Connect(connective, first, others) => {
             put_condition(out, lines, first)?;
             put_connected(out, lines, *connective, others)
         }
@@ -92,7 +94,7 @@ fn put_connected(
     out: &mut Vec<u8>,
     lines: Lines<'_>,
     connective: Connective,
-    conditions: &[Condition],
+    conditions: &[BoolExpression],
 ) -> Result<(), AllocError>
     ensures { OnOk result (out.new.items ≡ out.old.items ++ spaced (connected_words (program_tree lines.entry.program.now) connective conditions.now)) }
 {
@@ -143,16 +145,16 @@ fn operator_text(operator: Operator) -> &'static [u8]
     }
 }
 
-fn comparison_text(comparison: Comparison) -> &'static [u8]
+fn comparison_text(comparison: ComparisonOperator) -> &'static [u8]
     ensures { result.now ≡ comparison_word comparison }
 {
     match comparison {
-        Comparison::Equal => b"==",
-        Comparison::NotEqual => b"!=",
-        Comparison::Less => b"<",
-        Comparison::LessOrEqual => b"<=",
-        Comparison::Greater => b">",
-        Comparison::GreaterOrEqual => b">=",
+        ComparisonOperator::Equal => b"==",
+        ComparisonOperator::NotEqual => b"!=",
+        ComparisonOperator::Less => b"<",
+        ComparisonOperator::LessOrEqual => b"<=",
+        ComparisonOperator::Greater => b">",
+        ComparisonOperator::GreaterOrEqual => b">=",
     }
 }
 

@@ -8,16 +8,15 @@ ghost use Rattle.plan_text.specs.Expressions.{condition_words, integer_words, na
 ghost use Rattle.plan_text.specs.Lines.{advance_words, below_words, bound_words, end_name, put_words, reducing_word, reduction_word, set_line, set_words, statement_words, unless_words, vertices_words};
 ghost use Rattle.plan_text.specs.Statements.{TakesValues};
 ghost use Rattle.plan_text.specs.Words.{bracketed, spaced};
-ghost use Rattle.schedule.specs.declared.choice.Choice.{Choice};
+ghost use Rattle.apply_options.specs.declared.apply_schedule.ApplySchedule.{ApplySchedule};
 
 use crate::expressions::{put_condition, put_integer};
 use crate::names::Lines;
 use crate::part::{ChangedSet, Part};
 use crate::words::{close_bracket, open_bracket, put_marked, put_word};
-use schedule::Choice;
+use apply_options::{ApplySchedule, Reduction};
 use std::alloc::AllocError;
-use syntax::Reduction;
-use typed_tree::{Action, Condition, Integer, SetValue, Slot};
+use typed_tree::{BoolExpression, IntExpression, SetValue, StatementKind, VarRef};
 
 impl Lines<'_> {
     /// Puts the words of a statement without a block, an apply as the schedule says; none for one with a block. The only
@@ -25,63 +24,70 @@ impl Lines<'_> {
     pub fn put_statement(
         self,
         out: &mut Vec<u8>,
-        action: &Action,
-        choice: Choice,
+        action: &StatementKind,
+        choice: ApplySchedule,
     ) -> Result<(), AllocError>
         ensures { OnOk result (out.new.items ≡ out.old.items ++ spaced (statement_words (program_tree self.entry.program.now) (action_tree action.now) choice)) }
     {
         match action {
-            Action::DeclareSet(name, value) => self.put_set(out, *name, *value, choice),
-            Action::AssignSet(slot, value) => self.put_set(out, slot.name, *value, choice),
-            Action::ApplyVertex(set, function) => self.put_vertices(out, *set, *function, None),
-            Action::ApplyEdges(ends, function) => {
+            StatementKind::DeclareSet(name, value) => self.put_set(out, *name, *value, choice),
+            StatementKind::AssignSet(slot, value) => self.put_set(out, slot.name, *value, choice),
+            StatementKind::ApplyVertex(set, function) => self.put_vertices(
+                out, *set, *function, None,
+            ),
+            StatementKind::ApplyEdges(ends, function) => {
                 let part = Part {
                     function: *function,
                     changed: None,
                 };
                 self.put_edges(out, *ends, part, None, choice)
             }
-            Action::If(_, _)
-            | Action::IfElse(_, _, _)
-            | Action::While(_, _)
-            | Action::For(_, _, _, _) => Ok(()),
+            StatementKind::If(_, _)
+            | StatementKind::IfElse(_, _, _)
+            | StatementKind::While(_, _)
+            | StatementKind::For(_, _, _, _) => Ok(()),
             _ => self.put_values(out, action),
         }
     }
 
     /// Puts the words of a statement that takes values of expressions, and has no block.
-    fn put_values(self, out: &mut Vec<u8>, action: &Action) -> Result<(), AllocError>
+    fn put_values(self, out: &mut Vec<u8>, action: &StatementKind) -> Result<(), AllocError>
         requires { TakesValues action.now }
-        ensures { (choice : Choice) → OnOk result (out.new.items ≡ out.old.items ++ spaced (statement_words (program_tree self.entry.program.now) (action_tree action.now) choice)) }
+        ensures { (choice : ApplySchedule) → OnOk result (out.new.items ≡ out.old.items ++ spaced (statement_words (program_tree self.entry.program.now) (action_tree action.now) choice)) }
     {
         match action {
-            Action::DeclareInteger(name, e) => self.put_set_integer(out, *name, e),
-            Action::DeclareCondition(name, c) => self.put_set_condition(out, *name, c),
-            Action::SetInteger(slot, e) => self.put_set_integer(out, slot.name, e),
-            Action::SetCondition(slot, c) => self.put_set_condition(out, slot.name, c),
-            Action::ReduceInteger(slot, reduction, e) => {
+            StatementKind::DeclareInteger(name, e) => self.put_set_integer(out, *name, e),
+            StatementKind::DeclareCondition(name, c) => self.put_set_condition(out, *name, c),
+            StatementKind::SetInteger(slot, e) => self.put_set_integer(out, slot.name, e),
+            StatementKind::SetCondition(slot, c) => self.put_set_condition(out, slot.name, c),
+            StatementKind::ReduceInteger(slot, reduction, e) => {
                 self.put_reduction(out, slot.name, *reduction, e)
             }
-            Action::SetEntry(vector, index, e) => self.put_put(out, *vector, index, b"=", e),
-            Action::ReduceEntry(vector, index, reduction, e) => {
+            StatementKind::SetEntry(vector, index, e) => self.put_put(out, *vector, index, b"=", e),
+            StatementKind::ReduceEntry(vector, index, reduction, e) => {
                 self.put_put(out, *vector, index, reduction_text(*reduction), e)
             }
-            Action::AddVertex(slot, e) => self.put_add_vertex(out, slot.name, e),
-            Action::PrintInteger(e) => self.put_print(out, e),
-            Action::PrintCondition(c) => self.put_condition_behind(out, b"print", c),
+            StatementKind::AddVertex(slot, e) => self.put_add_vertex(out, slot.name, e),
+            StatementKind::PrintInteger(e) => self.put_print(out, e),
+            StatementKind::PrintCondition(c) => self.put_condition_behind(out, b"print", c),
             _ => unreachable!(),
         }
     }
 
     /// Puts `unless` and a test, before the place that it goes to.
-    pub fn put_unless(self, out: &mut Vec<u8>, c: &Condition) -> Result<(), AllocError>
+    pub fn put_unless(self, out: &mut Vec<u8>, c: &BoolExpression) -> Result<(), AllocError>
         ensures { OnOk result (out.new.items ≡ out.old.items ++ spaced (unless_words (program_tree self.entry.program.now) (condition_tree c.now))) }
     {
         self.put_condition_behind(out, b"unless", c)
     }
 
     /// Puts that the bound of a `for` gets its value.
-    pub fn put_bound(self, out: &mut Vec<u8>, name: usize, e: &Integer) -> Result<(), AllocError>
+    pub fn put_bound(
+        self,
+        out: &mut Vec<u8>,
+        name: usize,
+        e: &IntExpression,
+    ) -> Result<(), AllocError>
         ensures { OnOk result (out.new.items ≡ out.old.items ++ spaced (bound_words (program_tree self.entry.program.now) name (integer_tree e.now))) }
     {
         put_word(out, b"set")?;
@@ -140,7 +146,7 @@ impl Lines<'_> {
         self,
         out: &mut Vec<u8>,
         name: usize,
-        e: &Integer,
+        e: &IntExpression,
     ) -> Result<(), AllocError>
         ensures { OnOk result (out.new.items ≡ out.old.items ++ spaced (set_words (name_at (program_tree self.entry.program.now) name) (integer_words (program_tree self.entry.program.now) (integer_tree e.now)))) }
     {
@@ -153,7 +159,7 @@ impl Lines<'_> {
         self,
         out: &mut Vec<u8>,
         name: usize,
-        c: &Condition,
+        c: &BoolExpression,
     ) -> Result<(), AllocError>
         ensures { OnOk result (out.new.items ≡ out.old.items ++ spaced (set_words (name_at (program_tree self.entry.program.now) name) (condition_words (program_tree self.entry.program.now) (condition_tree c.now)))) }
     {
@@ -167,7 +173,7 @@ impl Lines<'_> {
         out: &mut Vec<u8>,
         name: usize,
         reduction: Reduction,
-        e: &Integer,
+        e: &IntExpression,
     ) -> Result<(), AllocError>
         ensures { OnOk result (out.new.items ≡ out.old.items ++ spaced (set_words (name_at (program_tree self.entry.program.now) name)
             (name_at (program_tree self.entry.program.now) name ∷ integer_words (program_tree self.entry.program.now) (integer_tree e.now) ++ reducing_word reduction ∷ []))) }
@@ -184,7 +190,7 @@ impl Lines<'_> {
         out: &mut Vec<u8>,
         name: usize,
         reduction: Reduction,
-        e: &Integer,
+        e: &IntExpression,
     ) -> Result<(), AllocError>
         ensures { OnOk result (out.new.items ≡ out.old.items
             ++ spaced (name_at (program_tree self.entry.program.now) name ∷ integer_words (program_tree self.entry.program.now) (integer_tree e.now) ++ reducing_word reduction ∷ [])) }
@@ -199,9 +205,9 @@ impl Lines<'_> {
         self,
         out: &mut Vec<u8>,
         vector: usize,
-        index: &Integer,
+        index: &IntExpression,
         word: &[u8],
-        e: &Integer,
+        e: &IntExpression,
     ) -> Result<(), AllocError>
         ensures { OnOk result (out.new.items ≡ out.old.items ++ spaced (put_words (program_tree self.entry.program.now) vector (integer_tree index.now) word.now (integer_tree e.now))) }
     {
@@ -218,7 +224,7 @@ impl Lines<'_> {
         out: &mut Vec<u8>,
         name: usize,
         value: SetValue,
-        choice: Choice,
+        choice: ApplySchedule,
     ) -> Result<(), AllocError>
         ensures { OnOk result (out.new.items ≡ out.old.items ++ spaced (set_line (program_tree self.entry.program.now) name value choice)) }
     {
@@ -250,7 +256,12 @@ impl Lines<'_> {
     }
 
     /// `addvertex s [e]`
-    fn put_add_vertex(self, out: &mut Vec<u8>, name: usize, e: &Integer) -> Result<(), AllocError>
+    fn put_add_vertex(
+        self,
+        out: &mut Vec<u8>,
+        name: usize,
+        e: &IntExpression,
+    ) -> Result<(), AllocError>
         ensures { OnOk result (out.new.items ≡ out.old.items
             ++ spaced (codes "addvertex" ∷ name_at (program_tree self.entry.program.now) name ∷ bracketed (integer_words (program_tree self.entry.program.now) (integer_tree e.now)) ∷ [])) }
     {
@@ -259,7 +270,7 @@ impl Lines<'_> {
     }
 
     /// `print [e]`
-    fn put_print(self, out: &mut Vec<u8>, e: &Integer) -> Result<(), AllocError>
+    fn put_print(self, out: &mut Vec<u8>, e: &IntExpression) -> Result<(), AllocError>
         ensures { OnOk result (out.new.items ≡ out.old.items
             ++ spaced (codes "print" ∷ bracketed (integer_words (program_tree self.entry.program.now) (integer_tree e.now)) ∷ [])) }
     {
@@ -272,7 +283,7 @@ impl Lines<'_> {
         self,
         out: &mut Vec<u8>,
         word: &[u8],
-        c: &Condition,
+        c: &BoolExpression,
     ) -> Result<(), AllocError>
         ensures { OnOk result (out.new.items ≡ out.old.items
             ++ spaced (word.now ∷ bracketed (condition_words (program_tree self.entry.program.now) (condition_tree c.now)) ∷ [])) }
@@ -282,7 +293,7 @@ impl Lines<'_> {
     }
 
     /// `[e]`
-    fn put_bracketed(self, out: &mut Vec<u8>, e: &Integer) -> Result<(), AllocError>
+    fn put_bracketed(self, out: &mut Vec<u8>, e: &IntExpression) -> Result<(), AllocError>
         ensures { OnOk result (out.new.items ≡ out.old.items ++ spaced (bracketed (integer_words (program_tree self.entry.program.now) (integer_tree e.now)) ∷ [])) }
     {
         open_bracket(out)?;
@@ -291,7 +302,11 @@ impl Lines<'_> {
     }
 
     /// The same of an expression of type `bool`.
-    fn put_bracketed_condition(self, out: &mut Vec<u8>, c: &Condition) -> Result<(), AllocError>
+    fn put_bracketed_condition(
+        self,
+        out: &mut Vec<u8>,
+        c: &BoolExpression,
+    ) -> Result<(), AllocError>
         ensures { OnOk result (out.new.items ≡ out.old.items ++ spaced (bracketed (condition_words (program_tree self.entry.program.now) (condition_tree c.now)) ∷ [])) }
     {
         open_bracket(out)?;
@@ -303,7 +318,7 @@ impl Lines<'_> {
     pub fn put_vertices(
         self,
         out: &mut Vec<u8>,
-        set: Slot,
+        set: VarRef,
         first: usize,
         second: Option<usize>,
     ) -> Result<(), AllocError>

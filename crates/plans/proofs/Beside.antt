@@ -3,7 +3,7 @@ use Rattle.std.proofs.Common.{◌≡◌, ℕ, ℤ, pos, negsuc, Bool, true, fals
 use Rattle.std.specs.Int.{cast_signed, w64}
 use Rattle.std.specs.List.{list_all}
 use Rattle.std.proofs.lemmas.List.Folds.{list_all-append}
-use Rattle.syntax.specs.declared.statement.Reduction.{Reduction}
+use Rattle.apply_options.specs.declared.reduction.Reduction.{Reduction}
 use Rattle.typed_tree.specs.IntegerTree as integer
 use Rattle.typed_tree.specs.IntegerTree.{IntegerTree}
 use Rattle.typed_tree.specs.ConditionTree as condition
@@ -16,13 +16,13 @@ use Rattle.algorithm_meaning.specs.Variables.{new_integer, new_condition, set_in
 use Rattle.algorithm_meaning.specs.Function.{WorkValue, first_work, after_set, after_reduce, after_step, after_steps, after_block}
 use Rattle.algorithm_meaning.specs.Filter.{result_of}
 use Rattle.algorithm_meaning.specs.EdgeApply.{gives}
-use Rattle.schedule.specs.Access.{is_none_of, are_apart, integer_reads, condition_reads, step_uses, steps_use}
-use Rattle.schedule.proofs.Uses.{of_and}
+use Rattle.typed_tree.specs.Access.{is_none_of, are_apart, integer_reads, condition_reads, step_uses, steps_use}
+use Rattle.std.proofs.lemmas.Bool.{and_parts}
 use Rattle.plans.specs.Fusing.{integer_sizes, condition_sizes, step_sizes, steps_sizes}
 use Rattle.plans.proofs.Types.{VertexSet}
 
 pub both_parts : (P : ℕ → Bool) (xs ys : List ℕ) → list_all P (xs ++ ys) ≡ true → (list_all P xs ≡ true) × (list_all P ys ≡ true)
-both_parts P xs ys h = of_and (list_all P xs) (list_all P ys) (sym (list_all-append P xs ys) ∙ h)
+both_parts P xs ys h = and_parts (list_all P xs) (list_all P ys) (sym (list_all-append P xs ys) ∙ h)
 
 -- the rows of other vectors are the same, and the members of other sets
 abbrev pub AgreeBut : List ℕ → (xs ys : List (List ℤ)) → Type 0
@@ -49,15 +49,15 @@ module _ (vectors places : List ℕ) (a b : List VertexSet) (sets_agree : SetsAg
   value_beside v w h (integer.Variable slot) reads sizes = ap (λ (s : ScopeValue). slice_index_or s.integers slot.place (pos 0)) h.scope
   value_beside v w h (integer.Parameter at) reads sizes = ap (λ (s : ScopeValue). pos (vertex_at s at)) h.scope
   value_beside v w h (integer.EntryAt vector at) reads sizes =
-      let own = of_and (is_none_of vector vectors) true reads in
+      let own = and_parts (is_none_of vector vectors) true reads in
       let row = h.rows vector own.0 in
       λ i. slice_index_or (row i) (vertex_at (h.scope i) at) (pos 0)
   value_beside v w h (integer.Entry vector index) reads sizes =
-      let own = of_and (is_none_of vector vectors) (are_apart (integer_reads index) vectors) reads in
+      let own = and_parts (is_none_of vector vectors) (are_apart (integer_reads index) vectors) reads in
       ap (entry_at v.vectors vector) (value_beside v w h index own.1 sizes)
       ∙ index_same v.vectors w.vectors vector (value w.vectors b w.scope index) (h.rows vector own.0)
   value_beside v w h (integer.SetSize slot) reads sizes =
-      let own = of_and (is_none_of slot.place places) true sizes in
+      let own = and_parts (is_none_of slot.place places) true sizes in
       ap (λ (members : List ℕ). cast_signed w64 (length members)) (sets_agree slot.place own.0)
   value_beside v w h (integer.Negative e) reads sizes = ap negative (value_beside v w h e reads sizes)
   value_beside v w h (integer.Arithmetic o x y) reads sizes =
@@ -130,7 +130,7 @@ module _ (vectors places : List ℕ) (a b : List VertexSet) (sets_agree : SetsAg
         record { rows = h.rows; scope = λ i. reduce_integer (h.scope i) slot.place reduction (x i); given = h.given }
     step_beside (SetEntry vector e) v w h uses sizes = set_beside v w h vector (value v.vectors a v.scope e) (value w.vectors b w.scope e)
     step_beside (ReduceEntry vector reduction e) v w h uses sizes =
-        let own = of_and (is_none_of vector vectors) (are_apart (integer_reads e) vectors) uses in
+        let own = and_parts (is_none_of vector vectors) (are_apart (integer_reads e) vectors) uses in
         reduce_beside v w h vector reduction (value v.vectors a v.scope e) (value w.vectors b w.scope e) (value_beside vectors places a b sets_agree v w h e own.1 sizes)
     step_beside (If c body) v w h uses sizes =
         let r = both_parts (λ v. is_none_of v vectors) (condition_reads c) (steps_use body) uses in

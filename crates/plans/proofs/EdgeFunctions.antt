@@ -3,7 +3,7 @@ use Rattle.std.proofs.Common.{◌≡◌, ℕ, ◌==◌, ℤ, true, not, List, []
 use Rattle.std.proofs.lemmas.List.{append-nil}
 use Rattle.typed_tree.specs.StepTree.{StepsTree}
 use Rattle.algorithm_meaning.specs.EdgeApply.{gives, after_edges}
-use Rattle.schedule.specs.Access.{is_none_of, are_apart, steps_write}
+use Rattle.typed_tree.specs.Access.{is_none_of, are_apart, steps_write}
 use Rattle.plans.proofs.Types.{VertexSet, Contribution}
 use Rattle.plans.proofs.Beside.{AgreeBut}
 use Rattle.plans.proofs.GivenVectors.{AreFor, gives_for, each_differs}

@@ -6,8 +6,8 @@ use Rattle.algorithm_meaning.specs.State.{GraphValue, StateValue}
 use Rattle.algorithm_meaning.specs.Entries.{with_vectors}
 use Rattle.algorithm_meaning.specs.Function.{steps_of}
 use Rattle.algorithm_meaning.specs.EdgeApply.{after_edge_apply, after_edges, matching, gives}
-use Rattle.schedule.specs.Access.{is_none_of, are_apart, end_reads, function_uses, function_writes, steps_use, steps_use_where, steps_write, steps_write_where}
-use Rattle.schedule.proofs.Uses.{of_and}
+use Rattle.typed_tree.specs.Access.{is_none_of, are_apart, end_reads, function_uses, function_writes, steps_use, steps_use_where, steps_write, steps_write_where}
+use Rattle.std.proofs.lemmas.Bool.{and_parts}
 use Rattle.plans.specs.declared.depth.Depth.{Depth}
 use Rattle.plans.specs.Fusing.{EdgeApplyTree, result_places, result_vectors, end_sets, function_sizes, is_same_end, edges_fit}
 use Rattle.plans.specs.Machine.{with_result, after_parts}
@@ -40,14 +40,14 @@ fit_together : (p : ProgramTree) (d : Depth) (x y : EdgeApplyTree) → edges_fit
 fit_together p d x y h =
     let places = result_places d x.part.result in
     let writes = function_writes p.edge_functions x.part.function in
-    let ends_and = of_and _ _ h in
-    let ends = of_and _ _ ends_and.0 in
-    let independent_and = of_and _ _ ends_and.1 in
-    let independent = of_and _ _ independent_and.0 in
-    let uses_and = of_and _ _ independent.1 in
-    let reads = of_and _ _ uses_and.1 in
-    let sets_and = of_and _ _ independent_and.1 in
-    let results = of_and _ _ sets_and.1 in
+    let ends_and = and_parts _ _ h in
+    let ends = and_parts _ _ ends_and.0 in
+    let independent_and = and_parts _ _ ends_and.1 in
+    let independent = and_parts _ _ independent_and.0 in
+    let uses_and = and_parts _ _ independent.1 in
+    let reads = and_parts _ _ uses_and.1 in
+    let sets_and = and_parts _ _ independent_and.1 in
+    let results = and_parts _ _ sets_and.1 in
     let from_and = both_parts (λ v. is_none_of v places) (end_sets p.filters y.ends.from) (end_sets p.filters y.ends.to ++ function_sizes p.edge_functions y.part.function) sets_and.0 in
     let to_and = both_parts (λ v. is_none_of v places) (end_sets p.filters y.ends.to) (function_sizes p.edge_functions y.part.function) from_and.1 in
     record {

@@ -3,8 +3,8 @@ use Rattle.std.proofs.Common.{◌≡◌, ℕ, ◌+◌, nat_eq, ◌&&◌, Bool, t
 use Rattle.typed_tree.specs.BlockTree.{ActionTree, DeclareInteger, DeclareCondition, SetInteger, SetCondition, ReduceInteger, SetEntry, ReduceEntry, DeclareSet, AssignSet, AddVertex, PrintInteger, PrintCondition, ApplyVertex, ApplyEdges, If, IfElse, While, For, BlockTree, Empty, Then}
 use Rattle.typed_tree.specs.ProgramTree.{ProgramTree}
 use Rattle.algorithm_meaning.specs.Function.{steps_of}
-use Rattle.schedule.specs.Schedule.{ScheduleTree, choice_at}
-use Rattle.schedule.proofs.Uses.{of_and}
+use Rattle.apply_options.specs.ScheduleTree.{ScheduleTree, choice_at}
+use Rattle.std.proofs.lemmas.Bool.{and_parts}
 use Rattle.plans.specs.declared.depth.Depth.{Depth}
 use Rattle.plans.specs.Instruction.{OperationTree, ApplyEdgesTogether, ApplyVerticesTogether, Advance, Jump, End, InstructionTree}
 use Rattle.plans.specs.Fusing.{EdgeApplyTree, VertexApplyTree, edge_apply_of, vertex_apply_of, function_is_local, edges_fit, vertices_fit, edges_together, vertices_together, either, together, is_with, Company, Alone, WithNext, WithPrevious, with_next, company_of, takes_next}
@@ -28,8 +28,8 @@ module _ (p : ProgramTree) where
 
   vertices_apart : (x y : VertexApplyTree) → vertices_fit p x y ≡ true → FitTogether p (ApplyVerticesTogether x.set x.function y.function)
   vertices_apart x y fit m vs vectors up =
-      let fits = of_and (nat_eq x.set.place y.set.place) (function_is_local p.vertex_functions x.function && function_is_local p.vertex_functions y.function) fit in
-      let local = of_and (function_is_local p.vertex_functions x.function) (function_is_local p.vertex_functions y.function) fits.1 in
+      let fits = and_parts (nat_eq x.set.place y.set.place) (function_is_local p.vertex_functions x.function && function_is_local p.vertex_functions y.function) fit in
+      let local = and_parts (function_is_local p.vertex_functions x.function) (function_is_local p.vertex_functions y.function) fits.1 in
       both_at_each (steps_of (slice_get p.vertex_functions x.function)) (steps_of (slice_get p.vertex_functions y.function))
       (local_steps (slice_get p.vertex_functions x.function) local.0) (local_steps (slice_get p.vertex_functions y.function) local.1)
       0 m vs vectors (ascends_increasing 0 vs (omega arith) up)

@@ -2,14 +2,14 @@
 use Rattle.std.proofs.Common.{◌≡◌, ℕ, ◌==◌, ◌&&◌, ◌||◌, ℤ, Bool, true, false, not, cond, List, [], ◌∷◌, ◌++◌, sym, ◌∙◌, refl, subst}
 use Rattle.std.specs.List.{list_all, list_any}
 use Rattle.std.proofs.lemmas.List.Folds.{list_all-append}
-use Rattle.syntax.specs.declared.statement.Reduction.{Reduction}
+use Rattle.apply_options.specs.declared.reduction.Reduction.{Reduction}
 use Rattle.typed_tree.specs.StepTree.{StepTree, DeclareInteger, DeclareCondition, SetInteger, SetCondition, ReduceInteger, SetEntry, ReduceEntry, If, IfElse, StepsTree, NoStep, StepThen}
 use Rattle.algorithm_meaning.specs.State.{edge_scope}
 use Rattle.algorithm_meaning.specs.Value.{value, truth}
 use Rattle.algorithm_meaning.specs.Function.{WorkValue, first_work, after_set, after_reduce, after_step, after_steps, after_block}
 use Rattle.algorithm_meaning.specs.EdgeApply.{gives}
-use Rattle.schedule.specs.Access.{is_none_of, integer_reads, condition_reads, step_uses, steps_use, step_writes, steps_write}
-use Rattle.schedule.proofs.Uses.{of_and}
+use Rattle.typed_tree.specs.Access.{is_none_of, integer_reads, condition_reads, step_uses, steps_use, step_writes, steps_write}
+use Rattle.std.proofs.lemmas.Bool.{and_parts}
 use Rattle.plans.proofs.Types.{VertexSet, Contribution}
 use Rattle.plans.proofs.Beside.{both_parts}
 
@@ -61,7 +61,7 @@ module _ (P : ℕ → Bool) (sets : List VertexSet) (writing : _) (sets_nothing 
     step_gives (SetEntry vector e) w writes h = subst (λ (z : WorkValue). AreFor P z.given) (sym (sets_nothing vector (value w.vectors sets w.scope e) w)) h
     step_gives (ReduceEntry vector reduction e) w writes h =
         let n = value w.vectors sets w.scope e in
-        let own = of_and (P vector) true writes in
+        let own = and_parts (P vector) true writes in
         subst (λ (z : WorkValue). AreFor P z.given) (sym (gives_number vector reduction n w)) (are_for_append P w.given (record { vector = vector; reduction = reduction; number = n } ∷ []) h (own.0, tt))
     step_gives (If c body) w writes h =
         either_given P (truth w.vectors sets w.scope c) (after_block w (after_steps writing sets body w)) w (steps_give body w writes h) h

@@ -27,3 +27,6 @@ pub mod Origins
 pub mod FusedApplies
 pub mod Counting
 pub mod Whole
+pub mod Pairwise
+pub mod Bounds
+pub mod ShownDepths

@@ -1,6 +1,6 @@
 -- Functions that work on their own vertex alone.
 use Rattle.std.proofs.Common.{◌≡◌, ℕ, ◌&&◌, ℤ, pos, Bool, true, false, not, cond, List, Option, slice_index_or, ap, sym, ◌∙◌, refl, subst}
-use Rattle.syntax.specs.declared.statement.Reduction.{Reduction}
+use Rattle.apply_options.specs.declared.reduction.Reduction.{Reduction}
 use Rattle.typed_tree.specs.declared.expression.Endpoint.{Endpoint}
 use Rattle.typed_tree.specs.declared.expression.Endpoint.TheVariants as endpoint
 use Rattle.typed_tree.specs.IntegerTree as integer
@@ -14,7 +14,7 @@ use Rattle.algorithm_meaning.specs.Value.{vertex_at, entry, with_entry, reduce_a
 use Rattle.algorithm_meaning.specs.Variables.{new_integer, new_condition, set_integer, set_condition, reduce_integer, forget_new}
 use Rattle.algorithm_meaning.specs.Function.{WorkValue, first_work, after_set, after_reduce, after_step, after_steps, after_block}
 use Rattle.algorithm_meaning.specs.VertexApply.{after_vertex}
-use Rattle.schedule.proofs.Uses.{of_and}
+use Rattle.std.proofs.lemmas.Bool.{and_parts}
 use Rattle.plans.specs.Fusing.{integer_is_local, condition_is_local, step_is_local, steps_are_local}
 use Rattle.plans.proofs.Types.{VertexSet}
 use Rattle.plans.proofs.Columns.{column, entry_in, put, entry-column, column-here}
@@ -53,7 +53,7 @@ module _ (u : ℕ) (sets : List VertexSet) where
   value_alike v w h (integer.SetSize slot) local = refl
   value_alike v w h (integer.Negative e) local = ap negative (value_alike v w h e local)
   value_alike v w h (integer.Arithmetic o a b) local =
-      let both = of_and (integer_is_local a) (integer_is_local b) local in
+      let both = and_parts (integer_is_local a) (integer_is_local b) local in
       let x = value_alike v w h a both.0 in
       let y = value_alike v w h b both.1 in
       λ i. arithmetic o (x i) (y i)
@@ -64,12 +64,12 @@ module _ (u : ℕ) (sets : List VertexSet) where
   truth_alike v w h (condition.Variable slot) local = ap (λ (s : ScopeValue). slice_index_or s.conditions slot.place false) h.scope
   truth_alike v w h (condition.Not c) local = ap not (truth_alike v w h c local)
   truth_alike v w h (condition.Compare o a b) local =
-      let both = of_and (integer_is_local a) (integer_is_local b) local in
+      let both = and_parts (integer_is_local a) (integer_is_local b) local in
       let x = value_alike v w h a both.0 in
       let y = value_alike v w h b both.1 in
       λ i. compared o (x i) (y i)
   truth_alike v w h (condition.Connect o a b) local =
-      let both = of_and (condition_is_local a) (condition_is_local b) local in
+      let both = and_parts (condition_is_local a) (condition_is_local b) local in
       let x = truth_alike v w h a both.0 in
       let y = truth_alike v w h b both.1 in
       λ i. connected o (x i) (y i)
@@ -140,12 +140,12 @@ module _ (u : ℕ) (sets : List VertexSet) (writing : _) (sets_at_once : (vector
     step_alike (SetEntry vector e) v w local h = set_alike v w h vector (value v.vectors sets v.scope e) (value w.vectors sets w.scope e) (value_alike u sets v w h e local)
     step_alike (ReduceEntry vector reduction e) v w local h = reduce_alike v w h vector reduction (value v.vectors sets v.scope e) (value w.vectors sets w.scope e) (value_alike u sets v w h e local)
     step_alike (If c body) v w local h =
-        let both = of_and (condition_is_local c) (steps_are_local body) local in
+        let both = and_parts (condition_is_local c) (steps_are_local body) local in
         either_alike u sets (truth v.vectors sets v.scope c) (truth w.vectors sets w.scope c) (after_block v (after_steps writing sets body v)) (after_block w (after_steps writing sets body w)) v w
         (truth_alike u sets v w h c both.0) (block_alike u sets v (after_steps writing sets body v) w (after_steps writing sets body w) h (steps_alike body v w both.1 h)) h
     step_alike (IfElse c body other) v w local h =
-        let both = of_and (condition_is_local c) (steps_are_local body && steps_are_local other) local in
-        let blocks = of_and (steps_are_local body) (steps_are_local other) both.1 in
+        let both = and_parts (condition_is_local c) (steps_are_local body && steps_are_local other) local in
+        let blocks = and_parts (steps_are_local body) (steps_are_local other) both.1 in
         either_alike u sets (truth v.vectors sets v.scope c) (truth w.vectors sets w.scope c)
         (after_block v (after_steps writing sets body v)) (after_block w (after_steps writing sets body w))
         (after_block v (after_steps writing sets other v)) (after_block w (after_steps writing sets other w))
@@ -156,7 +156,7 @@ module _ (u : ℕ) (sets : List VertexSet) (writing : _) (sets_at_once : (vector
     pub steps_alike : (steps : StepsTree) (v w : WorkValue) → steps_are_local steps ≡ true → IsAlike u v w → IsAlike u (after_steps writing sets steps v) (after_steps writing sets steps w)
     steps_alike NoStep v w local h = h
     steps_alike (StepThen step rest) v w local h =
-        let both = of_and (step_is_local step) (steps_are_local rest) local in
+        let both = and_parts (step_is_local step) (steps_are_local rest) local in
         steps_alike rest (after_step writing sets step v) (after_step writing sets step w) both.1 (step_alike step v w both.0 h)
 
   columns_alike : (steps : StepsTree) (xs ys : List (List ℤ)) → steps_are_local steps ≡ true → column u xs ≡ column u ys

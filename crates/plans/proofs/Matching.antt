@@ -2,17 +2,17 @@
 use Rattle.std.proofs.Common.{◌≡◌, ℕ, nat_lt, ◌&&◌, true, List, Option, Some, None, slice_get, ap, ◌∙◌, refl}
 use Rattle.std.proofs.lemmas.Bool.{eqb-true}
 use Rattle.std.specs.List.{filter}
-use Rattle.typed_tree.specs.declared.statement.EndFilter.{EndFilter}
-use Rattle.typed_tree.specs.declared.statement.EndFilter.TheVariants as end
-use Rattle.typed_tree.specs.declared.statement.Ends.{Ends}
+use Rattle.typed_tree.specs.declared.statement.VertexFilter.{VertexFilter}
+use Rattle.typed_tree.specs.declared.statement.VertexFilter.TheVariants as end
+use Rattle.typed_tree.specs.declared.statement.ApplyEnds.{ApplyEnds}
 use Rattle.typed_tree.specs.StepTree.{FunctionTree}
 use Rattle.algorithm_meaning.specs.State.{GraphValue, StateValue}
 use Rattle.algorithm_meaning.specs.Value.{members_of}
 use Rattle.algorithm_meaning.specs.Function.{steps_of}
 use Rattle.algorithm_meaning.specs.Filter.{result_of}
 use Rattle.algorithm_meaning.specs.EdgeApply.{is_member, passes, matching}
-use Rattle.schedule.specs.Access.{is_none_of, are_apart, steps_use, steps_use_where, steps_write, steps_write_where, end_reads}
-use Rattle.schedule.proofs.Uses.{of_and}
+use Rattle.typed_tree.specs.Access.{is_none_of, are_apart, steps_use, steps_use_where, steps_write, steps_write_where, end_reads}
+use Rattle.std.proofs.lemmas.Bool.{and_parts}
 use Rattle.plans.specs.Fusing.{steps_sizes, steps_sizes_where, end_sets, is_same_end}
 use Rattle.plans.proofs.Beside.{AgreeBut, SetsAgreeBut, result_same}
 
@@ -36,13 +36,13 @@ module _ (filters : List FunctionTree) (vectors places : List ℕ) (s t : StateV
       (ap (λ (xs : List ℕ). are_apart xs vectors) (uses_of f) ∙ reads) (ap (λ (xs : List ℕ). are_apart xs places) (sizes_of f) ∙ sizes) v
 
   -- an end lets the same vertices through
-  passes_same : (a b : Option EndFilter) (v : ℕ) → is_same_end a b ≡ true → are_apart (end_reads filters b) vectors ≡ true → are_apart (end_sets filters b) places ≡ true
+  passes_same : (a b : Option VertexFilter) (v : ℕ) → is_same_end a b ≡ true → are_apart (end_reads filters b) vectors ≡ true → are_apart (end_sets filters b) places ≡ true
       → passes filters s a v ≡ passes filters t b v
   passes_same None None v same reads sizes = refl
   passes_same None (Some b) v same reads sizes = cc
   passes_same (Some a) None v same reads sizes = cc
   passes_same (Some (end.Members a)) (Some (end.Members b)) v same reads sizes =
-      let own = of_and (is_none_of b.place places) true sizes in
+      let own = and_parts (is_none_of b.place places) true sizes in
       ap (λ (n : ℕ). is_member v (members_of (slice_get s.sets n))) (eqb-true a.place b.place same)
       ∙ ap (is_member v) (sets b.place own.0)
   passes_same (Some (end.Members a)) (Some (end.Function h)) v same reads sizes = cc
@@ -51,7 +51,7 @@ module _ (filters : List FunctionTree) (vectors places : List ℕ) (s t : StateV
       ap (λ (n : ℕ). passes filters s (Some (end.Function n)) v) (eqb-true f h same)
       ∙ filter_passes (slice_get filters h) v reads sizes
 
-  pub matching_same : (g : GraphValue) (a b : Ends) → is_same_end a.from b.from ≡ true → is_same_end a.to b.to ≡ true
+  pub matching_same : (g : GraphValue) (a b : ApplyEnds) → is_same_end a.from b.from ≡ true → is_same_end a.to b.to ≡ true
       → are_apart (end_reads filters b.from) vectors ≡ true → are_apart (end_sets filters b.from) places ≡ true
       → are_apart (end_reads filters b.to) vectors ≡ true → are_apart (end_sets filters b.to) places ≡ true
       → matching filters g s a ≡ matching filters g t b

@@ -1,13 +1,13 @@
 -- Functions that work on their own vertex leave other vertices alone.
 use Rattle.std.proofs.Common.{◌≡◌, ℕ, ◌==◌, ◌&&◌, ℤ, Bool, true, false, cond, List, Option, ap, ◌∙◌, refl}
-use Rattle.syntax.specs.declared.statement.Reduction.{Reduction}
+use Rattle.apply_options.specs.declared.reduction.Reduction.{Reduction}
 use Rattle.typed_tree.specs.StepTree.{StepTree, DeclareInteger, DeclareCondition, SetInteger, SetCondition, ReduceInteger, SetEntry, ReduceEntry, If, IfElse, StepsTree, NoStep, StepThen}
 use Rattle.algorithm_meaning.specs.Arithmetic.{reduced}
 use Rattle.algorithm_meaning.specs.State.{vertex_scope}
 use Rattle.algorithm_meaning.specs.Value.{entry, with_entry, reduce_at, value, truth}
 use Rattle.algorithm_meaning.specs.Function.{WorkValue, first_work, after_set, after_reduce, after_step, after_steps, after_block}
 use Rattle.algorithm_meaning.specs.VertexApply.{after_vertex}
-use Rattle.schedule.proofs.Uses.{of_and}
+use Rattle.std.proofs.lemmas.Bool.{and_parts}
 use Rattle.plans.specs.Fusing.{condition_is_local, step_is_local, steps_are_local}
 use Rattle.plans.proofs.Types.{VertexSet}
 use Rattle.plans.proofs.Columns.{column, column-elsewhere}
@@ -36,18 +36,18 @@ module _ (u v : ℕ) (apart : (u == v) ≡ false) (sets : List VertexSet) (writi
         ap (λ (z : WorkValue). column v z.vectors) (reduces_at_once vector reduction x w)
         ∙ written_elsewhere w h vector (reduced reduction (entry w.vectors vector w.scope.source) x)
     after_step_elsewhere (If c body) w local h =
-        let both = of_and (condition_is_local c) (steps_are_local body) local in
+        let both = and_parts (condition_is_local c) (steps_are_local body) local in
         either_column (truth w.vectors sets w.scope c) v (after_block w (after_steps writing sets body w)) w (column v w.vectors) (after_steps_elsewhere body w both.1 h) refl
     after_step_elsewhere (IfElse c body other) w local h =
-        let both = of_and (condition_is_local c) (steps_are_local body && steps_are_local other) local in
-        let blocks = of_and (steps_are_local body) (steps_are_local other) both.1 in
+        let both = and_parts (condition_is_local c) (steps_are_local body && steps_are_local other) local in
+        let blocks = and_parts (steps_are_local body) (steps_are_local other) both.1 in
         either_column (truth w.vectors sets w.scope c) v (after_block w (after_steps writing sets body w)) (after_block w (after_steps writing sets other w)) (column v w.vectors)
         (after_steps_elsewhere body w blocks.0 h) (after_steps_elsewhere other w blocks.1 h)
 
     after_steps_elsewhere : (steps : StepsTree) (w : WorkValue) → steps_are_local steps ≡ true → IsAlike u w w → column v (after_steps writing sets steps w).vectors ≡ column v w.vectors
     after_steps_elsewhere NoStep w local h = refl
     after_steps_elsewhere (StepThen step rest) w local h =
-        let both = of_and (step_is_local step) (steps_are_local rest) local in
+        let both = and_parts (step_is_local step) (steps_are_local rest) local in
         after_steps_elsewhere rest (after_step writing sets step w) both.1 (step_alike u sets writing sets_at_once reduces_at_once step w w both.0 h)
         ∙ after_step_elsewhere step w both.0 h
 

@@ -10,8 +10,8 @@ use Rattle.algorithm_meaning.specs.Value.{members_of}
 use Rattle.algorithm_meaning.specs.Entries.{with_vectors}
 use Rattle.algorithm_meaning.specs.Function.{steps_of}
 use Rattle.algorithm_meaning.specs.VertexApply.{after_vertices, after_apply_vertex}
-use Rattle.schedule.specs.Schedule.{ScheduleTree, choice_at}
-use Rattle.schedule.proofs.Uses.{of_and}
+use Rattle.apply_options.specs.ScheduleTree.{ScheduleTree, choice_at}
+use Rattle.std.proofs.lemmas.Bool.{and_parts}
 use Rattle.plans.specs.declared.depth.Depth.{Depth}
 use Rattle.plans.specs.Instruction.{OperationTree, ApplyEdgesTogether, ApplyVerticesTogether}
 use Rattle.plans.specs.Fusing.{EdgeApplyTree, VertexApplyTree, edge_apply_of, vertex_apply_of, steps_are_local, steps_are_local_where, function_is_local, edges_fit, vertices_fit, edges_together, vertices_together, either, together, is_with, Alone, with_next, company_of}
@@ -51,8 +51,8 @@ module _ (p : ProgramTree) (g : GraphValue) where
   vertices_at_once : (x y : VertexApplyTree) (d : Depth) (turns : ℕ) (s : StateValue) → vertices_fit p x y ≡ true → IsProper d turns s
       → after_apply_both p x.set.place x.function y.function s ≡ after_vertex_apply y (after_vertex_apply x s)
   vertices_at_once x y d turns s fit q =
-      let fits = of_and (nat_eq x.set.place y.set.place) (function_is_local p.vertex_functions x.function && function_is_local p.vertex_functions y.function) fit in
-      let local = of_and (function_is_local p.vertex_functions x.function) (function_is_local p.vertex_functions y.function) fits.1 in
+      let fits = and_parts (nat_eq x.set.place y.set.place) (function_is_local p.vertex_functions x.function && function_is_local p.vertex_functions y.function) fit in
+      let local = and_parts (function_is_local p.vertex_functions x.function) (function_is_local p.vertex_functions y.function) fits.1 in
       let f = steps_of (slice_get p.vertex_functions x.function) in
       let h = steps_of (slice_get p.vertex_functions y.function) in
       ap (with_vectors s) (both_at_each f h (local_steps (slice_get p.vertex_functions x.function) local.0) (local_steps (slice_get p.vertex_functions y.function) local.1) 0 s

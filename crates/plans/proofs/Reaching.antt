@@ -9,7 +9,7 @@ use Rattle.algorithm_meaning.specs.Stand.{Stand, Live, Over, then_do, with_value
 use Rattle.algorithm_meaning.specs.Variables.{with_new_integer}
 use Rattle.algorithm_meaning.specs.Loop.{depth_of, leave, take_turn, loop}
 use Rattle.algorithm_meaning.specs.Meaning.{after}
-use Rattle.schedule.specs.declared.choice.Choice.{Choice}
+use Rattle.apply_options.specs.declared.apply_schedule.ApplySchedule.{ApplySchedule}
 use Rattle.plans.specs.declared.depth.Counter.{Counter}
 use Rattle.plans.specs.declared.depth.Depth.{Depth}
 use Rattle.plans.specs.Instruction.{Do, Jump, InstructionTree}
@@ -94,7 +94,7 @@ module _ (p : ProgramTree) (g : GraphValue) (code : List InstructionTree) where
       by_step c (Ended t end) (Ended t end) (moves_on h (ap (λ (u : StateValue). Ended u end) (forgotten-all d t leaves))) here
 
   -- a statement without a block
-  pub alone_runs : (a : ActionTree) → HasNoBlock a → (place number : ℕ) (choice : Choice) (d : Depth) (turns : ℕ) (loops : List Counter) (m s : StateValue)
+  pub alone_runs : (a : ActionTree) → HasNoBlock a → (place number : ℕ) (choice : ApplySchedule) (d : Depth) (turns : ℕ) (loops : List Counter) (m s : StateValue)
       → slice_get code place ≡ Some (record { number = number; keep = d; shown = d; choice = choice; operation = Do a })
       → forgotten d m ≡ s → IsProper d turns s → Follows (place + 1) loops (behind a d) turns (after p g number a s) (At place loops m)
   alone_runs a alone place number choice d turns loops m s at same proper =

@@ -8,8 +8,8 @@ use Rattle.algorithm_meaning.specs.Value.{members_of}
 use Rattle.algorithm_meaning.specs.Entries.{with_vectors}
 use Rattle.algorithm_meaning.specs.VertexSets.{set_members, with_new_set, with_members}
 use Rattle.algorithm_meaning.specs.EdgeApply.{modified}
-use Rattle.schedule.specs.Access.{is_none_of, are_apart}
-use Rattle.schedule.proofs.Uses.{of_and}
+use Rattle.typed_tree.specs.Access.{is_none_of, are_apart}
+use Rattle.std.proofs.lemmas.Bool.{and_parts}
 use Rattle.plans.specs.declared.depth.Depth.{Depth}
 use Rattle.plans.specs.Instruction.{ResultTree, Dropped, Declared, Assigned}
 use Rattle.plans.specs.Fusing.{result_places, result_vectors}
@@ -26,10 +26,10 @@ pub result_agrees : (n : ℕ) (changed : List ℕ) (xs ys xs' ys' : List (List �
     → with_result n xs ys r s ≡ with_result n xs' ys' r s
 result_agrees n changed xs ys xs' ys' Dropped s apart before after = refl
 result_agrees n changed xs ys xs' ys' (Declared name vector) s apart before after =
-    let own = of_and (is_none_of vector changed) true apart in
+    let own = and_parts (is_none_of vector changed) true apart in
     ap (with_new_set s name) (modified_same n vector xs ys xs' ys' (before vector own.0) (after vector own.0))
 result_agrees n changed xs ys xs' ys' (Assigned slot vector) s apart before after =
-    let own = of_and (is_none_of vector changed) true apart in
+    let own = and_parts (is_none_of vector changed) true apart in
     ap (with_members s slot.place) (modified_same n vector xs ys xs' ys' (before vector own.0) (after vector own.0))
 
 -- and leaves the vectors

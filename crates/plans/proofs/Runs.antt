@@ -7,7 +7,7 @@ use Rattle.algorithm_meaning.specs.State.{GraphValue, StateValue}
 use Rattle.algorithm_meaning.specs.Stand.{Stand, Live, Over, then_do, choice_in, with_value, choose}
 use Rattle.algorithm_meaning.specs.Loop.{inside, depth_of, leave}
 use Rattle.algorithm_meaning.specs.Meaning.{after, after_all}
-use Rattle.schedule.specs.Schedule.{ScheduleTree, choice_at}
+use Rattle.apply_options.specs.ScheduleTree.{ScheduleTree, choice_at}
 use Rattle.plans.specs.declared.depth.Counter.{Counter}
 use Rattle.plans.specs.declared.depth.Depth.{Depth}
 use Rattle.plans.specs.Instruction.{OperationTree, Do, Unless, UnlessBelow, Turn, Jump, Advance, InstructionTree}

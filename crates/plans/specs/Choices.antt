@@ -1,7 +1,7 @@
 -- By what edge applies go.
 use Rattle.std.specs.Prelude.{◌≡◌, ℕ, List, Option, Some, None, slice_get, ◌⊎◌}
 use Rattle.typed_tree.specs.BlockTree.{ActionTree, If, IfElse, While, For, BlockTree, Empty, Then}
-use Rattle.schedule.specs.Schedule.{ScheduleTree, choice_at}
+use Rattle.apply_options.specs.ScheduleTree.{ScheduleTree, choice_at}
 use Rattle.plans.specs.Instruction.{OperationTree, Do, ApplyEdgesTogether, InstructionTree}
 use Rattle.plans.specs.Fusing.{EdgeApplyTree, edge_apply_of}
 

@@ -1,11 +1,11 @@
 -- Programs whose plans are told.
 use Rattle.std.specs.Prelude.{◌≡◌, ℕ, pos, List, [], ◌∷◌, map, Some, None}
-use Rattle.syntax.specs.declared.statement.Reduction.TheVariants.{Plus}
-use Rattle.typed_tree.specs.declared.expression.Comparison.TheVariants.{Less, NotEqual}
+use Rattle.apply_options.specs.declared.reduction.Reduction.TheVariants.{Plus}
+use Rattle.typed_tree.specs.declared.expression.ComparisonOperator.TheVariants.{Less, NotEqual}
 use Rattle.typed_tree.specs.declared.expression.Endpoint.TheVariants.{Source}
-use Rattle.typed_tree.specs.declared.expression.Slot.{Slot}
-use Rattle.typed_tree.specs.declared.statement.EndFilter.TheVariants as end
-use Rattle.typed_tree.specs.declared.statement.Ends.{Ends}
+use Rattle.typed_tree.specs.declared.expression.VarRef.{VarRef}
+use Rattle.typed_tree.specs.declared.statement.VertexFilter.TheVariants as end
+use Rattle.typed_tree.specs.declared.statement.ApplyEnds.{ApplyEnds}
 use Rattle.typed_tree.specs.declared.statement.SetValue.TheVariants as set
 use Rattle.typed_tree.specs.IntegerTree.{IntegerTree, Number, EntryAt, SetSize}
 use Rattle.typed_tree.specs.ConditionTree.{ConditionTree, Compare}
@@ -13,8 +13,8 @@ use Rattle.typed_tree.specs.StepTree as step
 use Rattle.typed_tree.specs.StepTree.{FunctionTree}
 use Rattle.typed_tree.specs.BlockTree.{DeclareInteger, SetEntry, DeclareSet, AssignSet, AddVertex, PrintInteger, ApplyVertex, ApplyEdges, If, IfElse, While, For, BlockTree, Empty, Then}
 use Rattle.typed_tree.specs.ProgramTree.{ProgramTree}
-use Rattle.schedule.specs.declared.choice.Fused.TheVariants.{With, Into}
-use Rattle.schedule.specs.Schedule.{ScheduleTree, fused_as, no_choice}
+use Rattle.apply_options.specs.declared.apply_schedule.Fused.TheVariants.{With, Into}
+use Rattle.apply_options.specs.ScheduleTree.{ScheduleTree, fused_as, no_choice}
 use Rattle.plans.specs.Instruction.{OperationTree, Do, ApplyEdgesTogether, ApplyVerticesTogether, Unless, Enter, UnlessBelow, Advance, Turn, Jump, End, InstructionTree, Dropped, Declared}
 use Rattle.plans.specs.Plan.{plan_of}
 
@@ -26,7 +26,7 @@ abbrev pub with_main : ProgramTree → BlockTree → ProgramTree
 with_main p main = record p { main = main }
 
 -- a breadth-first search from vertex 0: the frontier goes on as long as it has members
-abbrev pub breadth_first : (frontier : Slot) → Ends → (visit parent : ℕ) → BlockTree
+abbrev pub breadth_first : (frontier : VarRef) → ApplyEnds → (visit parent : ℕ) → BlockTree
 breadth_first frontier ends visit parent =
     Then 1 None (DeclareSet frontier.name set.Empty)
     (Then 2 None (AddVertex frontier (Number (pos 0)))
@@ -35,7 +35,7 @@ breadth_first frontier ends visit parent =
     (Then 5 (Some 0) (AssignSet frontier (set.Modified ends visit parent)) Empty))
     Empty)))
 
-abbrev pub HasPlanOfSearch : ProgramTree → ScheduleTree → (frontier : Slot) → Ends → (visit parent : ℕ) → Type 0
+abbrev pub HasPlanOfSearch : ProgramTree → ScheduleTree → (frontier : VarRef) → ApplyEnds → (visit parent : ℕ) → Type 0
 HasPlanOfSearch p s frontier ends visit parent =
     operations (plan_of (with_main p (breadth_first frontier ends visit parent)) s)
     ≡ Do (DeclareSet frontier.name set.Empty)
@@ -86,11 +86,11 @@ sets_entries =
     ∷ record { name = 1; steps = step.StepThen (step.SetEntry 1 (EntryAt 0 Source)) step.NoStep }
     ∷ []
 
-abbrev pub vertex_applies : (vertices : Slot) → BlockTree
+abbrev pub vertex_applies : (vertices : VarRef) → BlockTree
 vertex_applies vertices = Then 1 (Some 0) (ApplyVertex vertices 0) (Then 2 (Some 1) (ApplyVertex vertices 1) Empty)
 
 -- the first constant set, of this name
-abbrev pub first_set : (name : ℕ) → Slot
+abbrev pub first_set : (name : ℕ) → VarRef
 first_set name = record { place = 0; name = name }
 
 abbrev pub HasPlanOfVertexPair : ProgramTree → (name : ℕ) → Type 0
@@ -111,7 +111,7 @@ abbrev pub with_edge_functions : ProgramTree → ProgramTree
 with_edge_functions p = record p { filters = reads_first ∷ []; edge_functions = adds_to 0 ∷ adds_to 1 ∷ adds_to 2 ∷ [] }
 
 -- to the vertices that the filter lets through
-abbrev pub filtered : Ends
+abbrev pub filtered : ApplyEnds
 filtered = record { from = None; to = Some (end.Function 0) }
 
 abbrev pub edge_applies : (f g : ℕ) → BlockTree
@@ -125,7 +125,7 @@ HasPlanOfEdgePair p =
     ∷ []
 
 -- two sets that get what the edge functions at places 1 and 2 change
-abbrev pub all_edges : Ends
+abbrev pub all_edges : ApplyEnds
 all_edges = record { from = None; to = None }
 
 abbrev pub modifying_applies : (m n : ℕ) → BlockTree

@@ -1,9 +1,9 @@
 -- Two applies that are done together.
 use Rattle.std.specs.Prelude.{ℕ, nat_eq, Bool, true, false, ◌&&◌, List, [], ◌∷◌, ◌++◌, if◌then◌else◌, Option, Some, None, slice_get}
-use Rattle.typed_tree.specs.declared.expression.Slot.{Slot}
-use Rattle.typed_tree.specs.declared.statement.EndFilter.{EndFilter}
-use Rattle.typed_tree.specs.declared.statement.EndFilter.TheVariants as end
-use Rattle.typed_tree.specs.declared.statement.Ends.{Ends}
+use Rattle.typed_tree.specs.declared.expression.VarRef.{VarRef}
+use Rattle.typed_tree.specs.declared.statement.VertexFilter.{VertexFilter}
+use Rattle.typed_tree.specs.declared.statement.VertexFilter.TheVariants as end
+use Rattle.typed_tree.specs.declared.statement.ApplyEnds.{ApplyEnds}
 use Rattle.typed_tree.specs.declared.statement.SetValue.{SetValue}
 use Rattle.typed_tree.specs.declared.statement.SetValue.TheVariants as set
 use Rattle.typed_tree.specs.IntegerTree as integer
@@ -15,22 +15,22 @@ use Rattle.typed_tree.specs.BlockTree as block
 use Rattle.typed_tree.specs.BlockTree.{ActionTree, BlockTree, Empty, Then}
 use Rattle.typed_tree.specs.ProgramTree.{ProgramTree}
 use Rattle.plans.specs.declared.depth.Depth.{Depth}
-use Rattle.schedule.specs.declared.choice.Fused.{Fused}
-use Rattle.schedule.specs.declared.choice.Fused.TheVariants.{With, Into}
-use Rattle.schedule.specs.declared.site.Apply.{Apply}
-use Rattle.schedule.specs.declared.site.Apply.TheVariants.{Edges}
-use Rattle.schedule.specs.Access.{are_apart, function_writes}
-use Rattle.schedule.specs.Rules.{are_independent}
-use Rattle.schedule.specs.Schedule.{ScheduleTree, choice_at}
+use Rattle.apply_options.specs.declared.apply_schedule.Fused.{Fused}
+use Rattle.apply_options.specs.declared.apply_schedule.Fused.TheVariants.{With, Into}
+use Rattle.typed_tree.specs.declared.apply.StatementApply.{StatementApply}
+use Rattle.typed_tree.specs.declared.apply.StatementApply.TheVariants.{Edges}
+use Rattle.typed_tree.specs.Access.{are_apart, function_writes}
+use Rattle.typed_tree.specs.Independence.{are_independent}
+use Rattle.apply_options.specs.ScheduleTree.{ScheduleTree, choice_at}
 use Rattle.plans.specs.Instruction.{ResultTree, Dropped, Declared, Assigned, EdgePartTree, OperationTree, ApplyEdgesTogether, ApplyVerticesTogether}
 
 -- an edge apply, and a vertex apply
 pub record EdgeApplyTree : Type 0 where
-  pub ends : Ends
+  pub ends : ApplyEnds
   pub part : EdgePartTree
 
 pub record VertexApplyTree : Type 0 where
-  pub set : Slot
+  pub set : VarRef
   pub function : ℕ
 
 -- the edge apply of which a set gets what it changed
@@ -114,7 +114,7 @@ abbrev pub function_sizes : List FunctionTree → ℕ → List ℕ
 function_sizes functions place = steps_sizes_where (slice_get functions place)
 
 -- the vertex sets that an end of an edge apply depends on
-abbrev pub end_sets : List FunctionTree → Option EndFilter → List ℕ
+abbrev pub end_sets : List FunctionTree → Option VertexFilter → List ℕ
 end_sets filters None = []
 end_sets filters (Some (end.Members slot)) = slot.place ∷ []
 end_sets filters (Some (end.Function function)) = function_sizes filters function
@@ -124,7 +124,7 @@ abbrev pub sets_read : ProgramTree → EdgeApplyTree → List ℕ
 sets_read p x = end_sets p.filters x.ends.from ++ (end_sets p.filters x.ends.to ++ function_sizes p.edge_functions x.part.function)
 
 -- two ends are the set, or the filter, at the same place, or none is given
-abbrev pub is_same_end : Option EndFilter → Option EndFilter → Bool
+abbrev pub is_same_end : Option VertexFilter → Option VertexFilter → Bool
 is_same_end None None = true
 is_same_end None (Some b) = false
 is_same_end (Some a) None = false
@@ -134,7 +134,7 @@ is_same_end (Some (end.Function f)) (Some (end.Members b)) = false
 is_same_end (Some (end.Function f)) (Some (end.Function g)) = nat_eq f g
 
 -- an edge apply as the rules of schedules speak of it
-abbrev pub apply_tree : EdgeApplyTree → Apply
+abbrev pub apply_tree : EdgeApplyTree → StatementApply
 apply_tree x = Edges x.ends x.part.function (result_name x.part.result)
 
 -- The second of two edge applies gives the same behind the first as beside it: the ends are the same, the two are independent, the second

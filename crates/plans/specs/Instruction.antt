@@ -1,18 +1,18 @@
 -- Instructions of plans, without kernels.
 use Rattle.std.specs.Prelude.{ℕ}
-use Rattle.typed_tree.specs.declared.expression.Slot.{Slot}
-use Rattle.typed_tree.specs.declared.statement.Ends.{Ends}
+use Rattle.typed_tree.specs.declared.expression.VarRef.{VarRef}
+use Rattle.typed_tree.specs.declared.statement.ApplyEnds.{ApplyEnds}
 use Rattle.typed_tree.specs.IntegerTree.{IntegerTree}
 use Rattle.typed_tree.specs.ConditionTree.{ConditionTree}
 use Rattle.typed_tree.specs.BlockTree.{ActionTree}
 use Rattle.plans.specs.declared.depth.Depth.{Depth}
-use Rattle.schedule.specs.declared.choice.Choice.{Choice}
+use Rattle.apply_options.specs.declared.apply_schedule.ApplySchedule.{ApplySchedule}
 
 -- what is done with the vertices where an edge apply changed a vector: nothing, or a set gets them, a new variable of this name or one that is there
 pub data ResultTree : Type 0 where
   Dropped : ResultTree
   Declared : (name vector : ℕ) → ResultTree
-  Assigned : Slot → (vector : ℕ) → ResultTree
+  Assigned : VarRef → (vector : ℕ) → ResultTree
 
 -- the edge function at this place, and what is done with what it changed
 pub record EdgePartTree : Type 0 where
@@ -24,8 +24,8 @@ pub data OperationTree : Type 0 where
   -- a statement without a block
   Do : ActionTree → OperationTree
   -- two edge applies between the same ends, and two vertex applies to the same set
-  ApplyEdgesTogether : Ends → (first second : EdgePartTree) → OperationTree
-  ApplyVerticesTogether : (set : Slot) → (first second : ℕ) → OperationTree
+  ApplyEdgesTogether : ApplyEnds → (first second : EdgePartTree) → OperationTree
+  ApplyVerticesTogether : (set : VarRef) → (first second : ℕ) → OperationTree
   -- goes on at the place unless the condition holds
   Unless : ConditionTree → (to : ℕ) → OperationTree
   -- `for` whose name, the last variable, has its first value: the second bound, which stands behind the name
@@ -45,5 +45,5 @@ pub record InstructionTree : Type 0 where
   pub number : ℕ
   pub keep : Depth
   pub shown : Depth
-  pub choice : Choice
+  pub choice : ApplySchedule
   pub operation : OperationTree

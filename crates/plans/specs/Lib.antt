@@ -8,3 +8,11 @@ pub mod Choices
 pub mod Fused
 pub mod Reducing
 pub mod Examples
+pub mod Parts
+pub mod Kernels
+pub mod Functions
+pub mod Members
+pub mod Operation
+pub mod Lowered
+pub mod Outline
+pub mod PlanOf

@@ -1,6 +1,6 @@
 -- The machine that runs a plan.
 use Rattle.std.specs.Prelude.{ℕ, zero, suc, ◌+◌, ℤ, pos, ◌+ℤ◌, int_lt, Bool, if◌then◌else◌, List, [], ◌∷◌, map, slice_get, slice_index_or, Option, Some, None}
-use Rattle.typed_tree.specs.declared.statement.Ends.{Ends}
+use Rattle.typed_tree.specs.declared.statement.ApplyEnds.{ApplyEnds}
 use Rattle.typed_tree.specs.StepTree.{StepsTree}
 use Rattle.typed_tree.specs.ProgramTree.{ProgramTree}
 use Rattle.algorithm_meaning.specs.declared.outcome.End.{End as Ending}
@@ -41,7 +41,7 @@ with_results vertices before after [] s = s
 with_results vertices before after (part ∷ parts) s = with_results vertices before after parts (with_result vertices before after part.result s)
 
 -- edge functions between the same ends: all read the vectors before the apply, and what they changed is known behind it
-abbrev pub after_parts : ProgramTree → GraphValue → Ends → List EdgePartTree → StateValue → StateValue
+abbrev pub after_parts : ProgramTree → GraphValue → ApplyEnds → List EdgePartTree → StateValue → StateValue
 after_parts p g ends parts s =
     let vectors = after_edge_apply p.filters p.edge_functions g ends (map (λ part. part.function) parts) s in
     with_results g.vertices s.vectors vectors parts (with_vectors s vectors)

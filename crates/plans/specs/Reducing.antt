@@ -1,6 +1,6 @@
 -- By what edge applies give a vector numbers.
 use Rattle.std.specs.Prelude.{◌≡◌, ℕ, List, [], ◌∷◌, map, slice_get, Option, Some, None}
-use Rattle.syntax.specs.declared.statement.Reduction.{Reduction}
+use Rattle.apply_options.specs.declared.reduction.Reduction.{Reduction}
 use Rattle.typed_tree.specs.StepTree.{FunctionTree, StepsTree}
 use Rattle.typed_tree.specs.ProgramTree.{ProgramTree}
 use Rattle.algorithm_meaning.specs.Function.{steps_of}

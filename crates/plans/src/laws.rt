@@ -1,12 +1,12 @@
 //! Laws of plans. The calls do nothing.
 ghost use Rattle.std.specs.Prelude.{ℕ};
-ghost use Rattle.typed_tree.specs.declared.expression.Slot.{Slot};
-ghost use Rattle.typed_tree.specs.declared.statement.Ends.{Ends};
+ghost use Rattle.typed_tree.specs.declared.expression.VarRef.{VarRef};
+ghost use Rattle.typed_tree.specs.declared.statement.ApplyEnds.{ApplyEnds};
 ghost use Rattle.typed_tree.specs.ConditionTree.{ConditionTree};
 ghost use Rattle.typed_tree.specs.IntegerTree.{IntegerTree};
 ghost use Rattle.typed_tree.specs.ProgramTree.{ProgramTree};
 ghost use Rattle.algorithm_meaning.specs.State.{GraphValue};
-ghost use Rattle.schedule.specs.Schedule.{ScheduleTree};
+ghost use Rattle.apply_options.specs.ScheduleTree.{ScheduleTree};
 ghost use Rattle.plans.specs.Choices.{GoBySchedule};
 ghost use Rattle.plans.specs.Examples.{HasPlanOfApartEdges, HasPlanOfEdgePair, HasPlanOfLoop, HasPlanOfModifyingPair, HasPlanOfSearch, HasPlanOfVertexPair};
 ghost use Rattle.plans.specs.Fused.{FusedFit};
@@ -43,7 +43,7 @@ pub fn fused_applies_fit()
 /// it, pairs of vertex applies, of edge applies and of edge applies with results that the schedule fuses, and two edge
 /// applies that cannot be done together.
 pub fn examples_have_their_plans()
-    ensures search { (p : ProgramTree) (s : ScheduleTree) (frontier : Slot) (ends : Ends) (visit parent : ℕ) → HasPlanOfSearch p s frontier ends visit parent }
+    ensures search { (p : ProgramTree) (s : ScheduleTree) (frontier : VarRef) (ends : ApplyEnds) (visit parent : ℕ) → HasPlanOfSearch p s frontier ends visit parent }
     ensures loop_with_choice { (p : ProgramTree) (s : ScheduleTree) (i : ℕ) (first end : IntegerTree) (c : ConditionTree) (e f : IntegerTree)
         → HasPlanOfLoop p s i first end c e f }
     ensures vertex_pair { (p : ProgramTree) (name : ℕ) → HasPlanOfVertexPair p name }

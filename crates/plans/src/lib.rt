@@ -20,10 +20,24 @@
 #![tactic(auto)]
 
 mod depth;
+mod functions;
+mod instruction;
+mod kernels_at;
 mod laws;
+mod members;
+mod operation;
+mod part;
+mod plan;
 
 pub use depth::{Counter, Depth};
+pub use functions::FunctionKernels;
+pub use instruction::Instruction;
+pub use kernels_at::{Kernel, Kernels};
 pub use laws::{
     edge_applies_go_by_the_schedule, examples_have_their_plans, fused_applies_fit,
     plans_do_what_programs_do, steps_lower_their_bound,
 };
+pub use members::Members;
+pub use operation::Operation;
+pub use part::{EdgeApply, EdgePart, FusedPair, PartResult, VertexApply};
+pub use plan::Plan;

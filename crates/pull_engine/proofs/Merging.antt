@@ -4,7 +4,7 @@ use Rattle.std.specs.List.{filter, flat_map, range_with_len}
 use Rattle.std.specs.List.Sorted.{IsPermutation}
 use Rattle.typed_tree.specs.StepTree.{StepsTree}
 use Rattle.algorithm_meaning.specs.State.{StateValue}
-use Rattle.stack_code.specs.Cells.{HasSizes}
+use Rattle.register_code.specs.Cells.{HasSizes}
 use Rattle.crew.specs.declared.found.Found.{Found}
 use Rattle.edge_fold.specs.declared.functions.Functions.{Functions}
 use Rattle.edge_fold.specs.declared.gathered.Gathered.{Gathered}
@@ -15,8 +15,8 @@ use Rattle.edge_fold.specs.Folded.{AreKernels, HasFolded}
 use Rattle.edge_fold.specs.Given.{column}
 use Rattle.edge_fold.proofs.Orders.{folded_in_any_order}
 use Rattle.edge_fold.proofs.Walks.{folded_along}
-use Rattle.piece_cuts.specs.Pieces.{AreEnds, piece_of}
-use Rattle.piece_cuts.proofs.PieceLists.{pieces_are_the_list}
+use Rattle.crew.specs.Partition.{AreEnds, piece_of}
+use Rattle.crew.proofs.PieceLists.{pieces_are_the_list}
 use Rattle.tree_batch.specs.Digraph.{Digraph, IsDigraph}
 use Rattle.tree_batch.specs.Edge.{edge_eq, has_edge}
 use Rattle.tree_batch.specs.Neighbours.{sources_of}

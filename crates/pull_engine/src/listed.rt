@@ -2,23 +2,23 @@
 ghost use Rattle.std.specs.Prelude.{◌≡◌, ℕ, ◌<◌, Bool, true, List, length, map, IfOk, IfSome};
 ghost use Rattle.algorithm_meaning.specs.EdgeApply.{is_member};
 ghost use Rattle.algorithm_meaning.specs.State.{StateValue};
-ghost use Rattle.schedule.specs.declared.choice.Parallelization.TheVariants.{EdgeAwareDynamicVertex};
-ghost use Rattle.stack_code.specs.Cells.{HasSizes};
+ghost use Rattle.apply_options.specs.declared.apply_schedule.Parallelization.TheVariants.{EdgeAwareDynamicVertex};
+ghost use Rattle.register_code.specs.Cells.{HasSizes};
 ghost use Rattle.crew.specs.Outcome.{AreWorkers};
 ghost use Rattle.edge_fold.specs.Ends.{IsEndTest, IsTest};
-ghost use Rattle.piece_cuts.specs.Ends.{ends_by};
-ghost use Rattle.piece_cuts.specs.Pieces.{AreEnds};
+ghost use Rattle.crew.specs.Boundaries.{boundaries};
+ghost use Rattle.crew.specs.Partition.{AreEnds};
 ghost use Rattle.tree_batch.specs.Neighbours.{sources_of};
 ghost use Rattle.push_engine.specs.Sources.{AscendsFrom};
 ghost use Rattle.pull_engine.specs.Destinations.{AreDestinations, passes_set};
 ghost use Rattle.push_engine.specs.Words.{passes_words};
 
+use apply_options::Parallelization;
+use crew::Partition;
 use edge_fold::{Functions, Scratch};
 use flat_snapshot::Flat;
 use kernels::End;
-use piece_cuts::Cuts;
 use push_engine::{members_of, passing_set};
-use schedule::Parallelization;
 use std::alloc::{AllocError, Global};
 use vertex_sets::{Form, VertexSet};
 
@@ -90,9 +90,9 @@ pub(crate) fn cut_destinations(
     workers: usize,
     flat: &Flat,
     destinations: &[u32],
-) -> Result<Cuts, AllocError>
+) -> Result<Partition, AllocError>
     requires { AreWorkers workers }
-    ensures ends { IfOk result (λ c. c ≡ ends_by parallelization workers (length destinations.now) (map (λ v. length (sources_of v flat.now.edges)) destinations.now)) }
+    ensures ends { IfOk result (λ c. c ≡ boundaries parallelization workers (length destinations.now) (map (λ v. length (sources_of v flat.now.edges)) destinations.now)) }
     ensures whole { IfOk result (λ c. AreEnds 0 (length destinations.now) c) }
 {
     let count = destinations.len();
@@ -101,7 +101,7 @@ pub(crate) fn cut_destinations(
         return Err(AllocError);
     }
     let degrees = degrees_for(alloc, parallelization, flat, destinations)?;
-    Cuts::of(alloc, parallelization, workers, count, &degrees)
+    Partition::of(alloc, parallelization, workers, count, &degrees)
 }
 
 /// How many edges there are to each destination, where a schedule asks for it, and else none.

@@ -2,22 +2,21 @@
 ghost use Rattle.std.specs.Prelude.{◌≡◌, ℕ, ◌<◌, Bool, Err, length, map, vec_len, IfOk, IfSome};
 ghost use Rattle.std.proofs.Props.{props};
 ghost use Rattle.algorithm_meaning.specs.State.{StateValue};
-ghost use Rattle.stack_code.specs.Cells.{HasSizes};
+ghost use Rattle.register_code.specs.Cells.{HasSizes};
 ghost use Rattle.crew.specs.declared.error.CrewError.TheVariants.{BadWorkers, NoMemory};
 ghost use Rattle.crew.specs.Outcome.{AreWorkers};
 ghost use Rattle.edge_fold.specs.Ends.{IsEndTest};
-ghost use Rattle.piece_cuts.specs.Ends.{ends_by};
-ghost use Rattle.piece_cuts.specs.Pieces.{AreEnds};
+ghost use Rattle.crew.specs.Boundaries.{boundaries};
+ghost use Rattle.crew.specs.Partition.{AreEnds};
 ghost use Rattle.push_engine.specs.Propositions.{AreEnds-prop, AscendsFrom-prop};
 ghost use Rattle.tree_batch.specs.Neighbours.{sources_of};
 ghost use Rattle.vertex_sets.specs.declared.form.Form.TheVariants as Form;
 ghost use Rattle.pull_engine.specs.Destinations.{AreDestinations, passes_set};
 
 use crate::listed::{cut_destinations, list_destinations, source_bits};
-use crew::CrewError;
+use crew::{CrewError, Partition};
 use edge_fold::{Functions, Scratch, Start};
 use flat_snapshot::Flat;
-use piece_cuts::Cuts;
 use push_engine::Apply;
 use std::alloc::Global;
 use vectors::Vectors;
@@ -32,7 +31,7 @@ pub struct PullWork<'a> {
     pub(crate) sizes: &'a [i64],
     pub(crate) bits: Option<VertexSet>,
     pub(crate) destinations: Vec<u32>,
-    pub(crate) cuts: Cuts,
+    pub(crate) cuts: Partition,
     ghost whole: { AreEnds 0 (length destinations.items) cuts } by { AreEnds-prop 0 (length destinations.items) cuts },
     ghost form: { IfSome bits (λ s. s.form ≡ Form.Bits) } by { Prim.hlevel (props) },
     ghost sources: { (m : StateValue) (from : ℕ → Bool) → vectors.now.vectors ≡ m.vectors → HasSizes sizes.now m → IsEndTest apply.from m from
@@ -78,7 +77,7 @@ impl<'a> PullWork<'a> {
         ensures flat { IfOk result (λ w. w.flat.now ≡ flat.now) }
         ensures vectors { IfOk result (λ w. w.vectors.now ≡ vectors.now) }
         ensures sizes { IfOk result (λ w. w.sizes.now ≡ sizes.now) }
-        ensures cuts { IfOk result (λ w. w.cuts ≡ ends_by apply.now.parallelization workers (vec_len w.destinations) (map (λ v. length (sources_of v flat.now.edges)) w.destinations.items)) }
+        ensures cuts { IfOk result (λ w. w.cuts ≡ boundaries apply.now.parallelization workers (vec_len w.destinations) (map (λ v. length (sources_of v flat.now.edges)) w.destinations.items)) }
     {
         if workers < 1 || 64 < workers {
             return Err(CrewError::BadWorkers);

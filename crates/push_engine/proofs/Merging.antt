@@ -4,7 +4,7 @@ use Rattle.std.proofs.lemmas.List.{append-nil, take_more}
 use Rattle.std.proofs.lemmas.List.Elements.{filter-append}
 use Rattle.std.specs.List.{filter, flat_map, range_with_len}
 use Rattle.std.specs.List.Sorted.{IsPermutation}
-use Rattle.syntax.specs.declared.statement.Reduction.{Reduction}
+use Rattle.apply_options.specs.declared.reduction.Reduction.{Reduction}
 use Rattle.typed_tree.specs.StepTree.{StepsTree}
 use Rattle.algorithm_meaning.specs.State.{StateValue}
 use Rattle.crew.specs.declared.found.Found.{Found}
@@ -17,8 +17,8 @@ use Rattle.edge_fold.specs.Gathered.{AreGathered}
 use Rattle.edge_fold.specs.Given.{all_given, given_on, reduced_at}
 use Rattle.edge_fold.proofs.Orders.{folded_alike, folded_in_any_order}
 use Rattle.edge_fold.proofs.Walks.{folded_along}
-use Rattle.piece_cuts.specs.Pieces.{AreEnds, piece_of}
-use Rattle.piece_cuts.proofs.PieceLists.{pieces_are_the_list}
+use Rattle.crew.specs.Partition.{AreEnds, piece_of}
+use Rattle.crew.proofs.PieceLists.{pieces_are_the_list}
 use Rattle.push_engine.specs.Pieces.{EachGathered, pieces_of}
 use Rattle.push_engine.specs.Rows.{rows}
 use Rattle.push_engine.specs.Sources.{AreSources, passing_in}

@@ -3,10 +3,10 @@ use Rattle.std.proofs.Common.{◌≡◌, append_assoc, ℕ, zero, suc, ◌+◌, 
 use Rattle.std.proofs.lemmas.List.{append-nil}
 use Rattle.std.specs.List.{filter}
 use Rattle.algorithm_meaning.specs.EdgeApply.{is_member}
-use Rattle.schedule.specs.declared.choice.Parallelization.{Parallelization}
-use Rattle.schedule.specs.declared.choice.Parallelization.TheVariants.{Serial, StaticVertex, DynamicVertex, EdgeAwareDynamicVertex}
-use Rattle.piece_cuts.specs.Ends.{edge_aware_ends, ends_by}
-use Rattle.piece_cuts.specs.Pieces.{AreEnds, end_of}
+use Rattle.apply_options.specs.declared.apply_schedule.Parallelization.{Parallelization}
+use Rattle.apply_options.specs.declared.apply_schedule.Parallelization.TheVariants.{Serial, StaticVertex, DynamicVertex, EdgeAwareDynamicVertex}
+use Rattle.crew.specs.Boundaries.{edge_aware_ends, boundaries}
+use Rattle.crew.specs.Partition.{AreEnds, end_of}
 use Rattle.tree_batch.specs.Neighbours.{destinations_of}
 use Rattle.vertex_sets.proofs.Ascending.{Rises}
 use Rattle.push_engine.specs.Sources.{AscendsFrom}
@@ -41,7 +41,7 @@ pub filter_ascends : (from : ℕ → Bool) (us : List ℕ) → AscendsFrom 0 us 
 filter_ascends from us up = ascends 0 (filter from us) (rises_filtered from 0 us (rising 0 us up))
 
 -- the degrees are read only where a schedule asks for them
-pub same_ends : (p : Parallelization) (w n : ℕ) (ds es : List ℕ) → (p ≡ EdgeAwareDynamicVertex → ds ≡ es) → ends_by p w n ds ≡ ends_by p w n es
+pub same_ends : (p : Parallelization) (w n : ℕ) (ds es : List ℕ) → (p ≡ EdgeAwareDynamicVertex → ds ≡ es) → boundaries p w n ds ≡ boundaries p w n es
 same_ends Serial w n ds es same = refl
 same_ends StaticVertex w n ds es same = refl
 same_ends DynamicVertex w n ds es same = refl

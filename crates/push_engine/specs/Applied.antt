@@ -1,12 +1,12 @@
 -- What an apply of edge functions changes.
 use Rattle.std.specs.Prelude.{◌≡◌, ℕ, ◌≤◌, ℤ, Bool, List, [], length, slice_index_or}
-use Rattle.syntax.specs.declared.statement.Reduction.{Reduction}
+use Rattle.apply_options.specs.declared.reduction.Reduction.{Reduction}
 use Rattle.typed_tree.specs.StepTree.{StepsTree}
 use Rattle.algorithm_meaning.specs.EdgeApply.{after_edges}
 use Rattle.algorithm_meaning.specs.Laws.{IsGivenBy}
 use Rattle.algorithm_meaning.specs.State.{StateValue}
 use Rattle.algorithm_meaning.specs.Value.{entry}
-use Rattle.stack_code.specs.Cells.{HasSizes}
+use Rattle.register_code.specs.Cells.{HasSizes}
 use Rattle.tree_batch.specs.Digraph.{Digraph}
 use Rattle.vectors.specs.declared.change.VectorChanges.{VectorChanges}
 use Rattle.edge_fold.specs.Between.{edges_between}

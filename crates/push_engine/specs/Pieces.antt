@@ -3,13 +3,13 @@ use Rattle.std.specs.Prelude.{◌≡◌, ℕ, Bool, List, [], ◌∷◌, map}
 use Rattle.std.specs.List.{filter}
 use Rattle.typed_tree.specs.StepTree.{StepsTree}
 use Rattle.algorithm_meaning.specs.State.{StateValue}
-use Rattle.stack_code.specs.Cells.{HasSizes}
+use Rattle.register_code.specs.Cells.{HasSizes}
 use Rattle.crew.specs.declared.found.Found.{Found}
 use Rattle.edge_fold.specs.declared.gathered.Gathered.{Gathered}
 use Rattle.edge_fold.specs.Ends.{IsEndTest}
 use Rattle.edge_fold.specs.Folded.{AreKernels}
 use Rattle.edge_fold.specs.Gathered.{AreGathered}
-use Rattle.piece_cuts.specs.Pieces.{piece_of}
+use Rattle.crew.specs.Partition.{piece_of}
 use Rattle.push_engine.specs.declared.work.PushWork.{PushWork}
 use Rattle.push_engine.specs.Rows.{rows}
 use Rattle.push_engine.specs.Sources.{passing_in}

@@ -1,7 +1,7 @@
 -- For proofs only: facts that have one proof at most, as ghost fields ask for it.
 use Rattle.std.specs.Prelude.{ℕ, ◌+◌, List, [], ◌∷◌}
 use Rattle.std.specs.Coded.{×_prop, Coded-set, Unit-prop, coded_ℕ, le_prop}
-use Rattle.piece_cuts.specs.Pieces.{AreEnds}
+use Rattle.crew.specs.Partition.{AreEnds}
 use Rattle.push_engine.specs.Sources.{AscendsFrom}
 
 pub AscendsFrom-prop : (low : ℕ) (us : List ℕ) → IsProp (AscendsFrom low us)

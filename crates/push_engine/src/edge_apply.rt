@@ -1,6 +1,6 @@
 //! Applies of edge functions.
+use apply_options::{DenseVertexSet, Direction, Parallelization};
 use kernels::{EdgeKernel, End};
-use schedule::{DenseVertexSet, Direction, Parallelization};
 
 /// An apply of one or two edge functions to the edges between two ends, and the values that its schedule has for it.
 /// An end that is not given lets all vertices through.

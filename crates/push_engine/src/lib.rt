@@ -10,7 +10,7 @@
 //! many edges are to come, the destinations that pass are put into bits first, and a block keeps only these.
 //!
 //! [`PushWork`] is an apply in pieces, for the workers of `crew`: the sources are listed once and cut as the schedule says
-//! (`piece_cuts`), a piece answers what the edges from its sources give, and [`PushWork::merge`] makes the changes of the
+//! (`crew::Partition`), a piece answers what the edges from its sources give, and [`PushWork::merge`] makes the changes of the
 //! whole of all answers, in whatever order they come. Its promise is that of [`push`].
 //!
 //! Push and pull are those of Ligra's edge map (Shun, Blelloch, PPoPP 2013).

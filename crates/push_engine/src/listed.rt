@@ -2,21 +2,21 @@
 ghost use Rattle.std.specs.Prelude.{◌≡◌, ℕ, ◌<◌, Bool, true, false, List, length, map, IfOk};
 ghost use Rattle.algorithm_meaning.specs.EdgeApply.{is_member};
 ghost use Rattle.algorithm_meaning.specs.State.{StateValue};
-ghost use Rattle.schedule.specs.declared.choice.Parallelization.TheVariants.{EdgeAwareDynamicVertex};
-ghost use Rattle.stack_code.specs.Cells.{HasSizes};
+ghost use Rattle.apply_options.specs.declared.apply_schedule.Parallelization.TheVariants.{EdgeAwareDynamicVertex};
+ghost use Rattle.register_code.specs.Cells.{HasSizes};
 ghost use Rattle.crew.specs.Outcome.{AreWorkers};
 ghost use Rattle.edge_fold.specs.Ends.{IsEndTest, IsTest};
-ghost use Rattle.piece_cuts.specs.Ends.{ends_by};
-ghost use Rattle.piece_cuts.specs.Pieces.{AreEnds};
+ghost use Rattle.crew.specs.Boundaries.{boundaries};
+ghost use Rattle.crew.specs.Partition.{AreEnds};
 ghost use Rattle.tree_batch.specs.Neighbours.{destinations_of};
 ghost use Rattle.push_engine.specs.Sources.{AreSources, AscendsFrom};
 
 use crate::edge_apply::Apply;
+use apply_options::{Direction, Parallelization};
+use crew::Partition;
 use edge_fold::{Functions, Scratch};
 use flat_snapshot::Flat;
 use kernels::End;
-use piece_cuts::Cuts;
-use schedule::{Direction, Parallelization};
 use std::alloc::{AllocError, Global};
 use vertex_sets::VertexSet;
 
@@ -136,9 +136,9 @@ pub(crate) fn cut_sources(
     workers: usize,
     flat: &Flat,
     sources: &[u32],
-) -> Result<Cuts, AllocError>
+) -> Result<Partition, AllocError>
     requires { AreWorkers workers }
-    ensures ends { IfOk result (λ c. c ≡ ends_by parallelization workers (length sources.now) (map (λ u. length (destinations_of u flat.now.edges)) sources.now)) }
+    ensures ends { IfOk result (λ c. c ≡ boundaries parallelization workers (length sources.now) (map (λ u. length (destinations_of u flat.now.edges)) sources.now)) }
     ensures whole { IfOk result (λ c. AreEnds 0 (length sources.now) c) }
 {
     let count = sources.len();
@@ -147,7 +147,7 @@ pub(crate) fn cut_sources(
         return Err(AllocError);
     }
     let degrees = degrees_for(alloc, parallelization, flat, sources)?;
-    Cuts::of(alloc, parallelization, workers, count, &degrees)
+    Partition::of(alloc, parallelization, workers, count, &degrees)
 }
 
 /// How many edges there are from each source, where a schedule asks for it, and else none.

@@ -5,7 +5,7 @@ ghost use Rattle.algorithm_meaning.specs.Value.{entry};
 ghost use Rattle.edge_fold.specs.Changed.{changed, changes_of};
 ghost use Rattle.vertex_sets.specs.VertexSet.{IsAscendingBelow};
 
-use schedule::DenseVertexSet;
+use apply_options::DenseVertexSet;
 use std::alloc::{AllocError, Global};
 use vectors::{Change, Changes};
 use vertex_sets::{Form, VertexSet};

@@ -3,7 +3,7 @@ ghost use Rattle.std.specs.Prelude.{◌≡◌, ◌-◌, ◌<◌, ◌≤◌, ◌|
 ghost use Rattle.std.specs.List.{range_with_len};
 ghost use Rattle.algorithm_meaning.specs.EdgeApply.{is_member};
 ghost use Rattle.algorithm_meaning.specs.State.{StateValue};
-ghost use Rattle.stack_code.specs.Cells.{HasSizes};
+ghost use Rattle.register_code.specs.Cells.{HasSizes};
 ghost use Rattle.edge_fold.specs.Ends.{IsTest};
 
 use edge_fold::{Functions, Scratch};

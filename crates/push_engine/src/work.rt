@@ -1,12 +1,12 @@
 //! An apply in pieces.
 ghost use Rattle.std.specs.Prelude.{◌≡◌, ℕ, Bool, Err, length, map, vec_len, IfOk};
 ghost use Rattle.algorithm_meaning.specs.State.{StateValue};
-ghost use Rattle.stack_code.specs.Cells.{HasSizes};
+ghost use Rattle.register_code.specs.Cells.{HasSizes};
 ghost use Rattle.crew.specs.declared.error.CrewError.TheVariants.{BadWorkers, NoMemory};
 ghost use Rattle.crew.specs.Outcome.{AreWorkers};
 ghost use Rattle.edge_fold.specs.Ends.{IsEndTest};
-ghost use Rattle.piece_cuts.specs.Ends.{ends_by};
-ghost use Rattle.piece_cuts.specs.Pieces.{AreEnds};
+ghost use Rattle.crew.specs.Boundaries.{boundaries};
+ghost use Rattle.crew.specs.Partition.{AreEnds};
 ghost use Rattle.tree_batch.specs.Neighbours.{destinations_of};
 ghost use Rattle.std.proofs.Props.{props};
 ghost use Rattle.push_engine.specs.Propositions.{AreEnds-prop, AscendsFrom-prop};
@@ -14,10 +14,9 @@ ghost use Rattle.push_engine.specs.Sources.{AreSources};
 
 use crate::edge_apply::Apply;
 use crate::listed::{cut_sources, list_sources};
-use crew::CrewError;
+use crew::{CrewError, Partition};
 use edge_fold::{Functions, Scratch, Start};
 use flat_snapshot::Flat;
-use piece_cuts::Cuts;
 use std::alloc::Global;
 use vectors::Vectors;
 
@@ -30,7 +29,7 @@ pub struct PushWork<'a> {
     pub(crate) sizes: &'a [i64],
     pub(crate) sources: Vec<u32>,
     pub(crate) tested: bool,
-    pub(crate) cuts: Cuts,
+    pub(crate) cuts: Partition,
     ghost whole: { AreEnds 0 (length sources.items) cuts } by { AreEnds-prop 0 (length sources.items) cuts },
     ghost passing: { (m : StateValue) (from : ℕ → Bool) → vectors.now.vectors ≡ m.vectors → HasSizes sizes.now m → IsEndTest apply.from m from
         → AreSources flat.now.edges from tested sources.items } by { Prim.hlevel (AscendsFrom-prop, props) },
@@ -73,7 +72,7 @@ impl<'a> PushWork<'a> {
         ensures flat { IfOk result (λ w. w.flat.now ≡ flat.now) }
         ensures vectors { IfOk result (λ w. w.vectors.now ≡ vectors.now) }
         ensures sizes { IfOk result (λ w. w.sizes.now ≡ sizes.now) }
-        ensures cuts { IfOk result (λ w. w.cuts ≡ ends_by apply.now.parallelization workers (vec_len w.sources) (map (λ u. length (destinations_of u flat.now.edges)) w.sources.items)) }
+        ensures cuts { IfOk result (λ w. w.cuts ≡ boundaries apply.now.parallelization workers (vec_len w.sources) (map (λ u. length (destinations_of u flat.now.edges)) w.sources.items)) }
     {
         if workers < 1 || 64 < workers {
             return Err(CrewError::BadWorkers);

@@ -1,24 +1,61 @@
 //! Runs of programs by their plans, compared with the slow run.
 //!
+//! A [`TestedProgram`] has the checked program of a text beside its plan, pass by pass as the compiler makes them.
+//!
 //! It promises to be safe and to end, and no more; only programs that check or measure stand on it.
 #![tactic(auto)]
 
-use algorithm_meaning::{NamedSet, NamedVector, Outcome, plain_run};
+use algorithm_meaning::{NamedSet, NamedVector, Outcome};
 use flat_snapshot::Flat;
-use programs::Program;
+use lowering::lower;
+use parser::parse;
+use plain_run::plain_run;
+use plans::Plan;
+use runner::run_alone;
+use schedule::accept;
 use std::alloc::{AllocError, Global};
+use typed_tree::Typed;
+use types::check;
+
+/// A program that was checked, and its plan.
+pub struct TestedProgram {
+    pub typed: Typed,
+    pub plan: Plan,
+}
+
+impl Drop for TestedProgram {
+    fn drop(self) {
+        let TestedProgram { typed: _, plan: _ } = self;
+    }
+}
+
+impl TestedProgram {
+    /// The program that a text is, or `None` where a pass refuses it or memory runs out.
+    pub fn of(alloc: Global, text: &[u8]) -> Option<TestedProgram> {
+        let typed = checked(alloc, text)?;
+        let schedule = accept(alloc, &typed).ok()?;
+        let plan = lower(alloc, &typed, &schedule).ok()?;
+        Some(TestedProgram { typed, plan })
+    }
+}
+
+/// The checked program that a text is, or `None` where it is none or memory runs out. Its schedule is not looked at.
+pub fn checked(alloc: Global, text: &[u8]) -> Option<Typed> {
+    let source = parse(alloc, text).ok()?;
+    check(alloc, &source).ok()
+}
 
 /// Whether a program shows the same by its plan and by the slow run, on a graph of these edges, with so many turns. The
 /// only error is out of memory.
 pub fn shows_the_same(
     alloc: Global,
-    program: &Program,
+    program: &TestedProgram,
     graph: &Flat,
     edges: &[(u32, u32)],
     turns: u64,
 ) -> Result<bool, AllocError> {
-    let by_plan = program.run(alloc, graph, turns)?;
-    match plain_run(alloc, program.typed(), graph.vertices(), edges, turns) {
+    let by_plan = run_alone(alloc, &program.plan, graph, turns)?;
+    match plain_run(alloc, &program.typed, graph.vertices(), edges, turns) {
         Ok(slowly) => Ok(are_the_same(&by_plan, &slowly)),
         Err(error) => Err(error),
     }

@@ -4,18 +4,18 @@ use Rattle.std.proofs.Math.Seq.{map-set_same}
 use Rattle.std.proofs.lemmas.List.{get_or-map, get_or-replicate, length-map, length-replicate, length-set}
 use Rattle.std.proofs.lemmas.List.FromFn.{length-map-range_with_len}
 use Rattle.typed_tree.specs.declared.program.Vector.{Vector}
-use Rattle.typed_tree.specs.declared.program.Beginning.{Beginning}
-use Rattle.typed_tree.specs.declared.program.Beginning.TheVariants.{Number, OutDegrees}
+use Rattle.typed_tree.specs.declared.program.InitialValue.{InitialValue}
+use Rattle.typed_tree.specs.declared.program.InitialValue.TheVariants.{Number, OutDegrees}
 use Rattle.typed_tree.specs.StepTree.{StepsTree}
 use Rattle.algorithm_meaning.specs.Arithmetic.{wrapped}
 use Rattle.algorithm_meaning.specs.State.{GraphValue, StateValue}
 use Rattle.algorithm_meaning.specs.Value.{with_entry}
 use Rattle.algorithm_meaning.specs.Meaning.{opening_entries, out_degree}
 use Rattle.algorithm_meaning.specs.VertexApply.{after_vertex, after_vertices}
-use Rattle.stack_code.specs.declared.instruction.Instruction.{Instruction}
-use Rattle.stack_code.specs.declared.instruction.Instruction.TheVariants.{SetEntry}
-use Rattle.stack_code.specs.Cells.{Cells, HasSizes, Surroundings, after, is_active, step, written}
-use Rattle.stack_code.specs.Meaning.{IsVertexCode, around_vertex}
+use Rattle.register_code.specs.declared.instruction.RegisterInstruction.{RegisterInstruction}
+use Rattle.register_code.specs.declared.instruction.RegisterInstruction.TheVariants.{SetEntry}
+use Rattle.register_code.specs.Cells.{Cells, HasSizes, Surroundings, after, is_active, step, written}
+use Rattle.register_code.specs.Meaning.{IsVertexCode, around_vertex}
 use Rattle.vectors.specs.declared.change.Change.{Change}
 use Rattle.vectors.specs.declared.change.VectorChanges.{VectorChanges}
 use Rattle.vectors.specs.Changes.{with_all_changes, with_changes}
@@ -41,12 +41,12 @@ either : (b : Bool) (xs ys : List (List ℤ)) → lengths xs ≡ lengths ys → 
 either true xs ys h = h
 either false xs ys h = refl
 
-lengths_written : (s : Surroundings) (i : Instruction) (c : Cells) → lengths (written s i c) ≡ lengths s.vectors
+lengths_written : (s : Surroundings) (i : RegisterInstruction) (c : Cells) → lengths (written s i c) ≡ lengths s.vectors
 lengths_written s (SetEntry vector from when) c =
     either (is_active c.numbers when) (with_entry s.vectors vector s.source (c.numbers from)) s.vectors (lengths_after_entry s.vectors vector s.source (c.numbers from))
 lengths_written s i c = refl
 
-lengths_after_code : (s : Surroundings) (is : List Instruction) (c : Cells) → lengths (after s is c).0.vectors ≡ lengths s.vectors
+lengths_after_code : (s : Surroundings) (is : List RegisterInstruction) (c : Cells) → lengths (after s is c).0.vectors ≡ lengths s.vectors
 lengths_after_code s [] c = refl
 lengths_after_code s (i ∷ is) c = lengths_after_code (record s { vectors = written s i c }) is (step s i c) ∙ lengths_written s i c
 
@@ -54,7 +54,7 @@ no_cells : Cells
 no_cells = record { numbers = λ _. pos 0; integers = λ _. pos 0; conditions = λ _. pos 0; inside = pos 0 }
 
 -- where code does what statements do
-lengths_after_vertices : (m : StateValue) (sizes : List ℤ) (is : List Instruction) (steps : StepsTree) → HasSizes sizes m → IsVertexCode is steps → (vertices : List ℕ) (vectors : List (List ℤ))
+lengths_after_vertices : (m : StateValue) (sizes : List ℤ) (is : List RegisterInstruction) (steps : StepsTree) → HasSizes sizes m → IsVertexCode is steps → (vertices : List ℕ) (vectors : List (List ℤ))
     → lengths (after_vertices steps m.sets vertices vectors) ≡ lengths vectors
 lengths_after_vertices m sizes is steps has code [] vectors = refl
 lengths_after_vertices m sizes is steps has code (v ∷ vs) vectors =
@@ -68,11 +68,11 @@ after_entry count n vectors x v z are = lengths_after_entry vectors x v z ∙ ar
 pub after_all_changes : (count n : ℕ) (vectors : List (List ℤ)) (cs : List VectorChanges) → HaveLength count n vectors → HaveLength count n (with_all_changes cs vectors)
 after_all_changes count n vectors cs are = lengths_after_all cs vectors ∙ are
 
-pub after_apply : (count n : ℕ) (m : StateValue) (sizes : List ℤ) (is : List Instruction) (steps : StepsTree) → HasSizes sizes m → IsVertexCode is steps → (vertices : List ℕ) (vectors : List (List ℤ))
+pub after_apply : (count n : ℕ) (m : StateValue) (sizes : List ℤ) (is : List RegisterInstruction) (steps : StepsTree) → HasSizes sizes m → IsVertexCode is steps → (vertices : List ℕ) (vectors : List (List ℤ))
     → HaveLength count n vectors → HaveLength count n (after_vertices steps m.sets vertices vectors)
 after_apply count n m sizes is steps has code vertices vectors are = lengths_after_vertices m sizes is steps has code vertices vectors ∙ are
 
-opened_length : (g : GraphValue) (b : Beginning) → length (opening_entries g b) ≡ g.vertices
+opened_length : (g : GraphValue) (b : InitialValue) → length (opening_entries g b) ≡ g.vertices
 opened_length g (Number n) = length-replicate g.vertices n
 opened_length g OutDegrees = length-map-range_with_len (λ v. wrapped (pos (out_degree v g.edges))) 0 g.vertices
 

@@ -7,10 +7,10 @@ use Rattle.algorithm_meaning.specs.State.{GraphValue, StateValue}
 use Rattle.algorithm_meaning.specs.Value.{members_of}
 use Rattle.algorithm_meaning.specs.VertexSets.{vectors_after}
 use Rattle.typed_tree.specs.ProgramTree.{ProgramTree}
-use Rattle.instructions.specs.declared.members.Members.{Members}
-use Rattle.instructions.specs.declared.members.Members.TheVariants.{Nothing, All, Copy, Filter}
-use Rattle.instructions.specs.Members.{set_value}
-use Rattle.stack_code.specs.Cells.{HasSizes}
+use Rattle.plans.specs.declared.members.Members.{Members}
+use Rattle.plans.specs.declared.members.Members.TheVariants.{Nothing, All, Copy, Filter}
+use Rattle.plans.specs.Members.{set_value}
+use Rattle.register_code.specs.Cells.{HasSizes}
 use Rattle.run_state.specs.State.{IsRunState, RunState}
 use Rattle.run_state.specs.NamedSets.{AreAscending, HaveLength, run_state, size_of, sizes_of, with_first_sets}
 use Rattle.run_state.proofs.Lengths.{length_at}

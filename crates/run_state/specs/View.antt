@@ -3,8 +3,8 @@ use Rattle.std.specs.Prelude.{◌≡◌, ℕ, ◌<◌, ◌≤◌, ℤ, List, [],
 use Rattle.typed_tree.specs.ProgramTree.{ProgramTree}
 use Rattle.algorithm_meaning.specs.State.{GraphValue, StateValue}
 use Rattle.algorithm_meaning.specs.Value.{members_of}
-use Rattle.instructions.specs.Functions.{AreFunctions}
-use Rattle.stack_code.specs.Cells.{HasSizes}
+use Rattle.plans.specs.Functions.{AreFunctions}
+use Rattle.register_code.specs.Cells.{HasSizes}
 use Rattle.vertex_sets.specs.VertexSet.{VertexSubset}
 use Rattle.run_state.specs.declared.run_view.RunView.{RunView}
 

@@ -5,10 +5,11 @@
 //! (`RunState` in `specs/State.antt`). Each call does to it what a statement, or a part of one, does there. No call looks
 //! a name up, and one that runs out of memory leaves the state as it was.
 //!
-//! Expressions, vertex functions and filters come as kernels. An edge apply stands outside, in `edge_applies`: it reads
-//! the [`RunView`] that [`State::view`] lends, [`State::write`] writes what it found, and [`State::take_both`] takes the sets that it makes.
+//! Expressions, vertex functions and filters come as kernels. An edge apply stands outside, in the runner: it reads the
+//! [`RunView`] that [`State::view`] lends, [`State::write`] writes what it found, and [`State::take_both`] takes the sets
+//! that it makes.
 //!
-//! `edge_applies` and the runner stand on it.
+//! The runner stands on it.
 #![tactic(auto)]
 
 mod filtering;

@@ -7,7 +7,7 @@ ghost use Rattle.run_state.specs.State.{graph_value};
 
 use flat_snapshot::Flat;
 use std::alloc::{AllocError, Global};
-use typed_tree::{Beginning, Sequence, Vector};
+use typed_tree::{InitialValue, Sequence, Vector};
 use vectors::{GroupError, Vectors};
 
 /// What the vectors begin with. Groups that fit the vectors stand together. The only error is out of memory.
@@ -43,17 +43,17 @@ fn open_arrays(
 
 fn open_array(
     alloc: Global,
-    beginning: Beginning,
+    beginning: InitialValue,
     graph: &Flat,
 ) -> Result<Sequence<i64>, AllocError>
     ensures { IfOk result (λ v. v ≡ opening_entries (graph_value graph.now) beginning) }
 {
     match beginning {
-        Beginning::Number(n) => {
+        InitialValue::Number(n) => {
             let entries = vec![in alloc; n; graph.vertices() as usize]?;
             Ok(Sequence::new(entries))
         }
-        Beginning::OutDegrees => {
+        InitialValue::OutDegrees => {
             let degrees = out_degrees(alloc, graph)?;
             Ok(Sequence::new(degrees))
         }

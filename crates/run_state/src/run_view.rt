@@ -1,6 +1,6 @@
 //! What a run lends to an edge apply.
 use flat_snapshot::Flat;
-use instructions::Functions;
+use plans::FunctionKernels;
 use vectors::Vectors;
 use vertex_sets::VertexSet;
 
@@ -8,7 +8,7 @@ use vertex_sets::VertexSet;
 /// its vectors, and the graph.
 #[derive(Clone, Copy)]
 pub struct RunView<'a> {
-    pub functions: &'a Functions,
+    pub functions: &'a FunctionKernels,
     pub sets: &'a [VertexSet],
     pub sizes: &'a [i64],
     pub vectors: &'a Vectors,

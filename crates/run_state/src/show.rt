@@ -1,67 +1,34 @@
 //! What a run shows in the end.
-ghost use Rattle.std.specs.Prelude.{◌≡◌, ℕ, ◌<◌, [], length, map, slice_index_or, take, IfOk};
+ghost use Rattle.std.specs.Prelude.{◌≡◌, length, map, take, IfOk};
 ghost use Rattle.algorithm_meaning.specs.Shown.{name_at, named_set, named_vectors};
-ghost use Rattle.run_state.specs.NamedSets.{HaveLength, named};
+ghost use Rattle.run_state.specs.NamedSets.{named};
 
 use algorithm_meaning::{NamedSet, NamedVector};
 use std::alloc::{AllocError, Global};
 use typed_tree::{Name, Sequence, Vector};
-use vectors::Vectors;
 use vertex_sets::VertexSet;
 
-/// The names of the vectors, of which so many are there, and their entries.
+/// The names of the vectors that are declared, and their entries.
 pub(crate) fn name_vectors(
     alloc: Global,
     names: &[Name],
     declared: &[Vector],
-    count: usize,
-    vertices: u32,
-    vectors: &Vectors,
+    vectors: Vec<Sequence<i64>>,
 ) -> Result<Vec<NamedVector>, AllocError>
-    requires { HaveLength count vertices vectors.now.vectors }
-    ensures { IfOk result (λ v. v.items ≡ named_vectors names.now declared.now vectors.now.vectors) }
+    ensures { IfOk result (λ v. v.items ≡ named_vectors names.now declared.now vectors.items) }
 {
     let mut named = Vec::new(alloc);
-    'vectors: for (place, vector) in first(declared, count).iter().enumerate() {
-        named.push(name_vector(alloc, names, *vector, vectors, place, vertices)?)?;
+    let mut left = vectors.into_iter();
+    'vectors: for vector in declared {
+        let Some(entries) = left.next() else {
+            return Ok(named);
+        };
+        named.push(NamedVector {
+            name: name_of(alloc, names, vector.name)?,
+            entries,
+        })?;
     }
     Ok(named)
-}
-
-/// The name of a vector, which has an entry for each vertex, and its entries.
-fn name_vector(
-    alloc: Global,
-    names: &[Name],
-    declared: Vector,
-    vectors: &Vectors,
-    place: usize,
-    vertices: u32,
-) -> Result<NamedVector, AllocError>
-    requires { length (slice_index_or vectors.now.vectors place []) ≡ vertices }
-    ensures { IfOk result (λ v. v ≡ record { name = name_at names.now declared.name; entries = slice_index_or vectors.now.vectors place [] }) }
-{
-    Ok(NamedVector {
-        name: name_of(alloc, names, declared.name)?,
-        entries: entries_of(alloc, vectors, place, vertices)?,
-    })
-}
-
-/// The entries of a vector that has one for each vertex.
-fn entries_of(
-    alloc: Global,
-    vectors: &Vectors,
-    place: usize,
-    vertices: u32,
-) -> Result<Sequence<i64>, AllocError>
-    requires { length (slice_index_or vectors.now.vectors place []) ≡ vertices }
-    ensures { IfOk result (λ v. v ≡ slice_index_or vectors.now.vectors place []) }
-{
-    let lane = vectors.lane(place);
-    let mut entries = Vec::new(alloc);
-    'vertices: for vertex in 0..vertices {
-        entries.push(lane.get(vertex as usize))?;
-    }
-    Ok(Sequence::new(entries))
 }
 
 /// The names of the sets and their members.

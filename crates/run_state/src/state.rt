@@ -14,15 +14,15 @@ ghost use Rattle.algorithm_meaning.specs.Value.{members_of, reduce_at, with_entr
 ghost use Rattle.algorithm_meaning.specs.Variables.{new_condition, reduce_integer, set_condition, set_integer, with_new_integer, with_scope};
 ghost use Rattle.algorithm_meaning.specs.VertexApply.{after_vertices};
 ghost use Rattle.algorithm_meaning.specs.VertexSets.{after_assign_set, after_declare_set, inserted, members_for, with_members, with_new_set};
-ghost use Rattle.stack_code.specs.Meaning.{IsVertexCode};
+ghost use Rattle.register_code.specs.Meaning.{IsVertexCode};
 ghost use Rattle.kernels.specs.Expressions.{IsConditionKernel, IsIntegerKernel, IsMainState};
 ghost use Rattle.kernels.specs.Kernels.{HasCells, IsFilterKernel};
-ghost use Rattle.stack_code.specs.declared.room.Room.{Room};
+ghost use Rattle.register_code.specs.declared.room.Room.{Room};
 ghost use Rattle.plans.specs.Machine.{forgotten};
 ghost use Rattle.vectors.specs.Changes.{with_all_changes};
-ghost use Rattle.instructions.specs.Functions.{AreFunctions};
-ghost use Rattle.instructions.specs.Members.{set_value};
-ghost use Rattle.instructions.specs.Operation.{IsFor};
+ghost use Rattle.plans.specs.Functions.{AreFunctions};
+ghost use Rattle.plans.specs.Members.{set_value};
+ghost use Rattle.plans.specs.Operation.{IsFor};
 ghost use Rattle.run_state.specs.View.{HasEntryForEach, IsViewOf};
 ghost use Rattle.run_state.specs.State.{IsRunState, RunState, opened, with_state};
 ghost use Rattle.run_state.specs.Taken.{IsTakenOf, with_taken};
@@ -37,13 +37,12 @@ use crate::taken::Taken;
 use crate::text::{push_condition_line, push_integer_line};
 use crate::vertices::run_for_all;
 use algorithm_meaning::{End, Outcome, reduce};
+use apply_options::Reduction;
 use flat_snapshot::Flat;
-use instructions::{Functions, Members};
-use kernels::{Block, ExpressionKernel, FilterKernel, MainState, VertexKernel};
-use plans::Depth;
+use kernels::{Block, ExpressionKernel, FilterKernel, MainState, Registers, VertexKernel};
+use plans::{Depth, FunctionKernels, Members};
 use std::alloc::{AllocError, Global};
 use std::marker::Model;
-use syntax::Reduction;
 use typed_tree::{Name, Sequence, Vector};
 use vectors::{Changes, Vectors};
 use vertex_sets::{Form, VertexSet};
@@ -172,14 +171,13 @@ impl State {
         &self,
         kernel: &ExpressionKernel,
         depth: Depth,
-        block: &mut Block,
+        registers: &mut Registers,
     ) -> Result<Option<i64>, AllocError>
         requires { IsFor depth kernel.now }
         ensures { IfOk result (λ n. (e : IntegerTree) → IsIntegerKernel kernel.now e
             → n ≡ number_in self.now.vertices e (forgotten depth self.now.state)) }
     {
-        block.make_room(kernel.room())?;
-        Ok(kernel.number(self.main_state(depth), block))
+        kernel.number(self.main_state(depth), registers)
     }
 
     /// The value of an expression of type `bool`, in the same way.
@@ -187,14 +185,13 @@ impl State {
         &self,
         kernel: &ExpressionKernel,
         depth: Depth,
-        block: &mut Block,
+        registers: &mut Registers,
     ) -> Result<Option<bool>, AllocError>
         requires { IsFor depth kernel.now }
         ensures { IfOk result (λ b. (c : ConditionTree) → IsConditionKernel kernel.now c
             → b ≡ choice_in self.now.vertices c (forgotten depth self.now.state)) }
     {
-        block.make_room(kernel.room())?;
-        Ok(kernel.choice(self.main_state(depth), block))
+        kernel.choice(self.main_state(depth), registers)
     }
 
     /// The vertex that an expression of type `int` is, or `None` where it or an index in it is no vertex. The only error
@@ -203,14 +200,14 @@ impl State {
         &self,
         kernel: &ExpressionKernel,
         depth: Depth,
-        block: &mut Block,
+        registers: &mut Registers,
     ) -> Result<Option<u32>, AllocError>
         requires { IsFor depth kernel.now }
         ensures vertex { IfOk result (λ v. (e : IntegerTree) → IsIntegerKernel kernel.now e
             → v ≡ vertex_in self.now.vertices e (forgotten depth self.now.state)) }
         ensures below { IfOk result (λ v. IfSome v (λ v. v < self.now.vertices)) }
     {
-        let number = self.number(kernel, depth, block)?;
+        let number = self.number(kernel, depth, registers)?;
         Ok(vertex_below(number, self.sets.vertices()))
     }
 
@@ -340,7 +337,7 @@ impl State {
         alloc: Global,
         name: usize,
         members: Members,
-        functions: &Functions,
+        functions: &FunctionKernels,
         block: &mut Block,
     ) -> Result<(), AllocError>
         ensures ok { OnOk result ((p : ProgramTree) (g : GraphValue) → AreFunctions functions.now p → g.vertices ≡ self.old.vertices
@@ -360,7 +357,7 @@ impl State {
         alloc: Global,
         place: usize,
         members: Members,
-        functions: &Functions,
+        functions: &FunctionKernels,
         block: &mut Block,
     ) -> Result<(), AllocError>
         ensures ok { OnOk result ((p : ProgramTree) (g : GraphValue) → AreFunctions functions.now p → g.vertices ≡ self.old.vertices
@@ -379,7 +376,7 @@ impl State {
         &self,
         alloc: Global,
         members: Members,
-        functions: &Functions,
+        functions: &FunctionKernels,
         block: &mut Block,
     ) -> Result<VertexSet, AllocError>
         ensures vertices { IfOk result (λ s. s.vertices ≡ self.now.vertices) }
@@ -477,7 +474,7 @@ impl State {
     }
 
     /// Lends what an edge apply reads, beside the functions and the graph.
-    pub fn view<'a>(&'a self, functions: &'a Functions, graph: &'a Flat) -> RunView<'a>
+    pub fn view<'a>(&'a self, functions: &'a FunctionKernels, graph: &'a Flat) -> RunView<'a>
         ensures seen { (p : ProgramTree) (g : GraphValue) → AreFunctions functions.now p → graph.now.vertices ≡ g.vertices → graph.now.edges ≡ g.edges
             → IsViewOf result p self.now.state g }
         ensures entries { HasEntryForEach self.now.vertices self.now.state.vectors }
@@ -512,7 +509,7 @@ impl State {
     }
 
     /// What a run shows that began with so many turns and ended so: its vectors by these names, and the sets that are
-    /// visible. The only error is out of memory.
+    /// visible. All that it shows is copied. The only error is out of memory.
     pub fn show(
         &self,
         alloc: Global,
@@ -525,15 +522,8 @@ impl State {
         ensures { IfOk result (λ o. (p : ProgramTree) → p.names ≡ names.now → p.vectors ≡ vectors.now
             → o ≡ shown p turns (forgotten visible self.now.state) end) }
     {
-        let vertices = self.sets.vertices();
-        let shown = name_vectors(
-            alloc,
-            names,
-            vectors,
-            self.vector_count,
-            vertices,
-            &self.vectors,
-        )?;
+        let arrays = self.vectors.to_arrays(alloc)?;
+        let shown = name_vectors(alloc, names, vectors, arrays)?;
         let sets = self.sets.shown(alloc, names, visible.sets)?;
         let text = Vec::from_slice(alloc, &self.text)?;
         Ok(Outcome {
@@ -541,6 +531,40 @@ impl State {
             turns: turns.saturating_sub(self.turns),
             vectors: Sequence::new(shown),
             sets: Sequence::new(sets),
+            text: Sequence::new(text),
+        })
+    }
+
+    /// The same of a run that is over: what was printed and the vectors that stand alone are handed over as they are.
+    pub fn into_outcome(
+        self,
+        alloc: Global,
+        names: &[Name],
+        vectors: &[Vector],
+        turns: u64,
+        end: End,
+        visible: Depth,
+    ) -> Result<Outcome, AllocError>
+        ensures { IfOk result (λ o. (p : ProgramTree) → p.names ≡ names.now → p.vectors ≡ vectors.now
+            → o ≡ shown p turns (forgotten visible self.state) end) }
+    {
+        let visible_sets = self.sets.shown(alloc, names, visible.sets)?;
+        let State {
+            vectors: kept,
+            vector_count: _,
+            sets: _,
+            integers: _,
+            conditions: _,
+            text,
+            turns: left,
+        } = self;
+        let arrays = kept.into_arrays(alloc)?;
+        let shown = name_vectors(alloc, names, vectors, arrays)?;
+        Ok(Outcome {
+            end,
+            turns: turns.saturating_sub(left),
+            vectors: Sequence::new(shown),
+            sets: Sequence::new(visible_sets),
             text: Sequence::new(text),
         })
     }

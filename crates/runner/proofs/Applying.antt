@@ -3,7 +3,7 @@ use Rattle.std.proofs.Common.{◌≡◌, ℕ, suc, ◌+◌, ◌<◌, ◌≤◌, 
 use Rattle.std.specs.List.{filter, range_with_len}
 use Rattle.std.specs.Option.{option_map}
 use Rattle.std.proofs.lemmas.List.{get_or_past}
-use Rattle.typed_tree.specs.declared.statement.Ends.{Ends}
+use Rattle.typed_tree.specs.declared.statement.ApplyEnds.{ApplyEnds}
 use Rattle.typed_tree.specs.declared.statement.SetValue.TheVariants as set
 use Rattle.typed_tree.specs.BlockTree.{ActionTree, ApplyEdges, AssignSet, DeclareSet}
 use Rattle.typed_tree.specs.ProgramTree.{ProgramTree}
@@ -14,12 +14,12 @@ use Rattle.algorithm_meaning.specs.Meaning.{after}
 use Rattle.algorithm_meaning.specs.Stand.{Stand, Live}
 use Rattle.algorithm_meaning.specs.State.{GraphValue, StateValue}
 use Rattle.algorithm_meaning.specs.Value.{entry}
-use Rattle.edge_applies.specs.Applied.{AreChangesTo}
-use Rattle.fusing.specs.declared.part.EdgePart.{EdgePart}
-use Rattle.fusing.specs.declared.part.PartResult.{PartResult}
-use Rattle.fusing.specs.Parts.{result_tree}
-use Rattle.instructions.specs.declared.instruction.Instruction.{Instruction}
-use Rattle.instructions.specs.Operation.{ApplyEdgesOf}
+use Rattle.runner.specs.EdgeMap.{AreChangesTo}
+use Rattle.plans.specs.declared.part.EdgePart.{EdgePart}
+use Rattle.plans.specs.declared.part.PartResult.{PartResult}
+use Rattle.plans.specs.Parts.{result_tree}
+use Rattle.plans.specs.declared.instruction.Instruction.{Instruction}
+use Rattle.plans.specs.Operation.{ApplyEdgesOf}
 use Rattle.plans.specs.Fusing.{EdgeApplyTree, edge_apply_of}
 use Rattle.plans.specs.Instruction.{OperationTree}
 use Rattle.plans.specs.Machine.{At, act, go_on, with_result}
@@ -33,9 +33,10 @@ use Rattle.run_state.specs.Taken.{with_taken}
 use Rattle.run_state.proofs.Lengths.{after_all_changes, count}
 use Rattle.vectors.specs.declared.change.VectorChanges.{VectorChanges}
 use Rattle.vectors.specs.Changes.{with_all_changes}
-use Rattle.runner.specs.declared.run.Run.{Run}
+use Rattle.runner.specs.declared.flow.Flow.TheVariants.{Next}
+use Rattle.runner.specs.declared.memory.Memory.{Memory}
 use Rattle.runner.specs.Done.{HasDone}
-use Rattle.runner.specs.Position.{configuration_of, loops_of}
+use Rattle.runner.specs.Position.{loops_of}
 use Rattle.runner.specs.Results.{IsTakenFor, result_of_second, with_both}
 
 -- vectors that have as many entries each
@@ -109,19 +110,19 @@ abbrev pub function_places : EdgePart → Option EdgePart → List ℕ
 function_places first second = places_of first.function (option_map (λ (part : EdgePart). part.function) second)
 
 -- an operation's functions give each vector numbers by one reduction
-pub are_reduced : (p : ProgramTree) (ends : Ends) (first : EdgePart) (second : Option EdgePart) (t : OperationTree) → ApplyEdgesOf ends first second t → OperationReduces p t
+pub are_reduced : (p : ProgramTree) (ends : ApplyEnds) (first : EdgePart) (second : Option EdgePart) (t : OperationTree) → ApplyEdgesOf ends first second t → OperationReduces p t
     → (m : StateValue) → AreReduced (steps_at p.edge_functions (function_places first second)) m
 are_reduced p ends first None t is reduces = (subst (λ (o : OperationTree). OperationReduces p o) is.is reduces) _ is.applies
 are_reduced p ends first (Some second) t is reduces = subst (λ (o : OperationTree). OperationReduces p o) is reduces
 
 -- an apply of one edge function, or of two
-pub edges_done : (i : Instruction) (old new : Run) (p : ProgramTree) (g : GraphValue) (ends : Ends) (first : EdgePart) (second : Option EdgePart) (t : OperationTree)
+pub edges_done : (i : Instruction) (old new : Memory) (p : ProgramTree) (g : GraphValue) (ends : ApplyEnds) (first : EdgePart) (second : Option EdgePart) (t : OperationTree)
     → ApplyEdgesOf ends first second t
-    → configuration_of new ≡ At (old.place + 1) (loops_of old)
-    (with_both g.vertices first.result (result_of_second second) (after_edge_apply p.filters p.edge_functions g ends (function_places first second) old.state.state) old.state.state)
-    → HasDone i old new p g t
-edges_done i old new p g ends first None t is stands =
-    stands ∙ sym (ap (λ (o : OperationTree). act p g o i.number i.shown old.place (loops_of old) old.state.state) is.is
-    ∙ ap (λ (after : Stand). go_on (old.place + 1) (loops_of old) i.shown after) (done_by p g i.number old.state.state is.action _ is.applies))
-edges_done i old new p g ends first (Some second) t is stands =
-    stands ∙ sym (ap (λ (o : OperationTree). act p g o i.number i.shown old.place (loops_of old) old.state.state) is)
+    → ((place : ℕ) → At (place + 1) (loops_of new) new.state.state ≡ At (place + 1) (loops_of old)
+    (with_both g.vertices first.result (result_of_second second) (after_edge_apply p.filters p.edge_functions g ends (function_places first second) old.state.state) old.state.state))
+    → HasDone i Next old new p g t
+edges_done i old new p g ends first None t is stands place =
+    stands place ∙ sym (ap (λ (o : OperationTree). act p g o i.number i.shown place (loops_of old) old.state.state) is.is
+    ∙ ap (λ (after : Stand). go_on (place + 1) (loops_of old) i.shown after) (done_by p g i.number old.state.state is.action _ is.applies))
+edges_done i old new p g ends first (Some second) t is stands place =
+    stands place ∙ sym (ap (λ (o : OperationTree). act p g o i.number i.shown place (loops_of old) old.state.state) is)

@@ -5,3 +5,7 @@ pub mod Showing
 pub mod Ready
 pub mod Stepping
 pub mod Applying
+pub mod EdgeMaps
+pub mod Between
+pub mod WrittenChanges
+pub mod Resting

@@ -5,17 +5,18 @@ use Rattle.std.proofs.Math.Nat.{ℕ_set}
 use Rattle.algorithm_meaning.specs.Function.{steps_of}
 use Rattle.kernels.specs.declared.expression.ExpressionKernel.{ExpressionKernel}
 use Rattle.kernels.specs.declared.vertex_kernel.VertexKernel.{VertexKernel}
-use Rattle.stack_code.specs.Meaning.{IsVertexCode}
+use Rattle.register_code.specs.Meaning.{IsVertexCode}
 use Rattle.plans.specs.declared.depth.Depth.{Depth}
 use Rattle.plans.specs.Instruction.{OperationTree}
 use Rattle.plans.specs.Plan.{plan_of}
-use Rattle.instructions.specs.declared.functions.Functions.{Functions}
-use Rattle.instructions.specs.declared.instruction.Instruction.{Instruction}
-use Rattle.instructions.specs.declared.operation.Operation.{Operation}
-use Rattle.instructions.specs.declared.operation.Operation.TheVariants as op
-use Rattle.instructions.specs.declared.plan.Plan.{Plan}
-use Rattle.instructions.specs.Kernels.{kernel_at}
-use Rattle.instructions.specs.Operation.{IsFor, IsInstruction, IsOperation}
+use Rattle.plans.specs.PlanOf.{program_of}
+use Rattle.plans.specs.declared.functions.FunctionKernels.{FunctionKernels}
+use Rattle.plans.specs.declared.instruction.Instruction.{Instruction}
+use Rattle.plans.specs.declared.operation.Operation.{Operation}
+use Rattle.plans.specs.declared.operation.Operation.TheVariants as op
+use Rattle.plans.specs.declared.plan.Plan.{Plan}
+use Rattle.plans.specs.Kernels.{kernel_at}
+use Rattle.plans.specs.Operation.{IsFor, IsInstruction, IsOperation}
 use Rattle.run_state.specs.VertexKernels.{IsVertexKernel}
 use Rattle.runner.specs.Done.{HaveTrees, IsReady}
 use Rattle.runner.proofs.Partners.{partner_at}
@@ -75,14 +76,14 @@ ready_once keep shown op.End x y = refl
 pub instruction_ready : (plan : Plan) (place : ℕ) (i : Instruction) → slice_get plan.instructions.items place ≡ Some i → IsReady i.keep i.shown i.operation
 instruction_ready plan place i found =
     ∥∥₁_elim plan.lowered (ready_once i.keep i.shown i.operation) (λ of.
-    let partner = partner_at IsInstruction plan.instructions.items (plan_of of.program of.schedule) place i of.planned.instructions found in
+    let partner = partner_at IsInstruction plan.instructions.items (plan_of (program_of plan) of.schedule) place i of.planned.instructions found in
     ready i.keep i.shown i.operation partner.partner.operation partner.related.operation)
 
 pub functions_known : (plan : Plan) → ∥ HaveTrees plan.functions ∥₁
-functions_known plan = ∥∥₁_map plan.lowered (λ of. record { program = of.program; are = of.planned.functions })
+functions_known plan = ∥∥₁_map plan.lowered (λ of. record { program = program_of plan; are = of.planned.functions })
 
 -- each vertex kernel of a plan is that of a function
-pub vertex_kernel : (f : Functions) (place : ℕ) (k : VertexKernel) → k ≡ kernel_at f.vertex place → ∥ HaveTrees f ∥₁ → ∥ IsVertexKernel k ∥₁
+pub vertex_kernel : (f : FunctionKernels) (place : ℕ) (k : VertexKernel) → k ≡ kernel_at f.vertex place → ∥ HaveTrees f ∥₁ → ∥ IsVertexKernel k ∥₁
 vertex_kernel f place k is known =
     ∥∥₁_map known (λ h. record {
       steps = steps_of (slice_get h.program.vertex_functions place);

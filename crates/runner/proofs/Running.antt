@@ -10,7 +10,7 @@ use Rattle.algorithm_meaning.specs.declared.outcome.Outcome.{Outcome}
 use Rattle.algorithm_meaning.specs.State.{GraphValue, StateValue}
 use Rattle.algorithm_meaning.specs.Meaning.{opening}
 use Rattle.algorithm_meaning.specs.Shown.{meaning}
-use Rattle.schedule.specs.Schedule.{ScheduleTree}
+use Rattle.apply_options.specs.ScheduleTree.{ScheduleTree}
 use Rattle.plans.specs.Instruction.{InstructionTree}
 use Rattle.plans.specs.Machine.{Configuration, At, Ended, step, steps, first_configuration}
 use Rattle.plans.specs.Plan.{plan_of}

@@ -3,13 +3,13 @@ use Rattle.std.proofs.Common.{◌≡◌, ℕ, ◌<◌, List, [], ◌∷◌, ◌+
 use Rattle.std.proofs.Math.Bridge.{le_prop}
 use Rattle.std.proofs.Math.Logic.{∥∥₁_elim}
 use Rattle.std.proofs.lemmas.List.{reverse-append}
-use Rattle.typed_tree.specs.declared.expression.Slot.{Slot}
+use Rattle.typed_tree.specs.declared.expression.VarRef.{VarRef}
 use Rattle.typed_tree.specs.BlockTree.{ApplyVertex}
 use Rattle.typed_tree.specs.ProgramTree.{ProgramTree}
 use Rattle.algorithm_meaning.specs.declared.outcome.End.{End as Ending}
 use Rattle.algorithm_meaning.specs.State.{GraphValue, StateValue}
 use Rattle.algorithm_meaning.specs.Variables.{with_new_integer}
-use Rattle.schedule.specs.Schedule.{ScheduleTree}
+use Rattle.apply_options.specs.ScheduleTree.{ScheduleTree}
 use Rattle.plans.specs.declared.depth.Counter.{Counter}
 use Rattle.plans.specs.declared.depth.Depth.{Depth}
 use Rattle.plans.specs.Bound.{most_steps}
@@ -19,18 +19,20 @@ use Rattle.plans.specs.Machine.{Configuration, At, act, act_at, after_advance, f
 use Rattle.plans.specs.Plan.{plan_of}
 use Rattle.plans.proofs.Reaching.{is_inside}
 use Rattle.plans.proofs.Whole.{steps_lower}
-use Rattle.instructions.specs.Bound.{most_steps_of}
-use Rattle.instructions.specs.declared.instruction.Instruction.{Instruction}
-use Rattle.instructions.specs.declared.operation.Operation.TheVariants as op
-use Rattle.instructions.specs.declared.plan.Plan.{Plan}
-use Rattle.instructions.specs.Operation.{IsInstruction, IsOperation}
-use Rattle.instructions.specs.Plan.{IsPlan}
-use Rattle.instructions.proofs.Bounds.{same_bound}
-use Rattle.runner.specs.declared.run.Run.{Run}
+use Rattle.plans.specs.Outline.{most_steps_of}
+use Rattle.plans.specs.declared.instruction.Instruction.{Instruction}
+use Rattle.plans.specs.declared.operation.Operation.TheVariants as op
+use Rattle.plans.specs.declared.plan.Plan.{Plan}
+use Rattle.plans.specs.Operation.{IsInstruction, IsOperation}
+use Rattle.plans.specs.PlanOf.{IsPlan, program_of}
+use Rattle.plans.proofs.Bounds.{same_bound}
+use Rattle.runner.specs.declared.flow.Flow.TheVariants.{Next}
+use Rattle.runner.specs.declared.memory.Memory.{Memory}
 use Rattle.run_state.specs.State.{RunState, with_state}
 use Rattle.runner.specs.Done.{AreLevel, HasDone}
-use Rattle.runner.specs.Position.{position, waiting, waiting_at}
-use Rattle.runner.proofs.Kept.{as_many_left}
+use Rattle.runner.specs.Position.{position}
+use Rattle.runner.specs.Resting.{kept_at, resting}
+use Rattle.runner.proofs.Kept.{as_many_left, forgotten_twice}
 use Rattle.runner.proofs.Partners.{partner_at}
 
 -- to act on what is kept is to step
@@ -49,7 +51,7 @@ pub level_falls : (plan : Plan) (g : GraphValue) (place : ℕ) (loops : List Cou
     → most_steps_of plan.instructions.items next < most_steps_of plan.instructions.items (At place loops s)
 level_falls plan g place loops s i next found level =
     ∥∥₁_elim plan.lowered le_prop (λ of.
-    let p = of.program in
+    let p = program_of plan in
     let ts = plan_of p of.schedule in
     let is = plan.instructions.items in
     let are = of.planned.instructions in
@@ -73,23 +75,26 @@ loop_goes_on here loops old new x s was is =
     ∙ sym (ap (λ (ls : List Counter). after_advance here ls s) (ap reverse was ∙ reverse_last loops x))
 
 -- an apply of one vertex function, or of two
-pub vertices_done : (i : Instruction) (old new : Run) (p : ProgramTree) (g : GraphValue) (keep shown : Depth) (set : Slot) (first : ℕ) (second : Option ℕ) (t : OperationTree)
+pub vertices_done : (i : Instruction) (old new : Memory) (p : ProgramTree) (g : GraphValue) (keep shown : Depth) (set : VarRef) (first : ℕ) (second : Option ℕ) (t : OperationTree)
     → IsOperation keep shown (op.ApplyVertices set first second) t → FitTogether p t
-    → (second ≡ None → HasDone i old new p g (Do (ApplyVertex set first)))
-    → ((place : ℕ) → second ≡ Some place → FitTogether p (ApplyVerticesTogether set first place) → HasDone i old new p g (ApplyVerticesTogether set first place))
-    → HasDone i old new p g t
-vertices_done i old new p g keep shown set first None t is fit one two = subst (λ (o : OperationTree). HasDone i old new p g o) (sym is) (one refl)
+    → (second ≡ None → HasDone i Next old new p g (Do (ApplyVertex set first)))
+    → ((place : ℕ) → second ≡ Some place → FitTogether p (ApplyVerticesTogether set first place) → HasDone i Next old new p g (ApplyVerticesTogether set first place))
+    → HasDone i Next old new p g t
+vertices_done i old new p g keep shown set first None t is fit one two = subst (λ (o : OperationTree). HasDone i Next old new p g o) (sym is) (one refl)
 vertices_done i old new p g keep shown set first (Some place) t is fit one two =
-    subst (λ (o : OperationTree). HasDone i old new p g o) (sym is) (two place refl (subst (λ (o : OperationTree). FitTogether p o) is fit))
+    subst (λ (o : OperationTree). HasDone i Next old new p g o) (sym is) (two place refl (subst (λ (o : OperationTree). FitTogether p o) is fit))
 
--- a run that goes on, in a state that was made of another
-pub stands : (end : Option Ending) (next here : ℕ) (loops : List Counter) (r new : RunState) (s : StateValue) → end ≡ None → next ≡ here → new ≡ with_state r s
-    → position end next loops new.state ≡ At here loops s
-stands end next here loops r new s going is made = λ j. position (going j) (is j) loops (made j).state
+-- at the next place, in a state that was made of another
+pub stands : (place : ℕ) (loops : List Counter) (r new : RunState) (s : StateValue) → new ≡ with_state r s → At place loops new.state ≡ At place loops s
+stands place loops r new s made = ap (λ (t : RunState). At place loops t.state) made
 
--- a run that waits before an instruction has forgotten what that does not see
-pub waits : (plan : List InstructionTree) (place : ℕ) (loops : List Counter) (s t : StateValue) (i : Instruction) (tree : InstructionTree)
-    → slice_get plan place ≡ Some tree → IsInstruction i tree → t ≡ forgotten i.keep s → At place loops t ≡ waiting plan (At place loops s)
-waits plan place loops s t i tree at is kept =
-    ap (λ (u : StateValue). At place loops u) (kept ∙ ap (λ (d : Depth). forgotten d s) is.keep)
-    ∙ sym (ap (λ (o : Option InstructionTree). waiting_at o place loops s) at)
+-- a run that goes on rests where it would if what its instruction does not see were forgotten
+pub rests : (is : List Instruction) (end : Option Ending) (place : ℕ) (loops : List Counter) (s t : StateValue) (i : Instruction) (new : Configuration)
+    → slice_get is place ≡ Some i → t ≡ forgotten i.keep s → end ≡ None → new ≡ position end place loops t → resting is new ≡ resting is (position end place loops s)
+rests is end place loops s t i new found kept going stays =
+    ap (resting is) (stays ∙ ap (λ (e : Option Ending). position e place loops t) going)
+    ∙ (ap (λ (o : Option Instruction). kept_at o place loops t) found
+    ∙ (ap (λ (u : StateValue). At place loops (forgotten i.keep u)) kept
+    ∙ (ap (λ (u : StateValue). At place loops u) (forgotten_twice i.keep s)
+    ∙ (sym (ap (λ (o : Option Instruction). kept_at o place loops s) found)
+    ∙ sym (ap (λ (e : Option Ending). resting is (position e place loops s)) going)))))

@@ -1,28 +1,32 @@
--- What a step of a run does.
-use Rattle.std.specs.Prelude.{◌≡◌, ℕ, suc, None}
+-- What an instruction of a run does.
+use Rattle.std.specs.Prelude.{◌≡◌, ℕ, ◌+◌, List}
 use Rattle.typed_tree.specs.ProgramTree.{ProgramTree}
 use Rattle.algorithm_meaning.specs.State.{GraphValue, StateValue}
+use Rattle.plans.specs.declared.depth.Counter.{Counter}
 use Rattle.plans.specs.declared.depth.Depth.{Depth}
 use Rattle.plans.specs.Instruction.{OperationTree}
-use Rattle.plans.specs.Machine.{Configuration, At, Ended, forgotten, act}
-use Rattle.instructions.specs.declared.instruction.Instruction.{Instruction}
-use Rattle.instructions.specs.declared.functions.Functions.{Functions}
-use Rattle.instructions.specs.declared.operation.Operation.{Operation}
-use Rattle.instructions.specs.declared.operation.Operation.TheVariants as op
-use Rattle.instructions.specs.Functions.{AreFunctions}
-use Rattle.instructions.specs.Operation.{IsFor}
-use Rattle.runner.specs.declared.run.Run.{Run}
-use Rattle.runner.specs.Position.{configuration_of, loops_of}
+use Rattle.plans.specs.Machine.{Configuration, At, Ended, faulty, forgotten, act}
+use Rattle.plans.specs.declared.instruction.Instruction.{Instruction}
+use Rattle.plans.specs.declared.functions.FunctionKernels.{FunctionKernels}
+use Rattle.plans.specs.declared.operation.Operation.{Operation}
+use Rattle.plans.specs.declared.operation.Operation.TheVariants as op
+use Rattle.plans.specs.Functions.{AreFunctions}
+use Rattle.plans.specs.Operation.{IsFor}
+use Rattle.runner.specs.declared.flow.Flow.{Flow}
+use Rattle.runner.specs.declared.flow.Flow.TheVariants as flow
+use Rattle.runner.specs.declared.memory.Memory.{Memory}
+use Rattle.runner.specs.Position.{loops_of}
 
 -- nothing is there beyond this
 abbrev pub IsKept : Depth → StateValue → Type 0
 IsKept d s = forgotten d s ≡ s
 
--- the run goes on, before an instruction of which it has forgotten what that does not see
-pub record IsBefore (i : Instruction) (next : ℕ) (r : Run) : Type 0 where
-  pub going : r.end ≡ None
-  pub kept : IsKept i.keep r.state.state
-  pub follows : next ≡ suc r.place
+-- where a run stands behind an instruction at a place
+abbrev pub after_flow : Flow → (number : ℕ) → (shown : Depth) → (place : ℕ) → List Counter → StateValue → Configuration
+after_flow flow.Next number shown place loops s = At (place + 1) loops s
+after_flow (flow.Goto to) number shown place loops s = At to loops s
+after_flow flow.Fault number shown place loops s = faulty number shown s
+after_flow (flow.Ended end) number shown place loops s = Ended (forgotten shown s) end
 
 -- its kernels are made for what is visible
 abbrev pub IsReady : (keep shown : Depth) → Operation → Type 0
@@ -74,24 +78,19 @@ TakesValues (op.PrintCondition k) = Unit {0}
 TakesValues other = ⊥
 
 -- they are the kernels of some program's functions
-pub record HaveTrees (f : Functions) : Type 0 where
+pub record HaveTrees (f : FunctionKernels) : Type 0 where
   pub program : ProgramTree
   pub are : AreFunctions f program
 
--- the run has done an operation where it stood
-abbrev pub HasDone : Instruction → (old new : Run) → ProgramTree → GraphValue → OperationTree → Type 0
-HasDone i old new p g t = configuration_of new ≡ act p g t i.number i.shown old.place (loops_of old) old.state.state
+-- an operation is done, and the run goes on so, wherever the instruction stands
+abbrev pub HasDone : Instruction → Flow → (old new : Memory) → ProgramTree → GraphValue → OperationTree → Type 0
+HasDone i f old new p g t = (place : ℕ)
+    → after_flow f i.number i.shown place (loops_of new) new.state.state ≡ act p g t i.number i.shown place (loops_of old) old.state.state
 
--- it stands where it stood, on the same graph
-pub record IsAsBefore (old new : Run) : Type 0 where
-  pub configuration : configuration_of new ≡ configuration_of old
-  pub vertices : new.state.vertices ≡ old.state.vertices
-
--- the run goes on there, with as many turns left
-pub record KeepsGoing (next : ℕ) (old new : Run) : Type 0 where
-  pub going : new.end ≡ None
-  pub place : new.place ≡ next
-  pub turns : new.state.state.turns ≡ old.state.state.turns
+-- the state and the loops are as they were
+pub record IsAsBefore (old new : Memory) : Type 0 where
+  pub state : new.state ≡ old.state
+  pub loops : new.loops.items ≡ old.loops.items
 
 -- two runs stand before the same place with as many turns left, or have both ended
 abbrev pub AreLevel : Configuration → Configuration → Type 0
@@ -99,3 +98,8 @@ AreLevel (At place loops s) (At place' loops' s') = (place ≡ place') × (s.tur
 AreLevel (At place loops s) (Ended s' end) = ⊥
 AreLevel (Ended s end) (At place loops s') = ⊥
 AreLevel (Ended s end) (Ended s' end') = Unit {0}
+
+-- the run goes on where the operation leads, with as many turns left
+abbrev pub IsLevel : Instruction → Flow → (old new : Memory) → ProgramTree → GraphValue → OperationTree → Type 0
+IsLevel i f old new p g t = (place : ℕ)
+    → AreLevel (after_flow f i.number i.shown place (loops_of new) new.state.state) (act p g t i.number i.shown place (loops_of old) old.state.state)

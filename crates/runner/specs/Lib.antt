@@ -1,4 +1,6 @@
+pub mod EdgeMap
 pub mod Position
+pub mod Resting
 pub mod Done
 pub mod Results
 pub mod Job

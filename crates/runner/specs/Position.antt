@@ -4,14 +4,15 @@ use Rattle.algorithm_meaning.specs.declared.outcome.End.{End}
 use Rattle.algorithm_meaning.specs.State.{GraphValue, StateValue}
 use Rattle.plans.specs.declared.depth.Counter.{Counter}
 use Rattle.plans.specs.declared.depth.Depth.{Depth}
-use Rattle.instructions.specs.Bound.{most_steps_of}
-use Rattle.instructions.specs.declared.plan.Plan.{Plan}
+use Rattle.plans.specs.Outline.{most_steps_of}
+use Rattle.plans.specs.declared.plan.Plan.{Plan}
 use Rattle.plans.specs.Instruction.{InstructionTree}
 use Rattle.plans.specs.Machine.{Configuration, At, Ended, forgotten}
 use Rattle.typed_tree.specs.ProgramTree.{ProgramTree}
 use Rattle.algorithm_meaning.specs.declared.outcome.End.TheVariants.{TurnsOver}
 use Rattle.algorithm_meaning.specs.declared.outcome.Outcome.{Outcome}
 use Rattle.algorithm_meaning.specs.Shown.{shown}
+use Rattle.runner.specs.declared.memory.Memory.{Memory}
 use Rattle.runner.specs.declared.run.Run.{Run}
 
 -- before the instruction at a place, or at an end
@@ -20,24 +21,15 @@ position None place loops s = At place loops s
 position (Some end) place loops s = Ended s end
 
 -- the loops around the place, the innermost first
-abbrev pub loops_of : Run → List Counter
-loops_of r = reverse r.loops.items
+abbrev pub loops_of : Memory → List Counter
+loops_of m = reverse m.loops.items
 
 abbrev pub configuration_of : Run → Configuration
-configuration_of r = position r.end r.place (loops_of r) r.state.state
+configuration_of r = position r.end r.place (loops_of r.memory) r.memory.state.state
 
 -- the run is on a graph of so many vertices
-abbrev pub IsOn : GraphValue → Run → Type 0
-IsOn g r = r.state.vertices ≡ g.vertices
-
--- a run that waits before an instruction has forgotten what that instruction does not see
-abbrev pub waiting_at : Option InstructionTree → (place : ℕ) → List Counter → StateValue → Configuration
-waiting_at None place loops s = At place loops s
-waiting_at (Some i) place loops s = At place loops (forgotten i.keep s)
-
-abbrev pub waiting : List InstructionTree → Configuration → Configuration
-waiting plan (At place loops s) = waiting_at (slice_get plan place) place loops s
-waiting plan (Ended s end) = Ended s end
+abbrev pub IsOn : GraphValue → Memory → Type 0
+IsOn g m = m.state.vertices ≡ g.vertices
 
 abbrev pub IsShownWhere : Option InstructionTree → StateValue → Depth → Type 0
 IsShownWhere None s d = forgotten d s ≡ s

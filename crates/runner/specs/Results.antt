@@ -2,10 +2,10 @@
 use Rattle.std.specs.Prelude.{◌≡◌, ℕ, ℤ, List, Option, Some, None}
 use Rattle.algorithm_meaning.specs.Entries.{with_vectors}
 use Rattle.algorithm_meaning.specs.State.{StateValue}
-use Rattle.fusing.specs.declared.part.EdgePart.{EdgePart}
-use Rattle.fusing.specs.declared.part.PartResult.{PartResult}
-use Rattle.fusing.specs.declared.part.PartResult.TheVariants as result
-use Rattle.fusing.specs.Parts.{result_tree}
+use Rattle.plans.specs.declared.part.EdgePart.{EdgePart}
+use Rattle.plans.specs.declared.part.PartResult.{PartResult}
+use Rattle.plans.specs.declared.part.PartResult.TheVariants as result
+use Rattle.plans.specs.Parts.{result_tree}
 use Rattle.plans.specs.Instruction.{ResultTree}
 use Rattle.plans.specs.Machine.{with_result}
 use Rattle.run_state.specs.declared.taken.Taken.{Taken}

@@ -3,53 +3,53 @@ ghost use Rattle.std.specs.Prelude.{◌≡◌, ℕ, ℤ, List, None, Some, IfOk,
 ghost use Rattle.typed_tree.specs.ProgramTree.{ProgramTree};
 ghost use Rattle.algorithm_meaning.specs.EdgeApply.{modified as modified_in};
 ghost use Rattle.algorithm_meaning.specs.State.{GraphValue};
-ghost use Rattle.edge_applies.specs.Applied.{AreChangesTo};
-ghost use Rattle.fusing.specs.Parts.{result_tree};
+ghost use Rattle.runner.specs.EdgeMap.{AreChangesTo};
+ghost use Rattle.plans.specs.Parts.{result_tree};
 ghost use Rattle.plans.specs.Fused.{FitTogether};
 ghost use Rattle.plans.specs.Instruction.{OperationTree};
 ghost use Rattle.plans.specs.Reducing.{OperationReduces};
-ghost use Rattle.instructions.specs.Functions.{AreFunctions};
-ghost use Rattle.instructions.specs.declared.operation.Operation.TheVariants as op;
-ghost use Rattle.instructions.specs.Operation.{ApplyEdgesOf, IsOperation};
+ghost use Rattle.plans.specs.Functions.{AreFunctions};
+ghost use Rattle.plans.specs.declared.operation.Operation.TheVariants as op;
+ghost use Rattle.plans.specs.Operation.{ApplyEdgesOf, IsOperation};
 ghost use Rattle.run_state.specs.State.{graph_value, with_state};
 ghost use Rattle.run_state.specs.Taken.{IsTakenOf};
 ghost use Rattle.run_state.specs.VertexKernels.{IsVertexKernel};
 ghost use Rattle.std.specs.Option.{ForSome, option_map};
 ghost use Rattle.algorithm_meaning.specs.Function.{steps_of};
-ghost use Rattle.stack_code.specs.Meaning.{IsVertexCode};
-ghost use Rattle.runner.specs.Done.{HasDone, HaveTrees, IsAsBefore, IsBefore, KeepsGoing};
+ghost use Rattle.register_code.specs.Meaning.{IsVertexCode};
+ghost use Rattle.runner.specs.Done.{HasDone, HaveTrees, IsAsBefore};
 ghost use Rattle.runner.specs.Position.{IsOn};
 ghost use Rattle.runner.specs.Results.{IsTakenFor, result_of_second, with_both};
 
-use crate::run::Run;
-use edge_applies::{changed_vertices, edge_changes};
+use crate::changed_vertices::changed_vertices;
+use crate::edge_applier::EdgeApplier;
+use crate::edge_maps::EdgeMap;
+use crate::flow::Flow;
+use crate::memory::Memory;
+use apply_options::ApplySchedule;
 use flat_snapshot::Flat;
-use fusing::{EdgeApply, EdgePart, PartResult};
-use instructions::{Functions, Instruction};
 use kernels::VertexKernel;
+use plans::{EdgeApply, EdgePart, FunctionKernels, Instruction, PartResult};
 use run_state::{State, Taken};
-use schedule::Choice;
 use std::alloc::{AllocError, Global};
-use typed_tree::Slot;
+use typed_tree::VarRef;
 use vectors::Changes;
 use vertex_sets::{Form, VertexSet};
 
-impl Run {
+impl Memory {
     /// One vertex function, or two, at each member of a set.
     pub(crate) fn apply_vertices(
         &mut self,
-        functions: &Functions,
+        functions: &FunctionKernels,
         instruction: &Instruction,
-        next: usize,
-        set: Slot,
+        set: VarRef,
         first: usize,
         second: Option<usize>,
     ) -> Result<(), AllocError>
-        requires before { IsBefore instruction.now next self.old }
         requires known { ∥ HaveTrees functions.now ∥₁ }
         ensures done { OnOk result ((p : ProgramTree) (g : GraphValue) (t : OperationTree) → AreFunctions functions.now p
-            → IsOperation instruction.now.keep instruction.now.shown (op.ApplyVertices set first second) t → FitTogether p t → HasDone instruction.now self.old self.new p g t) }
-        ensures going { OnOk result (KeepsGoing next self.old self.new) }
+            → IsOperation instruction.now.keep instruction.now.shown (op.ApplyVertices set first second) t → FitTogether p t → HasDone instruction.now Flow.Next self.old self.new p g t) }
+        ensures turns { OnOk result (self.new.state.state.turns ≡ self.old.state.state.turns) }
         ensures vertices { self.new.state.vertices ≡ self.old.state.vertices }
         ensures err { OnErr result (IsAsBefore self.old self.new) }
     {
@@ -59,51 +59,48 @@ impl Run {
         let second = second_kernel(functions, second);
         self.state
             .apply_vertices(set.place, first, second, &mut self.block)?;
-        self.place = next;
         Ok(())
     }
 
     /// One edge function, or two, on the edges between two ends.
-    pub(crate) fn apply_edges(
+    pub(crate) fn apply_edges<E: EdgeApplier>(
         &mut self,
         alloc: Global,
-        functions: &Functions,
+        functions: &FunctionKernels,
         graph: &Flat,
         instruction: &Instruction,
-        next: usize,
         apply: EdgeApply,
         second: Option<EdgePart>,
+        by: &mut E,
     ) -> Result<(), AllocError>
-        requires before { IsBefore instruction.now next self.old }
+        requires applier { E.is_ready by.old }
+        ensures applier { E.is_ready by.new }
         ensures done { OnOk result ((p : ProgramTree) (g : GraphValue) (t : OperationTree) → g ≡ graph_value graph.now → IsOn g self.old
-            → AreFunctions functions.now p → ApplyEdgesOf apply.ends apply.part second t → OperationReduces p t → HasDone instruction.now self.old self.new p g t) }
-        ensures going { OnOk result (KeepsGoing next self.old self.new) }
+            → AreFunctions functions.now p → ApplyEdgesOf apply.ends apply.part second t → OperationReduces p t → HasDone instruction.now Flow.Next self.old self.new p g t) }
+        ensures turns { OnOk result (self.new.state.state.turns ≡ self.old.state.state.turns) }
         ensures vertices { self.new.state.vertices ≡ self.old.state.vertices }
         ensures err { OnErr result (IsAsBefore self.old self.new) }
     {
-        let choice = instruction.choice;
+        let schedule = instruction.choice;
         let part = apply.part;
         let both = function_of(second);
+        let asked = EdgeMap {
+            ends: apply.ends,
+            first: part.function,
+            second: both,
+            schedule,
+        };
         let view = self.state.view(functions, graph);
-        let changes = edge_changes(
-            alloc,
-            view,
-            apply.ends,
-            part.function,
-            both,
-            choice,
-            &mut self.scratch,
-        )?;
+        let changes = by.edge_map(alloc, view, asked)?;
         let second = result_of(second);
         take_changes(
             alloc,
             &mut self.state,
             &changes,
-            choice,
+            schedule,
             part.result,
             second,
         )?;
-        self.place = next;
         Ok(())
     }
 }
@@ -131,7 +128,7 @@ fn take_changes(
     alloc: Global,
     state: &mut State,
     changes: &Changes,
-    choice: Choice,
+    choice: ApplySchedule,
     first: PartResult,
     second: PartResult,
 ) -> Result<(), AllocError>
@@ -153,7 +150,7 @@ fn taken(
     alloc: Global,
     state: &State,
     changes: &Changes,
-    choice: Choice,
+    choice: ApplySchedule,
     asked: PartResult,
 ) -> Result<Taken, AllocError>
     ensures of { IfOk result (λ t. IsTakenOf state.now.vertices t) }
@@ -179,7 +176,7 @@ fn modified(
     alloc: Global,
     state: &State,
     changes: &Changes,
-    choice: Choice,
+    choice: ApplySchedule,
     vector: usize,
 ) -> Result<VertexSet, AllocError>
     ensures vertices { IfOk result (λ s. s.vertices ≡ state.now.vertices) }
@@ -194,7 +191,7 @@ fn modified(
 }
 
 /// The kernel of the function at the second place, where there is one.
-fn second_kernel(functions: &Functions, second: Option<usize>) -> Option<&VertexKernel>
+fn second_kernel(functions: &FunctionKernels, second: Option<usize>) -> Option<&VertexKernel>
     ensures none { second ≡ None → result ≡ None }
     ensures some { (p : ProgramTree) (place : ℕ) → AreFunctions functions.now p → second ≡ Some place
         → IsSomeAnd result (λ k. IsVertexCode k.now.code.items (steps_of (slice_get p.vertex_functions place))) }

@@ -1,21 +1,23 @@
 //! Runs that go one instruction at a time.
 ghost use Rattle.std.specs.Prelude.{◌≡◌, IfOk, OnOk, OnErr};
+ghost use Rattle.std.specs.Arc.{arc_value};
 ghost use Rattle.typed_tree.specs.ProgramTree.{ProgramTree};
 ghost use Rattle.algorithm_meaning.specs.Meaning.{opening};
-ghost use Rattle.schedule.specs.Schedule.{ScheduleTree};
+ghost use Rattle.apply_options.specs.ScheduleTree.{ScheduleTree};
 ghost use Rattle.plans.specs.Machine.{first_configuration, step};
 ghost use Rattle.plans.specs.Plan.{plan_of};
 ghost use Rattle.plans.specs.Reducing.{AppliesReduce};
-ghost use Rattle.instructions.specs.Plan.{IsPlan};
+ghost use Rattle.plans.specs.PlanOf.{IsPlan};
 ghost use Rattle.run_state.specs.State.{graph_value};
-ghost use Rattle.runner.specs.Position.{configuration_of, outcome_so_far, waiting};
-ghost use Rattle.runner.specs.Job.{stand_of};
 
+use crate::edge_applier::EdgeApplier;
 use crate::run::Run;
 use algorithm_meaning::{End, Outcome};
 use flat_snapshot::Flat;
-use instructions::Plan;
+use plans::Plan;
 use std::alloc::{AllocError, Global};
+use std::marker::Model;
+use std::sync::Arc;
 
 /// Whether a run goes on, or how it has ended.
 #[derive(Clone, Copy, Debug, PartialEq, Eq)]
@@ -24,16 +26,17 @@ pub enum Stand {
     Ended(End),
 }
 
-/// A run of a plan on a snapshot of its own, which does one instruction with each call.
-pub struct Job<'a> {
-    pub(crate) plan: &'a Plan,
-    pub(crate) graph: Flat,
-    pub(crate) turns: u64,
-    pub(crate) run: Run,
-    ghost on: { run.state.vertices ≡ graph.vertices },
+/// A run of a plan on a snapshot of a graph, which does one instruction with each call. It may be kept, and sent to
+/// another thread. A contract sees the plan, the graph, the bound of turns, and where the run stands without what the next
+/// instruction does not see (`specs/Resting.antt`).
+pub struct Job {
+    plan: Arc<Plan>,
+    graph: Arc<Flat>,
+    turns: u64,
+    run: Run,
 }
 
-impl Drop for Job<'_> {
+impl Drop for Job {
     fn drop(self) {
         let Job {
             plan: _,
@@ -44,21 +47,39 @@ impl Drop for Job<'_> {
     }
 }
 
-impl<'a> Job<'a> {
+impl Model for Job {
+    ghost use Rattle.std.specs.Arc.{arc_value};
+    ghost use Rattle.std.specs.Coded.{codes};
+    ghost use Rattle.std.specs.Prelude.{◌≡◌};
+    ghost use Rattle.plans.specs.contracts.plan.Plan as plan_contract;
+    ghost use Rattle.runner.specs.Position.{configuration_of};
+    ghost use Rattle.runner.specs.Resting.{JobValue, job_value};
+
+    ghost Value = { JobValue };
+
+    ghost coded = { Prim.hlevel (codes, plan_contract.the_row.coded) };
+
+    ghost view = { λ j. job_value (arc_value j.plan) (arc_value j.graph) j.turns (configuration_of j.run) };
+
+    ghost invariant = { λ j. j.run.memory.state.vertices ≡ (arc_value j.graph).vertices };
+}
+
+impl Job {
+    ghost use Rattle.runner.specs.Job.{stand_of};
+    ghost use Rattle.runner.specs.Position.{outcome_so_far};
+    ghost use Rattle.runner.specs.Resting.{job_value};
+
     /// A run that stands before the first instruction, for at most so many turns. The only error is out of memory.
     pub fn new(
         alloc: Global,
-        plan: &'a Plan,
-        graph: Flat,
+        plan: Arc<Plan>,
+        graph: Arc<Flat>,
         turns: u64,
-    ) -> Result<Job<'a>, AllocError>
-        ensures configuration { IfOk result (λ job. (p : ProgramTree) (s : ScheduleTree) → IsPlan plan.now p s
-            → configuration_of job.run ≡ first_configuration (opening p (graph_value graph) turns)) }
-        ensures plan { IfOk result (λ job. job.plan.now ≡ plan.now) }
-        ensures graph { IfOk result (λ job. job.graph ≡ graph) }
-        ensures turns { IfOk result (λ job. job.turns ≡ turns) }
+    ) -> Result<Job, AllocError>
+        ensures { IfOk result (λ job. (p : ProgramTree) (s : ScheduleTree) → IsPlan (arc_value plan) p s
+            → job ≡ job_value (arc_value plan) (arc_value graph) turns (first_configuration (opening p (graph_value (arc_value graph)) turns))) }
     {
-        let run = Run::open(alloc, plan, &graph, turns)?;
+        let run = Run::open(alloc, &plan, &graph, turns)?;
         Ok(Job {
             plan,
             graph,
@@ -67,20 +88,18 @@ impl<'a> Job<'a> {
         })
     }
 
-    /// Does one instruction alone, and tells whether the run goes on. A run that has ended stays as it is.
+    /// Does one instruction, and tells whether the run goes on. A run that has ended stays as it is.
     ///
-    /// The only error is out of memory, and then the run stands before the same instruction.
-    pub fn step(&mut self, alloc: Global) -> Result<Stand, AllocError>
-        ensures configuration { OnOk result ((p : ProgramTree) (s : ScheduleTree) → IsPlan self.old.plan.now p s → AppliesReduce p (plan_of p s)
-            → configuration_of self.new.run ≡ step p (graph_value self.old.graph) (plan_of p s) (configuration_of self.old.run)) }
-        ensures stand { IfOk result (λ stand. stand ≡ stand_of (configuration_of self.new.run)) }
-        ensures err { OnErr result ((p : ProgramTree) (s : ScheduleTree) → IsPlan self.old.plan.now p s
-            → configuration_of self.new.run ≡ waiting (plan_of p s) (configuration_of self.old.run)) }
-        ensures plan { self.new.plan.now ≡ self.old.plan.now }
-        ensures graph { self.new.graph ≡ self.old.graph }
-        ensures turns { self.new.turns ≡ self.old.turns }
+    /// The only error is out of memory, and then nothing is changed.
+    pub fn step<E: EdgeApplier>(&mut self, alloc: Global, by: &mut E) -> Result<Stand, AllocError>
+        requires { E.is_ready by.old }
+        ensures applier { E.is_ready by.new }
+        ensures steps { OnOk result ((p : ProgramTree) (s : ScheduleTree) → IsPlan self.old.plan p s → AppliesReduce p (plan_of p s)
+            → self.new ≡ job_value self.old.plan self.old.graph self.old.turns (step p (graph_value self.old.graph) (plan_of p s) self.old.stands)) }
+        ensures stand { IfOk result (λ stand. stand ≡ stand_of self.new.stands) }
+        ensures err { OnErr result (self.new ≡ self.old) }
     {
-        self.run.step(alloc, self.plan, &self.graph)?;
+        self.run.step(alloc, &self.plan, &self.graph, by)?;
         match self.run.end {
             Some(end) => Ok(Stand::Ended(end)),
             None => Ok(Stand::Going),
@@ -90,9 +109,9 @@ impl<'a> Job<'a> {
     /// What the run shows so far: the vectors, the text, the turns used, and the sets that are visible at the next
     /// instruction. The end is `TurnsOver` as long as the run goes on. The only error is out of memory.
     pub fn outcome(&self, alloc: Global) -> Result<Outcome, AllocError>
-        ensures { IfOk result (λ o. (p : ProgramTree) (s : ScheduleTree) → IsPlan self.now.plan.now p s
-            → o ≡ outcome_so_far p self.now.turns (plan_of p s) (configuration_of self.now.run)) }
+        ensures { IfOk result (λ o. (p : ProgramTree) (s : ScheduleTree) → IsPlan self.now.plan p s
+            → o ≡ outcome_so_far p self.now.turns (plan_of p s) self.now.stands) }
     {
-        self.run.show(alloc, self.plan, self.turns)
+        self.run.show(alloc, &self.plan, self.turns)
     }
 }

@@ -1,23 +1,42 @@
 //! Runs of plans: one instruction after the other, to the end or one at a time.
 //!
-//! [`run_alone`] runs a plan on a snapshot of a graph and tells what the run shows: what the program means on the graph's
+//! [`run_by`] runs a plan on a snapshot of a graph and tells what the run shows: what the program means on the graph's
 //! edges, whatever its schedule. A [`Job`] is a run that does one instruction with each call, and stands where the machine
-//! of the crate `plans` stands after as many steps. `specs/Position.antt` says where a run stands.
+//! of the crate `plans` stands after as many steps. `specs/Position.antt` says where a run stands, and `specs/Resting.antt`
+//! what a job is.
+//!
+//! An [`EdgeApplier`] does the edge applies of a run: [`Alone`] is one worker. [`edge_map`] makes an apply for the engines
+//! of two ends, one or two functions and what the schedule says of them, and tells what it changes: written to the
+//! vectors, they are those after the apply (`after_edge_apply` of `algorithm_meaning`). The promise is for a program whose
+//! functions give each vector numbers by one reduction (`specs/Reducing.antt` of `plans`). [`push_or_pull`] does an apply
+//! by the direction that its schedule has for it, and [`pick_direction`] is the rule of the hybrid: it pulls where the
+//! sources and the edges from them are more than a twentieth of all edges. That rule, and the name of the operator, are
+//! those of Ligra (Shun, Blelloch, PPoPP 2013).
 //!
 //! Every value of a plan is that of some program, and so a run ends: its turns are bounded, and between two turns each
 //! step leads to a place of lower rank.
 #![tactic(auto)]
 
-mod alone;
 mod applies;
+mod changed_vertices;
 mod control;
+mod direction;
+mod edge_applier;
+mod edge_maps;
+mod ends;
 mod entries;
+mod flow;
 mod job;
+mod memory;
 mod printing;
 mod run;
 mod sets;
 mod steps;
 mod variables;
+mod whole_run;
 
-pub use alone::run_alone;
+pub use direction::{pick_direction, push_or_pull};
+pub use edge_applier::{Alone, EdgeApplier};
+pub use edge_maps::{EdgeMap, edge_map};
 pub use job::{Job, Stand};
+pub use whole_run::{run_alone, run_by};

@@ -1,64 +1,67 @@
 //! `print`.
-ghost use Rattle.std.specs.Prelude.{◌≡◌, ℕ, OnOk, OnErr};
+ghost use Rattle.std.specs.Prelude.{◌≡◌, ℕ, IfOk, OnErr};
 ghost use Rattle.typed_tree.specs.BlockTree.{PrintCondition, PrintInteger};
 ghost use Rattle.typed_tree.specs.ProgramTree.{ProgramTree};
 ghost use Rattle.algorithm_meaning.specs.State.{GraphValue};
 ghost use Rattle.plans.specs.Instruction.{Do, OperationTree};
-ghost use Rattle.instructions.specs.Operation.{HasCondition, HasInteger, IsFor};
-ghost use Rattle.runner.specs.Done.{HasDone, IsAsBefore, IsBefore};
+ghost use Rattle.plans.specs.Operation.{HasCondition, HasInteger, IsFor};
+ghost use Rattle.runner.specs.Done.{HasDone, IsAsBefore, IsKept};
 ghost use Rattle.runner.specs.Position.{IsOn};
 
-use crate::run::Run;
-use instructions::Instruction;
+use crate::flow::Flow;
+use crate::memory::Memory;
 use kernels::ExpressionKernel;
+use plans::Instruction;
 use std::alloc::AllocError;
 
-impl Run {
+impl Memory {
     /// A line with a number.
     pub(crate) fn print_integer(
         &mut self,
         instruction: &Instruction,
-        next: usize,
         value: &ExpressionKernel,
-    ) -> Result<(), AllocError>
-        requires before { IsBefore instruction.now next self.old }
+    ) -> Result<Flow, AllocError>
+        requires kept { IsKept instruction.now.keep self.old.state.state }
         requires visible { IsFor instruction.now.keep value.now }
-        ensures done { OnOk result ((p : ProgramTree) (g : GraphValue) (t : OperationTree) → IsOn g self.old
-            → HasInteger instruction.now.keep value.now (λ e. Do (PrintInteger e)) t → HasDone instruction.now self.old self.new p g t) }
+        ensures done { IfOk result (λ flow. (p : ProgramTree) (g : GraphValue) (t : OperationTree) → IsOn g self.old
+            → HasInteger instruction.now.keep value.now (λ e. Do (PrintInteger e)) t → HasDone instruction.now flow self.old self.new p g t) }
         ensures vertices { self.new.state.vertices ≡ self.old.state.vertices }
         ensures err { OnErr result (IsAsBefore self.old self.new) }
     {
-        match self.state.number(value, instruction.keep, &mut self.block)? {
+        match self
+            .state
+            .number(value, instruction.keep, &mut self.registers)?
+        {
             Some(n) => {
                 self.state.print_integer(n)?;
-                self.place = next;
+                Ok(Flow::Next)
             }
-            None => self.fail(instruction),
+            None => Ok(Flow::Fault),
         }
-        Ok(())
     }
 
     /// A line with a truth value.
     pub(crate) fn print_condition(
         &mut self,
         instruction: &Instruction,
-        next: usize,
         value: &ExpressionKernel,
-    ) -> Result<(), AllocError>
-        requires before { IsBefore instruction.now next self.old }
+    ) -> Result<Flow, AllocError>
+        requires kept { IsKept instruction.now.keep self.old.state.state }
         requires visible { IsFor instruction.now.keep value.now }
-        ensures done { OnOk result ((p : ProgramTree) (g : GraphValue) (t : OperationTree) → IsOn g self.old
-            → HasCondition instruction.now.keep value.now (λ c. Do (PrintCondition c)) t → HasDone instruction.now self.old self.new p g t) }
+        ensures done { IfOk result (λ flow. (p : ProgramTree) (g : GraphValue) (t : OperationTree) → IsOn g self.old
+            → HasCondition instruction.now.keep value.now (λ c. Do (PrintCondition c)) t → HasDone instruction.now flow self.old self.new p g t) }
         ensures vertices { self.new.state.vertices ≡ self.old.state.vertices }
         ensures err { OnErr result (IsAsBefore self.old self.new) }
     {
-        match self.state.choice(value, instruction.keep, &mut self.block)? {
+        match self
+            .state
+            .choice(value, instruction.keep, &mut self.registers)?
+        {
             Some(b) => {
                 self.state.print_condition(b)?;
-                self.place = next;
+                Ok(Flow::Next)
             }
-            None => self.fail(instruction),
+            None => Ok(Flow::Fault),
         }
-        Ok(())
     }
 }

@@ -1,142 +1,148 @@
 //! Statements on variables.
-ghost use Rattle.std.specs.Prelude.{◌≡◌, ℕ, OnOk, OnErr};
+ghost use Rattle.std.specs.Prelude.{◌≡◌, ℕ, IfOk, OnErr};
 ghost use Rattle.typed_tree.specs.BlockTree.{DeclareCondition, DeclareInteger, ReduceInteger, SetCondition, SetInteger};
 ghost use Rattle.typed_tree.specs.ProgramTree.{ProgramTree};
 ghost use Rattle.algorithm_meaning.specs.State.{GraphValue};
 ghost use Rattle.plans.specs.Instruction.{Do, OperationTree};
-ghost use Rattle.instructions.specs.Operation.{HasCondition, HasInteger, IsFor};
-ghost use Rattle.runner.specs.Done.{HasDone, IsAsBefore, IsBefore};
+ghost use Rattle.plans.specs.Operation.{HasCondition, HasInteger, IsFor};
+ghost use Rattle.runner.specs.Done.{HasDone, IsAsBefore, IsKept};
 ghost use Rattle.runner.specs.Position.{IsOn};
 
-use crate::run::Run;
-use instructions::Instruction;
+use crate::flow::Flow;
+use crate::memory::Memory;
+use apply_options::Reduction;
 use kernels::ExpressionKernel;
+use plans::Instruction;
 use std::alloc::AllocError;
-use syntax::Reduction;
-use typed_tree::Slot;
+use typed_tree::VarRef;
 
-impl Run {
+impl Memory {
     /// A new variable of type `int`.
     pub(crate) fn declare_integer(
         &mut self,
         instruction: &Instruction,
-        next: usize,
         value: &ExpressionKernel,
-    ) -> Result<(), AllocError>
-        requires before { IsBefore instruction.now next self.old }
+    ) -> Result<Flow, AllocError>
+        requires kept { IsKept instruction.now.keep self.old.state.state }
         requires visible { IsFor instruction.now.keep value.now }
-        ensures done { OnOk result ((p : ProgramTree) (g : GraphValue) (t : OperationTree) (name : ℕ) → IsOn g self.old
-            → HasInteger instruction.now.keep value.now (λ e. Do (DeclareInteger name e)) t → HasDone instruction.now self.old self.new p g t) }
+        ensures done { IfOk result (λ flow. (p : ProgramTree) (g : GraphValue) (t : OperationTree) (name : ℕ) → IsOn g self.old
+            → HasInteger instruction.now.keep value.now (λ e. Do (DeclareInteger name e)) t → HasDone instruction.now flow self.old self.new p g t) }
         ensures vertices { self.new.state.vertices ≡ self.old.state.vertices }
         ensures err { OnErr result (IsAsBefore self.old self.new) }
     {
-        match self.state.number(value, instruction.keep, &mut self.block)? {
+        match self
+            .state
+            .number(value, instruction.keep, &mut self.registers)?
+        {
             Some(n) => {
                 self.state.declare_integer(n)?;
-                self.place = next;
+                Ok(Flow::Next)
             }
-            None => self.fail(instruction),
+            None => Ok(Flow::Fault),
         }
-        Ok(())
     }
 
     /// A new variable of type `bool`.
     pub(crate) fn declare_condition(
         &mut self,
         instruction: &Instruction,
-        next: usize,
         value: &ExpressionKernel,
-    ) -> Result<(), AllocError>
-        requires before { IsBefore instruction.now next self.old }
+    ) -> Result<Flow, AllocError>
+        requires kept { IsKept instruction.now.keep self.old.state.state }
         requires visible { IsFor instruction.now.keep value.now }
-        ensures done { OnOk result ((p : ProgramTree) (g : GraphValue) (t : OperationTree) (name : ℕ) → IsOn g self.old
-            → HasCondition instruction.now.keep value.now (λ c. Do (DeclareCondition name c)) t → HasDone instruction.now self.old self.new p g t) }
+        ensures done { IfOk result (λ flow. (p : ProgramTree) (g : GraphValue) (t : OperationTree) (name : ℕ) → IsOn g self.old
+            → HasCondition instruction.now.keep value.now (λ c. Do (DeclareCondition name c)) t → HasDone instruction.now flow self.old self.new p g t) }
         ensures vertices { self.new.state.vertices ≡ self.old.state.vertices }
         ensures err { OnErr result (IsAsBefore self.old self.new) }
     {
-        match self.state.choice(value, instruction.keep, &mut self.block)? {
+        match self
+            .state
+            .choice(value, instruction.keep, &mut self.registers)?
+        {
             Some(b) => {
                 self.state.declare_condition(b)?;
-                self.place = next;
+                Ok(Flow::Next)
             }
-            None => self.fail(instruction),
+            None => Ok(Flow::Fault),
         }
-        Ok(())
     }
 
     /// A variable of type `int` gets a value.
     pub(crate) fn set_integer(
         &mut self,
         instruction: &Instruction,
-        next: usize,
-        slot: Slot,
+        slot: VarRef,
         value: &ExpressionKernel,
-    ) -> Result<(), AllocError>
-        requires before { IsBefore instruction.now next self.old }
+    ) -> Result<Flow, AllocError>
+        requires kept { IsKept instruction.now.keep self.old.state.state }
         requires visible { IsFor instruction.now.keep value.now }
-        ensures done { OnOk result ((p : ProgramTree) (g : GraphValue) (t : OperationTree) → IsOn g self.old
-            → HasInteger instruction.now.keep value.now (λ e. Do (SetInteger slot e)) t → HasDone instruction.now self.old self.new p g t) }
+        ensures done { IfOk result (λ flow. (p : ProgramTree) (g : GraphValue) (t : OperationTree) → IsOn g self.old
+            → HasInteger instruction.now.keep value.now (λ e. Do (SetInteger slot e)) t → HasDone instruction.now flow self.old self.new p g t) }
         ensures vertices { self.new.state.vertices ≡ self.old.state.vertices }
         ensures err { OnErr result (IsAsBefore self.old self.new) }
     {
-        match self.state.number(value, instruction.keep, &mut self.block)? {
+        match self
+            .state
+            .number(value, instruction.keep, &mut self.registers)?
+        {
             Some(n) => {
                 self.state.set_integer(slot.place, n);
-                self.place = next;
+                Ok(Flow::Next)
             }
-            None => self.fail(instruction),
+            None => Ok(Flow::Fault),
         }
-        Ok(())
     }
 
     /// A variable of type `bool` gets a value.
     pub(crate) fn set_condition(
         &mut self,
         instruction: &Instruction,
-        next: usize,
-        slot: Slot,
+        slot: VarRef,
         value: &ExpressionKernel,
-    ) -> Result<(), AllocError>
-        requires before { IsBefore instruction.now next self.old }
+    ) -> Result<Flow, AllocError>
+        requires kept { IsKept instruction.now.keep self.old.state.state }
         requires visible { IsFor instruction.now.keep value.now }
-        ensures done { OnOk result ((p : ProgramTree) (g : GraphValue) (t : OperationTree) → IsOn g self.old
-            → HasCondition instruction.now.keep value.now (λ c. Do (SetCondition slot c)) t → HasDone instruction.now self.old self.new p g t) }
+        ensures done { IfOk result (λ flow. (p : ProgramTree) (g : GraphValue) (t : OperationTree) → IsOn g self.old
+            → HasCondition instruction.now.keep value.now (λ c. Do (SetCondition slot c)) t → HasDone instruction.now flow self.old self.new p g t) }
         ensures vertices { self.new.state.vertices ≡ self.old.state.vertices }
         ensures err { OnErr result (IsAsBefore self.old self.new) }
     {
-        match self.state.choice(value, instruction.keep, &mut self.block)? {
+        match self
+            .state
+            .choice(value, instruction.keep, &mut self.registers)?
+        {
             Some(b) => {
                 self.state.set_condition(slot.place, b);
-                self.place = next;
+                Ok(Flow::Next)
             }
-            None => self.fail(instruction),
+            None => Ok(Flow::Fault),
         }
-        Ok(())
     }
 
     /// A variable of type `int` is reduced with a value.
     pub(crate) fn reduce_integer(
         &mut self,
         instruction: &Instruction,
-        next: usize,
-        slot: Slot,
+        slot: VarRef,
         reduction: Reduction,
         value: &ExpressionKernel,
-    ) -> Result<(), AllocError>
-        requires before { IsBefore instruction.now next self.old }
+    ) -> Result<Flow, AllocError>
+        requires kept { IsKept instruction.now.keep self.old.state.state }
         requires visible { IsFor instruction.now.keep value.now }
-        ensures done { OnOk result ((p : ProgramTree) (g : GraphValue) (t : OperationTree) → IsOn g self.old
-            → HasInteger instruction.now.keep value.now (λ e. Do (ReduceInteger slot reduction e)) t → HasDone instruction.now self.old self.new p g t) }
+        ensures done { IfOk result (λ flow. (p : ProgramTree) (g : GraphValue) (t : OperationTree) → IsOn g self.old
+            → HasInteger instruction.now.keep value.now (λ e. Do (ReduceInteger slot reduction e)) t → HasDone instruction.now flow self.old self.new p g t) }
         ensures vertices { self.new.state.vertices ≡ self.old.state.vertices }
         ensures err { OnErr result (IsAsBefore self.old self.new) }
     {
-        match self.state.number(value, instruction.keep, &mut self.block)? {
+        match self
+            .state
+            .number(value, instruction.keep, &mut self.registers)?
+        {
             Some(n) => {
                 self.state.reduce_integer(slot.place, reduction, n);
-                self.place = next;
+                Ok(Flow::Next)
             }
-            None => self.fail(instruction),
+            None => Ok(Flow::Fault),
         }
-        Ok(())
     }
 }

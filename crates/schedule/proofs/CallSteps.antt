@@ -2,34 +2,35 @@
 use Rattle.std.proofs.Common.{◌≡◌, refl, subst, ℕ, Bool, true, false, nat_lt, length, List, [], ◌∷◌}
 use Rattle.std.specs.List.{concat}
 use Rattle.std.specs.Prelude.{Option, Some, None, Result, Ok, Err}
-use Rattle.syntax.specs.declared.schedule.Setting.{Setting}
-use Rattle.syntax.specs.declared.schedule.Setting.TheVariants as setting
+use Rattle.apply_options.specs.declared.setting.Setting.{Setting}
+use Rattle.apply_options.specs.declared.setting.Setting.TheVariants as setting
 use Rattle.typed_tree.specs.ProgramTree.{ProgramTree, ScheduleCallTree}
-use Rattle.schedule.specs.declared.choice.Choice.{Choice}
-use Rattle.schedule.specs.declared.choice.Fused.TheVariants.{With, Into}
-use Rattle.schedule.specs.declared.error.Rule.{Rule}
-use Rattle.schedule.specs.declared.error.Rule.TheVariants as rule
-use Rattle.schedule.specs.declared.site.Apply.{Apply}
-use Rattle.schedule.specs.declared.site.Apply.TheVariants.{Vertices, Edges}
+use Rattle.apply_options.specs.declared.apply_schedule.ApplySchedule.{ApplySchedule}
+use Rattle.apply_options.specs.declared.apply_schedule.Fused.TheVariants.{With, Into}
+use Rattle.schedule.specs.declared.error.ScheduleRule.{ScheduleRule}
+use Rattle.schedule.specs.declared.error.ScheduleRule.TheVariants as rule
+use Rattle.typed_tree.specs.declared.apply.StatementApply.{StatementApply}
+use Rattle.typed_tree.specs.declared.apply.StatementApply.TheVariants.{Vertices, Edges}
 use Rattle.schedule.specs.Calls.{after_call, and_then, apply_at, fuse_at, fuse_or, fusing_fault, fusing_of_two, given, grown, two_of, value_at, value_of_two, value_on, with_call, with_call_of, with_calls, with_fields, with_group}
 use Rattle.schedule.specs.Names.{label_place}
-use Rattle.schedule.specs.Schedule.{ScheduleTree, choice_of, with_choice, with_fused, with_one_group}
+use Rattle.apply_options.specs.ScheduleTree.{ScheduleTree, choice_of}
+use Rattle.schedule.specs.Schedule.{with_choice, with_fused, with_one_group}
 
 -- the three things that a call may do
 pub data Step (p : ProgramTree) (s new : ScheduleTree) : Type 0 where
-  GivesValue : (setting : Setting) (text : List ℕ) (label : ℕ) (c : Choice) → given setting text (choice_of label s) ≡ Ok c → with_choice label c s ≡ new → Step p s new
+  GivesValue : (setting : Setting) (text : List ℕ) (label : ℕ) (c : ApplySchedule) → given setting text (choice_of label s) ≡ Ok c → with_choice label c s ≡ new → Step p s new
   Fuses : (first second : ℕ) → fusing_fault p s first second ≡ None → with_fused second (Into first) (with_fused first (With second) s) ≡ new → Step p s new
   PutsGroup : (names : List (List ℕ)) (group : List ℕ) → grown p (concat s.groups) [] names ≡ Some group → with_one_group group s ≡ new → Step p s new
 
 pub ok_is : {A B : Type 0} (r : Result A B) (a b : A) → r ≡ Ok a → r ≡ Ok b → a ≡ b
 ok_is r a b is e = cc
 
-value_step : (p : ProgramTree) (setting : Setting) (text : List ℕ) (s new : ScheduleTree) (label : ℕ) (r : Result Choice Rule)
+value_step : (p : ProgramTree) (setting : Setting) (text : List ℕ) (s new : ScheduleTree) (label : ℕ) (r : Result ApplySchedule ScheduleRule)
     → given setting text (choice_of label s) ≡ r → and_then r (λ c. with_choice label c s) ≡ Ok new → Step p s new
 value_step p setting text s new label (Ok c) is e = GivesValue setting text label c is (ok_is _ _ _ refl e)
 value_step p setting text s new label (Err r) is e = cc
 
-value_on_step : (p : ProgramTree) (setting : Setting) (text : List ℕ) (s new : ScheduleTree) (label : ℕ) (apply : Option Apply)
+value_on_step : (p : ProgramTree) (setting : Setting) (text : List ℕ) (s new : ScheduleTree) (label : ℕ) (apply : Option StatementApply)
     → value_on setting text s label apply ≡ Ok new → Step p s new
 value_on_step p setting text s new label (Some (Edges ends function name)) e = value_step p setting text s new label _ refl e
 value_on_step p setting text s new label (Some (Vertices set function)) e = cc
@@ -45,7 +46,7 @@ two_step : (p : ProgramTree) (setting : Setting) (two : Option (List ℕ × List
 two_step p setting None s new e = cc
 two_step p setting (Some (label, text)) s new e = value_at_step p setting text s new (label_place p label) e
 
-fuse_step : (p : ProgramTree) (s new : ScheduleTree) (first second : ℕ) (fault : Option Rule)
+fuse_step : (p : ProgramTree) (s new : ScheduleTree) (first second : ℕ) (fault : Option ScheduleRule)
     → fusing_fault p s first second ≡ fault → fuse_or fault first second s ≡ Ok new → Step p s new
 fuse_step p s new first second None is e = Fuses first second is (ok_is _ _ _ refl e)
 fuse_step p s new first second (Some r) is e = cc
@@ -85,7 +86,7 @@ kept_by_calls p P keeps [] s end holds e = subst P (ok_is _ _ _ refl e) holds
 kept_by_calls p P keeps (call ∷ calls) s end holds e =
     go (with_call p call s) refl (λ new before. kept_by_calls p P keeps calls new end before) e
   where
-    go : (r : Result ScheduleTree Rule) → with_call p call s ≡ r → ((new : ScheduleTree) → P new → with_calls p calls new ≡ Ok end → P end)
+    go : (r : Result ScheduleTree ScheduleRule) → with_call p call s ≡ r → ((new : ScheduleTree) → P new → with_calls p calls new ≡ Ok end → P end)
         → after_call call.at r (λ new. with_calls p calls new) ≡ Ok end → P end
     go (Ok new) is others e = others new (keeps s new holds (call_step p call.setting call.arguments s new is)) e
     go (Err r) is others e = cc

@@ -2,7 +2,7 @@
 use Rattle.std.proofs.Common.{◌≡◌, refl, ◌∙◌, ℕ, zero, suc, true, false, Bool, ◌&&◌, List, [], ◌∷◌}
 use Rattle.typed_tree.specs.declared.expression.Operand.{Operand}
 use Rattle.typed_tree.specs.declared.expression.Connective.{Connective}
-use Rattle.typed_tree.specs.declared.expression.Condition.{Condition}
+use Rattle.typed_tree.specs.declared.expression.BoolExpression.{BoolExpression}
 use Rattle.typed_tree.specs.IntegerTree.{IntegerTree, Arithmetic, integer_tree, negated, operands_tree}
 use Rattle.typed_tree.specs.ConditionTree.{ConditionTree, Connect, condition_tree, turned, conditions_tree}
 use Rattle.schedule.specs.Avoiding.{integer_avoids, condition_avoids}
@@ -31,7 +31,7 @@ avoids-operands vectors left (o ∷ os) =
     and_assoc (integer_avoids vectors left) (integer_avoids vectors (integer_tree o.integer)) (operands_avoid vectors os)
     ∙ avoids-operands vectors (Arithmetic o.operator left (integer_tree o.integer)) os
 
-pub avoids-conditions : (vectors : List ℕ) (connective : Connective) (left : ConditionTree) (conditions : List Condition)
+pub avoids-conditions : (vectors : List ℕ) (connective : Connective) (left : ConditionTree) (conditions : List BoolExpression)
     → condition_avoids vectors left && conditions_avoid vectors conditions ≡ condition_avoids vectors (conditions_tree connective left conditions)
 avoids-conditions vectors connective left [] = and_true (condition_avoids vectors left)
 avoids-conditions vectors connective left (c ∷ cs) =

@@ -4,14 +4,15 @@ use Rattle.std.proofs.lemmas.Bool.{eqb-true, eq-eqb}
 use Rattle.std.specs.Map.{lookup}
 use Rattle.std.specs.Prelude.{Some, Result, Ok, Err, if◌then◌else◌}
 use Rattle.indexmap.specs.IndexMap.{insert_entry}
-use Rattle.syntax.specs.declared.schedule.Setting.{Setting}
-use Rattle.syntax.specs.declared.schedule.Setting.TheVariants as setting
-use Rattle.schedule.specs.declared.choice.Choice.{Choice}
-use Rattle.schedule.specs.declared.error.Rule.{Rule}
+use Rattle.apply_options.specs.declared.setting.Setting.{Setting}
+use Rattle.apply_options.specs.declared.setting.Setting.TheVariants as setting
+use Rattle.apply_options.specs.declared.apply_schedule.ApplySchedule.{ApplySchedule}
+use Rattle.schedule.specs.declared.error.ScheduleRule.{ScheduleRule}
 use Rattle.schedule.specs.Calls.{and_then, given}
-use Rattle.schedule.specs.Schedule.{ScheduleTree, choice_of, or_no_choice, with_choice}
+use Rattle.apply_options.specs.ScheduleTree.{ScheduleTree, choice_of, or_no_choice}
+use Rattle.schedule.specs.Schedule.{with_choice}
 
-put_here : (k : ℕ) (c : Choice) (es : List (ℕ × Choice)) → lookup (nat_eq k) (insert_entry nat_eq es k c) ≡ Some c
+put_here : (k : ℕ) (c : ApplySchedule) (es : List (ℕ × ApplySchedule)) → lookup (nat_eq k) (insert_entry nat_eq es k c) ≡ Some c
 put_here k c [] = rw (eq-eqb k k refl) refl
 put_here k c (e ∷ es) = go (nat_eq k e.0) refl (put_here k c es)
   where
@@ -20,7 +21,7 @@ put_here k c (e ∷ es) = go (nat_eq k e.0) refl (put_here k c es)
     go true t others = rw t refl
     go false t others = rw t others
 
-put_elsewhere : (q k : ℕ) (c : Choice) (es : List (ℕ × Choice)) → nat_eq q k ≡ false → lookup (nat_eq q) (insert_entry nat_eq es k c) ≡ lookup (nat_eq q) es
+put_elsewhere : (q k : ℕ) (c : ApplySchedule) (es : List (ℕ × ApplySchedule)) → nat_eq q k ≡ false → lookup (nat_eq q) (insert_entry nat_eq es k c) ≡ lookup (nat_eq q) es
 put_elsewhere q k c [] h = rw h refl
 put_elsewhere q k c (e ∷ es) h = go (nat_eq k e.0) refl (put_elsewhere q k c es h)
   where
@@ -31,28 +32,28 @@ put_elsewhere q k c (e ∷ es) h = go (nat_eq k e.0) refl (put_elsewhere q k c e
         rw away refl
     go false t others = ap (cond (nat_eq q e.0) (Some e.1)) others
 
-pub choice_here : (label : ℕ) (c : Choice) (s : ScheduleTree) → choice_of label (with_choice label c s) ≡ c
+pub choice_here : (label : ℕ) (c : ApplySchedule) (s : ScheduleTree) → choice_of label (with_choice label c s) ≡ c
 choice_here label c s = ap or_no_choice (put_here label c s.choices)
 
-pub choice_elsewhere : (q label : ℕ) (c : Choice) (s : ScheduleTree) → nat_eq q label ≡ false → choice_of q (with_choice label c s) ≡ choice_of q s
+pub choice_elsewhere : (q label : ℕ) (c : ApplySchedule) (s : ScheduleTree) → nat_eq q label ≡ false → choice_of q (with_choice label c s) ≡ choice_of q s
 choice_elsewhere q label c s h = ap or_no_choice (put_elsewhere q label c s.choices h)
 
-and_then_ok : {A B : Type 0} (r : Result A Rule) (f : A → B) (b : B) → and_then r f ≡ Ok b → (a : A) × (b ≡ f a)
+and_then_ok : {A B : Type 0} (r : Result A ScheduleRule) (f : A → B) (b : B) → and_then r f ≡ Ok b → (a : A) × (b ≡ f a)
 and_then_ok (Ok a) f b e = (a, cc)
 and_then_ok (Err r) f b e = cc
 
 -- a value leaves the fusing
-pub given_fused : (which : Setting) (text : List ℕ) (c d : Choice) → given which text c ≡ Ok d → d.fused ≡ c.fused
-given_fused setting.Direction text c d e = ap (λ (x : Choice). x.fused) (and_then_ok _ _ d e).1
-given_fused setting.Parallelization text c d e = ap (λ (x : Choice). x.fused) (and_then_ok _ _ d e).1
-given_fused setting.DenseVertexSet text c d e = ap (λ (x : Choice). x.fused) (and_then_ok _ _ d e).1
+pub given_fused : (which : Setting) (text : List ℕ) (c d : ApplySchedule) → given which text c ≡ Ok d → d.fused ≡ c.fused
+given_fused setting.Direction text c d e = ap (λ (x : ApplySchedule). x.fused) (and_then_ok _ _ d e).1
+given_fused setting.Parallelization text c d e = ap (λ (x : ApplySchedule). x.fused) (and_then_ok _ _ d e).1
+given_fused setting.DenseVertexSet text c d e = ap (λ (x : ApplySchedule). x.fused) (and_then_ok _ _ d e).1
 given_fused setting.FuseFunctions text c d e = cc
 given_fused setting.FuseFields text c d e = cc
 
-pub fused_after_value : (q label : ℕ) (c : Choice) (s : ScheduleTree) → c.fused ≡ (choice_of label s).fused
+pub fused_after_value : (q label : ℕ) (c : ApplySchedule) (s : ScheduleTree) → c.fused ≡ (choice_of label s).fused
     → (choice_of q (with_choice label c s)).fused ≡ (choice_of q s).fused
 fused_after_value q label c s h = go (nat_eq q label) refl
   where
     go : (b : Bool) → nat_eq q label ≡ b → (choice_of q (with_choice label c s)).fused ≡ (choice_of q s).fused
-    go true t = rw (eqb-true q label t) (ap (λ (x : Choice). x.fused) (choice_here label c s) ∙ h)
-    go false t = ap (λ (x : Choice). x.fused) (choice_elsewhere q label c s t)
+    go true t = rw (eqb-true q label t) (ap (λ (x : ApplySchedule). x.fused) (choice_here label c s) ∙ h)
+    go false t = ap (λ (x : ApplySchedule). x.fused) (choice_elsewhere q label c s t)

@@ -3,34 +3,35 @@ use Rattle.std.proofs.Common.{◌≡◌, refl, ap, subst, sym, ◌∙◌, ℕ, B
 use Rattle.std.proofs.lemmas.Bool.{eqb-true}
 use Rattle.std.specs.List.{concat}
 use Rattle.std.specs.Prelude.{Option, Some, None, Result, Ok, Err}
-use Rattle.syntax.specs.declared.schedule.Setting.{Setting}
-use Rattle.syntax.specs.declared.schedule.Setting.TheVariants as setting
+use Rattle.apply_options.specs.declared.setting.Setting.{Setting}
+use Rattle.apply_options.specs.declared.setting.Setting.TheVariants as setting
 use Rattle.typed_tree.specs.ProgramTree.{ProgramTree, ScheduleCallTree}
-use Rattle.schedule.specs.declared.choice.Choice.{Choice}
-use Rattle.schedule.specs.declared.choice.Fused.{Fused}
-use Rattle.schedule.specs.declared.choice.Fused.TheVariants.{With, Into}
-use Rattle.schedule.specs.declared.error.Rule.{Rule}
-use Rattle.schedule.specs.declared.error.Rule.TheVariants as rule
-use Rattle.schedule.specs.declared.site.Apply.{Apply}
-use Rattle.schedule.specs.declared.site.Apply.TheVariants.{Vertices, Edges}
+use Rattle.apply_options.specs.declared.apply_schedule.ApplySchedule.{ApplySchedule}
+use Rattle.apply_options.specs.declared.apply_schedule.Fused.{Fused}
+use Rattle.apply_options.specs.declared.apply_schedule.Fused.TheVariants.{With, Into}
+use Rattle.schedule.specs.declared.error.ScheduleRule.{ScheduleRule}
+use Rattle.schedule.specs.declared.error.ScheduleRule.TheVariants as rule
+use Rattle.typed_tree.specs.declared.apply.StatementApply.{StatementApply}
+use Rattle.typed_tree.specs.declared.apply.StatementApply.TheVariants.{Vertices, Edges}
 use Rattle.schedule.specs.Calls.{after_call, apply_at, fuse_at, fuse_or, fusing_fault, fusing_of_two, given, grown, schedule_of, two_of, value_at, value_of_two, value_on, with_call, with_call_of, with_calls, with_fields, with_group}
 use Rattle.schedule.specs.Laws.{AreOnceOnLabels, HasDefault, HasDefaults, IsConfig, IsGiven, IsGivenByTwo, IsGivenTo, IsOnLabel, NoneIsOnLabel}
 use Rattle.schedule.specs.Names.{label_place}
-use Rattle.schedule.specs.Schedule.{ScheduleTree, choice_of, empty_schedule, fused_as, with_choice, with_fused}
+use Rattle.apply_options.specs.ScheduleTree.{ScheduleTree, choice_of, fused_as}
+use Rattle.schedule.specs.Schedule.{empty_schedule, with_choice, with_fused}
 use Rattle.schedule.proofs.CallSteps.{call_step, ok_is}
 use Rattle.schedule.proofs.Choices.{choice_elsewhere, choice_here}
 use Rattle.schedule.proofs.Values.{and_then_from, given_is_new, made, step_keeps_value}
 
 -- a value of one kind leaves those of the others
-given_leaves : (k which : Setting) (text : List ℕ) (c d : Choice) → given k text c ≡ Ok d → (k ≡ which → ⊥) → HasDefault which c → HasDefault which d
+given_leaves : (k which : Setting) (text : List ℕ) (c d : ApplySchedule) → given k text c ≡ Ok d → (k ≡ which → ⊥) → HasDefault which c → HasDefault which d
 given_leaves setting.Direction setting.Direction text c d e other none = absurd (other refl)
-given_leaves setting.Direction setting.Parallelization text c d e other none = subst (λ (x : Choice). x.parallelization ≡ None) (and_then_from _ _ d e).2 none
-given_leaves setting.Direction setting.DenseVertexSet text c d e other none = subst (λ (x : Choice). x.dense_vertex_set ≡ None) (and_then_from _ _ d e).2 none
-given_leaves setting.Parallelization setting.Direction text c d e other none = subst (λ (x : Choice). x.direction ≡ None) (and_then_from _ _ d e).2 none
+given_leaves setting.Direction setting.Parallelization text c d e other none = subst (λ (x : ApplySchedule). x.parallelization ≡ None) (and_then_from _ _ d e).2 none
+given_leaves setting.Direction setting.DenseVertexSet text c d e other none = subst (λ (x : ApplySchedule). x.dense_vertex_set ≡ None) (and_then_from _ _ d e).2 none
+given_leaves setting.Parallelization setting.Direction text c d e other none = subst (λ (x : ApplySchedule). x.direction ≡ None) (and_then_from _ _ d e).2 none
 given_leaves setting.Parallelization setting.Parallelization text c d e other none = absurd (other refl)
-given_leaves setting.Parallelization setting.DenseVertexSet text c d e other none = subst (λ (x : Choice). x.dense_vertex_set ≡ None) (and_then_from _ _ d e).2 none
-given_leaves setting.DenseVertexSet setting.Direction text c d e other none = subst (λ (x : Choice). x.direction ≡ None) (and_then_from _ _ d e).2 none
-given_leaves setting.DenseVertexSet setting.Parallelization text c d e other none = subst (λ (x : Choice). x.parallelization ≡ None) (and_then_from _ _ d e).2 none
+given_leaves setting.Parallelization setting.DenseVertexSet text c d e other none = subst (λ (x : ApplySchedule). x.dense_vertex_set ≡ None) (and_then_from _ _ d e).2 none
+given_leaves setting.DenseVertexSet setting.Direction text c d e other none = subst (λ (x : ApplySchedule). x.direction ≡ None) (and_then_from _ _ d e).2 none
+given_leaves setting.DenseVertexSet setting.Parallelization text c d e other none = subst (λ (x : ApplySchedule). x.parallelization ≡ None) (and_then_from _ _ d e).2 none
 given_leaves setting.DenseVertexSet setting.DenseVertexSet text c d e other none = absurd (other refl)
 given_leaves setting.FuseFunctions which text c d e other none = cc
 given_leaves setting.FuseFields which text c d e other none = cc
@@ -38,7 +39,7 @@ given_leaves k setting.FuseFunctions text c d e other none = tt
 given_leaves k setting.FuseFields text c d e other none = tt
 
 -- where a label had none of a kind it has none after a call that is not of that kind on it
-put_leaves : (which : Setting) (q label : ℕ) (c : Choice) (s : ScheduleTree) → (q ≡ label → HasDefault which c) → HasDefault which (choice_of q s)
+put_leaves : (which : Setting) (q label : ℕ) (c : ApplySchedule) (s : ScheduleTree) → (q ≡ label → HasDefault which c) → HasDefault which (choice_of q s)
     → HasDefault which (choice_of q (with_choice label c s))
 put_leaves which q label c s here none = go (nat_eq q label) refl
   where
@@ -53,7 +54,7 @@ record IsValueOf (p : ProgramTree) (which : Setting) (two : Option (List ℕ × 
   name : List ℕ
   text : List ℕ
   label : ℕ
-  choice : Choice
+  choice : ApplySchedule
   arguments : two ≡ Some (name, text)
   named : label_place p name ≡ Some label
   gives : given which text (choice_of label s) ≡ Ok choice
@@ -63,7 +64,7 @@ value_from : (p : ProgramTree) (which : Setting) (two : Option (List ℕ × List
 value_from p which None s new e = cc
 value_from p which (Some (name, text)) s new e = at (label_place p name) refl e
   where
-    on : (label : ℕ) (apply : Option Apply) → label_place p name ≡ Some label → value_on which text s label apply ≡ Ok new → IsValueOf p which (Some (name, text)) s new
+    on : (label : ℕ) (apply : Option StatementApply) → label_place p name ≡ Some label → value_on which text s label apply ≡ Ok new → IsValueOf p which (Some (name, text)) s new
     on label (Some (Edges ends function r)) named e =
         let from = and_then_from _ _ new e in
         record { name = name; text = text; label = label; choice = from.0; arguments = refl; named = named; gives = from.1; after = from.2 }
@@ -86,7 +87,7 @@ value_leaves p k which two q s new other none e =
     (λ kind. other is.name is.text kind is.arguments (is.named ∙ ap Some (sym same)))
     (subst (λ l. HasDefault which (choice_of l s)) same none)) none)
 
-fused_leaves : (which : Setting) (fused : Fused) (c : Choice) → HasDefault which c → HasDefault which (fused_as fused c)
+fused_leaves : (which : Setting) (fused : Fused) (c : ApplySchedule) → HasDefault which c → HasDefault which (fused_as fused c)
 fused_leaves setting.Direction fused c none = none
 fused_leaves setting.Parallelization fused c none = none
 fused_leaves setting.DenseVertexSet fused c none = none
@@ -103,7 +104,7 @@ fusing_leaves : (p : ProgramTree) (which : Setting) (two : Option (List ℕ × L
 fusing_leaves p which None q s new none e = cc
 fusing_leaves p which (Some (one, other)) q s new none e = at (label_place p one) (label_place p other) e
   where
-    or : (first second : ℕ) (fault : Option Rule) → fuse_or fault first second s ≡ Ok new → HasDefault which (choice_of q new)
+    or : (first second : ℕ) (fault : Option ScheduleRule) → fuse_or fault first second s ≡ Ok new → HasDefault which (choice_of q new)
     or first second (Some r) e = cc
     or first second None e =
         subst (λ (t : ScheduleTree). HasDefault which (choice_of q t)) (ok_is _ _ _ refl e)
@@ -141,7 +142,7 @@ calls_leave p which q [] s end others none e = subst (λ (t : ScheduleTree). Has
 calls_leave p which q (call ∷ calls) s end (other, others) none e =
     go (with_call p call s) refl (λ new before. calls_leave p which q calls new end others before) e
   where
-    go : (r : Result ScheduleTree Rule) → with_call p call s ≡ r
+    go : (r : Result ScheduleTree ScheduleRule) → with_call p call s ≡ r
         → ((new : ScheduleTree) → HasDefault which (choice_of q new) → with_calls p calls new ≡ Ok end → HasDefault which (choice_of q end))
         → after_call call.at r (λ new. with_calls p calls new) ≡ Ok end → HasDefault which (choice_of q end)
     go (Ok new) is rest e =
@@ -159,7 +160,7 @@ nothing_given setting.FuseFields q = tt
 pub accepted_has_defaults : (p : ProgramTree) (s : ScheduleTree) → schedule_of p ≡ Ok s → HasDefaults p s
 accepted_has_defaults p s e which label others = calls_leave p which label p.schedule empty_schedule s others (nothing_given which label) e
 
-given_twice : (which : Setting) (text other : List ℕ) (c d : Choice) → IsConfig which → IsGiven which text c → given which other c ≡ Ok d → ⊥
+given_twice : (which : Setting) (text other : List ℕ) (c d : ApplySchedule) → IsConfig which → IsGiven which text c → given which other c ≡ Ok d → ⊥
 given_twice setting.Direction text other c d config is e =
     let new = given_is_new _ _ _ (and_then_from _ _ d e).1 in
     let bad : None ≡ Some is.0 = sym new.3 ∙ is.2 in
@@ -211,7 +212,7 @@ none_again p which text label [] s end config has e = tt
 none_again p which text label (call ∷ calls) s end config has e =
     go (with_call p call s) refl (λ new before. none_again p which text label calls new end config before) e
   where
-    go : (r : Result ScheduleTree Rule) → with_call p call s ≡ r
+    go : (r : Result ScheduleTree ScheduleRule) → with_call p call s ≡ r
         → ((new : ScheduleTree) → IsGiven which text (choice_of label new) → with_calls p calls new ≡ Ok end → NoneIsOnLabel p which label calls)
         → after_call call.at r (λ new. with_calls p calls new) ≡ Ok end → NoneIsOnLabel p which label (call ∷ calls)
     go (Ok new) is rest e = (
@@ -230,7 +231,7 @@ once : (p : ProgramTree) (calls : List ScheduleCallTree) (s end : ScheduleTree) 
 once p [] s end e = tt
 once p (call ∷ calls) s end e = go (with_call p call s) refl (λ new after. once p calls new end after) e
   where
-    go : (r : Result ScheduleTree Rule) → with_call p call s ≡ r → ((new : ScheduleTree) → with_calls p calls new ≡ Ok end → AreOnceOnLabels p calls)
+    go : (r : Result ScheduleTree ScheduleRule) → with_call p call s ≡ r → ((new : ScheduleTree) → with_calls p calls new ≡ Ok end → AreOnceOnLabels p calls)
         → after_call call.at r (λ new. with_calls p calls new) ≡ Ok end → AreOnceOnLabels p (call ∷ calls)
     go (Ok new) is rest e = (
       λ which label config on. none_again p which on.text label calls new end config (given_to p which label call new on (made p call.setting call.arguments s new is)) e,

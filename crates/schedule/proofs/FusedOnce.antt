@@ -3,12 +3,13 @@ use Rattle.std.proofs.Common.{◌≡◌, refl, ap, subst, sym, ◌∙◌, ℕ, B
 use Rattle.std.proofs.lemmas.Bool.{eqb-true}
 use Rattle.std.specs.Prelude.{Option, Some, None, is_some, Ok}
 use Rattle.typed_tree.specs.ProgramTree.{ProgramTree}
-use Rattle.schedule.specs.declared.choice.Fused.{Fused}
-use Rattle.schedule.specs.declared.choice.Fused.TheVariants.{With, Into}
-use Rattle.schedule.specs.declared.site.Apply.{Apply}
+use Rattle.apply_options.specs.declared.apply_schedule.Fused.{Fused}
+use Rattle.apply_options.specs.declared.apply_schedule.Fused.TheVariants.{With, Into}
+use Rattle.typed_tree.specs.declared.apply.StatementApply.{StatementApply}
 use Rattle.schedule.specs.Calls.{apply_at, fusing_fault_of, schedule_of}
 use Rattle.schedule.specs.Laws.{FusesInPairs}
-use Rattle.schedule.specs.Schedule.{ScheduleTree, choice_of, empty_schedule, is_fused, with_choice, with_fused}
+use Rattle.apply_options.specs.ScheduleTree.{ScheduleTree, choice_of}
+use Rattle.schedule.specs.Schedule.{empty_schedule, is_fused, with_choice, with_fused}
 use Rattle.schedule.proofs.CallSteps.{Step, GivesValue, Fuses, PutsGroup, kept_by_calls}
 use Rattle.schedule.proofs.Choices.{fused_after_value, given_fused}
 use Rattle.schedule.proofs.FusedPairs.{fused_elsewhere, fused_here, no_fault}
@@ -27,7 +28,7 @@ pub record AreUnfused (s : ScheduleTree) (a b : ℕ) : Type 0 where
   pub first : (choice_of a s).fused ≡ None
   pub second : (choice_of b s).fused ≡ None
 
-unfused_from : (p : ProgramTree) (s : ScheduleTree) (a b : ℕ) (one other : Option Apply) → fusing_fault_of p s a b one other ≡ None → AreUnfused s a b
+unfused_from : (p : ProgramTree) (s : ScheduleTree) (a b : ℕ) (one other : Option StatementApply) → fusing_fault_of p s a b one other ≡ None → AreUnfused s a b
 unfused_from p s a b (Some x) (Some y) e =
     let apart = no_or (nat_eq a b) (is_fused a s || is_fused b s) (no_fault _ _ _ e).0 in
     let unfused = no_or (is_fused a s) (is_fused b s) apart.1 in

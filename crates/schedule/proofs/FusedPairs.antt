@@ -3,21 +3,23 @@ use Rattle.std.proofs.Common.{◌≡◌, refl, ap, subst, sym, ◌∙◌, ℕ, B
 use Rattle.std.proofs.lemmas.Bool.{eqb-true}
 use Rattle.std.specs.Prelude.{Option, Some, None, Ok, if◌then◌else◌}
 use Rattle.typed_tree.specs.ProgramTree.{ProgramTree}
-use Rattle.schedule.specs.declared.choice.Choice.{Choice}
-use Rattle.schedule.specs.declared.choice.Fused.{Fused}
-use Rattle.schedule.specs.declared.choice.Fused.TheVariants.{With, Into}
-use Rattle.schedule.specs.declared.error.Rule.{Rule}
-use Rattle.schedule.specs.declared.site.Apply.{Apply}
-use Rattle.schedule.specs.declared.site.Apply.TheVariants.{Vertices, Edges}
+use Rattle.apply_options.specs.declared.apply_schedule.ApplySchedule.{ApplySchedule}
+use Rattle.apply_options.specs.declared.apply_schedule.Fused.{Fused}
+use Rattle.apply_options.specs.declared.apply_schedule.Fused.TheVariants.{With, Into}
+use Rattle.schedule.specs.declared.error.ScheduleRule.{ScheduleRule}
+use Rattle.typed_tree.specs.declared.apply.StatementApply.{StatementApply}
+use Rattle.typed_tree.specs.declared.apply.StatementApply.TheVariants.{Vertices, Edges}
 use Rattle.schedule.specs.Calls.{apply_at, fusing_fault_of, is_followed_by, schedule_of}
 use Rattle.schedule.specs.Laws.{FusesWell, IsFusedWell, IsIndependent}
-use Rattle.schedule.specs.Rules.{are_independent, have_same_sets, is_end}
-use Rattle.schedule.specs.Schedule.{ScheduleTree, choice_of, empty_schedule, fused_as, with_fused}
+use Rattle.typed_tree.specs.Independence.{are_independent, have_same_sets, is_end}
+use Rattle.apply_options.specs.ScheduleTree.{ScheduleTree, choice_of, fused_as}
+use Rattle.schedule.specs.Schedule.{empty_schedule, with_fused}
 use Rattle.schedule.proofs.CallSteps.{Step, GivesValue, Fuses, PutsGroup, kept_by_calls}
-use Rattle.schedule.proofs.Uses.{nothing_in_common, of_and}
+use Rattle.std.proofs.lemmas.Bool.{and_parts}
+use Rattle.schedule.proofs.Uses.{nothing_in_common}
 use Rattle.schedule.proofs.Choices.{choice_elsewhere, choice_here, fused_after_value, given_fused}
 
-pub no_fault : (b : Bool) (r : Rule) (rest : Option Rule) → (if b then Some r else rest) ≡ None → (b ≡ false) × (rest ≡ None)
+pub no_fault : (b : Bool) (r : ScheduleRule) (rest : Option ScheduleRule) → (if b then Some r else rest) ≡ None → (b ≡ false) × (rest ≡ None)
 no_fault true r rest e = cc
 no_fault false r rest e = (refl, e)
 
@@ -30,11 +32,11 @@ from_not : (b : Bool) → not b ≡ false → b ≡ true
 from_not true h = refl
 from_not false h = cc
 
-is_independent : (p : ProgramTree) (one other : Apply) → are_independent p one other ≡ true → IsIndependent p one other
+is_independent : (p : ProgramTree) (one other : StatementApply) → are_independent p one other ≡ true → IsIndependent p one other
 is_independent p (Edges a f r) (Edges b g s) h =
-    let ends = of_and _ _ h in
-    let function = of_and _ _ ends.1 in
-    let sources = of_and _ _ function.1 in
+    let ends = and_parts _ _ h in
+    let function = and_parts _ _ ends.1 in
+    let sources = and_parts _ _ function.1 in
     let changes = not_or (is_end p.names r b.from) (is_end p.names r b.to) ends.0 in
     record {
       function = nothing_in_common _ _ function.0;
@@ -46,7 +48,7 @@ is_independent p (Edges a f r) (Edges b g s) h =
 is_independent p (Edges a f r) (Vertices set g) h = tt
 is_independent p (Vertices set f) other h = tt
 
-well_from : (p : ProgramTree) (s : ScheduleTree) (first second : ℕ) (one other : Option Apply) → apply_at p first ≡ one → apply_at p second ≡ other
+well_from : (p : ProgramTree) (s : ScheduleTree) (first second : ℕ) (one other : Option StatementApply) → apply_at p first ≡ one → apply_at p second ≡ other
     → fusing_fault_of p s first second one other ≡ None → IsFusedWell p first second
 well_from p s first second (Some a) (Some b) is_one is_other e =
     let once = no_fault _ _ _ e in
@@ -66,10 +68,10 @@ well_from p s first second (Some a) None is_one is_other e = cc
 well_from p s first second None other is_one is_other e = cc
 
 pub fused_here : (label : ℕ) (fused : Fused) (s : ScheduleTree) → (choice_of label (with_fused label fused s)).fused ≡ Some fused
-fused_here label fused s = ap (λ (x : Choice). x.fused) (choice_here label (fused_as fused (choice_of label s)) s)
+fused_here label fused s = ap (λ (x : ApplySchedule). x.fused) (choice_here label (fused_as fused (choice_of label s)) s)
 
 pub fused_elsewhere : (q label : ℕ) (fused : Fused) (s : ScheduleTree) → nat_eq q label ≡ false → (choice_of q (with_fused label fused s)).fused ≡ (choice_of q s).fused
-fused_elsewhere q label fused s h = ap (λ (x : Choice). x.fused) (choice_elsewhere q label (fused_as fused (choice_of label s)) s h)
+fused_elsewhere q label fused s h = ap (λ (x : ApplySchedule). x.fused) (choice_elsewhere q label (fused_as fused (choice_of label s)) s h)
 
 -- after a and b are fused, a label that is fused with another is a, or was before
 fuses_step : (p : ProgramTree) (s : ScheduleTree) (a b : ℕ) → FusesWell p s → IsFusedWell p a b → FusesWell p (with_fused b (Into a) (with_fused a (With b) s))

@@ -9,7 +9,8 @@ use Rattle.typed_tree.specs.ProgramTree.{ProgramTree}
 use Rattle.schedule.specs.Calls.{grown, grown_by, schedule_of}
 use Rattle.schedule.specs.Laws.{GroupsAreDistinct}
 use Rattle.schedule.specs.Names.{vector_place}
-use Rattle.schedule.specs.Schedule.{ScheduleTree, empty_schedule}
+use Rattle.apply_options.specs.ScheduleTree.{ScheduleTree}
+use Rattle.schedule.specs.Schedule.{empty_schedule}
 use Rattle.schedule.proofs.CallSteps.{Step, GivesValue, Fuses, PutsGroup, kept_by_calls}
 use Rattle.schedule.proofs.Places.{concat_last}
 

@@ -1,3 +1,4 @@
+pub mod BrokenRuleLaws
 pub mod CallSteps
 pub mod Chains
 pub mod Choices

@@ -10,7 +10,7 @@ use Rattle.std.specs.Option.{is_none}
 use Rattle.std.specs.Prelude.{Option, Some, None, if◌then◌else◌}
 use Rattle.std.specs.Str.{bytes_eq}
 use Rattle.expression_types.specs.Names.{found}
-use Rattle.typed_tree.specs.declared.statement.Statement.{Statement}
+use Rattle.typed_tree.specs.declared.statement.MainStatement.{MainStatement}
 use Rattle.typed_tree.specs.BlockTree.{block_tree}
 use Rattle.schedule.specs.declared.site.Site.{Site}
 use Rattle.schedule.specs.Putting.{first_of, PutsPlace, PutsSite}
@@ -68,11 +68,11 @@ site_there es label site h other rest = go (nat_eq other label) refl
     go true t = either_site (lookup (nat_eq other) es) rest (Some site) (rw (eqb-true other label t) h)
     go false t = refl
 
-abbrev pub label_in : Option Statement → Option ℕ
+abbrev pub label_in : Option MainStatement → Option ℕ
 label_in None = None
 label_in (Some s) = s.label
 
-pub label_of-slice_get : (statements : List Statement) (place : ℕ) → label_in (slice_get statements place) ≡ label_of (block_tree (drop place statements))
+pub label_of-slice_get : (statements : List MainStatement) (place : ℕ) → label_in (slice_get statements place) ≡ label_of (block_tree (drop place statements))
 label_of-slice_get [] zero = refl
 label_of-slice_get [] (suc place) = refl
 label_of-slice_get (s ∷ statements) zero = refl

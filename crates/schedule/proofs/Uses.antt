@@ -3,15 +3,15 @@ use Rattle.std.proofs.Common.{◌≡◌, refl, sym, ◌∙◌, ap, subst, ℕ, z
 use Rattle.std.specs.Prelude.{Option, Some, None, slice_get}
 use Rattle.std.specs.List.{Contains, list_all, list_any}
 use Rattle.std.proofs.lemmas.List.Folds.{list_all-append, list_any_at}
-use Rattle.std.proofs.lemmas.Bool.{eq-eqb}
-use Rattle.typed_tree.specs.declared.statement.EndFilter.{EndFilter}
-use Rattle.typed_tree.specs.declared.statement.EndFilter.TheVariants as end
+use Rattle.std.proofs.lemmas.Bool.{and_parts, eq-eqb}
+use Rattle.typed_tree.specs.declared.statement.VertexFilter.{VertexFilter}
+use Rattle.typed_tree.specs.declared.statement.VertexFilter.TheVariants as end
 use Rattle.typed_tree.specs.IntegerTree.{IntegerTree}
 use Rattle.typed_tree.specs.IntegerTree as integer
 use Rattle.typed_tree.specs.ConditionTree.{ConditionTree}
 use Rattle.typed_tree.specs.ConditionTree as condition
 use Rattle.typed_tree.specs.StepTree.{FunctionTree, StepTree, StepsTree, DeclareInteger, DeclareCondition, SetInteger, SetCondition, ReduceInteger, SetEntry, ReduceEntry, If, IfElse, NoStep, StepThen}
-use Rattle.schedule.specs.Access.{are_apart, condition_reads, end_reads, function_uses, integer_reads, is_none_of, step_uses, steps_use, steps_use_where}
+use Rattle.typed_tree.specs.Access.{are_apart, condition_reads, end_reads, function_uses, integer_reads, is_none_of, step_uses, steps_use, steps_use_where}
 use Rattle.schedule.specs.Avoiding.{condition_avoids, end_avoids, function_avoids, integer_avoids, step_avoids, steps_avoid, steps_avoid_where}
 
 and_true : (b : Bool) → b ≡ b && true
@@ -74,20 +74,16 @@ where_is_apart vectors (Some f) = steps_are_apart vectors f.steps
 pub function_is_apart : (vectors : List ℕ) (functions : List FunctionTree) (place : ℕ) → function_avoids vectors functions place ≡ are_apart (function_uses functions place) vectors
 function_is_apart vectors functions place = where_is_apart vectors (slice_get functions place)
 
-pub end_is_apart : (vectors : List ℕ) (filters : List FunctionTree) (end : Option EndFilter) → end_avoids vectors filters end ≡ are_apart (end_reads filters end) vectors
+pub end_is_apart : (vectors : List ℕ) (filters : List FunctionTree) (end : Option VertexFilter) → end_avoids vectors filters end ≡ are_apart (end_reads filters end) vectors
 end_is_apart vectors filters None = refl
 end_is_apart vectors filters (Some (end.Members slot)) = refl
 end_is_apart vectors filters (Some (end.Function place)) = function_is_apart vectors filters place
 
-pub of_and : (a b : Bool) → a && b ≡ true → (a ≡ true) × (b ≡ true)
-of_and true b h = (refl, h)
-of_and false b h = cc
-
 -- what holds of all holds of an element
 of_all : (p : ℕ → Bool) (xs : List ℕ) (v : ℕ) → list_all p xs ≡ true → Contains xs v → p v ≡ true
 of_all p [] v all (k, within, at) = absurd (omega (arith, within))
-of_all p (x ∷ xs) v all (zero, within, at) = subst (λ y. p y ≡ true) at (of_and (p x) (list_all p xs) all).0
-of_all p (x ∷ xs) v all (suc k, within, at) = of_all p xs v (of_and (p x) (list_all p xs) all).1 (k, omega (arith, within), at)
+of_all p (x ∷ xs) v all (zero, within, at) = subst (λ y. p y ≡ true) at (and_parts (p x) (list_all p xs) all).0
+of_all p (x ∷ xs) v all (suc k, within, at) = of_all p xs v (and_parts (p x) (list_all p xs) all).1 (k, omega (arith, within), at)
 
 -- lists that are apart have no element in common
 pub nothing_in_common : (xs ys : List ℕ) → are_apart xs ys ≡ true → (v : ℕ) → Contains xs v → Contains ys v → ⊥

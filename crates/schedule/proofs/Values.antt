@@ -2,23 +2,24 @@
 use Rattle.std.proofs.Common.{◌≡◌, refl, subst, sym, ◌∙◌, ℕ, Bool, true, false, nat_eq, List, [], ◌∷◌}
 use Rattle.std.proofs.lemmas.Bool.{eqb-true}
 use Rattle.std.specs.Prelude.{Option, Some, None, Result, Ok, Err}
-use Rattle.syntax.specs.declared.schedule.Setting.{Setting}
-use Rattle.syntax.specs.declared.schedule.Setting.TheVariants as setting
+use Rattle.apply_options.specs.declared.setting.Setting.{Setting}
+use Rattle.apply_options.specs.declared.setting.Setting.TheVariants as setting
 use Rattle.typed_tree.specs.ProgramTree.{ProgramTree, ScheduleCallTree}
-use Rattle.schedule.specs.declared.choice.Choice.{Choice}
-use Rattle.schedule.specs.declared.choice.Fused.TheVariants.{With}
-use Rattle.schedule.specs.declared.error.Rule.{Rule}
-use Rattle.schedule.specs.declared.site.Apply.{Apply}
-use Rattle.schedule.specs.declared.site.Apply.TheVariants.{Vertices, Edges}
+use Rattle.apply_options.specs.declared.apply_schedule.ApplySchedule.{ApplySchedule}
+use Rattle.apply_options.specs.declared.apply_schedule.Fused.TheVariants.{With}
+use Rattle.schedule.specs.declared.error.ScheduleRule.{ScheduleRule}
+use Rattle.typed_tree.specs.declared.apply.StatementApply.{StatementApply}
+use Rattle.typed_tree.specs.declared.apply.StatementApply.TheVariants.{Vertices, Edges}
 use Rattle.schedule.specs.Calls.{after_call, and_then, apply_at, first_given, given, schedule_of, two_of, value_at, value_of_two, value_on, with_call, with_call_of, with_calls}
 use Rattle.schedule.specs.Laws.{IsGiven, IsGivenByTwo, IsGivenTo, HasValues}
 use Rattle.schedule.specs.Names.{label_place}
-use Rattle.schedule.specs.Schedule.{ScheduleTree, choice_of, empty_schedule, fused_as, with_choice, with_fused}
+use Rattle.apply_options.specs.ScheduleTree.{ScheduleTree, choice_of, fused_as}
+use Rattle.schedule.specs.Schedule.{empty_schedule, with_choice, with_fused}
 use Rattle.schedule.proofs.CallSteps.{Step, GivesValue, Fuses, PutsGroup, kept_by_calls, ok_is}
 use Rattle.schedule.proofs.Choices.{choice_elsewhere, choice_here}
 
 -- what `and_then` gives comes from what was there
-pub and_then_from : {A B : Type 0} (r : Result A Rule) (f : A → B) (b : B) → and_then r f ≡ Ok b → (a : A) × (r ≡ Ok a) × (f a ≡ b)
+pub and_then_from : {A B : Type 0} (r : Result A ScheduleRule) (f : A → B) (b : B) → and_then r f ≡ Ok b → (a : A) × (r ≡ Ok a) × (f a ≡ b)
 and_then_from (Ok a) f b e = (a, refl, ok_is _ _ _ refl e)
 and_then_from (Err r) f b e = cc
 
@@ -34,12 +35,12 @@ given_stays before value after v e is =
     cc
 
 -- what one choice has, the other has too
-record Extends (c d : Choice) : Type 0 where
+record Extends (c d : ApplySchedule) : Type 0 where
   direction : (v : _) → c.direction ≡ Some v → d.direction ≡ Some v
   parallelization : (v : _) → c.parallelization ≡ Some v → d.parallelization ≡ Some v
   dense_vertex_set : (v : _) → c.dense_vertex_set ≡ Some v → d.dense_vertex_set ≡ Some v
 
-given_extends : (which : Setting) (text : List ℕ) (c d : Choice) → given which text c ≡ Ok d → Extends c d
+given_extends : (which : Setting) (text : List ℕ) (c d : ApplySchedule) → given which text c ≡ Ok d → Extends c d
 given_extends setting.Direction text c d e =
     let from = and_then_from _ _ d e in
     subst (Extends c) from.2 (record { direction = λ v is. given_stays _ _ _ v from.1 is; parallelization = λ v is. is; dense_vertex_set = λ v is. is })
@@ -52,10 +53,10 @@ given_extends setting.DenseVertexSet text c d e =
 given_extends setting.FuseFunctions text c d e = cc
 given_extends setting.FuseFields text c d e = cc
 
-same_extends : (c : Choice) → Extends c c
+same_extends : (c : ApplySchedule) → Extends c c
 same_extends c = record { direction = λ v is. is; parallelization = λ v is. is; dense_vertex_set = λ v is. is }
 
-put_extends : (q label : ℕ) (c : Choice) (s : ScheduleTree) → Extends (choice_of label s) c → Extends (choice_of q s) (choice_of q (with_choice label c s))
+put_extends : (q label : ℕ) (c : ApplySchedule) (s : ScheduleTree) → Extends (choice_of label s) c → Extends (choice_of q s) (choice_of q (with_choice label c s))
 put_extends q label c s more = go (nat_eq q label) refl
   where
     go : (same : Bool) → nat_eq q label ≡ same → Extends (choice_of q s) (choice_of q (with_choice label c s))
@@ -64,7 +65,7 @@ put_extends q label c s more = go (nat_eq q label) refl
         (subst (Extends (choice_of label s)) (sym (choice_here label c s)) more)
     go false t = subst (Extends (choice_of q s)) (sym (choice_elsewhere q label c s t)) (same_extends (choice_of q s))
 
-extends_given : (which : Setting) (text : List ℕ) (c d : Choice) → Extends c d → IsGiven which text c → IsGiven which text d
+extends_given : (which : Setting) (text : List ℕ) (c d : ApplySchedule) → Extends c d → IsGiven which text c → IsGiven which text d
 extends_given setting.Direction text c d more is = (is.0, is.1, more.direction is.0 is.2)
 extends_given setting.Parallelization text c d more is = (is.0, is.1, more.parallelization is.0 is.2)
 extends_given setting.DenseVertexSet text c d more is = (is.0, is.1, more.dense_vertex_set is.0 is.2)
@@ -85,7 +86,7 @@ step_keeps_value p which text q s new is (Fuses a b none after) =
     (extends_given which text _ _ (fused_extends q b _ (with_fused a (With b) s)) (extends_given which text _ _ (fused_extends q a _ s) is))
 step_keeps_value p which text q s new is (PutsGroup names group grown after) = subst (λ (t : ScheduleTree). IsGiven which text (choice_of q t)) after is
 
-given_has : (which : Setting) (text : List ℕ) (c d : Choice) → given which text c ≡ Ok d → IsGiven which text d
+given_has : (which : Setting) (text : List ℕ) (c d : ApplySchedule) → given which text c ≡ Ok d → IsGiven which text d
 given_has setting.Direction text c d e =
     let from = and_then_from _ _ d e in
     let new = given_is_new _ _ _ from.1 in
@@ -101,7 +102,7 @@ given_has setting.DenseVertexSet text c d e =
 given_has setting.FuseFunctions text c d e = cc
 given_has setting.FuseFields text c d e = cc
 
-on_has : (which : Setting) (text : List ℕ) (s new : ScheduleTree) (label : ℕ) (apply : Option Apply) → value_on which text s label apply ≡ Ok new → IsGiven which text (choice_of label new)
+on_has : (which : Setting) (text : List ℕ) (s new : ScheduleTree) (label : ℕ) (apply : Option StatementApply) → value_on which text s label apply ≡ Ok new → IsGiven which text (choice_of label new)
 on_has which text s new label (Some (Edges ends function name)) e =
     let from = and_then_from _ _ new e in
     subst (λ (t : ScheduleTree). IsGiven which text (choice_of label t)) from.2
@@ -155,7 +156,7 @@ calls_have : (p : ProgramTree) (calls : List ScheduleCallTree) (s end : Schedule
 calls_have p [] s end e = tt
 calls_have p (call ∷ calls) s end e = go (with_call p call s) refl (λ new after. calls_have p calls new end after) e
   where
-    go : (r : Result ScheduleTree Rule) → with_call p call s ≡ r → ((new : ScheduleTree) → with_calls p calls new ≡ Ok end → HasValues p end calls)
+    go : (r : Result ScheduleTree ScheduleRule) → with_call p call s ≡ r → ((new : ScheduleTree) → with_calls p calls new ≡ Ok end → HasValues p end calls)
         → after_call call.at r (λ new. with_calls p calls new) ≡ Ok end → HasValues p end (call ∷ calls)
     go (Ok new) is others e =
         (call_has p call.setting (two_of call.arguments) new end (kept_to_end p calls new end e call.setting) (made p call.setting call.arguments s new is), others new e)

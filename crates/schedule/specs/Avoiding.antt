@@ -1,13 +1,13 @@
 -- For proofs only: that an expression or a statement avoids vectors, looked at as the code does.
 use Rattle.std.specs.Prelude.{ℕ, Bool, true, ◌&&◌, List, Option, Some, None, slice_get}
-use Rattle.typed_tree.specs.declared.statement.EndFilter.{EndFilter}
-use Rattle.typed_tree.specs.declared.statement.EndFilter.TheVariants as end
+use Rattle.typed_tree.specs.declared.statement.VertexFilter.{VertexFilter}
+use Rattle.typed_tree.specs.declared.statement.VertexFilter.TheVariants as end
 use Rattle.typed_tree.specs.IntegerTree.{IntegerTree}
 use Rattle.typed_tree.specs.IntegerTree as integer
 use Rattle.typed_tree.specs.ConditionTree.{ConditionTree}
 use Rattle.typed_tree.specs.ConditionTree as condition
 use Rattle.typed_tree.specs.StepTree.{FunctionTree, StepTree, StepsTree, DeclareInteger, DeclareCondition, SetInteger, SetCondition, ReduceInteger, SetEntry, ReduceEntry, If, IfElse, NoStep, StepThen}
-use Rattle.schedule.specs.Access.{is_none_of}
+use Rattle.typed_tree.specs.Access.{is_none_of}
 
 -- the expression reads no entry of these vectors
 abbrev pub integer_avoids : List ℕ → IntegerTree → Bool
@@ -55,7 +55,7 @@ abbrev pub function_avoids : List ℕ → List FunctionTree → ℕ → Bool
 function_avoids vectors functions place = steps_avoid_where vectors (slice_get functions place)
 
 -- the filter of an end reads no entry of these vectors
-abbrev pub end_avoids : List ℕ → List FunctionTree → Option EndFilter → Bool
+abbrev pub end_avoids : List ℕ → List FunctionTree → Option VertexFilter → Bool
 end_avoids vectors filters None = true
 end_avoids vectors filters (Some (end.Members slot)) = true
 end_avoids vectors filters (Some (end.Function place)) = function_avoids vectors filters place

@@ -1,42 +1,42 @@
--- What holds of each accepted schedule.
+-- Laws of accepted schedules: what holds of each.
 use Rattle.std.specs.Prelude.{◌≡◌, ℕ, true, false, nat_eq, Some, List, [], ◌∷◌, Option, None}
 use Rattle.std.specs.List.{concat, Contains, IsDistinct}
-use Rattle.syntax.specs.declared.schedule.Setting.{Setting}
-use Rattle.syntax.specs.declared.schedule.Setting.TheVariants as setting
-use Rattle.typed_tree.specs.declared.statement.Ends.{Ends}
+use Rattle.apply_options.specs.declared.setting.Setting.{Setting}
+use Rattle.apply_options.specs.declared.setting.Setting.TheVariants as setting
+use Rattle.typed_tree.specs.declared.statement.ApplyEnds.{ApplyEnds}
 use Rattle.typed_tree.specs.ProgramTree.{ProgramTree, ScheduleCallTree}
-use Rattle.schedule.specs.declared.choice.Choice.{Choice}
-use Rattle.schedule.specs.declared.choice.Direction.{Direction}
-use Rattle.schedule.specs.declared.choice.Parallelization.{Parallelization}
-use Rattle.schedule.specs.declared.choice.DenseVertexSet.{DenseVertexSet}
-use Rattle.schedule.specs.declared.choice.Fused.TheVariants.{With, Into}
-use Rattle.schedule.specs.declared.site.Apply.{Apply}
-use Rattle.schedule.specs.declared.site.Apply.TheVariants.{Edges}
+use Rattle.apply_options.specs.declared.apply_schedule.ApplySchedule.{ApplySchedule}
+use Rattle.apply_options.specs.declared.apply_schedule.Direction.{Direction}
+use Rattle.apply_options.specs.declared.apply_schedule.Parallelization.{Parallelization}
+use Rattle.apply_options.specs.declared.apply_schedule.DenseVertexSet.{DenseVertexSet}
+use Rattle.apply_options.specs.declared.apply_schedule.Fused.TheVariants.{With, Into}
+use Rattle.typed_tree.specs.declared.apply.StatementApply.{StatementApply}
+use Rattle.typed_tree.specs.declared.apply.StatementApply.TheVariants.{Edges}
 use Rattle.schedule.specs.Calls.{apply_at, is_followed_by, two_of}
 use Rattle.schedule.specs.Names.{label_place}
-use Rattle.schedule.specs.Access.{end_reads, function_uses, function_writes}
-use Rattle.schedule.specs.Rules.{have_same_sets, is_end}
-use Rattle.schedule.specs.Schedule.{ScheduleTree, choice_of}
+use Rattle.typed_tree.specs.Access.{end_reads, function_uses, function_writes}
+use Rattle.typed_tree.specs.Independence.{have_same_sets, is_end}
+use Rattle.apply_options.specs.ScheduleTree.{ScheduleTree, choice_of}
 use Rattle.schedule.specs.Values.{direction_of, parallelization_of, dense_vertex_set_of}
 
 -- No vector that the first of two edge applies writes is read or written by the second, or read by a filter of its ends,
 -- and no end of the second is the set that the first one's changes go to. Two vertex applies are done vertex by vertex.
-pub record SharesNoVector (p : ProgramTree) (f : ℕ) (r : Option ℕ) (b : Ends) (g : ℕ) : Type 0 where
+pub record SharesNoVector (p : ProgramTree) (f : ℕ) (r : Option ℕ) (b : ApplyEnds) (g : ℕ) : Type 0 where
   pub function : (v : ℕ) → Contains (function_uses p.edge_functions g) v → Contains (function_writes p.edge_functions f) v → ⊥
   pub sources : (v : ℕ) → Contains (end_reads p.filters b.from) v → Contains (function_writes p.edge_functions f) v → ⊥
   pub destinations : (v : ℕ) → Contains (end_reads p.filters b.to) v → Contains (function_writes p.edge_functions f) v → ⊥
   pub changes_of_sources : is_end p.names r b.from ≡ false
   pub changes_of_destinations : is_end p.names r b.to ≡ false
 
-abbrev pub IsIndependent : ProgramTree → Apply → Apply → Type 0
+abbrev pub IsIndependent : ProgramTree → StatementApply → StatementApply → Type 0
 IsIndependent p (Edges a f r) (Edges b g s) = SharesNoVector p f r b g
 IsIndependent p _ _ = Unit {0}
 
 -- the second of two fused statements stands right behind the first in one block; both apply to vertices or both to
 -- edges, of the same sets and filters; and edge applies are independent
 pub record IsFusedWell (p : ProgramTree) (first second : ℕ) : Type 0 where
-  pub one : Apply
-  pub other : Apply
+  pub one : StatementApply
+  pub other : StatementApply
   pub first_applies : apply_at p first ≡ Some one
   pub second_applies : apply_at p second ≡ Some other
   pub behind : is_followed_by p first second ≡ true
@@ -57,7 +57,7 @@ abbrev pub GroupsAreDistinct : ScheduleTree → Type 0
 GroupsAreDistinct s = IsDistinct nat_eq (concat s.groups)
 
 -- the choice has the value that the text names
-abbrev pub IsGiven : Setting → List ℕ → Choice → Type 0
+abbrev pub IsGiven : Setting → List ℕ → ApplySchedule → Type 0
 IsGiven setting.Direction text c = (v : Direction) × (direction_of text ≡ Some v) × (c.direction ≡ Some v)
 IsGiven setting.Parallelization text c = (v : Parallelization) × (parallelization_of text ≡ Some v) × (c.parallelization ≡ Some v)
 IsGiven setting.DenseVertexSet text c = (v : DenseVertexSet) × (dense_vertex_set_of text ≡ Some v) × (c.dense_vertex_set ≡ Some v)
@@ -91,7 +91,7 @@ NoneIsOnLabel p which label [] = Unit {0}
 NoneIsOnLabel p which label (call ∷ calls) = (IsOnLabel p which label call → ⊥) × NoneIsOnLabel p which label calls
 
 -- no value of this kind was given, so the default stands
-abbrev pub HasDefault : Setting → Choice → Type 0
+abbrev pub HasDefault : Setting → ApplySchedule → Type 0
 HasDefault setting.Direction c = c.direction ≡ None
 HasDefault setting.Parallelization c = c.parallelization ≡ None
 HasDefault setting.DenseVertexSet c = c.dense_vertex_set ≡ None

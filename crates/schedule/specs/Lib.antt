@@ -1,12 +1,11 @@
-pub mod Access
 pub mod Avoiding
+pub mod BrokenRules
 pub mod Calls
 pub mod Chain
 pub mod Laws
 pub mod Names
 pub mod Putting
 pub mod Refusal
-pub mod Rules
 pub mod Schedule
 pub mod Sites
 pub mod Values

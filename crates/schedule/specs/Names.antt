@@ -1,21 +1,14 @@
--- The names that calls of a schedule may speak of.
-use Rattle.std.specs.Prelude.{ℕ, suc, List, [], ◌∷◌, map, Option, Some, None, slice_get, if◌then◌else◌}
+-- Vector names that calls of a schedule may speak of.
+use Rattle.std.specs.Prelude.{ℕ, suc, List, [], ◌∷◌, map, Option, Some, None, if◌then◌else◌}
 use Rattle.std.specs.Str.{bytes_eq}
 use Rattle.typed_tree.specs.declared.program.Vector.{Vector}
+use Rattle.typed_tree.specs.Independence.{name_at}
 use Rattle.typed_tree.specs.ProgramTree.{ProgramTree}
 
 -- where the first of these names is that is this one, counted from so many
 abbrev pub place_from : ℕ → List ℕ → List (List ℕ) → Option ℕ
 place_from place name [] = None
 place_from place name (n ∷ names) = if bytes_eq name n then Some place else place_from (suc place) name names
-
--- the name at a place; one that is not there is empty
-abbrev pub or_empty : Option (List ℕ) → List ℕ
-or_empty None = []
-or_empty (Some name) = name
-
-abbrev pub name_at : List (List ℕ) → ℕ → List ℕ
-name_at names place = or_empty (slice_get names place)
 
 -- the names of vectors
 abbrev pub vector_names : List (List ℕ) → List Vector → List (List ℕ)

@@ -7,11 +7,11 @@ use Rattle.schedule.specs.declared.site.Site.{Site}
 use Rattle.schedule.specs.Sites.{site_of}
 use Rattle.std.specs.Str.{bytes_eq}
 use Rattle.expression_types.specs.Names.{found}
-use Rattle.schedule.specs.declared.error.Rule.{Rule}
+use Rattle.schedule.specs.declared.error.ScheduleRule.{ScheduleRule}
 use Rattle.schedule.specs.declared.error.ScheduleError.{ScheduleError}
 use Rattle.schedule.specs.declared.error.ScheduleError.TheVariants.{Faulty, NoMemory}
 use Rattle.schedule.specs.Names.{place_from}
-use Rattle.schedule.specs.Schedule.{ScheduleTree}
+use Rattle.apply_options.specs.ScheduleTree.{ScheduleTree}
 
 abbrev pub first_of : {T : Type 0} → Option T → Option T → Option T
 first_of (Some place) rest = Some place
@@ -27,7 +27,7 @@ PutsPlace old name place new =
     (other : List ℕ) (rest : Option ℕ) → first_of (found other new) rest ≡ first_of (found other old) (if bytes_eq other name then Some place else rest)
 
 -- a call that breaks no rule leaves what it comes to, and another answers the rule
-abbrev pub Puts : Result ScheduleTree Rule → Option Rule → ScheduleTree → Type 0
+abbrev pub Puts : Result ScheduleTree ScheduleRule → Option ScheduleRule → ScheduleTree → Type 0
 Puts outcome None new = outcome ≡ Ok new
 Puts outcome (Some rule) new = outcome ≡ Err rule
 
@@ -37,7 +37,7 @@ Groups outcome None old new = outcome ≡ None
 Groups outcome (Some group) old new = (outcome ≡ Some group) × (new ≡ old ++ group)
 
 -- the same as `Puts` of calls in a row
-abbrev pub PutsAll : {T : Type 0} → Result ScheduleTree (Rule × ℕ) → Result T ScheduleError → ScheduleTree → Type 0
+abbrev pub PutsAll : {T : Type 0} → Result ScheduleTree (ScheduleRule × ℕ) → Result T ScheduleError → ScheduleTree → Type 0
 PutsAll outcome (Ok _) new = outcome ≡ Ok new
 PutsAll outcome (Err (Faulty rule at)) new = outcome ≡ Err (rule, at)
 PutsAll outcome (Err NoMemory) new = Unit {0}

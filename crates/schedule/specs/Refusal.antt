@@ -1,11 +1,11 @@
 -- The numbers and offsets of refusals.
 use Rattle.std.specs.Prelude.{ℕ, Option, Some, None}
-use Rattle.schedule.specs.declared.error.Rule.{Rule}
-use Rattle.schedule.specs.declared.error.Rule.TheVariants as rule
+use Rattle.schedule.specs.declared.error.ScheduleRule.{ScheduleRule}
+use Rattle.schedule.specs.declared.error.ScheduleRule.TheVariants as rule
 use Rattle.schedule.specs.declared.error.ScheduleError.{ScheduleError}
 use Rattle.schedule.specs.declared.error.ScheduleError.TheVariants.{Faulty, NoMemory}
 
-abbrev pub number_of_rule : Rule → ℕ
+abbrev pub number_of_rule : ScheduleRule → ℕ
 number_of_rule rule.UnknownLabel = 301
 number_of_rule rule.NoApply = 302
 number_of_rule rule.BadArgument = 303

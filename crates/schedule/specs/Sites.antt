@@ -1,20 +1,20 @@
--- What the labels of a program stand before.
+-- Label sites: what the labels of a program stand before.
 use Rattle.std.specs.Prelude.{ℕ, List, [], ◌∷◌, ◌++◌, nat_eq, Option, Some, None}
 use Rattle.std.specs.Map.{lookup}
 use Rattle.typed_tree.specs.declared.statement.SetValue.{SetValue}
 use Rattle.typed_tree.specs.declared.statement.SetValue.TheVariants as value
 use Rattle.typed_tree.specs.BlockTree.{BlockTree, ActionTree, Empty, Then, ApplyVertex, ApplyEdges, DeclareSet, AssignSet, If, IfElse, While, For}
-use Rattle.schedule.specs.declared.site.Apply.{Apply}
-use Rattle.schedule.specs.declared.site.Apply.TheVariants.{Vertices, Edges}
+use Rattle.typed_tree.specs.declared.apply.StatementApply.{StatementApply}
+use Rattle.typed_tree.specs.declared.apply.StatementApply.TheVariants.{Vertices, Edges}
 use Rattle.schedule.specs.declared.site.Site.{Site}
 
 -- an edge apply, where the value of a set of this name is what the apply changes
-abbrev pub modifying_as : ℕ → SetValue → Option Apply
+abbrev pub modifying_as : ℕ → SetValue → Option StatementApply
 modifying_as name (value.Modified ends function vector) = Some (Edges ends function (Some name))
 modifying_as name _ = None
 
 -- what a statement applies
-abbrev pub apply_of : ActionTree → Option Apply
+abbrev pub apply_of : ActionTree → Option StatementApply
 apply_of (ApplyVertex set function) = Some (Vertices set function)
 apply_of (ApplyEdges ends function) = Some (Edges ends function None)
 apply_of (DeclareSet name set) = modifying_as name set

@@ -1,12 +1,12 @@
--- The values that calls of a schedule may have, by their texts without quotes.
+-- Values of config calls, by their texts without quotes.
 use Rattle.std.specs.Prelude.{ℕ, List, Option, Some, None, codes, if◌then◌else◌}
 use Rattle.std.specs.Str.{bytes_eq}
-use Rattle.schedule.specs.declared.choice.Direction.{Direction}
-use Rattle.schedule.specs.declared.choice.Direction.TheVariants.{SparsePush, DensePush, DensePull, Hybrid}
-use Rattle.schedule.specs.declared.choice.Parallelization.{Parallelization}
-use Rattle.schedule.specs.declared.choice.Parallelization.TheVariants.{Serial, StaticVertex, DynamicVertex, EdgeAwareDynamicVertex}
-use Rattle.schedule.specs.declared.choice.DenseVertexSet.{DenseVertexSet}
-use Rattle.schedule.specs.declared.choice.DenseVertexSet.TheVariants.{BoolArray, Bitvector}
+use Rattle.apply_options.specs.declared.apply_schedule.Direction.{Direction}
+use Rattle.apply_options.specs.declared.apply_schedule.Direction.TheVariants.{SparsePush, DensePush, DensePull, Hybrid}
+use Rattle.apply_options.specs.declared.apply_schedule.Parallelization.{Parallelization}
+use Rattle.apply_options.specs.declared.apply_schedule.Parallelization.TheVariants.{Serial, StaticVertex, DynamicVertex, EdgeAwareDynamicVertex}
+use Rattle.apply_options.specs.declared.apply_schedule.DenseVertexSet.{DenseVertexSet}
+use Rattle.apply_options.specs.declared.apply_schedule.DenseVertexSet.TheVariants.{BoolArray, Bitvector}
 
 abbrev pub direction_of : List ℕ → Option Direction
 direction_of text =

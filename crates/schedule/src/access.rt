@@ -1,31 +1,33 @@
-//! Which vectors functions read and write.
+//! Access to vectors: which vectors functions read and write.
 ghost use Rattle.std.specs.Prelude.{◌≡◌, ◌++◌, map, OnOk};
 ghost use Rattle.typed_tree.specs.IntegerTree.{integer_tree};
 ghost use Rattle.typed_tree.specs.ConditionTree.{condition_tree};
 ghost use Rattle.typed_tree.specs.StepTree.{function_tree, step_tree, steps_tree};
-ghost use Rattle.schedule.specs.Access.{function_writes, step_writes, steps_write};
+ghost use Rattle.typed_tree.specs.Access.{function_writes, step_writes, steps_write};
 ghost use Rattle.schedule.specs.Avoiding.{condition_avoids, end_avoids, function_avoids, integer_avoids, step_avoids, steps_avoid};
 ghost use Rattle.schedule.specs.Chain.{conditions_avoid, operands_avoid};
 
 use std::alloc::AllocError;
-use typed_tree::{Condition, EndFilter, Function, Integer, Operand, Step};
+use typed_tree::{
+    BoolExpression, Function, FunctionStatement, IntExpression, Operand, VertexFilter,
+};
 
 /// Whether the expression reads no entry of these vectors.
 #[cycle(integers)]
 #[tactic(auto, using(crate::proofs::Chains::avoids_negated))]
-fn avoids(e: &Integer, vectors: &[usize]) -> bool
+fn avoids(e: &IntExpression, vectors: &[usize]) -> bool
     ensures { result ≡ integer_avoids vectors.now (integer_tree e.now) }
 {
     match e {
-        Integer::Number(_)
-        | Integer::Constant(_, _)
-        | Integer::Variable(_)
-        | Integer::Parameter(_)
-        | Integer::SetSize(_) => true,
-        Integer::EntryAt(vector, _) => !vectors.contains(vector),
-        Integer::Entry(vector, index) => !vectors.contains(vector) && avoids(index, vectors),
-        Integer::Negative(_, e) => avoids(e, vectors),
-        Integer::Arithmetic(first, operands) => {
+        IntExpression::Number(_)
+        | IntExpression::Constant(_, _)
+        | IntExpression::Variable(_)
+        | IntExpression::Parameter(_)
+        | IntExpression::SetSize(_) => true,
+        IntExpression::EntryAt(vector, _) => !vectors.contains(vector),
+        IntExpression::Entry(vector, index) => !vectors.contains(vector) && avoids(index, vectors),
+        IntExpression::Negative(_, e) => avoids(e, vectors),
+        IntExpression::Arithmetic(first, operands) => {
             avoids(first, vectors) && all_avoid(operands, vectors)
         }
     }
@@ -47,14 +49,15 @@ fn all_avoid(operands: &[Operand], vectors: &[usize]) -> bool
 /// Whether the condition reads no entry of these vectors.
 #[cycle(conditions)]
 #[tactic(auto, using(crate::proofs::Chains::avoids_turned))]
-fn condition_does_avoid(c: &Condition, vectors: &[usize]) -> bool
+fn condition_does_avoid(c: &BoolExpression, vectors: &[usize]) -> bool
     ensures { result ≡ condition_avoids vectors.now (condition_tree c.now) }
 {
     match c {
-        Condition::Literal(_) | Condition::Constant(_, _) | Condition::Variable(_) => true,
-        Condition::Not(_, c) => condition_does_avoid(c, vectors),
-        Condition::Compare(_, left, right) => avoids(left, vectors) && avoids(right, vectors),
-        Condition::Connect(_, first, conditions) => {
+        BoolExpression::Literal(_) | BoolExpression::Constant(_, _) | BoolExpression::Variable(_) =>
+            true,
+        BoolExpression::Not(_, c) => condition_does_avoid(c, vectors),
+        BoolExpression::Compare(_, left, right) => avoids(left, vectors) && avoids(right, vectors),
+        BoolExpression::Connect(_, first, conditions) => {
             condition_does_avoid(first, vectors) && conditions_do_avoid(conditions, vectors)
         }
     }
@@ -62,7 +65,7 @@ fn condition_does_avoid(c: &Condition, vectors: &[usize]) -> bool
 
 /// The same of all conditions in a list.
 #[cycle(conditions)]
-fn conditions_do_avoid(conditions: &[Condition], vectors: &[usize]) -> bool
+fn conditions_do_avoid(conditions: &[BoolExpression], vectors: &[usize]) -> bool
     ensures { result ≡ conditions_avoid vectors.now conditions.now }
 {
     'conditions: for c in conditions {
@@ -75,7 +78,7 @@ fn conditions_do_avoid(conditions: &[Condition], vectors: &[usize]) -> bool
 
 /// Whether statements neither read nor write an entry of these vectors.
 #[cycle(steps)]
-fn all_steps_avoid(steps: &[Step], vectors: &[usize]) -> bool
+fn all_steps_avoid(steps: &[FunctionStatement], vectors: &[usize]) -> bool
     ensures { result ≡ steps_avoid vectors.now (steps_tree steps.now) }
 {
     'steps: for step in steps {
@@ -88,19 +91,21 @@ fn all_steps_avoid(steps: &[Step], vectors: &[usize]) -> bool
 
 /// Whether the statement neither reads nor writes an entry of these vectors.
 #[cycle(steps)]
-fn step_does_avoid(step: &Step, vectors: &[usize]) -> bool
+fn step_does_avoid(step: &FunctionStatement, vectors: &[usize]) -> bool
     ensures { result ≡ step_avoids vectors.now (step_tree step.now) }
 {
     match step {
-        Step::DeclareInteger(_, e) | Step::SetInteger(_, e) | Step::ReduceInteger(_, _, e) => {
-            avoids(e, vectors)
-        }
-        Step::DeclareCondition(_, c) | Step::SetCondition(_, c) => condition_does_avoid(c, vectors),
-        Step::SetEntry(vector, e) | Step::ReduceEntry(vector, _, e) => {
+        FunctionStatement::DeclareInteger(_, e)
+        | FunctionStatement::SetInteger(_, e)
+        | FunctionStatement::ReduceInteger(_, _, e) => { avoids(e, vectors) }
+        FunctionStatement::DeclareCondition(_, c) | FunctionStatement::SetCondition(_, c) =>
+            condition_does_avoid(c, vectors),
+        FunctionStatement::SetEntry(vector, e) | FunctionStatement::ReduceEntry(vector, _, e) => {
             !vectors.contains(vector) && avoids(e, vectors)
         }
-        Step::If(c, body) => condition_does_avoid(c, vectors) && all_steps_avoid(body, vectors),
-        Step::IfElse(c, body, other) => {
+        FunctionStatement::If(c, body) => condition_does_avoid(c, vectors)
+            && all_steps_avoid(body, vectors),
+        FunctionStatement::IfElse(c, body, other) => {
             condition_does_avoid(c, vectors)
                 && (all_steps_avoid(body, vectors) && all_steps_avoid(other, vectors))
         }
@@ -121,14 +126,14 @@ pub(crate) fn function_does_avoid(functions: &[Function], place: usize, vectors:
 /// Whether the filter of an end reads no entry of these vectors. A vertex set reads none.
 pub(crate) fn end_does_avoid(
     filters: &[Function],
-    end: Option<EndFilter>,
+    end: Option<VertexFilter>,
     vectors: &[usize],
 ) -> bool
     ensures { result ≡ end_avoids vectors.now (map function_tree filters.now) end }
 {
     match end {
-        Some(EndFilter::Function(place)) => function_does_avoid(filters, place, vectors),
-        Some(EndFilter::Members(_)) | None => true,
+        Some(VertexFilter::Function(place)) => function_does_avoid(filters, place, vectors),
+        Some(VertexFilter::Members(_)) | None => true,
     }
 }
 
@@ -148,7 +153,10 @@ pub fn push_written(
 }
 
 #[cycle(writes)]
-fn push_written_by_all(steps: &[Step], vectors: &mut Vec<usize>) -> Result<(), AllocError>
+fn push_written_by_all(
+    steps: &[FunctionStatement],
+    vectors: &mut Vec<usize>,
+) -> Result<(), AllocError>
     ensures { OnOk result (vectors.new.items ≡ vectors.old.items ++ steps_write (steps_tree steps.now)) }
 {
     'steps: for step in steps {
@@ -158,16 +166,16 @@ fn push_written_by_all(steps: &[Step], vectors: &mut Vec<usize>) -> Result<(), A
 }
 
 #[cycle(writes)]
-fn push_written_by(step: &Step, vectors: &mut Vec<usize>) -> Result<(), AllocError>
+fn push_written_by(step: &FunctionStatement, vectors: &mut Vec<usize>) -> Result<(), AllocError>
     ensures { OnOk result (vectors.new.items ≡ vectors.old.items ++ step_writes (step_tree step.now)) }
 {
     match step {
-        Step::SetEntry(vector, _) | Step::ReduceEntry(vector, _, _) => {
+        FunctionStatement::SetEntry(vector, _) | FunctionStatement::ReduceEntry(vector, _, _) => {
             vectors.push(*vector)?;
             Ok(())
         }
-        Step::If(_, body) => push_written_by_all(body, vectors),
-        Step::IfElse(_, body, other) => {
+        FunctionStatement::If(_, body) => push_written_by_all(body, vectors),
+        FunctionStatement::IfElse(_, body, other) => {
             push_written_by_all(body, vectors)?;
             push_written_by_all(other, vectors)
         }

@@ -1,23 +1,23 @@
-//! Calls of a schedule, one after the other.
+//! The calls of a schedule, accepted one after the other.
 ghost use Rattle.std.specs.Prelude.{◌≡◌, [], map, IfNone, IfOk, OnOk};
 ghost use Rattle.std.specs.Option.{option_map};
 ghost use Rattle.std.specs.List.{concat};
 ghost use Rattle.typed_tree.specs.ProgramTree.{call_tree, program_tree};
-ghost use Rattle.schedule.specs.Calls.{Accepts, apply_at as applied_at, fusing_fault as fault_of_fusing, grown, is_followed_by as has_behind, two_of as two_in, with_call, with_calls, with_fields, with_fusing, with_value};
+ghost use Rattle.schedule.specs.Calls.{Accepts, apply_at as applied_at, fusing_fault as fault_of_fusing, grown, is_followed_by as has_behind, two_of as two_in, with_call, with_calls, with_fields, with_fusing, with_value as value_put};
 ghost use Rattle.schedule.specs.Names.{label_place, vector_names, vector_place};
 ghost use Rattle.schedule.specs.Putting.{ArePlaces, AreSites, Groups, Puts, PutsAll, bytes_of_two};
 
-use crate::choice::Fused;
-use crate::error::{Rule, ScheduleError};
+use crate::config_values::with_value;
+use crate::error::{ScheduleError, ScheduleRule};
 use crate::names::{places_of, vector_places};
 use crate::rules::{are_independent, have_same_sets};
 use crate::schedule::Schedule;
-use crate::site::{Apply, Sites};
+use crate::site::Sites;
+use apply_options::{Fused, Setting};
 use expression_types::Names;
 use indexmap::IndexSet;
 use std::alloc::{AllocError, Global};
-use syntax::Setting;
-use typed_tree::{Name, ScheduleCall, Sequence, Typed};
+use typed_tree::{Name, ScheduleCall, Sequence, StatementApply, Typed};
 
 /// What the calls of a program are looked up in.
 struct Tables<'a> {
@@ -110,7 +110,7 @@ impl Tables<'_> {
         call: &ScheduleCall,
         schedule: &mut Schedule,
         taken: &mut IndexSet<usize>,
-    ) -> Result<Option<Rule>, AllocError>
+    ) -> Result<Option<ScheduleRule>, AllocError>
         requires { taken.old.keys ≡ concat schedule.old.groups }
         ensures outcome { IfOk result (λ fault. Puts (with_call (program_tree self.now.program.now) (call_tree call.now) schedule.old) fault schedule.new) }
         ensures taken { IfOk result (λ fault. IfNone fault (taken.new.keys ≡ concat schedule.new.groups)) }
@@ -128,20 +128,20 @@ impl Tables<'_> {
         setting: Setting,
         arguments: &[Name],
         schedule: &mut Schedule,
-    ) -> Result<Option<Rule>, AllocError>
-        ensures outcome { IfOk result (λ fault. Puts (with_value (program_tree self.now.program.now) setting arguments.now schedule.old) fault schedule.new) }
+    ) -> Result<Option<ScheduleRule>, AllocError>
+        ensures outcome { IfOk result (λ fault. Puts (value_put (program_tree self.now.program.now) setting arguments.now schedule.old) fault schedule.new) }
         ensures groups { OnOk result (schedule.new.groups ≡ schedule.old.groups) }
     {
         let Some((name, text)) = two_of(arguments) else {
-            return Ok(Some(Rule::BadArgument));
+            return Ok(Some(ScheduleRule::BadArgument));
         };
         let Some(label) = self.label(name) else {
-            return Ok(Some(Rule::UnknownLabel));
+            return Ok(Some(ScheduleRule::UnknownLabel));
         };
-        let Some(Apply::Edges { .. }) = self.apply_at(label) else {
-            return Ok(Some(Rule::NoApply));
+        let Some(StatementApply::Edges { .. }) = self.apply_at(label) else {
+            return Ok(Some(ScheduleRule::NoApply));
         };
-        match schedule.choice(label).given(setting, text) {
+        match with_value(schedule.choice(label), setting, text) {
             Ok(choice) => {
                 schedule.put(label, choice)?;
                 Ok(None)
@@ -165,7 +165,7 @@ impl Tables<'_> {
     }
 
     /// What the statement with a label applies.
-    fn apply_at(&self, label: usize) -> Option<Apply>
+    fn apply_at(&self, label: usize) -> Option<StatementApply>
         ensures { result ≡ applied_at (program_tree self.now.program.now) label }
     {
         self.sites.get(label)?.apply
@@ -177,18 +177,18 @@ impl Tables<'_> {
         alloc: Global,
         arguments: &[Name],
         schedule: &mut Schedule,
-    ) -> Result<Option<Rule>, AllocError>
+    ) -> Result<Option<ScheduleRule>, AllocError>
         ensures outcome { IfOk result (λ fault. Puts (with_fusing (program_tree self.now.program.now) arguments.now schedule.old) fault schedule.new) }
         ensures groups { OnOk result (schedule.new.groups ≡ schedule.old.groups) }
     {
         let Some((one, other)) = two_of(arguments) else {
-            return Ok(Some(Rule::BadArgument));
+            return Ok(Some(ScheduleRule::BadArgument));
         };
         let Some(first) = self.label(one) else {
-            return Ok(Some(Rule::UnknownLabel));
+            return Ok(Some(ScheduleRule::UnknownLabel));
         };
         let Some(second) = self.label(other) else {
-            return Ok(Some(Rule::UnknownLabel));
+            return Ok(Some(ScheduleRule::UnknownLabel));
         };
         match self.fusing_fault(alloc, first, second, schedule)? {
             Some(rule) => Ok(Some(rule)),
@@ -207,23 +207,23 @@ impl Tables<'_> {
         first: usize,
         second: usize,
         schedule: &Schedule,
-    ) -> Result<Option<Rule>, AllocError>
+    ) -> Result<Option<ScheduleRule>, AllocError>
         ensures { IfOk result (λ fault. fault ≡ fault_of_fusing (program_tree self.now.program.now) schedule.now first second) }
     {
         let (Some(one), Some(other)) = (self.apply_at(first), self.apply_at(second)) else {
-            return Ok(Some(Rule::NoApply));
+            return Ok(Some(ScheduleRule::NoApply));
         };
         if first == second || schedule.is_fused(first) || schedule.is_fused(second) {
-            return Ok(Some(Rule::GivenTwice));
+            return Ok(Some(ScheduleRule::GivenTwice));
         }
         if !self.is_followed_by(first, second) {
-            return Ok(Some(Rule::NotAdjacent));
+            return Ok(Some(ScheduleRule::NotAdjacent));
         }
         if !have_same_sets(&self.program.names, one, other) {
-            return Ok(Some(Rule::DifferentSets));
+            return Ok(Some(ScheduleRule::DifferentSets));
         }
         if !are_independent(alloc, self.program, one, other)? {
-            return Ok(Some(Rule::NotIndependent));
+            return Ok(Some(ScheduleRule::NotIndependent));
         }
         Ok(None)
     }
@@ -245,20 +245,20 @@ impl Tables<'_> {
         names: &[Name],
         schedule: &mut Schedule,
         taken: &mut IndexSet<usize>,
-    ) -> Result<Option<Rule>, AllocError>
+    ) -> Result<Option<ScheduleRule>, AllocError>
         requires { taken.old.keys ≡ concat schedule.old.groups }
         ensures outcome { IfOk result (λ fault. Puts (with_fields (program_tree self.now.program.now) names.now schedule.old) fault schedule.new) }
         ensures taken { IfOk result (λ fault. IfNone fault (taken.new.keys ≡ concat schedule.new.groups)) }
     {
         if names.len() < 2 {
-            return Ok(Some(Rule::BadFields));
+            return Ok(Some(ScheduleRule::BadFields));
         }
         match self.group_of(alloc, names, taken)? {
             Some(group) => {
                 schedule.push_group(group)?;
                 Ok(None)
             }
-            None => Ok(Some(Rule::BadFields)),
+            None => Ok(Some(ScheduleRule::BadFields)),
         }
     }
 

@@ -1,4 +1,4 @@
-//! Why a schedule is refused.
+//! The error of a schedule: the rule that a call breaks, and where.
 ghost use Rattle.std.specs.Prelude.{◌≡◌};
 ghost use Rattle.schedule.specs.Refusal.{number_of, number_of_rule, offset_of};
 ghost use Rattle.schedule.specs.declared.error.ScheduleError.TheVariants.{NoMemory};
@@ -8,7 +8,7 @@ use thiserror::Error;
 
 /// A rule of schedules.
 #[derive(Clone, Copy, Debug, PartialEq, Eq)]
-pub enum Rule {
+pub enum ScheduleRule {
     /// A label that a call names is in the program.
     UnknownLabel,
     /// A label of a `config` call is that of an edge apply, and one of `fuseApplyFunctions` that of an edge or
@@ -34,25 +34,25 @@ pub enum ScheduleError {
     /// The first faulty call, whose first token is at this offset in bytes, breaks this rule: of several the one
     /// with the least number, and the number of arguments before all.
     #[error("the schedule breaks a rule")]
-    Faulty { rule: Rule, at: usize },
+    Faulty { rule: ScheduleRule, at: usize },
     #[error("out of memory")]
     NoMemory,
 }
 
-impl Rule {
+impl ScheduleRule {
     /// The number by which users know the rule: 301 to 308.
     pub fn number(self) -> u16
         ensures { result ≡ number_of_rule self }
     {
         match self {
-            Rule::UnknownLabel => 301,
-            Rule::NoApply => 302,
-            Rule::BadArgument => 303,
-            Rule::GivenTwice => 304,
-            Rule::NotAdjacent => 305,
-            Rule::DifferentSets => 306,
-            Rule::NotIndependent => 307,
-            Rule::BadFields => 308,
+            ScheduleRule::UnknownLabel => 301,
+            ScheduleRule::NoApply => 302,
+            ScheduleRule::BadArgument => 303,
+            ScheduleRule::GivenTwice => 304,
+            ScheduleRule::NotAdjacent => 305,
+            ScheduleRule::DifferentSets => 306,
+            ScheduleRule::NotIndependent => 307,
+            ScheduleRule::BadFields => 308,
         }
     }
 }

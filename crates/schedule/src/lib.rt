@@ -6,6 +6,10 @@
 //! which applies may be fused, `specs/Access.antt` which vectors functions read and write, and `specs/Sites.antt` what
 //! a label stands before. `specs/Laws.antt` has what holds of each accepted schedule.
 //!
+//! `specs/BrokenRules.antt` says which rules a call breaks, one case for each rule. A schedule is refused exactly at the
+//! first call that breaks one, and by the least that it breaks (`refused_calls_break_the_least_rule`), and it is accepted
+//! exactly where no call breaks any (`accepted_calls_break_no_rule`).
+//!
 //! One pass over `main` finds what the labels stand before, and labels and vectors are found by a hash. So the time is
 //! in proportion to the program and to the calls, and for a fusing to the two functions and the filters besides.
 //!
@@ -15,7 +19,7 @@
 
 mod access;
 mod calls;
-mod choice;
+mod config_values;
 mod error;
 mod laws;
 mod names;
@@ -25,13 +29,12 @@ mod site;
 
 pub use access::push_written;
 pub use calls::accept;
-pub use choice::{Choice, DenseVertexSet, Direction, Fused, Parallelization};
-pub use error::{Rule, ScheduleError};
+pub use error::{ScheduleError, ScheduleRule};
 pub use laws::{
-    fused_statements_are_neighbours, labels_are_fused_once, labels_have_one_call_of_a_kind,
-    labels_have_the_values_of_calls, labels_without_calls_have_the_defaults,
+    accepted_calls_break_no_rule, fused_statements_are_neighbours, labels_are_fused_once,
+    labels_have_one_call_of_a_kind, labels_have_the_values_of_calls,
+    labels_without_calls_have_the_defaults, refused_calls_break_the_least_rule,
     vectors_are_in_one_group,
 };
 pub use rules::are_independent;
 pub use schedule::Schedule;
-pub use site::Apply;

@@ -1,6 +1,7 @@
-//! The names that calls of a schedule may speak of.
+//! Vector names: the places of the vectors that a `fuseFields` call names.
 ghost use Rattle.std.specs.Prelude.{◌≡◌, IfOk, OnOk};
-ghost use Rattle.schedule.specs.Names.{name_at as name_of, vector_names};
+ghost use Rattle.typed_tree.specs.Independence.{name_at as name_of};
+ghost use Rattle.schedule.specs.Names.{vector_names};
 ghost use Rattle.schedule.specs.Putting.{ArePlaces, PutsPlace};
 
 use expression_types::Names;

@@ -1,23 +1,22 @@
-//! The rules of calls on two applies.
+//! Rules of `fuse` calls: whether two applies may be done together.
 ghost use Rattle.std.specs.Prelude.{◌≡◌, IfOk};
 ghost use Rattle.typed_tree.specs.ProgramTree.{program_tree};
-ghost use Rattle.schedule.specs.Rules.{are_independent as independent, are_same as same_name, are_same_ends as same_ends, have_same_sets as same_sets, is_end};
+ghost use Rattle.typed_tree.specs.Independence.{are_independent as independent, are_same as same_name, are_same_ends as same_ends, have_same_sets as same_sets, is_end};
 
 use crate::access::{end_does_avoid, function_does_avoid, push_written};
 use crate::names::name_at;
-use crate::site::Apply;
 use std::alloc::{AllocError, Global};
-use typed_tree::{EndFilter, Ends, Name, Typed};
+use typed_tree::{ApplyEnds, Name, StatementApply, Typed, VertexFilter};
 
 /// Whether both apply to vertices or both to edges, of the same sets and filters.
-pub(crate) fn have_same_sets(names: &[Name], first: Apply, second: Apply) -> bool
+pub(crate) fn have_same_sets(names: &[Name], first: StatementApply, second: StatementApply) -> bool
     ensures { result ≡ same_sets names.now first second }
 {
     match (first, second) {
-        (Apply::Vertices { set: a, .. }, Apply::Vertices { set: b, .. }) => {
+        (StatementApply::Vertices { set: a, .. }, StatementApply::Vertices { set: b, .. }) => {
             are_same(names, a.name, b.name)
         }
-        (Apply::Edges { ends: a, .. }, Apply::Edges { ends: b, .. }) => {
+        (StatementApply::Edges { ends: a, .. }, StatementApply::Edges { ends: b, .. }) => {
             are_same_ends(names, a.from, b.from) && are_same_ends(names, a.to, b.to)
         }
         _ => false,
@@ -30,15 +29,15 @@ fn are_same(names: &[Name], first: usize, second: usize) -> bool
     name_at(names, first) == name_at(names, second)
 }
 
-fn are_same_ends(names: &[Name], first: Option<EndFilter>, second: Option<EndFilter>) -> bool
+fn are_same_ends(names: &[Name], first: Option<VertexFilter>, second: Option<VertexFilter>) -> bool
     ensures { result ≡ same_ends names.now first second }
 {
     match (first, second) {
         (None, None) => true,
-        (Some(EndFilter::Members(a)), Some(EndFilter::Members(b))) => {
+        (Some(VertexFilter::Members(a)), Some(VertexFilter::Members(b))) => {
             are_same(names, a.name, b.name)
         }
-        (Some(EndFilter::Function(a)), Some(EndFilter::Function(b))) => a == b,
+        (Some(VertexFilter::Function(a)), Some(VertexFilter::Function(b))) => a == b,
         _ => false,
     }
 }
@@ -50,19 +49,19 @@ fn are_same_ends(names: &[Name], first: Option<EndFilter>, second: Option<EndFil
 pub fn are_independent(
     alloc: Global,
     program: &Typed,
-    first: Apply,
-    second: Apply,
+    first: StatementApply,
+    second: StatementApply,
 ) -> Result<bool, AllocError>
     ensures { IfOk result (λ yes. yes ≡ independent (program_tree program.now) first second) }
 {
     match (first, second) {
         (
-            Apply::Edges {
+            StatementApply::Edges {
                 function: writer,
                 result: given,
                 ..
             },
-            Apply::Edges { ends, function, .. },
+            StatementApply::Edges { ends, function, .. },
         ) => {
             if names_result(&program.names, given, ends.from)
                 || names_result(&program.names, given, ends.to)
@@ -82,11 +81,11 @@ pub fn are_independent(
 }
 
 /// Whether an end is the set that an apply's changes go to.
-fn names_result(names: &[Name], name: Option<usize>, end: Option<EndFilter>) -> bool
+fn names_result(names: &[Name], name: Option<usize>, end: Option<VertexFilter>) -> bool
     ensures { result ≡ is_end names.now name end }
 {
     match (name, end) {
-        (Some(name), Some(EndFilter::Members(set))) => are_same(names, name, set.name),
+        (Some(name), Some(VertexFilter::Members(set))) => are_same(names, name, set.name),
         _ => false,
     }
 }

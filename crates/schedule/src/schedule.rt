@@ -1,12 +1,13 @@
-//! What a schedule says.
+//! The accepted schedule: the choices of each label, and the groups of vectors.
 ghost use Rattle.std.specs.Prelude.{◌≡◌, ◌++◌, ◌∷◌, [], is_some, OnOk};
 ghost use Rattle.std.specs.Option.{unwrap_or};
-ghost use Rattle.schedule.specs.declared.choice.Direction.TheVariants as direction;
-ghost use Rattle.schedule.specs.declared.choice.Parallelization.TheVariants as parallelization;
-ghost use Rattle.schedule.specs.declared.choice.DenseVertexSet.TheVariants as dense_vertex_set;
-ghost use Rattle.schedule.specs.Schedule.{choice_at as label_choice, choice_of, empty_schedule, is_fused as has_fusing, with_choice, with_fused, with_one_group};
+ghost use Rattle.apply_options.specs.declared.apply_schedule.Direction.TheVariants as direction;
+ghost use Rattle.apply_options.specs.declared.apply_schedule.Parallelization.TheVariants as parallelization;
+ghost use Rattle.apply_options.specs.declared.apply_schedule.DenseVertexSet.TheVariants as dense_vertex_set;
+ghost use Rattle.apply_options.specs.ScheduleTree.{choice_at as label_choice, choice_of};
+ghost use Rattle.schedule.specs.Schedule.{empty_schedule, is_fused as has_fusing, with_choice, with_fused, with_one_group};
 
-use crate::choice::{Choice, DenseVertexSet, Direction, Fused, Parallelization};
+use apply_options::{ApplySchedule, DenseVertexSet, Direction, Fused, Parallelization};
 use indexmap::IndexMap;
 use std::alloc::{AllocError, Global};
 use std::marker::Model;
@@ -15,7 +16,7 @@ use typed_tree::Sequence;
 /// An accepted schedule: what its calls say of the applies with labels, and which vectors are kept together.
 /// Labels and vectors are named by their places in the program's lists.
 pub struct Schedule {
-    choices: IndexMap<usize, Choice>,
+    choices: IndexMap<usize, ApplySchedule>,
     groups: Vec<Sequence<usize>>,
 }
 
@@ -29,7 +30,7 @@ impl Drop for Schedule {
 }
 
 impl Model for Schedule {
-    ghost use Rattle.schedule.specs.Schedule.{ScheduleTree};
+    ghost use Rattle.apply_options.specs.ScheduleTree.{ScheduleTree};
 
     ghost Value = { ScheduleTree };
 
@@ -48,12 +49,12 @@ impl Schedule {
     }
 
     /// What the calls say of a label.
-    pub fn choice(&self, label: usize) -> Choice
+    pub fn choice(&self, label: usize) -> ApplySchedule
         ensures { result ≡ choice_of label self.now }
     {
         match self.choices.get(&label).copied() {
             Some(choice) => choice,
-            None => Choice::none(),
+            None => ApplySchedule::none(),
         }
     }
 
@@ -99,12 +100,12 @@ impl Schedule {
     }
 
     /// What the calls say of a statement with this label, and nothing of one without a label.
-    pub fn choice_at(&self, label: Option<usize>) -> Choice
+    pub fn choice_at(&self, label: Option<usize>) -> ApplySchedule
         ensures { result ≡ label_choice label self.now }
     {
         match label {
             Some(label) => self.choice(label),
-            None => Choice::none(),
+            None => ApplySchedule::none(),
         }
     }
 
@@ -116,7 +117,7 @@ impl Schedule {
     }
 
     /// Puts what a call says of a label.
-    pub(crate) fn put(&mut self, label: usize, choice: Choice) -> Result<(), AllocError>
+    pub(crate) fn put(&mut self, label: usize, choice: ApplySchedule) -> Result<(), AllocError>
         ensures { OnOk result (self.new ≡ with_choice label choice self.old) }
     {
         self.choices.insert(label, choice)?;
@@ -127,7 +128,7 @@ impl Schedule {
     pub(crate) fn fuse(&mut self, label: usize, fused: Fused) -> Result<(), AllocError>
         ensures { OnOk result (self.new ≡ with_fused label fused self.old) }
     {
-        let choice = Choice {
+        let choice = ApplySchedule {
             fused: Some(fused),
             ..self.choice(label)
         };

@@ -1,4 +1,4 @@
-//! What the labels of a program stand before.
+//! Label sites: what each label of a program stands before.
 ghost use Rattle.std.specs.Prelude.{◌≡◌, ◌++◌, drop, nat_eq, IfOk, OnOk};
 ghost use Rattle.std.specs.Map.{lookup};
 ghost use Rattle.typed_tree.specs.BlockTree.{action_tree, block_tree};
@@ -8,30 +8,13 @@ ghost use Rattle.schedule.specs.Putting.{AreSites, PutsSite};
 use indexmap::IndexMap;
 use std::alloc::{AllocError, Global};
 use std::marker::Model;
-use typed_tree::{Action, Ends, SetValue, Slot, Statement};
-
-/// What a statement applies.
-#[derive(Clone, Copy, Debug, PartialEq, Eq)]
-pub enum Apply {
-    /// The vertex function at this place to each vertex of a set.
-    Vertices {
-        set: Slot,
-        function: usize,
-    },
-    /// The edge function at this place to the edges between the ends. A set that gets what the apply changed
-    /// has its name at the place `result` of the program's names.
-    Edges {
-        ends: Ends,
-        function: usize,
-        result: Option<usize>,
-    },
-}
+use typed_tree::{MainStatement, SetValue, StatementApply, StatementKind};
 
 /// What a label stands before.
 #[derive(Clone, Copy, Debug, PartialEq, Eq)]
 pub struct Site {
     /// What its statement applies, if it does.
-    pub apply: Option<Apply>,
+    pub apply: Option<StatementApply>,
     /// The label of the statement right behind it in its block, where there is one with a label.
     pub next: Option<usize>,
 }
@@ -58,7 +41,7 @@ impl Model for Sites {
 
 impl Sites {
     /// Those of the statements of `main`. The time is in proportion to the statements.
-    pub(crate) fn of(alloc: Global, main: &[Statement]) -> Result<Sites, AllocError>
+    pub(crate) fn of(alloc: Global, main: &[MainStatement]) -> Result<Sites, AllocError>
         ensures { IfOk result (λ sites. AreSites sites (block_tree main.now)) }
     {
         let mut list = Vec::new(alloc);
@@ -95,7 +78,10 @@ impl Sites {
 
 /// Puts the labels of the statements, and of those in their blocks, behind the others, in the order of the text.
 #[cycle(sites)]
-fn push_sites(statements: &[Statement], sites: &mut Vec<(usize, Site)>) -> Result<(), AllocError>
+fn push_sites(
+    statements: &[MainStatement],
+    sites: &mut Vec<(usize, Site)>,
+) -> Result<(), AllocError>
     ensures { OnOk result (sites.new.items ≡ sites.old.items ++ sites_of (block_tree statements.now)) }
 {
     let mut behind: usize = 0;
@@ -115,14 +101,14 @@ fn push_sites(statements: &[Statement], sites: &mut Vec<(usize, Site)>) -> Resul
 
 /// The same of the statements in the blocks of a statement.
 #[cycle(sites)]
-fn push_inner(action: &Action, sites: &mut Vec<(usize, Site)>) -> Result<(), AllocError>
+fn push_inner(action: &StatementKind, sites: &mut Vec<(usize, Site)>) -> Result<(), AllocError>
     ensures { OnOk result (sites.new.items ≡ sites.old.items ++ sites_in (action_tree action.now)) }
 {
     match action {
-        Action::If(_, body) => push_sites(body, sites),
-        Action::While(_, body) => push_sites(body, sites),
-        Action::For(_, _, _, body) => push_sites(body, sites),
-        Action::IfElse(_, body, other) => {
+        StatementKind::If(_, body) => push_sites(body, sites),
+        StatementKind::While(_, body) => push_sites(body, sites),
+        StatementKind::For(_, _, _, body) => push_sites(body, sites),
+        StatementKind::IfElse(_, body, other) => {
             push_sites(body, sites)?;
             push_sites(other, sites)
         }
@@ -131,38 +117,38 @@ fn push_inner(action: &Action, sites: &mut Vec<(usize, Site)>) -> Result<(), All
 }
 
 /// The label of the statement at this place, if it is there and has one.
-fn label_at(statements: &[Statement], place: usize) -> Option<usize>
+fn label_at(statements: &[MainStatement], place: usize) -> Option<usize>
     ensures { result ≡ label_of (block_tree (drop place statements.now)) }
 {
     statements.get(place)?.label
 }
 
 /// What a statement applies, if it does.
-fn applied_by(action: &Action) -> Option<Apply>
+fn applied_by(action: &StatementKind) -> Option<StatementApply>
     ensures { result ≡ apply_of (action_tree action.now) }
 {
     match action {
-        Action::ApplyVertex(set, function) => Some(Apply::Vertices {
+        StatementKind::ApplyVertex(set, function) => Some(StatementApply::Vertices {
             set: *set,
             function: *function,
         }),
-        Action::ApplyEdges(ends, function) => Some(Apply::Edges {
+        StatementKind::ApplyEdges(ends, function) => Some(StatementApply::Edges {
             ends: *ends,
             function: *function,
             result: None,
         }),
-        Action::DeclareSet(name, value) => modifying(*value, *name),
-        Action::AssignSet(slot, value) => modifying(*value, slot.name),
+        StatementKind::DeclareSet(name, value) => modifying(*value, *name),
+        StatementKind::AssignSet(slot, value) => modifying(*value, slot.name),
         _ => None,
     }
 }
 
 /// The edge apply whose changes a set of this name gets, if that is its value.
-fn modifying(value: SetValue, name: usize) -> Option<Apply>
+fn modifying(value: SetValue, name: usize) -> Option<StatementApply>
     ensures { result ≡ modifying_as name value }
 {
     match value {
-        SetValue::Modified(ends, function, _) => Some(Apply::Edges {
+        SetValue::Modified(ends, function, _) => Some(StatementApply::Edges {
             ends,
             function,
             result: Some(name),

@@ -1,8 +1,9 @@
 pub mod PieceLaws
 pub mod WordLaws
-pub mod SendingLaws
 pub mod ProgramLaws
 pub mod ReadingLaws
 pub mod Running
 pub mod RunReplies
 pub mod TextLaws
+pub mod TicketLaws
+pub mod StepLaws

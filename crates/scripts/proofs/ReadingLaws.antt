@@ -1,14 +1,14 @@
 -- The lines of a script that comes in pieces.
 use Rattle.std.proofs.Common.{◌≡◌, ℕ, ◌<◌, length, Option, None, List, [], ◌∷◌, ◌++◌, refl, sym, ap, ◌∙◌, subst, arith, append_assoc, append-nil}
 use Rattle.typed_tree.specs.ProgramTree.{ProgramTree}
-use Rattle.scripts.specs.declared.error.ScriptError.{ScriptError}
+use Rattle.replies.specs.declared.send_error.SendError.{SendError}
 use Rattle.scripts.specs.Commands.{command_of}
 use Rattle.scripts.specs.Pieces.{HasNone, ended_lines, unended_line}
 use Rattle.scripts.specs.Replies.{OpenState, answer, by_command, replies, replies_to_lines, replies_to_ended, state_after_lines, faults, has_faulted}
-use Rattle.scripts.specs.Sending.{Output, Sends, SendsPart, Fails}
+use Rattle.replies.specs.Sending.{Output, Sends, SendsPart, Fails}
 use Rattle.scripts.specs.Progress.{Reading, at_start, reading_after, replies_within}
 use Rattle.scripts.proofs.PieceLaws.{HasNone-append, lines_of-ended, ended_lines-append, unended_line-append, ended_lines-first, unended_line-first, ended_lines-none, unended_line-none}
-use Rattle.scripts.proofs.SendingLaws.{sends_none, sends_then, part_before, fails_then, fails_more}
+use Rattle.replies.proofs.SendingLaws.{sends_none, sends_then, part_before, fails_then, fails_more}
 
 -- a line that is not empty is answered by its command
 pub answer_command : (programs : List ProgramTree) (s : Option OpenState) (line : List ℕ) → 0 < length line → answer programs s line ≡ by_command programs s (command_of line)
@@ -134,7 +134,7 @@ module _ (programs : List ProgramTree) (old : Reading) (bytes : List ℕ) (a : O
     }
 
     -- the answer to a line fails
-    pub taking_fails : (e : ScriptError) → Fails b c reply e → Fails a c (replies_within programs old bytes) e
+    pub taking_fails : (e : SendError) → Fails b c reply e → Fails a c (replies_within programs old bytes) e
     taking_fails e fails =
         let whole : (t.text ++ reply) ++ replies_within programs answered after ≡ replies_within programs old bytes =
         append_assoc t.text reply (replies_within programs answered after) ∙ ap (λ xs. t.text ++ xs) (sym line_first) ∙ sym t.replies in

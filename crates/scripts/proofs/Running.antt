@@ -4,15 +4,18 @@ use Rattle.std.specs.Result.{IsErrAnd}
 use Rattle.std.proofs.lemmas.Result.{err_from_is_err_and}
 use Rattle.typed_tree.specs.ProgramTree.{ProgramTree}
 use Rattle.scripts.specs.declared.error.ScriptError.{ScriptError}
-use Rattle.scripts.specs.declared.error.ScriptError.TheVariants.{NoMemory, ReadFailed, WriteFailed}
+use Rattle.scripts.specs.declared.error.ScriptError.TheVariants.{ReadFailed}
+use Rattle.scripts.specs.Refusal.{error_of_send}
+use Rattle.replies.specs.declared.send_error.SendError.{SendError}
+use Rattle.replies.specs.declared.send_error.SendError.TheVariants.{NoMemory, WriteFailed}
 use Rattle.scripts.specs.Pieces.{HasNone}
 use Rattle.scripts.specs.Replies.{OpenState, answer, replies, replies_to_ended, has_faulted}
-use Rattle.scripts.specs.Script.{Input, Taken, taken_by, RepliesInPart, RepliesToEnded, RunsScript}
-use Rattle.scripts.specs.Sending.{Output, output, Sends, Fails}
+use Rattle.scripts.specs.Script.{Input, Taken, taken_by, IsBeginning, RepliesInPart, RepliesToEnded, RunsScript}
+use Rattle.replies.specs.Sending.{Output, output, Sends, SendsPart, Fails}
 use Rattle.scripts.specs.Progress.{Reading, at_start, reading_after, replies_within}
 use Rattle.scripts.proofs.PieceLaws.{HasNone-unended}
 use Rattle.scripts.proofs.ReadingLaws.{reading_then, replies_then, replies-last, faults-last}
-use Rattle.scripts.proofs.SendingLaws.{sends_none, sends_then, fails_then, fails_more, all_taken}
+use Rattle.replies.proofs.SendingLaws.{sends_none, sends_then, fails_then, all_taken}
 
 -- the lines that have ended among the bytes so far are answered, and nothing is kept of the replies
 pub record IsReading (programs : List ProgramTree) (old now : Input) (a : Output) (reading : Reading) (b : Output) : Type 0 where
@@ -34,26 +37,45 @@ reading_starts programs old a empty = record {
   nothing_kept = empty;
 }
 
--- a call that fails after some bytes, which the script ends with
-pub ends_in_part : (programs : List ProgramTree) (old new : Input) (a c : Output) (bytes : List ℕ) (e : ScriptError) → a.kept ≡ [] → new.given ≡ old.given ++ bytes → Fails a c (replies programs bytes) e
-    → RunsScript programs old new (taken_by a.taken a.failures) (taken_by c.taken c.failures) (Err e)
-ends_in_part programs old new a c bytes NoMemory empty given h = in_part
-  where
-    in_part : RepliesInPart programs old new (taken_by a.taken a.failures) (taken_by c.taken c.failures)
-    in_part = record { bytes = bytes; given = given; written = h.1.sent; rest = h.0; taken = h.1.taken; beginning = h.1.whole ∙ ap (λ xs. xs ++ replies programs bytes) empty }
-ends_in_part programs old new a c bytes WriteFailed empty given h = (in_part, h.1)
-  where
-    in_part : RepliesInPart programs old new (taken_by a.taken a.failures) (taken_by c.taken c.failures)
-    in_part = record { bytes = bytes; given = given; written = h.0.1.sent; rest = h.0.0; taken = h.0.1.taken; beginning = h.0.1.whole ∙ ap (λ xs. xs ++ replies programs bytes) empty }
-ends_in_part programs old new a c bytes ReadFailed empty given h = absurd h
+-- the replies to the bytes, however they go on, begin with this text
+abbrev pub BeginsAll : List ProgramTree → Input → List ℕ → List ℕ → Type 0
+BeginsAll programs new bytes text = (more : List ℕ) → (new.ended ≡ true → more ≡ []) → IsBeginning text (replies programs (bytes ++ more))
 
--- a call that fails while the lines that have ended are answered
-pub ends_in_lines : (programs : List ProgramTree) (old new : Input) (a c : Output) (bytes : List ℕ) (e : ScriptError) → a.kept ≡ [] → new.given ≡ old.given ++ bytes → Fails a c (replies_to_ended programs bytes) e
-    → RunsScript programs old new (taken_by a.taken a.failures) (taken_by c.taken c.failures) (Err e)
-ends_in_lines programs old new a c bytes e empty given h =
+-- as the replies to the lines that have ended do
+begins_lines : (programs : List ProgramTree) (new : Input) (bytes : List ℕ) → BeginsAll programs new bytes (replies_to_ended programs bytes)
+begins_lines programs new bytes more nothing =
     let r = reading_after programs at_start bytes in
-    let longer = fails_more a c (replies_to_ended programs bytes) (answer programs r.state r.partial).text e h in
-    ends_in_part programs old new a c bytes e empty given (subst (λ text. Fails a c text e) (sym (replies-last programs bytes)) longer)
+    let s = reading_after programs at_start (bytes ++ more) in
+    let last = (answer programs s.state s.partial).text in (
+      replies_within programs r more ++ last,
+      sym (append_assoc (replies_to_ended programs bytes) (replies_within programs r more) last) ∙ ap (λ text. text ++ last) (sym (replies_then programs at_start bytes more))
+          ∙ sym (replies-last programs (bytes ++ more)),
+    )
+
+-- and where they do not go on, the replies to them
+begins_whole : (programs : List ProgramTree) (new : Input) (bytes : List ℕ) → new.ended ≡ true → BeginsAll programs new bytes (replies programs bytes)
+begins_whole programs new bytes ended more nothing =
+    ([], append-nil (replies programs bytes) ∙ ap (replies programs) (sym (ap (λ xs. bytes ++ xs) (nothing ended) ∙ append-nil bytes)))
+
+-- of such a text a part was taken
+part_begins : (programs : List ProgramTree) (old new : Input) (a c : Output) (bytes text : List ℕ) → a.kept ≡ [] → new.given ≡ old.given ++ bytes → BeginsAll programs new bytes text → SendsPart a c text
+    → RepliesInPart programs old new (taken_by a.taken a.failures) (taken_by c.taken c.failures)
+part_begins programs old new a c bytes text empty given all part = record {
+  bytes = bytes;
+  given = given;
+  written = part.1.sent;
+  taken = part.1.taken;
+  beginning = λ more nothing. (
+    part.0 ++ (all more nothing).0,
+    sym (append_assoc part.1.sent part.0 (all more nothing).0) ∙ ap (λ xs. xs ++ (all more nothing).0) (part.1.whole ∙ ap (λ xs. xs ++ text) empty) ∙ (all more nothing).1,
+  );
+}
+
+-- a call that fails to send it, which the script ends with
+ends_in_part : (programs : List ProgramTree) (old new : Input) (a c : Output) (bytes text : List ℕ) (e : SendError) → a.kept ≡ [] → new.given ≡ old.given ++ bytes → BeginsAll programs new bytes text → Fails a c text e
+    → RunsScript programs old new (taken_by a.taken a.failures) (taken_by c.taken c.failures) (Err (error_of_send e))
+ends_in_part programs old new a c bytes text NoMemory empty given all h = part_begins programs old new a c bytes text empty given all h
+ends_in_part programs old new a c bytes text WriteFailed empty given all h = (part_begins programs old new a c bytes text empty given all h.0, h.1)
 
 module _ (programs : List ProgramTree) (old now : Input) (a : Output) (reading : Reading) (b : Output) (r : IsReading programs old now a reading b) where
   -- no line feed stands in the line that has not ended
@@ -89,10 +111,11 @@ module _ (programs : List ProgramTree) (old now : Input) (a : Output) (reading :
     lines_sent sends = subst (Sends a c) (sym ended_now) (sends_then a b c (replies_to_ended programs r.bytes) (replies_within programs reading more) r.sends sends)
 
     -- or the answer to one fails
-    pub lines_fail : (e : ScriptError) → a.kept ≡ [] → Fails b c (replies_within programs reading more) e → RunsScript programs old new (taken_by a.taken a.failures) (taken_by c.taken c.failures) (Err e)
+    pub lines_fail : (e : SendError) → a.kept ≡ [] → Fails b c (replies_within programs reading more) e → RunsScript programs old new (taken_by a.taken a.failures) (taken_by c.taken c.failures) (Err (error_of_send e))
     lines_fail e empty fails =
         let both = fails_then a b c (replies_to_ended programs r.bytes) (replies_within programs reading more) e r.sends fails in
-        ends_in_lines programs old new a c (r.bytes ++ more) e empty given_now (subst (λ text. Fails a c text e) (sym ended_now) both)
+        let all = begins_lines programs new (r.bytes ++ more) in
+        ends_in_part programs old new a c (r.bytes ++ more) (replies_to_ended programs (r.bytes ++ more)) e empty given_now all (subst (λ text. Fails a c text e) (sym ended_now) both)
 
     -- what was kept is written, and the reading goes on
     pub reading_goes_on : Sends b c (replies_within programs reading more) → (later : Reading) → later ≡ reading_after programs reading more → (d : Output) → Sends c d [] → d.kept ≡ [] → IsReading programs old new a later d
@@ -106,12 +129,13 @@ module _ (programs : List ProgramTree) (old now : Input) (a : Output) (reading :
     }
 
     -- or that fails
-    pub flush_fails : Sends b c (replies_within programs reading more) → (d : Output) (e : ScriptError) → a.kept ≡ [] → Fails c d [] e → RunsScript programs old new (taken_by a.taken a.failures) (taken_by d.taken d.failures) (Err e)
+    pub flush_fails : Sends b c (replies_within programs reading more) → (d : Output) (e : SendError) → a.kept ≡ [] → Fails c d [] e → RunsScript programs old new (taken_by a.taken a.failures) (taken_by d.taken d.failures) (Err (error_of_send e))
     flush_fails sends d e empty fails =
         let both = fails_then a c d (replies_to_ended programs (r.bytes ++ more)) [] e (lines_sent sends) fails in
-        ends_in_lines programs old new a d (r.bytes ++ more) e empty given_now (subst (λ text. Fails a d text e) (append-nil (replies_to_ended programs (r.bytes ++ more))) both)
+        let all = begins_lines programs new (r.bytes ++ more) in
+        ends_in_part programs old new a d (r.bytes ++ more) (replies_to_ended programs (r.bytes ++ more)) e empty given_now all (subst (λ text. Fails a d text e) (append-nil (replies_to_ended programs (r.bytes ++ more))) both)
 
-  module _ (new : Input) (given : new.given ≡ now.given) (c : Output) where
+  module _ (new : Input) (given : new.given ≡ now.given) (ended : new.ended ≡ true) (c : Output) where
     -- no more bytes came
     given_all : new.given ≡ old.given ++ r.bytes
     given_all = given ∙ r.given
@@ -129,22 +153,22 @@ module _ (programs : List ProgramTree) (old now : Input) (a : Output) (reading :
     all_sent sends = subst (Sends a c) (sym all_replies) (sends_then a b c (replies_to_ended programs r.bytes) last r.sends sends)
 
     -- or its answer fails
-    pub finish_fails : (e : ScriptError) → a.kept ≡ [] → Fails b c last e → RunsScript programs old new (taken_by a.taken a.failures) (taken_by c.taken c.failures) (Err e)
+    pub finish_fails : (e : SendError) → a.kept ≡ [] → Fails b c last e → RunsScript programs old new (taken_by a.taken a.failures) (taken_by c.taken c.failures) (Err (error_of_send e))
     finish_fails e empty fails =
         let both = fails_then a b c (replies_to_ended programs r.bytes) last e r.sends fails in
-        ends_in_part programs old new a c r.bytes e empty given_all (subst (λ text. Fails a c text e) (sym all_replies) both)
+        ends_in_part programs old new a c r.bytes (replies programs r.bytes) e empty given_all (begins_whole programs new r.bytes ended) (subst (λ text. Fails a c text e) (sym all_replies) both)
 
     -- and then the last flush fails
-    pub last_flush_fails : Sends b c last → (d : Output) (e : ScriptError) → a.kept ≡ [] → Fails c d [] e → RunsScript programs old new (taken_by a.taken a.failures) (taken_by d.taken d.failures) (Err e)
+    pub last_flush_fails : Sends b c last → (d : Output) (e : SendError) → a.kept ≡ [] → Fails c d [] e → RunsScript programs old new (taken_by a.taken a.failures) (taken_by d.taken d.failures) (Err (error_of_send e))
     last_flush_fails sends d e empty fails =
         let both = fails_then a c d (replies programs r.bytes) [] e (all_sent sends) fails in
-        ends_in_part programs old new a d r.bytes e empty given_all (subst (λ text. Fails a d text e) (append-nil (replies programs r.bytes)) both)
+        ends_in_part programs old new a d r.bytes (replies programs r.bytes) e empty given_all (begins_whole programs new r.bytes ended) (subst (λ text. Fails a d text e) (append-nil (replies programs r.bytes)) both)
 
     -- or all is written
-    pub script_ends : Sends b c last → (d : Output) → a.kept ≡ [] → d.kept ≡ [] → new.ended ≡ true → Sends c d []
+    pub script_ends : Sends b c last → (d : Output) → a.kept ≡ [] → d.kept ≡ [] → Sends c d []
         → (state : Option OpenState) → state ≡ (answer programs reading.state reading.partial).state → (faulted : Bool) → faulted ≡ has_faulted state
         → RunsScript programs old new (taken_by a.taken a.failures) (taken_by d.taken d.failures) (Ok faulted)
-    script_ends sends d empty flushed ended last_flush state is faulted fault = record {
+    script_ends sends d empty flushed last_flush state is faulted fault = record {
       bytes = r.bytes;
       given = given_all;
       ended = ended;
@@ -164,4 +188,4 @@ runs_tied taken failures name kept programs old new before o last sent r runs is
 
 -- a script that ends before it reads
 pub nothing_done : (programs : List ProgramTree) (i : Input) (t : Taken) → RepliesInPart programs i i t t
-nothing_done programs i t = record { bytes = []; given = sym (append-nil i.given); written = []; rest = replies programs []; taken = sym (append-nil t.taken); beginning = refl }
+nothing_done programs i t = record { bytes = []; given = sym (append-nil i.given); written = []; taken = sym (append-nil t.taken); beginning = λ more nothing. (replies programs more, refl) }

@@ -1,32 +1,36 @@
--- A script that is a text is one that a reader gave whole.
-use Rattle.std.proofs.Common.{◌≡◌, ℕ, Bool, true, false, List, [], ◌++◌, Result, Ok, Err, sym, ap, ◌∙◌, subst, arith}
+-- A script that a reader of a text gave.
+use Rattle.std.proofs.Common.{◌≡◌, ℕ, ◌≤◌, Bool, true, false, List, [], ◌++◌, length, take, drop, Result, Ok, Err, sym, ap, ◌∙◌, arith}
+use Rattle.std.proofs.lemmas.List.{take-append-drop, take_all, length-drop}
 use Rattle.typed_tree.specs.ProgramTree.{ProgramTree}
 use Rattle.scripts.specs.declared.error.ScriptError.{ScriptError}
 use Rattle.scripts.specs.declared.error.ScriptError.TheVariants.{NoMemory, ReadFailed, WriteFailed}
 use Rattle.scripts.specs.Replies.{replies, faults}
-use Rattle.scripts.specs.Script.{Input, Taken, input, taken_by, RepliesInPart, RunsScript}
+use Rattle.scripts.specs.Script.{Input, Taken, input, RepliesInPart, RunsScript}
 use Rattle.scripts.specs.Text.{BeginsReplies, RunsText}
-use Rattle.scripts.specs.Sending.{Output, output}
+use Rattle.scripts.proofs.ReadingLaws.{empty_when_none}
 
--- before the text is read, and after it
+-- before the text is read, and after so many bytes of it
 abbrev pub unread : Input
 unread = input [] false 0
 
-abbrev pub read : List ℕ → Input
-read text = input text true 0
+abbrev pub read : List ℕ → ℕ → Bool → Input
+read text count ended = input (take count text) ended 0
 
-begins : (programs : List ProgramTree) (text : List ℕ) (before after : Taken) → RepliesInPart programs unread (read text) before after → BeginsReplies programs text before after
-begins programs text before after part =
-    record { written = part.written; rest = part.rest; taken = part.taken; beginning = part.beginning ∙ ap (replies programs) (sym part.given) }
+-- where the reader has ended, all was given
+module _ (programs : List ProgramTree) (text : List ℕ) (count : ℕ) (ended : Bool) (whole : ended ≡ true → length text ≤ count) (before after : Taken) where
+  nothing_left : ended ≡ true → drop count text ≡ []
+  nothing_left is = empty_when_none (drop count text) (omega (arith, length-drop {A = ℕ} count text, whole is))
 
-pub runs_text : (programs : List ProgramTree) (text : List ℕ) (before after : Taken) (r : Result Bool ScriptError) → RunsScript programs unread (read text) before after r → RunsText programs text before after r
-runs_text programs text before after (Ok faulted) all =
-    record { taken = all.taken ∙ ap (λ bytes. before.taken ++ replies programs bytes) (sym all.given); fault = all.fault ∙ ap (faults programs) (sym all.given) }
-runs_text programs text before after (Err NoMemory) part = begins programs text before after part
-runs_text programs text before after (Err WriteFailed) part = (begins programs text before after part.0, part.1)
-runs_text programs text before after (Err ReadFailed) part = absurd (omega (arith, part.1))
+  begins : RepliesInPart programs unread (read text count ended) before after → BeginsReplies programs text before after
+  begins part =
+      let begun = part.beginning (drop count text) nothing_left in
+      let all : part.bytes ++ drop count text ≡ text = ap (λ bytes. bytes ++ drop count text) (sym part.given) ∙ take-append-drop count text in
+      record { written = part.written; rest = begun.0; taken = part.taken; beginning = begun.1 ∙ ap (replies programs) all }
 
--- a script whose writer is at last the one that the replies were sent to
-pub text_tied : {W : Type 0} (taken : W → List ℕ) (failures : W → ℕ) (name : ℕ) (kept : List ℕ) (programs : List ProgramTree) (text : List ℕ) (before : Taken) (o : Output) (last sent : W) (r : Result Bool ScriptError)
-    → RunsText programs text before (taken_by o.taken o.failures) r → output name (taken sent) kept (failures sent) ≡ o → last ≡ sent → RunsText programs text before (taken_by (taken last) (failures last)) r
-text_tied taken failures name kept programs text before o last sent r runs is same = rw (same) (subst (λ (out : Output). RunsText programs text before (taken_by out.taken out.failures) r) (sym is) runs)
+  pub runs_text : (r : Result Bool ScriptError) → RunsScript programs unread (read text count ended) before after r → RunsText programs text before after r
+  runs_text (Ok faulted) all =
+      let given : all.bytes ≡ text = sym all.given ∙ take_all count text (whole all.ended) in
+      record { taken = all.taken ∙ ap (λ bytes. before.taken ++ replies programs bytes) given; fault = all.fault ∙ ap (faults programs) given }
+  runs_text (Err NoMemory) part = begins part
+  runs_text (Err WriteFailed) part = (begins part.0, part.1)
+  runs_text (Err ReadFailed) part = absurd (omega (arith, part.1))

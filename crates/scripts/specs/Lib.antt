@@ -1,13 +1,9 @@
 pub mod Pieces
 pub mod Commands
-pub mod OutcomeText
-pub mod ReplyText
 pub mod Refusal
 pub mod Replies
 pub mod Script
 pub mod Parsing
 pub mod Stepping
-pub mod Sending
 pub mod Progress
 pub mod Text
-pub mod Snapshots

@@ -1,5 +1,5 @@
 -- What a run of a script did to its reader and its writer.
-use Rattle.std.specs.Prelude.{◌≡◌, ℕ, ◌<◌, Bool, true, List, ◌++◌, Result, Ok, Err}
+use Rattle.std.specs.Prelude.{◌≡◌, ℕ, ◌<◌, Bool, true, List, [], ◌++◌, Result, Ok, Err}
 use Rattle.typed_tree.specs.ProgramTree.{ProgramTree}
 use Rattle.scripts.specs.declared.error.ScriptError.{ScriptError}
 use Rattle.scripts.specs.declared.error.ScriptError.TheVariants.{NoMemory, ReadFailed, WriteFailed}
@@ -40,14 +40,17 @@ pub record RepliesToEnded (programs : List ProgramTree) (old new : Input) (befor
   pub rest : List ℕ
   pub beginning : replies_to_ended programs bytes ++ rest ≡ replies programs bytes
 
--- what was written is a beginning of the replies to the bytes read
+-- with some rest it is the whole
+abbrev pub IsBeginning : List ℕ → List ℕ → Type 0
+IsBeginning written whole = (rest : List ℕ) × (written ++ rest ≡ whole)
+
+-- what was written is a beginning of the replies to the bytes read, however they would have gone on; after the end of the reader they would not
 pub record RepliesInPart (programs : List ProgramTree) (old new : Input) (before after : Taken) : Type 0 where
   pub bytes : List ℕ
   pub given : new.given ≡ old.given ++ bytes
   pub written : List ℕ
-  pub rest : List ℕ
   pub taken : after.taken ≡ before.taken ++ written
-  pub beginning : written ++ rest ≡ replies programs bytes
+  pub beginning : (more : List ℕ) → (new.ended ≡ true → more ≡ []) → IsBeginning written (replies programs (bytes ++ more))
 
 -- how a script ends: each error of a device only where that device failed
 abbrev pub RunsScript : List ProgramTree → Input → Input → Taken → Taken → Result Bool ScriptError → Type 0

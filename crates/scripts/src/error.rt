@@ -1,8 +1,9 @@
 //! What ends a script before its end.
 ghost use Rattle.std.specs.Prelude.{◌≡◌};
 ghost use Rattle.scripts.specs.declared.error.ScriptError.TheVariants.{NoMemory};
-ghost use Rattle.scripts.specs.Refusal.{number_of};
+ghost use Rattle.scripts.specs.Refusal.{number_of, error_of_send};
 
+use replies::SendError;
 use std::alloc::{AllocError, AllocFailed};
 use thiserror::Error;
 
@@ -46,5 +47,16 @@ impl<T: Drop> From<AllocFailed<T>> for ScriptError {
 
     fn from(_error: AllocFailed<T>) -> ScriptError {
         ScriptError::NoMemory
+    }
+}
+
+impl From<SendError> for ScriptError {
+    ghost from_gives = { λ error e. e ≡ error_of_send error };
+
+    fn from(error: SendError) -> ScriptError {
+        match error {
+            SendError::NoMemory => ScriptError::NoMemory,
+            SendError::WriteFailed => ScriptError::WriteFailed,
+        }
     }
 }

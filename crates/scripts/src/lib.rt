@@ -7,11 +7,14 @@
 //! What a script replies is a definition over the lines of its bytes, apart from the code
 //! (`specs/Replies.antt`): the lines are the pieces between the line feeds (`specs/Pieces.antt`), a
 //! table says which words are which command (`specs/Commands.antt`), and a run is answered by the text
-//! (`specs/OutcomeText.antt`) of what its program means on its version. [`script`] is proved to write
-//! exactly those replies to the bytes that the reader gave, in whatever pieces it gave them, and
-//! [`run_text`] those to a text (`specs/Text.antt`). A reader that fails finds the replies to all lines
-//! that had ended written, and no more; after the other errors a beginning of the replies stands there
-//! (`specs/Script.antt`).
+//! of what its program means on its version (crate `replies`). Which programs there are, and how one
+//! runs, the caller says by [`Programs`].
+//!
+//! [`script`] is proved to write exactly those replies to the bytes that the reader gave, in whatever
+//! pieces it gave them, and [`run_text`] those to a text (`specs/Text.antt`). A reader that fails finds
+//! the replies to all lines that had ended written, and no more; after the other errors a beginning of
+//! the replies stands there, whatever the reader would have given next (`specs/Script.antt`). A run's
+//! reply is written before the next line is done.
 //!
 //! [`joined_pieces`], [`first_piece`] and [`last_line`] are laws of the definitions themselves, and do
 //! nothing when called. The program stands on this crate.
@@ -19,23 +22,21 @@
 
 mod commands;
 mod error;
-mod line_reply;
+mod host;
 mod open_graph;
-mod outcome_text;
 mod parse;
 mod pieces;
-mod reply_writer;
+mod programs;
+mod script_state;
 mod scripts;
-mod session;
-mod snapshots;
 mod text;
 mod words;
 
 pub use commands::{Command, DEFAULT_CHUNK_SIZE};
 pub use error::ScriptError;
-pub use outcome_text::is_fault;
 pub use parse::command;
 pub use pieces::{first_piece, joined_pieces, last_line, split_line};
+pub use programs::{NoPrograms, Programs};
+pub use script_state::ScriptState;
 pub use scripts::script;
-pub use session::Session;
 pub use text::run_text;

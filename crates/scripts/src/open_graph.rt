@@ -1,30 +1,24 @@
 //! What a script has once a graph is open, and the commands on it.
-ghost use Rattle.std.specs.Prelude.{◌≡◌, [], false, nat_eq, IfErr, IfOk, IfSome, OnOk, Some, map};
-ghost use Rattle.std.specs.Option.{option_copied, option_map};
-ghost use Rattle.indexmap.specs.IndexMap.{get};
-ghost use Rattle.programs.specs.Program.{program_tree};
-ghost use Rattle.tree_batch.specs.Digraph.{Digraph};
+ghost use Rattle.std.specs.Prelude.{◌≡◌, ◌<◌, [], false, IfErr, IfOk, IfSome, MatchOption, None, OnOk, Some, length};
+ghost use Rattle.std.specs.List.{slice_get};
+ghost use Rattle.std.specs.Option.{option_map};
 ghost use Rattle.version_list.specs.declared.step.Step.TheVariants as step;
-ghost use Rattle.version_list.specs.Machine.{opened};
-ghost use Rattle.scripts.specs.declared.error.ScriptError.TheVariants.{NoMemory};
-ghost use Rattle.scripts.specs.Replies.{on_open, joined, stepping, which_of, graph_of, listing, running, program_of, meaning_on};
-ghost use Rattle.scripts.specs.Sending.{Emits};
-ghost use Rattle.scripts.specs.Snapshots.{IsVersion, MayGain};
+ghost use Rattle.version_flats.specs.VersionFlats.{IsKept};
+ghost use Rattle.replies.specs.declared.send_error.SendError.TheVariants.{NoMemory};
+ghost use Rattle.scripts.specs.Replies.{on_open, joined, stepping, which_of, graph_of, listing, running, program_of};
+ghost use Rattle.replies.specs.Sending.{Emits};
 ghost use Rattle.scripts.specs.Stepping.{IsAnswered, refusal_of};
 
 use crate::commands::Command;
-use crate::error::ScriptError;
-use crate::line_reply::LineReply;
-use crate::outcome_text::is_fault;
-use crate::reply_writer::ReplyWriter;
-use crate::snapshots::Snapshots;
-use algorithm_meaning::Outcome;
+use crate::host::Host;
+use crate::programs::Programs;
 use devices::Drain;
-use programs::Program;
+use replies::{LineReply, ReplyWriter, SendError, is_fault};
 use std::alloc::{AllocError, Global};
 use std::marker::Model;
 use std::mem;
 use tree_batch::{Batch, Entry, Graph};
+use version_flats::VersionFlats;
 use version_list::{Ticket, VersionError, Versions, Which};
 
 /// The refusal of a line that is no command, or none that may stand there.
@@ -36,11 +30,11 @@ const NO_PROGRAM: u16 = 412;
 /// The refusal of a number of workers that is not 1 to 64.
 const BAD_WORKERS: u16 = 411;
 
-/// The versions of a graph with the snapshots of those that were run on, the entries that the next
+/// The versions of a graph with the flats of kept ones that were run on, the entries that the next
 /// commit takes, and whether some run on it has ended by a fault.
 pub(crate) struct OpenGraph {
     versions: Versions,
-    snapshots: Snapshots,
+    flats: VersionFlats,
     pending: Batch,
     faulted: bool,
 }
@@ -56,16 +50,16 @@ impl Model for OpenGraph {
       faulted = o.faulted;
     } };
 
-    ghost use Rattle.scripts.specs.Snapshots.{AreOf};
+    ghost use Rattle.version_flats.specs.VersionFlats.{AreOf};
 
-    ghost invariant = { λ o. AreOf o.versions.state o.snapshots };
+    ghost invariant = { λ o. AreOf o.versions.state o.flats };
 }
 
 impl Drop for OpenGraph {
     fn drop(self) {
         let OpenGraph {
             versions: _,
-            snapshots: _,
+            flats: _,
             pending: _,
             faulted: _,
         } = self;
@@ -79,7 +73,7 @@ impl OpenGraph {
     {
         OpenGraph {
             versions,
-            snapshots: Snapshots::new(alloc),
+            flats: VersionFlats::new(alloc),
             pending: Batch::new(alloc),
             faulted: false,
         }
@@ -93,17 +87,16 @@ impl OpenGraph {
     }
 
     /// Does a command and sends its reply. After `NoMemory` pending entries may be gone.
-    pub(crate) fn answer<W: Drain>(
+    pub(crate) fn answer<P: Programs, W: Drain>(
         &mut self,
-        alloc: Global,
-        programs: &[Program],
+        host: &Host<'_, P>,
         command: Command,
         replies: &mut ReplyWriter<'_, W>,
-    ) -> Result<(), ScriptError>
+    ) -> Result<(), SendError>
         ensures emits { Emits replies.old replies.new
-            (on_open (map program_tree programs.now) self.old command).text result }
+            (on_open (P.trees host.now.programs.now) self.old command).text result }
         ensures state { OnOk result
-            (self.new ≡ (on_open (map program_tree programs.now) self.old command).state) }
+            (self.new ≡ (on_open (P.trees host.now.programs.now) self.old command).state) }
     {
         match command {
             Command::Vertices { .. } => replies.send_line(LineReply::Refused(BAD_LINE)),
@@ -116,7 +109,7 @@ impl OpenGraph {
                 destination,
             } => self.join(Entry::Remove(source, destination)),
             Command::Commit => {
-                let reply = self.commit(alloc)?;
+                let reply = self.commit(host.alloc)?;
                 replies.send_line(reply)
             }
             Command::Hold { version } => {
@@ -134,20 +127,20 @@ impl OpenGraph {
                 turns,
                 workers,
                 ticket,
-            } => match program_at(programs, program) {
+            } => match place_of(host.programs, program) {
                 None => replies.send_line(LineReply::Refused(NO_PROGRAM)),
-                Some(program) => self.run(alloc, program, turns, workers, ticket, replies),
+                Some(place) => self.run(host, place, turns, workers, ticket, replies),
             },
         }
     }
 
-    fn join(&mut self, entry: Entry) -> Result<(), ScriptError>
+    fn join(&mut self, entry: Entry) -> Result<(), SendError>
         ensures state { OnOk result (self.new ≡ (joined self.old entry).state) }
         ensures err { IfErr result (λ e. e ≡ NoMemory) }
     {
         match self.pending.push(entry) {
             Ok(()) => Ok(()),
-            Err(_) => Err(ScriptError::NoMemory),
+            Err(_) => Err(SendError::NoMemory),
         }
     }
 
@@ -159,7 +152,7 @@ impl OpenGraph {
         let batch = mem::replace(&mut self.pending, Batch::new(alloc));
         match self.versions.commit(alloc, batch) {
             Ok(number) => {
-                self.snapshots.let_go(&self.versions, before);
+                self.flats.let_go(&self.versions, before);
                 Ok(LineReply::Version(number))
             }
             Err(error) => refusal(error),
@@ -171,14 +164,13 @@ impl OpenGraph {
             (stepping self.old (step.Acquire (which_of version)) self.old.pending)) }
     {
         let which = version.map_or(Which::Newest, Which::At);
-        let held = match which {
-            Which::Newest => self.versions.newest().0,
-            Which::At(number) => number,
+        let prepared = match self.versions.prepare_acquire(which) {
+            Ok(prepared) => prepared,
+            Err(error) => return refusal(error),
         };
-        match self.versions.acquire(which) {
-            Ok((ticket, _)) => Ok(LineReply::Ticket(ticket.number, held)),
-            Err(error) => refusal(error),
-        }
+        let held = prepared.version;
+        let (ticket, _) = self.versions.finish_acquire(prepared);
+        Ok(LineReply::Ticket(ticket.number, held))
     }
 
     fn release(&mut self, number: u64) -> Result<LineReply, AllocError>
@@ -186,12 +178,12 @@ impl OpenGraph {
             (stepping self.old (step.Release number) self.old.pending)) }
     {
         let ticket = Ticket { number };
-        let version = self.versions.version(ticket);
+        let Some((version, _)) = self.versions.kept(ticket) else {
+            return refusal(VersionError::NotHeld);
+        };
         match self.versions.release(ticket) {
             Ok(()) => {
-                if let Some(version) = version {
-                    self.snapshots.let_go(&self.versions, version);
-                }
+                self.flats.let_go(&self.versions, version);
                 Ok(LineReply::Released(number))
             }
             Err(error) => refusal(error),
@@ -203,7 +195,7 @@ impl OpenGraph {
         &self,
         ticket: Option<u64>,
         replies: &mut ReplyWriter<'_, W>,
-    ) -> Result<(), ScriptError>
+    ) -> Result<(), SendError>
         ensures { Emits replies.old replies.new
             (listing self.now (graph_of self.now.versions ticket)).text result }
     {
@@ -213,21 +205,43 @@ impl OpenGraph {
         }
     }
 
-    /// Runs a program on the newest version, or on the one that a ticket holds, and sends what the run
-    /// shows. One thread does all the work, however many workers are asked for.
-    fn run<W: Drain>(
+    /// Runs the program at a place on the newest version, or on the one that a ticket holds, and writes what
+    /// the run shows: no reply is kept behind it.
+    fn run<P: Programs, W: Drain>(
         &mut self,
-        alloc: Global,
-        program: &Program,
+        host: &Host<'_, P>,
+        place: usize,
         turns: u64,
         workers: u64,
         ticket: Option<u64>,
         replies: &mut ReplyWriter<'_, W>,
-    ) -> Result<(), ScriptError>
+    ) -> Result<(), SendError>
+        requires { place < length (P.trees host.now.programs.now) }
         ensures emits { Emits replies.old replies.new (running self.old turns workers
-            (Some (program_tree program.now)) (graph_of self.old.versions ticket)).text result }
+            (slice_get (P.trees host.now.programs.now) place) (graph_of self.old.versions ticket)).text result }
         ensures state { OnOk result (self.new ≡ (running self.old turns workers
-            (Some (program_tree program.now)) (graph_of self.old.versions ticket)).state) }
+            (slice_get (P.trees host.now.programs.now) place) (graph_of self.old.versions ticket)).state) }
+        ensures written { OnOk result (replies.new.kept ≡ []) }
+    {
+        self.send_run(host, place, turns, workers, ticket, replies)?;
+        replies.flush()
+    }
+
+    /// Runs the program at a place, and sends what the run shows.
+    fn send_run<P: Programs, W: Drain>(
+        &mut self,
+        host: &Host<'_, P>,
+        place: usize,
+        turns: u64,
+        workers: u64,
+        ticket: Option<u64>,
+        replies: &mut ReplyWriter<'_, W>,
+    ) -> Result<(), SendError>
+        requires { place < length (P.trees host.now.programs.now) }
+        ensures emits { Emits replies.old replies.new (running self.old turns workers
+            (slice_get (P.trees host.now.programs.now) place) (graph_of self.old.versions ticket)).text result }
+        ensures state { OnOk result (self.new ≡ (running self.old turns workers
+            (slice_get (P.trees host.now.programs.now) place) (graph_of self.old.versions ticket)).state) }
     {
         let Some((version, graph)) = version_of(&self.versions, ticket) else {
             return replies.send_line(LineReply::Refused(VersionError::NotHeld.number()));
@@ -235,7 +249,8 @@ impl OpenGraph {
         if workers == 0 || workers > 64 {
             return replies.send_line(LineReply::Refused(BAD_WORKERS));
         }
-        let outcome = run_on(alloc, program, &mut self.snapshots, version, graph, turns)?;
+        let flat = self.flats.flat(host.alloc, version, graph)?;
+        let outcome = host.programs.run(host.alloc, place, &flat, turns, workers)?;
         self.faulted = self.faulted || is_fault(outcome.end);
         replies.send_outcome(&outcome)
     }
@@ -244,42 +259,22 @@ impl OpenGraph {
 /// The newest version, or the one that a ticket holds, where it is open: its number and its graph.
 fn version_of(versions: &Versions, ticket: Option<u64>) -> Option<(u64, &Graph)>
     ensures graph { option_map (λ v. v.1.now) result ≡ graph_of versions.now.state ticket }
-    ensures version { IfSome result (λ v. IsVersion versions.now.state v.0 v.1.now) }
+    ensures kept { IfSome result (λ v. IsKept versions.now.state v.0 v.1.now) }
 {
-    let Some(number) = ticket else {
-        return Some(versions.newest());
-    };
-    let ticket = Ticket { number };
-    let version = versions.version(ticket)?;
-    let graph = versions.graph(ticket)?;
-    Some((version, graph))
+    match ticket {
+        None => Some(versions.newest()),
+        Some(number) => versions.kept(Ticket { number }),
+    }
 }
 
-/// The program of this number, from 1.
-fn program_at(programs: &[Program], number: u64) -> Option<&Program>
-    ensures { option_map (λ p. program_tree p.now) result
-        ≡ program_of (map program_tree programs.now) number }
+/// The place, from 0, of the program of this number, which counts from 1.
+fn place_of<P: Programs>(programs: &P, number: u64) -> Option<usize>
+    ensures within { IfSome result (λ place. place < length (P.trees programs.now)) }
+    ensures program { MatchOption result (program_of (P.trees programs.now) number ≡ None)
+        (λ place. program_of (P.trees programs.now) number ≡ slice_get (P.trees programs.now) place) }
 {
     let place = usize::try_from(number.checked_sub(1)?).ok()?;
-    programs.get(place)
-}
-
-/// What a program shows on a version, whose graph this is. The version's snapshot is made where there is none.
-fn run_on(
-    alloc: Global,
-    program: &Program,
-    snapshots: &mut Snapshots,
-    version: u64,
-    graph: &Graph,
-    turns: u64,
-) -> Result<Outcome, AllocError>
-    requires { (flat : Digraph) → get nat_eq snapshots.old.flats version ≡ Some flat → flat ≡ graph.now }
-    ensures outcome { IfOk result (λ o. o ≡ meaning_on graph.now (program_tree program.now) turns) }
-    ensures others { MayGain snapshots.old version graph.now snapshots.new }
-{
-    snapshots.make(alloc, version, graph)?;
-    let snapshot = snapshots.get(version).unwrap();
-    program.run(alloc, snapshot, turns)
+    (place < programs.count()).then_some(place)
 }
 
 /// The reply to a step that was refused. `NoMemory` has no reply, and gives `AllocError`.

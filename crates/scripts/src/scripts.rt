@@ -1,46 +1,65 @@
 //! Scripts from their first byte to their last.
-ghost use Rattle.std.specs.Prelude.{◌≡◌, ◌<◌, [], length, map};
-ghost use Rattle.programs.specs.Program.{program_tree};
+ghost use Rattle.std.specs.Prelude.{◌≡◌, ◌<◌, [], length};
 ghost use Rattle.scripts.specs.Progress.{at_start};
 ghost use Rattle.scripts.specs.Script.{input, taken_by, RunsScript};
 
 use crate::error::ScriptError;
-use crate::reply_writer::{BLOCK, ReplyWriter};
-use crate::session::Session;
+use crate::host::Host;
+use crate::programs::Programs;
+use crate::script_state::ScriptState;
 use devices::{Drain, Feed};
-use programs::Program;
+use replies::{BLOCK, ReplyWriter};
 use std::alloc::Global;
 
 /// Reads a script to its end and writes the replies to its lines, in blocks of 64 KiB. Its runs are of
-/// these programs, numbered from 1. `Ok` says whether some run ended by a fault. The session begins anew,
-/// and has at the end what the script opened.
+/// these programs, numbered from 1. `Ok` says whether some run ended by a fault. With it, and with an
+/// error too, comes what the script opened.
 ///
-/// The replies to the lines that have come are written before more is read. Errors:
+/// The replies to the lines that have come are written before more is read, and a run's reply before the
+/// next line is done. Errors:
 /// - `ReadFailed` where the reader failed in this call. What was written is exactly the replies to the
 ///   lines that had ended among the bytes read.
 /// - `WriteFailed` where the writer failed in this call, or `NoMemory`. What was written is a beginning
 ///   of the replies to the bytes read.
-pub fn script<R: Feed, W: Drain>(
+pub fn script<P: Programs, R: Feed, W: Drain>(
     alloc: Global,
-    programs: &[Program],
+    programs: &P,
     reader: &mut R,
     writer: &mut W,
-    session: &mut Session,
+) -> (Result<bool, ScriptError>, ScriptState)
+    ensures { RunsScript (P.trees programs.now)
+        (input (R.given reader.old) (R.ended reader.old) (R.failures reader.old))
+        (input (R.given reader.new) (R.ended reader.new) (R.failures reader.new))
+        (taken_by (W.taken writer.old) (W.failures writer.old))
+        (taken_by (W.taken writer.new) (W.failures writer.new)) result.0 }
+{
+    let host = Host { alloc, programs };
+    let mut state = ScriptState::new(alloc);
+    let result = run_whole(&host, &mut state, reader, writer);
+    (result, state)
+}
+
+/// Answers the lines of all that comes, by a state that is new.
+fn run_whole<P: Programs, R: Feed, W: Drain>(
+    host: &Host<'_, P>,
+    state: &mut ScriptState,
+    reader: &mut R,
+    writer: &mut W,
 ) -> Result<bool, ScriptError>
-    ensures { RunsScript (map program_tree programs.now)
+    requires { state.old ≡ at_start }
+    ensures { RunsScript (P.trees host.now.programs.now)
         (input (R.given reader.old) (R.ended reader.old) (R.failures reader.old))
         (input (R.given reader.new) (R.ended reader.new) (R.failures reader.new))
         (taken_by (W.taken writer.old) (W.failures writer.old))
         (taken_by (W.taken writer.new) (W.failures writer.new)) result }
 {
-    let mut block = vec![in alloc; 0u8; BLOCK]?;
-    let mut kept = Vec::with_capacity(alloc, BLOCK)?;
-    *session = Session::new(alloc);
+    let mut block = vec![in host.alloc; 0u8; BLOCK]?;
+    let mut kept = Vec::with_capacity(host.alloc, BLOCK)?;
     let mut replies = ReplyWriter {
         writer,
         kept: &mut kept,
     };
-    let result = read_to_end(alloc, programs, session, &mut block, reader, &mut replies);
+    let result = read_to_end(host, state, &mut block, reader, &mut replies);
     let ReplyWriter { writer, kept: _ } = replies;
     // No effect at run time. The proof reads what the writer holds from this use.
     let _ = &*writer;
@@ -49,19 +68,18 @@ pub fn script<R: Feed, W: Drain>(
 
 /// Answers the lines of all that comes. The replies to what has come are written before more is
 /// read.
-fn read_to_end<R: Feed, W: Drain>(
-    alloc: Global,
-    programs: &[Program],
-    session: &mut Session,
+fn read_to_end<P: Programs, R: Feed, W: Drain>(
+    host: &Host<'_, P>,
+    state: &mut ScriptState,
     block: &mut [u8],
     reader: &mut R,
     replies: &mut ReplyWriter<'_, W>,
 ) -> Result<bool, ScriptError>
-    requires session { session.old ≡ at_start }
+    requires state { state.old ≡ at_start }
     requires block { 0 < length block.old }
     requires kept { replies.old.kept ≡ [] }
     ensures same_writer { replies.new.writer ≡ replies.old.writer }
-    ensures runs { RunsScript (map program_tree programs.now)
+    ensures runs { RunsScript (P.trees host.now.programs.now)
         (input (R.given reader.old) (R.ended reader.old) (R.failures reader.old))
         (input (R.given reader.new) (R.ended reader.new) (R.failures reader.new))
         (taken_by replies.old.taken replies.old.failures)
@@ -75,10 +93,10 @@ fn read_to_end<R: Feed, W: Drain>(
         if count == 0 {
             break;
         }
-        session.take(alloc, programs, &block[..count], replies)?;
+        state.take(host, &block[..count], replies)?;
         replies.flush()?;
     }
-    session.finish(alloc, programs, replies)?;
+    state.finish(host, replies)?;
     replies.flush()?;
-    Ok(session.has_faulted())
+    Ok(state.has_faulted())
 }

@@ -6,9 +6,10 @@ ghost use Rattle.syntax.specs.SourceViews.{call_tree, chain_tree, text_of};
 ghost use Rattle.source_text.specs.Written.{Puts, chains_tree};
 
 use crate::text::{put_keyword, put_symbol, put_text};
+use apply_options::Setting;
 use lexer::{Keyword, Symbol};
 use std::alloc::AllocError;
-use syntax::{Call, Chain, Setting, Text};
+use syntax::{Call, Chain, QuotedText};
 
 /// Puts the schedule down, where the source has that part.
 pub(crate) fn put_schedule(
@@ -67,7 +68,7 @@ fn put_next_call(out: &mut Vec<u8>, call: &Call) -> Result<(), AllocError>
     put_symbol(out, Symbol::CloseParenthesis)
 }
 
-fn put_more_texts(out: &mut Vec<u8>, texts: &[Text]) -> Result<(), AllocError>
+fn put_more_texts(out: &mut Vec<u8>, texts: &[QuotedText]) -> Result<(), AllocError>
     ensures { OnOk result (Puts (each_before next_text_before (map text_of texts.now)) out.old.items out.new.items) }
 {
     'texts: for text in texts {
@@ -77,7 +78,7 @@ fn put_more_texts(out: &mut Vec<u8>, texts: &[Text]) -> Result<(), AllocError>
 }
 
 /// Puts a comma and a text down.
-fn put_next_text(out: &mut Vec<u8>, text: &Text) -> Result<(), AllocError>
+fn put_next_text(out: &mut Vec<u8>, text: &QuotedText) -> Result<(), AllocError>
     ensures { OnOk result (Puts (next_text_before (text_of text.now)) out.old.items out.new.items) }
 {
     put_symbol(out, Symbol::Comma)?;

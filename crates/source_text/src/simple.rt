@@ -11,9 +11,10 @@ ghost use Rattle.source_text.specs.Written.{IsSimple, Puts};
 use crate::expression::put_expression;
 use crate::initial::{put_argument, put_assigned, put_ended, put_ends, put_method, put_parameter};
 use crate::text::{put_keyword, put_name, put_symbol};
+use apply_options::Reduction;
 use lexer::{Keyword, Symbol};
 use std::alloc::AllocError;
-use syntax::{Action, Ends, Expression, Initial, Name, Parameter, Reduction};
+use syntax::{Action, Ends, Expression, Initial, Name, Parameter};
 
 /// Puts a simple statement down.
 pub(crate) fn put_simple(out: &mut Vec<u8>, action: &Action) -> Result<(), AllocError>

@@ -8,7 +8,7 @@ ghost use Rattle.source_text.specs.Written.{Puts};
 use decimal::push_integer;
 use lexer::{Keyword, Symbol};
 use std::alloc::AllocError;
-use syntax::{Name, Text};
+use syntax::{Name, QuotedText};
 
 /// The law that the text of terminals has tokens, and that they are these terminals but for their offsets, where each
 /// terminal is one that some token is. The call does nothing.
@@ -31,7 +31,7 @@ pub(crate) fn put_label(out: &mut Vec<u8>, label: &Name) -> Result<(), AllocErro
 }
 
 /// Puts a text down, which has its quotes.
-pub(crate) fn put_text(out: &mut Vec<u8>, text: &Text) -> Result<(), AllocError>
+pub(crate) fn put_text(out: &mut Vec<u8>, text: &QuotedText) -> Result<(), AllocError>
     ensures { OnOk result (Puts (λ rest. text_terminal text.now.bytes.items ∷ rest) out.old.items out.new.items) }
 {
     put(out, text.bytes(), b' ')

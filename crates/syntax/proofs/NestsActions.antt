@@ -8,8 +8,8 @@ use Rattle.syntax.specs.ExpressionDepth.{expression_depth}
 use Rattle.syntax.specs.ExpressionSpelling.{expression_terminals}
 use Rattle.syntax.specs.declared.declaration.DeclaredType.{DeclaredType}
 use Rattle.syntax.specs.declared.declaration.DeclaredType.TheVariants as type
-use Rattle.syntax.specs.declared.statement.Reduction.{Reduction}
-use Rattle.syntax.specs.declared.statement.Reduction.TheVariants as reduction
+use Rattle.apply_options.specs.declared.reduction.Reduction.{Reduction}
+use Rattle.apply_options.specs.declared.reduction.Reduction.TheVariants as reduction
 use Rattle.syntax.specs.SourceTrees.{ParameterTree, InitialTree, NewSet, Load, Vertices, OutDegrees, Filter, ApplyModified, Value, ActionTree, Declare, While, For, If, IfElse, Print, Assign, Reduce, SetEntry, ReduceEntry, AddVertex, Apply, BlockTree, Empty, Then, DeclarationTree, Constant, Function, SourceTree}
 use Rattle.syntax.specs.SourceSpelling.{type_terminals, initial_before, assigned_before, ended_before, end_terminals, reduction_terminal, label_terminals, action_before, block_before, each_before, typed_before, argument_terminals, parameters_before, next_parameter_before, result_before, declaration_before, schedule_before, source_terminals}
 use Rattle.syntax.specs.Fits.{Fits, FitsInitial, FitsAction, FitsBlock, FitsDeclaration, FitDeclarations, FitsSource}

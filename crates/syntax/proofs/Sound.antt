@@ -5,7 +5,7 @@ use Rattle.lexer.specs.declared.symbol.Symbol.TheVariants as symbol
 use Rattle.syntax.specs.Terminals.{Terminal, Name, Number, Text, Opening, OfKeyword, OfSymbol}
 use Rattle.syntax.specs.ExpressionReading.{Reader, links_by, linked, behind_by}
 use Rattle.syntax.specs.declared.declaration.DeclaredType.TheVariants as type
-use Rattle.syntax.specs.declared.schedule.Setting.TheVariants as setting
+use Rattle.apply_options.specs.declared.setting.Setting.TheVariants as setting
 use Rattle.syntax.specs.SourceTrees.{ParameterTree, CallTree, ChainTree}
 use Rattle.syntax.specs.SourceSpelling.{type_terminals, typed_before, each_before, next_parameter_before, next_text_before, call_before, next_call_before, chain_before, parameters_before, result_before, setting_keyword}
 use Rattle.syntax.specs.SourceReading.{name_at, number_at, text_at, type_at, typed_at, each_at, next_parameter, parameters_at, parameters_by, result_by, next_text, call_at, next_call, chain_at, next_chain, closed, setting_at, after_terminal, after_terminals, in_braces, in_parentheses}

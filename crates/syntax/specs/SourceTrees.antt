@@ -3,8 +3,8 @@ use Rattle.std.specs.Prelude.{ℕ, ℤ, List, Option}
 use Rattle.syntax.specs.Terminals.{Identifier}
 use Rattle.syntax.specs.ExpressionTrees.{ExpressionTree}
 use Rattle.syntax.specs.declared.declaration.DeclaredType.{DeclaredType}
-use Rattle.syntax.specs.declared.schedule.Setting.{Setting}
-use Rattle.syntax.specs.declared.statement.Reduction.{Reduction}
+use Rattle.apply_options.specs.declared.setting.Setting.{Setting}
+use Rattle.apply_options.specs.declared.reduction.Reduction.{Reduction}
 
 -- a name and its type: a parameter of a function or its result, or what is declared
 pub record ParameterTree : Type 0 where

@@ -7,7 +7,7 @@ use Rattle.syntax.specs.declared.declaration.Parameter.{Parameter}
 use Rattle.syntax.specs.declared.declaration.Source.{Source}
 use Rattle.syntax.specs.declared.schedule.Call.{Call}
 use Rattle.syntax.specs.declared.schedule.Chain.{Chain}
-use Rattle.syntax.specs.declared.schedule.Text.{Text}
+use Rattle.syntax.specs.declared.schedule.QuotedText.{QuotedText}
 use Rattle.syntax.specs.declared.initial.Ends.{Ends}
 use Rattle.syntax.specs.declared.initial.Initial.{Initial}
 use Rattle.syntax.specs.declared.initial.Initial.TheVariants as initial
@@ -63,7 +63,7 @@ declaration_tree (declaration.Constant at constant initial) = Constant at (param
 declaration_tree (declaration.Function at name parameters result body) =
     Function at name (map parameter_tree parameters.items) (option_map parameter_tree result) (block_tree body.items)
 
-abbrev pub text_of : Text → List ℕ
+abbrev pub text_of : QuotedText → List ℕ
 text_of text = text.bytes.items
 
 abbrev pub call_tree : Call → CallTree

@@ -42,5 +42,5 @@ pub use laws::{
 pub use name::Name;
 pub use nesting::{NESTING_LIMIT, first_too_deep};
 pub use operators::{Addition, Multiplication, Prefix, Relation};
-pub use schedule::{Call, Chain, Setting, Text};
-pub use statement::{Action, Reduction, Statement};
+pub use schedule::{Call, Chain, QuotedText};
+pub use statement::{Action, Statement};

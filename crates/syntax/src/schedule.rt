@@ -1,33 +1,20 @@
 //! The schedule's part of a source.
 ghost use Rattle.std.specs.Prelude.{◌≡◌};
 
-/// The name of a schedule call.
-#[derive(Clone, Copy, Debug, PartialEq, Eq)]
-pub enum Setting {
-    /// `configApplyDirection`
-    Direction,
-    /// `configApplyParallelization`
-    Parallelization,
-    /// `configApplyDenseVertexSet`
-    DenseVertexSet,
-    /// `fuseApplyFunctions`
-    FuseFunctions,
-    /// `fuseFields`
-    FuseFields,
-}
+use apply_options::Setting;
 
 /// A text in quotes.
 #[derive(Drop)]
-pub struct Text {
+pub struct QuotedText {
     bytes: Vec<u8>,
 }
 
-impl Text {
+impl QuotedText {
     /// The text of these bytes, quotes and all.
-    pub fn new(bytes: Vec<u8>) -> Text
+    pub fn new(bytes: Vec<u8>) -> QuotedText
         ensures { result.bytes ≡ bytes }
     {
-        Text { bytes }
+        QuotedText { bytes }
     }
 
     /// Its bytes, quotes and all.
@@ -43,8 +30,8 @@ impl Text {
 pub struct Call {
     pub at: usize,
     pub setting: Setting,
-    pub first: Text,
-    pub more: Vec<Text>,
+    pub first: QuotedText,
+    pub more: Vec<QuotedText>,
 }
 
 impl Drop for Call {

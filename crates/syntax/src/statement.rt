@@ -4,17 +4,7 @@ use crate::declaration::Parameter;
 use crate::expression::Expression;
 use crate::initial::{Ends, Initial};
 use crate::name::Name;
-
-/// How a value is joined to an old one.
-#[derive(Clone, Copy, Debug, PartialEq, Eq)]
-pub enum Reduction {
-    /// `min=`
-    Min,
-    /// `max=`
-    Max,
-    /// `+=`
-    Plus,
-}
+use apply_options::Reduction;
 
 /// A statement, with its label where it has one.
 #[cycle(statement)]

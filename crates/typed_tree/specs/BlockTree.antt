@@ -1,12 +1,12 @@
 -- Statements of main, without pointers.
 use Rattle.std.specs.Prelude.{ℕ, List, [], ◌∷◌, Option}
-use Rattle.typed_tree.specs.declared.expression.Slot.{Slot}
-use Rattle.syntax.specs.declared.statement.Reduction.{Reduction}
-use Rattle.typed_tree.specs.declared.statement.Action.{Action, Row_of-Statement, end_of-Statement, more_of-Statement}
-use Rattle.typed_tree.specs.declared.statement.Action.TheVariants as rust
-use Rattle.typed_tree.specs.declared.statement.Ends.{Ends}
+use Rattle.typed_tree.specs.declared.expression.VarRef.{VarRef}
+use Rattle.apply_options.specs.declared.reduction.Reduction.{Reduction}
+use Rattle.typed_tree.specs.declared.statement.StatementKind.{StatementKind, Row_of-MainStatement, end_of-MainStatement, more_of-MainStatement}
+use Rattle.typed_tree.specs.declared.statement.StatementKind.TheVariants as rust
+use Rattle.typed_tree.specs.declared.statement.ApplyEnds.{ApplyEnds}
 use Rattle.typed_tree.specs.declared.statement.SetValue.{SetValue}
-use Rattle.typed_tree.specs.declared.statement.Statement.{Statement}
+use Rattle.typed_tree.specs.declared.statement.MainStatement.{MainStatement}
 use Rattle.typed_tree.specs.IntegerTree.{IntegerTree, integer_tree}
 use Rattle.typed_tree.specs.ConditionTree.{ConditionTree, condition_tree}
 
@@ -15,18 +15,18 @@ mutual
   pub data ActionTree : Type 0 where
     DeclareInteger : (name : ℕ) → IntegerTree → ActionTree
     DeclareCondition : (name : ℕ) → ConditionTree → ActionTree
-    SetInteger : Slot → IntegerTree → ActionTree
-    SetCondition : Slot → ConditionTree → ActionTree
-    ReduceInteger : Slot → Reduction → IntegerTree → ActionTree
+    SetInteger : VarRef → IntegerTree → ActionTree
+    SetCondition : VarRef → ConditionTree → ActionTree
+    ReduceInteger : VarRef → Reduction → IntegerTree → ActionTree
     SetEntry : (vector : ℕ) → (index value : IntegerTree) → ActionTree
     ReduceEntry : (vector : ℕ) → (index : IntegerTree) → Reduction → (value : IntegerTree) → ActionTree
     DeclareSet : (name : ℕ) → SetValue → ActionTree
-    AssignSet : Slot → SetValue → ActionTree
-    AddVertex : Slot → IntegerTree → ActionTree
+    AssignSet : VarRef → SetValue → ActionTree
+    AddVertex : VarRef → IntegerTree → ActionTree
     PrintInteger : IntegerTree → ActionTree
     PrintCondition : ConditionTree → ActionTree
-    ApplyVertex : (set : Slot) → (function : ℕ) → ActionTree
-    ApplyEdges : Ends → (function : ℕ) → ActionTree
+    ApplyVertex : (set : VarRef) → (function : ℕ) → ActionTree
+    ApplyEdges : ApplyEnds → (function : ℕ) → ActionTree
     If : ConditionTree → BlockTree → ActionTree
     IfElse : ConditionTree → (body other : BlockTree) → ActionTree
     While : ConditionTree → BlockTree → ActionTree
@@ -39,7 +39,7 @@ mutual
 
 -- the tree that a Rust tree is
 abbrev mutual
-  pub action_tree : Action → ActionTree
+  pub action_tree : StatementKind → ActionTree
   action_tree (rust.DeclareInteger name e) = DeclareInteger name (integer_tree e)
   action_tree (rust.DeclareCondition name c) = DeclareCondition name (condition_tree c)
   action_tree (rust.SetInteger slot e) = SetInteger slot (integer_tree e)
@@ -60,10 +60,10 @@ abbrev mutual
   action_tree (rust.For' name first end shape body) = For name (integer_tree first) (integer_tree end) (row_tree body)
 
   -- the statements of a block inside a statement
-  pub row_tree : {n : _} → Row_of-Statement n → BlockTree
-  row_tree end_of-Statement = Empty
-  row_tree (more_of-Statement number label action rest) = Then number label (action_tree action) (row_tree rest)
+  pub row_tree : {n : _} → Row_of-MainStatement n → BlockTree
+  row_tree end_of-MainStatement = Empty
+  row_tree (more_of-MainStatement number label action rest) = Then number label (action_tree action) (row_tree rest)
 
-abbrev pub block_tree : List Statement → BlockTree
+abbrev pub block_tree : List MainStatement → BlockTree
 block_tree [] = Empty
 block_tree (s ∷ rest) = Then s.number s.label (action_tree s.action) (block_tree rest)

@@ -1,20 +1,20 @@
 -- Expressions of type int, without pointers.
 use Rattle.std.specs.Prelude.{ℕ, zero, suc, ℤ, List, [], ◌∷◌}
-use Rattle.typed_tree.specs.declared.expression.Slot.{Slot}
+use Rattle.typed_tree.specs.declared.expression.VarRef.{VarRef}
 use Rattle.typed_tree.specs.declared.expression.Endpoint.{Endpoint}
 use Rattle.typed_tree.specs.declared.expression.Operator.{Operator}
 use Rattle.typed_tree.specs.declared.expression.Operand.{Operand}
-use Rattle.typed_tree.specs.declared.expression.Integer.{Integer, Row_of-Operand, end_of-Operand, more_of-Operand}
-use Rattle.typed_tree.specs.declared.expression.Integer.TheVariants as rust
+use Rattle.typed_tree.specs.declared.expression.IntExpression.{IntExpression, Row_of-Operand, end_of-Operand, more_of-Operand}
+use Rattle.typed_tree.specs.declared.expression.IntExpression.TheVariants as rust
 
 pub data IntegerTree : Type 0 where
   Number : (value : ℤ) → IntegerTree
   Constant : (name : ℕ) → (value : ℤ) → IntegerTree
-  Variable : (slot : Slot) → IntegerTree
+  Variable : (slot : VarRef) → IntegerTree
   Parameter : (at : Endpoint) → IntegerTree
   EntryAt : (vector : ℕ) → (at : Endpoint) → IntegerTree
   Entry : (vector : ℕ) → (index : IntegerTree) → IntegerTree
-  SetSize : (slot : Slot) → IntegerTree
+  SetSize : (slot : VarRef) → IntegerTree
   Negative : IntegerTree → IntegerTree
   Arithmetic : Operator → (left right : IntegerTree) → IntegerTree
 
@@ -25,7 +25,7 @@ negated (suc n) e = Negative (negated n e)
 
 -- the tree that a Rust tree is; operators of one level are grouped from the left
 abbrev mutual
-  pub integer_tree : Integer → IntegerTree
+  pub integer_tree : IntExpression → IntegerTree
   integer_tree (rust.Number n) = Number n
   integer_tree (rust.Constant name n) = Constant name n
   integer_tree (rust.Variable slot) = Variable slot

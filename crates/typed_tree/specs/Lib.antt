@@ -4,3 +4,5 @@ pub mod StepTree
 pub mod BlockTree
 pub mod ProgramTree
 pub mod Resolved
+pub mod Access
+pub mod Independence

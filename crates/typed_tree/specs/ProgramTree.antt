@@ -1,6 +1,6 @@
 -- Programs, without pointers.
 use Rattle.std.specs.Prelude.{ℕ, List, Option, map}
-use Rattle.syntax.specs.declared.schedule.Setting.{Setting}
+use Rattle.apply_options.specs.declared.setting.Setting.{Setting}
 use Rattle.typed_tree.specs.declared.program.Typed.{Typed}
 use Rattle.typed_tree.specs.declared.program.Vector.{Vector}
 use Rattle.typed_tree.specs.declared.program.ScheduleCall.{ScheduleCall}

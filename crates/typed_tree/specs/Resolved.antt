@@ -1,13 +1,13 @@
 -- A program in which each place is that of something that is there: variables, vertex sets, vectors, functions, labels and names.
 use Rattle.std.specs.Prelude.{◌≡◌, ℕ, Bool, true, false, ◌<◌, List, [], ◌∷◌, ◌++◌, length, slice_get, Option, Some, None}
 use Rattle.std.specs.List.{AllByRecursion}
-use Rattle.typed_tree.specs.declared.expression.Slot.{Slot}
+use Rattle.typed_tree.specs.declared.expression.VarRef.{VarRef}
 use Rattle.typed_tree.specs.declared.expression.Endpoint.{Endpoint}
 use Rattle.typed_tree.specs.declared.expression.Endpoint.TheVariants as endpoint
 use Rattle.typed_tree.specs.declared.program.Vector.{Vector}
-use Rattle.typed_tree.specs.declared.statement.EndFilter.{EndFilter}
-use Rattle.typed_tree.specs.declared.statement.EndFilter.TheVariants as filter
-use Rattle.typed_tree.specs.declared.statement.Ends.{Ends}
+use Rattle.typed_tree.specs.declared.statement.VertexFilter.{VertexFilter}
+use Rattle.typed_tree.specs.declared.statement.VertexFilter.TheVariants as filter
+use Rattle.typed_tree.specs.declared.statement.ApplyEnds.{ApplyEnds}
 use Rattle.typed_tree.specs.declared.statement.SetValue.{SetValue}
 use Rattle.typed_tree.specs.declared.statement.SetValue.TheVariants as set
 use Rattle.typed_tree.specs.IntegerTree as integer
@@ -73,13 +73,13 @@ abbrev pub IsFilter : ProgramTree → ℕ → Type 0
 IsFilter p function = function < length p.filters
 
 -- what is visible at the place has the name
-abbrev pub IsInteger : ProgramTree → VisibleTree → Slot → Type 0
+abbrev pub IsInteger : ProgramTree → VisibleTree → VarRef → Type 0
 IsInteger p v slot = (slice_get v.integers slot.place ≡ Some (Some slot.name)) × IsName p slot.name
 
-abbrev pub IsCondition : ProgramTree → VisibleTree → Slot → Type 0
+abbrev pub IsCondition : ProgramTree → VisibleTree → VarRef → Type 0
 IsCondition p v slot = (slice_get v.conditions slot.place ≡ Some slot.name) × IsName p slot.name
 
-abbrev pub IsSet : ProgramTree → VisibleTree → Slot → Type 0
+abbrev pub IsSet : ProgramTree → VisibleTree → VarRef → Type 0
 IsSet p v slot = (slice_get v.sets slot.place ≡ Some slot.name) × IsName p slot.name
 
 -- the source stands before the destination
@@ -113,12 +113,12 @@ ConditionIsResolved p v (condition.Compare comparison left right) = IntegerIsRes
 ConditionIsResolved p v (condition.Connect connective left right) = ConditionIsResolved p v left × ConditionIsResolved p v right
 
 -- an end of an edge apply
-abbrev pub EndIsResolved : ProgramTree → VisibleTree → Option EndFilter → Type 0
+abbrev pub EndIsResolved : ProgramTree → VisibleTree → Option VertexFilter → Type 0
 EndIsResolved p v None = Unit {0}
 EndIsResolved p v (Some (filter.Members slot)) = IsSet p v slot
 EndIsResolved p v (Some (filter.Function place)) = IsFilter p place
 
-abbrev pub EndsAreResolved : ProgramTree → VisibleTree → Ends → Type 0
+abbrev pub EndsAreResolved : ProgramTree → VisibleTree → ApplyEnds → Type 0
 EndsAreResolved p v ends = EndIsResolved p v ends.from × EndIsResolved p v ends.to
 
 -- the members that a vertex set gets

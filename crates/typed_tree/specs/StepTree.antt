@@ -1,9 +1,9 @@
 -- Statements of functions, and functions, without pointers.
 use Rattle.std.specs.Prelude.{ℕ, List, [], ◌∷◌}
-use Rattle.syntax.specs.declared.statement.Reduction.{Reduction}
-use Rattle.typed_tree.specs.declared.expression.Slot.{Slot}
-use Rattle.typed_tree.specs.declared.function.Step.{Step, Row_of-Step, end_of-Step, more_of-Step}
-use Rattle.typed_tree.specs.declared.function.Step.TheVariants as rust
+use Rattle.apply_options.specs.declared.reduction.Reduction.{Reduction}
+use Rattle.typed_tree.specs.declared.expression.VarRef.{VarRef}
+use Rattle.typed_tree.specs.declared.function.FunctionStatement.{FunctionStatement, Row_of-FunctionStatement, end_of-FunctionStatement, more_of-FunctionStatement}
+use Rattle.typed_tree.specs.declared.function.FunctionStatement.TheVariants as rust
 use Rattle.typed_tree.specs.declared.function.Function.{Function}
 use Rattle.typed_tree.specs.IntegerTree.{IntegerTree, integer_tree}
 use Rattle.typed_tree.specs.ConditionTree.{ConditionTree, condition_tree}
@@ -13,9 +13,9 @@ mutual
   pub data StepTree : Type 0 where
     DeclareInteger : (name : ℕ) → IntegerTree → StepTree
     DeclareCondition : (name : ℕ) → ConditionTree → StepTree
-    SetInteger : Slot → IntegerTree → StepTree
-    SetCondition : Slot → ConditionTree → StepTree
-    ReduceInteger : Slot → Reduction → IntegerTree → StepTree
+    SetInteger : VarRef → IntegerTree → StepTree
+    SetCondition : VarRef → ConditionTree → StepTree
+    ReduceInteger : VarRef → Reduction → IntegerTree → StepTree
     SetEntry : (vector : ℕ) → (value : IntegerTree) → StepTree
     ReduceEntry : (vector : ℕ) → Reduction → (value : IntegerTree) → StepTree
     If : ConditionTree → StepsTree → StepTree
@@ -33,7 +33,7 @@ pub record FunctionTree : Type 0 where
 
 -- the tree that a Rust tree is
 abbrev mutual
-  pub step_tree : Step → StepTree
+  pub step_tree : FunctionStatement → StepTree
   step_tree (rust.DeclareInteger name e) = DeclareInteger name (integer_tree e)
   step_tree (rust.DeclareCondition name c) = DeclareCondition name (condition_tree c)
   step_tree (rust.SetInteger slot e) = SetInteger slot (integer_tree e)
@@ -45,11 +45,11 @@ abbrev mutual
   step_tree (rust.IfElse' c shape body shape' other) = IfElse (condition_tree c) (steps_row body) (steps_row other)
 
   -- the statements of a block inside a statement
-  pub steps_row : {n : _} → Row_of-Step n → StepsTree
-  steps_row end_of-Step = NoStep
-  steps_row (more_of-Step step rest) = StepThen (step_tree step) (steps_row rest)
+  pub steps_row : {n : _} → Row_of-FunctionStatement n → StepsTree
+  steps_row end_of-FunctionStatement = NoStep
+  steps_row (more_of-FunctionStatement step rest) = StepThen (step_tree step) (steps_row rest)
 
-abbrev pub steps_tree : List Step → StepsTree
+abbrev pub steps_tree : List FunctionStatement → StepsTree
 steps_tree [] = NoStep
 steps_tree (step ∷ rest) = StepThen (step_tree step) (steps_tree rest)
 

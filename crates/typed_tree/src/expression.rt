@@ -2,7 +2,7 @@
 
 /// What a run keeps and a name stands for.
 #[derive(Clone, Copy, Debug, PartialEq, Eq)]
-pub struct Slot {
+pub struct VarRef {
     /// Its place among the visible ones of its kind: integers, conditions or vertex sets.
     pub place: usize,
     /// The place of its name in the program's names.
@@ -30,7 +30,7 @@ pub enum Operator {
 
 /// A comparison of two integers.
 #[derive(Clone, Copy, Debug, PartialEq, Eq)]
-pub enum Comparison {
+pub enum ComparisonOperator {
     Equal,
     NotEqual,
     Less,
@@ -50,64 +50,64 @@ pub enum Connective {
 
 /// An expression of type `int`. A vertex reads as its number.
 #[cycle(integers)]
-pub enum Integer {
+pub enum IntExpression {
     /// A literal.
     Number(i64),
     /// A named constant: the place of its name in the program's names, and its value.
     Constant(usize, i64),
     /// A variable of `main` or of the function.
-    Variable(Slot),
+    Variable(VarRef),
     /// A vertex that the function works on.
     Parameter(Endpoint),
     /// In a function: the entry of the vector at this place, at a vertex that the function works on.
     EntryAt(usize, Endpoint),
     /// In `main`: the entry of the vector at this place, at an index that must be a vertex.
-    Entry(usize, Box<Integer>),
+    Entry(usize, Box<IntExpression>),
     /// How many members a vertex set has.
-    SetSize(Slot),
+    SetSize(VarRef),
     /// The number with its sign changed so many times.
-    Negative(usize, Box<Integer>),
+    Negative(usize, Box<IntExpression>),
     /// Operators of one level, of which each takes what all before it gave.
-    Arithmetic(Box<Integer>, Vec<Operand>),
+    Arithmetic(Box<IntExpression>, Vec<Operand>),
 }
 
 /// An operator and what it takes on its right.
 #[cycle(integers)]
 pub struct Operand {
     pub operator: Operator,
-    pub integer: Integer,
+    pub integer: IntExpression,
 }
 
 /// An expression of type `bool`.
 #[cycle(conditions)]
-pub enum Condition {
+pub enum BoolExpression {
     /// `true` or `false`.
     Literal(bool),
     /// A named constant: the place of its name in the program's names, and its value.
     Constant(usize, bool),
     /// A variable of `main` or of the function, or a filter's result.
-    Variable(Slot),
+    Variable(VarRef),
     /// The truth value turned so many times.
-    Not(usize, Box<Condition>),
+    Not(usize, Box<BoolExpression>),
     /// A comparison of two integers.
-    Compare(Comparison, Integer, Integer),
+    Compare(ComparisonOperator, IntExpression, IntExpression),
     /// One operator between conditions, which takes what all before it gave. All are evaluated.
-    Connect(Connective, Box<Condition>, Vec<Condition>),
+    Connect(Connective, Box<BoolExpression>, Vec<BoolExpression>),
 }
 
-impl Drop for Integer {
+impl Drop for IntExpression {
     #[cycle(drops)]
     fn drop(self) {
         match self {
-            Integer::Number(_)
-            | Integer::Constant(_, _)
-            | Integer::Variable(_)
-            | Integer::Parameter(_)
-            | Integer::EntryAt(_, _)
-            | Integer::Entry(_, _)
-            | Integer::SetSize(_)
-            | Integer::Negative(_, _)
-            | Integer::Arithmetic(_, _) => {}
+            IntExpression::Number(_)
+            | IntExpression::Constant(_, _)
+            | IntExpression::Variable(_)
+            | IntExpression::Parameter(_)
+            | IntExpression::EntryAt(_, _)
+            | IntExpression::Entry(_, _)
+            | IntExpression::SetSize(_)
+            | IntExpression::Negative(_, _)
+            | IntExpression::Arithmetic(_, _) => {}
         }
     }
 }
@@ -122,16 +122,16 @@ impl Drop for Operand {
     }
 }
 
-impl Drop for Condition {
+impl Drop for BoolExpression {
     #[cycle(drops)]
     fn drop(self) {
         match self {
-            Condition::Literal(_)
-            | Condition::Constant(_, _)
-            | Condition::Variable(_)
-            | Condition::Not(_, _)
-            | Condition::Compare(_, _, _)
-            | Condition::Connect(_, _, _) => {}
+            BoolExpression::Literal(_)
+            | BoolExpression::Constant(_, _)
+            | BoolExpression::Variable(_)
+            | BoolExpression::Not(_, _)
+            | BoolExpression::Compare(_, _, _)
+            | BoolExpression::Connect(_, _, _) => {}
         }
     }
 }

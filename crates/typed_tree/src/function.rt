@@ -1,27 +1,27 @@
 //! Functions of users.
 
-use crate::expression::{Condition, Integer, Slot};
-use syntax::Reduction;
+use crate::expression::{BoolExpression, IntExpression, VarRef};
+use apply_options::Reduction;
 
 /// A statement of a function. A variable that is declared in a block is gone behind it.
 #[cycle(steps)]
-pub enum Step {
+pub enum FunctionStatement {
     /// Declares an int variable, whose name is at this place, with its first value.
-    DeclareInteger(usize, Integer),
+    DeclareInteger(usize, IntExpression),
     /// Declares a bool variable, whose name is at this place, with its first value.
-    DeclareCondition(usize, Condition),
-    SetInteger(Slot, Integer),
+    DeclareCondition(usize, BoolExpression),
+    SetInteger(VarRef, IntExpression),
     /// Sets a variable or the filter's result.
-    SetCondition(Slot, Condition),
+    SetCondition(VarRef, BoolExpression),
     /// Reduces the variable with the value.
-    ReduceInteger(Slot, Reduction, Integer),
+    ReduceInteger(VarRef, Reduction, IntExpression),
     /// In a vertex function: the entry of the vector at this place gets the value, at the function's vertex.
-    SetEntry(usize, Integer),
+    SetEntry(usize, IntExpression),
     /// The entry of the vector at this place is reduced with the value: in a vertex function at its vertex, in
     /// an edge function at the destination.
-    ReduceEntry(usize, Reduction, Integer),
-    If(Condition, Vec<Step>),
-    IfElse(Condition, Vec<Step>, Vec<Step>),
+    ReduceEntry(usize, Reduction, IntExpression),
+    If(BoolExpression, Vec<FunctionStatement>),
+    IfElse(BoolExpression, Vec<FunctionStatement>, Vec<FunctionStatement>),
 }
 
 /// A function of a user: on an edge, on a vertex, or a filter, whose result is the first bool variable.
@@ -29,22 +29,22 @@ pub struct Function {
     /// The place of its name in the program's names.
     pub name: usize,
     /// What it does, in order.
-    pub steps: Vec<Step>,
+    pub steps: Vec<FunctionStatement>,
 }
 
-impl Drop for Step {
+impl Drop for FunctionStatement {
     #[cycle(drops)]
     fn drop(self) {
         match self {
-            Step::DeclareInteger(_, _)
-            | Step::DeclareCondition(_, _)
-            | Step::SetInteger(_, _)
-            | Step::SetCondition(_, _)
-            | Step::ReduceInteger(_, _, _)
-            | Step::SetEntry(_, _)
-            | Step::ReduceEntry(_, _, _)
-            | Step::If(_, _)
-            | Step::IfElse(_, _, _) => {}
+            FunctionStatement::DeclareInteger(_, _)
+            | FunctionStatement::DeclareCondition(_, _)
+            | FunctionStatement::SetInteger(_, _)
+            | FunctionStatement::SetCondition(_, _)
+            | FunctionStatement::ReduceInteger(_, _, _)
+            | FunctionStatement::SetEntry(_, _)
+            | FunctionStatement::ReduceEntry(_, _, _)
+            | FunctionStatement::If(_, _)
+            | FunctionStatement::IfElse(_, _, _) => {}
         }
     }
 }

@@ -3,7 +3,7 @@
 //! A [`Typed`] has a table of names, the labels, the vectors, the constant sets and the functions in the
 //! order in which they are declared, the statements of `main`, and the calls of the schedule. What a tree
 //! speaks of it names by a place: a vector, a function and a name by its place in the program's list, a
-//! variable and a set by its place among those that are visible (`Slot`), the vertex that a function works on
+//! variable and a set by its place among those that are visible (`VarRef`), the vertex that a function works on
 //! by `Endpoint`. Integers and conditions are types of their own, so that no number stands for a truth value.
 //! A named constant keeps its name beside its value, and a statement its number and its label.
 //!
@@ -21,16 +21,19 @@
 //! The checker, which makes these trees, the meaning of programs and the schedule stand on this crate.
 #![tactic(auto)]
 
+mod apply;
 mod expression;
 mod function;
 mod program;
 mod sequence;
 mod statement;
 
+pub use apply::StatementApply;
 pub use expression::{
-    Comparison, Condition, Connective, Endpoint, Integer, Operand, Operator, Slot,
+    BoolExpression, ComparisonOperator, Connective, Endpoint, IntExpression, Operand, Operator,
+    VarRef,
 };
-pub use function::{Function, Step};
-pub use program::{Beginning, ScheduleCall, Typed, Vector};
+pub use function::{Function, FunctionStatement};
+pub use program::{InitialValue, ScheduleCall, Typed, Vector};
 pub use sequence::{Name, Sequence};
-pub use statement::{Action, EndFilter, Ends, SetValue, Statement};
+pub use statement::{ApplyEnds, MainStatement, SetValue, StatementKind, VertexFilter};

@@ -2,8 +2,8 @@
 
 use crate::function::Function;
 use crate::sequence::Name;
-use crate::statement::Statement;
-use syntax::Setting;
+use crate::statement::MainStatement;
+use apply_options::Setting;
 
 /// A checked program.
 pub struct Typed {
@@ -24,7 +24,7 @@ pub struct Typed {
     /// The filters, in declared order.
     pub filters: Vec<Function>,
     /// The statements of `main`.
-    pub main: Vec<Statement>,
+    pub main: Vec<MainStatement>,
     /// The calls of the schedule, in the order of the text.
     pub schedule: Vec<ScheduleCall>,
 }
@@ -51,12 +51,12 @@ impl Drop for Typed {
 pub struct Vector {
     /// The place of its name in the program's names.
     pub name: usize,
-    pub beginning: Beginning,
+    pub beginning: InitialValue,
 }
 
 /// What a vector begins with.
 #[derive(Clone, Copy, Debug, PartialEq, Eq)]
-pub enum Beginning {
+pub enum InitialValue {
     /// This number at each vertex.
     Number(i64),
     /// How many edges leave each vertex.

@@ -1,16 +1,16 @@
 //! Statements of `main`.
 
-use crate::expression::{Condition, Integer, Slot};
-use syntax::Reduction;
+use crate::expression::{BoolExpression, IntExpression, VarRef};
+use apply_options::Reduction;
 
 /// A statement of `main`.
 #[cycle(statements)]
-pub struct Statement {
+pub struct MainStatement {
     /// Its number, from 1 in the order of the text, a block before its body.
     pub number: u64,
     /// The place of its label among the labels of the program, where it has one.
     pub label: Option<usize>,
-    pub action: Action,
+    pub action: StatementKind,
 }
 
 /// What a set variable gets.
@@ -21,19 +21,19 @@ pub enum SetValue {
     /// All vertices.
     All,
     /// The members of another set.
-    Copy(Slot),
+    Copy(VarRef),
     /// The members of a set that the filter at this place passes.
-    Filter(Slot, usize),
+    Filter(VarRef, usize),
     /// What an edge apply changes: the vertices whose entry of the vector at the second place differs after
     /// the edge function at the first place was applied between the ends.
-    Modified(Ends, usize, usize),
+    Modified(ApplyEnds, usize, usize),
 }
 
 /// Which vertices an end of an edge may be.
 #[derive(Clone, Copy, Debug, PartialEq, Eq)]
-pub enum EndFilter {
+pub enum VertexFilter {
     /// The members of a vertex set.
-    Members(Slot),
+    Members(VarRef),
     /// Those that the filter at this place passes.
     Function(usize),
 }
@@ -41,52 +41,52 @@ pub enum EndFilter {
 /// Which edges an apply looks at: those whose source `from` lets through and whose destination `to` does. An
 /// end that is not given lets all vertices through.
 #[derive(Clone, Copy, Debug, PartialEq, Eq)]
-pub struct Ends {
-    pub from: Option<EndFilter>,
-    pub to: Option<EndFilter>,
+pub struct ApplyEnds {
+    pub from: Option<VertexFilter>,
+    pub to: Option<VertexFilter>,
 }
 
 /// What a statement of `main` does.
 #[cycle(statements)]
-pub enum Action {
+pub enum StatementKind {
     /// Declares an int variable, whose name is at this place, with its first value.
-    DeclareInteger(usize, Integer),
+    DeclareInteger(usize, IntExpression),
     /// Declares a bool variable, whose name is at this place, with its first value.
-    DeclareCondition(usize, Condition),
-    SetInteger(Slot, Integer),
-    SetCondition(Slot, Condition),
+    DeclareCondition(usize, BoolExpression),
+    SetInteger(VarRef, IntExpression),
+    SetCondition(VarRef, BoolExpression),
     /// Reduces the variable with the value.
-    ReduceInteger(Slot, Reduction, Integer),
+    ReduceInteger(VarRef, Reduction, IntExpression),
     /// The vector at this place gets an entry at the index, which must be a vertex: first the index,
     /// then the value.
-    SetEntry(usize, Integer, Integer),
+    SetEntry(usize, IntExpression, IntExpression),
     /// Reduces the entry at the index with the value.
-    ReduceEntry(usize, Integer, Reduction, Integer),
+    ReduceEntry(usize, IntExpression, Reduction, IntExpression),
     /// Declares a set variable, whose name is at this place, with its first value.
     DeclareSet(usize, SetValue),
-    AssignSet(Slot, SetValue),
+    AssignSet(VarRef, SetValue),
     /// Adds the vertex to the set; it must be one.
-    AddVertex(Slot, Integer),
+    AddVertex(VarRef, IntExpression),
     /// Writes the number and a line feed.
-    PrintInteger(Integer),
+    PrintInteger(IntExpression),
     /// Writes `true` or `false` and a line feed.
-    PrintCondition(Condition),
+    PrintCondition(BoolExpression),
     /// Runs the vertex function at this place for each vertex of the set.
-    ApplyVertex(Slot, usize),
+    ApplyVertex(VarRef, usize),
     /// Applies the edge function at this place to the edges between the ends.
-    ApplyEdges(Ends, usize),
-    If(Condition, Vec<Statement>),
-    IfElse(Condition, Vec<Statement>, Vec<Statement>),
-    While(Condition, Vec<Statement>),
+    ApplyEdges(ApplyEnds, usize),
+    If(BoolExpression, Vec<MainStatement>),
+    IfElse(BoolExpression, Vec<MainStatement>, Vec<MainStatement>),
+    While(BoolExpression, Vec<MainStatement>),
     /// Declares an int variable, whose name is at this place, in its body, and runs the body with each
     /// value from the first bound up to the second, which is left out.
-    For(usize, Integer, Integer, Vec<Statement>),
+    For(usize, IntExpression, IntExpression, Vec<MainStatement>),
 }
 
-impl Drop for Statement {
+impl Drop for MainStatement {
     #[cycle(drops)]
     fn drop(self) {
-        let Statement {
+        let MainStatement {
             number: _,
             label: _,
             action: _,
@@ -94,28 +94,28 @@ impl Drop for Statement {
     }
 }
 
-impl Drop for Action {
+impl Drop for StatementKind {
     #[cycle(drops)]
     fn drop(self) {
         match self {
-            Action::DeclareInteger(_, _)
-            | Action::DeclareCondition(_, _)
-            | Action::SetInteger(_, _)
-            | Action::SetCondition(_, _)
-            | Action::ReduceInteger(_, _, _)
-            | Action::SetEntry(_, _, _)
-            | Action::ReduceEntry(_, _, _, _)
-            | Action::DeclareSet(_, _)
-            | Action::AssignSet(_, _)
-            | Action::AddVertex(_, _)
-            | Action::PrintInteger(_)
-            | Action::PrintCondition(_)
-            | Action::ApplyVertex(_, _)
-            | Action::ApplyEdges(_, _)
-            | Action::If(_, _)
-            | Action::IfElse(_, _, _)
-            | Action::While(_, _)
-            | Action::For(_, _, _, _) => {}
+            StatementKind::DeclareInteger(_, _)
+            | StatementKind::DeclareCondition(_, _)
+            | StatementKind::SetInteger(_, _)
+            | StatementKind::SetCondition(_, _)
+            | StatementKind::ReduceInteger(_, _, _)
+            | StatementKind::SetEntry(_, _, _)
+            | StatementKind::ReduceEntry(_, _, _, _)
+            | StatementKind::DeclareSet(_, _)
+            | StatementKind::AssignSet(_, _)
+            | StatementKind::AddVertex(_, _)
+            | StatementKind::PrintInteger(_)
+            | StatementKind::PrintCondition(_)
+            | StatementKind::ApplyVertex(_, _)
+            | StatementKind::ApplyEdges(_, _)
+            | StatementKind::If(_, _)
+            | StatementKind::IfElse(_, _, _)
+            | StatementKind::While(_, _)
+            | StatementKind::For(_, _, _, _) => {}
         }
     }
 }

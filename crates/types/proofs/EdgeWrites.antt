@@ -9,8 +9,8 @@ use Rattle.syntax.specs.Terminals.{Identifier}
 use Rattle.syntax.specs.ExpressionTrees.{ExpressionTree}
 use Rattle.syntax.specs.declared.declaration.DeclaredType.{DeclaredType}
 use Rattle.syntax.specs.declared.declaration.DeclaredType.TheVariants as declared
-use Rattle.syntax.specs.declared.statement.Reduction.{Reduction}
-use Rattle.syntax.specs.declared.statement.Reduction.TheVariants as reduction
+use Rattle.apply_options.specs.declared.reduction.Reduction.{Reduction}
+use Rattle.apply_options.specs.declared.reduction.Reduction.TheVariants as reduction
 use Rattle.syntax.specs.SourceTrees as source
 use Rattle.syntax.specs.SourceTrees.{ParameterTree, InitialTree, DeclarationTree, SourceTree}
 use Rattle.typed_tree.specs.declared.expression.Endpoint.{Endpoint}
@@ -22,15 +22,15 @@ use Rattle.expression_types.specs.declared.scope.Entity.{Entity}
 use Rattle.expression_types.specs.declared.scope.Entity.TheVariants as entity
 use Rattle.expression_types.specs.declared.scope.Inside.{Inside}
 use Rattle.expression_types.specs.declared.scope.Inside.TheVariants as inside
-use Rattle.expression_types.specs.Expression.{used, value_of, vector_place}
+use Rattle.expression_types.specs.Expression.{index_value, used, value_of, vector_place}
 use Rattle.expression_types.specs.Names.{found}
 use Rattle.expression_types.specs.ScopeTree.{ScopeTree, declared_over, entered}
 use Rattle.expression_types.specs.ValueTree.{ValueTree}
 use Rattle.types.specs.Checker.{CheckerTree, integer_slot, condition_slot, declared_in, labelled, new_label, restarted, with_scope}
 use Rattle.types.specs.Block.{statements_typed}
-use Rattle.types.specs.Declaration.{DeclaredTree, KindTree, MainKind, EdgeKind, VertexKind, FilterKind, NoKind, declaration_typed, declarations_typed, declare_constant_as, declare_function, declare_name, function_of, inside_of, kind, opened, parameter, parameters_declared, result_declared, result_entity, with_main}
+use Rattle.types.specs.Declaration.{DeclaredTree, FunctionKindTree, MainKind, EdgeKind, VertexKind, FilterKind, NoKind, declaration_typed, declarations_typed, declare_constant_as, declare_function, declare_name, function_of, inside_of, kind, opened, parameter, parameters_declared, result_declared, result_entity, with_main}
 use Rattle.types.specs.EdgeWrites.{ReducesInOneWay, SetsNoEntry, StepReduces, StepSetsNoEntry, StepsReduce}
-use Rattle.types.specs.Initial.{GivenTree, given_by}
+use Rattle.types.specs.Initial.{InitializerTree, initializer_of}
 use Rattle.types.specs.Step.{assigned_step, declare_step_as, entry_step, may_reduce, may_set, one_reduction, own_vertex, reduce_entry_step, reduced_as, reduced_step, reduction_step, same_reduction, step_behind, step_typed, steps_behind, steps_typed, with_writes, written_at, written_with}
 use Rattle.types.specs.Program.{opening, program_of, set_count}
 use Rattle.types.specs.Wanted.{integer_in}
@@ -109,17 +109,17 @@ labelled_goes c (Some label) = new_label_goes c label (found label.bytes c.label
 abbrev pub Fits : CheckerTree → StepTree × CheckerTree → Type 0
 Fits c r = GoesOn c r.1 × StepAgrees r.1.writes r.0
 
-declare_fits : (c : CheckerTree) (at : ℕ) (name : Identifier) (given : GivenTree) (type : DeclaredType) → Fits c (declare_step_as c at name given type).value
-declare_fits c at name given declared.Int = (declared_goes c name (entity.IntegerVariable (integer_slot c)), tt)
-declare_fits c at name given declared.Bool = (declared_goes c name (entity.ConditionVariable (condition_slot c)), tt)
-declare_fits c at name given declared.Vertex = (declared_goes c name entity.Unclear, tt)
-declare_fits c at name given declared.VertexSet = (declared_goes c name entity.Unclear, tt)
-declare_fits c at name given declared.Vector = (declared_goes c name entity.Unclear, tt)
-declare_fits c at name given declared.EdgeSet = (declared_goes c name entity.Unclear, tt)
+declare_fits : (c : CheckerTree) (at : ℕ) (name : Identifier) (initializer : InitializerTree) (type : DeclaredType) → Fits c (declare_step_as c at name initializer type).value
+declare_fits c at name initializer declared.Int = (declared_goes c name (entity.IntegerVariable (integer_slot c)), tt)
+declare_fits c at name initializer declared.Bool = (declared_goes c name (entity.ConditionVariable (condition_slot c)), tt)
+declare_fits c at name initializer declared.Vertex = (declared_goes c name entity.Error, tt)
+declare_fits c at name initializer declared.VertexSet = (declared_goes c name entity.Error, tt)
+declare_fits c at name initializer declared.Vector = (declared_goes c name entity.Error, tt)
+declare_fits c at name initializer declared.EdgeSet = (declared_goes c name entity.Error, tt)
 
-assigned_agrees : (writes : Writes) (at : ℕ) (given : GivenTree) (e : Entity) → StepAgrees writes (assigned_step at given e).value
-assigned_agrees writes at given entity.Edges = tt
-assigned_agrees writes at given _ = tt
+assigned_agrees : (writes : Writes) (at : ℕ) (initializer : InitializerTree) (e : Entity) → StepAgrees writes (assigned_step at initializer e).value
+assigned_agrees writes at initializer entity.Edges = tt
+assigned_agrees writes at initializer _ = tt
 
 reduced_agrees : (writes : Writes) (at : ℕ) (by : Reduction) (v : ValueTree) (e : Entity) → StepAgrees writes (reduced_step at by v e).value
 reduced_agrees writes at by v entity.Edges = tt
@@ -201,7 +201,7 @@ entry_reduced at writes vector by x own i is =
 reduce_fits : (c : CheckerTree) (at : ℕ) (name : Identifier) (index : ExpressionTree) (by : Reduction) (e : ExpressionTree) → c.scope.inside ≡ inside.EdgeFunction
     → Fits c (reduce_entry_step c at name index by e).value
 reduce_fits c at name index by e is =
-    let own = (written_at at (own_vertex c.scope.inside) (value_of c.scope at index).value).value in
+    let own = (written_at at (own_vertex c.scope.inside) (index_value c.scope at index).value).value in
     let all = entry_reduced at c.writes (vector_place c.scope at name).value by (integer_in c.scope at e).value own c.scope.inside is in
     ((refl, all.0), all.1)
 
@@ -215,7 +215,7 @@ block_goes c d goes = (refl, goes.1)
 
 mutual
   step_fits : (c : CheckerTree) (action : source.ActionTree) → c.scope.inside ≡ inside.EdgeFunction → Fits c (step_typed c action).value
-  step_fits c (source.Declare at p initial) is = declare_fits c at p.name (given_by c at initial).value p.declared
+  step_fits c (source.Declare at p initial) is = declare_fits c at p.name (initializer_of c at initial).value p.declared
   step_fits c (source.While at test body) is = (block_goes c (steps_typed c NoStep body).value.1 (steps_fit c NoStep body is tt).0, tt)
   step_fits c (source.For at name first limit body) is =
       let d = (declared_in c name (entity.LoopVariable (integer_slot c))).value in
@@ -234,10 +234,10 @@ mutual
       (goes_further c d (steps_behind d o.1) (block_goes c b.1 all.0) behind, (steps_extend b.1.writes o.1.writes b.0 others.0.1 all.1, others.1))
   step_fits c (source.Print at e) is = (stays c, tt)
   step_fits c (source.Assign name initial) is =
-      (stays c, assigned_agrees c.writes name.at (given_by c name.at initial).value (used c.scope name).value)
+      (stays c, assigned_agrees c.writes name.at (initializer_of c name.at initial).value (used c.scope name).value)
   step_fits c (source.Reduce name by e) is = (stays c, reduced_agrees c.writes name.at by (value_of c.scope name.at e).value (used c.scope name).value)
   step_fits c (source.SetEntry vector index e) is =
-      let own = (written_at vector.at (own_vertex c.scope.inside) (value_of c.scope vector.at index).value).value in
+      let own = (written_at vector.at (own_vertex c.scope.inside) (index_value c.scope vector.at index).value).value in
       (stays c, set_agrees c.writes vector.at own (vector_place c.scope vector.at vector).value (integer_in c.scope vector.at e).value c.scope.inside is)
   step_fits c (source.ReduceEntry vector index by e) is = reduce_fits c vector.at vector index by e is
   step_fits c (source.AddVertex set e) is = (stays c, tt)
@@ -311,14 +311,14 @@ all_behind (g ∷ fs) f all well = (all.0, all_behind fs f all.1 well)
 abbrev pub AllWriteWell : DeclaredTree → Type 0
 AllWriteWell d = AllByRecursion WritesWell d.edge_functions
 
-constant_well : (d : DeclaredTree) (at : ℕ) (name : Identifier) (initial : InitialTree) (type : DeclaredType) (given : GivenTree) → AllWriteWell d
-    → AllWriteWell (declare_constant_as d at name initial type given).value
-constant_well d at name initial declared.Int given all = all
-constant_well d at name initial declared.Bool given all = all
-constant_well d at name initial declared.Vertex given all = all
-constant_well d at name initial declared.VertexSet given all = all
-constant_well d at name initial declared.Vector given all = all
-constant_well d at name initial declared.EdgeSet given all = all
+constant_well : (d : DeclaredTree) (at : ℕ) (name : Identifier) (initial : InitialTree) (type : DeclaredType) (initializer : InitializerTree) → AllWriteWell d
+    → AllWriteWell (declare_constant_as d at name initial type initializer).value
+constant_well d at name initial declared.Int initializer all = all
+constant_well d at name initial declared.Bool initializer all = all
+constant_well d at name initial declared.Vertex initializer all = all
+constant_well d at name initial declared.VertexSet initializer all = all
+constant_well d at name initial declared.Vector initializer all = all
+constant_well d at name initial declared.EdgeSet initializer all = all
 
 main_well : (d : DeclaredTree) (fits : Bool) (main : BlockTree) → AllWriteWell d → AllWriteWell (with_main d fits main)
 main_well d true main all = all
@@ -330,11 +330,11 @@ parameters_go c p (v ∷ others) =
     let d = (declared_in c v.name (parameter p v.declared)).value in
     goes_further c d (parameters_declared d endpoint.Destination others).value (declared_goes c v.name (parameter p v.declared)) (parameters_go d endpoint.Destination others)
 
-result_goes : (c : CheckerTree) (kind : KindTree) (result : Option ParameterTree) → GoesOn c (result_declared c kind result).value
+result_goes : (c : CheckerTree) (kind : FunctionKindTree) (result : Option ParameterTree) → GoesOn c (result_declared c kind result).value
 result_goes c kind None = stays c
 result_goes c kind (Some result) = declared_goes c result.name (result_entity c kind)
 
-pub opened_inside : (c : CheckerTree) (kind : KindTree) (parameters : List ParameterTree) (result : Option ParameterTree)
+pub opened_inside : (c : CheckerTree) (kind : FunctionKindTree) (parameters : List ParameterTree) (result : Option ParameterTree)
     → (opened c kind parameters result).value.scope.inside ≡ inside_of kind
 opened_inside c kind parameters result =
     let e = with_writes (with_scope c (entered (inside_of kind) c.scope)) [] in
@@ -348,7 +348,7 @@ edge_well c name parameters result body =
     let b = (steps_typed d NoStep body).value in
     writes_well (record { name = name; steps = b.0 }) b.1.writes (steps_fit d NoStep body (opened_inside c EdgeKind parameters result) tt).1
 
-function_well : (d : DeclaredTree) (at : ℕ) (name : Identifier) (parameters : List ParameterTree) (result : Option ParameterTree) (body : source.BlockTree) (kind : KindTree)
+function_well : (d : DeclaredTree) (at : ℕ) (name : Identifier) (parameters : List ParameterTree) (result : Option ParameterTree) (body : source.BlockTree) (kind : FunctionKindTree)
     → AllWriteWell d → AllWriteWell (declare_function d at name parameters result body kind).value
 function_well d at name parameters result body (MainKind fits) all =
     let b = (statements_typed (opened (restarted d.checker) (MainKind fits) parameters result).value Empty body).value in
@@ -362,7 +362,7 @@ function_well d at name parameters result body FilterKind all = all
 function_well d at name parameters result body NoKind all = all
 
 declaration_well : (d : DeclaredTree) (x : DeclarationTree) → AllWriteWell d → AllWriteWell (declaration_typed d x).value
-declaration_well d (source.Constant at p initial) all = constant_well d at p.name initial p.declared (given_by d.checker at initial).value all
+declaration_well d (source.Constant at p initial) all = constant_well d at p.name initial p.declared (initializer_of d.checker at initial).value all
 declaration_well d (source.Function at name parameters result body) all =
     function_well d at name parameters result body (kind name.bytes parameters result) all
 

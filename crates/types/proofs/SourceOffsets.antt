@@ -20,12 +20,12 @@ use Rattle.expression_types.specs.declared.scope.Entity.TheVariants as entity
 use Rattle.expression_types.proofs.FaultOffsets.{FaultsStand, both_stand, if_stand}
 use Rattle.types.specs.Block.{statements_typed}
 use Rattle.types.specs.Checker.{CheckerTree, declared_in, restarted, with_scope}
-use Rattle.types.specs.Declaration.{DeclaredTree, KindTree, MainKind, EdgeKind, VertexKind, FilterKind, NoKind, begins, declaration_typed, declarations_typed, declare_constant_as, declare_function, declare_name, function_declared, has_all, kind, kind_fits, literal_or_fault, loads, main_declared, next_name, only_edges, opened, parameter, parameters_declared, result_declared, result_entity, steps_declared, wanted}
-use Rattle.types.specs.Initial.{GivenTree, given_by, is_all, is_degrees, is_loaded, is_sound}
+use Rattle.types.specs.Declaration.{DeclaredTree, FunctionKindTree, MainKind, EdgeKind, VertexKind, FilterKind, NoKind, begins, declaration_typed, declarations_typed, declare_constant_as, declare_function, declare_name, function_declared, has_all, kind, kind_fits, literal_or_fault, loads, main_declared, next_name, only_edges, opened, parameter, parameters_declared, result_declared, result_entity, steps_declared, wanted}
+use Rattle.types.specs.Initial.{InitializerTree, initializer_of, is_all, is_degrees, is_loaded, is_sound}
 use Rattle.types.specs.Literal.{literal_condition, literal_integer}
 use Rattle.types.specs.Program.{chain_calls, main_of, opening, program_of, schedule_call, schedule_calls, set_count}
 use Rattle.types.specs.Step.{steps_typed}
-use Rattle.types.proofs.ValueOffsets.{given_by_stands}
+use Rattle.types.proofs.ValueOffsets.{initializer_stands}
 use Rattle.types.proofs.StatementOffsets.{declared_in_stands, statements_stand}
 use Rattle.types.proofs.StepOffsets.{steps_stand}
 
@@ -42,10 +42,10 @@ wanted_stands : (P : ℕ → Type 0) (at : ℕ) (b : Bool) → P at → FaultsSt
 wanted_stands P at true here = tt
 wanted_stands P at false here = (here, tt)
 
-begins_stands : (P : ℕ → Type 0) (at : ℕ) (given : GivenTree) (initial : InitialTree) → P at → FaultsStand P (begins at given initial)
-begins_stands P at given initial here =
-    let l = literal_or_fault at (is_sound given) (pos 0) (literal_integer initial) in
-    if_stand P (is_degrees given) _ _ tt (both_stand P l.faults [] (literal_stands P at (is_sound given) (pos 0) (literal_integer initial) here) tt)
+begins_stands : (P : ℕ → Type 0) (at : ℕ) (initializer : InitializerTree) (initial : InitialTree) → P at → FaultsStand P (begins at initializer initial)
+begins_stands P at initializer initial here =
+    let l = literal_or_fault at (is_sound initializer) (pos 0) (literal_integer initial) in
+    if_stand P (is_degrees initializer) _ _ tt (both_stand P l.faults [] (literal_stands P at (is_sound initializer) (pos 0) (literal_integer initial) here) tt)
 
 only_edges_stands : (P : ℕ → Type 0) (name : Identifier) (place : ℕ) (o : Option ℕ) → P name.at → FaultsStand P (only_edges name place o)
 only_edges_stands P name place None there = tt
@@ -55,25 +55,25 @@ only_edges_stands P name place (Some old) there = (there, tt)
 name_last_stands : (P : ℕ → Type 0) (d : DeclaredTree) (name : Identifier) (e : Entity) → P name.at → AllByRecursion (λ f. P f.at) ((declare_name d name e).faults ++ [])
 name_last_stands P d name e there = let n = declare_name d name e in both_stand P n.faults [] (declare_name_stands P d name e there) tt
 
-constant_stands : (P : ℕ → Type 0) (d : DeclaredTree) (at : ℕ) (name : Identifier) (initial : InitialTree) (type : DeclaredType) (given : GivenTree) → P at → P name.at
-    → FaultsStand P (declare_constant_as d at name initial type given)
-constant_stands P d at name initial declared.Int given here there =
-    let n = literal_or_fault at (is_sound given) (pos 0) (literal_integer initial) in
-    both_stand P n.faults _ (literal_stands P at (is_sound given) (pos 0) (literal_integer initial) here) (declare_name_stands P d name (entity.IntegerConstant (next_name d) n.value) there)
-constant_stands P d at name initial declared.Bool given here there =
-    let b = literal_or_fault at (is_sound given) false (literal_condition initial) in
-    both_stand P b.faults _ (literal_stands P at (is_sound given) false (literal_condition initial) here) (declare_name_stands P d name (entity.ConditionConstant (next_name d) b.value) there)
-constant_stands P d at name initial declared.Vertex given here there = (here, declare_name_stands P d name entity.Unclear there)
-constant_stands P d at name initial declared.VertexSet given here there =
-    let g = has_all at given in
-    both_stand P g.faults _ (wanted_stands P at (not (is_sound given) || is_all given) here)
+constant_stands : (P : ℕ → Type 0) (d : DeclaredTree) (at : ℕ) (name : Identifier) (initial : InitialTree) (type : DeclaredType) (initializer : InitializerTree) → P at → P name.at
+    → FaultsStand P (declare_constant_as d at name initial type initializer)
+constant_stands P d at name initial declared.Int initializer here there =
+    let n = literal_or_fault at (is_sound initializer) (pos 0) (literal_integer initial) in
+    both_stand P n.faults _ (literal_stands P at (is_sound initializer) (pos 0) (literal_integer initial) here) (declare_name_stands P d name (entity.IntegerConstant (next_name d) n.value) there)
+constant_stands P d at name initial declared.Bool initializer here there =
+    let b = literal_or_fault at (is_sound initializer) false (literal_condition initial) in
+    both_stand P b.faults _ (literal_stands P at (is_sound initializer) false (literal_condition initial) here) (declare_name_stands P d name (entity.ConditionConstant (next_name d) b.value) there)
+constant_stands P d at name initial declared.Vertex initializer here there = (here, declare_name_stands P d name entity.Error there)
+constant_stands P d at name initial declared.VertexSet initializer here there =
+    let g = has_all at initializer in
+    both_stand P g.faults _ (wanted_stands P at (not (is_sound initializer) || is_all initializer) here)
     (name_last_stands P d name (entity.ConstantSet (record { place = length d.sets; name = next_name d })) there)
-constant_stands P d at name initial declared.Vector given here there =
-    let b = begins at given initial in both_stand P b.faults _ (begins_stands P at given initial here) (name_last_stands P d name (entity.Vector (length d.vectors)) there)
-constant_stands P d at name initial declared.EdgeSet given here there =
-    let g = loads at given in
+constant_stands P d at name initial declared.Vector initializer here there =
+    let b = begins at initializer initial in both_stand P b.faults _ (begins_stands P at initializer initial here) (name_last_stands P d name (entity.Vector (length d.vectors)) there)
+constant_stands P d at name initial declared.EdgeSet initializer here there =
+    let g = loads at initializer in
     let edges = only_edges name (next_name d) d.edges in
-    both_stand P g.faults _ (wanted_stands P at (not (is_sound given) || is_loaded given) here)
+    both_stand P g.faults _ (wanted_stands P at (not (is_sound initializer) || is_loaded initializer) here)
     (both_stand P edges.faults _ (only_edges_stands P name (next_name d) d.edges there) (name_last_stands P d name entity.Edges there))
 
 -- parameters and a result
@@ -94,30 +94,30 @@ parameters_stand P c p (v ∷ others) names =
     let d = declared_in c v.name (parameter p v.declared) in
     both_stand P d.faults _ (declared_in_stands P c v.name (parameter p v.declared) names.0) (parameters_stand P d.value endpoint.Destination others names.1)
 
-result_stands : (P : ℕ → Type 0) (c : CheckerTree) (kind : KindTree) (result : Option ParameterTree) (rest : List Terminal) → StandWhere P (result_before result rest) → FaultsStand P (result_declared c kind result)
+result_stands : (P : ℕ → Type 0) (c : CheckerTree) (kind : FunctionKindTree) (result : Option ParameterTree) (rest : List Terminal) → StandWhere P (result_before result rest) → FaultsStand P (result_declared c kind result)
 result_stands P c kind None rest all = tt
 result_stands P c kind (Some result) rest all = declared_in_stands P c result.name (result_entity c kind) all.1.0
 
-opened_stands : (P : ℕ → Type 0) (c : CheckerTree) (kind : KindTree) (parameters : List ParameterTree) (result : Option ParameterTree) (rest : List Terminal)
+opened_stands : (P : ℕ → Type 0) (c : CheckerTree) (kind : FunctionKindTree) (parameters : List ParameterTree) (result : Option ParameterTree) (rest : List Terminal)
     → NamesStand P parameters → StandWhere P (result_before result rest) → FaultsStand P (opened c kind parameters result)
 opened_stands P c kind parameters result rest names all =
     let d = parameters_declared _ endpoint.Source parameters in
     both_stand P d.faults _ (parameters_stand P _ endpoint.Source parameters names) (result_stands P d.value kind result rest all)
 
 -- functions
-kind_fits_stands : (P : ℕ → Type 0) (at : ℕ) (kind : KindTree) → P at → FaultsStand P (kind_fits at kind)
+kind_fits_stands : (P : ℕ → Type 0) (at : ℕ) (kind : FunctionKindTree) → P at → FaultsStand P (kind_fits at kind)
 kind_fits_stands P at (MainKind fits) here = tt
 kind_fits_stands P at EdgeKind here = tt
 kind_fits_stands P at VertexKind here = tt
 kind_fits_stands P at FilterKind here = tt
 kind_fits_stands P at NoKind here = (here, tt)
 
-function_declared_stands : (P : ℕ → Type 0) (d : DeclaredTree) (kind : KindTree) (name : Identifier) (steps : StepsTree) → P name.at → FaultsStand P (function_declared d kind name steps)
-function_declared_stands P d (MainKind fits) name steps there = declare_name_stands P d name entity.Unclear there
+function_declared_stands : (P : ℕ → Type 0) (d : DeclaredTree) (kind : FunctionKindTree) (name : Identifier) (steps : StepsTree) → P name.at → FaultsStand P (function_declared d kind name steps)
+function_declared_stands P d (MainKind fits) name steps there = declare_name_stands P d name entity.Error there
 function_declared_stands P d EdgeKind name steps there = name_last_stands P d name (entity.EdgeFunction (length d.edge_functions)) there
 function_declared_stands P d VertexKind name steps there = name_last_stands P d name (entity.VertexFunction (length d.vertex_functions)) there
 function_declared_stands P d FilterKind name steps there = name_last_stands P d name (entity.Filter (length d.filters)) there
-function_declared_stands P d NoKind name steps there = declare_name_stands P d name entity.Unclear there
+function_declared_stands P d NoKind name steps there = declare_name_stands P d name entity.Error there
 
 -- what stands in a function
 record FunctionStands (P : ℕ → Type 0) (at : ℕ) (name : Identifier) (parameters : List ParameterTree) (result : Option ParameterTree) (body : source.BlockTree) : Type 0 where
@@ -136,7 +136,7 @@ main_stands P d fits at name parameters result body stands =
     (both_stand P b.faults _ (statements_stand P c.value Empty body stands.block.0 stands.block.1)
     (name_last_stands P (record d { checker = with_scope b.value.1 d.checker.scope }) name entity.Main stands.there))
 
-steps_declared_stands : (P : ℕ → Type 0) (d : DeclaredTree) (at : ℕ) (kind : KindTree) (name : Identifier) (parameters : List ParameterTree) (result : Option ParameterTree) (body : source.BlockTree)
+steps_declared_stands : (P : ℕ → Type 0) (d : DeclaredTree) (at : ℕ) (kind : FunctionKindTree) (name : Identifier) (parameters : List ParameterTree) (result : Option ParameterTree) (body : source.BlockTree)
     → FunctionStands P at name parameters result body → FaultsStand P (steps_declared d at kind name parameters result body)
 steps_declared_stands P d at kind name parameters result body stands =
     let f = kind_fits at kind in
@@ -147,7 +147,7 @@ steps_declared_stands P d at kind name parameters result body stands =
     (both_stand P b.faults _ (steps_stand P c.value NoStep body stands.block.0 stands.block.1)
     (function_declared_stands P (record d { checker = with_scope b.value.1 d.checker.scope }) kind name b.value.0 stands.there)))
 
-function_stands : (P : ℕ → Type 0) (d : DeclaredTree) (at : ℕ) (name : Identifier) (parameters : List ParameterTree) (result : Option ParameterTree) (body : source.BlockTree) (kind : KindTree)
+function_stands : (P : ℕ → Type 0) (d : DeclaredTree) (at : ℕ) (name : Identifier) (parameters : List ParameterTree) (result : Option ParameterTree) (body : source.BlockTree) (kind : FunctionKindTree)
     → FunctionStands P at name parameters result body → FaultsStand P (declare_function d at name parameters result body kind)
 function_stands P d at name parameters result body (MainKind fits) stands = main_stands P d fits at name parameters result body stands
 function_stands P d at name parameters result body EdgeKind stands = steps_declared_stands P d at EdgeKind name parameters result body stands
@@ -158,9 +158,9 @@ function_stands P d at name parameters result body NoKind stands = steps_declare
 -- declarations
 declaration_stands : (P : ℕ → Type 0) (d : DeclaredTree) (x : DeclarationTree) (rest : List Terminal) → StandWhere P (declaration_before x rest) → FaultsStand P (declaration_typed d x)
 declaration_stands P d (source.Constant at p initial) rest all =
-    let given = given_by d.checker at initial in
+    let initializer = initializer_of d.checker at initial in
     let behind_type = typed_behind (StandsWhere P) p (assigned_before initial rest) all.1 in
-    both_stand P given.faults _ (given_by_stands P d.checker at initial _ all.0 behind_type.1) (constant_stands P d at p.name initial p.declared given.value all.0 all.1.0)
+    both_stand P initializer.faults _ (initializer_stands P d.checker at initial _ all.0 behind_type.1) (constant_stands P d at p.name initial p.declared initializer.value all.0 all.1.0)
 declaration_stands P d (source.Function at name parameters result body) rest all =
     let inside = parameters_behind (StandsWhere P) parameters _ all.1.1.1 in
     function_stands P d at name parameters result body (kind name.bytes parameters result) (record {

@@ -4,7 +4,7 @@ use Rattle.std.specs.List.{AllByRecursion}
 use Rattle.syntax.specs.Terminals.{Terminal, Identifier}
 use Rattle.syntax.specs.declared.declaration.DeclaredType.{DeclaredType}
 use Rattle.syntax.specs.declared.declaration.DeclaredType.TheVariants as declared
-use Rattle.syntax.specs.declared.statement.Reduction.{Reduction}
+use Rattle.apply_options.specs.declared.reduction.Reduction.{Reduction}
 use Rattle.syntax.specs.ExpressionTrees.{ExpressionTree}
 use Rattle.syntax.specs.ExpressionSpelling.{expression_terminals}
 use Rattle.syntax.specs.Offsets.{StandWhere, StandsWhere}
@@ -12,22 +12,22 @@ use Rattle.syntax.specs.SourceTrees as source
 use Rattle.syntax.specs.SourceSpelling.{action_before, assigned_before, block_before, ends_before, initial_before, label_terminals}
 use Rattle.syntax.proofs.Behind.{action_behind, all_left, all_right, block_behind, ends_behind, typed_behind}
 use Rattle.syntax.proofs.Offsets.{from_stands, to_stands}
-use Rattle.typed_tree.specs.declared.expression.Slot.{Slot}
+use Rattle.typed_tree.specs.declared.expression.VarRef.{VarRef}
 use Rattle.typed_tree.specs.BlockTree.{ActionTree, BlockTree, Empty}
 use Rattle.expression_types.specs.declared.scope.Entity.{Entity}
 use Rattle.expression_types.specs.declared.scope.Entity.TheVariants as entity
 use Rattle.expression_types.specs.Expression.{used, value_of, vector_place}
 use Rattle.expression_types.specs.Names.{found}
-use Rattle.expression_types.specs.Noted.{Noted}
+use Rattle.expression_types.specs.WithFaults.{WithFaults}
 use Rattle.expression_types.specs.ScopeTree.{ScopeTree, declared as scope_declared}
-use Rattle.expression_types.specs.ValueTree.{ValueTree, Integer, Condition, Vertex, Set, Faulty, named_set}
+use Rattle.expression_types.specs.ValueTree.{ValueTree, Integer, Condition, Vertex, Set, ErrorValue, named_set}
 use Rattle.expression_types.proofs.FaultOffsets.{FaultsStand, both_stand, declared_stands, if_stand, used_stands, value_stands, vector_stands}
 use Rattle.types.specs.Block.{action_typed, behind, closed, in_place, statements_typed}
 use Rattle.types.specs.Checker.{CheckerTree, condition_slot, counted, declared_in, integer_slot, labelled, new_label, set_slot}
-use Rattle.types.specs.Initial.{EndTree, GivenTree, condition_given, edge_function, end_of, given_by, integer_given, is_edges, is_unclear, is_unknown, is_wrong, members_given, vertex_function}
+use Rattle.types.specs.Initial.{ApplyEndTree, InitializerTree, initializer_condition, edge_function, end_of, initializer_of, initializer_integer, is_edges, names_error, is_error_end, is_wrong, initializer_members, vertex_function}
 use Rattle.types.specs.Statement.{add_vertex, added, applied, apply, assign, assigned, declare_as, edges_applied, has_ends, print, printed, reduce, reduce_entry, reduced, set_applied, set_entry, vertices_applied}
 use Rattle.types.specs.Wanted.{as_index, as_integer, condition_in, integer_in}
-use Rattle.types.proofs.ValueOffsets.{as_index_stands, as_integer_stands, condition_given_stands, condition_in_stands, end_stands, given_by_stands, integer_given_stands, integer_in_stands, members_given_stands}
+use Rattle.types.proofs.ValueOffsets.{as_index_stands, as_integer_stands, initializer_condition_stands, condition_in_stands, end_stands, initializer_stands, initializer_integer_stands, integer_in_stands, initializer_members_stands}
 
 -- names and labels
 pub declared_in_stands : (P : ℕ → Type 0) (c : CheckerTree) (name : Identifier) (e : Entity) → P name.at → FaultsStand P (declared_in c name e)
@@ -46,33 +46,33 @@ labelled_stands P c (Some label) all = new_label_stands P c label (found label.b
 pub last_stands : (P : ℕ → Type 0) (c : CheckerTree) (name : Identifier) (e : Entity) → P name.at → AllByRecursion (λ f. P f.at) ((declared_in c name e).faults ++ [])
 last_stands P c name e there = let d = declared_in c name e in both_stand P d.faults [] (declared_in_stands P c name e there) tt
 
-declare_as_stands : (P : ℕ → Type 0) (c : CheckerTree) (at : ℕ) (name : Identifier) (given : GivenTree) (type : DeclaredType) → P at → P name.at
-    → FaultsStand P (declare_as c at name given type)
-declare_as_stands P c at name given declared.Int here there =
-    let e = integer_given at given in both_stand P e.faults _ (integer_given_stands P at given here) (last_stands P c name (entity.IntegerVariable (integer_slot c)) there)
-declare_as_stands P c at name given declared.Bool here there =
-    let e = condition_given at given in both_stand P e.faults _ (condition_given_stands P at given here) (last_stands P c name (entity.ConditionVariable (condition_slot c)) there)
-declare_as_stands P c at name given declared.VertexSet here there =
-    let s = members_given at given in both_stand P s.faults _ (members_given_stands P at given here) (last_stands P c name (entity.SetVariable (set_slot c)) there)
-declare_as_stands P c at name given declared.Vertex here there = (here, last_stands P c name entity.Unclear there)
-declare_as_stands P c at name given declared.Vector here there = (here, last_stands P c name entity.Unclear there)
-declare_as_stands P c at name given declared.EdgeSet here there = (here, last_stands P c name entity.Unclear there)
+declare_as_stands : (P : ℕ → Type 0) (c : CheckerTree) (at : ℕ) (name : Identifier) (initializer : InitializerTree) (type : DeclaredType) → P at → P name.at
+    → FaultsStand P (declare_as c at name initializer type)
+declare_as_stands P c at name initializer declared.Int here there =
+    let e = initializer_integer at initializer in both_stand P e.faults _ (initializer_integer_stands P at initializer here) (last_stands P c name (entity.IntegerVariable (integer_slot c)) there)
+declare_as_stands P c at name initializer declared.Bool here there =
+    let e = initializer_condition at initializer in both_stand P e.faults _ (initializer_condition_stands P at initializer here) (last_stands P c name (entity.ConditionVariable (condition_slot c)) there)
+declare_as_stands P c at name initializer declared.VertexSet here there =
+    let s = initializer_members at initializer in both_stand P s.faults _ (initializer_members_stands P at initializer here) (last_stands P c name (entity.SetVariable (set_slot c)) there)
+declare_as_stands P c at name initializer declared.Vertex here there = (here, last_stands P c name entity.Error there)
+declare_as_stands P c at name initializer declared.Vector here there = (here, last_stands P c name entity.Error there)
+declare_as_stands P c at name initializer declared.EdgeSet here there = (here, last_stands P c name entity.Error there)
 
-assigned_stands : (P : ℕ → Type 0) (at : ℕ) (given : GivenTree) (e : Entity) → P at → FaultsStand P (assigned at given e)
-assigned_stands P at given (entity.IntegerVariable slot) here = let e = integer_given at given in both_stand P e.faults [] (integer_given_stands P at given here) tt
-assigned_stands P at given (entity.ConditionVariable slot) here = let e = condition_given at given in both_stand P e.faults [] (condition_given_stands P at given here) tt
-assigned_stands P at given (entity.SetVariable slot) here = let s = members_given at given in both_stand P s.faults [] (members_given_stands P at given here) tt
-assigned_stands P at given entity.Unclear here = tt
-assigned_stands P at given _ here = (here, tt)
+assigned_stands : (P : ℕ → Type 0) (at : ℕ) (initializer : InitializerTree) (e : Entity) → P at → FaultsStand P (assigned at initializer e)
+assigned_stands P at initializer (entity.IntegerVariable slot) here = let e = initializer_integer at initializer in both_stand P e.faults [] (initializer_integer_stands P at initializer here) tt
+assigned_stands P at initializer (entity.ConditionVariable slot) here = let e = initializer_condition at initializer in both_stand P e.faults [] (initializer_condition_stands P at initializer here) tt
+assigned_stands P at initializer (entity.SetVariable slot) here = let s = initializer_members at initializer in both_stand P s.faults [] (initializer_members_stands P at initializer here) tt
+assigned_stands P at initializer entity.Error here = tt
+assigned_stands P at initializer _ here = (here, tt)
 
 reduced_stands : (P : ℕ → Type 0) (at : ℕ) (by : Reduction) (v : ValueTree) (e : Entity) → P at → FaultsStand P (reduced at by v e)
 reduced_stands P at by v (entity.IntegerVariable slot) here = let e = as_integer at v in both_stand P e.faults [] (as_integer_stands P at v here) tt
-reduced_stands P at by v entity.Unclear here = tt
+reduced_stands P at by v entity.Error here = tt
 reduced_stands P at by v _ here = (here, tt)
 
 added_stands : (P : ℕ → Type 0) (at : ℕ) (v : ValueTree) (e : Entity) → P at → FaultsStand P (added at v e)
 added_stands P at v (entity.SetVariable slot) here = let e = as_integer at v in both_stand P e.faults [] (as_integer_stands P at v here) tt
-added_stands P at v entity.Unclear here = tt
+added_stands P at v entity.Error here = tt
 added_stands P at v _ here = (here, tt)
 
 printed_stands : (P : ℕ → Type 0) (at : ℕ) (v : ValueTree) → P at → FaultsStand P (printed at v)
@@ -80,38 +80,38 @@ printed_stands P at (Integer e) here = tt
 printed_stands P at (Condition c) here = tt
 printed_stands P at (Vertex p) here = tt
 printed_stands P at (Set slot) here = (here, tt)
-printed_stands P at Faulty here = tt
+printed_stands P at ErrorValue here = tt
 
 -- applies
-edges_applied_stands : (P : ℕ → Type 0) (at : ℕ) (a b : EndTree) (unclear : Bool) (function : Option ℕ) → P at → FaultsStand P (edges_applied at a b unclear function)
-edges_applied_stands P at a b unclear None here = if_stand P unclear _ _ tt (here, tt)
-edges_applied_stands P at a b unclear (Some function) here = if_stand P (is_unknown a || is_unknown b) _ _ tt tt
+edges_applied_stands : (P : ℕ → Type 0) (at : ℕ) (a b : ApplyEndTree) (error : Bool) (function : Option ℕ) → P at → FaultsStand P (edges_applied at a b error function)
+edges_applied_stands P at a b error None here = if_stand P error _ _ tt (here, tt)
+edges_applied_stands P at a b error (Some function) here = if_stand P (is_error_end a || is_error_end b) _ _ tt tt
 
-vertices_applied_stands : (P : ℕ → Type 0) (at : ℕ) (slot : Slot) (unclear : Bool) (function : Option ℕ) → P at → FaultsStand P (vertices_applied at slot unclear function)
-vertices_applied_stands P at slot unclear None here = if_stand P unclear _ _ tt (here, tt)
-vertices_applied_stands P at slot unclear (Some function) here = tt
+vertices_applied_stands : (P : ℕ → Type 0) (at : ℕ) (slot : VarRef) (error : Bool) (function : Option ℕ) → P at → FaultsStand P (vertices_applied at slot error function)
+vertices_applied_stands P at slot error None here = if_stand P error _ _ tt (here, tt)
+vertices_applied_stands P at slot error (Some function) here = tt
 
-set_applied_stands : (P : ℕ → Type 0) (at : ℕ) (ends : Bool) (f : Entity) (set : Option Slot) → P at → FaultsStand P (set_applied at ends f set)
+set_applied_stands : (P : ℕ → Type 0) (at : ℕ) (ends : Bool) (f : Entity) (set : Option VarRef) → P at → FaultsStand P (set_applied at ends f set)
 set_applied_stands P at ends f None here = (here, tt)
-set_applied_stands P at ends f (Some slot) here = if_stand P ends _ _ (here, tt) (vertices_applied_stands P at slot (is_unclear f) (vertex_function f) here)
+set_applied_stands P at ends f (Some slot) here = if_stand P ends _ _ (here, tt) (vertices_applied_stands P at slot (names_error f) (vertex_function f) here)
 
-applied_stands : (P : ℕ → Type 0) (at : ℕ) (t : Entity) (a b : EndTree) (ends : Bool) (f : Entity) → P at → FaultsStand P (applied at t a b ends f)
+applied_stands : (P : ℕ → Type 0) (at : ℕ) (t : Entity) (a b : ApplyEndTree) (ends : Bool) (f : Entity) → P at → FaultsStand P (applied at t a b ends f)
 applied_stands P at t a b ends f here =
-    if_stand P (is_unclear t) _ _ tt (if_stand P (is_edges t) _ _
-    (if_stand P (is_wrong a || is_wrong b) _ _ (here, tt) (edges_applied_stands P at a b (is_unclear f) (edge_function f) here))
+    if_stand P (names_error t) _ _ tt (if_stand P (is_edges t) _ _
+    (if_stand P (is_wrong a || is_wrong b) _ _ (here, tt) (edges_applied_stands P at a b (names_error f) (edge_function f) here))
     (set_applied_stands P at ends f (named_set t) here))
 
 -- statements that declare nothing
-in_place_stands : (P : ℕ → Type 0) (c : CheckerTree) (action : Noted ActionTree) → FaultsStand P action → FaultsStand P (in_place c action)
+in_place_stands : (P : ℕ → Type 0) (c : CheckerTree) (action : WithFaults ActionTree) → FaultsStand P action → FaultsStand P (in_place c action)
 in_place_stands P c action all = both_stand P action.faults [] all tt
 
 assign_stands : (P : ℕ → Type 0) (c : CheckerTree) (name : Identifier) (initial : source.InitialTree) (rest : List Terminal) → P name.at → StandWhere P (initial_before initial rest)
     → FaultsStand P (assign c name.at name initial)
 assign_stands P c name initial rest there all =
     let e = used c.scope name in
-    let given = given_by c name.at initial in
+    let initializer = initializer_of c name.at initial in
     both_stand P e.faults _ (used_stands P c.scope name there)
-    (both_stand P given.faults _ (given_by_stands P c name.at initial rest there all) (assigned_stands P name.at given.value e.value there))
+    (both_stand P initializer.faults _ (initializer_stands P c name.at initial rest there all) (assigned_stands P name.at initializer.value e.value there))
 
 reduce_stands : (P : ℕ → Type 0) (scope : ScopeTree) (name : Identifier) (by : Reduction) (e : ExpressionTree) → P name.at → StandWhere P (expression_terminals e)
     → FaultsStand P (reduce scope name.at name by e)
@@ -169,9 +169,9 @@ at_back P e rest all = all_right (StandsWhere P) (expression_terminals e) rest a
 mutual
   action_stands : (P : ℕ → Type 0) (c : CheckerTree) (action : source.ActionTree) (rest : List Terminal) → StandWhere P (action_before action rest) → FaultsStand P (action_typed c action)
   action_stands P c (source.Declare at p initial) rest all =
-      let given = given_by c at initial in
+      let initializer = initializer_of c at initial in
       let behind_type = typed_behind (StandsWhere P) p (assigned_before initial rest) all.1 in
-      both_stand P given.faults _ (given_by_stands P c at initial _ all.0 behind_type.1) (declare_as_stands P c at p.name given.value p.declared all.0 all.1.0)
+      both_stand P initializer.faults _ (initializer_stands P c at initial _ all.0 behind_type.1) (declare_as_stands P c at p.name initializer.value p.declared all.0 all.1.0)
   action_stands P c (source.While at test body) rest all =
       let t = condition_in c.scope at test in
       let b = statements_typed c Empty body in

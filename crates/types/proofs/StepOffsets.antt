@@ -5,7 +5,7 @@ use Rattle.std.specs.Map.{lookup}
 use Rattle.syntax.specs.Terminals.{Terminal, Identifier}
 use Rattle.syntax.specs.declared.declaration.DeclaredType.{DeclaredType}
 use Rattle.syntax.specs.declared.declaration.DeclaredType.TheVariants as declared
-use Rattle.syntax.specs.declared.statement.Reduction.{Reduction}
+use Rattle.apply_options.specs.declared.reduction.Reduction.{Reduction}
 use Rattle.syntax.specs.ExpressionTrees.{ExpressionTree}
 use Rattle.syntax.specs.ExpressionSpelling.{expression_terminals}
 use Rattle.syntax.specs.Offsets.{StandWhere, StandsWhere}
@@ -19,38 +19,38 @@ use Rattle.expression_types.specs.declared.scope.Entity.{Entity}
 use Rattle.expression_types.specs.declared.scope.Entity.TheVariants as entity
 use Rattle.expression_types.specs.declared.scope.Inside.{Inside}
 use Rattle.expression_types.specs.declared.scope.Inside.TheVariants as inside
-use Rattle.expression_types.specs.Expression.{used, value_of, vector_place}
-use Rattle.expression_types.specs.Noted.{Noted}
+use Rattle.expression_types.specs.Expression.{index_value, used, value_of, vector_place}
+use Rattle.expression_types.specs.WithFaults.{WithFaults}
 use Rattle.expression_types.specs.ScopeTree.{ScopeTree}
-use Rattle.expression_types.specs.ValueTree.{ValueTree, Integer, Condition, Vertex, Set, Faulty}
-use Rattle.expression_types.proofs.FaultOffsets.{FaultsStand, both_stand, used_stands, value_stands, vector_stands}
+use Rattle.expression_types.specs.ValueTree.{ValueTree, Integer, Condition, Vertex, Set, ErrorValue}
+use Rattle.expression_types.proofs.FaultOffsets.{FaultsStand, both_stand, index_stands, used_stands, value_stands, vector_stands}
 use Rattle.types.specs.Checker.{CheckerTree, condition_slot, declared_in, integer_slot, labelled}
-use Rattle.types.specs.Initial.{GivenTree, condition_given, end_of, given_by, integer_given}
+use Rattle.types.specs.Initial.{InitializerTree, initializer_condition, end_of, initializer_of, initializer_integer}
 use Rattle.types.specs.Step.{assign_step, assigned_step, at_own, declare_step_as, may_reduce, may_set, no_add, no_apply, one_reduction, own_vertex, reduce_entry_step, reduce_step, reduced_as, reduced_step, same_endpoint, same_reduction, set_entry_step, step_behind, step_in_place, step_typed, steps_behind, steps_typed, written_at, written_with}
 use Rattle.types.specs.Wanted.{as_integer, condition_in, integer_in}
-use Rattle.types.proofs.ValueOffsets.{as_integer_stands, condition_given_stands, condition_in_stands, end_stands, given_by_stands, integer_given_stands, integer_in_stands}
+use Rattle.types.proofs.ValueOffsets.{as_integer_stands, initializer_condition_stands, condition_in_stands, end_stands, initializer_stands, initializer_integer_stands, integer_in_stands}
 use Rattle.types.proofs.StatementOffsets.{at_back, declared_in_stands, in_front, labelled_stands, last_stands}
 
-declare_step_as_stands : (P : ℕ → Type 0) (c : CheckerTree) (at : ℕ) (name : Identifier) (given : GivenTree) (type : DeclaredType) → P at → P name.at
-    → FaultsStand P (declare_step_as c at name given type)
-declare_step_as_stands P c at name given declared.Int here there =
-    let e = integer_given at given in both_stand P e.faults _ (integer_given_stands P at given here) (last_stands P c name (entity.IntegerVariable (integer_slot c)) there)
-declare_step_as_stands P c at name given declared.Bool here there =
-    let e = condition_given at given in both_stand P e.faults _ (condition_given_stands P at given here) (last_stands P c name (entity.ConditionVariable (condition_slot c)) there)
-declare_step_as_stands P c at name given declared.VertexSet here there = (here, last_stands P c name entity.Unclear there)
-declare_step_as_stands P c at name given declared.Vertex here there = (here, last_stands P c name entity.Unclear there)
-declare_step_as_stands P c at name given declared.Vector here there = (here, last_stands P c name entity.Unclear there)
-declare_step_as_stands P c at name given declared.EdgeSet here there = (here, last_stands P c name entity.Unclear there)
+declare_step_as_stands : (P : ℕ → Type 0) (c : CheckerTree) (at : ℕ) (name : Identifier) (initializer : InitializerTree) (type : DeclaredType) → P at → P name.at
+    → FaultsStand P (declare_step_as c at name initializer type)
+declare_step_as_stands P c at name initializer declared.Int here there =
+    let e = initializer_integer at initializer in both_stand P e.faults _ (initializer_integer_stands P at initializer here) (last_stands P c name (entity.IntegerVariable (integer_slot c)) there)
+declare_step_as_stands P c at name initializer declared.Bool here there =
+    let e = initializer_condition at initializer in both_stand P e.faults _ (initializer_condition_stands P at initializer here) (last_stands P c name (entity.ConditionVariable (condition_slot c)) there)
+declare_step_as_stands P c at name initializer declared.VertexSet here there = (here, last_stands P c name entity.Error there)
+declare_step_as_stands P c at name initializer declared.Vertex here there = (here, last_stands P c name entity.Error there)
+declare_step_as_stands P c at name initializer declared.Vector here there = (here, last_stands P c name entity.Error there)
+declare_step_as_stands P c at name initializer declared.EdgeSet here there = (here, last_stands P c name entity.Error there)
 
-assigned_step_stands : (P : ℕ → Type 0) (at : ℕ) (given : GivenTree) (e : Entity) → P at → FaultsStand P (assigned_step at given e)
-assigned_step_stands P at given (entity.IntegerVariable slot) here = let e = integer_given at given in both_stand P e.faults [] (integer_given_stands P at given here) tt
-assigned_step_stands P at given (entity.ConditionVariable slot) here = let e = condition_given at given in both_stand P e.faults [] (condition_given_stands P at given here) tt
-assigned_step_stands P at given entity.Unclear here = tt
-assigned_step_stands P at given _ here = (here, tt)
+assigned_step_stands : (P : ℕ → Type 0) (at : ℕ) (initializer : InitializerTree) (e : Entity) → P at → FaultsStand P (assigned_step at initializer e)
+assigned_step_stands P at initializer (entity.IntegerVariable slot) here = let e = initializer_integer at initializer in both_stand P e.faults [] (initializer_integer_stands P at initializer here) tt
+assigned_step_stands P at initializer (entity.ConditionVariable slot) here = let e = initializer_condition at initializer in both_stand P e.faults [] (initializer_condition_stands P at initializer here) tt
+assigned_step_stands P at initializer entity.Error here = tt
+assigned_step_stands P at initializer _ here = (here, tt)
 
 reduced_step_stands : (P : ℕ → Type 0) (at : ℕ) (by : Reduction) (v : ValueTree) (e : Entity) → P at → FaultsStand P (reduced_step at by v e)
 reduced_step_stands P at by v (entity.IntegerVariable slot) here = let e = as_integer at v in both_stand P e.faults [] (as_integer_stands P at v here) tt
-reduced_step_stands P at by v entity.Unclear here = tt
+reduced_step_stands P at by v entity.Error here = tt
 reduced_step_stands P at by v _ here = (here, tt)
 
 -- entries
@@ -63,7 +63,7 @@ written_at_stands P at own (Integer e) here = (here, tt)
 written_at_stands P at own (Condition c) here = (here, tt)
 written_at_stands P at own (Vertex p) here = at_own_stands P at (same_endpoint p own) here
 written_at_stands P at own (Set slot) here = (here, tt)
-written_at_stands P at own Faulty here = tt
+written_at_stands P at own ErrorValue here = tt
 
 may_set_stands : (P : ℕ → Type 0) (at : ℕ) (function : Inside) → P at → FaultsStand P (may_set at function)
 may_set_stands P at inside.Main here = tt
@@ -91,12 +91,12 @@ may_reduce_stands P at inside.Filter vector by writes here = (here, tt)
 
 -- an index and a value
 index_and_value_stand : (P : ℕ → Type 0) (scope : ScopeTree) (at : ℕ) (index e : ExpressionTree) → P at → StandWhere P (expression_terminals index) → StandWhere P (expression_terminals e)
-    → AllByRecursion (λ f. P f.at) ((value_of scope at index).faults ++ ((written_at at (own_vertex scope.inside) (value_of scope at index).value).faults ++ ((integer_in scope at e).faults ++ [])))
+    → AllByRecursion (λ f. P f.at) ((index_value scope at index).faults ++ ((written_at at (own_vertex scope.inside) (index_value scope at index).value).faults ++ ((integer_in scope at e).faults ++ [])))
 index_and_value_stand P scope at index e here first second =
-    let v = value_of scope at index in
+    let v = index_value scope at index in
     let own = written_at at (own_vertex scope.inside) v.value in
     let x = integer_in scope at e in
-    both_stand P v.faults _ (value_stands P scope at index here first)
+    both_stand P v.faults _ (index_stands P scope index (value_of scope at index) (value_stands P scope at index here first))
     (both_stand P own.faults _ (written_at_stands P at (own_vertex scope.inside) v.value here)
     (both_stand P x.faults [] (integer_in_stands P scope at e here second) tt))
 
@@ -117,16 +117,16 @@ reduce_entry_step_stands P c name index by e there first second =
     (both_stand P may.faults _ (may_reduce_stands P name.at c.scope.inside vector.value by c.writes there) (index_and_value_stand P c.scope name.at index e there first second))
 
 -- statements that declare nothing
-step_in_place_stands : (P : ℕ → Type 0) (c : CheckerTree) (step : Noted StepTree) → FaultsStand P step → FaultsStand P (step_in_place c step)
+step_in_place_stands : (P : ℕ → Type 0) (c : CheckerTree) (step : WithFaults StepTree) → FaultsStand P step → FaultsStand P (step_in_place c step)
 step_in_place_stands P c step all = both_stand P step.faults [] all tt
 
 assign_step_stands : (P : ℕ → Type 0) (c : CheckerTree) (name : Identifier) (initial : source.InitialTree) (rest : List Terminal) → P name.at → StandWhere P (initial_before initial rest)
     → FaultsStand P (assign_step c name.at name initial)
 assign_step_stands P c name initial rest there all =
     let e = used c.scope name in
-    let given = given_by c name.at initial in
+    let initializer = initializer_of c name.at initial in
     both_stand P e.faults _ (used_stands P c.scope name there)
-    (both_stand P given.faults _ (given_by_stands P c name.at initial rest there all) (assigned_step_stands P name.at given.value e.value there))
+    (both_stand P initializer.faults _ (initializer_stands P c name.at initial rest there all) (assigned_step_stands P name.at initializer.value e.value there))
 
 reduce_step_stands : (P : ℕ → Type 0) (scope : ScopeTree) (name : Identifier) (by : Reduction) (e : ExpressionTree) → P name.at → StandWhere P (expression_terminals e)
     → FaultsStand P (reduce_step scope name.at name by e)
@@ -159,9 +159,9 @@ no_apply_stands P scope target ends function rest there named all =
 mutual
   step_stands : (P : ℕ → Type 0) (c : CheckerTree) (action : source.ActionTree) (rest : List Terminal) → StandWhere P (action_before action rest) → FaultsStand P (step_typed c action)
   step_stands P c (source.Declare at p initial) rest all =
-      let given = given_by c at initial in
+      let initializer = initializer_of c at initial in
       let behind_type = typed_behind (StandsWhere P) p (assigned_before initial rest) all.1 in
-      both_stand P given.faults _ (given_by_stands P c at initial _ all.0 behind_type.1) (declare_step_as_stands P c at p.name given.value p.declared all.0 all.1.0)
+      both_stand P initializer.faults _ (initializer_stands P c at initial _ all.0 behind_type.1) (declare_step_as_stands P c at p.name initializer.value p.declared all.0 all.1.0)
   step_stands P c (source.While at test body) rest all =
       let t = condition_in c.scope at test in
       let b = steps_typed c NoStep body in (

@@ -10,18 +10,18 @@ use Rattle.syntax.specs.SourceTrees.{InitialTree}
 use Rattle.syntax.specs.SourceSpelling.{initial_before}
 use Rattle.syntax.proofs.Behind.{all_left, ends_behind}
 use Rattle.syntax.proofs.Offsets.{from_stands, to_stands}
-use Rattle.typed_tree.specs.declared.expression.Slot.{Slot}
-use Rattle.typed_tree.specs.declared.statement.Ends.{Ends}
+use Rattle.typed_tree.specs.declared.expression.VarRef.{VarRef}
+use Rattle.typed_tree.specs.declared.statement.ApplyEnds.{ApplyEnds}
 use Rattle.typed_tree.specs.IntegerTree.{IntegerTree, Parameter}
-use Rattle.expression_types.specs.declared.fault.Rule.TheVariants as rule
+use Rattle.expression_types.specs.declared.fault.TypeRule.TheVariants as rule
 use Rattle.expression_types.specs.declared.scope.Entity.{Entity}
 use Rattle.expression_types.specs.Expression.{used, value_of}
-use Rattle.expression_types.specs.Noted.{fault_at, sure}
+use Rattle.expression_types.specs.WithFaults.{fault_at, sure}
 use Rattle.expression_types.specs.ScopeTree.{ScopeTree}
-use Rattle.expression_types.specs.ValueTree.{ValueTree, Integer, Condition, Vertex, Set, Faulty, condition_reads_entry, named_set, reads_entry}
+use Rattle.expression_types.specs.ValueTree.{ValueTree, Integer, Condition, Vertex, Set, ErrorValue, condition_reads_entry, named_set, reads_entry}
 use Rattle.expression_types.proofs.FaultOffsets.{FaultsStand, both_stand, if_stand, used_stands, value_stands}
 use Rattle.types.specs.Checker.{CheckerTree}
-use Rattle.types.specs.Initial.{EndTree, GivenTree, Typed, Members, Loaded, Degrees, Broken, condition_given, edge_function, end_of, ends_given, filter_function, filtered, filtered_by, given_by, integer_given, is_edges, is_unclear, is_unknown, is_wrong, loaded, members_given, modified, modified_by, new_set, of_edges, vector_of, writes_vector}
+use Rattle.types.specs.Initial.{ApplyEndTree, InitializerTree, Typed, Members, Loaded, Degrees, ErrorInitializer, initializer_condition, edge_function, end_of, ends_given, filter_function, filtered, filtered_by, initializer_of, initializer_integer, is_edges, names_error, is_error_end, is_wrong, loaded, initializer_members, modified, modified_by, new_set, of_edges, vector_of, writes_vector}
 use Rattle.types.specs.Wanted.{as_condition, as_index, as_integer, as_members, condition_in, integer_in, no_index, unread}
 
 -- values of the type that their place wants
@@ -30,21 +30,21 @@ as_integer_stands P at (Integer e) here = tt
 as_integer_stands P at (Condition c) here = (here, tt)
 as_integer_stands P at (Vertex p) here = tt
 as_integer_stands P at (Set slot) here = (here, tt)
-as_integer_stands P at Faulty here = tt
+as_integer_stands P at ErrorValue here = tt
 
 as_condition_stands : (P : ℕ → Type 0) (at : ℕ) (v : ValueTree) → P at → FaultsStand P (as_condition at v)
 as_condition_stands P at (Integer e) here = (here, tt)
 as_condition_stands P at (Condition c) here = tt
 as_condition_stands P at (Vertex p) here = (here, tt)
 as_condition_stands P at (Set slot) here = (here, tt)
-as_condition_stands P at Faulty here = tt
+as_condition_stands P at ErrorValue here = tt
 
 as_members_stands : (P : ℕ → Type 0) (at : ℕ) (v : ValueTree) → P at → FaultsStand P (as_members at v)
 as_members_stands P at (Integer e) here = (here, tt)
 as_members_stands P at (Condition c) here = (here, tt)
 as_members_stands P at (Vertex p) here = (here, tt)
 as_members_stands P at (Set slot) here = tt
-as_members_stands P at Faulty here = tt
+as_members_stands P at ErrorValue here = tt
 
 pub integer_in_stands : (P : ℕ → Type 0) (scope : ScopeTree) (at : ℕ) (e : ExpressionTree) → P at → StandWhere P (expression_terminals e) → FaultsStand P (integer_in scope at e)
 integer_in_stands P scope at e here all =
@@ -66,7 +66,7 @@ as_index_stands P at (Integer e) here = unread_stands P at e here
 as_index_stands P at (Condition c) here = no_index_stands P at (condition_reads_entry c) here
 as_index_stands P at (Vertex p) here = unread_stands P at (Parameter p) here
 as_index_stands P at (Set slot) here = (here, tt)
-as_index_stands P at Faulty here = tt
+as_index_stands P at ErrorValue here = tt
 
 -- an end of an apply
 pub end_stands : (P : ℕ → Type 0) (scope : ScopeTree) (end : Option Identifier) → IfSome end (λ name. P name.at) → FaultsStand P (end_of scope end)
@@ -75,26 +75,26 @@ end_stands P scope (Some name) there =
     let e = used scope name in both_stand P e.faults [] (used_stands P scope name there) tt
 
 -- values that are no expressions
-of_edges_stands : (P : ℕ → Type 0) (at : ℕ) (x : GivenTree) (e : Entity) → P at → FaultsStand P (of_edges at x e)
+of_edges_stands : (P : ℕ → Type 0) (at : ℕ) (x : InitializerTree) (e : Entity) → P at → FaultsStand P (of_edges at x e)
 of_edges_stands P at x e here =
-    if_stand P (is_unclear e) _ _ tt (if_stand P (is_edges e) (sure x) (fault_at at rule.WrongType Broken) tt (here, tt))
+    if_stand P (names_error e) _ _ tt (if_stand P (is_edges e) (sure x) (fault_at at rule.WrongType ErrorInitializer) tt (here, tt))
 
-filtered_by_stands : (P : ℕ → Type 0) (at : ℕ) (set : Option Slot) (place : Option ℕ) → P at → FaultsStand P (filtered_by at set place)
+filtered_by_stands : (P : ℕ → Type 0) (at : ℕ) (set : Option VarRef) (place : Option ℕ) → P at → FaultsStand P (filtered_by at set place)
 filtered_by_stands P at None place here = (here, tt)
 filtered_by_stands P at (Some slot) None here = (here, tt)
 filtered_by_stands P at (Some slot) (Some place) here = tt
 
 filtered_stands : (P : ℕ → Type 0) (at : ℕ) (s f : Entity) → P at → FaultsStand P (filtered at s f)
-filtered_stands P at s f here = if_stand P (is_unclear s || is_unclear f) _ _ tt (filtered_by_stands P at (named_set s) (filter_function f) here)
+filtered_stands P at s f here = if_stand P (names_error s || names_error f) _ _ tt (filtered_by_stands P at (named_set s) (filter_function f) here)
 
-modified_by_stands : (P : ℕ → Type 0) (c : CheckerTree) (at : ℕ) (ends : Ends) (function vector : Option ℕ) → P at → FaultsStand P (modified_by c at ends function vector)
+modified_by_stands : (P : ℕ → Type 0) (c : CheckerTree) (at : ℕ) (ends : ApplyEnds) (function vector : Option ℕ) → P at → FaultsStand P (modified_by c at ends function vector)
 modified_by_stands P c at ends None vector here = (here, tt)
 modified_by_stands P c at ends (Some function) None here = (here, tt)
 modified_by_stands P c at ends (Some function) (Some vector) here = if_stand P (writes_vector c.written function vector) _ _ tt (here, tt)
 
-modified_stands : (P : ℕ → Type 0) (c : CheckerTree) (at : ℕ) (edges : Entity) (a b : EndTree) (f v : Entity) → P at → FaultsStand P (modified c at edges a b f v)
+modified_stands : (P : ℕ → Type 0) (c : CheckerTree) (at : ℕ) (edges : Entity) (a b : ApplyEndTree) (f v : Entity) → P at → FaultsStand P (modified c at edges a b f v)
 modified_stands P c at edges a b f v here =
-    if_stand P (is_unclear edges || is_unknown a || is_unknown b || is_unclear f || is_unclear v) _ _ tt
+    if_stand P (names_error edges || is_error_end a || is_error_end b || names_error f || names_error v) _ _ tt
     (if_stand P (is_edges edges) _ _
     (if_stand P (is_wrong a || is_wrong b) _ _ (here, tt) (modified_by_stands P c at (ends_given a b) (edge_function f) (vector_of v) here))
     (here, tt))
@@ -110,19 +110,19 @@ loaded_stands P at (pos (suc zero)) here = tt
 loaded_stands P at (pos (suc (suc n))) here = (here, tt)
 loaded_stands P at (negsuc n) here = (here, tt)
 
-pub given_by_stands : (P : ℕ → Type 0) (c : CheckerTree) (at : ℕ) (initial : InitialTree) (rest : List Terminal) → P at → StandWhere P (initial_before initial rest) → FaultsStand P (given_by c at initial)
-given_by_stands P c at (source.NewSet size) rest here all = new_set_stands P at size here
-given_by_stands P c at (source.Load argument) rest here all = loaded_stands P at argument here
-given_by_stands P c at (source.Vertices edges) rest here all =
+pub initializer_stands : (P : ℕ → Type 0) (c : CheckerTree) (at : ℕ) (initial : InitialTree) (rest : List Terminal) → P at → StandWhere P (initial_before initial rest) → FaultsStand P (initializer_of c at initial)
+initializer_stands P c at (source.NewSet size) rest here all = new_set_stands P at size here
+initializer_stands P c at (source.Load argument) rest here all = loaded_stands P at argument here
+initializer_stands P c at (source.Vertices edges) rest here all =
     let e = used c.scope edges in both_stand P e.faults _ (used_stands P c.scope edges all.0) (of_edges_stands P at _ e.value here)
-given_by_stands P c at (source.OutDegrees edges) rest here all =
+initializer_stands P c at (source.OutDegrees edges) rest here all =
     let e = used c.scope edges in both_stand P e.faults _ (used_stands P c.scope edges all.0) (of_edges_stands P at _ e.value here)
-given_by_stands P c at (source.Filter set test) rest here all =
+initializer_stands P c at (source.Filter set test) rest here all =
     let s = used c.scope set in
     let f = used c.scope test in
     both_stand P s.faults _ (used_stands P c.scope set all.0)
     (both_stand P f.faults _ (used_stands P c.scope test all.1.1.1.1.0) (filtered_stands P at s.value f.value here))
-given_by_stands P c at (source.ApplyModified edges ends function vector) rest here all =
+initializer_stands P c at (source.ApplyModified edges ends function vector) rest here all =
     let e = used c.scope edges in
     let a = end_of c.scope ends.from in
     let b = end_of c.scope ends.to in
@@ -135,27 +135,27 @@ given_by_stands P c at (source.ApplyModified edges ends function vector) rest he
     (both_stand P f.faults _ (used_stands P c.scope function names.1.1.1.0)
     (both_stand P v.faults _ (used_stands P c.scope vector names.1.1.1.1.1.0)
     (modified_stands P c at e.value a.value b.value f.value v.value here)))))
-given_by_stands P c at (source.Value e) rest here all =
+initializer_stands P c at (source.Value e) rest here all =
     let v = value_of c.scope at e in both_stand P v.faults [] (value_stands P c.scope at e here (all_left (StandsWhere P) (expression_terminals e) rest all)) tt
 
 -- what a variable gets
-pub integer_given_stands : (P : ℕ → Type 0) (at : ℕ) (given : GivenTree) → P at → FaultsStand P (integer_given at given)
-integer_given_stands P at (Typed v) here = as_integer_stands P at v here
-integer_given_stands P at (Members s) here = (here, tt)
-integer_given_stands P at Loaded here = (here, tt)
-integer_given_stands P at Degrees here = (here, tt)
-integer_given_stands P at Broken here = tt
+pub initializer_integer_stands : (P : ℕ → Type 0) (at : ℕ) (initializer : InitializerTree) → P at → FaultsStand P (initializer_integer at initializer)
+initializer_integer_stands P at (Typed v) here = as_integer_stands P at v here
+initializer_integer_stands P at (Members s) here = (here, tt)
+initializer_integer_stands P at Loaded here = (here, tt)
+initializer_integer_stands P at Degrees here = (here, tt)
+initializer_integer_stands P at ErrorInitializer here = tt
 
-pub condition_given_stands : (P : ℕ → Type 0) (at : ℕ) (given : GivenTree) → P at → FaultsStand P (condition_given at given)
-condition_given_stands P at (Typed v) here = as_condition_stands P at v here
-condition_given_stands P at (Members s) here = (here, tt)
-condition_given_stands P at Loaded here = (here, tt)
-condition_given_stands P at Degrees here = (here, tt)
-condition_given_stands P at Broken here = tt
+pub initializer_condition_stands : (P : ℕ → Type 0) (at : ℕ) (initializer : InitializerTree) → P at → FaultsStand P (initializer_condition at initializer)
+initializer_condition_stands P at (Typed v) here = as_condition_stands P at v here
+initializer_condition_stands P at (Members s) here = (here, tt)
+initializer_condition_stands P at Loaded here = (here, tt)
+initializer_condition_stands P at Degrees here = (here, tt)
+initializer_condition_stands P at ErrorInitializer here = tt
 
-pub members_given_stands : (P : ℕ → Type 0) (at : ℕ) (given : GivenTree) → P at → FaultsStand P (members_given at given)
-members_given_stands P at (Typed v) here = as_members_stands P at v here
-members_given_stands P at (Members s) here = tt
-members_given_stands P at Loaded here = (here, tt)
-members_given_stands P at Degrees here = (here, tt)
-members_given_stands P at Broken here = tt
+pub initializer_members_stands : (P : ℕ → Type 0) (at : ℕ) (initializer : InitializerTree) → P at → FaultsStand P (initializer_members at initializer)
+initializer_members_stands P at (Typed v) here = as_members_stands P at v here
+initializer_members_stands P at (Members s) here = tt
+initializer_members_stands P at Loaded here = (here, tt)
+initializer_members_stands P at Degrees here = (here, tt)
+initializer_members_stands P at ErrorInitializer here = tt

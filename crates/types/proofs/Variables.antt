@@ -9,52 +9,52 @@ use Rattle.typed_tree.specs.StepTree.{StepTree}
 use Rattle.expression_types.specs.declared.fault.Fault.{Fault}
 use Rattle.expression_types.specs.declared.scope.Entity.{Entity}
 use Rattle.expression_types.specs.declared.scope.Entity.TheVariants as entity
-use Rattle.expression_types.specs.Noted.{Noted, sure, outcome, ◌>>=◌}
-use Rattle.expression_types.proofs.Steps.{bind-bind, then_noted}
+use Rattle.expression_types.specs.WithFaults.{WithFaults, sure, outcome, ◌>>=◌}
+use Rattle.expression_types.proofs.Steps.{bind-bind, outcome_then}
 use Rattle.types.specs.Checker.{CheckerTree, declared_in, integer_slot, condition_slot, set_slot}
-use Rattle.types.specs.Initial.{GivenTree, integer_given, condition_given, members_given}
+use Rattle.types.specs.Initial.{InitializerTree, initializer_integer, initializer_condition, initializer_members}
 use Rattle.types.specs.Statement.{declare_as}
 use Rattle.types.specs.Step.{declare_step_as}
 use Rattle.types.specs.Variables.{variable_as, step_variable_as}
 
 -- the name becomes visible behind what the variable is
-abbrev visible_then : {A : Type 0} → CheckerTree → Identifier → Entity × A → Noted (A × CheckerTree)
+abbrev visible_then : {A : Type 0} → CheckerTree → Identifier → Entity × A → WithFaults (A × CheckerTree)
 visible_then c name v = declared_in c name v.0 >>= λ d. sure (v.1, d)
 
-declare_as-steps : (c : CheckerTree) (at : ℕ) (name : Identifier) (given : GivenTree) (type : DeclaredType)
-    → declare_as c at name given type ≡ (variable_as c at given type >>= visible_then c name)
-declare_as-steps c at name given declared.Int =
-    sym (bind-bind (integer_given at given) (λ e. sure (entity.IntegerVariable (integer_slot c), DeclareInteger (length c.names) e)) (visible_then c name))
-declare_as-steps c at name given declared.Bool =
-    sym (bind-bind (condition_given at given) (λ e. sure (entity.ConditionVariable (condition_slot c), DeclareCondition (length c.names) e)) (visible_then c name))
-declare_as-steps c at name given declared.VertexSet =
-    sym (bind-bind (members_given at given) (λ s. sure (entity.SetVariable (set_slot c), DeclareSet (length c.names) s)) (visible_then c name))
-declare_as-steps c at name given declared.Vertex = refl
-declare_as-steps c at name given declared.Vector = refl
-declare_as-steps c at name given declared.EdgeSet = refl
+declare_as-steps : (c : CheckerTree) (at : ℕ) (name : Identifier) (initializer : InitializerTree) (type : DeclaredType)
+    → declare_as c at name initializer type ≡ (variable_as c at initializer type >>= visible_then c name)
+declare_as-steps c at name initializer declared.Int =
+    sym (bind-bind (initializer_integer at initializer) (λ e. sure (entity.IntegerVariable (integer_slot c), DeclareInteger (length c.names) e)) (visible_then c name))
+declare_as-steps c at name initializer declared.Bool =
+    sym (bind-bind (initializer_condition at initializer) (λ e. sure (entity.ConditionVariable (condition_slot c), DeclareCondition (length c.names) e)) (visible_then c name))
+declare_as-steps c at name initializer declared.VertexSet =
+    sym (bind-bind (initializer_members at initializer) (λ s. sure (entity.SetVariable (set_slot c), DeclareSet (length c.names) s)) (visible_then c name))
+declare_as-steps c at name initializer declared.Vertex = refl
+declare_as-steps c at name initializer declared.Vector = refl
+declare_as-steps c at name initializer declared.EdgeSet = refl
 
-declare_step_as-steps : (c : CheckerTree) (at : ℕ) (name : Identifier) (given : GivenTree) (type : DeclaredType)
-    → declare_step_as c at name given type ≡ (step_variable_as c at given type >>= visible_then c name)
-declare_step_as-steps c at name given declared.Int =
-    sym (bind-bind (integer_given at given) (λ e. sure (entity.IntegerVariable (integer_slot c), step.DeclareInteger (length c.names) e)) (visible_then c name))
-declare_step_as-steps c at name given declared.Bool =
-    sym (bind-bind (condition_given at given) (λ e. sure (entity.ConditionVariable (condition_slot c), step.DeclareCondition (length c.names) e)) (visible_then c name))
-declare_step_as-steps c at name given declared.VertexSet = refl
-declare_step_as-steps c at name given declared.Vertex = refl
-declare_step_as-steps c at name given declared.Vector = refl
-declare_step_as-steps c at name given declared.EdgeSet = refl
+declare_step_as-steps : (c : CheckerTree) (at : ℕ) (name : Identifier) (initializer : InitializerTree) (type : DeclaredType)
+    → declare_step_as c at name initializer type ≡ (step_variable_as c at initializer type >>= visible_then c name)
+declare_step_as-steps c at name initializer declared.Int =
+    sym (bind-bind (initializer_integer at initializer) (λ e. sure (entity.IntegerVariable (integer_slot c), step.DeclareInteger (length c.names) e)) (visible_then c name))
+declare_step_as-steps c at name initializer declared.Bool =
+    sym (bind-bind (initializer_condition at initializer) (λ e. sure (entity.ConditionVariable (condition_slot c), step.DeclareCondition (length c.names) e)) (visible_then c name))
+declare_step_as-steps c at name initializer declared.VertexSet = refl
+declare_step_as-steps c at name initializer declared.Vertex = refl
+declare_step_as-steps c at name initializer declared.Vector = refl
+declare_step_as-steps c at name initializer declared.EdgeSet = refl
 
-visible_behind : {A : Type 0} (c d : CheckerTree) (name : Identifier) (m : Noted (Entity × A)) (v : Entity × A) (old between new : Option Fault)
+visible_behind : {A : Type 0} (c d : CheckerTree) (name : Identifier) (m : WithFaults (Entity × A)) (v : Entity × A) (old between new : Option Fault)
     → outcome old m ≡ (v, between) → outcome between (declared_in c name v.0) ≡ (d, new) → outcome old (m >>= visible_then c name) ≡ ((v.1, d), new)
 visible_behind c d name m v old between new is visible =
-    then_noted old between m v (visible_then c name) is ∙ then_noted between new (declared_in c name v.0) d (λ d. sure (v.1, d)) visible
+    outcome_then old between m v (visible_then c name) is ∙ outcome_then between new (declared_in c name v.0) d (λ d. sure (v.1, d)) visible
 
-pub declared_as : (c d : CheckerTree) (at : ℕ) (name : Identifier) (given : GivenTree) (type : DeclaredType) (v : Entity × ActionTree) (old between new : Option Fault)
-    → outcome old (variable_as c at given type) ≡ (v, between) → outcome between (declared_in c name v.0) ≡ (d, new) → outcome old (declare_as c at name given type) ≡ ((v.1, d), new)
-declared_as c d at name given type v old between new is visible =
-    ap (outcome old) (declare_as-steps c at name given type) ∙ visible_behind c d name (variable_as c at given type) v old between new is visible
+pub declared_as : (c d : CheckerTree) (at : ℕ) (name : Identifier) (initializer : InitializerTree) (type : DeclaredType) (v : Entity × ActionTree) (old between new : Option Fault)
+    → outcome old (variable_as c at initializer type) ≡ (v, between) → outcome between (declared_in c name v.0) ≡ (d, new) → outcome old (declare_as c at name initializer type) ≡ ((v.1, d), new)
+declared_as c d at name initializer type v old between new is visible =
+    ap (outcome old) (declare_as-steps c at name initializer type) ∙ visible_behind c d name (variable_as c at initializer type) v old between new is visible
 
-pub declared_step_as : (c d : CheckerTree) (at : ℕ) (name : Identifier) (given : GivenTree) (type : DeclaredType) (v : Entity × StepTree) (old between new : Option Fault)
-    → outcome old (step_variable_as c at given type) ≡ (v, between) → outcome between (declared_in c name v.0) ≡ (d, new) → outcome old (declare_step_as c at name given type) ≡ ((v.1, d), new)
-declared_step_as c d at name given type v old between new is visible =
-    ap (outcome old) (declare_step_as-steps c at name given type) ∙ visible_behind c d name (step_variable_as c at given type) v old between new is visible
+pub declared_step_as : (c d : CheckerTree) (at : ℕ) (name : Identifier) (initializer : InitializerTree) (type : DeclaredType) (v : Entity × StepTree) (old between new : Option Fault)
+    → outcome old (step_variable_as c at initializer type) ≡ (v, between) → outcome between (declared_in c name v.0) ≡ (d, new) → outcome old (declare_step_as c at name initializer type) ≡ ((v.1, d), new)
+declared_step_as c d at name initializer type v old between new is visible =
+    ap (outcome old) (declare_step_as-steps c at name initializer type) ∙ visible_behind c d name (step_variable_as c at initializer type) v old between new is visible

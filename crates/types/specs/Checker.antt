@@ -1,12 +1,12 @@
--- What is met on the way through a source.
+-- The state of the checker on its way through a source.
 use Rattle.std.specs.Prelude.{ℕ, suc, List, [], ◌∷◌, ◌++◌, ◌-◌, length, take, drop, Option, Some, None}
 use Rattle.syntax.specs.Terminals.{Identifier}
-use Rattle.syntax.specs.declared.statement.Reduction.{Reduction}
-use Rattle.typed_tree.specs.declared.expression.Slot.{Slot}
-use Rattle.expression_types.specs.declared.fault.Rule.TheVariants as rule
+use Rattle.apply_options.specs.declared.reduction.Reduction.{Reduction}
+use Rattle.typed_tree.specs.declared.expression.VarRef.{VarRef}
+use Rattle.expression_types.specs.declared.fault.TypeRule.TheVariants as rule
 use Rattle.expression_types.specs.declared.scope.Entity.{Entity}
 use Rattle.expression_types.specs.Names.{found}
-use Rattle.expression_types.specs.Noted.{Noted, sure, fault_at, ◌>>=◌}
+use Rattle.expression_types.specs.WithFaults.{WithFaults, sure, fault_at, ◌>>=◌}
 use Rattle.expression_types.specs.ScopeTree.{ScopeTree, declared}
 use Rattle.types.specs.declared.checker.Checker.{Checker}
 
@@ -34,13 +34,13 @@ checker_of c = record {
 }
 
 -- the next place of a variable of each kind, for the next name
-abbrev pub integer_slot : CheckerTree → Slot
+abbrev pub integer_slot : CheckerTree → VarRef
 integer_slot c = record { place = c.scope.integers; name = length c.names }
 
-abbrev pub condition_slot : CheckerTree → Slot
+abbrev pub condition_slot : CheckerTree → VarRef
 condition_slot c = record { place = c.scope.conditions; name = length c.names }
 
-abbrev pub set_slot : CheckerTree → Slot
+abbrev pub set_slot : CheckerTree → VarRef
 set_slot c = record { place = c.scope.sets; name = length c.names }
 
 -- with another scope
@@ -52,7 +52,7 @@ abbrev pub with_name : CheckerTree → List ℕ → ScopeTree → CheckerTree
 with_name c name scope = record c { scope = scope; names = c.names ++ name ∷ [] }
 
 -- a name is declared
-abbrev pub declared_in : CheckerTree → Identifier → Entity → Noted CheckerTree
+abbrev pub declared_in : CheckerTree → Identifier → Entity → WithFaults CheckerTree
 declared_in c name entity = declared name entity c.scope >>= λ scope. sure (with_name c name.bytes scope)
 
 -- a text or a label without the bytes at its ends
@@ -60,11 +60,11 @@ abbrev pub without_ends : List ℕ → List ℕ
 without_ends bytes = take (length bytes - 2) (drop 1 bytes)
 
 -- one more label, at its place among all, which must not stand already
-abbrev pub new_label : CheckerTree → Identifier → Option ℕ → Noted (Option ℕ × CheckerTree)
+abbrev pub new_label : CheckerTree → Identifier → Option ℕ → WithFaults (Option ℕ × CheckerTree)
 new_label c label None = sure (Some (length c.labels), record c { labels = c.labels ++ (label.bytes, length c.labels) ∷ []; label_names = c.label_names ++ without_ends label.bytes ∷ [] })
 new_label c label (Some place) = fault_at label.at rule.BadLabel (Some place, c)
 
-abbrev pub labelled : CheckerTree → Option Identifier → Noted (Option ℕ × CheckerTree)
+abbrev pub labelled : CheckerTree → Option Identifier → WithFaults (Option ℕ × CheckerTree)
 labelled c None = sure (None, c)
 labelled c (Some label) = new_label c label (found label.bytes c.labels)
 

@@ -1,4 +1,4 @@
--- What is declared.
+-- Typing of declarations.
 use Rattle.std.specs.Prelude.{ℕ, pos, Bool, true, false, not, ◌&&◌, ◌||◌, if◌then◌else◌, List, [], ◌∷◌, ◌++◌, length, map, Option, Some, None, option_map}
 use Rattle.std.specs.Str.{bytes_eq}
 use Rattle.syntax.specs.Terminals.{Identifier}
@@ -8,22 +8,22 @@ use Rattle.syntax.specs.SourceTrees as source
 use Rattle.syntax.specs.SourceTrees.{ParameterTree, InitialTree, DeclarationTree, Constant, Function}
 use Rattle.typed_tree.specs.declared.expression.Endpoint.{Endpoint}
 use Rattle.typed_tree.specs.declared.expression.Endpoint.TheVariants as endpoint
-use Rattle.typed_tree.specs.declared.program.Beginning.{Beginning}
-use Rattle.typed_tree.specs.declared.program.Beginning.TheVariants as beginning
+use Rattle.typed_tree.specs.declared.program.InitialValue.{InitialValue}
+use Rattle.typed_tree.specs.declared.program.InitialValue.TheVariants as beginning
 use Rattle.typed_tree.specs.declared.program.Vector.{Vector}
 use Rattle.typed_tree.specs.BlockTree.{BlockTree, Empty, block_tree}
 use Rattle.typed_tree.specs.StepTree.{FunctionTree, StepsTree, NoStep, function_tree}
-use Rattle.expression_types.specs.declared.fault.Rule.TheVariants as rule
+use Rattle.expression_types.specs.declared.fault.TypeRule.TheVariants as rule
 use Rattle.expression_types.specs.declared.scope.Entity.{Entity}
 use Rattle.expression_types.specs.declared.scope.Entity.TheVariants as entity
 use Rattle.expression_types.specs.declared.scope.Inside.{Inside}
 use Rattle.expression_types.specs.declared.scope.Inside.TheVariants as inside
-use Rattle.expression_types.specs.Noted.{Noted, sure, fault_at, ◌>>=◌}
+use Rattle.expression_types.specs.WithFaults.{WithFaults, sure, fault_at, ◌>>=◌}
 use Rattle.expression_types.specs.ScopeTree.{entered}
 use Rattle.types.specs.declared.declaration.Declared.{Declared}
 use Rattle.types.specs.Block.{statements_typed}
 use Rattle.types.specs.Checker.{CheckerTree, checker_of, condition_slot, with_scope, declared_in, restarted}
-use Rattle.types.specs.Initial.{GivenTree, Broken, is_all, is_degrees, is_loaded, is_sound, given_by}
+use Rattle.types.specs.Initial.{InitializerTree, ErrorInitializer, is_all, is_degrees, is_loaded, is_sound, initializer_of}
 use Rattle.types.specs.Literal.{literal_integer, literal_condition}
 use Rattle.types.specs.Step.{steps_typed, with_writes}
 
@@ -56,78 +56,78 @@ abbrev pub next_name : DeclaredTree → ℕ
 next_name d = length d.checker.names
 
 -- a name is declared
-abbrev pub declare_name : DeclaredTree → Identifier → Entity → Noted DeclaredTree
+abbrev pub declare_name : DeclaredTree → Identifier → Entity → WithFaults DeclaredTree
 declare_name d name entity = declared_in d.checker name entity >>= λ c. sure (record d { checker = c })
 
 -- A constant is a literal; one with a faulty part breaks no further rule.
-abbrev pub literal_or_fault : {A : Type 0} → ℕ → Bool → A → Option A → Noted A
+abbrev pub literal_or_fault : {A : Type 0} → ℕ → Bool → A → Option A → WithFaults A
 literal_or_fault at sound other (Some x) = sure x
 literal_or_fault at true other None = fault_at at rule.WrongType other
 literal_or_fault at false other None = sure other
 
-abbrev pub declare_integer : DeclaredTree → ℕ → Identifier → GivenTree → InitialTree → Noted DeclaredTree
-declare_integer d at name given initial =
-    literal_or_fault at (is_sound given) (pos 0) (literal_integer initial) >>= λ n. declare_name d name (entity.IntegerConstant (next_name d) n)
+abbrev pub declare_integer : DeclaredTree → ℕ → Identifier → InitializerTree → InitialTree → WithFaults DeclaredTree
+declare_integer d at name initializer initial =
+    literal_or_fault at (is_sound initializer) (pos 0) (literal_integer initial) >>= λ n. declare_name d name (entity.IntegerConstant (next_name d) n)
 
-abbrev pub declare_condition : DeclaredTree → ℕ → Identifier → GivenTree → InitialTree → Noted DeclaredTree
-declare_condition d at name given initial =
-    literal_or_fault at (is_sound given) false (literal_condition initial) >>= λ b. declare_name d name (entity.ConditionConstant (next_name d) b)
+abbrev pub declare_condition : DeclaredTree → ℕ → Identifier → InitializerTree → InitialTree → WithFaults DeclaredTree
+declare_condition d at name initializer initial =
+    literal_or_fault at (is_sound initializer) false (literal_condition initial) >>= λ b. declare_name d name (entity.ConditionConstant (next_name d) b)
 
 -- a constant vertex set has all vertices, and the next place of constant sets
-abbrev pub wanted : ℕ → Bool → Noted GivenTree
-wanted at true = sure Broken
-wanted at false = fault_at at rule.WrongType Broken
+abbrev pub wanted : ℕ → Bool → WithFaults InitializerTree
+wanted at true = sure ErrorInitializer
+wanted at false = fault_at at rule.WrongType ErrorInitializer
 
-abbrev pub has_all : ℕ → GivenTree → Noted GivenTree
-has_all at given = wanted at (not (is_sound given) || is_all given)
+abbrev pub has_all : ℕ → InitializerTree → WithFaults InitializerTree
+has_all at initializer = wanted at (not (is_sound initializer) || is_all initializer)
 
-abbrev pub declare_set : DeclaredTree → ℕ → Identifier → GivenTree → Noted DeclaredTree
-declare_set d at name given =
-    has_all at given >>= λ g. declare_name d name (entity.ConstantSet (record { place = length d.sets; name = next_name d })) >>= λ e.
+abbrev pub declare_set : DeclaredTree → ℕ → Identifier → InitializerTree → WithFaults DeclaredTree
+declare_set d at name initializer =
+    has_all at initializer >>= λ g. declare_name d name (entity.ConstantSet (record { place = length d.sets; name = next_name d })) >>= λ e.
     sure (record e { sets = e.sets ++ next_name d ∷ [] })
 
 -- a vector begins with a literal, or with the out-degrees
-abbrev pub begins : ℕ → GivenTree → InitialTree → Noted Beginning
-begins at given initial =
-    if is_degrees given then sure beginning.OutDegrees
-    else (literal_or_fault at (is_sound given) (pos 0) (literal_integer initial) >>= λ n. sure (beginning.Number n))
+abbrev pub begins : ℕ → InitializerTree → InitialTree → WithFaults InitialValue
+begins at initializer initial =
+    if is_degrees initializer then sure beginning.OutDegrees
+    else (literal_or_fault at (is_sound initializer) (pos 0) (literal_integer initial) >>= λ n. sure (beginning.Number n))
 
-abbrev pub declare_vector : DeclaredTree → ℕ → Identifier → GivenTree → InitialTree → Noted DeclaredTree
-declare_vector d at name given initial =
-    begins at given initial >>= λ b. declare_name d name (entity.Vector (length d.vectors)) >>= λ e.
+abbrev pub declare_vector : DeclaredTree → ℕ → Identifier → InitializerTree → InitialTree → WithFaults DeclaredTree
+declare_vector d at name initializer initial =
+    begins at initializer initial >>= λ b. declare_name d name (entity.Vector (length d.vectors)) >>= λ e.
     sure (record e { vectors = e.vectors ++ record { name = next_name d; beginning = b } ∷ [] })
 
 -- the edges are loaded, and there is one constant of them
-abbrev pub loads : ℕ → GivenTree → Noted GivenTree
-loads at given = wanted at (not (is_sound given) || is_loaded given)
+abbrev pub loads : ℕ → InitializerTree → WithFaults InitializerTree
+loads at initializer = wanted at (not (is_sound initializer) || is_loaded initializer)
 
-abbrev pub only_edges : Identifier → ℕ → Option ℕ → Noted (Option ℕ)
+abbrev pub only_edges : Identifier → ℕ → Option ℕ → WithFaults (Option ℕ)
 only_edges name place None = sure (Some place)
 only_edges name place (Some old) = fault_at name.at rule.Redeclared (Some old)
 
-abbrev pub declare_edges : DeclaredTree → ℕ → Identifier → GivenTree → Noted DeclaredTree
-declare_edges d at name given =
-    loads at given >>= λ g. only_edges name (next_name d) d.edges >>= λ edges. declare_name d name entity.Edges >>= λ e. sure (record e { edges = edges })
+abbrev pub declare_edges : DeclaredTree → ℕ → Identifier → InitializerTree → WithFaults DeclaredTree
+declare_edges d at name initializer =
+    loads at initializer >>= λ g. only_edges name (next_name d) d.edges >>= λ edges. declare_name d name entity.Edges >>= λ e. sure (record e { edges = edges })
 
 -- a constant; none is a Vertex
-abbrev pub declare_constant_as : DeclaredTree → ℕ → Identifier → InitialTree → DeclaredType → GivenTree → Noted DeclaredTree
-declare_constant_as d at name initial declared.Int given = declare_integer d at name given initial
-declare_constant_as d at name initial declared.Bool given = declare_condition d at name given initial
-declare_constant_as d at name initial declared.Vertex given = fault_at at rule.WrongType d >>= λ d. declare_name d name entity.Unclear
-declare_constant_as d at name initial declared.VertexSet given = declare_set d at name given
-declare_constant_as d at name initial declared.Vector given = declare_vector d at name given initial
-declare_constant_as d at name initial declared.EdgeSet given = declare_edges d at name given
+abbrev pub declare_constant_as : DeclaredTree → ℕ → Identifier → InitialTree → DeclaredType → InitializerTree → WithFaults DeclaredTree
+declare_constant_as d at name initial declared.Int initializer = declare_integer d at name initializer initial
+declare_constant_as d at name initial declared.Bool initializer = declare_condition d at name initializer initial
+declare_constant_as d at name initial declared.Vertex initializer = fault_at at rule.WrongType d >>= λ d. declare_name d name entity.Error
+declare_constant_as d at name initial declared.VertexSet initializer = declare_set d at name initializer
+declare_constant_as d at name initial declared.Vector initializer = declare_vector d at name initializer initial
+declare_constant_as d at name initial declared.EdgeSet initializer = declare_edges d at name initializer
 
-abbrev pub declare_constant : DeclaredTree → ℕ → ParameterTree → InitialTree → Noted DeclaredTree
-declare_constant d at p initial = given_by d.checker at initial >>= declare_constant_as d at p.name initial p.declared
+abbrev pub declare_constant : DeclaredTree → ℕ → ParameterTree → InitialTree → WithFaults DeclaredTree
+declare_constant d at p initial = initializer_of d.checker at initial >>= declare_constant_as d at p.name initial p.declared
 
 -- what a function is, by its name, its parameters and its result
-pub data KindTree : Type 0 where
-  MainKind : (fits : Bool) → KindTree
-  EdgeKind : KindTree
-  VertexKind : KindTree
-  FilterKind : KindTree
-  NoKind : KindTree
+pub data FunctionKindTree : Type 0 where
+  MainKind : (fits : Bool) → FunctionKindTree
+  EdgeKind : FunctionKindTree
+  VertexKind : FunctionKindTree
+  FilterKind : FunctionKindTree
+  NoKind : FunctionKindTree
 
 -- `main`
 abbrev pub main_bytes : List ℕ
@@ -154,7 +154,7 @@ takes_nothing [] None = true
 takes_nothing [] (Some result) = false
 takes_nothing (p ∷ others) result = false
 
-abbrev pub kind_of : List ParameterTree → Option ParameterTree → KindTree
+abbrev pub kind_of : List ParameterTree → Option ParameterTree → FunctionKindTree
 kind_of [] result = NoKind
 kind_of (v ∷ []) None = if is_vertex v.declared then VertexKind else NoKind
 kind_of (v ∷ []) (Some result) = if is_vertex v.declared && is_bool result.declared then FilterKind else NoKind
@@ -162,10 +162,10 @@ kind_of (src ∷ dst ∷ []) None = if is_vertex src.declared && is_vertex dst.d
 kind_of (src ∷ dst ∷ []) (Some result) = NoKind
 kind_of (a ∷ b ∷ c ∷ others) result = NoKind
 
-abbrev pub kind : List ℕ → List ParameterTree → Option ParameterTree → KindTree
+abbrev pub kind : List ℕ → List ParameterTree → Option ParameterTree → FunctionKindTree
 kind name parameters result = if bytes_eq name main_bytes then MainKind (takes_nothing parameters result) else kind_of parameters result
 
-abbrev pub inside_of : KindTree → Inside
+abbrev pub inside_of : FunctionKindTree → Inside
 inside_of (MainKind fits) = inside.Main
 inside_of EdgeKind = inside.EdgeFunction
 inside_of VertexKind = inside.VertexFunction
@@ -174,31 +174,31 @@ inside_of NoKind = inside.VertexFunction
 
 -- Parameters are vertices: the source, and any behind the first the destination. One of another type has no clear meaning.
 abbrev pub parameter : Endpoint → DeclaredType → Entity
-parameter p type = if is_vertex type then entity.Parameter p else entity.Unclear
+parameter p type = if is_vertex type then entity.Parameter p else entity.Error
 
-abbrev pub parameters_declared : CheckerTree → Endpoint → List ParameterTree → Noted CheckerTree
+abbrev pub parameters_declared : CheckerTree → Endpoint → List ParameterTree → WithFaults CheckerTree
 parameters_declared c p [] = sure c
 parameters_declared c p (v ∷ others) = declared_in c v.name (parameter p v.declared) >>= λ d. parameters_declared d endpoint.Destination others
 
 -- a filter's result is a condition, the first of its function
-abbrev pub result_entity : CheckerTree → KindTree → Entity
-result_entity c (MainKind fits) = entity.Unclear
-result_entity c EdgeKind = entity.Unclear
-result_entity c VertexKind = entity.Unclear
+abbrev pub result_entity : CheckerTree → FunctionKindTree → Entity
+result_entity c (MainKind fits) = entity.Error
+result_entity c EdgeKind = entity.Error
+result_entity c VertexKind = entity.Error
 result_entity c FilterKind = entity.ConditionVariable (condition_slot c)
-result_entity c NoKind = entity.Unclear
+result_entity c NoKind = entity.Error
 
-abbrev pub result_declared : CheckerTree → KindTree → Option ParameterTree → Noted CheckerTree
+abbrev pub result_declared : CheckerTree → FunctionKindTree → Option ParameterTree → WithFaults CheckerTree
 result_declared c kind None = sure c
 result_declared c kind (Some result) = declared_in c result.name (result_entity c kind)
 
 -- what is known at the first statement of a function
-abbrev pub opened : CheckerTree → KindTree → List ParameterTree → Option ParameterTree → Noted CheckerTree
+abbrev pub opened : CheckerTree → FunctionKindTree → List ParameterTree → Option ParameterTree → WithFaults CheckerTree
 opened c kind parameters result =
     parameters_declared (with_writes (with_scope c (entered (inside_of kind) c.scope)) []) endpoint.Source parameters >>= λ d. result_declared d kind result
 
 -- a function is one of the kinds
-abbrev pub kind_fits : ℕ → KindTree → Noted Bool
+abbrev pub kind_fits : ℕ → FunctionKindTree → WithFaults Bool
 kind_fits at (MainKind fits) = sure true
 kind_fits at EdgeKind = sure true
 kind_fits at VertexKind = sure true
@@ -209,7 +209,7 @@ abbrev pub with_main : DeclaredTree → Bool → BlockTree → DeclaredTree
 with_main d true main = record d { main = Some main }
 with_main d false main = d
 
-abbrev pub main_declared : DeclaredTree → Bool → Identifier → List ParameterTree → Option ParameterTree → source.BlockTree → Noted DeclaredTree
+abbrev pub main_declared : DeclaredTree → Bool → Identifier → List ParameterTree → Option ParameterTree → source.BlockTree → WithFaults DeclaredTree
 main_declared d fits name parameters result body =
     opened (restarted d.checker) (MainKind fits) parameters result >>= λ c. statements_typed c Empty body >>= λ b.
     declare_name (record d { checker = with_scope b.1 d.checker.scope }) name entity.Main >>= λ e. sure (with_main e fits b.0)
@@ -219,38 +219,38 @@ abbrev pub function_of : DeclaredTree → StepsTree → FunctionTree
 function_of d steps = record { name = next_name d; steps = steps }
 
 -- what an edge function writes is kept
-abbrev pub edge_function_declared : DeclaredTree → Identifier → FunctionTree → Noted DeclaredTree
+abbrev pub edge_function_declared : DeclaredTree → Identifier → FunctionTree → WithFaults DeclaredTree
 edge_function_declared d name f =
     declare_name d name (entity.EdgeFunction (length d.edge_functions)) >>= λ e.
     sure (record e { edge_functions = e.edge_functions ++ f ∷ []; checker = record e.checker { written = e.checker.written ++ e.checker.writes ∷ []; writes = [] } })
 
-abbrev pub function_declared : DeclaredTree → KindTree → Identifier → StepsTree → Noted DeclaredTree
-function_declared d (MainKind fits) name steps = declare_name d name entity.Unclear
+abbrev pub function_declared : DeclaredTree → FunctionKindTree → Identifier → StepsTree → WithFaults DeclaredTree
+function_declared d (MainKind fits) name steps = declare_name d name entity.Error
 function_declared d EdgeKind name steps = edge_function_declared d name (function_of d steps)
 function_declared d VertexKind name steps =
     declare_name d name (entity.VertexFunction (length d.vertex_functions)) >>= λ e.
     sure (record e { vertex_functions = e.vertex_functions ++ function_of d steps ∷ [] })
 function_declared d FilterKind name steps =
     declare_name d name (entity.Filter (length d.filters)) >>= λ e. sure (record e { filters = e.filters ++ function_of d steps ∷ [] })
-function_declared d NoKind name steps = declare_name d name entity.Unclear
+function_declared d NoKind name steps = declare_name d name entity.Error
 
-abbrev pub steps_declared : DeclaredTree → ℕ → KindTree → Identifier → List ParameterTree → Option ParameterTree → source.BlockTree → Noted DeclaredTree
+abbrev pub steps_declared : DeclaredTree → ℕ → FunctionKindTree → Identifier → List ParameterTree → Option ParameterTree → source.BlockTree → WithFaults DeclaredTree
 steps_declared d at kind name parameters result body =
     kind_fits at kind >>= λ f. opened d.checker kind parameters result >>= λ c. steps_typed c NoStep body >>= λ b.
     function_declared (record d { checker = with_scope b.1 d.checker.scope }) kind name b.0
 
-abbrev pub declare_function : DeclaredTree → ℕ → Identifier → List ParameterTree → Option ParameterTree → source.BlockTree → KindTree → Noted DeclaredTree
+abbrev pub declare_function : DeclaredTree → ℕ → Identifier → List ParameterTree → Option ParameterTree → source.BlockTree → FunctionKindTree → WithFaults DeclaredTree
 declare_function d at name parameters result body (MainKind fits) = main_declared d fits name parameters result body
 declare_function d at name parameters result body EdgeKind = steps_declared d at EdgeKind name parameters result body
 declare_function d at name parameters result body VertexKind = steps_declared d at VertexKind name parameters result body
 declare_function d at name parameters result body FilterKind = steps_declared d at FilterKind name parameters result body
 declare_function d at name parameters result body NoKind = steps_declared d at NoKind name parameters result body
 
-abbrev pub declaration_typed : DeclaredTree → DeclarationTree → Noted DeclaredTree
+abbrev pub declaration_typed : DeclaredTree → DeclarationTree → WithFaults DeclaredTree
 declaration_typed d (Constant at p initial) = declare_constant d at p initial
 declaration_typed d (Function at name parameters result body) = declare_function d at name parameters result body (kind name.bytes parameters result)
 
 -- in the order of the text
-abbrev pub declarations_typed : DeclaredTree → List DeclarationTree → Noted DeclaredTree
+abbrev pub declarations_typed : DeclaredTree → List DeclarationTree → WithFaults DeclaredTree
 declarations_typed d [] = sure d
 declarations_typed d (x ∷ others) = declaration_typed d x >>= λ e. declarations_typed e others

@@ -1,6 +1,6 @@
--- What the statements of edge functions write.
+-- Reductions of edge functions: what their statements write.
 use Rattle.std.specs.Prelude.{◌≡◌, ◌⊎◌, ℕ}
-use Rattle.syntax.specs.declared.statement.Reduction.{Reduction}
+use Rattle.apply_options.specs.declared.reduction.Reduction.{Reduction}
 use Rattle.typed_tree.specs.StepTree.{StepTree, StepsTree, DeclareInteger, DeclareCondition, SetInteger, SetCondition, ReduceInteger, SetEntry, ReduceEntry, If, IfElse, NoStep, StepThen}
 
 abbrev mutual

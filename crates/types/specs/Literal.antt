@@ -2,9 +2,10 @@
 use Rattle.std.specs.Prelude.{ℤ, pos, negsuc, neg_ℤ, Bool, Option, Some, None}
 use Rattle.syntax.specs.declared.operators.Prefix.TheVariants as prefix
 use Rattle.syntax.specs.ExpressionTrees as tree
-use Rattle.syntax.specs.ExpressionTrees.{ExpressionTree, ConjunctionTree, ComparisonTree, SumTree, TermTree, UnaryTree, PrimaryTree}
+use Rattle.syntax.specs.ExpressionTrees.{ExpressionTree, UnaryTree, PrimaryTree}
 use Rattle.syntax.specs.SourceTrees.{InitialTree, NewSet, Load, Vertices, OutDegrees, Filter, ApplyModified, Value}
 use Rattle.syntax.specs.ExpressionReading.{◌>>=◌}
+use Rattle.expression_types.specs.BareNames.{only_operand}
 
 -- a number without its sign is changed; a source has no other
 abbrev pub negated : ℤ → Option ℤ
@@ -38,27 +39,6 @@ primary_truth (tree.Parentheses inside) = None
 abbrev pub unary_truth : UnaryTree → Option Bool
 unary_truth (tree.Bare p) = primary_truth p
 unary_truth (tree.Signed sign u) = None
-
--- the one operand of an expression that has no operator between operands
-abbrev pub only_unary : TermTree → Option UnaryTree
-only_unary (tree.LastUnary u) = Some u
-only_unary (tree.UnaryThen u operator others) = None
-
-abbrev pub only_term : SumTree → Option UnaryTree
-only_term (tree.LastTerm t) = only_unary t
-only_term (tree.TermThen t operator others) = None
-
-abbrev pub only_sum : ComparisonTree → Option UnaryTree
-only_sum (tree.OneSum s) = only_term s
-only_sum (tree.TwoSums left relation right) = None
-
-abbrev pub only_comparison : ConjunctionTree → Option UnaryTree
-only_comparison (tree.LastComparison c) = only_sum c
-only_comparison (tree.ComparisonThen c others) = None
-
-abbrev pub only_operand : ExpressionTree → Option UnaryTree
-only_operand (tree.LastConjunction c) = only_comparison c
-only_operand (tree.ConjunctionThen c others) = None
 
 -- the literal that an expression is
 abbrev pub expression_integer : ExpressionTree → Option ℤ

@@ -9,9 +9,9 @@ use Rattle.typed_tree.specs.ProgramTree.{ProgramTree, ScheduleCallTree, program_
 use Rattle.types.specs.declared.error.CheckError.{CheckError}
 use Rattle.types.specs.declared.error.CheckError.TheVariants.{Faulty, NoMemory}
 use Rattle.expression_types.specs.declared.fault.Fault.{Fault}
-use Rattle.expression_types.specs.declared.fault.Rule.TheVariants as rule
+use Rattle.expression_types.specs.declared.fault.TypeRule.TheVariants as rule
 use Rattle.expression_types.specs.Faults.{least_of}
-use Rattle.expression_types.specs.Noted.{Noted, sure, fault_at, ◌>>=◌}
+use Rattle.expression_types.specs.WithFaults.{WithFaults, sure, fault_at, ◌>>=◌}
 use Rattle.expression_types.specs.ScopeTree.{empty_scope}
 use Rattle.types.specs.Checker.{without_ends}
 use Rattle.types.specs.Declaration.{DeclaredTree, declarations_typed}
@@ -57,7 +57,7 @@ schedule_calls None = []
 schedule_calls (Some chains) = chain_calls chains
 
 -- a program has a function that is run
-abbrev pub main_of : ℕ → Option BlockTree → Noted BlockTree
+abbrev pub main_of : ℕ → Option BlockTree → WithFaults BlockTree
 main_of length None = fault_at length rule.NoMain Empty
 main_of length (Some main) = sure main
 
@@ -76,7 +76,7 @@ program_tree_of d main schedule = record {
 }
 
 -- the program that a source is, in a text of this length, with all its faults
-abbrev pub program_of : SourceTree → ℕ → Noted ProgramTree
+abbrev pub program_of : SourceTree → ℕ → WithFaults ProgramTree
 program_of source length =
     declarations_typed (opening (set_count source.declarations)) source.declarations >>= λ d. main_of length d.main >>= λ main.
     sure (program_tree_of d main (schedule_calls source.schedule))

@@ -1,23 +1,23 @@
--- Statements of main without blocks. Where one is faulty a harmless one stands in its place.
+-- Typing of statements of main without blocks. Where one is faulty a harmless one stands in its place.
 use Rattle.std.specs.Prelude.{ℕ, Bool, ◌||◌, if◌then◌else◌, length, Option, Some, None, is_some}
 use Rattle.syntax.specs.Terminals.{Identifier}
 use Rattle.syntax.specs.ExpressionTrees.{ExpressionTree}
 use Rattle.syntax.specs.declared.declaration.DeclaredType.{DeclaredType}
 use Rattle.syntax.specs.declared.declaration.DeclaredType.TheVariants as declared
-use Rattle.syntax.specs.declared.statement.Reduction.{Reduction}
+use Rattle.apply_options.specs.declared.reduction.Reduction.{Reduction}
 use Rattle.syntax.specs.SourceTrees.{EndsTree, InitialTree}
-use Rattle.typed_tree.specs.declared.expression.Slot.{Slot}
+use Rattle.typed_tree.specs.declared.expression.VarRef.{VarRef}
 use Rattle.typed_tree.specs.IntegerTree.{IntegerTree, Parameter}
 use Rattle.typed_tree.specs.BlockTree.{ActionTree, DeclareInteger, DeclareCondition, SetInteger, SetCondition, ReduceInteger, SetEntry, ReduceEntry, DeclareSet, AssignSet, AddVertex, PrintInteger, PrintCondition, ApplyVertex, ApplyEdges}
-use Rattle.expression_types.specs.declared.fault.Rule.TheVariants as rule
+use Rattle.expression_types.specs.declared.fault.TypeRule.TheVariants as rule
 use Rattle.expression_types.specs.declared.scope.Entity.{Entity}
 use Rattle.expression_types.specs.declared.scope.Entity.TheVariants as entity
 use Rattle.expression_types.specs.Expression.{used, value_of, vector_place}
-use Rattle.expression_types.specs.Noted.{Noted, sure, fault_at, ◌>>=◌}
+use Rattle.expression_types.specs.WithFaults.{WithFaults, sure, fault_at, ◌>>=◌}
 use Rattle.expression_types.specs.ScopeTree.{ScopeTree}
-use Rattle.expression_types.specs.ValueTree.{ValueTree, Integer, Condition, Vertex, Set, Faulty, named_set}
+use Rattle.expression_types.specs.ValueTree.{ValueTree, Integer, Condition, Vertex, Set, ErrorValue, named_set}
 use Rattle.types.specs.Checker.{CheckerTree, integer_slot, condition_slot, set_slot, declared_in}
-use Rattle.types.specs.Initial.{GivenTree, EndTree, given_by, end_of, is_wrong, is_unknown, ends_given, is_unclear, is_edges, edge_function, vertex_function, integer_given, condition_given, members_given}
+use Rattle.types.specs.Initial.{InitializerTree, ApplyEndTree, initializer_of, end_of, is_wrong, is_error_end, ends_given, names_error, is_edges, edge_function, vertex_function, initializer_integer, initializer_condition, initializer_members}
 use Rattle.types.specs.Wanted.{some_integer, as_integer, as_index, integer_in}
 
 -- what stands in place of a faulty statement
@@ -25,43 +25,43 @@ abbrev pub no_action : ActionTree
 no_action = PrintInteger some_integer
 
 -- A declaration of a variable, and what is known behind it. The name is not visible in its first value.
-abbrev pub declare_as : CheckerTree → ℕ → Identifier → GivenTree → DeclaredType → Noted (ActionTree × CheckerTree)
-declare_as c at name given declared.Int =
-    integer_given at given >>= λ e. declared_in c name (entity.IntegerVariable (integer_slot c)) >>= λ d. sure (DeclareInteger (length c.names) e, d)
-declare_as c at name given declared.Bool =
-    condition_given at given >>= λ e. declared_in c name (entity.ConditionVariable (condition_slot c)) >>= λ d. sure (DeclareCondition (length c.names) e, d)
-declare_as c at name given declared.VertexSet =
-    members_given at given >>= λ s. declared_in c name (entity.SetVariable (set_slot c)) >>= λ d. sure (DeclareSet (length c.names) s, d)
-declare_as c at name given declared.Vertex = fault_at at rule.WrongType no_action >>= λ a. declared_in c name entity.Unclear >>= λ d. sure (a, d)
-declare_as c at name given declared.Vector = fault_at at rule.WrongType no_action >>= λ a. declared_in c name entity.Unclear >>= λ d. sure (a, d)
-declare_as c at name given declared.EdgeSet = fault_at at rule.WrongType no_action >>= λ a. declared_in c name entity.Unclear >>= λ d. sure (a, d)
+abbrev pub declare_as : CheckerTree → ℕ → Identifier → InitializerTree → DeclaredType → WithFaults (ActionTree × CheckerTree)
+declare_as c at name initializer declared.Int =
+    initializer_integer at initializer >>= λ e. declared_in c name (entity.IntegerVariable (integer_slot c)) >>= λ d. sure (DeclareInteger (length c.names) e, d)
+declare_as c at name initializer declared.Bool =
+    initializer_condition at initializer >>= λ e. declared_in c name (entity.ConditionVariable (condition_slot c)) >>= λ d. sure (DeclareCondition (length c.names) e, d)
+declare_as c at name initializer declared.VertexSet =
+    initializer_members at initializer >>= λ s. declared_in c name (entity.SetVariable (set_slot c)) >>= λ d. sure (DeclareSet (length c.names) s, d)
+declare_as c at name initializer declared.Vertex = fault_at at rule.WrongType no_action >>= λ a. declared_in c name entity.Error >>= λ d. sure (a, d)
+declare_as c at name initializer declared.Vector = fault_at at rule.WrongType no_action >>= λ a. declared_in c name entity.Error >>= λ d. sure (a, d)
+declare_as c at name initializer declared.EdgeSet = fault_at at rule.WrongType no_action >>= λ a. declared_in c name entity.Error >>= λ d. sure (a, d)
 
-abbrev pub declare_variable : CheckerTree → ℕ → Identifier → DeclaredType → InitialTree → Noted (ActionTree × CheckerTree)
-declare_variable c at name type initial = given_by c at initial >>= λ given. declare_as c at name given type
+abbrev pub declare_variable : CheckerTree → ℕ → Identifier → DeclaredType → InitialTree → WithFaults (ActionTree × CheckerTree)
+declare_variable c at name type initial = initializer_of c at initial >>= λ initializer. declare_as c at name initializer type
 
 -- variables are assigned, and nothing else
-abbrev pub assigned : ℕ → GivenTree → Entity → Noted ActionTree
-assigned at given entity.Edges = fault_at at rule.WrongType no_action
-assigned at given (entity.Vector place) = fault_at at rule.WrongType no_action
-assigned at given (entity.ConstantSet slot) = fault_at at rule.WrongType no_action
-assigned at given (entity.IntegerConstant name n) = fault_at at rule.WrongType no_action
-assigned at given (entity.ConditionConstant name b) = fault_at at rule.WrongType no_action
-assigned at given (entity.IntegerVariable slot) = integer_given at given >>= λ e. sure (SetInteger slot e)
-assigned at given (entity.ConditionVariable slot) = condition_given at given >>= λ e. sure (SetCondition slot e)
-assigned at given (entity.SetVariable slot) = members_given at given >>= λ s. sure (AssignSet slot s)
-assigned at given (entity.LoopVariable slot) = fault_at at rule.WrongType no_action
-assigned at given (entity.Parameter p) = fault_at at rule.WrongType no_action
-assigned at given (entity.EdgeFunction place) = fault_at at rule.WrongType no_action
-assigned at given (entity.VertexFunction place) = fault_at at rule.WrongType no_action
-assigned at given (entity.Filter place) = fault_at at rule.WrongType no_action
-assigned at given entity.Main = fault_at at rule.WrongType no_action
-assigned at given entity.Unclear = sure no_action
+abbrev pub assigned : ℕ → InitializerTree → Entity → WithFaults ActionTree
+assigned at initializer entity.Edges = fault_at at rule.WrongType no_action
+assigned at initializer (entity.Vector place) = fault_at at rule.WrongType no_action
+assigned at initializer (entity.ConstantSet slot) = fault_at at rule.WrongType no_action
+assigned at initializer (entity.IntegerConstant name n) = fault_at at rule.WrongType no_action
+assigned at initializer (entity.ConditionConstant name b) = fault_at at rule.WrongType no_action
+assigned at initializer (entity.IntegerVariable slot) = initializer_integer at initializer >>= λ e. sure (SetInteger slot e)
+assigned at initializer (entity.ConditionVariable slot) = initializer_condition at initializer >>= λ e. sure (SetCondition slot e)
+assigned at initializer (entity.SetVariable slot) = initializer_members at initializer >>= λ s. sure (AssignSet slot s)
+assigned at initializer (entity.LoopVariable slot) = fault_at at rule.WrongType no_action
+assigned at initializer (entity.Parameter p) = fault_at at rule.WrongType no_action
+assigned at initializer (entity.EdgeFunction place) = fault_at at rule.WrongType no_action
+assigned at initializer (entity.VertexFunction place) = fault_at at rule.WrongType no_action
+assigned at initializer (entity.Filter place) = fault_at at rule.WrongType no_action
+assigned at initializer entity.Main = fault_at at rule.WrongType no_action
+assigned at initializer entity.Error = sure no_action
 
-abbrev pub assign : CheckerTree → ℕ → Identifier → InitialTree → Noted ActionTree
-assign c at name initial = used c.scope name >>= λ e. given_by c at initial >>= λ given. assigned at given e
+abbrev pub assign : CheckerTree → ℕ → Identifier → InitialTree → WithFaults ActionTree
+assign c at name initial = used c.scope name >>= λ e. initializer_of c at initial >>= λ initializer. assigned at initializer e
 
 -- int variables are reduced
-abbrev pub reduced : ℕ → Reduction → ValueTree → Entity → Noted ActionTree
+abbrev pub reduced : ℕ → Reduction → ValueTree → Entity → WithFaults ActionTree
 reduced at by v entity.Edges = fault_at at rule.WrongType no_action
 reduced at by v (entity.Vector place) = fault_at at rule.WrongType no_action
 reduced at by v (entity.ConstantSet slot) = fault_at at rule.WrongType no_action
@@ -76,9 +76,9 @@ reduced at by v (entity.EdgeFunction place) = fault_at at rule.WrongType no_acti
 reduced at by v (entity.VertexFunction place) = fault_at at rule.WrongType no_action
 reduced at by v (entity.Filter place) = fault_at at rule.WrongType no_action
 reduced at by v entity.Main = fault_at at rule.WrongType no_action
-reduced at by v entity.Unclear = sure no_action
+reduced at by v entity.Error = sure no_action
 
-abbrev pub reduce : ScopeTree → ℕ → Identifier → Reduction → ExpressionTree → Noted ActionTree
+abbrev pub reduce : ScopeTree → ℕ → Identifier → Reduction → ExpressionTree → WithFaults ActionTree
 reduce scope at name by e = used scope name >>= λ n. value_of scope at e >>= λ v. reduced at by v n
 
 -- an entry at an index
@@ -87,7 +87,7 @@ entry_set None index e = no_action
 entry_set (Some vector) None e = no_action
 entry_set (Some vector) (Some index) e = SetEntry vector index e
 
-abbrev pub set_entry : ScopeTree → ℕ → Identifier → (index e : ExpressionTree) → Noted ActionTree
+abbrev pub set_entry : ScopeTree → ℕ → Identifier → (index e : ExpressionTree) → WithFaults ActionTree
 set_entry scope at name index e =
     vector_place scope at name >>= λ vector. value_of scope at index >>= λ v. as_index at v >>= λ i.
     integer_in scope at e >>= λ x. sure (entry_set vector i x)
@@ -97,13 +97,13 @@ entry_reduced None index by e = no_action
 entry_reduced (Some vector) None by e = no_action
 entry_reduced (Some vector) (Some index) by e = ReduceEntry vector index by e
 
-abbrev pub reduce_entry : ScopeTree → ℕ → Identifier → (index : ExpressionTree) → Reduction → (e : ExpressionTree) → Noted ActionTree
+abbrev pub reduce_entry : ScopeTree → ℕ → Identifier → (index : ExpressionTree) → Reduction → (e : ExpressionTree) → WithFaults ActionTree
 reduce_entry scope at name index by e =
     vector_place scope at name >>= λ vector. value_of scope at index >>= λ v. as_index at v >>= λ i.
     integer_in scope at e >>= λ x. sure (entry_reduced vector i by x)
 
 -- set variables get vertices
-abbrev pub added : ℕ → ValueTree → Entity → Noted ActionTree
+abbrev pub added : ℕ → ValueTree → Entity → WithFaults ActionTree
 added at v entity.Edges = fault_at at rule.WrongType no_action
 added at v (entity.Vector place) = fault_at at rule.WrongType no_action
 added at v (entity.ConstantSet slot) = fault_at at rule.WrongType no_action
@@ -118,49 +118,49 @@ added at v (entity.EdgeFunction place) = fault_at at rule.WrongType no_action
 added at v (entity.VertexFunction place) = fault_at at rule.WrongType no_action
 added at v (entity.Filter place) = fault_at at rule.WrongType no_action
 added at v entity.Main = fault_at at rule.WrongType no_action
-added at v entity.Unclear = sure no_action
+added at v entity.Error = sure no_action
 
-abbrev pub add_vertex : ScopeTree → ℕ → Identifier → ExpressionTree → Noted ActionTree
+abbrev pub add_vertex : ScopeTree → ℕ → Identifier → ExpressionTree → WithFaults ActionTree
 add_vertex scope at set e = used scope set >>= λ s. value_of scope at e >>= λ v. added at v s
 
 -- a number or a truth value is printed
-abbrev pub printed : ℕ → ValueTree → Noted ActionTree
+abbrev pub printed : ℕ → ValueTree → WithFaults ActionTree
 printed at (Integer e) = sure (PrintInteger e)
 printed at (Condition c) = sure (PrintCondition c)
 printed at (Vertex p) = sure (PrintInteger (Parameter p))
 printed at (Set slot) = fault_at at rule.WrongType no_action
-printed at Faulty = sure no_action
+printed at ErrorValue = sure no_action
 
-abbrev pub print : ScopeTree → ℕ → ExpressionTree → Noted ActionTree
+abbrev pub print : ScopeTree → ℕ → ExpressionTree → WithFaults ActionTree
 print scope at e = value_of scope at e >>= printed at
 
 -- Edge functions are applied to the edges, and vertex functions to vertex sets, which have no ends. A name that is not clear breaks no
 -- further rule.
-abbrev pub edges_applied : ℕ → EndTree → EndTree → Bool → Option ℕ → Noted ActionTree
-edges_applied at a b unclear None = if unclear then sure no_action else fault_at at rule.WrongType no_action
-edges_applied at a b unclear (Some function) = if is_unknown a || is_unknown b then sure no_action else sure (ApplyEdges (ends_given a b) function)
+abbrev pub edges_applied : ℕ → ApplyEndTree → ApplyEndTree → Bool → Option ℕ → WithFaults ActionTree
+edges_applied at a b error None = if error then sure no_action else fault_at at rule.WrongType no_action
+edges_applied at a b error (Some function) = if is_error_end a || is_error_end b then sure no_action else sure (ApplyEdges (ends_given a b) function)
 
-abbrev pub vertices_applied : ℕ → Slot → Bool → Option ℕ → Noted ActionTree
-vertices_applied at slot unclear None = if unclear then sure no_action else fault_at at rule.WrongType no_action
-vertices_applied at slot unclear (Some function) = sure (ApplyVertex slot function)
+abbrev pub vertices_applied : ℕ → VarRef → Bool → Option ℕ → WithFaults ActionTree
+vertices_applied at slot error None = if error then sure no_action else fault_at at rule.WrongType no_action
+vertices_applied at slot error (Some function) = sure (ApplyVertex slot function)
 
-abbrev pub set_applied : ℕ → Bool → Entity → Option Slot → Noted ActionTree
+abbrev pub set_applied : ℕ → Bool → Entity → Option VarRef → WithFaults ActionTree
 set_applied at ends f None = fault_at at rule.WrongType no_action
 set_applied at ends f (Some slot) =
-    if ends then fault_at at rule.WrongType no_action else vertices_applied at slot (is_unclear f) (vertex_function f)
+    if ends then fault_at at rule.WrongType no_action else vertices_applied at slot (names_error f) (vertex_function f)
 
-abbrev pub applied : ℕ → Entity → EndTree → EndTree → Bool → Entity → Noted ActionTree
+abbrev pub applied : ℕ → Entity → ApplyEndTree → ApplyEndTree → Bool → Entity → WithFaults ActionTree
 applied at t a b ends f =
-    if is_unclear t then sure no_action
+    if names_error t then sure no_action
     else (if is_edges t then
-    (if is_wrong a || is_wrong b then fault_at at rule.WrongType no_action else edges_applied at a b (is_unclear f) (edge_function f))
+    (if is_wrong a || is_wrong b then fault_at at rule.WrongType no_action else edges_applied at a b (names_error f) (edge_function f))
     else set_applied at ends f (named_set t))
 
 -- whether an end is written
 abbrev pub has_ends : EndsTree → Bool
 has_ends ends = is_some ends.from || is_some ends.to
 
-abbrev pub apply : ScopeTree → ℕ → Identifier → EndsTree → Identifier → Noted ActionTree
+abbrev pub apply : ScopeTree → ℕ → Identifier → EndsTree → Identifier → WithFaults ActionTree
 apply scope at target ends function =
     used scope target >>= λ t. end_of scope ends.from >>= λ a. end_of scope ends.to >>= λ b. used scope function >>= λ f.
     applied at t a b (has_ends ends) f

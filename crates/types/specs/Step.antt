@@ -1,12 +1,12 @@
--- Statements of functions, in the order of the text. Where one is faulty, or no function may hold it, a harmless one stands in its place.
+-- Typing of statements of functions, in the order of the text. Where one is faulty, or no function may hold it, a harmless one stands in its place.
 use Rattle.std.specs.Prelude.{ℕ, Bool, true, false, nat_eq, List, [], ◌∷◌, ◌++◌, length, Option, Some, None}
 use Rattle.std.specs.Map.{lookup}
 use Rattle.syntax.specs.Terminals.{Identifier}
 use Rattle.syntax.specs.ExpressionTrees.{ExpressionTree}
 use Rattle.syntax.specs.declared.declaration.DeclaredType.{DeclaredType}
 use Rattle.syntax.specs.declared.declaration.DeclaredType.TheVariants as declared
-use Rattle.syntax.specs.declared.statement.Reduction.{Reduction}
-use Rattle.syntax.specs.declared.statement.Reduction.TheVariants as reduction
+use Rattle.apply_options.specs.declared.reduction.Reduction.{Reduction}
+use Rattle.apply_options.specs.declared.reduction.Reduction.TheVariants as reduction
 use Rattle.syntax.specs.SourceTrees as source
 use Rattle.syntax.specs.SourceTrees.{InitialTree}
 use Rattle.typed_tree.specs.declared.expression.Endpoint.{Endpoint}
@@ -14,17 +14,17 @@ use Rattle.typed_tree.specs.declared.expression.Endpoint.TheVariants as endpoint
 use Rattle.typed_tree.specs.ConditionTree.{Literal}
 use Rattle.typed_tree.specs.IntegerTree.{IntegerTree}
 use Rattle.typed_tree.specs.StepTree.{StepTree, StepsTree, DeclareInteger, DeclareCondition, SetInteger, SetCondition, ReduceInteger, SetEntry, ReduceEntry, If, IfElse, NoStep, StepThen}
-use Rattle.expression_types.specs.declared.fault.Rule.TheVariants as rule
+use Rattle.expression_types.specs.declared.fault.TypeRule.TheVariants as rule
 use Rattle.expression_types.specs.declared.scope.Entity.{Entity}
 use Rattle.expression_types.specs.declared.scope.Entity.TheVariants as entity
 use Rattle.expression_types.specs.declared.scope.Inside.{Inside}
 use Rattle.expression_types.specs.declared.scope.Inside.TheVariants as inside
-use Rattle.expression_types.specs.Expression.{used, value_of, vector_place}
-use Rattle.expression_types.specs.Noted.{Noted, sure, fault_at, ◌>>=◌}
+use Rattle.expression_types.specs.Expression.{index_value, used, value_of, vector_place}
+use Rattle.expression_types.specs.WithFaults.{WithFaults, sure, fault_at, ◌>>=◌}
 use Rattle.expression_types.specs.ScopeTree.{ScopeTree}
-use Rattle.expression_types.specs.ValueTree.{ValueTree, Integer, Condition, Vertex, Set, Faulty}
+use Rattle.expression_types.specs.ValueTree.{ValueTree, Integer, Condition, Vertex, Set, ErrorValue}
 use Rattle.types.specs.Checker.{CheckerTree, integer_slot, condition_slot, with_scope, declared_in, labelled}
-use Rattle.types.specs.Initial.{GivenTree, end_of, given_by, integer_given, condition_given}
+use Rattle.types.specs.Initial.{InitializerTree, end_of, initializer_of, initializer_integer, initializer_condition}
 use Rattle.types.specs.Wanted.{as_integer, integer_in, condition_in}
 
 -- what stands in place of a faulty statement
@@ -32,41 +32,41 @@ abbrev pub no_step : StepTree
 no_step = If (Literal false) NoStep
 
 -- a declaration of a variable, and what is known behind it
-abbrev pub declare_step_as : CheckerTree → ℕ → Identifier → GivenTree → DeclaredType → Noted (StepTree × CheckerTree)
-declare_step_as c at name given declared.Int =
-    integer_given at given >>= λ e. declared_in c name (entity.IntegerVariable (integer_slot c)) >>= λ d. sure (DeclareInteger (length c.names) e, d)
-declare_step_as c at name given declared.Bool =
-    condition_given at given >>= λ e. declared_in c name (entity.ConditionVariable (condition_slot c)) >>= λ d. sure (DeclareCondition (length c.names) e, d)
-declare_step_as c at name given declared.VertexSet = fault_at at rule.WrongType no_step >>= λ a. declared_in c name entity.Unclear >>= λ d. sure (a, d)
-declare_step_as c at name given declared.Vertex = fault_at at rule.WrongType no_step >>= λ a. declared_in c name entity.Unclear >>= λ d. sure (a, d)
-declare_step_as c at name given declared.Vector = fault_at at rule.WrongType no_step >>= λ a. declared_in c name entity.Unclear >>= λ d. sure (a, d)
-declare_step_as c at name given declared.EdgeSet = fault_at at rule.WrongType no_step >>= λ a. declared_in c name entity.Unclear >>= λ d. sure (a, d)
+abbrev pub declare_step_as : CheckerTree → ℕ → Identifier → InitializerTree → DeclaredType → WithFaults (StepTree × CheckerTree)
+declare_step_as c at name initializer declared.Int =
+    initializer_integer at initializer >>= λ e. declared_in c name (entity.IntegerVariable (integer_slot c)) >>= λ d. sure (DeclareInteger (length c.names) e, d)
+declare_step_as c at name initializer declared.Bool =
+    initializer_condition at initializer >>= λ e. declared_in c name (entity.ConditionVariable (condition_slot c)) >>= λ d. sure (DeclareCondition (length c.names) e, d)
+declare_step_as c at name initializer declared.VertexSet = fault_at at rule.WrongType no_step >>= λ a. declared_in c name entity.Error >>= λ d. sure (a, d)
+declare_step_as c at name initializer declared.Vertex = fault_at at rule.WrongType no_step >>= λ a. declared_in c name entity.Error >>= λ d. sure (a, d)
+declare_step_as c at name initializer declared.Vector = fault_at at rule.WrongType no_step >>= λ a. declared_in c name entity.Error >>= λ d. sure (a, d)
+declare_step_as c at name initializer declared.EdgeSet = fault_at at rule.WrongType no_step >>= λ a. declared_in c name entity.Error >>= λ d. sure (a, d)
 
-abbrev pub declare_step : CheckerTree → ℕ → Identifier → DeclaredType → InitialTree → Noted (StepTree × CheckerTree)
-declare_step c at name type initial = given_by c at initial >>= λ given. declare_step_as c at name given type
+abbrev pub declare_step : CheckerTree → ℕ → Identifier → DeclaredType → InitialTree → WithFaults (StepTree × CheckerTree)
+declare_step c at name type initial = initializer_of c at initial >>= λ initializer. declare_step_as c at name initializer type
 
 -- variables are assigned, and a filter's result
-abbrev pub assigned_step : ℕ → GivenTree → Entity → Noted StepTree
-assigned_step at given entity.Edges = fault_at at rule.WrongType no_step
-assigned_step at given (entity.Vector place) = fault_at at rule.WrongType no_step
-assigned_step at given (entity.ConstantSet slot) = fault_at at rule.WrongType no_step
-assigned_step at given (entity.IntegerConstant name n) = fault_at at rule.WrongType no_step
-assigned_step at given (entity.ConditionConstant name b) = fault_at at rule.WrongType no_step
-assigned_step at given (entity.IntegerVariable slot) = integer_given at given >>= λ e. sure (SetInteger slot e)
-assigned_step at given (entity.ConditionVariable slot) = condition_given at given >>= λ e. sure (SetCondition slot e)
-assigned_step at given (entity.SetVariable slot) = fault_at at rule.WrongType no_step
-assigned_step at given (entity.LoopVariable slot) = fault_at at rule.WrongType no_step
-assigned_step at given (entity.Parameter p) = fault_at at rule.WrongType no_step
-assigned_step at given (entity.EdgeFunction place) = fault_at at rule.WrongType no_step
-assigned_step at given (entity.VertexFunction place) = fault_at at rule.WrongType no_step
-assigned_step at given (entity.Filter place) = fault_at at rule.WrongType no_step
-assigned_step at given entity.Main = fault_at at rule.WrongType no_step
-assigned_step at given entity.Unclear = sure no_step
+abbrev pub assigned_step : ℕ → InitializerTree → Entity → WithFaults StepTree
+assigned_step at initializer entity.Edges = fault_at at rule.WrongType no_step
+assigned_step at initializer (entity.Vector place) = fault_at at rule.WrongType no_step
+assigned_step at initializer (entity.ConstantSet slot) = fault_at at rule.WrongType no_step
+assigned_step at initializer (entity.IntegerConstant name n) = fault_at at rule.WrongType no_step
+assigned_step at initializer (entity.ConditionConstant name b) = fault_at at rule.WrongType no_step
+assigned_step at initializer (entity.IntegerVariable slot) = initializer_integer at initializer >>= λ e. sure (SetInteger slot e)
+assigned_step at initializer (entity.ConditionVariable slot) = initializer_condition at initializer >>= λ e. sure (SetCondition slot e)
+assigned_step at initializer (entity.SetVariable slot) = fault_at at rule.WrongType no_step
+assigned_step at initializer (entity.LoopVariable slot) = fault_at at rule.WrongType no_step
+assigned_step at initializer (entity.Parameter p) = fault_at at rule.WrongType no_step
+assigned_step at initializer (entity.EdgeFunction place) = fault_at at rule.WrongType no_step
+assigned_step at initializer (entity.VertexFunction place) = fault_at at rule.WrongType no_step
+assigned_step at initializer (entity.Filter place) = fault_at at rule.WrongType no_step
+assigned_step at initializer entity.Main = fault_at at rule.WrongType no_step
+assigned_step at initializer entity.Error = sure no_step
 
-abbrev pub assign_step : CheckerTree → ℕ → Identifier → InitialTree → Noted StepTree
-assign_step c at name initial = used c.scope name >>= λ e. given_by c at initial >>= λ given. assigned_step at given e
+abbrev pub assign_step : CheckerTree → ℕ → Identifier → InitialTree → WithFaults StepTree
+assign_step c at name initial = used c.scope name >>= λ e. initializer_of c at initial >>= λ initializer. assigned_step at initializer e
 
-abbrev pub reduced_step : ℕ → Reduction → ValueTree → Entity → Noted StepTree
+abbrev pub reduced_step : ℕ → Reduction → ValueTree → Entity → WithFaults StepTree
 reduced_step at by v entity.Edges = fault_at at rule.WrongType no_step
 reduced_step at by v (entity.Vector place) = fault_at at rule.WrongType no_step
 reduced_step at by v (entity.ConstantSet slot) = fault_at at rule.WrongType no_step
@@ -81,9 +81,9 @@ reduced_step at by v (entity.EdgeFunction place) = fault_at at rule.WrongType no
 reduced_step at by v (entity.VertexFunction place) = fault_at at rule.WrongType no_step
 reduced_step at by v (entity.Filter place) = fault_at at rule.WrongType no_step
 reduced_step at by v entity.Main = fault_at at rule.WrongType no_step
-reduced_step at by v entity.Unclear = sure no_step
+reduced_step at by v entity.Error = sure no_step
 
-abbrev pub reduce_step : ScopeTree → ℕ → Identifier → Reduction → ExpressionTree → Noted StepTree
+abbrev pub reduce_step : ScopeTree → ℕ → Identifier → Reduction → ExpressionTree → WithFaults StepTree
 reduce_step scope at name by e = used scope name >>= λ n. value_of scope at e >>= λ v. reduced_step at by v n
 
 -- the vertex at which a function writes
@@ -100,19 +100,19 @@ same_endpoint endpoint.Destination endpoint.Source = false
 same_endpoint endpoint.Destination endpoint.Destination = true
 
 -- an entry is written there and nowhere else
-abbrev pub at_own : ℕ → Bool → Noted Bool
+abbrev pub at_own : ℕ → Bool → WithFaults Bool
 at_own at true = sure true
 at_own at false = fault_at at rule.WrongIndex false
 
-abbrev pub written_at : ℕ → Endpoint → ValueTree → Noted Bool
+abbrev pub written_at : ℕ → Endpoint → ValueTree → WithFaults Bool
 written_at at own (Integer e) = fault_at at rule.WrongIndex false
 written_at at own (Condition c) = fault_at at rule.WrongIndex false
 written_at at own (Vertex p) = at_own at (same_endpoint p own)
 written_at at own (Set slot) = fault_at at rule.WrongIndex false
-written_at at own Faulty = sure false
+written_at at own ErrorValue = sure false
 
 -- an edge function writes no entry by `=`, and a filter none at all
-abbrev pub may_set : ℕ → Inside → Noted Bool
+abbrev pub may_set : ℕ → Inside → WithFaults Bool
 may_set at inside.Main = sure false
 may_set at inside.EdgeFunction = fault_at at rule.NotReduction false
 may_set at inside.VertexFunction = sure true
@@ -124,10 +124,10 @@ entry_step false own (Some vector) e = no_step
 entry_step true false (Some vector) e = no_step
 entry_step true true (Some vector) e = SetEntry vector e
 
-abbrev pub set_entry_step : ScopeTree → ℕ → Identifier → (index e : ExpressionTree) → Noted StepTree
+abbrev pub set_entry_step : ScopeTree → ℕ → Identifier → (index e : ExpressionTree) → WithFaults StepTree
 set_entry_step scope at name index e =
     may_set at scope.inside >>= λ may. vector_place scope at name >>= λ vector.
-    value_of scope at index >>= λ v. written_at at (own_vertex scope.inside) v >>= λ own.
+    index_value scope at index >>= λ v. written_at at (own_vertex scope.inside) v >>= λ own.
     integer_in scope at e >>= λ x. sure (entry_step may own vector x)
 
 -- an edge function reduces a vector in one way, which its first statement on that vector says
@@ -142,20 +142,20 @@ same_reduction reduction.Plus reduction.Min = false
 same_reduction reduction.Plus reduction.Max = false
 same_reduction reduction.Plus reduction.Plus = true
 
-abbrev pub reduced_as : ℕ → Bool → List (ℕ × Reduction) → Noted (Bool × List (ℕ × Reduction))
+abbrev pub reduced_as : ℕ → Bool → List (ℕ × Reduction) → WithFaults (Bool × List (ℕ × Reduction))
 reduced_as at true writes = sure (true, writes)
 reduced_as at false writes = fault_at at rule.MixedReductions (false, writes)
 
-abbrev pub written_with : ℕ → ℕ → Reduction → List (ℕ × Reduction) → Option Reduction → Noted (Bool × List (ℕ × Reduction))
+abbrev pub written_with : ℕ → ℕ → Reduction → List (ℕ × Reduction) → Option Reduction → WithFaults (Bool × List (ℕ × Reduction))
 written_with at vector by writes None = sure (true, writes ++ (vector, by) ∷ [])
 written_with at vector by writes (Some first) = reduced_as at (same_reduction first by) writes
 
-abbrev pub one_reduction : ℕ → Option ℕ → Reduction → List (ℕ × Reduction) → Noted (Bool × List (ℕ × Reduction))
+abbrev pub one_reduction : ℕ → Option ℕ → Reduction → List (ℕ × Reduction) → WithFaults (Bool × List (ℕ × Reduction))
 one_reduction at None by writes = sure (false, writes)
 one_reduction at (Some vector) by writes = written_with at vector by writes (lookup (nat_eq vector) writes)
 
 -- a filter writes no entry, and a vertex function in any way
-abbrev pub may_reduce : ℕ → Inside → Option ℕ → Reduction → List (ℕ × Reduction) → Noted (Bool × List (ℕ × Reduction))
+abbrev pub may_reduce : ℕ → Inside → Option ℕ → Reduction → List (ℕ × Reduction) → WithFaults (Bool × List (ℕ × Reduction))
 may_reduce at inside.Main vector by writes = sure (false, writes)
 may_reduce at inside.EdgeFunction vector by writes = one_reduction at vector by writes
 may_reduce at inside.VertexFunction vector by writes = sure (true, writes)
@@ -170,23 +170,23 @@ reduction_step true true (Some vector) by e = ReduceEntry vector by e
 abbrev pub with_writes : CheckerTree → List (ℕ × Reduction) → CheckerTree
 with_writes c writes = record c { writes = writes }
 
-abbrev pub reduce_entry_step : CheckerTree → ℕ → Identifier → (index : ExpressionTree) → Reduction → (e : ExpressionTree) → Noted (StepTree × CheckerTree)
+abbrev pub reduce_entry_step : CheckerTree → ℕ → Identifier → (index : ExpressionTree) → Reduction → (e : ExpressionTree) → WithFaults (StepTree × CheckerTree)
 reduce_entry_step c at name index by e =
     vector_place c.scope at name >>= λ vector. may_reduce at c.scope.inside vector by c.writes >>= λ may.
-    value_of c.scope at index >>= λ v. written_at at (own_vertex c.scope.inside) v >>= λ own.
+    index_value c.scope at index >>= λ v. written_at at (own_vertex c.scope.inside) v >>= λ own.
     integer_in c.scope at e >>= λ x. sure (reduction_step may.0 own vector by x, with_writes c may.1)
 
 -- a statement that no function may hold; its parts are looked at too
-abbrev pub no_add : ScopeTree → ℕ → Identifier → ExpressionTree → Noted StepTree
+abbrev pub no_add : ScopeTree → ℕ → Identifier → ExpressionTree → WithFaults StepTree
 no_add scope at set e = fault_at at rule.WrongType no_step >>= λ s. used scope set >>= λ n. value_of scope at e >>= λ v. sure s
 
-abbrev pub no_apply : ScopeTree → ℕ → Identifier → source.EndsTree → Identifier → Noted StepTree
+abbrev pub no_apply : ScopeTree → ℕ → Identifier → source.EndsTree → Identifier → WithFaults StepTree
 no_apply scope at target ends function =
     fault_at at rule.WrongType no_step >>= λ s. used scope target >>= λ t. end_of scope ends.from >>= λ a. end_of scope ends.to >>= λ b.
     used scope function >>= λ f. sure s
 
 -- a statement that declares nothing
-abbrev pub step_in_place : CheckerTree → Noted StepTree → Noted (StepTree × CheckerTree)
+abbrev pub step_in_place : CheckerTree → WithFaults StepTree → WithFaults (StepTree × CheckerTree)
 step_in_place c step = step >>= λ s. sure (s, c)
 
 -- the statements so far, with one more behind them
@@ -199,17 +199,17 @@ abbrev pub steps_behind : CheckerTree → CheckerTree → CheckerTree
 steps_behind c d = with_scope d c.scope
 
 -- one statement
-abbrev pub labelled_step : CheckerTree → Option Identifier → (CheckerTree → Noted (StepTree × CheckerTree)) → Noted (StepTree × CheckerTree)
+abbrev pub labelled_step : CheckerTree → Option Identifier → (CheckerTree → WithFaults (StepTree × CheckerTree)) → WithFaults (StepTree × CheckerTree)
 labelled_step c label step = labelled c label >>= λ l. step l.1
 
 -- The name of a `for` is visible in its body alone, and its bounds are looked at before.
-abbrev pub no_for : CheckerTree → ℕ → Identifier → (first limit : ExpressionTree) → (CheckerTree → Noted (StepsTree × CheckerTree)) → Noted (StepTree × CheckerTree)
+abbrev pub no_for : CheckerTree → ℕ → Identifier → (first limit : ExpressionTree) → (CheckerTree → WithFaults (StepsTree × CheckerTree)) → WithFaults (StepTree × CheckerTree)
 no_for c at name first limit body =
     fault_at at rule.WrongType no_step >>= λ s. integer_in c.scope at first >>= λ a. integer_in c.scope at limit >>= λ z.
     declared_in c name (entity.LoopVariable (integer_slot c)) >>= λ d. body d >>= λ b. sure (s, steps_behind c b.1)
 
 abbrev mutual
-  pub step_typed : CheckerTree → source.ActionTree → Noted (StepTree × CheckerTree)
+  pub step_typed : CheckerTree → source.ActionTree → WithFaults (StepTree × CheckerTree)
   step_typed c (source.Declare at p initial) = declare_step c at p.name p.declared initial
   step_typed c (source.While at test body) =
       fault_at at rule.WrongType no_step >>= λ s. condition_in c.scope at test >>= λ t. steps_typed c NoStep body >>= λ b. sure (s, steps_behind c b.1)
@@ -229,11 +229,11 @@ abbrev mutual
   step_typed c (source.Apply target ends function) = step_in_place c (no_apply c.scope target.at target ends function)
 
   -- statements behind those so far
-  pub steps_typed : CheckerTree → StepsTree → source.BlockTree → Noted (StepsTree × CheckerTree)
+  pub steps_typed : CheckerTree → StepsTree → source.BlockTree → WithFaults (StepsTree × CheckerTree)
   steps_typed c so_far source.Empty = sure (so_far, c)
   steps_typed c so_far (source.Then label action others) =
       labelled c label >>= λ l. step_typed l.1 action >>= λ s. steps_typed s.1 (step_behind so_far s.0) others
 
 -- a block of its own
-abbrev pub steps_inside : CheckerTree → source.BlockTree → Noted (StepsTree × CheckerTree)
+abbrev pub steps_inside : CheckerTree → source.BlockTree → WithFaults (StepsTree × CheckerTree)
 steps_inside c block = steps_typed c NoStep block >>= λ b. sure (b.0, steps_behind c b.1)

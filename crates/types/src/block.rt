@@ -1,8 +1,8 @@
-//! Statements of `main`, and their blocks.
+//! Blocks of `main`: typing of its statements, one behind the other.
 ghost use Rattle.std.specs.Prelude.{◌≡◌, OnOk};
 ghost use Rattle.syntax.specs.SourceViews.{action_tree as source_action, block_tree as source_block};
 ghost use Rattle.typed_tree.specs.BlockTree.{Empty, action_tree, block_tree};
-ghost use Rattle.expression_types.specs.Noted.{Notes};
+ghost use Rattle.expression_types.specs.WithFaults.{ReportsFaults};
 ghost use Rattle.expression_types.specs.ScopeTree.{Keeps};
 ghost use Rattle.types.specs.Block.{action_typed, block_typed, for_typed, statement_tree, statement_typed, statements_typed};
 ghost use Rattle.types.specs.Checker.{checker_of};
@@ -16,7 +16,7 @@ use crate::wanted::{condition, integer};
 use expression_types::{Entity, Fault};
 use std::alloc::{AllocError, Global};
 use syntax::{Action as Written, Expression, Name};
-use typed_tree::{Action, Statement};
+use typed_tree::{MainStatement, StatementKind};
 
 /// Statements in order. What they declare stays visible behind them.
 #[cycle(statements)]
@@ -24,14 +24,14 @@ pub(crate) fn statements(
     alloc: Global,
     block: &[syntax::Statement],
     checker: &mut Checker,
-    noted: &mut Option<Fault>,
-) -> Result<Vec<Statement>, AllocError>
-    ensures typed { Notes (λ b. (block_tree b.items, checker_of checker.new)) noted.old noted.new result (statements_typed (checker_of checker.old) Empty (source_block block.now)) }
+    first_fault: &mut Option<Fault>,
+) -> Result<Vec<MainStatement>, AllocError>
+    ensures typed { ReportsFaults (λ b. (block_tree b.items, checker_of checker.new)) first_fault.old first_fault.new result (statements_typed (checker_of checker.old) Empty (source_block block.now)) }
     ensures kept { OnOk result (Keeps checker.old.scope checker.new.scope) }
 {
     let mut typed = Vec::new(alloc);
     'statements: for statement in block {
-        let next = one(alloc, statement, checker, noted)?;
+        let next = one(alloc, statement, checker, first_fault)?;
         typed.push(next)?;
     }
     Ok(typed)
@@ -43,15 +43,15 @@ fn one(
     alloc: Global,
     statement: &syntax::Statement,
     checker: &mut Checker,
-    noted: &mut Option<Fault>,
-) -> Result<Statement, AllocError>
-    ensures typed { Notes (λ s. (statement_tree s, checker_of checker.new)) noted.old noted.new result (statement_typed (checker_of checker.old) statement.now.label (source_action statement.now.action)) }
+    first_fault: &mut Option<Fault>,
+) -> Result<MainStatement, AllocError>
+    ensures typed { ReportsFaults (λ s. (statement_tree s, checker_of checker.new)) first_fault.old first_fault.new result (statement_typed (checker_of checker.old) statement.now.label (source_action statement.now.action)) }
     ensures kept { OnOk result (Keeps checker.old.scope checker.new.scope) }
 {
-    let label = label(alloc, checker, &statement.label, noted)?;
+    let label = label(alloc, checker, &statement.label, first_fault)?;
     let number = count(checker, label)?;
-    let action = action(alloc, &statement.action, checker, noted)?;
-    Ok(Statement {
+    let action = action(alloc, &statement.action, checker, first_fault)?;
+    Ok(MainStatement {
         number,
         label,
         action,
@@ -64,13 +64,13 @@ fn inner(
     alloc: Global,
     block: &[syntax::Statement],
     checker: &mut Checker,
-    noted: &mut Option<Fault>,
-) -> Result<Vec<Statement>, AllocError>
-    ensures typed { Notes (λ b. (block_tree b.items, checker_of checker.new)) noted.old noted.new result (block_typed (checker_of checker.old) (source_block block.now)) }
+    first_fault: &mut Option<Fault>,
+) -> Result<Vec<MainStatement>, AllocError>
+    ensures typed { ReportsFaults (λ b. (block_tree b.items, checker_of checker.new)) first_fault.old first_fault.new result (block_typed (checker_of checker.old) (source_block block.now)) }
     ensures kept { OnOk result (Keeps checker.old.scope checker.new.scope) }
 {
     let mark = checker.scope.mark();
-    let typed = statements(alloc, block, checker, noted)?;
+    let typed = statements(alloc, block, checker, first_fault)?;
     checker.scope.leave(mark);
     Ok(typed)
 }
@@ -81,9 +81,9 @@ fn action(
     alloc: Global,
     action: &Written,
     checker: &mut Checker,
-    noted: &mut Option<Fault>,
-) -> Result<Action, AllocError>
-    ensures typed { Notes (λ a. (action_tree a, checker_of checker.new)) noted.old noted.new result (action_typed (checker_of checker.old) (source_action action.now)) }
+    first_fault: &mut Option<Fault>,
+) -> Result<StatementKind, AllocError>
+    ensures typed { ReportsFaults (λ a. (action_tree a, checker_of checker.new)) first_fault.old first_fault.new result (action_typed (checker_of checker.old) (source_action action.now)) }
     ensures kept { OnOk result (Keeps checker.old.scope checker.new.scope) }
 {
     match action {
@@ -91,18 +91,18 @@ fn action(
             at,
             variable,
             initial,
-        } => declare_variable(alloc, checker, *at, variable, initial, noted),
+        } => declare_variable(alloc, checker, *at, variable, initial, first_fault),
         Written::For {
             at,
             name,
             first,
             limit,
             body,
-        } => repeat(alloc, body, *at, name, first, limit, checker, noted),
+        } => repeat(alloc, body, *at, name, first, limit, checker, first_fault),
         Written::While { .. } | Written::If { .. } | Written::IfElse { .. } => {
-            tested(alloc, action, checker, noted)
+            tested(alloc, action, checker, first_fault)
         }
-        plain => without_block(alloc, plain, checker, noted),
+        plain => without_block(alloc, plain, checker, first_fault),
     }
 }
 
@@ -112,22 +112,22 @@ fn tested(
     alloc: Global,
     action: &Written,
     checker: &mut Checker,
-    noted: &mut Option<Fault>,
-) -> Result<Action, AllocError>
+    first_fault: &mut Option<Fault>,
+) -> Result<StatementKind, AllocError>
     requires { HasTest action.now }
-    ensures typed { Notes (λ a. (action_tree a, checker_of checker.new)) noted.old noted.new result (action_typed (checker_of checker.old) (source_action action.now)) }
+    ensures typed { ReportsFaults (λ a. (action_tree a, checker_of checker.new)) first_fault.old first_fault.new result (action_typed (checker_of checker.old) (source_action action.now)) }
     ensures kept { OnOk result (Keeps checker.old.scope checker.new.scope) }
 {
     match action {
         Written::While { at, test, body } => {
-            let test = condition(alloc, &checker.scope, *at, test, noted)?;
-            let body = inner(alloc, body, checker, noted)?;
-            Ok(Action::While(test, body))
+            let test = condition(alloc, &checker.scope, *at, test, first_fault)?;
+            let body = inner(alloc, body, checker, first_fault)?;
+            Ok(StatementKind::While(test, body))
         }
         Written::If { at, test, body } => {
-            let test = condition(alloc, &checker.scope, *at, test, noted)?;
-            let body = inner(alloc, body, checker, noted)?;
-            Ok(Action::If(test, body))
+            let test = condition(alloc, &checker.scope, *at, test, first_fault)?;
+            let body = inner(alloc, body, checker, first_fault)?;
+            Ok(StatementKind::If(test, body))
         }
         Written::IfElse {
             at,
@@ -135,10 +135,10 @@ fn tested(
             body,
             otherwise,
         } => {
-            let test = condition(alloc, &checker.scope, *at, test, noted)?;
-            let body = inner(alloc, body, checker, noted)?;
-            let other = inner(alloc, otherwise, checker, noted)?;
-            Ok(Action::IfElse(test, body, other))
+            let test = condition(alloc, &checker.scope, *at, test, first_fault)?;
+            let body = inner(alloc, body, checker, first_fault)?;
+            let other = inner(alloc, otherwise, checker, first_fault)?;
+            Ok(StatementKind::IfElse(test, body, other))
         }
         _ => unreachable!(),
     }
@@ -149,24 +149,26 @@ fn without_block(
     alloc: Global,
     action: &Written,
     checker: &Checker,
-    noted: &mut Option<Fault>,
-) -> Result<Action, AllocError>
+    first_fault: &mut Option<Fault>,
+) -> Result<StatementKind, AllocError>
     requires { DeclaresNothing action.now }
-    ensures { Notes (λ a. (action_tree a, checker_of checker.now)) noted.old noted.new result (action_typed (checker_of checker.now) (source_action action.now)) }
+    ensures { ReportsFaults (λ a. (action_tree a, checker_of checker.now)) first_fault.old first_fault.new result (action_typed (checker_of checker.now) (source_action action.now)) }
 {
     let scope = &checker.scope;
     match action {
-        Written::Print { at, value } => print(alloc, scope, *at, value, noted),
-        Written::Assign { name, value } => { assign(alloc, checker, name.at(), name, value, noted) }
+        Written::Print { at, value } => print(alloc, scope, *at, value, first_fault),
+        Written::Assign { name, value } => {
+            assign(alloc, checker, name.at(), name, value, first_fault)
+        }
         Written::AddVertex { set, vertex } => {
-            add_vertex(alloc, scope, set.at(), set, vertex, noted)
+            add_vertex(alloc, scope, set.at(), set, vertex, first_fault)
         }
         Written::Apply {
             target,
             ends,
             function,
-        } => Ok(apply(scope, target.at(), target, ends, function, noted)),
-        change => reduction_or_entry(alloc, change, checker, noted),
+        } => Ok(apply(scope, target.at(), target, ends, function, first_fault)),
+        change => reduction_or_entry(alloc, change, checker, first_fault),
     }
 }
 
@@ -175,10 +177,10 @@ fn reduction_or_entry(
     alloc: Global,
     action: &Written,
     checker: &Checker,
-    noted: &mut Option<Fault>,
-) -> Result<Action, AllocError>
+    first_fault: &mut Option<Fault>,
+) -> Result<StatementKind, AllocError>
     requires { ReducesOrSetsEntry action.now }
-    ensures { Notes (λ a. (action_tree a, checker_of checker.now)) noted.old noted.new result (action_typed (checker_of checker.now) (source_action action.now)) }
+    ensures { ReportsFaults (λ a. (action_tree a, checker_of checker.now)) first_fault.old first_fault.new result (action_typed (checker_of checker.now) (source_action action.now)) }
 {
     let scope = &checker.scope;
     match action {
@@ -186,12 +188,20 @@ fn reduction_or_entry(
             name,
             reduction,
             value,
-        } => reduce(alloc, scope, name.at(), name, *reduction, value, noted),
+        } => reduce(
+            alloc,
+            scope,
+            name.at(),
+            name,
+            *reduction,
+            value,
+            first_fault,
+        ),
         Written::SetEntry {
             vector,
             index,
             value,
-        } => set_entry(alloc, scope, vector.at(), vector, index, value, noted),
+        } => set_entry(alloc, scope, vector.at(), vector, index, value, first_fault),
         Written::ReduceEntry {
             vector,
             index,
@@ -199,7 +209,16 @@ fn reduction_or_entry(
             value,
         } => {
             let at = vector.at();
-            reduce_entry(alloc, scope, at, vector, index, *reduction, value, noted)
+            reduce_entry(
+                alloc,
+                scope,
+                at,
+                vector,
+                index,
+                *reduction,
+                value,
+                first_fault,
+            )
         }
         _ => unreachable!(),
     }
@@ -215,17 +234,23 @@ fn repeat(
     first: &Expression,
     limit: &Expression,
     checker: &mut Checker,
-    noted: &mut Option<Fault>,
-) -> Result<Action, AllocError>
-    ensures typed { Notes (λ a. (action_tree a, checker_of checker.new)) noted.old noted.new result (for_typed (checker_of checker.old) at name.now first.now limit.now (λ d. statements_typed d Empty (source_block body.now))) }
+    first_fault: &mut Option<Fault>,
+) -> Result<StatementKind, AllocError>
+    ensures typed { ReportsFaults (λ a. (action_tree a, checker_of checker.new)) first_fault.old first_fault.new result (for_typed (checker_of checker.old) at name.now first.now limit.now (λ d. statements_typed d Empty (source_block body.now))) }
     ensures kept { OnOk result (Keeps checker.old.scope checker.new.scope) }
 {
-    let first = integer(alloc, &checker.scope, at, first, noted)?;
-    let limit = integer(alloc, &checker.scope, at, limit, noted)?;
+    let first = integer(alloc, &checker.scope, at, first, first_fault)?;
+    let limit = integer(alloc, &checker.scope, at, limit, first_fault)?;
     let mark = checker.scope.mark();
     let slot = checker.integer_slot();
-    declare(alloc, checker, name, Entity::LoopVariable(slot), noted)?;
-    let body = statements(alloc, body, checker, noted)?;
+    declare(
+        alloc,
+        checker,
+        name,
+        Entity::LoopVariable(slot),
+        first_fault,
+    )?;
+    let body = statements(alloc, body, checker, first_fault)?;
     checker.scope.leave(mark);
-    Ok(Action::For(slot.name, first, limit, body))
+    Ok(StatementKind::For(slot.name, first, limit, body))
 }

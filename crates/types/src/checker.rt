@@ -1,15 +1,15 @@
-//! What is met on the way through a source.
+//! The state of the checker on its way through a source: the scope, names, labels and statements so far.
 ghost use Rattle.std.specs.Prelude.{◌≡◌, suc, IfOk, OnOk};
-ghost use Rattle.expression_types.specs.Noted.{Notes};
+ghost use Rattle.expression_types.specs.WithFaults.{ReportsFaults};
 ghost use Rattle.expression_types.specs.ScopeTree.{Keeps};
 ghost use Rattle.types.specs.Checker.{checker_of, condition_slot as slot_of_condition, counted, declared_in, integer_slot as slot_of_integer, labelled, set_slot as slot_of_set};
 
 use crate::reductions::Reductions;
 use crate::text::between_ends;
-use expression_types::{Entity, Fault, Names, Rule, Scope, note};
+use expression_types::{Entity, Fault, Names, Scope, TypeRule, note};
 use std::alloc::{AllocError, Global};
 use syntax::Name;
-use typed_tree::{Name as Text, Sequence, Slot};
+use typed_tree::{Name as Text, Sequence, VarRef};
 
 /// What is visible at a point of the source, and what came before it.
 pub(crate) struct Checker {
@@ -60,30 +60,30 @@ impl Checker {
     }
 
     /// The place of the next integer, for the next name.
-    pub(crate) fn integer_slot(&self) -> Slot
+    pub(crate) fn integer_slot(&self) -> VarRef
         ensures { result ≡ slot_of_integer (checker_of self.now) }
     {
-        Slot {
+        VarRef {
             place: self.scope.integers(),
             name: self.names.len(),
         }
     }
 
     /// The place of the next condition, for the next name.
-    pub(crate) fn condition_slot(&self) -> Slot
+    pub(crate) fn condition_slot(&self) -> VarRef
         ensures { result ≡ slot_of_condition (checker_of self.now) }
     {
-        Slot {
+        VarRef {
             place: self.scope.conditions(),
             name: self.names.len(),
         }
     }
 
     /// The place of the next variable that is a vertex set, for the next name.
-    pub(crate) fn set_slot(&self) -> Slot
+    pub(crate) fn set_slot(&self) -> VarRef
         ensures { result ≡ slot_of_set (checker_of self.now) }
     {
-        Slot {
+        VarRef {
             place: self.scope.sets(),
             name: self.names.len(),
         }
@@ -96,12 +96,12 @@ pub(crate) fn declare(
     checker: &mut Checker,
     name: &Name,
     entity: Entity,
-    noted: &mut Option<Fault>,
+    first_fault: &mut Option<Fault>,
 ) -> Result<(), AllocError>
-    ensures declared { Notes (λ _. checker_of checker.new) noted.old noted.new result (declared_in (checker_of checker.old) name.now entity) }
+    ensures declared { ReportsFaults (λ _. checker_of checker.new) first_fault.old first_fault.new result (declared_in (checker_of checker.old) name.now entity) }
     ensures kept { OnOk result (Keeps checker.old.scope checker.new.scope) }
 {
-    checker.scope.declare(alloc, name, entity, noted)?;
+    checker.scope.declare(alloc, name, entity, first_fault)?;
     let copy = Sequence::new(Vec::from_slice(alloc, name.bytes())?);
     checker.names.push(copy)?;
     Ok(())
@@ -112,16 +112,16 @@ pub(crate) fn label(
     alloc: Global,
     checker: &mut Checker,
     label: &Option<Name>,
-    noted: &mut Option<Fault>,
+    first_fault: &mut Option<Fault>,
 ) -> Result<Option<usize>, AllocError>
-    ensures labelled { Notes (λ place. (place, checker_of checker.new)) noted.old noted.new result (labelled (checker_of checker.old) label.now) }
+    ensures labelled { ReportsFaults (λ place. (place, checker_of checker.new)) first_fault.old first_fault.new result (labelled (checker_of checker.old) label.now) }
     ensures kept { checker.new.scope ≡ checker.old.scope }
 {
     let Some(label) = label else {
         return Ok(None);
     };
     if let Some(place) = checker.labels.get(label.bytes()) {
-        note(noted, label.at(), Rule::BadLabel);
+        note(first_fault, label.at(), TypeRule::BadLabel);
         return Ok(Some(place));
     }
     let place = checker.labels.len();

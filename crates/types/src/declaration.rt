@@ -1,4 +1,4 @@
-//! Declarations.
+//! Typing of declarations: constants and functions.
 ghost use Rattle.std.specs.Prelude.{◌≡◌, [], ◌∷◌, OnOk, Some, false, if◌then◌else◌, map, option_map, pos};
 ghost use Rattle.syntax.specs.SourceTrees.{ParameterTree};
 ghost use Rattle.syntax.specs.SourceViews.{block_tree as source_block, declaration_tree, initial_tree, parameter_tree};
@@ -8,25 +8,26 @@ ghost use Rattle.types.specs.Program.{program_tree_of};
 ghost use Rattle.typed_tree.specs.StepTree.{function_tree, steps_tree};
 ghost use Rattle.expression_types.specs.ScopeTree.{Keeps};
 ghost use Rattle.expression_types.specs.Faults.{earlier};
-ghost use Rattle.expression_types.specs.Noted.{Notes, outcome};
-ghost use Rattle.types.specs.Initial.{Broken, is_sound};
+ghost use Rattle.expression_types.specs.WithFaults.{ReportsFaults, outcome};
+ghost use Rattle.types.specs.Initial.{ErrorInitializer, is_sound};
 ghost use Rattle.types.specs.Checker.{checker_of};
 ghost use Rattle.types.specs.Declaration.{declaration_typed, declarations_typed, declare_condition, declare_constant, declare_constant_as, declare_edges, declare_integer, declare_name, declare_set, declare_vector, declared_of, edge_function_declared, function_declared, has_all, begins, inside_of, is_bool as bool_type, is_vertex as vertex_type, kind as kind_by, literal_or_fault, kind_fits, kind_of as kind_by_parameters, loads, main_declared, opened, only_edges, parameter, parameters_declared, result_declared, result_entity, steps_declared, with_main};
-ghost use Rattle.types.specs.Given.{given_tree};
-ghost use Rattle.types.specs.Kind.{kind_tree};
+ghost use Rattle.types.specs.Initializer.{initializer_tree};
+ghost use Rattle.types.specs.FunctionKind.{function_kind_tree};
 ghost use Rattle.types.specs.Literal.{literal_condition, literal_integer};
 
 use crate::block::statements;
 use crate::checker::{Checker, declare};
-use crate::initial::{Given, read_initial};
+use crate::initial::{Initializer, read_initial};
 use crate::literal::{condition_literal, integer_literal};
 use crate::reductions::Reductions;
 use crate::step::steps;
-use expression_types::{Entity, Fault, Inside, Rule, note};
+use expression_types::{Entity, Fault, Inside, TypeRule, note};
 use std::alloc::{AllocError, Global};
 use syntax::{Declaration, DeclaredType, Initial, Name, Parameter};
 use typed_tree::{
-    Beginning, Endpoint, Function, ScheduleCall, Slot, Statement, Step, Typed, Vector,
+    Endpoint, Function, FunctionStatement, InitialValue, MainStatement, ScheduleCall, Typed,
+    VarRef, Vector,
 };
 
 /// What was declared so far.
@@ -38,7 +39,7 @@ pub(crate) struct Declared {
     pub(crate) edge_functions: Vec<Function>,
     pub(crate) vertex_functions: Vec<Function>,
     pub(crate) filters: Vec<Function>,
-    pub(crate) main: Option<Vec<Statement>>,
+    pub(crate) main: Option<Vec<MainStatement>>,
 }
 
 impl Drop for Declared {
@@ -58,7 +59,7 @@ impl Drop for Declared {
 
 impl Declared {
     /// The program of what was declared, with these statements to run and this schedule.
-    pub(crate) fn into_program(self, main: Vec<Statement>, schedule: Vec<ScheduleCall>) -> Typed
+    pub(crate) fn into_program(self, main: Vec<MainStatement>, schedule: Vec<ScheduleCall>) -> Typed
         ensures { program_tree result ≡ program_tree_of (declared_of self) (block_tree main.items) (map call_tree schedule.items) }
     {
         let Declared {
@@ -89,7 +90,7 @@ impl Declared {
 
 /// What a function is, by its name, its parameters and its result.
 #[derive(Clone, Copy)]
-pub(crate) enum Kind {
+pub(crate) enum FunctionKind {
     /// The function that is run, and whether it has neither parameters nor a result.
     Main(bool),
     Edge,
@@ -104,12 +105,12 @@ pub(crate) fn declare_all(
     alloc: Global,
     declarations: &[Declaration],
     declared: &mut Declared,
-    noted: &mut Option<Fault>,
+    first_fault: &mut Option<Fault>,
 ) -> Result<(), AllocError>
-    ensures { Notes (λ _. declared_of declared.new) noted.old noted.new result (declarations_typed (declared_of declared.old) (map declaration_tree declarations.now)) }
+    ensures { ReportsFaults (λ _. declared_of declared.new) first_fault.old first_fault.new result (declarations_typed (declared_of declared.old) (map declaration_tree declarations.now)) }
 {
     'declarations: for declaration in declarations {
-        declare_one(alloc, declaration, declared, noted)?;
+        declare_one(alloc, declaration, declared, first_fault)?;
     }
     Ok(())
 }
@@ -118,16 +119,16 @@ fn declare_one(
     alloc: Global,
     declaration: &Declaration,
     declared: &mut Declared,
-    noted: &mut Option<Fault>,
+    first_fault: &mut Option<Fault>,
 ) -> Result<(), AllocError>
-    ensures { Notes (λ _. declared_of declared.new) noted.old noted.new result (declaration_typed (declared_of declared.old) (declaration_tree declaration.now)) }
+    ensures { ReportsFaults (λ _. declared_of declared.new) first_fault.old first_fault.new result (declaration_typed (declared_of declared.old) (declaration_tree declaration.now)) }
 {
     match declaration {
         Declaration::Constant {
             at,
             constant,
             initial,
-        } => constant_of(alloc, *at, constant, initial, declared, noted),
+        } => constant_of(alloc, *at, constant, initial, declared, first_fault),
         Declaration::Function {
             at,
             name,
@@ -136,11 +137,28 @@ fn declare_one(
             body,
         } => {
             match kind_of(name.bytes(), parameters, gives) {
-                Kind::Main(fits) => {
-                    main_function(alloc, fits, name, parameters, gives, body, declared, noted)
+                FunctionKind::Main(fits) => {
+                    main_function(
+                        alloc,
+                        fits,
+                        name,
+                        parameters,
+                        gives,
+                        body,
+                        declared,
+                        first_fault,
+                    )
                 }
                 other => function(
-                    alloc, *at, other, name, parameters, gives, body, declared, noted,
+                    alloc,
+                    *at,
+                    other,
+                    name,
+                    parameters,
+                    gives,
+                    body,
+                    declared,
+                    first_fault,
                 ),
             }
         }
@@ -153,11 +171,11 @@ fn name_is(
     name: &Name,
     entity: Entity,
     declared: &mut Declared,
-    noted: &mut Option<Fault>,
+    first_fault: &mut Option<Fault>,
 ) -> Result<(), AllocError>
-    ensures { Notes (λ _. declared_of declared.new) noted.old noted.new result (declare_name (declared_of declared.old) name.now entity) }
+    ensures { ReportsFaults (λ _. declared_of declared.new) first_fault.old first_fault.new result (declare_name (declared_of declared.old) name.now entity) }
 {
-    declare(alloc, &mut declared.checker, name, entity, noted)
+    declare(alloc, &mut declared.checker, name, entity, first_fault)
 }
 
 fn constant_of(
@@ -166,45 +184,69 @@ fn constant_of(
     constant: &Parameter,
     initial: &Initial,
     declared: &mut Declared,
-    noted: &mut Option<Fault>,
+    first_fault: &mut Option<Fault>,
 ) -> Result<(), AllocError>
-    ensures { Notes (λ _. declared_of declared.new) noted.old noted.new result (declare_constant (declared_of declared.old) at (parameter_tree constant.now) (initial_tree initial.now)) }
+    ensures { ReportsFaults (λ _. declared_of declared.new) first_fault.old first_fault.new result (declare_constant (declared_of declared.old) at (parameter_tree constant.now) (initial_tree initial.now)) }
 {
-    let given = read_initial(alloc, &declared.checker, at, initial, noted)?;
-    constant_given(alloc, at, constant, initial, given, declared, noted)
+    let initializer = read_initial(alloc, &declared.checker, at, initial, first_fault)?;
+    constant_from(
+        alloc,
+        at,
+        constant,
+        initial,
+        initializer,
+        declared,
+        first_fault,
+    )
 }
 
-fn constant_given(
+fn constant_from(
     alloc: Global,
     at: usize,
     constant: &Parameter,
     initial: &Initial,
-    given: Given,
+    initializer: Initializer,
     declared: &mut Declared,
-    noted: &mut Option<Fault>,
+    first_fault: &mut Option<Fault>,
 ) -> Result<(), AllocError>
-    ensures { Notes (λ _. declared_of declared.new) noted.old noted.new result (declare_constant_as (declared_of declared.old) at constant.now.name (initial_tree initial.now) constant.now.declared (given_tree given)) }
+    ensures { ReportsFaults (λ _. declared_of declared.new) first_fault.old first_fault.new result (declare_constant_as (declared_of declared.old) at constant.now.name (initial_tree initial.now) constant.now.declared (initializer_tree initializer)) }
 {
     let name = &constant.name;
     match constant.declared {
-        DeclaredType::Int => integer(alloc, at, name, initial, given, declared, noted),
-        DeclaredType::Bool => condition(alloc, at, name, initial, given, declared, noted),
+        DeclaredType::Int => integer(alloc, at, name, initial, initializer, declared, first_fault),
+        DeclaredType::Bool => condition(
+            alloc,
+            at,
+            name,
+            initial,
+            initializer,
+            declared,
+            first_fault,
+        ),
         DeclaredType::Vertex => {
-            note(noted, at, Rule::WrongType);
-            name_is(alloc, name, Entity::Unclear, declared, noted)
+            note(first_fault, at, TypeRule::WrongType);
+            name_is(alloc, name, Entity::Error, declared, first_fault)
         }
-        DeclaredType::VertexSet => set(alloc, at, name, given, declared, noted),
-        DeclaredType::Vector => vector(alloc, at, name, initial, given, declared, noted),
-        DeclaredType::EdgeSet => edges(alloc, at, name, given, declared, noted),
+        DeclaredType::VertexSet => set(alloc, at, name, initializer, declared, first_fault),
+        DeclaredType::Vector => vector(
+            alloc,
+            at,
+            name,
+            initial,
+            initializer,
+            declared,
+            first_fault,
+        ),
+        DeclaredType::EdgeSet => edges(alloc, at, name, initializer, declared, first_fault),
     }
 }
 
 /// Notes that a value is no literal, where no part of it is faulty.
-fn note_unless_broken(at: usize, given: &Given, noted: &mut Option<Fault>)
-    ensures { noted.new ≡ (if is_sound (given_tree given.now) then Some (earlier noted.old (record { at = at; rule = Rule.WrongType })) else noted.old) }
+fn note_unless_error(at: usize, initializer: &Initializer, first_fault: &mut Option<Fault>)
+    ensures { first_fault.new ≡ (if is_sound (initializer_tree initializer.now) then Some (earlier first_fault.old (record { at = at; rule = TypeRule.WrongType })) else first_fault.old) }
 {
-    if given.is_sound() {
-        note(noted, at, Rule::WrongType);
+    if initializer.is_sound() {
+        note(first_fault, at, TypeRule::WrongType);
     }
 }
 
@@ -213,31 +255,36 @@ fn integer(
     at: usize,
     name: &Name,
     initial: &Initial,
-    given: Given,
+    initializer: Initializer,
     declared: &mut Declared,
-    noted: &mut Option<Fault>,
+    first_fault: &mut Option<Fault>,
 ) -> Result<(), AllocError>
-    ensures { Notes (λ _. declared_of declared.new) noted.old noted.new result (declare_integer (declared_of declared.old) at name.now (given_tree given) (initial_tree initial.now)) }
+    ensures { ReportsFaults (λ _. declared_of declared.new) first_fault.old first_fault.new result (declare_integer (declared_of declared.old) at name.now (initializer_tree initializer) (initial_tree initial.now)) }
 {
-    let value = literal(at, given, initial, noted);
+    let value = literal(at, initializer, initial, first_fault);
     let place = declared.checker.names.len();
     name_is(
         alloc,
         name,
         Entity::IntegerConstant(place, value),
         declared,
-        noted,
+        first_fault,
     )
 }
 
 /// The number that a constant is. The fault is noted where it is none.
-fn literal(at: usize, given: Given, initial: &Initial, noted: &mut Option<Fault>) -> i64
-    ensures { outcome noted.old (literal_or_fault at (is_sound (given_tree given)) (pos 0) (literal_integer (initial_tree initial.now))) ≡ (result, noted.new) }
+fn literal(
+    at: usize,
+    initializer: Initializer,
+    initial: &Initial,
+    first_fault: &mut Option<Fault>,
+) -> i64
+    ensures { outcome first_fault.old (literal_or_fault at (is_sound (initializer_tree initializer)) (pos 0) (literal_integer (initial_tree initial.now))) ≡ (result, first_fault.new) }
 {
     match integer_literal(initial) {
         Some(n) => n,
         None => {
-            note_unless_broken(at, &given, noted);
+            note_unless_error(at, &initializer, first_fault);
             0
         }
     }
@@ -248,31 +295,36 @@ fn condition(
     at: usize,
     name: &Name,
     initial: &Initial,
-    given: Given,
+    initializer: Initializer,
     declared: &mut Declared,
-    noted: &mut Option<Fault>,
+    first_fault: &mut Option<Fault>,
 ) -> Result<(), AllocError>
-    ensures { Notes (λ _. declared_of declared.new) noted.old noted.new result (declare_condition (declared_of declared.old) at name.now (given_tree given) (initial_tree initial.now)) }
+    ensures { ReportsFaults (λ _. declared_of declared.new) first_fault.old first_fault.new result (declare_condition (declared_of declared.old) at name.now (initializer_tree initializer) (initial_tree initial.now)) }
 {
-    let value = truth_literal(at, given, initial, noted);
+    let value = truth_literal(at, initializer, initial, first_fault);
     let place = declared.checker.names.len();
     name_is(
         alloc,
         name,
         Entity::ConditionConstant(place, value),
         declared,
-        noted,
+        first_fault,
     )
 }
 
 /// The truth value that a constant is. The fault is noted where it is none.
-fn truth_literal(at: usize, given: Given, initial: &Initial, noted: &mut Option<Fault>) -> bool
-    ensures { outcome noted.old (literal_or_fault at (is_sound (given_tree given)) false (literal_condition (initial_tree initial.now))) ≡ (result, noted.new) }
+fn truth_literal(
+    at: usize,
+    initializer: Initializer,
+    initial: &Initial,
+    first_fault: &mut Option<Fault>,
+) -> bool
+    ensures { outcome first_fault.old (literal_or_fault at (is_sound (initializer_tree initializer)) false (literal_condition (initial_tree initial.now))) ≡ (result, first_fault.new) }
 {
     match condition_literal(initial) {
         Some(b) => b,
         None => {
-            note_unless_broken(at, &given, noted);
+            note_unless_error(at, &initializer, first_fault);
             false
         }
     }
@@ -282,28 +334,34 @@ fn set(
     alloc: Global,
     at: usize,
     name: &Name,
-    given: Given,
+    initializer: Initializer,
     declared: &mut Declared,
-    noted: &mut Option<Fault>,
+    first_fault: &mut Option<Fault>,
 ) -> Result<(), AllocError>
-    ensures { Notes (λ _. declared_of declared.new) noted.old noted.new result (declare_set (declared_of declared.old) at name.now (given_tree given)) }
+    ensures { ReportsFaults (λ _. declared_of declared.new) first_fault.old first_fault.new result (declare_set (declared_of declared.old) at name.now (initializer_tree initializer)) }
 {
-    want_all(at, given, noted);
-    let slot = Slot {
+    want_all(at, initializer, first_fault);
+    let slot = VarRef {
         place: declared.sets.len(),
         name: declared.checker.names.len(),
     };
-    name_is(alloc, name, Entity::ConstantSet(slot), declared, noted)?;
+    name_is(
+        alloc,
+        name,
+        Entity::ConstantSet(slot),
+        declared,
+        first_fault,
+    )?;
     declared.sets.push(slot.name)?;
     Ok(())
 }
 
 /// Notes the fault where a constant set is not given all vertices.
-fn want_all(at: usize, given: Given, noted: &mut Option<Fault>)
-    ensures { outcome noted.old (has_all at (given_tree given)) ≡ (Broken, noted.new) }
+fn want_all(at: usize, initializer: Initializer, first_fault: &mut Option<Fault>)
+    ensures { outcome first_fault.old (has_all at (initializer_tree initializer)) ≡ (ErrorInitializer, first_fault.new) }
 {
-    if given.is_sound() && !given.is_all() {
-        note(noted, at, Rule::WrongType);
+    if initializer.is_sound() && !initializer.is_all() {
+        note(first_fault, at, TypeRule::WrongType);
     }
 }
 
@@ -312,16 +370,16 @@ fn vector(
     at: usize,
     name: &Name,
     initial: &Initial,
-    given: Given,
+    initializer: Initializer,
     declared: &mut Declared,
-    noted: &mut Option<Fault>,
+    first_fault: &mut Option<Fault>,
 ) -> Result<(), AllocError>
-    ensures { Notes (λ _. declared_of declared.new) noted.old noted.new result (declare_vector (declared_of declared.old) at name.now (given_tree given) (initial_tree initial.now)) }
+    ensures { ReportsFaults (λ _. declared_of declared.new) first_fault.old first_fault.new result (declare_vector (declared_of declared.old) at name.now (initializer_tree initializer) (initial_tree initial.now)) }
 {
-    let beginning = beginning_of(at, given, initial, noted);
+    let beginning = beginning_of(at, initializer, initial, first_fault);
     let place = declared.checker.names.len();
     let entity = Entity::Vector(declared.vectors.len());
-    name_is(alloc, name, entity, declared, noted)?;
+    name_is(alloc, name, entity, declared, first_fault)?;
     declared.vectors.push(Vector {
         name: place,
         beginning,
@@ -330,71 +388,81 @@ fn vector(
 }
 
 /// What a vector begins with. The fault is noted where it is nothing that one can.
-fn beginning_of(at: usize, given: Given, initial: &Initial, noted: &mut Option<Fault>) -> Beginning
-    ensures { outcome noted.old (begins at (given_tree given) (initial_tree initial.now)) ≡ (result, noted.new) }
+fn beginning_of(
+    at: usize,
+    initializer: Initializer,
+    initial: &Initial,
+    first_fault: &mut Option<Fault>,
+) -> InitialValue
+    ensures { outcome first_fault.old (begins at (initializer_tree initializer) (initial_tree initial.now)) ≡ (result, first_fault.new) }
 {
-    if given.is_degrees() {
-        return Beginning::OutDegrees;
+    if initializer.is_degrees() {
+        return InitialValue::OutDegrees;
     }
-    Beginning::Number(literal(at, given, initial, noted))
+    InitialValue::Number(literal(at, initializer, initial, first_fault))
 }
 
 fn edges(
     alloc: Global,
     at: usize,
     name: &Name,
-    given: Given,
+    initializer: Initializer,
     declared: &mut Declared,
-    noted: &mut Option<Fault>,
+    first_fault: &mut Option<Fault>,
 ) -> Result<(), AllocError>
-    ensures { Notes (λ _. declared_of declared.new) noted.old noted.new result (declare_edges (declared_of declared.old) at name.now (given_tree given)) }
+    ensures { ReportsFaults (λ _. declared_of declared.new) first_fault.old first_fault.new result (declare_edges (declared_of declared.old) at name.now (initializer_tree initializer)) }
 {
-    want_loaded(at, given, noted);
+    want_loaded(at, initializer, first_fault);
     let place = declared.checker.names.len();
-    let first = only(name, place, declared.edges, noted);
-    name_is(alloc, name, Entity::Edges, declared, noted)?;
+    let first = only(name, place, declared.edges, first_fault);
+    name_is(alloc, name, Entity::Edges, declared, first_fault)?;
     declared.edges = first;
     Ok(())
 }
 
 /// Notes the fault where a constant edgeset is not loaded.
-fn want_loaded(at: usize, given: Given, noted: &mut Option<Fault>)
-    ensures { outcome noted.old (loads at (given_tree given)) ≡ (Broken, noted.new) }
+fn want_loaded(at: usize, initializer: Initializer, first_fault: &mut Option<Fault>)
+    ensures { outcome first_fault.old (loads at (initializer_tree initializer)) ≡ (ErrorInitializer, first_fault.new) }
 {
-    if given.is_sound() && !given.is_loaded() {
-        note(noted, at, Rule::WrongType);
+    if initializer.is_sound() && !initializer.is_loaded() {
+        note(first_fault, at, TypeRule::WrongType);
     }
 }
 
 /// The place of the edges' name: the first there is. The fault is noted where there was one.
-fn only(name: &Name, place: usize, edges: Option<usize>, noted: &mut Option<Fault>) -> Option<usize>
-    ensures { outcome noted.old (only_edges name.now place edges) ≡ (result, noted.new) }
+fn only(
+    name: &Name,
+    place: usize,
+    edges: Option<usize>,
+    first_fault: &mut Option<Fault>,
+) -> Option<usize>
+    ensures { outcome first_fault.old (only_edges name.now place edges) ≡ (result, first_fault.new) }
 {
     match edges {
         None => Some(place),
         Some(first) => {
-            note(noted, name.at(), Rule::Redeclared);
+            note(first_fault, name.at(), TypeRule::Redeclared);
             Some(first)
         }
     }
 }
 
 /// What a function is, by its name, its parameters and its result.
-fn kind_of(name: &[u8], parameters: &[Parameter], gives: &Option<Parameter>) -> Kind
-    ensures { kind_tree result ≡ kind_by name.now (map parameter_tree parameters.now) (option_map parameter_tree gives.now) }
+fn kind_of(name: &[u8], parameters: &[Parameter], gives: &Option<Parameter>) -> FunctionKind
+    ensures { function_kind_tree result ≡ kind_by name.now (map parameter_tree parameters.now) (option_map parameter_tree gives.now) }
 {
     if name == b"main".as_slice() {
-        return Kind::Main(parameters.is_empty() && gives.is_none());
+        return FunctionKind::Main(parameters.is_empty() && gives.is_none());
     }
     kind_by_signature(parameters, gives)
 }
 
 /// What a function is that is not the one that is run.
-fn kind_by_signature(parameters: &[Parameter], gives: &Option<Parameter>) -> Kind
-    ensures { kind_tree result ≡ kind_by_parameters (map parameter_tree parameters.now) (option_map parameter_tree gives.now) }
+fn kind_by_signature(parameters: &[Parameter], gives: &Option<Parameter>) -> FunctionKind
+    ensures { function_kind_tree result ≡ kind_by_parameters (map parameter_tree parameters.now) (option_map parameter_tree gives.now) }
 {
     let Some((first, others)) = parameters.split_first() else {
-        return Kind::Other;
+        return FunctionKind::Other;
     };
     let Some((second, more)) = others.split_first() else {
         return kind_on_vertex(first.declared, gives);
@@ -404,26 +472,26 @@ fn kind_by_signature(parameters: &[Parameter], gives: &Option<Parameter>) -> Kin
         && is_vertex(first.declared)
         && is_vertex(second.declared)
     {
-        Kind::Edge
+        FunctionKind::Edge
     } else {
-        Kind::Other
+        FunctionKind::Other
     }
 }
 
 /// What a function of one parameter is.
-fn kind_on_vertex(parameter: DeclaredType, gives: &Option<Parameter>) -> Kind
-    ensures { (p : ParameterTree) → p.declared ≡ parameter → kind_tree result ≡ kind_by_parameters (p ∷ []) (option_map parameter_tree gives.now) }
+fn kind_on_vertex(parameter: DeclaredType, gives: &Option<Parameter>) -> FunctionKind
+    ensures { (p : ParameterTree) → p.declared ≡ parameter → function_kind_tree result ≡ kind_by_parameters (p ∷ []) (option_map parameter_tree gives.now) }
 {
     if !is_vertex(parameter) {
-        return Kind::Other;
+        return FunctionKind::Other;
     }
     match gives {
-        None => Kind::Vertex,
+        None => FunctionKind::Vertex,
         Some(gives) => {
             if is_bool(gives.declared) {
-                Kind::Filter
+                FunctionKind::Filter
             } else {
-                Kind::Other
+                FunctionKind::Other
             }
         }
     }
@@ -448,48 +516,48 @@ fn is_bool(declared: DeclaredType) -> bool
 }
 
 /// Where the statements of a function stand.
-fn inside(kind: Kind) -> Inside
-    ensures { result ≡ inside_of (kind_tree kind) }
+fn inside(kind: FunctionKind) -> Inside
+    ensures { result ≡ inside_of (function_kind_tree kind) }
 {
     match kind {
-        Kind::Main(_) => Inside::Main,
-        Kind::Edge => Inside::EdgeFunction,
-        Kind::Vertex | Kind::Other => Inside::VertexFunction,
-        Kind::Filter => Inside::Filter,
+        FunctionKind::Main(_) => Inside::Main,
+        FunctionKind::Edge => Inside::EdgeFunction,
+        FunctionKind::Vertex | FunctionKind::Other => Inside::VertexFunction,
+        FunctionKind::Filter => Inside::Filter,
     }
 }
 
 /// Goes into a function: its parameters and its result become visible.
 fn open(
     alloc: Global,
-    kind: Kind,
+    kind: FunctionKind,
     parameters: &[Parameter],
     gives: &Option<Parameter>,
     checker: &mut Checker,
-    noted: &mut Option<Fault>,
+    first_fault: &mut Option<Fault>,
 ) -> Result<(), AllocError>
-    ensures opened { Notes (λ _. checker_of checker.new) noted.old noted.new result (opened (checker_of checker.old) (kind_tree kind) (map parameter_tree parameters.now) (option_map parameter_tree gives.now)) }
+    ensures opened { ReportsFaults (λ _. checker_of checker.new) first_fault.old first_fault.new result (opened (checker_of checker.old) (function_kind_tree kind) (map parameter_tree parameters.now) (option_map parameter_tree gives.now)) }
     ensures kept { OnOk result (Keeps checker.old.scope checker.new.scope) }
 {
     checker.scope.enter(inside(kind));
     checker.writes = Reductions::new(alloc);
-    declare_parameters(alloc, parameters, checker, noted)?;
-    declare_result(alloc, kind, gives, checker, noted)
+    declare_parameters(alloc, parameters, checker, first_fault)?;
+    declare_result(alloc, kind, gives, checker, first_fault)
 }
 
 fn declare_parameters(
     alloc: Global,
     parameters: &[Parameter],
     checker: &mut Checker,
-    noted: &mut Option<Fault>,
+    first_fault: &mut Option<Fault>,
 ) -> Result<(), AllocError>
-    ensures declared { Notes (λ _. checker_of checker.new) noted.old noted.new result (parameters_declared (checker_of checker.old) Endpoint.Source (map parameter_tree parameters.now)) }
+    ensures declared { ReportsFaults (λ _. checker_of checker.new) first_fault.old first_fault.new result (parameters_declared (checker_of checker.old) Endpoint.Source (map parameter_tree parameters.now)) }
     ensures kept { OnOk result (Keeps checker.old.scope checker.new.scope) }
 {
     let mut endpoint = Endpoint::Source;
     'parameters: for parameter in parameters {
         let entity = parameter_entity(endpoint, parameter.declared);
-        declare(alloc, checker, &parameter.name, entity, noted)?;
+        declare(alloc, checker, &parameter.name, entity, first_fault)?;
         endpoint = Endpoint::Destination;
     }
     Ok(())
@@ -501,35 +569,36 @@ fn parameter_entity(endpoint: Endpoint, declared: DeclaredType) -> Entity
     if is_vertex(declared) {
         Entity::Parameter(endpoint)
     } else {
-        Entity::Unclear
+        Entity::Error
     }
 }
 
 fn declare_result(
     alloc: Global,
-    kind: Kind,
+    kind: FunctionKind,
     gives: &Option<Parameter>,
     checker: &mut Checker,
-    noted: &mut Option<Fault>,
+    first_fault: &mut Option<Fault>,
 ) -> Result<(), AllocError>
-    ensures declared { Notes (λ _. checker_of checker.new) noted.old noted.new result (result_declared (checker_of checker.old) (kind_tree kind) (option_map parameter_tree gives.now)) }
+    ensures declared { ReportsFaults (λ _. checker_of checker.new) first_fault.old first_fault.new result (result_declared (checker_of checker.old) (function_kind_tree kind) (option_map parameter_tree gives.now)) }
     ensures kept { OnOk result (Keeps checker.old.scope checker.new.scope) }
 {
     match gives {
         None => Ok(()),
         Some(gives) => {
             let entity = entity_of_result(checker, kind);
-            declare(alloc, checker, &gives.name, entity, noted)
+            declare(alloc, checker, &gives.name, entity, first_fault)
         }
     }
 }
 
-fn entity_of_result(checker: &Checker, kind: Kind) -> Entity
-    ensures { result ≡ result_entity (checker_of checker.now) (kind_tree kind) }
+fn entity_of_result(checker: &Checker, kind: FunctionKind) -> Entity
+    ensures { result ≡ result_entity (checker_of checker.now) (function_kind_tree kind) }
 {
     match kind {
-        Kind::Filter => Entity::ConditionVariable(checker.condition_slot()),
-        Kind::Main(_) | Kind::Edge | Kind::Vertex | Kind::Other => Entity::Unclear,
+        FunctionKind::Filter => Entity::ConditionVariable(checker.condition_slot()),
+        FunctionKind::Main(_) | FunctionKind::Edge | FunctionKind::Vertex | FunctionKind::Other =>
+            Entity::Error,
     }
 }
 
@@ -542,23 +611,30 @@ fn main_function(
     gives: &Option<Parameter>,
     body: &[syntax::Statement],
     declared: &mut Declared,
-    noted: &mut Option<Fault>,
+    first_fault: &mut Option<Fault>,
 ) -> Result<(), AllocError>
-    ensures { Notes (λ _. declared_of declared.new) noted.old noted.new result (main_declared (declared_of declared.old) fits name.now (map parameter_tree parameters.now) (option_map parameter_tree gives.now) (source_block body.now)) }
+    ensures { ReportsFaults (λ _. declared_of declared.new) first_fault.old first_fault.new result (main_declared (declared_of declared.old) fits name.now (map parameter_tree parameters.now) (option_map parameter_tree gives.now) (source_block body.now)) }
 {
     let checker = &mut declared.checker;
     checker.statements = Vec::new(alloc);
     let mark = checker.scope.mark();
-    open(alloc, Kind::Main(fits), parameters, gives, checker, noted)?;
-    let body = statements(alloc, body, checker, noted)?;
+    open(
+        alloc,
+        FunctionKind::Main(fits),
+        parameters,
+        gives,
+        checker,
+        first_fault,
+    )?;
+    let body = statements(alloc, body, checker, first_fault)?;
     checker.scope.leave(mark);
-    name_is(alloc, name, Entity::Main, declared, noted)?;
+    name_is(alloc, name, Entity::Main, declared, first_fault)?;
     keep_main(fits, body, declared);
     Ok(())
 }
 
 /// Keeps the statements of the function that is run, where it has neither parameters nor a result.
-fn keep_main(fits: bool, body: Vec<Statement>, declared: &mut Declared)
+fn keep_main(fits: bool, body: Vec<MainStatement>, declared: &mut Declared)
     ensures { declared_of declared.new ≡ with_main (declared_of declared.old) fits (block_tree body.items) }
 {
     if fits {
@@ -570,65 +646,72 @@ fn keep_main(fits: bool, body: Vec<Statement>, declared: &mut Declared)
 fn function(
     alloc: Global,
     at: usize,
-    kind: Kind,
+    kind: FunctionKind,
     name: &Name,
     parameters: &[Parameter],
     gives: &Option<Parameter>,
     body: &[syntax::Statement],
     declared: &mut Declared,
-    noted: &mut Option<Fault>,
+    first_fault: &mut Option<Fault>,
 ) -> Result<(), AllocError>
-    ensures { Notes (λ _. declared_of declared.new) noted.old noted.new result (steps_declared (declared_of declared.old) at (kind_tree kind) name.now (map parameter_tree parameters.now) (option_map parameter_tree gives.now) (source_block body.now)) }
+    ensures { ReportsFaults (λ _. declared_of declared.new) first_fault.old first_fault.new result (steps_declared (declared_of declared.old) at (function_kind_tree kind) name.now (map parameter_tree parameters.now) (option_map parameter_tree gives.now) (source_block body.now)) }
 {
-    want_kind(at, kind, noted);
+    want_kind(at, kind, first_fault);
     let checker = &mut declared.checker;
     let mark = checker.scope.mark();
-    open(alloc, kind, parameters, gives, checker, noted)?;
-    let steps = steps(alloc, body, checker, noted)?;
+    open(alloc, kind, parameters, gives, checker, first_fault)?;
+    let steps = steps(alloc, body, checker, first_fault)?;
     checker.scope.leave(mark);
-    function_is(alloc, kind, name, steps, declared, noted)
+    function_is(alloc, kind, name, steps, declared, first_fault)
 }
 
 /// Notes the fault where a function is of no kind.
-fn want_kind(at: usize, kind: Kind, noted: &mut Option<Fault>)
-    ensures { (outcome noted.old (kind_fits at (kind_tree kind))).1 ≡ noted.new }
+fn want_kind(at: usize, kind: FunctionKind, first_fault: &mut Option<Fault>)
+    ensures { (outcome first_fault.old (kind_fits at (function_kind_tree kind))).1 ≡ first_fault.new }
 {
     match kind {
-        Kind::Other => note(noted, at, Rule::WrongType),
-        Kind::Main(_) | Kind::Edge | Kind::Vertex | Kind::Filter => {}
+        FunctionKind::Other => note(first_fault, at, TypeRule::WrongType),
+        FunctionKind::Main(_) | FunctionKind::Edge | FunctionKind::Vertex | FunctionKind::Filter =>
+            {}
     }
 }
 
 /// Makes a function visible behind its statements.
 fn function_is(
     alloc: Global,
-    kind: Kind,
+    kind: FunctionKind,
     name: &Name,
-    steps: Vec<Step>,
+    steps: Vec<FunctionStatement>,
     declared: &mut Declared,
-    noted: &mut Option<Fault>,
+    first_fault: &mut Option<Fault>,
 ) -> Result<(), AllocError>
-    ensures { Notes (λ _. declared_of declared.new) noted.old noted.new result (function_declared (declared_of declared.old) (kind_tree kind) name.now (steps_tree steps.items)) }
+    ensures { ReportsFaults (λ _. declared_of declared.new) first_fault.old first_fault.new result (function_declared (declared_of declared.old) (function_kind_tree kind) name.now (steps_tree steps.items)) }
 {
     let function = Function {
         name: declared.checker.names.len(),
         steps,
     };
     match kind {
-        Kind::Edge => edge_function(alloc, name, function, declared, noted),
-        Kind::Vertex => {
+        FunctionKind::Edge => edge_function(alloc, name, function, declared, first_fault),
+        FunctionKind::Vertex => {
             let entity = Entity::VertexFunction(declared.vertex_functions.len());
-            name_is(alloc, name, entity, declared, noted)?;
+            name_is(alloc, name, entity, declared, first_fault)?;
             declared.vertex_functions.push(function)?;
             Ok(())
         }
-        Kind::Filter => {
+        FunctionKind::Filter => {
             let entity = Entity::Filter(declared.filters.len());
-            name_is(alloc, name, entity, declared, noted)?;
+            name_is(alloc, name, entity, declared, first_fault)?;
             declared.filters.push(function)?;
             Ok(())
         }
-        Kind::Main(_) | Kind::Other => name_is(alloc, name, Entity::Unclear, declared, noted),
+        FunctionKind::Main(_) | FunctionKind::Other => name_is(
+            alloc,
+            name,
+            Entity::Error,
+            declared,
+            first_fault,
+        ),
     }
 }
 
@@ -638,12 +721,12 @@ fn edge_function(
     name: &Name,
     function: Function,
     declared: &mut Declared,
-    noted: &mut Option<Fault>,
+    first_fault: &mut Option<Fault>,
 ) -> Result<(), AllocError>
-    ensures { Notes (λ _. declared_of declared.new) noted.old noted.new result (edge_function_declared (declared_of declared.old) name.now (function_tree function)) }
+    ensures { ReportsFaults (λ _. declared_of declared.new) first_fault.old first_fault.new result (edge_function_declared (declared_of declared.old) name.now (function_tree function)) }
 {
     let entity = Entity::EdgeFunction(declared.edge_functions.len());
-    name_is(alloc, name, entity, declared, noted)?;
+    name_is(alloc, name, entity, declared, first_fault)?;
     declared.edge_functions.push(function)?;
     let writes = std::mem::replace(&mut declared.checker.writes, Reductions::new(alloc));
     declared.checker.written.push(writes)?;

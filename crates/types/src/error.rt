@@ -1,4 +1,4 @@
-//! Why a source is no program.
+//! The error of the checker: why a source is no program.
 ghost use Rattle.std.specs.Prelude.{◌≡◌};
 ghost use Rattle.types.specs.declared.error.CheckError.TheVariants.{NoMemory};
 

@@ -1,50 +1,52 @@
-//! Statements of functions without blocks.
+//! Typing of statements of functions that have no blocks.
 ghost use Rattle.std.specs.Prelude.{◌≡◌, Some, OnOk};
 ghost use Rattle.syntax.specs.SourceViews.{ends_tree, initial_tree};
 ghost use Rattle.typed_tree.specs.IntegerTree.{integer_tree};
 ghost use Rattle.typed_tree.specs.StepTree.{step_tree};
 ghost use Rattle.expression_types.specs.Faults.{earlier};
-ghost use Rattle.expression_types.specs.Noted.{Notes, outcome};
+ghost use Rattle.expression_types.specs.WithFaults.{ReportsFaults, outcome};
 ghost use Rattle.expression_types.specs.ScopeTree.{Keeps};
 ghost use Rattle.expression_types.specs.ValueTree.{value_tree};
 ghost use Rattle.types.specs.Checker.{checker_of};
-ghost use Rattle.types.specs.Given.{given_tree};
+ghost use Rattle.types.specs.Initializer.{initializer_tree};
 ghost use Rattle.types.specs.Step.{assign_step, assigned_step, declare_step, declare_step_as, entry_step, may_reduce, may_set, no_add, no_apply, no_step, one_reduction, own_vertex, reduce_entry_step, reduce_step, reduced_step, reduction_step, same_endpoint, same_reduction, set_entry_step, written_at};
 ghost use Rattle.types.specs.Variables.{step_variable_as};
 
 use crate::checker::{Checker, declare};
-use crate::initial::{Given, read_end, read_initial};
+use crate::initial::{Initializer, read_end, read_initial};
 use crate::reductions::Reductions;
 use crate::wanted::{integer, integer_of};
+use apply_options::Reduction;
 use expression_types::{
-    Entity, Fault, Inside, Rule, Scope, Value, entity, note, type_expression, vector,
+    Entity, Fault, Inside, Scope, TypeRule, Value, entity, note, type_expression, type_index,
+    vector,
 };
 use std::alloc::{AllocError, Global};
-use syntax::{DeclaredType, Ends, Expression, Initial, Name, Parameter, Reduction};
-use typed_tree::{Condition, Endpoint, Integer, Step};
+use syntax::{DeclaredType, Ends, Expression, Initial, Name, Parameter};
+use typed_tree::{BoolExpression, Endpoint, FunctionStatement, IntExpression};
 
 /// What stands in place of a faulty statement.
-fn nothing(alloc: Global) -> Step
+fn nothing(alloc: Global) -> FunctionStatement
     ensures { step_tree result ≡ no_step }
 {
-    Step::If(Condition::Literal(false), Vec::new(alloc))
+    FunctionStatement::If(BoolExpression::Literal(false), Vec::new(alloc))
 }
 
 /// A statement that breaks a rule of types.
-pub(crate) fn wrong(at: usize, alloc: Global, noted: &mut Option<Fault>) -> Step
+pub(crate) fn wrong(at: usize, alloc: Global, first_fault: &mut Option<Fault>) -> FunctionStatement
     ensures step { step_tree result ≡ no_step }
-    ensures noted { noted.new ≡ Some (earlier noted.old (record { at = at; rule = Rule.WrongType })) }
+    ensures first_fault { first_fault.new ≡ Some (earlier first_fault.old (record { at = at; rule = TypeRule.WrongType })) }
 {
-    note(noted, at, Rule::WrongType);
+    note(first_fault, at, TypeRule::WrongType);
     nothing(alloc)
 }
 
 /// A `print`, which no function may hold.
-pub(crate) fn print(at: usize, alloc: Global, noted: &mut Option<Fault>) -> Step
+pub(crate) fn print(at: usize, alloc: Global, first_fault: &mut Option<Fault>) -> FunctionStatement
     ensures step { step_tree result ≡ no_step }
-    ensures noted { noted.new ≡ Some (earlier noted.old (record { at = at; rule = Rule.PrintOutsideMain })) }
+    ensures first_fault { first_fault.new ≡ Some (earlier first_fault.old (record { at = at; rule = TypeRule.PrintOutsideMain })) }
 {
-    note(noted, at, Rule::PrintOutsideMain);
+    note(first_fault, at, TypeRule::PrintOutsideMain);
     nothing(alloc)
 }
 
@@ -55,28 +57,35 @@ pub(crate) fn declare_variable(
     at: usize,
     variable: &Parameter,
     initial: &Initial,
-    noted: &mut Option<Fault>,
-) -> Result<Step, AllocError>
-    ensures typed { Notes (λ s. (step_tree s, checker_of checker.new)) noted.old noted.new result (declare_step (checker_of checker.old) at variable.now.name variable.now.declared (initial_tree initial.now)) }
+    first_fault: &mut Option<Fault>,
+) -> Result<FunctionStatement, AllocError>
+    ensures typed { ReportsFaults (λ s. (step_tree s, checker_of checker.new)) first_fault.old first_fault.new result (declare_step (checker_of checker.old) at variable.now.name variable.now.declared (initial_tree initial.now)) }
     ensures kept { OnOk result (Keeps checker.old.scope checker.new.scope) }
 {
-    let given = read_initial(alloc, checker, at, initial, noted)?;
-    declare_given(alloc, checker, at, variable, given, noted)
+    let initializer = read_initial(alloc, checker, at, initial, first_fault)?;
+    declare_initialized(alloc, checker, at, variable, initializer, first_fault)
 }
 
-fn declare_given(
+fn declare_initialized(
     alloc: Global,
     checker: &mut Checker,
     at: usize,
     variable: &Parameter,
-    given: Given,
-    noted: &mut Option<Fault>,
-) -> Result<Step, AllocError>
-    ensures typed { Notes (λ s. (step_tree s, checker_of checker.new)) noted.old noted.new result (declare_step_as (checker_of checker.old) at variable.now.name (given_tree given) variable.now.declared) }
+    initializer: Initializer,
+    first_fault: &mut Option<Fault>,
+) -> Result<FunctionStatement, AllocError>
+    ensures typed { ReportsFaults (λ s. (step_tree s, checker_of checker.new)) first_fault.old first_fault.new result (declare_step_as (checker_of checker.old) at variable.now.name (initializer_tree initializer) variable.now.declared) }
     ensures kept { OnOk result (Keeps checker.old.scope checker.new.scope) }
 {
-    let (entity, step) = declaration(alloc, checker, at, variable.declared, given, noted);
-    declare(alloc, checker, &variable.name, entity, noted)?;
+    let (entity, step) = declaration(
+        alloc,
+        checker,
+        at,
+        variable.declared,
+        initializer,
+        first_fault,
+    );
+    declare(alloc, checker, &variable.name, entity, first_fault)?;
     Ok(step)
 }
 
@@ -86,28 +95,28 @@ fn declaration(
     checker: &Checker,
     at: usize,
     declared: DeclaredType,
-    given: Given,
-    noted: &mut Option<Fault>,
-) -> (Entity, Step)
-    ensures { outcome noted.old (step_variable_as (checker_of checker.now) at (given_tree given) declared) ≡ ((result.0, step_tree result.1), noted.new) }
+    initializer: Initializer,
+    first_fault: &mut Option<Fault>,
+) -> (Entity, FunctionStatement)
+    ensures { outcome first_fault.old (step_variable_as (checker_of checker.now) at (initializer_tree initializer) declared) ≡ ((result.0, step_tree result.1), first_fault.new) }
 {
     match declared {
         DeclaredType::Int => {
-            let value = given.into_integer(at, noted);
+            let value = initializer.into_integer(at, first_fault);
             let slot = checker.integer_slot();
-            let step = Step::DeclareInteger(slot.name, value);
+            let step = FunctionStatement::DeclareInteger(slot.name, value);
             (Entity::IntegerVariable(slot), step)
         }
         DeclaredType::Bool => {
-            let value = given.into_condition(at, noted);
+            let value = initializer.into_condition(at, first_fault);
             let slot = checker.condition_slot();
-            let step = Step::DeclareCondition(slot.name, value);
+            let step = FunctionStatement::DeclareCondition(slot.name, value);
             (Entity::ConditionVariable(slot), step)
         }
         DeclaredType::VertexSet
         | DeclaredType::Vertex
         | DeclaredType::Vector
-        | DeclaredType::EdgeSet => (Entity::Unclear, wrong(at, alloc, noted)),
+        | DeclaredType::EdgeSet => (Entity::Error, wrong(at, alloc, first_fault)),
     }
 }
 
@@ -118,31 +127,34 @@ pub(crate) fn assign(
     at: usize,
     name: &Name,
     initial: &Initial,
-    noted: &mut Option<Fault>,
-) -> Result<Step, AllocError>
-    ensures { Notes step_tree noted.old noted.new result (assign_step (checker_of checker.now) at name.now (initial_tree initial.now)) }
+    first_fault: &mut Option<Fault>,
+) -> Result<FunctionStatement, AllocError>
+    ensures { ReportsFaults step_tree first_fault.old first_fault.new result (assign_step (checker_of checker.now) at name.now (initial_tree initial.now)) }
 {
-    let entity = entity(&checker.scope, name, noted);
-    let given = read_initial(alloc, checker, at, initial, noted)?;
-    Ok(assign_given(alloc, at, given, entity, noted))
+    let entity = entity(&checker.scope, name, first_fault);
+    let initializer = read_initial(alloc, checker, at, initial, first_fault)?;
+    Ok(assign_initializer(alloc, at, initializer, entity, first_fault))
 }
 
-fn assign_given(
+fn assign_initializer(
     alloc: Global,
     at: usize,
-    given: Given,
+    initializer: Initializer,
     entity: Entity,
-    noted: &mut Option<Fault>,
-) -> Step
-    ensures { outcome noted.old (assigned_step at (given_tree given) entity) ≡ (step_tree result, noted.new) }
+    first_fault: &mut Option<Fault>,
+) -> FunctionStatement
+    ensures { outcome first_fault.old (assigned_step at (initializer_tree initializer) entity) ≡ (step_tree result, first_fault.new) }
 {
     match entity {
-        Entity::IntegerVariable(slot) => Step::SetInteger(slot, given.into_integer(at, noted)),
+        Entity::IntegerVariable(slot) => FunctionStatement::SetInteger(
+            slot,
+            initializer.into_integer(at, first_fault),
+        ),
         Entity::ConditionVariable(slot) => {
-            Step::SetCondition(slot, given.into_condition(at, noted))
+            FunctionStatement::SetCondition(slot, initializer.into_condition(at, first_fault))
         }
-        Entity::Unclear => nothing(alloc),
-        _ => wrong(at, alloc, noted),
+        Entity::Error => nothing(alloc),
+        _ => wrong(at, alloc, first_fault),
     }
 }
 
@@ -154,13 +166,13 @@ pub(crate) fn reduce(
     name: &Name,
     by: Reduction,
     value: &Expression,
-    noted: &mut Option<Fault>,
-) -> Result<Step, AllocError>
-    ensures { Notes step_tree noted.old noted.new result (reduce_step scope.now at name.now by value.now) }
+    first_fault: &mut Option<Fault>,
+) -> Result<FunctionStatement, AllocError>
+    ensures { ReportsFaults step_tree first_fault.old first_fault.new result (reduce_step scope.now at name.now by value.now) }
 {
-    let entity = entity(scope, name, noted);
-    let value = type_expression(alloc, scope, at, value, noted)?;
-    Ok(reduce_value(alloc, at, by, value, entity, noted))
+    let entity = entity(scope, name, first_fault);
+    let value = type_expression(alloc, scope, at, value, first_fault)?;
+    Ok(reduce_value(alloc, at, by, value, entity, first_fault))
 }
 
 fn reduce_value(
@@ -169,16 +181,16 @@ fn reduce_value(
     by: Reduction,
     value: Value,
     entity: Entity,
-    noted: &mut Option<Fault>,
-) -> Step
-    ensures { outcome noted.old (reduced_step at by (value_tree value) entity) ≡ (step_tree result, noted.new) }
+    first_fault: &mut Option<Fault>,
+) -> FunctionStatement
+    ensures { outcome first_fault.old (reduced_step at by (value_tree value) entity) ≡ (step_tree result, first_fault.new) }
 {
     match entity {
         Entity::IntegerVariable(slot) => {
-            Step::ReduceInteger(slot, by, integer_of(at, value, noted))
+            FunctionStatement::ReduceInteger(slot, by, integer_of(at, value, first_fault))
         }
-        Entity::Unclear => nothing(alloc),
-        _ => wrong(at, alloc, noted),
+        Entity::Error => nothing(alloc),
+        _ => wrong(at, alloc, first_fault),
     }
 }
 
@@ -214,10 +226,10 @@ fn are_same_reduction(a: Reduction, b: Reduction) -> bool
 }
 
 /// Whether an index is the vertex at which the function writes. The fault is noted where it is another.
-fn is_own(at: usize, own: Endpoint, index: Value, noted: &mut Option<Fault>) -> bool
-    ensures { outcome noted.old (written_at at own (value_tree index)) ≡ (result, noted.new) }
+fn is_own(at: usize, own: Endpoint, index: Value, first_fault: &mut Option<Fault>) -> bool
+    ensures { outcome first_fault.old (written_at at own (value_tree index)) ≡ (result, first_fault.new) }
 {
-    if index.is_faulty() {
+    if index.is_error() {
         return false;
     }
     if let Some(vertex) = index.vertex() {
@@ -225,23 +237,23 @@ fn is_own(at: usize, own: Endpoint, index: Value, noted: &mut Option<Fault>) -> 
             return true;
         }
     }
-    note(noted, at, Rule::WrongIndex);
+    note(first_fault, at, TypeRule::WrongIndex);
     false
 }
 
 /// Whether a function may write an entry by `=`. The fault is noted where it may not.
-fn may_set_entry(at: usize, inside: Inside, noted: &mut Option<Fault>) -> bool
-    ensures { outcome noted.old (may_set at inside) ≡ (result, noted.new) }
+fn may_set_entry(at: usize, inside: Inside, first_fault: &mut Option<Fault>) -> bool
+    ensures { outcome first_fault.old (may_set at inside) ≡ (result, first_fault.new) }
 {
     match inside {
         Inside::Main => false,
         Inside::EdgeFunction => {
-            note(noted, at, Rule::NotReduction);
+            note(first_fault, at, TypeRule::NotReduction);
             false
         }
         Inside::VertexFunction => true,
         Inside::Filter => {
-            note(noted, at, Rule::WrongType);
+            note(first_fault, at, TypeRule::WrongType);
             false
         }
     }
@@ -255,23 +267,29 @@ pub(crate) fn set_entry(
     name: &Name,
     index: &Expression,
     value: &Expression,
-    noted: &mut Option<Fault>,
-) -> Result<Step, AllocError>
-    ensures { Notes step_tree noted.old noted.new result (set_entry_step scope.now at name.now index.now value.now) }
+    first_fault: &mut Option<Fault>,
+) -> Result<FunctionStatement, AllocError>
+    ensures { ReportsFaults step_tree first_fault.old first_fault.new result (set_entry_step scope.now at name.now index.now value.now) }
 {
-    let may = may_set_entry(at, scope.inside(), noted);
-    let vector = vector(scope, at, name, noted);
-    let index = type_expression(alloc, scope, at, index, noted)?;
-    let own = is_own(at, vertex_of(scope.inside()), index, noted);
-    let value = integer(alloc, scope, at, value, noted)?;
+    let may = may_set_entry(at, scope.inside(), first_fault);
+    let vector = vector(scope, at, name, first_fault);
+    let index = type_index(alloc, scope, at, index, first_fault)?;
+    let own = is_own(at, vertex_of(scope.inside()), index, first_fault);
+    let value = integer(alloc, scope, at, value, first_fault)?;
     Ok(setting(alloc, may, own, vector, value))
 }
 
-fn setting(alloc: Global, may: bool, own: bool, vector: Option<usize>, value: Integer) -> Step
+fn setting(
+    alloc: Global,
+    may: bool,
+    own: bool,
+    vector: Option<usize>,
+    value: IntExpression,
+) -> FunctionStatement
     ensures { step_tree result ≡ entry_step may own vector (integer_tree value) }
 {
     match vector {
-        Some(vector) if may && own => Step::SetEntry(vector, value),
+        Some(vector) if may && own => FunctionStatement::SetEntry(vector, value),
         _ => nothing(alloc),
     }
 }
@@ -283,16 +301,16 @@ fn may_reduce_entry(
     vector: Option<usize>,
     by: Reduction,
     writes: &mut Reductions,
-    noted: &mut Option<Fault>,
+    first_fault: &mut Option<Fault>,
 ) -> Result<bool, AllocError>
-    ensures { Notes (λ may. (may, writes.new)) noted.old noted.new result (may_reduce at inside vector by writes.old) }
+    ensures { ReportsFaults (λ may. (may, writes.new)) first_fault.old first_fault.new result (may_reduce at inside vector by writes.old) }
 {
     match inside {
         Inside::Main => Ok(false),
-        Inside::EdgeFunction => reduce_once(at, vector, by, writes, noted),
+        Inside::EdgeFunction => reduce_once(at, vector, by, writes, first_fault),
         Inside::VertexFunction => Ok(true),
         Inside::Filter => {
-            note(noted, at, Rule::WrongType);
+            note(first_fault, at, TypeRule::WrongType);
             Ok(false)
         }
     }
@@ -304,9 +322,9 @@ fn reduce_once(
     vector: Option<usize>,
     by: Reduction,
     writes: &mut Reductions,
-    noted: &mut Option<Fault>,
+    first_fault: &mut Option<Fault>,
 ) -> Result<bool, AllocError>
-    ensures { Notes (λ may. (may, writes.new)) noted.old noted.new result (one_reduction at vector by writes.old) }
+    ensures { ReportsFaults (λ may. (may, writes.new)) first_fault.old first_fault.new result (one_reduction at vector by writes.old) }
 {
     let Some(vector) = vector else {
         return Ok(false);
@@ -319,7 +337,7 @@ fn reduce_once(
         Some(first) => {
             let same = are_same_reduction(first, by);
             if !same {
-                note(noted, at, Rule::MixedReductions);
+                note(first_fault, at, TypeRule::MixedReductions);
             }
             Ok(same)
         }
@@ -335,17 +353,17 @@ pub(crate) fn reduce_entry(
     index: &Expression,
     by: Reduction,
     value: &Expression,
-    noted: &mut Option<Fault>,
-) -> Result<Step, AllocError>
-    ensures typed { Notes (λ s. (step_tree s, checker_of checker.new)) noted.old noted.new result (reduce_entry_step (checker_of checker.old) at name.now index.now by value.now) }
+    first_fault: &mut Option<Fault>,
+) -> Result<FunctionStatement, AllocError>
+    ensures typed { ReportsFaults (λ s. (step_tree s, checker_of checker.new)) first_fault.old first_fault.new result (reduce_entry_step (checker_of checker.old) at name.now index.now by value.now) }
     ensures kept { checker.new.scope ≡ checker.old.scope }
 {
-    let vector = vector(&checker.scope, at, name, noted);
+    let vector = vector(&checker.scope, at, name, first_fault);
     let inside = checker.scope.inside();
-    let may = may_reduce_entry(at, inside, vector, by, &mut checker.writes, noted)?;
-    let index = type_expression(alloc, &checker.scope, at, index, noted)?;
-    let own = is_own(at, vertex_of(inside), index, noted);
-    let value = integer(alloc, &checker.scope, at, value, noted)?;
+    let may = may_reduce_entry(at, inside, vector, by, &mut checker.writes, first_fault)?;
+    let index = type_index(alloc, &checker.scope, at, index, first_fault)?;
+    let own = is_own(at, vertex_of(inside), index, first_fault);
+    let value = integer(alloc, &checker.scope, at, value, first_fault)?;
     Ok(reducing(alloc, may, own, vector, by, value))
 }
 
@@ -355,12 +373,12 @@ fn reducing(
     own: bool,
     vector: Option<usize>,
     by: Reduction,
-    value: Integer,
-) -> Step
+    value: IntExpression,
+) -> FunctionStatement
     ensures { step_tree result ≡ reduction_step may own vector by (integer_tree value) }
 {
     match vector {
-        Some(vector) if may && own => Step::ReduceEntry(vector, by, value),
+        Some(vector) if may && own => FunctionStatement::ReduceEntry(vector, by, value),
         _ => nothing(alloc),
     }
 }
@@ -372,13 +390,13 @@ pub(crate) fn add_vertex(
     at: usize,
     set: &Name,
     vertex: &Expression,
-    noted: &mut Option<Fault>,
-) -> Result<Step, AllocError>
-    ensures { Notes step_tree noted.old noted.new result (no_add scope.now at set.now vertex.now) }
+    first_fault: &mut Option<Fault>,
+) -> Result<FunctionStatement, AllocError>
+    ensures { ReportsFaults step_tree first_fault.old first_fault.new result (no_add scope.now at set.now vertex.now) }
 {
-    let step = wrong(at, alloc, noted);
-    let _set = entity(scope, set, noted);
-    let _vertex = type_expression(alloc, scope, at, vertex, noted)?;
+    let step = wrong(at, alloc, first_fault);
+    let _set = entity(scope, set, first_fault);
+    let _vertex = type_expression(alloc, scope, at, vertex, first_fault)?;
     Ok(step)
 }
 
@@ -390,14 +408,14 @@ pub(crate) fn apply(
     target: &Name,
     ends: &Ends,
     function: &Name,
-    noted: &mut Option<Fault>,
-) -> Step
-    ensures { outcome noted.old (no_apply scope.now at target.now (ends_tree ends.now) function.now) ≡ (step_tree result, noted.new) }
+    first_fault: &mut Option<Fault>,
+) -> FunctionStatement
+    ensures { outcome first_fault.old (no_apply scope.now at target.now (ends_tree ends.now) function.now) ≡ (step_tree result, first_fault.new) }
 {
-    let step = wrong(at, alloc, noted);
-    let _target = entity(scope, target, noted);
-    let _from = read_end(scope, &ends.from, noted);
-    let _to = read_end(scope, &ends.to, noted);
-    let _function = entity(scope, function, noted);
+    let step = wrong(at, alloc, first_fault);
+    let _target = entity(scope, target, first_fault);
+    let _from = read_end(scope, &ends.from, first_fault);
+    let _to = read_end(scope, &ends.to, first_fault);
+    let _function = entity(scope, function, first_fault);
     step
 }

@@ -1,26 +1,26 @@
-//! Initial and assigned values, and the ends of applies.
+//! Initializers and the ends of applies: what variables, constants and sets get.
 ghost use Rattle.std.specs.Prelude.{◌≡◌, ◌||◌, Some};
 ghost use Rattle.syntax.specs.SourceTrees.{ApplyModified};
 ghost use Rattle.syntax.specs.SourceViews.{ends_tree, initial_tree};
 ghost use Rattle.typed_tree.specs.ConditionTree.{condition_tree};
 ghost use Rattle.typed_tree.specs.IntegerTree.{integer_tree};
-ghost use Rattle.expression_types.specs.Noted.{Notes, outcome};
+ghost use Rattle.expression_types.specs.WithFaults.{ReportsFaults, outcome};
 ghost use Rattle.types.specs.Checker.{checker_of};
-ghost use Rattle.types.specs.Given.{end_tree, given_tree};
+ghost use Rattle.types.specs.Initializer.{apply_end_tree, initializer_tree};
 ghost use Rattle.expression_types.specs.Faults.{earlier};
-ghost use Rattle.types.specs.Initial.{Broken, condition_given, edge_function, end_of, ends_given, filter_function, filter_named, filtered, given_by, given_filter, integer_given, is_all, is_degrees, is_edges, is_loaded, is_sound, is_unclear, is_unknown, is_wrong, loaded, members_given, modified, new_set, of_edges, vertex_function, writes_vector};
+ghost use Rattle.types.specs.Initial.{ErrorInitializer, initializer_condition, edge_function, end_of, ends_given, filter_function, filter_named, filtered, initializer_of, given_filter, initializer_integer, is_all, is_degrees, is_edges, is_loaded, is_sound, names_error, is_error_end, is_wrong, loaded, initializer_members, modified, new_set, of_edges, vertex_function, writes_vector};
 
 use crate::checker::Checker;
 use crate::wanted::{condition_of, integer_of, members_of};
 use expression_types::{
-    Entity, Fault, Rule, Scope, Value, entity, note, set_named, type_expression, vector_named,
+    Entity, Fault, Scope, TypeRule, Value, entity, note, set_named, type_expression, vector_named,
 };
 use std::alloc::{AllocError, Global};
 use syntax::{Ends as WrittenEnds, Initial, Name};
-use typed_tree::{Condition, EndFilter, Ends, Integer, SetValue};
+use typed_tree::{ApplyEnds, BoolExpression, IntExpression, SetValue, VertexFilter};
 
 /// What an initial or assigned value is.
-pub(crate) enum Given {
+pub(crate) enum Initializer {
     /// An expression's value.
     Typed(Value),
     /// What a set gets.
@@ -30,186 +30,193 @@ pub(crate) enum Given {
     /// The out-degrees.
     Degrees,
     /// It has a faulty part.
-    Broken,
+    Error,
 }
 
-impl Drop for Given {
+impl Drop for Initializer {
     fn drop(self) {
         match self {
-            Given::Typed(_) => {}
-            Given::Members(_) | Given::Loaded | Given::Degrees | Given::Broken => {}
+            Initializer::Typed(_) => {}
+            Initializer::Members(_)
+            | Initializer::Loaded
+            | Initializer::Degrees
+            | Initializer::Error => {}
         }
     }
 }
 
 /// Which vertices an end lets through.
 #[derive(Clone, Copy)]
-pub(crate) enum End {
+pub(crate) enum ApplyEnd {
     /// All: none is given.
     Absent,
-    Given(EndFilter),
+    Given(VertexFilter),
     /// What is named is no vertex set and no filter.
     Wrong,
     /// The name is not visible, or its declaration is faulty.
-    Unknown,
+    Error,
 }
 
-impl Given {
+impl Initializer {
     /// What a variable of type int gets. The fault is noted where it is none.
-    pub(crate) fn into_integer(self, at: usize, noted: &mut Option<Fault>) -> Integer
-        ensures { outcome noted.old (integer_given at (given_tree self)) ≡ (integer_tree result, noted.new) }
+    pub(crate) fn into_integer(self, at: usize, first_fault: &mut Option<Fault>) -> IntExpression
+        ensures { outcome first_fault.old (initializer_integer at (initializer_tree self)) ≡ (integer_tree result, first_fault.new) }
     {
         match self {
-            Given::Typed(value) => integer_of(at, value, noted),
-            Given::Broken => Integer::Number(0),
-            Given::Members(_) | Given::Loaded | Given::Degrees => {
-                note(noted, at, Rule::WrongType);
-                Integer::Number(0)
+            Initializer::Typed(value) => integer_of(at, value, first_fault),
+            Initializer::Error => IntExpression::Number(0),
+            Initializer::Members(_) | Initializer::Loaded | Initializer::Degrees => {
+                note(first_fault, at, TypeRule::WrongType);
+                IntExpression::Number(0)
             }
         }
     }
 
     /// What a variable of type bool gets. The fault is noted where it is none.
-    pub(crate) fn into_condition(self, at: usize, noted: &mut Option<Fault>) -> Condition
-        ensures { outcome noted.old (condition_given at (given_tree self)) ≡ (condition_tree result, noted.new) }
+    pub(crate) fn into_condition(self, at: usize, first_fault: &mut Option<Fault>) -> BoolExpression
+        ensures { outcome first_fault.old (initializer_condition at (initializer_tree self)) ≡ (condition_tree result, first_fault.new) }
     {
         match self {
-            Given::Typed(value) => condition_of(at, value, noted),
-            Given::Broken => Condition::Literal(false),
-            Given::Members(_) | Given::Loaded | Given::Degrees => {
-                note(noted, at, Rule::WrongType);
-                Condition::Literal(false)
+            Initializer::Typed(value) => condition_of(at, value, first_fault),
+            Initializer::Error => BoolExpression::Literal(false),
+            Initializer::Members(_) | Initializer::Loaded | Initializer::Degrees => {
+                note(first_fault, at, TypeRule::WrongType);
+                BoolExpression::Literal(false)
             }
         }
     }
 
     /// What a variable that is a vertex set gets. The fault is noted where it is none.
-    pub(crate) fn into_members(self, at: usize, noted: &mut Option<Fault>) -> SetValue
-        ensures { outcome noted.old (members_given at (given_tree self)) ≡ (result, noted.new) }
+    pub(crate) fn into_members(self, at: usize, first_fault: &mut Option<Fault>) -> SetValue
+        ensures { outcome first_fault.old (initializer_members at (initializer_tree self)) ≡ (result, first_fault.new) }
     {
         match self {
-            Given::Typed(value) => members_of(at, value, noted),
-            Given::Members(members) => members,
-            Given::Broken => SetValue::Empty,
-            Given::Loaded | Given::Degrees => {
-                note(noted, at, Rule::WrongType);
+            Initializer::Typed(value) => members_of(at, value, first_fault),
+            Initializer::Members(members) => members,
+            Initializer::Error => SetValue::Empty,
+            Initializer::Loaded | Initializer::Degrees => {
+                note(first_fault, at, TypeRule::WrongType);
                 SetValue::Empty
             }
         }
     }
 }
 
-impl Given {
+impl Initializer {
     /// Whether no part of it is faulty.
     pub(crate) fn is_sound(&self) -> bool
-        ensures { result ≡ is_sound (given_tree self.now) }
+        ensures { result ≡ is_sound (initializer_tree self.now) }
     {
         match self {
-            Given::Typed(value) => !value.is_faulty(),
-            Given::Broken => false,
-            Given::Members(_) | Given::Loaded | Given::Degrees => true,
+            Initializer::Typed(value) => !value.is_error(),
+            Initializer::Error => false,
+            Initializer::Members(_) | Initializer::Loaded | Initializer::Degrees => true,
         }
     }
 
     /// Whether it is all vertices.
     pub(crate) fn is_all(&self) -> bool
-        ensures { result ≡ is_all (given_tree self.now) }
+        ensures { result ≡ is_all (initializer_tree self.now) }
     {
         match self {
-            Given::Members(SetValue::All) => true,
+            Initializer::Members(SetValue::All) => true,
             _ => false,
         }
     }
 
     /// Whether it is the edges.
     pub(crate) fn is_loaded(&self) -> bool
-        ensures { result ≡ is_loaded (given_tree self.now) }
+        ensures { result ≡ is_loaded (initializer_tree self.now) }
     {
         match self {
-            Given::Loaded => true,
+            Initializer::Loaded => true,
             _ => false,
         }
     }
 
     /// Whether it is the out-degrees.
     pub(crate) fn is_degrees(&self) -> bool
-        ensures { result ≡ is_degrees (given_tree self.now) }
+        ensures { result ≡ is_degrees (initializer_tree self.now) }
     {
         match self {
-            Given::Degrees => true,
+            Initializer::Degrees => true,
             _ => false,
         }
     }
 }
 
-impl End {
+impl ApplyEnd {
     fn is_wrong(self) -> bool
-        ensures { result ≡ is_wrong (end_tree self) }
+        ensures { result ≡ is_wrong (apply_end_tree self) }
     {
         match self {
-            End::Wrong => true,
+            ApplyEnd::Wrong => true,
             _ => false,
         }
     }
 
-    pub(crate) fn is_unknown(self) -> bool
-        ensures { result ≡ is_unknown (end_tree self) }
+    pub(crate) fn is_error(self) -> bool
+        ensures { result ≡ is_error_end (apply_end_tree self) }
     {
         match self {
-            End::Unknown => true,
+            ApplyEnd::Error => true,
             _ => false,
         }
     }
 
     /// What it lets through, or `None` where that is all or not known.
-    fn filter(self) -> Option<EndFilter>
-        ensures { result ≡ given_filter (end_tree self) }
+    fn filter(self) -> Option<VertexFilter>
+        ensures { result ≡ given_filter (apply_end_tree self) }
     {
         match self {
-            End::Given(filter) => Some(filter),
+            ApplyEnd::Given(filter) => Some(filter),
             _ => None,
         }
     }
 }
 
 /// Whether one of the ends is wrong.
-pub(crate) fn is_one_wrong(from: End, to: End) -> bool
-    ensures { result ≡ (is_wrong (end_tree from) || is_wrong (end_tree to)) }
+pub(crate) fn is_one_wrong(from: ApplyEnd, to: ApplyEnd) -> bool
+    ensures { result ≡ (is_wrong (apply_end_tree from) || is_wrong (apply_end_tree to)) }
 {
     from.is_wrong() || to.is_wrong()
 }
 
 /// The ends between which an apply looks at edges.
-pub(crate) fn ends_of(from: End, to: End) -> Ends
-    ensures { result ≡ ends_given (end_tree from) (end_tree to) }
+pub(crate) fn ends_of(from: ApplyEnd, to: ApplyEnd) -> ApplyEnds
+    ensures { result ≡ ends_given (apply_end_tree from) (apply_end_tree to) }
 {
-    Ends {
+    ApplyEnds {
         from: from.filter(),
         to: to.filter(),
     }
 }
 
 /// What an end lets through.
-pub(crate) fn read_end(scope: &Scope, name: &Option<Name>, noted: &mut Option<Fault>) -> End
-    ensures { outcome noted.old (end_of scope.now name.now) ≡ (end_tree result, noted.new) }
+pub(crate) fn read_end(
+    scope: &Scope,
+    name: &Option<Name>,
+    first_fault: &mut Option<Fault>,
+) -> ApplyEnd
+    ensures { outcome first_fault.old (end_of scope.now name.now) ≡ (apply_end_tree result, first_fault.new) }
 {
     match name {
-        None => End::Absent,
-        Some(name) => end_named(entity(scope, name, noted)),
+        None => ApplyEnd::Absent,
+        Some(name) => end_named(entity(scope, name, first_fault)),
     }
 }
 
 /// What an end lets through that a name says.
-fn end_named(entity: Entity) -> End
-    ensures { end_tree result ≡ filter_named entity }
+fn end_named(entity: Entity) -> ApplyEnd
+    ensures { apply_end_tree result ≡ filter_named entity }
 {
     match entity {
         Entity::ConstantSet(slot) | Entity::SetVariable(slot) => {
-            End::Given(EndFilter::Members(slot))
+            ApplyEnd::Given(VertexFilter::Members(slot))
         }
-        Entity::Filter(place) => End::Given(EndFilter::Function(place)),
-        Entity::Unclear => End::Unknown,
-        _ => End::Wrong,
+        Entity::Filter(place) => ApplyEnd::Given(VertexFilter::Function(place)),
+        Entity::Error => ApplyEnd::Error,
+        _ => ApplyEnd::Wrong,
     }
 }
 
@@ -244,11 +251,11 @@ fn filter_named_by(entity: Entity) -> Option<usize>
 }
 
 /// Whether the declaration of a name is faulty.
-pub(crate) fn is_unclear_entity(entity: Entity) -> bool
-    ensures { result ≡ is_unclear entity }
+pub(crate) fn is_error_entity(entity: Entity) -> bool
+    ensures { result ≡ names_error entity }
 {
     match entity {
-        Entity::Unclear => true,
+        Entity::Error => true,
         _ => false,
     }
 }
@@ -264,12 +271,12 @@ pub(crate) fn is_edges_entity(entity: Entity) -> bool
 }
 
 /// A value that breaks a rule.
-fn wrong(at: usize, noted: &mut Option<Fault>) -> Given
-    ensures value { given_tree result ≡ Broken }
-    ensures noted { noted.new ≡ Some (earlier noted.old (record { at = at; rule = Rule.WrongType })) }
+fn wrong(at: usize, first_fault: &mut Option<Fault>) -> Initializer
+    ensures value { initializer_tree result ≡ ErrorInitializer }
+    ensures first_fault { first_fault.new ≡ Some (earlier first_fault.old (record { at = at; rule = TypeRule.WrongType })) }
 {
-    note(noted, at, Rule::WrongType);
-    Given::Broken
+    note(first_fault, at, TypeRule::WrongType);
+    Initializer::Error
 }
 
 /// What a value is that stands in the statement or declaration whose first token is at this offset.
@@ -278,83 +285,88 @@ pub(crate) fn read_initial(
     checker: &Checker,
     at: usize,
     initial: &Initial,
-    noted: &mut Option<Fault>,
-) -> Result<Given, AllocError>
-    ensures { Notes given_tree noted.old noted.new result (given_by (checker_of checker.now) at (initial_tree initial.now)) }
+    first_fault: &mut Option<Fault>,
+) -> Result<Initializer, AllocError>
+    ensures { ReportsFaults initializer_tree first_fault.old first_fault.new result (initializer_of (checker_of checker.now) at (initial_tree initial.now)) }
 {
     let scope = &checker.scope;
     match initial {
-        Initial::NewSet(size) => Ok(new_empty_set(at, *size, noted)),
-        Initial::Load(argument) => Ok(loaded_edges(at, *argument, noted)),
+        Initial::NewSet(size) => Ok(new_empty_set(at, *size, first_fault)),
+        Initial::Load(argument) => Ok(loaded_edges(at, *argument, first_fault)),
         Initial::Vertices(edges) => {
-            let edges = entity(scope, edges, noted);
-            Ok(on_edges(at, Given::Members(SetValue::All), edges, noted))
+            let edges = entity(scope, edges, first_fault);
+            Ok(on_edges(at, Initializer::Members(SetValue::All), edges, first_fault))
         }
         Initial::OutDegrees(edges) => {
-            let edges = entity(scope, edges, noted);
-            Ok(on_edges(at, Given::Degrees, edges, noted))
+            let edges = entity(scope, edges, first_fault);
+            Ok(on_edges(at, Initializer::Degrees, edges, first_fault))
         }
         Initial::Filter { set, test } => {
-            let set = entity(scope, set, noted);
-            let test = entity(scope, test, noted);
-            Ok(filter(at, set, test, noted))
+            let set = entity(scope, set, first_fault);
+            let test = entity(scope, test, first_fault);
+            Ok(filter(at, set, test, first_fault))
         }
         Initial::ApplyModified {
             edges,
             ends,
             function,
             vector,
-        } => Ok(apply_modified(checker, at, edges, ends, function, vector, noted)),
+        } => Ok(apply_modified(checker, at, edges, ends, function, vector, first_fault)),
         Initial::Value(expression) => {
-            let value = type_expression(alloc, scope, at, expression, noted)?;
-            Ok(Given::Typed(value))
+            let value = type_expression(alloc, scope, at, expression, first_fault)?;
+            Ok(Initializer::Typed(value))
         }
     }
 }
 
-fn new_empty_set(at: usize, size: i64, noted: &mut Option<Fault>) -> Given
-    ensures { outcome noted.old (new_set at size) ≡ (given_tree result, noted.new) }
+fn new_empty_set(at: usize, size: i64, first_fault: &mut Option<Fault>) -> Initializer
+    ensures { outcome first_fault.old (new_set at size) ≡ (initializer_tree result, first_fault.new) }
 {
     if size == 0 {
-        Given::Members(SetValue::Empty)
+        Initializer::Members(SetValue::Empty)
     } else {
-        wrong(at, noted)
+        wrong(at, first_fault)
     }
 }
 
-fn loaded_edges(at: usize, argument: i64, noted: &mut Option<Fault>) -> Given
-    ensures { outcome noted.old (loaded at argument) ≡ (given_tree result, noted.new) }
+fn loaded_edges(at: usize, argument: i64, first_fault: &mut Option<Fault>) -> Initializer
+    ensures { outcome first_fault.old (loaded at argument) ≡ (initializer_tree result, first_fault.new) }
 {
     if argument == 1 {
-        Given::Loaded
+        Initializer::Loaded
     } else {
-        wrong(at, noted)
+        wrong(at, first_fault)
     }
 }
 
 /// A value that belongs to the edges.
-fn on_edges(at: usize, value: Given, entity: Entity, noted: &mut Option<Fault>) -> Given
-    ensures { outcome noted.old (of_edges at (given_tree value) entity) ≡ (given_tree result, noted.new) }
+fn on_edges(
+    at: usize,
+    value: Initializer,
+    entity: Entity,
+    first_fault: &mut Option<Fault>,
+) -> Initializer
+    ensures { outcome first_fault.old (of_edges at (initializer_tree value) entity) ≡ (initializer_tree result, first_fault.new) }
 {
-    if is_unclear_entity(entity) {
-        Given::Broken
+    if is_error_entity(entity) {
+        Initializer::Error
     } else if is_edges_entity(entity) {
         value
     } else {
-        wrong(at, noted)
+        wrong(at, first_fault)
     }
 }
 
 /// The members of a set that a filter passes.
-fn filter(at: usize, set: Entity, test: Entity, noted: &mut Option<Fault>) -> Given
-    ensures { outcome noted.old (filtered at set test) ≡ (given_tree result, noted.new) }
+fn filter(at: usize, set: Entity, test: Entity, first_fault: &mut Option<Fault>) -> Initializer
+    ensures { outcome first_fault.old (filtered at set test) ≡ (initializer_tree result, first_fault.new) }
 {
-    if is_unclear_entity(set) || is_unclear_entity(test) {
-        return Given::Broken;
+    if is_error_entity(set) || is_error_entity(test) {
+        return Initializer::Error;
     }
     match (set_named(set), filter_named_by(test)) {
-        (Some(slot), Some(place)) => Given::Members(SetValue::Filter(slot, place)),
-        _ => wrong(at, noted),
+        (Some(slot), Some(place)) => Initializer::Members(SetValue::Filter(slot, place)),
+        _ => wrong(at, first_fault),
     }
 }
 
@@ -366,50 +378,50 @@ fn apply_modified(
     ends: &WrittenEnds,
     function: &Name,
     vector: &Name,
-    noted: &mut Option<Fault>,
-) -> Given
-    ensures { outcome noted.old (given_by (checker_of checker.now) at (ApplyModified edges.now (ends_tree ends.now) function.now vector.now)) ≡ (given_tree result, noted.new) }
+    first_fault: &mut Option<Fault>,
+) -> Initializer
+    ensures { outcome first_fault.old (initializer_of (checker_of checker.now) at (ApplyModified edges.now (ends_tree ends.now) function.now vector.now)) ≡ (initializer_tree result, first_fault.new) }
 {
     let scope = &checker.scope;
-    let edges = entity(scope, edges, noted);
-    let from = read_end(scope, &ends.from, noted);
-    let to = read_end(scope, &ends.to, noted);
-    let function = entity(scope, function, noted);
-    let vector = entity(scope, vector, noted);
-    modified_between(checker, at, edges, from, to, function, vector, noted)
+    let edges = entity(scope, edges, first_fault);
+    let from = read_end(scope, &ends.from, first_fault);
+    let to = read_end(scope, &ends.to, first_fault);
+    let function = entity(scope, function, first_fault);
+    let vector = entity(scope, vector, first_fault);
+    modified_between(checker, at, edges, from, to, function, vector, first_fault)
 }
 
 fn modified_between(
     checker: &Checker,
     at: usize,
     edges: Entity,
-    from: End,
-    to: End,
+    from: ApplyEnd,
+    to: ApplyEnd,
     function: Entity,
     vector: Entity,
-    noted: &mut Option<Fault>,
-) -> Given
-    ensures { outcome noted.old (modified (checker_of checker.now) at edges (end_tree from) (end_tree to) function vector) ≡ (given_tree result, noted.new) }
+    first_fault: &mut Option<Fault>,
+) -> Initializer
+    ensures { outcome first_fault.old (modified (checker_of checker.now) at edges (apply_end_tree from) (apply_end_tree to) function vector) ≡ (initializer_tree result, first_fault.new) }
 {
-    let unclear = is_unclear_entity(edges)
-        || from.is_unknown()
-        || to.is_unknown()
-        || is_unclear_entity(function)
-        || is_unclear_entity(vector);
+    let unclear = is_error_entity(edges)
+        || from.is_error()
+        || to.is_error()
+        || is_error_entity(function)
+        || is_error_entity(vector);
     if unclear {
-        return Given::Broken;
+        return Initializer::Error;
     }
     if !is_edges_entity(edges) || is_one_wrong(from, to) {
-        return wrong(at, noted);
+        return wrong(at, first_fault);
     }
     let (Some(function), Some(vector)) = (edge_function_named(function), vector_named(vector))
     else {
-        return wrong(at, noted);
+        return wrong(at, first_fault);
     };
     if !is_written(checker, function, vector) {
-        return wrong(at, noted);
+        return wrong(at, first_fault);
     }
-    Given::Members(SetValue::Modified(ends_of(from, to), function, vector))
+    Initializer::Members(SetValue::Modified(ends_of(from, to), function, vector))
 }
 
 /// Whether an edge function writes a vector.

@@ -1,33 +1,11 @@
-//! Laws of checked programs. The calls do nothing.
-ghost use Rattle.std.specs.Prelude.{◌≡◌, ◌⊎◌, ℕ, ◌≤◌, [], map, Ok, Err};
-ghost use Rattle.std.specs.List.{AllByRecursion, IsDistinct};
-ghost use Rattle.std.specs.Str.{bytes_eq};
+//! Laws of faults and of checked programs that the crates above cite. The calls do nothing.
+ghost use Rattle.std.specs.Prelude.{◌≡◌, ◌⊎◌, ℕ};
+ghost use Rattle.std.specs.List.{AllByRecursion};
 ghost use Rattle.syntax.specs.Offsets.{IsOffsetIn};
 ghost use Rattle.syntax.specs.SourceSpelling.{source_terminals};
 ghost use Rattle.syntax.specs.SourceTrees.{SourceTree};
-ghost use Rattle.typed_tree.specs.ProgramTree.{ProgramTree};
-ghost use Rattle.typed_tree.specs.Resolved.{IsResolved};
-ghost use Rattle.expression_types.specs.declared.fault.Fault as fault;
 ghost use Rattle.types.specs.EdgeWrites.{ReducesInOneWay, SetsNoEntry};
-ghost use Rattle.types.specs.EntryAccess.{AccessesEntriesWell};
-ghost use Rattle.types.specs.Checker.{without_ends};
-ghost use Rattle.types.specs.Declaration.{main_bytes};
-ghost use Rattle.types.specs.InitialValues.{DeclarationInitialsFit};
-ghost use Rattle.types.specs.Labels.{labels_of};
-ghost use Rattle.types.specs.MainFunction.{DeclaresMain, functions_named};
-ghost use Rattle.types.specs.NewNames.{DeclarationsDeclareNew, edges_declared};
-ghost use Rattle.types.specs.Numbers.{InOrder, numbers};
-ghost use Rattle.types.specs.Prints.{PrintsInMainAlone};
-ghost use Rattle.types.specs.UsedNames.{DeclarationsUseVisible};
-ghost use Rattle.types.specs.WellTyped.{DeclarationFits};
-ghost use Rattle.types.specs.Program.{Checks, program_of};
-
-/// The law that a source has a program or a fault that is told, and not both. It has a program exactly where it has no
-/// fault, and of several the least is told, by the law [`expression_types::least_fault_is_told`].
-pub fn sources_have_a_program_or_a_fault()
-    ensures one { (source : SourceTree) (length : ℕ) → ((program : ProgramTree) × Checks source length (Ok program)) ⊎ ((f : fault.Fault) × Checks source length (Err f)) }
-    ensures not_both { (source : SourceTree) (length : ℕ) (program : ProgramTree) (f : fault.Fault) → Checks source length (Ok program) → Checks source length (Err f) → ⊥ }
-{}
+ghost use Rattle.types.specs.Program.{program_of};
 
 /// The law that each fault of a source stands where a name or a label does, or a keyword that begins a declaration or a
 /// statement, or at the length of the text; and that each call of a schedule stands where its keyword does.
@@ -36,73 +14,7 @@ pub fn faults_stand_in_the_source()
     ensures calls { (source : SourceTree) (length : ℕ) → AllByRecursion (λ call. IsOffsetIn (source_terminals source) call.at) (program_of source length).value.schedule }
 {}
 
-/// The law that in a source with a program each used name is visible: constants and functions from the end of their
-/// declaration, a variable from the end of its declaration to the end of its block, the name of a `for` in its body,
-/// parameters and a result in their function.
-pub fn checked_sources_use_visible_names()
-    ensures { (source : SourceTree) (length : ℕ) (program : ProgramTree) → Checks source length (Ok program) → DeclarationsUseVisible [] source.declarations }
-{}
-
-/// The law that in a source with a program no visible name is declared again: no constant, function, parameter, result or
-/// variable has the name of another that is visible where it is declared. One constant at most is the edges.
-pub fn checked_sources_declare_new_names()
-    ensures names { (source : SourceTree) (length : ℕ) (program : ProgramTree) → Checks source length (Ok program) → DeclarationsDeclareNew [] source.declarations }
-    ensures edges { (source : SourceTree) (length : ℕ) (program : ProgramTree) → Checks source length (Ok program) → edges_declared source.declarations ≤ 1 }
-{}
-
-/// The law that in a source with a program no label stands twice, and that the program has these labels, without `#`, in
-/// the order of the text.
-pub fn checked_sources_have_distinct_labels()
-    ensures distinct { (source : SourceTree) (length : ℕ) (program : ProgramTree) → Checks source length (Ok program) → IsDistinct bytes_eq (labels_of source.declarations) }
-    ensures kept { (source : SourceTree) (length : ℕ) (program : ProgramTree) → Checks source length (Ok program) → program.labels ≡ map without_ends (labels_of source.declarations) }
-{}
-
-/// The law that in a checked program each place is that of something that is there: that of a variable or a vertex set
-/// is the place of one that is visible and has its name, and vectors, functions, labels and names are in their tables. An
-/// entry stands at a vertex of its function, or, in `main` alone, at an index, which a run tests.
-pub fn checked_programs_are_resolved()
-    ensures { (source : SourceTree) (length : ℕ) (program : ProgramTree) → Checks source length (Ok program) → IsResolved program }
-{}
-
 /// The law that an edge function reduces a vector in one way only, and writes no entry by `=`.
 pub fn edge_functions_only_reduce()
     ensures { (source : SourceTree) (length : ℕ) → AllByRecursion (λ f. ReducesInOneWay f.steps × SetsNoEntry f.steps) (program_of source length).value.edge_functions }
-{}
-
-/// The law that the statements of `main` are numbered from 1 in the order of the text, without a gap, a block before
-/// its body.
-pub fn statements_are_numbered_in_order()
-    ensures { (source : SourceTree) (length : ℕ) → InOrder 1 (numbers (program_of source length).value.main) }
-{}
-
-/// The law that in a source with a program no function but `main` has a `print` in it, at any depth.
-pub fn checked_sources_print_in_main_alone()
-    ensures { (source : SourceTree) (length : ℕ) (program : ProgramTree) → Checks source length (Ok program) → AllByRecursion PrintsInMainAlone source.declarations }
-{}
-
-/// The law that a source with a program declares one function named `main`, which has neither parameters nor a result.
-pub fn checked_sources_declare_main()
-    ensures main { (source : SourceTree) (length : ℕ) (program : ProgramTree) → Checks source length (Ok program) → DeclaresMain source.declarations }
-    ensures one { (source : SourceTree) (length : ℕ) (program : ProgramTree) → Checks source length (Ok program) → functions_named main_bytes source.declarations ≡ 1 }
-{}
-
-/// The law that in a source with a program an edge function reads vectors at its two parameters alone and writes them at
-/// the second alone, a vertex function and a filter read and write at their parameter alone, and no index in `main` has
-/// an entry of a vector in it. An index that is a parameter is its name, perhaps in parentheses.
-///
-/// In the checked program the types carry this for reads: `EntryAt` of a function has an `Endpoint` in place of an
-/// index, and a step that writes an entry has no index, as it writes at the last parameter.
-pub fn checked_sources_access_own_entries()
-    ensures { (source : SourceTree) (length : ℕ) (program : ProgramTree) → Checks source length (Ok program) → AllByRecursion AccessesEntriesWell source.declarations }
-{}
-
-/// The law that in a source with a program constants and functions of users are of the kinds that there are. A constant
-/// `int` or `bool` is a literal, a vertex set `getVertices()`, a vector a literal or `getOutDegrees()`, the edges
-/// `load(argv[1])`, and none is a Vertex. A function of a user has one Vertex parameter, or one and a result of type
-/// `bool`, or two and no result. It holds declarations of `int` and `bool`, `if`, assignments and reductions alone; a
-/// filter writes no entry of a vector, and an edge function sets none. Everywhere a `new vertexset` has 0 as its size,
-/// and a `load` reads the first argument.
-pub fn checked_sources_are_well_typed()
-    ensures initials { (source : SourceTree) (length : ℕ) (program : ProgramTree) → Checks source length (Ok program) → AllByRecursion DeclarationInitialsFit source.declarations }
-    ensures declarations { (source : SourceTree) (length : ℕ) (program : ProgramTree) → Checks source length (Ok program) → AllByRecursion DeclarationFits source.declarations }
 {}

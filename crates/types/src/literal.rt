@@ -1,10 +1,11 @@
 //! Literals, which are all that constants of type int or bool, and vectors, may be declared to be.
-ghost use Rattle.std.specs.Prelude.{◌≡◌, option_map};
-ghost use Rattle.syntax.specs.ExpressionViews.{comparison_of, conjunction_of, primary_of, sum_of, term_of, unary_of};
+ghost use Rattle.std.specs.Prelude.{◌≡◌};
+ghost use Rattle.syntax.specs.ExpressionViews.{primary_of, unary_of};
 ghost use Rattle.syntax.specs.SourceViews.{initial_tree};
-ghost use Rattle.types.specs.Literal.{expression_integer, expression_truth, literal_condition, literal_integer, negated, only_comparison, only_operand, only_sum, only_term, only_unary, primary_number, primary_truth, unary_number, unary_truth};
+ghost use Rattle.types.specs.Literal.{expression_integer, expression_truth, literal_condition, literal_integer, negated, primary_number, primary_truth, unary_number, unary_truth};
 
-use syntax::{Comparison, Conjunction, Expression, Initial, Prefix, Primary, Sum, Term, Unary};
+use expression_types::lone_operand;
+use syntax::{Expression, Initial, Prefix, Primary, Unary};
 
 /// The number that a value is, with `-` before it or not, or `None` where it is no such literal.
 pub(crate) fn integer_literal(initial: &Initial) -> Option<i64>
@@ -29,63 +30,13 @@ pub(crate) fn condition_literal(initial: &Initial) -> Option<bool>
 fn number_of(expression: &Expression) -> Option<i64>
     ensures { result ≡ expression_integer expression.now }
 {
-    unary_literal(operand(expression)?)
+    unary_literal(lone_operand(expression)?)
 }
 
 fn truth_of(expression: &Expression) -> Option<bool>
     ensures { result ≡ expression_truth expression.now }
 {
-    unary_condition(operand(expression)?)
-}
-
-/// The one operand of an expression without operators between operands.
-fn operand(expression: &Expression) -> Option<&Unary>
-    ensures { option_map (λ u. unary_of u.now) result ≡ only_operand expression.now }
-{
-    if expression.more.is_empty() {
-        in_conjunction(&expression.first)
-    } else {
-        None
-    }
-}
-
-fn in_conjunction(conjunction: &Conjunction) -> Option<&Unary>
-    ensures { option_map (λ u. unary_of u.now) result ≡ only_comparison (conjunction_of conjunction.now) }
-{
-    if conjunction.more.is_empty() {
-        in_comparison(&conjunction.first)
-    } else {
-        None
-    }
-}
-
-fn in_comparison(comparison: &Comparison) -> Option<&Unary>
-    ensures { option_map (λ u. unary_of u.now) result ≡ only_sum (comparison_of comparison.now) }
-{
-    match &comparison.right {
-        None => in_sum(&comparison.left),
-        Some(_) => None,
-    }
-}
-
-fn in_sum(sum: &Sum) -> Option<&Unary>
-    ensures { option_map (λ u. unary_of u.now) result ≡ only_term (sum_of sum.now) }
-{
-    if sum.more.is_empty() {
-        in_term(&sum.first)
-    } else {
-        None
-    }
-}
-
-fn in_term(term: &Term) -> Option<&Unary>
-    ensures { option_map (λ u. unary_of u.now) result ≡ only_unary (term_of term.now) }
-{
-    if term.more.is_empty() {
-        Some(&term.first)
-    } else {
-        None
-    }
+    unary_condition(lone_operand(expression)?)
 }
 
 fn unary_literal(unary: &Unary) -> Option<i64>

@@ -1,10 +1,10 @@
-//! Whole sources.
+//! The checker: from a whole source to its program, or its least fault.
 ghost use Rattle.std.specs.Prelude.{◌≡◌, ◌+◌, ◌≤◌, ◌^◌, List, ◌∷◌, None, map};
 ghost use Rattle.syntax.specs.SourceTrees.{DeclarationTree};
 ghost use Rattle.syntax.specs.SourceViews.{declaration_tree, source_tree};
 ghost use Rattle.typed_tree.specs.BlockTree.{block_tree};
 ghost use Rattle.typed_tree.specs.ProgramTree.{program_tree};
-ghost use Rattle.expression_types.specs.Noted.{Notes, outcome};
+ghost use Rattle.expression_types.specs.WithFaults.{ReportsFaults, outcome};
 ghost use Rattle.types.specs.Declaration.{declared_of};
 ghost use Rattle.types.specs.Program.{Answers, main_of, opening, program_of, set_count};
 
@@ -13,10 +13,10 @@ use crate::declaration::{Declared, declare_all};
 use crate::error::CheckError;
 use crate::reductions::Reductions;
 use crate::schedule::calls;
-use expression_types::{Fault, Names, Rule, Scope, note};
+use expression_types::{Fault, Names, Scope, TypeRule, note};
 use std::alloc::{AllocError, Global};
 use syntax::{Declaration, DeclaredType, Source};
-use typed_tree::{Statement, Typed};
+use typed_tree::{MainStatement, Typed};
 
 /// The program that a source is, with all names resolved.
 ///
@@ -26,9 +26,9 @@ use typed_tree::{Statement, Typed};
 pub fn check(alloc: Global, source: &Source) -> Result<Typed, CheckError>
     ensures { Answers (source_tree source.now) source.now.length result }
 {
-    let mut noted = None;
-    let program = type_source(alloc, source, &mut noted)?;
-    match noted {
+    let mut first_fault = None;
+    let program = type_source(alloc, source, &mut first_fault)?;
+    match first_fault {
         Some(fault) => Err(CheckError::Faulty(fault)),
         None => Ok(program),
     }
@@ -38,14 +38,14 @@ pub fn check(alloc: Global, source: &Source) -> Result<Typed, CheckError>
 fn type_source(
     alloc: Global,
     source: &Source,
-    noted: &mut Option<Fault>,
+    first_fault: &mut Option<Fault>,
 ) -> Result<Typed, AllocError>
-    ensures { Notes program_tree noted.old noted.new result (program_of (source_tree source.now) source.now.length) }
+    ensures { ReportsFaults program_tree first_fault.old first_fault.new result (program_of (source_tree source.now) source.now.length) }
 {
     let mut declared = empty(alloc, count_sets(&source.declarations));
-    declare_all(alloc, &source.declarations, &mut declared, noted)?;
+    declare_all(alloc, &source.declarations, &mut declared, first_fault)?;
     let schedule = calls(alloc, &source.schedule)?;
-    let main = main_in(alloc, source.length, &mut declared, noted);
+    let main = main_in(alloc, source.length, &mut declared, first_fault);
     Ok(declared.into_program(main, schedule))
 }
 
@@ -54,15 +54,15 @@ fn main_in(
     alloc: Global,
     length: usize,
     declared: &mut Declared,
-    noted: &mut Option<Fault>,
-) -> Vec<Statement>
-    ensures main { outcome noted.old (main_of length (declared_of declared.old).main) ≡ (block_tree result.items, noted.new) }
+    first_fault: &mut Option<Fault>,
+) -> Vec<MainStatement>
+    ensures main { outcome first_fault.old (main_of length (declared_of declared.old).main) ≡ (block_tree result.items, first_fault.new) }
     ensures others { declared_of declared.new ≡ record (declared_of declared.old) { main = None } }
 {
     match declared.main.take() {
         Some(main) => main,
         None => {
-            note(noted, length, Rule::NoMain);
+            note(first_fault, length, TypeRule::NoMain);
             Vec::new(alloc)
         }
     }

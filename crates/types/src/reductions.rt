@@ -1,11 +1,11 @@
-//! Vectors that an edge function reduces, found by a hash.
+//! Reductions of an edge function: the vectors that it reduces, found by a hash.
 ghost use Rattle.std.specs.Prelude.{◌≡◌, ◌++◌, ◌∷◌, [], None, nat_eq, OnErr, OnOk};
 ghost use Rattle.std.specs.Map.{lookup};
 
+use apply_options::Reduction;
 use indexmap::IndexMap;
 use std::alloc::{AllocError, Global};
 use std::marker::Model;
-use syntax::Reduction;
 
 /// The vectors that an edge function writes, by their places, in the order of the text, each with its
 /// reduction.
@@ -16,7 +16,7 @@ pub(crate) struct Reductions {
 
 impl Model for Reductions {
     ghost use Rattle.std.specs.Prelude.{ℕ, List};
-    ghost use Rattle.syntax.specs.declared.statement.Reduction.{Reduction as OneReduction};
+    ghost use Rattle.apply_options.specs.declared.reduction.Reduction.{Reduction as OneReduction};
 
     ghost Value = { List (ℕ × OneReduction) };
 

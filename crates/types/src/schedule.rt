@@ -1,4 +1,4 @@
-//! The calls of a schedule.
+//! The calls of a schedule, with their arguments without quotes.
 ghost use Rattle.std.specs.Prelude.{◌≡◌, ◌∷◌, ◌++◌, IfOk, OnOk, map};
 ghost use Rattle.syntax.specs.SourceViews.{call_tree as source_call, chain_tree};
 ghost use Rattle.typed_tree.specs.ProgramTree.{call_tree};
@@ -8,7 +8,7 @@ ghost use Rattle.std.specs.Option.{option_map};
 
 use crate::text::between_ends;
 use std::alloc::{AllocError, Global};
-use syntax::{Call, Chain, Text};
+use syntax::{Call, Chain, QuotedText};
 use typed_tree::{Name, ScheduleCall};
 
 /// The calls of a schedule, in the order of the text.
@@ -55,7 +55,7 @@ fn call_of(alloc: Global, call: &Call) -> Result<ScheduleCall, AllocError>
 }
 
 /// A text without its quotes.
-fn argument(alloc: Global, text: &Text) -> Result<Name, AllocError>
+fn argument(alloc: Global, text: &QuotedText) -> Result<Name, AllocError>
     ensures { IfOk result (λ name. name ≡ without_ends text.now.bytes.items) }
 {
     between_ends(alloc, text.bytes())

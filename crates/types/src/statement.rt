@@ -1,45 +1,46 @@
-//! Statements of `main` without blocks. Where one is faulty a harmless one stands in its place.
+//! Typing of statements of `main` that have no blocks. Where one is faulty a harmless one stands in its place.
 ghost use Rattle.std.specs.Prelude.{◌≡◌, Some, OnOk};
 ghost use Rattle.std.specs.Option.{option_map};
 ghost use Rattle.syntax.specs.SourceViews.{ends_tree, initial_tree};
 ghost use Rattle.typed_tree.specs.BlockTree.{action_tree};
 ghost use Rattle.typed_tree.specs.IntegerTree.{integer_tree};
 ghost use Rattle.expression_types.specs.Faults.{earlier};
-ghost use Rattle.expression_types.specs.Noted.{Notes, outcome};
+ghost use Rattle.expression_types.specs.WithFaults.{ReportsFaults, outcome};
 ghost use Rattle.expression_types.specs.ScopeTree.{Keeps};
 ghost use Rattle.expression_types.specs.ValueTree.{value_tree};
 ghost use Rattle.types.specs.Checker.{checker_of};
-ghost use Rattle.types.specs.Given.{end_tree, given_tree};
-ghost use Rattle.types.specs.Initial.{edge_function, is_unclear, vertex_function};
+ghost use Rattle.types.specs.Initializer.{apply_end_tree, initializer_tree};
+ghost use Rattle.types.specs.Initial.{edge_function, names_error, vertex_function};
 ghost use Rattle.types.specs.Statement.{add_vertex as vertex_added, added, applied, apply as apply_statement, assign as assignment, assigned, declare_as, declare_variable as variable_declared, edges_applied, entry_reduced, entry_set, has_ends as ends_are_written, no_action, print as print_statement, printed, reduce as reduction_statement, reduce_entry as entry_reduction, reduced, set_entry as entry_setting, vertices_applied};
 ghost use Rattle.types.specs.Variables.{variable_as};
 
 use crate::checker::{Checker, declare};
 use crate::initial::{
-    End, Given, edge_function_named, ends_of, is_edges_entity, is_one_wrong, is_unclear_entity,
-    read_end, read_initial, vertex_function_named,
+    ApplyEnd, Initializer, edge_function_named, ends_of, is_edges_entity, is_error_entity,
+    is_one_wrong, read_end, read_initial, vertex_function_named,
 };
 use crate::wanted::{index_of, integer, integer_of};
+use apply_options::Reduction;
 use expression_types::{
-    Entity, Fault, Rule, Scope, Value, entity, note, set_named, type_expression, vector,
+    Entity, Fault, Scope, TypeRule, Value, entity, note, set_named, type_expression, vector,
 };
 use std::alloc::{AllocError, Global};
-use syntax::{DeclaredType, Ends, Expression, Initial, Name, Parameter, Reduction};
-use typed_tree::{Action, Integer, Slot};
+use syntax::{DeclaredType, Ends, Expression, Initial, Name, Parameter};
+use typed_tree::{IntExpression, StatementKind, VarRef};
 
 /// What stands in place of a faulty statement.
-fn nothing() -> Action
+fn nothing() -> StatementKind
     ensures { action_tree result ≡ no_action }
 {
-    Action::PrintInteger(Integer::Number(0))
+    StatementKind::PrintInteger(IntExpression::Number(0))
 }
 
 /// A statement that breaks a rule of types.
-fn wrong(at: usize, noted: &mut Option<Fault>) -> Action
+fn wrong(at: usize, first_fault: &mut Option<Fault>) -> StatementKind
     ensures action { action_tree result ≡ no_action }
-    ensures noted { noted.new ≡ Some (earlier noted.old (record { at = at; rule = Rule.WrongType })) }
+    ensures first_fault { first_fault.new ≡ Some (earlier first_fault.old (record { at = at; rule = TypeRule.WrongType })) }
 {
-    note(noted, at, Rule::WrongType);
+    note(first_fault, at, TypeRule::WrongType);
     nothing()
 }
 
@@ -50,28 +51,28 @@ pub(crate) fn declare_variable(
     at: usize,
     variable: &Parameter,
     initial: &Initial,
-    noted: &mut Option<Fault>,
-) -> Result<Action, AllocError>
-    ensures typed { Notes (λ a. (action_tree a, checker_of checker.new)) noted.old noted.new result (variable_declared (checker_of checker.old) at variable.now.name variable.now.declared (initial_tree initial.now)) }
+    first_fault: &mut Option<Fault>,
+) -> Result<StatementKind, AllocError>
+    ensures typed { ReportsFaults (λ a. (action_tree a, checker_of checker.new)) first_fault.old first_fault.new result (variable_declared (checker_of checker.old) at variable.now.name variable.now.declared (initial_tree initial.now)) }
     ensures kept { OnOk result (Keeps checker.old.scope checker.new.scope) }
 {
-    let given = read_initial(alloc, checker, at, initial, noted)?;
-    declare_given(alloc, checker, at, variable, given, noted)
+    let initializer = read_initial(alloc, checker, at, initial, first_fault)?;
+    declare_initialized(alloc, checker, at, variable, initializer, first_fault)
 }
 
-fn declare_given(
+fn declare_initialized(
     alloc: Global,
     checker: &mut Checker,
     at: usize,
     variable: &Parameter,
-    given: Given,
-    noted: &mut Option<Fault>,
-) -> Result<Action, AllocError>
-    ensures typed { Notes (λ a. (action_tree a, checker_of checker.new)) noted.old noted.new result (declare_as (checker_of checker.old) at variable.now.name (given_tree given) variable.now.declared) }
+    initializer: Initializer,
+    first_fault: &mut Option<Fault>,
+) -> Result<StatementKind, AllocError>
+    ensures typed { ReportsFaults (λ a. (action_tree a, checker_of checker.new)) first_fault.old first_fault.new result (declare_as (checker_of checker.old) at variable.now.name (initializer_tree initializer) variable.now.declared) }
     ensures kept { OnOk result (Keeps checker.old.scope checker.new.scope) }
 {
-    let (entity, action) = declaration(checker, at, variable.declared, given, noted);
-    declare(alloc, checker, &variable.name, entity, noted)?;
+    let (entity, action) = declaration(checker, at, variable.declared, initializer, first_fault);
+    declare(alloc, checker, &variable.name, entity, first_fault)?;
     Ok(action)
 }
 
@@ -80,32 +81,32 @@ fn declaration(
     checker: &Checker,
     at: usize,
     declared: DeclaredType,
-    given: Given,
-    noted: &mut Option<Fault>,
-) -> (Entity, Action)
-    ensures { outcome noted.old (variable_as (checker_of checker.now) at (given_tree given) declared) ≡ ((result.0, action_tree result.1), noted.new) }
+    initializer: Initializer,
+    first_fault: &mut Option<Fault>,
+) -> (Entity, StatementKind)
+    ensures { outcome first_fault.old (variable_as (checker_of checker.now) at (initializer_tree initializer) declared) ≡ ((result.0, action_tree result.1), first_fault.new) }
 {
     match declared {
         DeclaredType::Int => {
-            let value = given.into_integer(at, noted);
+            let value = initializer.into_integer(at, first_fault);
             let slot = checker.integer_slot();
-            let action = Action::DeclareInteger(slot.name, value);
+            let action = StatementKind::DeclareInteger(slot.name, value);
             (Entity::IntegerVariable(slot), action)
         }
         DeclaredType::Bool => {
-            let value = given.into_condition(at, noted);
+            let value = initializer.into_condition(at, first_fault);
             let slot = checker.condition_slot();
-            let action = Action::DeclareCondition(slot.name, value);
+            let action = StatementKind::DeclareCondition(slot.name, value);
             (Entity::ConditionVariable(slot), action)
         }
         DeclaredType::VertexSet => {
-            let value = given.into_members(at, noted);
+            let value = initializer.into_members(at, first_fault);
             let slot = checker.set_slot();
-            let action = Action::DeclareSet(slot.name, value);
+            let action = StatementKind::DeclareSet(slot.name, value);
             (Entity::SetVariable(slot), action)
         }
         DeclaredType::Vertex | DeclaredType::Vector | DeclaredType::EdgeSet => {
-            (Entity::Unclear, wrong(at, noted))
+            (Entity::Error, wrong(at, first_fault))
         }
     }
 }
@@ -117,26 +118,37 @@ pub(crate) fn assign(
     at: usize,
     name: &Name,
     initial: &Initial,
-    noted: &mut Option<Fault>,
-) -> Result<Action, AllocError>
-    ensures { Notes action_tree noted.old noted.new result (assignment (checker_of checker.now) at name.now (initial_tree initial.now)) }
+    first_fault: &mut Option<Fault>,
+) -> Result<StatementKind, AllocError>
+    ensures { ReportsFaults action_tree first_fault.old first_fault.new result (assignment (checker_of checker.now) at name.now (initial_tree initial.now)) }
 {
-    let entity = entity(&checker.scope, name, noted);
-    let given = read_initial(alloc, checker, at, initial, noted)?;
-    Ok(assign_given(at, given, entity, noted))
+    let entity = entity(&checker.scope, name, first_fault);
+    let initializer = read_initial(alloc, checker, at, initial, first_fault)?;
+    Ok(assign_initializer(at, initializer, entity, first_fault))
 }
 
-fn assign_given(at: usize, given: Given, entity: Entity, noted: &mut Option<Fault>) -> Action
-    ensures { outcome noted.old (assigned at (given_tree given) entity) ≡ (action_tree result, noted.new) }
+fn assign_initializer(
+    at: usize,
+    initializer: Initializer,
+    entity: Entity,
+    first_fault: &mut Option<Fault>,
+) -> StatementKind
+    ensures { outcome first_fault.old (assigned at (initializer_tree initializer) entity) ≡ (action_tree result, first_fault.new) }
 {
     match entity {
-        Entity::IntegerVariable(slot) => Action::SetInteger(slot, given.into_integer(at, noted)),
+        Entity::IntegerVariable(slot) => StatementKind::SetInteger(
+            slot,
+            initializer.into_integer(at, first_fault),
+        ),
         Entity::ConditionVariable(slot) => {
-            Action::SetCondition(slot, given.into_condition(at, noted))
+            StatementKind::SetCondition(slot, initializer.into_condition(at, first_fault))
         }
-        Entity::SetVariable(slot) => Action::AssignSet(slot, given.into_members(at, noted)),
-        Entity::Unclear => nothing(),
-        _ => wrong(at, noted),
+        Entity::SetVariable(slot) => StatementKind::AssignSet(
+            slot,
+            initializer.into_members(at, first_fault),
+        ),
+        Entity::Error => nothing(),
+        _ => wrong(at, first_fault),
     }
 }
 
@@ -148,13 +160,13 @@ pub(crate) fn reduce(
     name: &Name,
     by: Reduction,
     value: &Expression,
-    noted: &mut Option<Fault>,
-) -> Result<Action, AllocError>
-    ensures { Notes action_tree noted.old noted.new result (reduction_statement scope.now at name.now by value.now) }
+    first_fault: &mut Option<Fault>,
+) -> Result<StatementKind, AllocError>
+    ensures { ReportsFaults action_tree first_fault.old first_fault.new result (reduction_statement scope.now at name.now by value.now) }
 {
-    let entity = entity(scope, name, noted);
-    let value = type_expression(alloc, scope, at, value, noted)?;
-    Ok(reduce_value(at, by, value, entity, noted))
+    let entity = entity(scope, name, first_fault);
+    let value = type_expression(alloc, scope, at, value, first_fault)?;
+    Ok(reduce_value(at, by, value, entity, first_fault))
 }
 
 fn reduce_value(
@@ -162,16 +174,16 @@ fn reduce_value(
     by: Reduction,
     value: Value,
     entity: Entity,
-    noted: &mut Option<Fault>,
-) -> Action
-    ensures { outcome noted.old (reduced at by (value_tree value) entity) ≡ (action_tree result, noted.new) }
+    first_fault: &mut Option<Fault>,
+) -> StatementKind
+    ensures { outcome first_fault.old (reduced at by (value_tree value) entity) ≡ (action_tree result, first_fault.new) }
 {
     match entity {
         Entity::IntegerVariable(slot) => {
-            Action::ReduceInteger(slot, by, integer_of(at, value, noted))
+            StatementKind::ReduceInteger(slot, by, integer_of(at, value, first_fault))
         }
-        Entity::Unclear => nothing(),
-        _ => wrong(at, noted),
+        Entity::Error => nothing(),
+        _ => wrong(at, first_fault),
     }
 }
 
@@ -183,22 +195,26 @@ pub(crate) fn set_entry(
     name: &Name,
     index: &Expression,
     value: &Expression,
-    noted: &mut Option<Fault>,
-) -> Result<Action, AllocError>
-    ensures { Notes action_tree noted.old noted.new result (entry_setting scope.now at name.now index.now value.now) }
+    first_fault: &mut Option<Fault>,
+) -> Result<StatementKind, AllocError>
+    ensures { ReportsFaults action_tree first_fault.old first_fault.new result (entry_setting scope.now at name.now index.now value.now) }
 {
-    let vector = vector(scope, at, name, noted);
-    let index = type_expression(alloc, scope, at, index, noted)?;
-    let index = index_of(at, index, noted);
-    let value = integer(alloc, scope, at, value, noted)?;
+    let vector = vector(scope, at, name, first_fault);
+    let index = type_expression(alloc, scope, at, index, first_fault)?;
+    let index = index_of(at, index, first_fault);
+    let value = integer(alloc, scope, at, value, first_fault)?;
     Ok(setting(vector, index, value))
 }
 
-fn setting(vector: Option<usize>, index: Option<Integer>, value: Integer) -> Action
+fn setting(
+    vector: Option<usize>,
+    index: Option<IntExpression>,
+    value: IntExpression,
+) -> StatementKind
     ensures { action_tree result ≡ entry_set vector (option_map integer_tree index) (integer_tree value) }
 {
     match (vector, index) {
-        (Some(vector), Some(index)) => Action::SetEntry(vector, index, value),
+        (Some(vector), Some(index)) => StatementKind::SetEntry(vector, index, value),
         _ => nothing(),
     }
 }
@@ -212,22 +228,27 @@ pub(crate) fn reduce_entry(
     index: &Expression,
     by: Reduction,
     value: &Expression,
-    noted: &mut Option<Fault>,
-) -> Result<Action, AllocError>
-    ensures { Notes action_tree noted.old noted.new result (entry_reduction scope.now at name.now index.now by value.now) }
+    first_fault: &mut Option<Fault>,
+) -> Result<StatementKind, AllocError>
+    ensures { ReportsFaults action_tree first_fault.old first_fault.new result (entry_reduction scope.now at name.now index.now by value.now) }
 {
-    let vector = vector(scope, at, name, noted);
-    let index = type_expression(alloc, scope, at, index, noted)?;
-    let index = index_of(at, index, noted);
-    let value = integer(alloc, scope, at, value, noted)?;
+    let vector = vector(scope, at, name, first_fault);
+    let index = type_expression(alloc, scope, at, index, first_fault)?;
+    let index = index_of(at, index, first_fault);
+    let value = integer(alloc, scope, at, value, first_fault)?;
     Ok(reducing(vector, index, by, value))
 }
 
-fn reducing(vector: Option<usize>, index: Option<Integer>, by: Reduction, value: Integer) -> Action
+fn reducing(
+    vector: Option<usize>,
+    index: Option<IntExpression>,
+    by: Reduction,
+    value: IntExpression,
+) -> StatementKind
     ensures { action_tree result ≡ entry_reduced vector (option_map integer_tree index) by (integer_tree value) }
 {
     match (vector, index) {
-        (Some(vector), Some(index)) => Action::ReduceEntry(vector, index, by, value),
+        (Some(vector), Some(index)) => StatementKind::ReduceEntry(vector, index, by, value),
         _ => nothing(),
     }
 }
@@ -239,22 +260,30 @@ pub(crate) fn add_vertex(
     at: usize,
     set: &Name,
     vertex: &Expression,
-    noted: &mut Option<Fault>,
-) -> Result<Action, AllocError>
-    ensures { Notes action_tree noted.old noted.new result (vertex_added scope.now at set.now vertex.now) }
+    first_fault: &mut Option<Fault>,
+) -> Result<StatementKind, AllocError>
+    ensures { ReportsFaults action_tree first_fault.old first_fault.new result (vertex_added scope.now at set.now vertex.now) }
 {
-    let entity = entity(scope, set, noted);
-    let value = type_expression(alloc, scope, at, vertex, noted)?;
-    Ok(add_value(at, value, entity, noted))
+    let entity = entity(scope, set, first_fault);
+    let value = type_expression(alloc, scope, at, vertex, first_fault)?;
+    Ok(add_value(at, value, entity, first_fault))
 }
 
-fn add_value(at: usize, value: Value, entity: Entity, noted: &mut Option<Fault>) -> Action
-    ensures { outcome noted.old (added at (value_tree value) entity) ≡ (action_tree result, noted.new) }
+fn add_value(
+    at: usize,
+    value: Value,
+    entity: Entity,
+    first_fault: &mut Option<Fault>,
+) -> StatementKind
+    ensures { outcome first_fault.old (added at (value_tree value) entity) ≡ (action_tree result, first_fault.new) }
 {
     match entity {
-        Entity::SetVariable(slot) => Action::AddVertex(slot, integer_of(at, value, noted)),
-        Entity::Unclear => nothing(),
-        _ => wrong(at, noted),
+        Entity::SetVariable(slot) => StatementKind::AddVertex(
+            slot,
+            integer_of(at, value, first_fault),
+        ),
+        Entity::Error => nothing(),
+        _ => wrong(at, first_fault),
     }
 }
 
@@ -264,29 +293,29 @@ pub(crate) fn print(
     scope: &Scope,
     at: usize,
     value: &Expression,
-    noted: &mut Option<Fault>,
-) -> Result<Action, AllocError>
-    ensures { Notes action_tree noted.old noted.new result (print_statement scope.now at value.now) }
+    first_fault: &mut Option<Fault>,
+) -> Result<StatementKind, AllocError>
+    ensures { ReportsFaults action_tree first_fault.old first_fault.new result (print_statement scope.now at value.now) }
 {
-    let value = type_expression(alloc, scope, at, value, noted)?;
-    Ok(print_value(at, value, noted))
+    let value = type_expression(alloc, scope, at, value, first_fault)?;
+    Ok(print_value(at, value, first_fault))
 }
 
-fn print_value(at: usize, value: Value, noted: &mut Option<Fault>) -> Action
-    ensures { outcome noted.old (printed at (value_tree value)) ≡ (action_tree result, noted.new) }
+fn print_value(at: usize, value: Value, first_fault: &mut Option<Fault>) -> StatementKind
+    ensures { outcome first_fault.old (printed at (value_tree value)) ≡ (action_tree result, first_fault.new) }
 {
-    if value.is_faulty() {
+    if value.is_error() {
         return nothing();
     }
     if value.is_condition() {
         return match value.into_condition() {
-            Some(c) => Action::PrintCondition(c),
+            Some(c) => StatementKind::PrintCondition(c),
             None => nothing(),
         };
     }
     match value.into_integer() {
-        Some(e) => Action::PrintInteger(e),
-        None => wrong(at, noted),
+        Some(e) => StatementKind::PrintInteger(e),
+        None => wrong(at, first_fault),
     }
 }
 
@@ -297,15 +326,15 @@ pub(crate) fn apply(
     target: &Name,
     ends: &Ends,
     function: &Name,
-    noted: &mut Option<Fault>,
-) -> Action
-    ensures { outcome noted.old (apply_statement scope.now at target.now (ends_tree ends.now) function.now) ≡ (action_tree result, noted.new) }
+    first_fault: &mut Option<Fault>,
+) -> StatementKind
+    ensures { outcome first_fault.old (apply_statement scope.now at target.now (ends_tree ends.now) function.now) ≡ (action_tree result, first_fault.new) }
 {
-    let on = entity(scope, target, noted);
-    let from = read_end(scope, &ends.from, noted);
-    let to = read_end(scope, &ends.to, noted);
-    let function = entity(scope, function, noted);
-    apply_to(at, on, from, to, has_ends(ends), function, noted)
+    let on = entity(scope, target, first_fault);
+    let from = read_end(scope, &ends.from, first_fault);
+    let to = read_end(scope, &ends.to, first_fault);
+    let function = entity(scope, function, first_fault);
+    apply_to(at, on, from, to, has_ends(ends), function, first_fault)
 }
 
 /// Whether an end is written.
@@ -318,66 +347,71 @@ fn has_ends(ends: &Ends) -> bool
 fn apply_to(
     at: usize,
     target: Entity,
-    from: End,
-    to: End,
+    from: ApplyEnd,
+    to: ApplyEnd,
     has_ends: bool,
     function: Entity,
-    noted: &mut Option<Fault>,
-) -> Action
-    ensures { outcome noted.old (applied at target (end_tree from) (end_tree to) has_ends function) ≡ (action_tree result, noted.new) }
+    first_fault: &mut Option<Fault>,
+) -> StatementKind
+    ensures { outcome first_fault.old (applied at target (apply_end_tree from) (apply_end_tree to) has_ends function) ≡ (action_tree result, first_fault.new) }
 {
-    if is_unclear_entity(target) {
+    if is_error_entity(target) {
         return nothing();
     }
     if is_edges_entity(target) {
         if is_one_wrong(from, to) {
-            return wrong(at, noted);
+            return wrong(at, first_fault);
         }
-        return apply_to_edges(at, from, to, function, noted);
+        return apply_to_edges(at, from, to, function, first_fault);
     }
     match set_named(target) {
-        Some(slot) if !has_ends => apply_to_set(at, slot, function, noted),
-        _ => wrong(at, noted),
+        Some(slot) if !has_ends => apply_to_set(at, slot, function, first_fault),
+        _ => wrong(at, first_fault),
     }
 }
 
 fn apply_to_edges(
     at: usize,
-    from: End,
-    to: End,
+    from: ApplyEnd,
+    to: ApplyEnd,
     function: Entity,
-    noted: &mut Option<Fault>,
-) -> Action
-    ensures { outcome noted.old (edges_applied at (end_tree from) (end_tree to) (is_unclear function) (edge_function function)) ≡ (action_tree result, noted.new) }
+    first_fault: &mut Option<Fault>,
+) -> StatementKind
+    ensures { outcome first_fault.old (edges_applied at (apply_end_tree from) (apply_end_tree to) (names_error function) (edge_function function)) ≡ (action_tree result, first_fault.new) }
 {
     match edge_function_named(function) {
         Some(place) => {
-            if from.is_unknown() || to.is_unknown() {
+            if from.is_error() || to.is_error() {
                 nothing()
             } else {
-                Action::ApplyEdges(ends_of(from, to), place)
+                StatementKind::ApplyEdges(ends_of(from, to), place)
             }
         }
         None => {
-            if is_unclear_entity(function) {
+            if is_error_entity(function) {
                 nothing()
             } else {
-                wrong(at, noted)
+                wrong(at, first_fault)
             }
         }
     }
 }
 
-fn apply_to_set(at: usize, slot: Slot, function: Entity, noted: &mut Option<Fault>) -> Action
-    ensures { outcome noted.old (vertices_applied at slot (is_unclear function) (vertex_function function)) ≡ (action_tree result, noted.new) }
+fn apply_to_set(
+    at: usize,
+    slot: VarRef,
+    function: Entity,
+    first_fault: &mut Option<Fault>,
+) -> StatementKind
+    ensures { outcome first_fault.old (vertices_applied at slot (names_error function) (vertex_function function)) ≡ (action_tree result, first_fault.new) }
 {
     match vertex_function_named(function) {
-        Some(place) => Action::ApplyVertex(slot, place),
+        Some(place) => StatementKind::ApplyVertex(slot, place),
         None => {
-            if is_unclear_entity(function) {
+            if is_error_entity(function) {
                 nothing()
             } else {
-                wrong(at, noted)
+                wrong(at, first_fault)
             }
         }
     }

@@ -1,8 +1,9 @@
-//! Statements of functions. Where one is faulty, or no function may hold it, a harmless one stands in its place.
+//! Blocks of functions: typing of their statements. Where one is faulty, or no function may hold it, a harmless one
+//! stands in its place.
 ghost use Rattle.std.specs.Prelude.{◌≡◌, OnOk};
 ghost use Rattle.syntax.specs.SourceViews.{action_tree as source_action, block_tree as source_block};
 ghost use Rattle.typed_tree.specs.StepTree.{NoStep, step_tree, steps_tree};
-ghost use Rattle.expression_types.specs.Noted.{Notes};
+ghost use Rattle.expression_types.specs.WithFaults.{ReportsFaults};
 ghost use Rattle.expression_types.specs.ScopeTree.{Keeps};
 ghost use Rattle.types.specs.Checker.{checker_of};
 ghost use Rattle.types.specs.Plain.{DeclaresNothing, HasTest, ReducesOrSetsEntry};
@@ -16,7 +17,7 @@ use crate::wanted::{condition, integer};
 use expression_types::{Entity, Fault};
 use std::alloc::{AllocError, Global};
 use syntax::{Action as Written, Expression, Name, Statement};
-use typed_tree::Step;
+use typed_tree::FunctionStatement;
 
 /// Statements in order. What they declare stays visible behind them.
 #[cycle(steps)]
@@ -24,14 +25,14 @@ pub(crate) fn steps(
     alloc: Global,
     block: &[Statement],
     checker: &mut Checker,
-    noted: &mut Option<Fault>,
-) -> Result<Vec<Step>, AllocError>
-    ensures typed { Notes (λ b. (steps_tree b.items, checker_of checker.new)) noted.old noted.new result (steps_typed (checker_of checker.old) NoStep (source_block block.now)) }
+    first_fault: &mut Option<Fault>,
+) -> Result<Vec<FunctionStatement>, AllocError>
+    ensures typed { ReportsFaults (λ b. (steps_tree b.items, checker_of checker.new)) first_fault.old first_fault.new result (steps_typed (checker_of checker.old) NoStep (source_block block.now)) }
     ensures kept { OnOk result (Keeps checker.old.scope checker.new.scope) }
 {
     let mut typed = Vec::new(alloc);
     'statements: for statement in block {
-        let next = one(alloc, statement, checker, noted)?;
+        let next = one(alloc, statement, checker, first_fault)?;
         typed.push(next)?;
     }
     Ok(typed)
@@ -43,13 +44,13 @@ fn one(
     alloc: Global,
     statement: &Statement,
     checker: &mut Checker,
-    noted: &mut Option<Fault>,
-) -> Result<Step, AllocError>
-    ensures typed { Notes (λ s. (step_tree s, checker_of checker.new)) noted.old noted.new result (labelled_step (checker_of checker.old) statement.now.label (λ c. step_typed c (source_action statement.now.action))) }
+    first_fault: &mut Option<Fault>,
+) -> Result<FunctionStatement, AllocError>
+    ensures typed { ReportsFaults (λ s. (step_tree s, checker_of checker.new)) first_fault.old first_fault.new result (labelled_step (checker_of checker.old) statement.now.label (λ c. step_typed c (source_action statement.now.action))) }
     ensures kept { OnOk result (Keeps checker.old.scope checker.new.scope) }
 {
-    let _place = label(alloc, checker, &statement.label, noted)?;
-    step(alloc, &statement.action, checker, noted)
+    let _place = label(alloc, checker, &statement.label, first_fault)?;
+    step(alloc, &statement.action, checker, first_fault)
 }
 
 /// A block of its own, behind which the names that it declares are forgotten.
@@ -58,13 +59,13 @@ fn inner(
     alloc: Global,
     block: &[Statement],
     checker: &mut Checker,
-    noted: &mut Option<Fault>,
-) -> Result<Vec<Step>, AllocError>
-    ensures typed { Notes (λ b. (steps_tree b.items, checker_of checker.new)) noted.old noted.new result (steps_inside (checker_of checker.old) (source_block block.now)) }
+    first_fault: &mut Option<Fault>,
+) -> Result<Vec<FunctionStatement>, AllocError>
+    ensures typed { ReportsFaults (λ b. (steps_tree b.items, checker_of checker.new)) first_fault.old first_fault.new result (steps_inside (checker_of checker.old) (source_block block.now)) }
     ensures kept { OnOk result (Keeps checker.old.scope checker.new.scope) }
 {
     let mark = checker.scope.mark();
-    let typed = steps(alloc, block, checker, noted)?;
+    let typed = steps(alloc, block, checker, first_fault)?;
     checker.scope.leave(mark);
     Ok(typed)
 }
@@ -75,9 +76,9 @@ fn step(
     alloc: Global,
     action: &Written,
     checker: &mut Checker,
-    noted: &mut Option<Fault>,
-) -> Result<Step, AllocError>
-    ensures typed { Notes (λ s. (step_tree s, checker_of checker.new)) noted.old noted.new result (step_typed (checker_of checker.old) (source_action action.now)) }
+    first_fault: &mut Option<Fault>,
+) -> Result<FunctionStatement, AllocError>
+    ensures typed { ReportsFaults (λ s. (step_tree s, checker_of checker.new)) first_fault.old first_fault.new result (step_typed (checker_of checker.old) (source_action action.now)) }
     ensures kept { OnOk result (Keeps checker.old.scope checker.new.scope) }
 {
     match action {
@@ -85,18 +86,18 @@ fn step(
             at,
             variable,
             initial,
-        } => declare_variable(alloc, checker, *at, variable, initial, noted),
+        } => declare_variable(alloc, checker, *at, variable, initial, first_fault),
         Written::For {
             at,
             name,
             first,
             limit,
             body,
-        } => repeat(alloc, body, *at, name, first, limit, checker, noted),
+        } => repeat(alloc, body, *at, name, first, limit, checker, first_fault),
         Written::While { .. } | Written::If { .. } | Written::IfElse { .. } => {
-            tested(alloc, action, checker, noted)
+            tested(alloc, action, checker, first_fault)
         }
-        plain => without_block(alloc, plain, checker, noted),
+        plain => without_block(alloc, plain, checker, first_fault),
     }
 }
 
@@ -106,23 +107,23 @@ fn tested(
     alloc: Global,
     action: &Written,
     checker: &mut Checker,
-    noted: &mut Option<Fault>,
-) -> Result<Step, AllocError>
+    first_fault: &mut Option<Fault>,
+) -> Result<FunctionStatement, AllocError>
     requires { HasTest action.now }
-    ensures typed { Notes (λ s. (step_tree s, checker_of checker.new)) noted.old noted.new result (step_typed (checker_of checker.old) (source_action action.now)) }
+    ensures typed { ReportsFaults (λ s. (step_tree s, checker_of checker.new)) first_fault.old first_fault.new result (step_typed (checker_of checker.old) (source_action action.now)) }
     ensures kept { OnOk result (Keeps checker.old.scope checker.new.scope) }
 {
     match action {
         Written::While { at, test, body } => {
-            let step = wrong(*at, alloc, noted);
-            let _test = condition(alloc, &checker.scope, *at, test, noted)?;
-            let _body = inner(alloc, body, checker, noted)?;
+            let step = wrong(*at, alloc, first_fault);
+            let _test = condition(alloc, &checker.scope, *at, test, first_fault)?;
+            let _body = inner(alloc, body, checker, first_fault)?;
             Ok(step)
         }
         Written::If { at, test, body } => {
-            let test = condition(alloc, &checker.scope, *at, test, noted)?;
-            let body = inner(alloc, body, checker, noted)?;
-            Ok(Step::If(test, body))
+            let test = condition(alloc, &checker.scope, *at, test, first_fault)?;
+            let body = inner(alloc, body, checker, first_fault)?;
+            Ok(FunctionStatement::If(test, body))
         }
         Written::IfElse {
             at,
@@ -130,10 +131,10 @@ fn tested(
             body,
             otherwise,
         } => {
-            let test = condition(alloc, &checker.scope, *at, test, noted)?;
-            let body = inner(alloc, body, checker, noted)?;
-            let other = inner(alloc, otherwise, checker, noted)?;
-            Ok(Step::IfElse(test, body, other))
+            let test = condition(alloc, &checker.scope, *at, test, first_fault)?;
+            let body = inner(alloc, body, checker, first_fault)?;
+            let other = inner(alloc, otherwise, checker, first_fault)?;
+            Ok(FunctionStatement::IfElse(test, body, other))
         }
         _ => unreachable!(),
     }
@@ -144,17 +145,19 @@ fn without_block(
     alloc: Global,
     action: &Written,
     checker: &mut Checker,
-    noted: &mut Option<Fault>,
-) -> Result<Step, AllocError>
+    first_fault: &mut Option<Fault>,
+) -> Result<FunctionStatement, AllocError>
     requires { DeclaresNothing action.now }
-    ensures typed { Notes (λ s. (step_tree s, checker_of checker.new)) noted.old noted.new result (step_typed (checker_of checker.old) (source_action action.now)) }
+    ensures typed { ReportsFaults (λ s. (step_tree s, checker_of checker.new)) first_fault.old first_fault.new result (step_typed (checker_of checker.old) (source_action action.now)) }
     ensures kept { checker.new.scope ≡ checker.old.scope }
 {
     match action {
-        Written::Print { at, .. } => Ok(print(*at, alloc, noted)),
-        Written::Assign { name, value } => { assign(alloc, checker, name.at(), name, value, noted) }
+        Written::Print { at, .. } => Ok(print(*at, alloc, first_fault)),
+        Written::Assign { name, value } => {
+            assign(alloc, checker, name.at(), name, value, first_fault)
+        }
         Written::AddVertex { set, vertex } => {
-            add_vertex(alloc, &checker.scope, set.at(), set, vertex, noted)
+            add_vertex(alloc, &checker.scope, set.at(), set, vertex, first_fault)
         }
         Written::Apply {
             target,
@@ -162,9 +165,17 @@ fn without_block(
             function,
         } => {
             let at = target.at();
-            Ok(apply(alloc, &checker.scope, at, target, ends, function, noted))
+            Ok(apply(
+                alloc,
+                &checker.scope,
+                at,
+                target,
+                ends,
+                function,
+                first_fault,
+            ))
         }
-        change => reduction_or_entry(alloc, change, checker, noted),
+        change => reduction_or_entry(alloc, change, checker, first_fault),
     }
 }
 
@@ -173,10 +184,10 @@ fn reduction_or_entry(
     alloc: Global,
     action: &Written,
     checker: &mut Checker,
-    noted: &mut Option<Fault>,
-) -> Result<Step, AllocError>
+    first_fault: &mut Option<Fault>,
+) -> Result<FunctionStatement, AllocError>
     requires { ReducesOrSetsEntry action.now }
-    ensures typed { Notes (λ s. (step_tree s, checker_of checker.new)) noted.old noted.new result (step_typed (checker_of checker.old) (source_action action.now)) }
+    ensures typed { ReportsFaults (λ s. (step_tree s, checker_of checker.new)) first_fault.old first_fault.new result (step_typed (checker_of checker.old) (source_action action.now)) }
     ensures kept { checker.new.scope ≡ checker.old.scope }
 {
     match action {
@@ -186,7 +197,15 @@ fn reduction_or_entry(
             value,
         } => {
             let at = name.at();
-            reduce(alloc, &checker.scope, at, name, *reduction, value, noted)
+            reduce(
+                alloc,
+                &checker.scope,
+                at,
+                name,
+                *reduction,
+                value,
+                first_fault,
+            )
         }
         Written::SetEntry {
             vector,
@@ -194,7 +213,7 @@ fn reduction_or_entry(
             value,
         } => {
             let at = vector.at();
-            set_entry(alloc, &checker.scope, at, vector, index, value, noted)
+            set_entry(alloc, &checker.scope, at, vector, index, value, first_fault)
         }
         Written::ReduceEntry {
             vector,
@@ -203,7 +222,16 @@ fn reduction_or_entry(
             value,
         } => {
             let at = vector.at();
-            reduce_entry(alloc, checker, at, vector, index, *reduction, value, noted)
+            reduce_entry(
+                alloc,
+                checker,
+                at,
+                vector,
+                index,
+                *reduction,
+                value,
+                first_fault,
+            )
         }
         _ => unreachable!(),
     }
@@ -219,18 +247,24 @@ fn repeat(
     first: &Expression,
     limit: &Expression,
     checker: &mut Checker,
-    noted: &mut Option<Fault>,
-) -> Result<Step, AllocError>
-    ensures typed { Notes (λ s. (step_tree s, checker_of checker.new)) noted.old noted.new result (no_for (checker_of checker.old) at name.now first.now limit.now (λ d. steps_typed d NoStep (source_block body.now))) }
+    first_fault: &mut Option<Fault>,
+) -> Result<FunctionStatement, AllocError>
+    ensures typed { ReportsFaults (λ s. (step_tree s, checker_of checker.new)) first_fault.old first_fault.new result (no_for (checker_of checker.old) at name.now first.now limit.now (λ d. steps_typed d NoStep (source_block body.now))) }
     ensures kept { OnOk result (Keeps checker.old.scope checker.new.scope) }
 {
-    let step = wrong(at, alloc, noted);
-    let _first = integer(alloc, &checker.scope, at, first, noted)?;
-    let _limit = integer(alloc, &checker.scope, at, limit, noted)?;
+    let step = wrong(at, alloc, first_fault);
+    let _first = integer(alloc, &checker.scope, at, first, first_fault)?;
+    let _limit = integer(alloc, &checker.scope, at, limit, first_fault)?;
     let mark = checker.scope.mark();
     let slot = checker.integer_slot();
-    declare(alloc, checker, name, Entity::LoopVariable(slot), noted)?;
-    let _body = steps(alloc, body, checker, noted)?;
+    declare(
+        alloc,
+        checker,
+        name,
+        Entity::LoopVariable(slot),
+        first_fault,
+    )?;
+    let _body = steps(alloc, body, checker, first_fault)?;
     checker.scope.leave(mark);
     Ok(step)
 }

@@ -1,4 +1,4 @@
-//! Texts and labels of a source.
+//! Texts and labels of a source without the bytes at their ends.
 ghost use Rattle.std.specs.Prelude.{◌≡◌, IfOk};
 ghost use Rattle.types.specs.Checker.{without_ends};
 

@@ -8,7 +8,7 @@ use Rattle.std.proofs.lemmas.List.FromFn.{fill_by_all, get_or-map-range_with_len
 use Rattle.std.proofs.lemmas.Nat.{div-mul-add, mod-mul-add}
 use Rattle.algorithm_meaning.specs.Value.{entry, with_entry}
 use Rattle.vectors.specs.declared.location.Location.{Location}
-use Rattle.vectors.specs.Layout.{IsHome, IsLaidOut, location_at, nowhere, number_at, own_location, vector_at, vectors_at}
+use Rattle.vectors.specs.Layout.{IsHome, IsLaidOut, StandsIn, location_at, nowhere, number_at, own_location, vector_at, vectors_at}
 use Rattle.vectors.proofs.Rows.{place_in_row}
 
 -- lists of the same items are the same
@@ -308,3 +308,43 @@ place_fits arrays ls groups laid i v hi hv =
     let row = (laid.homes i hi).row in
     let below : v * l.stride + l.first < l.vertices * l.stride = place_in_row v l.vertices l.stride l.first (l.vertices * l.stride) hv row (omega arith) in
     omega arith
+
+-- ---- vectors that are handed over
+
+-- a vector in the array of its own place is that array
+pub alone_here : (arrays : List (List ℤ)) (ls : List Location) (groups : List (List ℕ)) → IsLaidOut arrays ls groups → (i : ℕ) → i < length ls
+    → (location_at ls i).array ≡ i → vector_at arrays (location_at ls i) ≡ get_or arrays i []
+alone_here arrays ls groups laid i l at =
+    let home = laid.homes i l in
+    let here : (location_at ls i).array < length ls = omega arith in
+    let stride = home.alone here in
+    let row = home.row in
+    let first : (location_at ls i).first ≡ 0 = omega arith in
+    let whole = laid.whole i l in
+    let once : (location_at ls i).vertices ≡ (location_at ls i).vertices * 1 = omega arith in
+    let many = once ∙ ap (λ (n : ℕ). (location_at ls i).vertices * n) (sym stride) ∙ whole ∙ ap (λ (k : ℕ). length (get_or arrays k [])) at in
+    ap (vector_at arrays) (λ j. record { array = at j; first = first j; stride = stride j; vertices = many j }) ∙ own_vector arrays i
+
+-- a vector reads only its own array
+pub vector_along : (arrays now : List (List ℤ)) (l : Location) → get_or now l.array [] ≡ get_or arrays l.array [] → vector_at now l ≡ vector_at arrays l
+vector_along arrays now l same = ap (λ (xs : List ℤ). map (λ v. get_or xs (v * l.stride + l.first) (pos 0)) (range_with_len 0 l.vertices)) same
+
+-- numbers that are read one after another are the vector
+pub lane_is_vector : (arrays : List (List ℤ)) (l : Location) (f : ℕ → ℤ)
+    → ((v : ℕ) → f v ≡ (if nat_lt v l.vertices then number_at arrays l.array (v * l.stride + l.first) else pos 0)) → map f (range_with_len 0 l.vertices) ≡ vector_at arrays l
+lane_is_vector arrays l f reads =
+    let n = length-map-range_with_len f 0 l.vertices in
+    same_lists (map f (range_with_len 0 l.vertices)) (vector_at arrays l) (pos 0) (n ∙ sym (length-vector arrays l)) (λ v h.
+    let inside : v < l.vertices = omega (arith, h, n) in
+    get_or-map-range_with_len f 0 l.vertices v v (pos 0) inside (zero-add v) ∙ reads v
+    ∙ by_test (nat_lt v l.vertices) (number_at arrays l.array (v * l.stride + l.first)) (pos 0) (get_or (vector_at arrays l) v (pos 0))
+    (λ b. sym (entry_here arrays l v inside))
+    (λ b. absurd (grind (arith, nat_tests))))
+
+-- each vector stands in its array
+pub stands_in : (arrays : List (List ℤ)) (ls : List Location) (groups : List (List ℕ)) → IsLaidOut arrays ls groups → (i : ℕ) → i < length ls → StandsIn arrays (location_at ls i)
+stands_in arrays ls groups laid i l =
+    let home = laid.homes i l in
+    let known = home.known in
+    let all = laid.count in
+    record { array = omega arith; row = home.row; whole = laid.whole i l }

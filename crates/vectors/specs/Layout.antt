@@ -24,6 +24,12 @@ vector_at arrays l = map (λ v. number_at arrays l.array (v * l.stride + l.first
 abbrev pub vectors_at : List (List ℤ) → List Location → List (List ℤ)
 vectors_at arrays ls = map (vector_at arrays) ls
 
+-- the array of the location has a row for each vertex
+pub record StandsIn (arrays : List (List ℤ)) (l : Location) : Type 0 where
+  pub array : l.array < length arrays
+  pub row : l.first < l.stride
+  pub whole : l.vertices * l.stride ≡ length (slice_index_or arrays l.array [])
+
 -- the vector of this place is the only one where it stands: in the array of its place, or in the group that has it there
 pub record IsHome (groups : List (List ℕ)) (count i : ℕ) (l : Location) : Type 0 where
   pub row : l.first < l.stride

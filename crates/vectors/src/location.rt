@@ -1,7 +1,9 @@
 //! Where vectors stand.
-ghost use Rattle.std.specs.Prelude.{◌≡◌, ◌^◌, ◌<◌, ℕ, [], IfOk, length, slice_index_or, vec_len};
-ghost use Rattle.vectors.specs.Layout.{location_at, own_location};
+ghost use Rattle.std.specs.Prelude.{◌≡◌, ◌+◌, ◌*◌, ◌^◌, ◌<◌, ◌≢◌, ℕ, pos, [], IfOk, OnOk, if◌then◌else◌, length, nat_lt, slice_index_or, slice_set, vec_len};
+ghost use Rattle.vectors.specs.Lanes.{lane_entry};
+ghost use Rattle.vectors.specs.Layout.{StandsIn, location_at, number_at, own_location, vector_at, vectors_at};
 
+use crate::lane::Lane;
 use std::alloc::{AllocError, Global};
 use typed_tree::Sequence;
 
@@ -34,4 +36,70 @@ pub(crate) fn own_locations(
         })?;
     }
     Ok(locations)
+}
+
+/// The vector that stands at a location, to be read.
+pub(crate) fn lane_of(arrays: &[Sequence<i64>], location: Location) -> Lane<'_>
+    requires { StandsIn arrays.now location }
+    ensures { (v : ℕ) → lane_entry result v ≡ (if nat_lt v location.vertices then number_at arrays.now location.array (v * location.stride + location.first) else pos 0) }
+{
+    Lane {
+        numbers: arrays[location.array].as_slice(),
+        first: location.first,
+        stride: location.stride,
+        vertices: location.vertices,
+    }
+}
+
+/// A copy of it. The only error is out of memory.
+pub(crate) fn copy_vector(
+    alloc: Global,
+    arrays: &[Sequence<i64>],
+    location: Location,
+) -> Result<Sequence<i64>, AllocError>
+    requires { StandsIn arrays.now location }
+    ensures { IfOk result (λ copy. copy ≡ vector_at arrays.now location) }
+{
+    let lane = lane_of(arrays, location);
+    let mut entries = Vec::with_capacity(alloc, location.vertices)?;
+    'vertices: for vertex in 0..location.vertices {
+        entries.push(lane.get(vertex))?;
+    }
+    Ok(Sequence::new(entries))
+}
+
+/// A copy of each vector, in the order of their locations. The only error is out of memory.
+pub(crate) fn copy_vectors(
+    alloc: Global,
+    arrays: &[Sequence<i64>],
+    locations: &[Location],
+) -> Result<Vec<Sequence<i64>>, AllocError>
+    requires { (i : ℕ) → i < length locations.now → StandsIn arrays.now (location_at locations.now i) }
+    ensures { IfOk result (λ copies. copies.items ≡ vectors_at arrays.now locations.now) }
+{
+    let mut copies = Vec::new(alloc);
+    'locations: for location in locations {
+        copies.push(copy_vector(alloc, arrays, *location)?)?;
+    }
+    Ok(copies)
+}
+
+/// Puts the vector that stands at a location into the array of its own place, where it is not there. The only error is out
+/// of memory.
+pub(crate) fn move_home(
+    alloc: Global,
+    arrays: &mut Vec<Sequence<i64>>,
+    place: usize,
+    location: Location,
+) -> Result<(), AllocError>
+    requires place { place < length arrays.old.items }
+    requires stands { StandsIn arrays.old.items location }
+    ensures moved { OnOk result (location.array ≢ place → arrays.new.items ≡ slice_set arrays.old.items place (vector_at arrays.old.items location)) }
+    ensures stays { OnOk result (location.array ≡ place → arrays.new.items ≡ arrays.old.items) }
+{
+    if location.array != place {
+        let copy = copy_vector(alloc, arrays, location)?;
+        arrays[place] = copy;
+    }
+    Ok(())
 }

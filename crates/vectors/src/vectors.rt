@@ -6,7 +6,7 @@ use crate::change::{Change, Changes};
 use crate::error::GroupError;
 use crate::grouping::{copied, locate_groups, new_arrays};
 use crate::lane::Lane;
-use crate::location::{Location, own_locations};
+use crate::location::{Location, copy_vectors, lane_of, move_home, own_locations};
 use std::alloc::{AllocError, Global};
 use std::marker::Model;
 use typed_tree::Sequence;
@@ -152,6 +152,30 @@ impl Vectors {
         }
     }
 
+    /// The vectors in their order, each in an array of its own. A vector that stands alone is handed over as it is, and one
+    /// of a group is copied. The only error is out of memory.
+    pub fn into_arrays(self, alloc: Global) -> Result<Vec<Sequence<i64>>, AllocError>
+        ensures { IfOk result (λ arrays. arrays.items ≡ self.vectors) }
+    {
+        let Vectors {
+            mut arrays,
+            locations,
+            groups: _,
+        } = self;
+        'places: for place in 0..locations.len() {
+            move_home(alloc, &mut arrays, place, locations[place])?;
+        }
+        arrays.truncate(locations.len());
+        Ok(arrays)
+    }
+
+    /// A copy of the vectors in their order, each in an array of its own. The only error is out of memory.
+    pub fn to_arrays(&self, alloc: Global) -> Result<Vec<Sequence<i64>>, AllocError>
+        ensures { IfOk result (λ arrays. arrays.items ≡ self.now.vectors) }
+    {
+        copy_vectors(alloc, &self.arrays, &self.locations)
+    }
+
     /// The vector at a place; where there is none, one without entries.
     pub fn lane(&self, vector: usize) -> Lane<'_>
         ensures { (v : ℕ) → lane_entry result v ≡ entry self.now.vectors vector v }
@@ -164,12 +188,6 @@ impl Vectors {
                 vertices: 0,
             };
         }
-        let location = self.locations[vector];
-        Lane {
-            numbers: self.arrays[location.array].as_slice(),
-            first: location.first,
-            stride: location.stride,
-            vertices: location.vertices,
-        }
+        lane_of(&self.arrays, self.locations[vector])
     }
 }

@@ -3,3 +3,4 @@ pub mod Keeping
 pub mod Stepping
 pub mod Running
 pub mod Crossing
+pub mod Kept

@@ -4,3 +4,4 @@ pub mod Prepared
 pub mod Held
 pub mod Fields
 pub mod Refusal
+pub mod Kept

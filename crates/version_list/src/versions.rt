@@ -1,4 +1,4 @@
-ghost use Rattle.std.specs.Prelude.{◌≡◌, ◌+◌, ◌^◌, ◌≤◌, ◌<◌, if◌then◌else◌, IfOk, IfErr, IfSome, OnOk, List, length, vec_len, vec_capacity};
+ghost use Rattle.std.specs.Prelude.{◌≡◌, ◌+◌, ◌^◌, ◌≤◌, ◌<◌, if◌then◌else◌, IfOk, IfErr, IfSome, MatchOption, None, OnOk, List, length, vec_len, vec_capacity};
 ghost use Rattle.std.specs.Option.{option_copied};
 ghost use Rattle.indexmap.specs.IndexMap.{IsUnchanged, index_map_len};
 ghost use Rattle.tree_batch.specs.declared.batch.Entry.{Entry};
@@ -11,6 +11,7 @@ ghost use Rattle.version_list.specs.Machine.{lacks_room, newest_number, number_a
 ghost use Rattle.version_list.specs.Timeline.{IsLegal, replay, Opens, Accepts, Answers, Takes, Runs};
 ghost use Rattle.version_list.specs.Prepared.{IsPrepared, IsPreparedAcquire, Prepares};
 ghost use Rattle.version_list.specs.Held.{HasRoom};
+ghost use Rattle.version_list.specs.Kept.{IsHeld};
 
 use crate::error::VersionError;
 use crate::held::HeldVersions;
@@ -296,6 +297,19 @@ impl Versions {
         ensures made { IfSome result (λ k. k ≤ newest_number self.now.state) }
     {
         self.held.version(ticket.number)
+    }
+
+    /// The number and the graph of the version that a ticket holds, or `None` where the ticket is not
+    /// open. Takes no memory, and the time of two look-ups in maps.
+    pub fn kept(&self, ticket: Ticket) -> Option<(u64, &Graph)>
+        ensures { MatchOption result (ticket_version self.now.state.open_tickets ticket.number ≡ None)
+            (λ v. IsHeld self.now.state ticket.number v.0 v.1.now) }
+    {
+        let held = self.held.version(ticket.number)?;
+        match self.held.graph(held) {
+            Some(graph) => Some((held, graph)),
+            None => None,
+        }
     }
 
     /// Whether a version is kept: it is the newest, or an open ticket holds it. Takes no memory,

@@ -1,13 +1,14 @@
 use Rattle.std.proofs.Common.{◌≡◌, ◌++◌, ◌∙◌, List, ℕ, ap, inr, refl, subst}
 use Rattle.devices.specs.Drain.{TakesPart}
+use Rattle.plans.specs.PlanOf.{program_of}
 use Rattle.lowering.specs.Text.{text_of}
 use Rattle.driver.proofs.serving.print_plan.Goals as goal
 
 pub returns-in-Ok : goal.returns-in-Ok
 returns-in-Ok g c =
     let held = c.in_ok-plan.ensures in
-    let is : c.deref.result.now ≡ text_of held.planned.program held.planned.schedule =
-    c.deref.ensures.value ∙ c.in_ok-text.ensures held.planned.program held.planned.schedule held.planned.written in
+    let is : c.deref.result.now ≡ text_of (program_of c.in_ok-plan.plan) held.planned.schedule =
+    c.deref.ensures.value ∙ c.in_ok-text.ensures (program_of c.in_ok-plan.plan) held.planned.schedule held.planned.written in
     record {
       plan = c.in_ok-plan.plan;
       planned = held;
@@ -18,8 +19,8 @@ returns-in-Ok g c =
 pub returns : goal.returns
 returns g c =
     let held = c.in_ok-plan.ensures in
-    let is : c.deref.result.now ≡ text_of held.planned.program held.planned.schedule =
-    c.deref.ensures.value ∙ c.in_ok-text.ensures held.planned.program held.planned.schedule held.planned.written in
+    let is : c.deref.result.now ≡ text_of (program_of c.in_ok-plan.plan) held.planned.schedule =
+    c.deref.ensures.value ∙ c.in_ok-text.ensures (program_of c.in_ok-plan.plan) held.planned.schedule held.planned.written in
     inr (record {
       plan = c.in_ok-plan.plan;
       planned = held;

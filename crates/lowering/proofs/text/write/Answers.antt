@@ -1,5 +1,5 @@
 use Rattle.std.proofs.Common.{rules, ◌≡◌, ◌<◌, List, length, get_or}
-use Rattle.instructions.specs.declared.instruction.Instruction.{Instruction}
+use Rattle.plans.specs.declared.instruction.Instruction.{Instruction}
 use Rattle.lowering.specs.Text.{text_of}
 use Rattle.lowering.proofs.PlanLines.{writes_next}
 use Rattle.lowering.proofs.text.write.Goals as goal

@@ -1,5 +1,5 @@
 use Rattle.typed_tree.specs.ProgramTree.{ProgramTree}
-use Rattle.schedule.specs.Schedule.{ScheduleTree}
+use Rattle.apply_options.specs.ScheduleTree.{ScheduleTree}
 use Rattle.lowering.specs.Text.{HasText, text_of}
 use Rattle.lowering.proofs.PlanLines.{Writes}
 use Rattle.lowering.proofs.text.write.Given as goal

@@ -3,7 +3,7 @@ use Rattle.std.specs.List.{filter}
 use Rattle.std.proofs.lemmas.List.Elements.{filter-append}
 use Rattle.algorithm_meaning.specs.Filter.{result_of}
 use Rattle.kernels.specs.Kernels.{HasCells, passes_at}
-use Rattle.stack_code.specs.declared.room.Room.{Room}
+use Rattle.register_code.specs.declared.room.Room.{Room}
 use Rattle.vertex_sets.specs.VertexSet.{IsAscendingBelow}
 use Rattle.run_state.specs.Passing.{passing}
 use Rattle.run_state.proofs.Passed.{Ascends, ascending_of, ascends, kept_ascend, none_left, parts_of, passing_is}

@@ -5,5 +5,5 @@ use Rattle.run_state.proofs.show.name_vectors.Given as goal
 -- what is named, and what is still to be, are all
 abbrev pub invariant-vectors : goal.invariant-vectors
 invariant-vectors l =
-    l.named.items ++ named_vectors l.names (drop l.place l.vector-items) (drop l.place l.vectors.vectors)
-    ≡ named_vectors l.names l.vector-items l.vectors.vectors
+    l.named.items ++ named_vectors l.names (drop l.vector-index l.declared) l.left.rest.items
+    ≡ named_vectors l.names l.declared l.fn.vectors.items

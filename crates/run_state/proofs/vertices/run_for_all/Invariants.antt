@@ -2,9 +2,9 @@ use Rattle.std.proofs.Common.{◌≡◌, length}
 use Rattle.typed_tree.specs.StepTree.{StepsTree}
 use Rattle.algorithm_meaning.specs.State.{StateValue}
 use Rattle.algorithm_meaning.specs.VertexApply.{after_vertices}
-use Rattle.stack_code.specs.Cells.{HasSizes}
-use Rattle.stack_code.specs.Meaning.{IsVertexCode}
-use Rattle.stack_code.specs.declared.room.Room.{Room}
+use Rattle.register_code.specs.Cells.{HasSizes}
+use Rattle.register_code.specs.Meaning.{IsVertexCode}
+use Rattle.register_code.specs.declared.room.Room.{Room}
 use Rattle.kernels.specs.Kernels.{HasCells}
 use Rattle.vertex_sets.proofs.Ascending.{Rises}
 use Rattle.run_state.proofs.vertices.run_for_all.Given as goal

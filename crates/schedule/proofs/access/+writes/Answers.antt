@@ -2,7 +2,7 @@ use Rattle.std.proofs.Common.{ap, ◌∙◌}
 use Rattle.std.proofs.lemmas.List.{append_assoc}
 use Rattle.std.proofs.lemmas.Result.{on_ok_weaker}
 use Rattle.typed_tree.specs.StepTree.{step_tree, steps_tree}
-use Rattle.schedule.specs.Access.{steps_write}
+use Rattle.typed_tree.specs.Access.{steps_write}
 use Rattle.typed_tree.proofs.Steps.{step_tree-If, step_tree-IfElse}
 use Rattle.schedule.proofs.access.+writes.Goals as goal
 

@@ -1,6 +1,6 @@
 use Rattle.std.proofs.Common.{◌≡◌, ◌++◌, drop}
 use Rattle.typed_tree.specs.StepTree.{steps_tree}
-use Rattle.schedule.specs.Access.{steps_write}
+use Rattle.typed_tree.specs.Access.{steps_write}
 use Rattle.schedule.proofs.access.+writes.Given as goal
 
 -- what the statements so far write was put behind, and what the others write is to come

@@ -3,12 +3,13 @@ use Rattle.std.specs.Prelude.{Result, Err}
 use Rattle.typed_tree.specs.declared.program.Typed.{Typed}
 use Rattle.typed_tree.specs.declared.program.ScheduleCall.{ScheduleCall}
 use Rattle.typed_tree.specs.ProgramTree.{ProgramTree, call_tree, program_tree}
-use Rattle.schedule.specs.declared.error.Rule.{Rule}
+use Rattle.schedule.specs.declared.error.ScheduleRule.{ScheduleRule}
 use Rattle.schedule.specs.declared.error.ScheduleError.{ScheduleError}
 use Rattle.schedule.specs.declared.error.ScheduleError.TheVariants.{Faulty, NoMemory}
 use Rattle.schedule.specs.Calls.{Accepts, schedule_of, with_calls}
 use Rattle.schedule.specs.Putting.{PutsAll}
-use Rattle.schedule.specs.Schedule.{ScheduleTree, empty_schedule}
+use Rattle.apply_options.specs.ScheduleTree.{ScheduleTree}
+use Rattle.schedule.specs.Schedule.{empty_schedule}
 use Rattle.schedule.proofs.calls.accept.Goals as goal
 
 refuses : (p : ProgramTree) (error : ScheduleError) (new : ScheduleTree) → PutsAll {T = Unit {0}} (schedule_of p) (Err error) new → Accepts p (Err error)
@@ -23,4 +24,4 @@ returns c =
     ∙ (ap (λ (calls : List ScheduleCall). with_calls (program_tree tables.program.now) (map call_tree calls) empty_schedule) c.deref.ensures.value
     ∙ ap (λ (program : Typed). with_calls (program_tree program) (map call_tree c.args.program.now.schedule.items) empty_schedule) c.in_ok-tables.ensures) in
     refuses (program_tree c.args.program.now) c.in-Err.error c.put_calls.new.schedule
-    (subst (λ (outcome : Result ScheduleTree (Rule × ℕ)). PutsAll {T = Unit {0}} outcome (Err c.in-Err.error) c.put_calls.new.schedule) same c.in-Err.ensures)
+    (subst (λ (outcome : Result ScheduleTree (ScheduleRule × ℕ)). PutsAll {T = Unit {0}} outcome (Err c.in-Err.error) c.put_calls.new.schedule) same c.in-Err.ensures)

@@ -6,9 +6,9 @@ use Rattle.typed_tree.specs.ConditionTree.{condition_tree}
 use Rattle.typed_tree.specs.IntegerTree.{integer_tree}
 use Rattle.typed_tree.proofs.Blocks.{action_tree-While, action_tree-If, action_tree-IfElse, action_tree-For}
 use Rattle.expression_types.specs.declared.scope.Entity.TheVariants as entity
-use Rattle.expression_types.specs.Noted.{Notes, outcome, sure, ◌>>=◌}
+use Rattle.expression_types.specs.WithFaults.{ReportsFaults, outcome, sure, ◌>>=◌}
 use Rattle.expression_types.specs.ScopeTree.{Keeps, left}
-use Rattle.expression_types.proofs.Steps.{then_noted}
+use Rattle.expression_types.proofs.Steps.{outcome_then}
 use Rattle.types.specs.Block.{action_typed, closed, statements_typed}
 use Rattle.types.specs.Checker.{checker_of, counted, declared_in, integer_slot, labelled, with_scope}
 use Rattle.types.specs.Wanted.{integer_in}
@@ -20,30 +20,30 @@ use Rattle.types.proofs.block.+statements.Goals as goal
 pub tested-returns-in_ok-body-in-While-clause-typed : goal.tested-returns-in_ok-body-in-While-clause-typed
 tested-returns-in_ok-body-in-While-clause-typed t c =
     while_typed (checker_of c.args.checker.now) (checker_of c.inner.new.checker) c.args.action.now c.in-While.at c.in-While.test c.in-While.body c.deref.result.now
-    (condition_tree c.in_ok-test-in-While.test) (block_tree c.in_ok-body-in-While.body.items) c.args.noted.now c.condition.new.noted c.inner.new.noted
+    (condition_tree c.in_ok-test-in-While.test) (block_tree c.in_ok-body-in-While.body.items) c.args.first_fault.now c.condition.new.first_fault c.inner.new.first_fault
     c.deref.ensures.value c.in-While.is c.in_ok-test-in-While.ensures c.in_ok-body-in-While.ensures.typed
-    ∙ ap (λ a. ((a, checker_of c.inner.new.checker), c.inner.new.noted)) (sym (action_tree-While c.in_ok-test-in-While.test c.in_ok-body-in-While.body))
+    ∙ ap (λ a. ((a, checker_of c.inner.new.checker), c.inner.new.first_fault)) (sym (action_tree-While c.in_ok-test-in-While.test c.in_ok-body-in-While.body))
 
 pub tested-returns-in_ok-body-in-If-clause-typed : goal.tested-returns-in_ok-body-in-If-clause-typed
 tested-returns-in_ok-body-in-If-clause-typed t c =
     if_typed (checker_of c.args.checker.now) (checker_of c.inner-in-If.new.checker) c.args.action.now c.in-If.at c.in-If.test c.in-If.body c.deref-in-If.result.now
-    (condition_tree c.in_ok-test-in-If.test) (block_tree c.in_ok-body-in-If.body.items) c.args.noted.now c.condition-in-If.new.noted c.inner-in-If.new.noted
+    (condition_tree c.in_ok-test-in-If.test) (block_tree c.in_ok-body-in-If.body.items) c.args.first_fault.now c.condition-in-If.new.first_fault c.inner-in-If.new.first_fault
     c.deref-in-If.ensures.value c.in-If.is c.in_ok-test-in-If.ensures c.in_ok-body-in-If.ensures.typed
-    ∙ ap (λ a. ((a, checker_of c.inner-in-If.new.checker), c.inner-in-If.new.noted)) (sym (action_tree-If c.in_ok-test-in-If.test c.in_ok-body-in-If.body))
+    ∙ ap (λ a. ((a, checker_of c.inner-in-If.new.checker), c.inner-in-If.new.first_fault)) (sym (action_tree-If c.in_ok-test-in-If.test c.in_ok-body-in-If.body))
 
 pub tested-returns-in_ok-other-in-IfElse-clause-typed : goal.tested-returns-in_ok-other-in-IfElse-clause-typed
 tested-returns-in_ok-other-in-IfElse-clause-typed t c =
     if_else_typed (checker_of c.args.checker.now) (checker_of c.inner-in-IfElse.new.checker) (checker_of c.inner-in-IfElse-2.new.checker) c.args.action.now c.in-IfElse.at c.in-IfElse.test
     c.in-IfElse.body c.in-IfElse.otherwise c.deref-in-IfElse.result.now c.deref-in-IfElse-2.result.now (condition_tree c.in_ok-test-in-IfElse.test)
     (block_tree c.in_ok-body-in-IfElse.body.items) (block_tree c.in_ok-other-in-IfElse.other.items)
-    c.args.noted.now c.condition-in-IfElse.new.noted c.inner-in-IfElse.new.noted c.inner-in-IfElse-2.new.noted
+    c.args.first_fault.now c.condition-in-IfElse.new.first_fault c.inner-in-IfElse.new.first_fault c.inner-in-IfElse-2.new.first_fault
     c.deref-in-IfElse.ensures.value c.deref-in-IfElse-2.ensures.value c.in-IfElse.is c.in_ok-test-in-IfElse.ensures c.in_ok-body-in-IfElse.ensures.typed c.in_ok-other-in-IfElse.ensures.typed
-    ∙ ap (λ a. ((a, checker_of c.inner-in-IfElse-2.new.checker), c.inner-in-IfElse-2.new.noted))
+    ∙ ap (λ a. ((a, checker_of c.inner-in-IfElse-2.new.checker), c.inner-in-IfElse-2.new.first_fault))
     (sym (action_tree-IfElse c.in_ok-test-in-IfElse.test c.in_ok-body-in-IfElse.body c.in_ok-other-in-IfElse.other))
 
 pub action-returns-in-For-clause-typed : goal.action-returns-in-For-clause-typed
 action-returns-in-For-clause-typed t c =
-    subst (λ a. Notes (λ a. (action_tree a, checker_of c.repeat.new.checker)) c.args.noted.now c.repeat.new.noted c.repeat.result (action_typed (checker_of c.args.checker.now) a))
+    subst (λ a. ReportsFaults (λ a. (action_tree a, checker_of c.repeat.new.checker)) c.args.first_fault.now c.repeat.new.first_fault c.repeat.result (action_typed (checker_of c.args.checker.now) a))
     (sym (ap source_action c.in-For.is ∙ sources.action_tree-For c.in-For.at c.in-For.name c.in-For.first c.in-For.limit c.in-For.body
     ∙ ap (λ xs. source.For c.in-For.at c.in-For.name c.in-For.first c.in-For.limit (source_block xs)) (sym c.deref.ensures.value)))
     c.repeat.ensures.typed
@@ -59,28 +59,28 @@ repeat-returns-clause-typed t c =
     let d = checker_of c.declare.new.checker in
     let last = checker_of c.statements.new.checker in
     let b = block_tree c.in_ok-body.body.items in
-    let new = c.statements.new.noted in
+    let new = c.statements.new.first_fault in
     let kept = keeps_on scope c.declare.new.checker.scope c.statements.new.checker.scope c.in_ok-declare.ensures.kept c.in_ok-body.ensures.kept in
     let again = c.leave.ensures ∙ ap (λ m. left m c.statements.new.checker.scope) c.mark-mark.ensures.mark ∙ left_again scope c.statements.new.checker.scope kept in
-    then_noted c.args.noted.now c.integer.new.noted (integer_in scope at c.args.first.now) a
+    outcome_then c.args.first_fault.now c.integer.new.first_fault (integer_in scope at c.args.first.now) a
     (λ a. integer_in scope at c.args.limit.now >>= λ z. declared_in checker c.args.name.now (entity.LoopVariable (integer_slot checker)) >>= λ d. statements_typed d Empty body >>= λ b.
     sure (For (length checker.names) a z b.0, closed checker b.1)) c.in_ok-first.ensures
-    ∙ then_noted c.integer.new.noted c.integer-2.new.noted (integer_in scope at c.args.limit.now) z
+    ∙ outcome_then c.integer.new.first_fault c.integer-2.new.first_fault (integer_in scope at c.args.limit.now) z
     (λ z. declared_in checker c.args.name.now (entity.LoopVariable (integer_slot checker)) >>= λ d. statements_typed d Empty body >>= λ b.
     sure (For (length checker.names) a z b.0, closed checker b.1)) c.in_ok-limit.ensures
-    ∙ then_noted c.integer-2.new.noted c.declare.new.noted (declared_in checker c.args.name.now (entity.LoopVariable (integer_slot checker))) d
+    ∙ outcome_then c.integer-2.new.first_fault c.declare.new.first_fault (declared_in checker c.args.name.now (entity.LoopVariable (integer_slot checker))) d
     (λ d. statements_typed d Empty body >>= λ b. sure (For (length checker.names) a z b.0, closed checker b.1))
-    (subst (λ s. outcome c.integer-2.new.noted (declared_in checker c.args.name.now (entity.LoopVariable s)) ≡ (d, c.declare.new.noted)) c.integer_slot-slot.ensures c.in_ok-declare.ensures.declared)
-    ∙ then_noted c.declare.new.noted new (statements_typed d Empty body) (b, last) (λ b. sure (For (length checker.names) a z b.0, closed checker b.1)) c.in_ok-body.ensures.typed
+    (subst (λ s. outcome c.integer-2.new.first_fault (declared_in checker c.args.name.now (entity.LoopVariable s)) ≡ (d, c.declare.new.first_fault)) c.integer_slot-slot.ensures c.in_ok-declare.ensures.declared)
+    ∙ outcome_then c.declare.new.first_fault new (statements_typed d Empty body) (b, last) (λ b. sure (For (length checker.names) a z b.0, closed checker b.1)) c.in_ok-body.ensures.typed
     ∙ (λ i. ((For (ap (λ s. s.name) (sym c.integer_slot-slot.ensures) i) a z b, with_scope last (sym again i)), new))
     ∙ ap (λ x. ((x, with_scope last c.leave.new.self), new)) (sym (action_tree-For c.integer_slot-slot.result.name c.in_ok-first.first c.in_ok-limit.limit c.in_ok-body.body))
 
 pub statements-statements-preserved : goal.statements-statements-preserved
 statements-statements-preserved t c =
     let d = checker_of c.one.new.checker in
-    let new = c.one.new.noted in (
+    let new = c.one.new.first_fault in (
       c.statements.invariant.0 ∙ statement_on (checker_of c.statements.checker) d c.statements.typed.items c.in_ok-next.next c.args.block.now c.statements.statement-index c.statement-item.result
-          c.statements.noted new c.statements-test.true c.statement-item.is c.in_ok-next.ensures.typed
+          c.statements.first_fault new c.statements-test.true c.statement-item.is c.in_ok-next.ensures.typed
           ∙ ap (λ xs. outcome new (statements_typed d (block_tree xs) (source_block (drop (c.statements.statement-index + 1) c.args.block.now)))) (sym c.in_ok-push.ensures.items),
       keeps_on c.args.checker.now.scope c.statements.checker.scope c.one.new.checker.scope c.statements.invariant.1 c.in_ok-next.ensures.kept,
     )
@@ -90,9 +90,9 @@ inner-returns-clause-typed t c =
     let checker = checker_of c.args.checker.now in
     let last = checker_of c.statements.new.checker in
     let b = block_tree c.in_ok-typed.typed.items in
-    let new = c.statements.new.noted in
+    let new = c.statements.new.first_fault in
     let again = c.leave.ensures ∙ ap (λ m. left m last.scope) c.mark-mark.ensures.mark ∙ left_again checker.scope last.scope c.in_ok-typed.ensures.kept in
-    then_noted c.args.noted.now new (statements_typed checker Empty (source_block c.args.block.now)) (b, last) (λ b. sure (b.0, closed checker b.1)) c.in_ok-typed.ensures.typed
+    outcome_then c.args.first_fault.now new (statements_typed checker Empty (source_block c.args.block.now)) (b, last) (λ b. sure (b.0, closed checker b.1)) c.in_ok-typed.ensures.typed
     ∙ (λ i. ((b, with_scope last (sym again i)), new))
 
 pub inner-returns-clause-kept : goal.inner-returns-clause-kept
@@ -114,12 +114,12 @@ one-returns-clause-typed t c =
     let a = action_tree c.in_ok-action.action in
     let last = checker_of c.action.new.checker in
     let number = suc labelled_checker.statements in
-    then_noted c.args.noted.now c.label.new.noted (labelled checker c.args.statement.now.label) (place, labelled_checker)
+    outcome_then c.args.first_fault.now c.label.new.first_fault (labelled checker c.args.statement.now.label) (place, labelled_checker)
     (λ l. action_typed (counted l.1) action >>= λ a. sure (record { number = suc l.1.statements; label = l.0; action = a.0 }, a.1)) c.in_ok-label.ensures.labelled
-    ∙ then_noted c.label.new.noted c.action.new.noted (action_typed (counted labelled_checker) action) (a, last)
+    ∙ outcome_then c.label.new.first_fault c.action.new.first_fault (action_typed (counted labelled_checker) action) (a, last)
     (λ a. sure (record { number = number; label = place; action = a.0 }, a.1))
-    (subst (λ d. outcome c.label.new.noted (action_typed d action) ≡ ((a, last), c.action.new.noted)) c.in_ok-number.ensures.counted c.in_ok-action.ensures.typed)
-    ∙ (λ i. ((record { number = sym c.in_ok-number.ensures.number i; label = place; action = a }, last), c.action.new.noted))
+    (subst (λ d. outcome c.label.new.first_fault (action_typed d action) ≡ ((a, last), c.action.new.first_fault)) c.in_ok-number.ensures.counted c.in_ok-action.ensures.typed)
+    ∙ (λ i. ((record { number = sym c.in_ok-number.ensures.number i; label = place; action = a }, last), c.action.new.first_fault))
 
 pub repeat-returns-clause-kept : goal.repeat-returns-clause-kept
 repeat-returns-clause-kept t c =

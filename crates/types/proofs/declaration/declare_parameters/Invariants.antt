@@ -1,7 +1,7 @@
 use Rattle.std.proofs.Common.{◌≡◌, drop, map}
 use Rattle.syntax.specs.SourceViews.{parameter_tree}
 use Rattle.typed_tree.specs.declared.expression.Endpoint.TheVariants.{Source}
-use Rattle.expression_types.specs.Noted.{outcome}
+use Rattle.expression_types.specs.WithFaults.{outcome}
 use Rattle.expression_types.specs.ScopeTree.{Keeps}
 use Rattle.types.specs.Checker.{checker_of}
 use Rattle.types.specs.Declaration.{parameters_declared}
@@ -9,6 +9,6 @@ use Rattle.types.proofs.declaration.declare_parameters.Given as goal
 
 abbrev pub invariant-parameters : goal.invariant-parameters
 invariant-parameters l =
-    (outcome l.fn.noted (parameters_declared (checker_of l.fn.checker) Source (map parameter_tree l.parameters))
-    ≡ outcome l.noted (parameters_declared (checker_of l.checker) l.endpoint (map parameter_tree (drop l.parameter-index l.parameters))))
+    (outcome l.fn.first_fault (parameters_declared (checker_of l.fn.checker) Source (map parameter_tree l.parameters))
+    ≡ outcome l.first_fault (parameters_declared (checker_of l.checker) l.endpoint (map parameter_tree (drop l.parameter-index l.parameters))))
     × Keeps l.fn.checker.scope l.checker.scope

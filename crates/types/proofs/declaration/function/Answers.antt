@@ -1,12 +1,12 @@
 use Rattle.std.proofs.Common.{ap, subst, ◌∙◌, map, option_map}
 use Rattle.syntax.specs.SourceViews.{block_tree as source_block, parameter_tree}
 use Rattle.typed_tree.specs.StepTree.{NoStep, steps_tree}
-use Rattle.expression_types.specs.Noted.{Notes, ◌>>=◌}
+use Rattle.expression_types.specs.WithFaults.{ReportsFaults, ◌>>=◌}
 use Rattle.expression_types.specs.ScopeTree.{left}
-use Rattle.expression_types.proofs.Steps.{notes_then}
+use Rattle.expression_types.proofs.Steps.{reports_then}
 use Rattle.types.specs.Checker.{checker_of, with_scope}
 use Rattle.types.specs.Declaration.{declared_of, function_declared, kind_fits, opened}
-use Rattle.types.specs.Kind.{kind_tree}
+use Rattle.types.specs.FunctionKind.{function_kind_tree}
 use Rattle.types.specs.Step.{steps_typed}
 use Rattle.types.proofs.Kept.{left_again, keeps_on}
 use Rattle.types.proofs.declaration.function.Goals as goal
@@ -15,7 +15,7 @@ pub returns : goal.returns
 returns c =
     let d = declared_of c.args.declared.now in
     let scope = d.checker.scope in
-    let kind = kind_tree c.args.kind in
+    let kind = function_kind_tree c.args.kind in
     let ps = map parameter_tree c.args.parameters.now in
     let r = option_map parameter_tree c.args.gives.now in
     let body = source_block c.args.body.now in
@@ -23,16 +23,16 @@ returns c =
     let inner = checker_of c.open.new.checker in
     let last = checker_of c.steps.new.checker in
     let b = steps_tree c.in_ok-steps.steps.items in
-    let new = c.function_is.new.noted in
+    let new = c.function_is.new.first_fault in
     let kept = keeps_on scope c.open.new.checker.scope c.steps.new.checker.scope c.in_ok-open.ensures.kept c.in_ok-steps.ensures.kept in
     let again = c.leave.ensures ∙ ap (λ m. left m c.steps.new.checker.scope) c.mark-mark.ensures.mark ∙ left_again scope c.steps.new.checker.scope kept in
-    notes_then (λ _. declared_of c.function_is.new.declared) c.args.noted.now c.want_kind.new.noted new fits fits.value
+    reports_then (λ _. declared_of c.function_is.new.declared) c.args.first_fault.now c.want_kind.new.first_fault new fits fits.value
     (λ f. opened d.checker kind ps r >>= λ k. steps_typed k NoStep body >>= λ b. function_declared (record d { checker = with_scope b.1 scope }) kind c.args.name.now b.0)
     c.function_is.result (λ i. (fits.value, c.want_kind.ensures i))
-    (notes_then (λ _. declared_of c.function_is.new.declared) c.want_kind.new.noted c.open.new.noted new (opened d.checker kind ps r) inner
+    (reports_then (λ _. declared_of c.function_is.new.declared) c.want_kind.new.first_fault c.open.new.first_fault new (opened d.checker kind ps r) inner
     (λ k. steps_typed k NoStep body >>= λ b. function_declared (record d { checker = with_scope b.1 scope }) kind c.args.name.now b.0)
     c.function_is.result c.in_ok-open.ensures.opened
-    (notes_then (λ _. declared_of c.function_is.new.declared) c.open.new.noted c.steps.new.noted new (steps_typed inner NoStep body) (b, last)
+    (reports_then (λ _. declared_of c.function_is.new.declared) c.open.new.first_fault c.steps.new.first_fault new (steps_typed inner NoStep body) (b, last)
     (λ b. function_declared (record d { checker = with_scope b.1 scope }) kind c.args.name.now b.0) c.function_is.result c.in_ok-steps.ensures.typed
-    (subst (λ s. Notes (λ _. declared_of c.function_is.new.declared) c.steps.new.noted new c.function_is.result (function_declared (record d { checker = with_scope last s }) kind c.args.name.now b))
+    (subst (λ s. ReportsFaults (λ _. declared_of c.function_is.new.declared) c.steps.new.first_fault new c.function_is.result (function_declared (record d { checker = with_scope last s }) kind c.args.name.now b))
     again c.function_is.ensures)))

@@ -2,9 +2,9 @@ use Rattle.std.proofs.Common.{◌≡◌, ap, sym, subst, ◌∙◌, length, map,
 use Rattle.syntax.specs.SourceViews.{block_tree as source_block, parameter_tree}
 use Rattle.typed_tree.specs.BlockTree.{Empty, block_tree}
 use Rattle.expression_types.specs.declared.scope.Entity.TheVariants as entity
-use Rattle.expression_types.specs.Noted.{outcome, sure, ◌>>=◌}
+use Rattle.expression_types.specs.WithFaults.{outcome, sure, ◌>>=◌}
 use Rattle.expression_types.specs.ScopeTree.{left}
-use Rattle.expression_types.proofs.Steps.{then_noted}
+use Rattle.expression_types.proofs.Steps.{outcome_then}
 use Rattle.types.specs.Block.{statements_typed}
 use Rattle.types.specs.Checker.{checker_of, restarted, with_scope}
 use Rattle.types.specs.Declaration.{MainKind, declare_name, declared_of, opened, with_main}
@@ -26,11 +26,11 @@ returns c =
     let e = declared_of c.name_is.new.declared in
     let kept = keeps_on scope c.open.new.checker.scope c.statements.new.checker.scope c.in_ok-open.ensures.kept c.in_ok-body.ensures.kept in
     let again = c.leave.ensures ∙ ap (λ m. left m c.statements.new.checker.scope) c.mark-mark.ensures.mark ∙ left_again scope c.statements.new.checker.scope kept in
-    then_noted c.args.noted.now c.open.new.noted (opened (restarted d.checker) (MainKind fits) ps r) inner
+    outcome_then c.args.first_fault.now c.open.new.first_fault (opened (restarted d.checker) (MainKind fits) ps r) inner
     (λ k. statements_typed k Empty body >>= λ b. declare_name (record d { checker = with_scope b.1 scope }) name entity.Main >>= λ e. sure (with_main e fits b.0))
-    (subst (λ n. outcome c.args.noted.now (opened (record d.checker { statements = n }) (MainKind fits) ps r) ≡ (inner, c.open.new.noted)) (ap length c.new.ensures.items) c.in_ok-open.ensures.opened)
-    ∙ then_noted c.open.new.noted c.statements.new.noted (statements_typed inner Empty body) (b, last)
+    (subst (λ n. outcome c.args.first_fault.now (opened (record d.checker { statements = n }) (MainKind fits) ps r) ≡ (inner, c.open.new.first_fault)) (ap length c.new.ensures.items) c.in_ok-open.ensures.opened)
+    ∙ outcome_then c.open.new.first_fault c.statements.new.first_fault (statements_typed inner Empty body) (b, last)
     (λ b. declare_name (record d { checker = with_scope b.1 scope }) name entity.Main >>= λ e. sure (with_main e fits b.0)) c.in_ok-body.ensures.typed
-    ∙ then_noted c.statements.new.noted c.name_is.new.noted (declare_name (record d { checker = with_scope last scope }) name entity.Main) e (λ e. sure (with_main e fits b))
-    (subst (λ s. outcome c.statements.new.noted (declare_name (record d { checker = with_scope last s }) name entity.Main) ≡ (e, c.name_is.new.noted)) again c.in_ok-name_is.ensures)
-    ∙ ap (λ e. (e, c.name_is.new.noted)) (sym c.keep_main.ensures)
+    ∙ outcome_then c.statements.new.first_fault c.name_is.new.first_fault (declare_name (record d { checker = with_scope last scope }) name entity.Main) e (λ e. sure (with_main e fits b))
+    (subst (λ s. outcome c.statements.new.first_fault (declare_name (record d { checker = with_scope last s }) name entity.Main) ≡ (e, c.name_is.new.first_fault)) again c.in_ok-name_is.ensures)
+    ∙ ap (λ e. (e, c.name_is.new.first_fault)) (sym c.keep_main.ensures)

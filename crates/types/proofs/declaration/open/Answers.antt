@@ -1,26 +1,26 @@
 use Rattle.std.proofs.Common.{◌≡◌, ap, subst, ◌∙◌, [], map, option_map}
 use Rattle.syntax.specs.SourceViews.{parameter_tree}
 use Rattle.typed_tree.specs.declared.expression.Endpoint.TheVariants.{Source}
-use Rattle.expression_types.specs.Noted.{outcome}
+use Rattle.expression_types.specs.WithFaults.{outcome}
 use Rattle.expression_types.specs.ScopeTree.{entered}
-use Rattle.expression_types.proofs.Steps.{notes_then}
+use Rattle.expression_types.proofs.Steps.{reports_then}
 use Rattle.types.specs.Checker.{checker_of, with_scope}
 use Rattle.types.specs.Declaration.{inside_of, parameters_declared, result_declared}
-use Rattle.types.specs.Kind.{kind_tree}
+use Rattle.types.specs.FunctionKind.{function_kind_tree}
 use Rattle.types.specs.Step.{with_writes}
 use Rattle.types.proofs.declaration.open.Goals as goal
 
 pub returns-clause-opened : goal.returns-clause-opened
 returns-clause-opened c =
     let checker = checker_of c.args.checker.now in
-    let kind = kind_tree c.args.kind in
+    let kind = function_kind_tree c.args.kind in
     let ps = map parameter_tree c.args.parameters.now in
     let d = checker_of c.declare_parameters.new.checker in
-    let new = c.declare_parameters.new.noted in
+    let new = c.declare_parameters.new.first_fault in
     let inside : c.enter.new.self ≡ entered (inside_of kind) checker.scope = c.enter.ensures ∙ ap (λ i. entered i checker.scope) c.inside.ensures in
-    notes_then (λ _. checker_of c.declare_result.new.checker) c.args.noted.now new c.declare_result.new.noted
+    reports_then (λ _. checker_of c.declare_result.new.checker) c.args.first_fault.now new c.declare_result.new.first_fault
     (parameters_declared (with_writes (with_scope checker (entered (inside_of kind) checker.scope)) []) Source ps) d
     (λ d. result_declared d kind (option_map parameter_tree c.args.gives.now)) c.declare_result.result
-    (subst (λ s. outcome c.args.noted.now (parameters_declared (with_writes (with_scope checker s) []) Source ps) ≡ (d, new)) inside
-    (subst (λ ws. outcome c.args.noted.now (parameters_declared (with_writes (with_scope checker c.enter.new.self) ws) Source ps) ≡ (d, new)) c.new.ensures
+    (subst (λ s. outcome c.args.first_fault.now (parameters_declared (with_writes (with_scope checker s) []) Source ps) ≡ (d, new)) inside
+    (subst (λ ws. outcome c.args.first_fault.now (parameters_declared (with_writes (with_scope checker c.enter.new.self) ws) Source ps) ≡ (d, new)) c.new.ensures
     c.in_ok-declare_parameters.ensures.declared)) c.declare_result.ensures.declared

@@ -1,5 +1,5 @@
 use Rattle.std.proofs.Common.{false, ap, ◌∙◌}
-use Rattle.typed_tree.specs.declared.expression.Condition.TheVariants as condition
+use Rattle.typed_tree.specs.declared.expression.BoolExpression.TheVariants as condition
 use Rattle.typed_tree.specs.ConditionTree.{Literal}
 use Rattle.typed_tree.specs.StepTree.{If, steps_tree}
 use Rattle.typed_tree.proofs.Steps.{step_tree-If}

@@ -1,8 +1,8 @@
 use Rattle.std.proofs.Common.{◌∙◌}
 use Rattle.expression_types.specs.Expression.{used, value_of}
-use Rattle.expression_types.specs.Noted.{◌>>=◌}
+use Rattle.expression_types.specs.WithFaults.{◌>>=◌}
 use Rattle.expression_types.specs.ValueTree.{value_tree}
-use Rattle.expression_types.proofs.Steps.{then_noted}
+use Rattle.expression_types.proofs.Steps.{outcome_then}
 use Rattle.types.specs.Step.{reduced_step}
 use Rattle.types.proofs.function.reduce.Goals as goal
 
@@ -12,6 +12,6 @@ returns c =
     let at = c.args.at in
     let n = c.entity-entity.result in
     let v = value_tree c.in_ok-value.value in
-    then_noted c.args.noted.now c.entity-entity.new.noted (used scope c.args.name.now) n (λ n. value_of scope at c.args.value.now >>= λ v. reduced_step at c.args.by v n) c.entity-entity.ensures
-    ∙ then_noted c.entity-entity.new.noted c.type_expression.new.noted (value_of scope at c.args.value.now) v (λ v. reduced_step at c.args.by v n) c.in_ok-value.ensures
+    outcome_then c.args.first_fault.now c.entity-entity.new.first_fault (used scope c.args.name.now) n (λ n. value_of scope at c.args.value.now >>= λ v. reduced_step at c.args.by v n) c.entity-entity.ensures
+    ∙ outcome_then c.entity-entity.new.first_fault c.type_expression.new.first_fault (value_of scope at c.args.value.now) v (λ v. reduced_step at c.args.by v n) c.in_ok-value.ensures
     ∙ c.reduce_value.ensures

@@ -2,8 +2,8 @@ use Rattle.std.proofs.Common.{◌≡◌, ap, sym, subst, ◌∙◌, map}
 use Rattle.syntax.specs.SourceViews.{declaration_tree, source_tree}
 use Rattle.typed_tree.specs.BlockTree.{block_tree}
 use Rattle.typed_tree.specs.ProgramTree.{call_tree}
-use Rattle.expression_types.specs.Noted.{outcome, sure, ◌>>=◌}
-use Rattle.expression_types.proofs.Steps.{then_noted}
+use Rattle.expression_types.specs.WithFaults.{outcome, sure, ◌>>=◌}
+use Rattle.expression_types.proofs.Steps.{outcome_then}
 use Rattle.types.specs.Declaration.{declarations_typed, declared_of}
 use Rattle.types.specs.Program.{main_of, opening, program_tree_of, schedule_calls, set_count}
 use Rattle.types.proofs.program.type_source.Goals as goal
@@ -15,15 +15,15 @@ returns c =
     let d = declared_of c.declare_all.new.declared in
     let main = block_tree c.main_in-main.result.items in
     let calls = schedule_calls source.schedule in
-    let n = c.declare_all.new.noted in
-    let m = c.main_in-main.new.noted in
+    let n = c.declare_all.new.first_fault in
+    let m = c.main_in-main.new.first_fault in
     let opened : declared_of c.empty-declared.result ≡ opening (set_count source.declarations) =
     c.empty-declared.ensures ∙ ap opening (c.count_sets.ensures.count ∙ ap (λ xs. set_count (map declaration_tree xs)) c.deref.ensures.value) in
-    let declared : outcome c.args.noted.now (declarations_typed (opening (set_count source.declarations)) source.declarations) ≡ (d, n) =
-    subst (λ o. outcome c.args.noted.now (declarations_typed o source.declarations) ≡ (d, n)) opened
-    (subst (λ xs. outcome c.args.noted.now (declarations_typed (declared_of c.empty-declared.result) (map declaration_tree xs)) ≡ (d, n)) c.deref-2.ensures.value c.in_ok-declare_all.ensures) in
-    then_noted c.args.noted.now n (declarations_typed (opening (set_count source.declarations)) source.declarations) d
+    let declared : outcome c.args.first_fault.now (declarations_typed (opening (set_count source.declarations)) source.declarations) ≡ (d, n) =
+    subst (λ o. outcome c.args.first_fault.now (declarations_typed o source.declarations) ≡ (d, n)) opened
+    (subst (λ xs. outcome c.args.first_fault.now (declarations_typed (declared_of c.empty-declared.result) (map declaration_tree xs)) ≡ (d, n)) c.deref-2.ensures.value c.in_ok-declare_all.ensures) in
+    outcome_then c.args.first_fault.now n (declarations_typed (opening (set_count source.declarations)) source.declarations) d
     (λ d. main_of length d.main >>= λ main. sure (program_tree_of d main calls)) declared
-    ∙ then_noted n m (main_of length d.main) main (λ main. sure (program_tree_of d main calls)) c.main_in-main.ensures.main
+    ∙ outcome_then n m (main_of length d.main) main (λ main. sure (program_tree_of d main calls)) c.main_in-main.ensures.main
     ∙ ap (λ p. (p, m)) (sym (c.into_program.ensures
     ∙ ap (λ e. program_tree_of e main (map call_tree c.in_ok-schedule.schedule.items)) c.main_in-main.ensures.others ∙ ap (program_tree_of d main) c.in_ok-schedule.ensures))

@@ -1,15 +1,15 @@
 use Rattle.syntax.specs.SourceViews.{initial_tree}
 use Rattle.typed_tree.specs.BlockTree.{action_tree}
-use Rattle.expression_types.proofs.Steps.{notes_then}
+use Rattle.expression_types.proofs.Steps.{reports_then}
 use Rattle.types.specs.Checker.{checker_of}
-use Rattle.types.specs.Given.{given_tree}
-use Rattle.types.specs.Initial.{given_by}
+use Rattle.types.specs.Initializer.{initializer_tree}
+use Rattle.types.specs.Initial.{initializer_of}
 use Rattle.types.specs.Statement.{declare_as}
 use Rattle.types.proofs.statement.declare_variable.Goals as goal
 
 pub returns-clause-typed : goal.returns-clause-typed
 returns-clause-typed c =
-    notes_then (λ a. (action_tree a, checker_of c.declare_given.new.checker)) c.args.noted.now c.read_initial.new.noted c.declare_given.new.noted
-    (given_by (checker_of c.args.checker.now) c.args.at (initial_tree c.args.initial.now)) (given_tree c.in_ok-given.given)
-    (λ given. declare_as (checker_of c.args.checker.now) c.args.at c.args.variable.now.name given c.args.variable.now.declared) c.declare_given.result
-    c.in_ok-given.ensures c.declare_given.ensures.typed
+    reports_then (λ a. (action_tree a, checker_of c.declare_initialized.new.checker)) c.args.first_fault.now c.read_initial.new.first_fault c.declare_initialized.new.first_fault
+    (initializer_of (checker_of c.args.checker.now) c.args.at (initial_tree c.args.initial.now)) (initializer_tree c.in_ok-initializer.initializer)
+    (λ initializer. declare_as (checker_of c.args.checker.now) c.args.at c.args.variable.now.name initializer c.args.variable.now.declared) c.declare_initialized.result
+    c.in_ok-initializer.ensures c.declare_initialized.ensures.typed

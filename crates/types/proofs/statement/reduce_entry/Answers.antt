@@ -2,9 +2,9 @@ use Rattle.std.proofs.Common.{sym, ◌∙◌}
 use Rattle.typed_tree.specs.IntegerTree.{integer_tree}
 use Rattle.std.specs.Option.{option_map}
 use Rattle.expression_types.specs.Expression.{value_of, vector_place}
-use Rattle.expression_types.specs.Noted.{sure, ◌>>=◌}
+use Rattle.expression_types.specs.WithFaults.{sure, ◌>>=◌}
 use Rattle.expression_types.specs.ValueTree.{value_tree}
-use Rattle.expression_types.proofs.Steps.{then_noted}
+use Rattle.expression_types.proofs.Steps.{outcome_then}
 use Rattle.types.specs.Statement.{entry_reduced}
 use Rattle.types.specs.Wanted.{as_index, integer_in}
 use Rattle.types.proofs.statement.reduce_entry.Goals as goal
@@ -17,8 +17,8 @@ returns c =
     let v = value_tree c.in_ok-index.index in
     let i = option_map integer_tree c.index_of-index.result in
     let x = integer_tree c.in_ok-value.value in
-    then_noted c.args.noted.now c.vector-vector.new.noted (vector_place scope at c.args.name.now) vector (λ vector. value_of scope at c.args.index.now >>= λ v. as_index at v >>= λ i. integer_in scope at c.args.value.now >>= λ x. sure (entry_reduced vector i c.args.by x)) c.vector-vector.ensures
-    ∙ then_noted c.vector-vector.new.noted c.type_expression.new.noted (value_of scope at c.args.index.now) v (λ v. as_index at v >>= λ i. integer_in scope at c.args.value.now >>= λ x. sure (entry_reduced vector i c.args.by x)) c.in_ok-index.ensures
-    ∙ then_noted c.type_expression.new.noted c.index_of-index.new.noted (as_index at v) i (λ i. integer_in scope at c.args.value.now >>= λ x. sure (entry_reduced vector i c.args.by x)) c.index_of-index.ensures
-    ∙ then_noted c.index_of-index.new.noted c.integer.new.noted (integer_in scope at c.args.value.now) x (λ x. sure (entry_reduced vector i c.args.by x)) c.in_ok-value.ensures
-    ∙ (λ j. (sym c.reducing.ensures j, c.integer.new.noted))
+    outcome_then c.args.first_fault.now c.vector-vector.new.first_fault (vector_place scope at c.args.name.now) vector (λ vector. value_of scope at c.args.index.now >>= λ v. as_index at v >>= λ i. integer_in scope at c.args.value.now >>= λ x. sure (entry_reduced vector i c.args.by x)) c.vector-vector.ensures
+    ∙ outcome_then c.vector-vector.new.first_fault c.type_expression.new.first_fault (value_of scope at c.args.index.now) v (λ v. as_index at v >>= λ i. integer_in scope at c.args.value.now >>= λ x. sure (entry_reduced vector i c.args.by x)) c.in_ok-index.ensures
+    ∙ outcome_then c.type_expression.new.first_fault c.index_of-index.new.first_fault (as_index at v) i (λ i. integer_in scope at c.args.value.now >>= λ x. sure (entry_reduced vector i c.args.by x)) c.index_of-index.ensures
+    ∙ outcome_then c.index_of-index.new.first_fault c.integer.new.first_fault (integer_in scope at c.args.value.now) x (λ x. sure (entry_reduced vector i c.args.by x)) c.in_ok-value.ensures
+    ∙ (λ j. (sym c.reducing.ensures j, c.integer.new.first_fault))

@@ -5,11 +5,11 @@ use Rattle.typed_tree.specs.StepTree.{NoStep, step_tree, steps_tree}
 use Rattle.typed_tree.specs.ConditionTree.{condition_tree}
 use Rattle.typed_tree.specs.IntegerTree.{integer_tree}
 use Rattle.typed_tree.proofs.Steps.{step_tree-If, step_tree-IfElse}
-use Rattle.expression_types.specs.declared.fault.Rule.TheVariants as rule
+use Rattle.expression_types.specs.declared.fault.TypeRule.TheVariants as rule
 use Rattle.expression_types.specs.declared.scope.Entity.TheVariants as entity
-use Rattle.expression_types.specs.Noted.{Notes, fault_at, outcome, sure, ◌>>=◌}
+use Rattle.expression_types.specs.WithFaults.{ReportsFaults, fault_at, outcome, sure, ◌>>=◌}
 use Rattle.expression_types.specs.ScopeTree.{left}
-use Rattle.expression_types.proofs.Steps.{then_noted}
+use Rattle.expression_types.proofs.Steps.{outcome_then}
 use Rattle.types.specs.Step.{no_step, step_typed, steps_behind, steps_typed}
 use Rattle.types.specs.Checker.{checker_of, declared_in, integer_slot, with_scope}
 use Rattle.types.specs.Wanted.{integer_in}
@@ -21,30 +21,30 @@ use Rattle.types.proofs.step.+steps.Goals as goal
 pub tested-returns-in_ok-_body-in-While-clause-typed : goal.tested-returns-in_ok-_body-in-While-clause-typed
 tested-returns-in_ok-_body-in-While-clause-typed t c =
     while_step (checker_of c.args.checker.now) (checker_of c.inner.new.checker) c.args.action.now c.in-While.at c.in-While.test c.in-While.body c.deref.result.now
-    (condition_tree c.in_ok-_test-in-While._test) (steps_tree c.in_ok-_body-in-While._body.items) c.args.noted.now c.wrong-step.new.noted c.condition.new.noted c.inner.new.noted
-    c.deref.ensures.value c.in-While.is c.wrong-step.ensures.noted c.in_ok-_test-in-While.ensures c.in_ok-_body-in-While.ensures.typed
-    ∙ ap (λ s. ((s, checker_of c.inner.new.checker), c.inner.new.noted)) (sym c.wrong-step.ensures.step)
+    (condition_tree c.in_ok-_test-in-While._test) (steps_tree c.in_ok-_body-in-While._body.items) c.args.first_fault.now c.wrong-step.new.first_fault c.condition.new.first_fault c.inner.new.first_fault
+    c.deref.ensures.value c.in-While.is c.wrong-step.ensures.first_fault c.in_ok-_test-in-While.ensures c.in_ok-_body-in-While.ensures.typed
+    ∙ ap (λ s. ((s, checker_of c.inner.new.checker), c.inner.new.first_fault)) (sym c.wrong-step.ensures.step)
 
 pub tested-returns-in_ok-body-in-If-clause-typed : goal.tested-returns-in_ok-body-in-If-clause-typed
 tested-returns-in_ok-body-in-If-clause-typed t c =
     if_step (checker_of c.args.checker.now) (checker_of c.inner-in-If.new.checker) c.args.action.now c.in-If.at c.in-If.test c.in-If.body c.deref-in-If.result.now
-    (condition_tree c.in_ok-test-in-If.test) (steps_tree c.in_ok-body-in-If.body.items) c.args.noted.now c.condition-in-If.new.noted c.inner-in-If.new.noted
+    (condition_tree c.in_ok-test-in-If.test) (steps_tree c.in_ok-body-in-If.body.items) c.args.first_fault.now c.condition-in-If.new.first_fault c.inner-in-If.new.first_fault
     c.deref-in-If.ensures.value c.in-If.is c.in_ok-test-in-If.ensures c.in_ok-body-in-If.ensures.typed
-    ∙ ap (λ a. ((a, checker_of c.inner-in-If.new.checker), c.inner-in-If.new.noted)) (sym (step_tree-If c.in_ok-test-in-If.test c.in_ok-body-in-If.body))
+    ∙ ap (λ a. ((a, checker_of c.inner-in-If.new.checker), c.inner-in-If.new.first_fault)) (sym (step_tree-If c.in_ok-test-in-If.test c.in_ok-body-in-If.body))
 
 pub tested-returns-in_ok-other-in-IfElse-clause-typed : goal.tested-returns-in_ok-other-in-IfElse-clause-typed
 tested-returns-in_ok-other-in-IfElse-clause-typed t c =
     if_else_step (checker_of c.args.checker.now) (checker_of c.inner-in-IfElse.new.checker) (checker_of c.inner-in-IfElse-2.new.checker) c.args.action.now c.in-IfElse.at c.in-IfElse.test
     c.in-IfElse.body c.in-IfElse.otherwise c.deref-in-IfElse.result.now c.deref-in-IfElse-2.result.now (condition_tree c.in_ok-test-in-IfElse.test)
     (steps_tree c.in_ok-body-in-IfElse.body.items) (steps_tree c.in_ok-other-in-IfElse.other.items)
-    c.args.noted.now c.condition-in-IfElse.new.noted c.inner-in-IfElse.new.noted c.inner-in-IfElse-2.new.noted
+    c.args.first_fault.now c.condition-in-IfElse.new.first_fault c.inner-in-IfElse.new.first_fault c.inner-in-IfElse-2.new.first_fault
     c.deref-in-IfElse.ensures.value c.deref-in-IfElse-2.ensures.value c.in-IfElse.is c.in_ok-test-in-IfElse.ensures c.in_ok-body-in-IfElse.ensures.typed c.in_ok-other-in-IfElse.ensures.typed
-    ∙ ap (λ a. ((a, checker_of c.inner-in-IfElse-2.new.checker), c.inner-in-IfElse-2.new.noted))
+    ∙ ap (λ a. ((a, checker_of c.inner-in-IfElse-2.new.checker), c.inner-in-IfElse-2.new.first_fault))
     (sym (step_tree-IfElse c.in_ok-test-in-IfElse.test c.in_ok-body-in-IfElse.body c.in_ok-other-in-IfElse.other))
 
 pub step-returns-in-For-clause-typed : goal.step-returns-in-For-clause-typed
 step-returns-in-For-clause-typed t c =
-    subst (λ a. Notes (λ s. (step_tree s, checker_of c.repeat.new.checker)) c.args.noted.now c.repeat.new.noted c.repeat.result (step_typed (checker_of c.args.checker.now) a))
+    subst (λ a. ReportsFaults (λ s. (step_tree s, checker_of c.repeat.new.checker)) c.args.first_fault.now c.repeat.new.first_fault c.repeat.result (step_typed (checker_of c.args.checker.now) a))
     (sym (ap source_action c.in-For.is ∙ sources.action_tree-For c.in-For.at c.in-For.name c.in-For.first c.in-For.limit c.in-For.body
     ∙ ap (λ xs. source.For c.in-For.at c.in-For.name c.in-For.first c.in-For.limit (source_block xs)) (sym c.deref.ensures.value)))
     c.repeat.ensures.typed
@@ -60,30 +60,30 @@ repeat-returns-clause-typed t c =
     let d = checker_of c.declare.new.checker in
     let last = checker_of c.steps.new.checker in
     let b = steps_tree c.in_ok-_body._body.items in
-    let new = c.steps.new.noted in
+    let new = c.steps.new.first_fault in
     let kept = keeps_on scope c.declare.new.checker.scope c.steps.new.checker.scope c.in_ok-declare.ensures.kept c.in_ok-_body.ensures.kept in
     let again = c.leave.ensures ∙ ap (λ m. left m c.steps.new.checker.scope) c.mark-mark.ensures.mark ∙ left_again scope c.steps.new.checker.scope kept in
-    then_noted c.args.noted.now c.wrong-step.new.noted (fault_at at rule.WrongType no_step) no_step
+    outcome_then c.args.first_fault.now c.wrong-step.new.first_fault (fault_at at rule.WrongType no_step) no_step
     (λ s. integer_in scope at c.args.first.now >>= λ a. integer_in scope at c.args.limit.now >>= λ z. declared_in checker c.args.name.now (entity.LoopVariable (integer_slot checker)) >>= λ d.
-    steps_typed d NoStep body >>= λ b. sure (s, steps_behind checker b.1)) (ap (λ n. (no_step, n)) (sym c.wrong-step.ensures.noted))
-    ∙ then_noted c.wrong-step.new.noted c.integer.new.noted (integer_in scope at c.args.first.now) a
+    steps_typed d NoStep body >>= λ b. sure (s, steps_behind checker b.1)) (ap (λ n. (no_step, n)) (sym c.wrong-step.ensures.first_fault))
+    ∙ outcome_then c.wrong-step.new.first_fault c.integer.new.first_fault (integer_in scope at c.args.first.now) a
     (λ a. integer_in scope at c.args.limit.now >>= λ z. declared_in checker c.args.name.now (entity.LoopVariable (integer_slot checker)) >>= λ d. steps_typed d NoStep body >>= λ b.
     sure (no_step, steps_behind checker b.1)) c.in_ok-_first.ensures
-    ∙ then_noted c.integer.new.noted c.integer-2.new.noted (integer_in scope at c.args.limit.now) z
+    ∙ outcome_then c.integer.new.first_fault c.integer-2.new.first_fault (integer_in scope at c.args.limit.now) z
     (λ z. declared_in checker c.args.name.now (entity.LoopVariable (integer_slot checker)) >>= λ d. steps_typed d NoStep body >>= λ b.
     sure (no_step, steps_behind checker b.1)) c.in_ok-_limit.ensures
-    ∙ then_noted c.integer-2.new.noted c.declare.new.noted (declared_in checker c.args.name.now (entity.LoopVariable (integer_slot checker))) d
+    ∙ outcome_then c.integer-2.new.first_fault c.declare.new.first_fault (declared_in checker c.args.name.now (entity.LoopVariable (integer_slot checker))) d
     (λ d. steps_typed d NoStep body >>= λ b. sure (no_step, steps_behind checker b.1))
-    (subst (λ s. outcome c.integer-2.new.noted (declared_in checker c.args.name.now (entity.LoopVariable s)) ≡ (d, c.declare.new.noted)) c.integer_slot-slot.ensures c.in_ok-declare.ensures.declared)
-    ∙ then_noted c.declare.new.noted new (steps_typed d NoStep body) (b, last) (λ b. sure (no_step, steps_behind checker b.1)) c.in_ok-_body.ensures.typed
+    (subst (λ s. outcome c.integer-2.new.first_fault (declared_in checker c.args.name.now (entity.LoopVariable s)) ≡ (d, c.declare.new.first_fault)) c.integer_slot-slot.ensures c.in_ok-declare.ensures.declared)
+    ∙ outcome_then c.declare.new.first_fault new (steps_typed d NoStep body) (b, last) (λ b. sure (no_step, steps_behind checker b.1)) c.in_ok-_body.ensures.typed
     ∙ (λ i. ((sym c.wrong-step.ensures.step i, with_scope last (sym again i)), new))
 
 pub steps-statements-preserved : goal.steps-statements-preserved
 steps-statements-preserved t c =
     let d = checker_of c.one.new.checker in
-    let new = c.one.new.noted in (
+    let new = c.one.new.first_fault in (
       c.statements.invariant.0 ∙ step_on (checker_of c.statements.checker) d c.statements.typed.items c.in_ok-next.next c.args.block.now c.statements.statement-index c.statement-item.result
-          c.statements.noted new c.statements-test.true c.statement-item.is c.in_ok-next.ensures.typed
+          c.statements.first_fault new c.statements-test.true c.statement-item.is c.in_ok-next.ensures.typed
           ∙ ap (λ xs. outcome new (steps_typed d (steps_tree xs) (source_block (drop (c.statements.statement-index + 1) c.args.block.now)))) (sym c.in_ok-push.ensures.items),
       keeps_on c.args.checker.now.scope c.statements.checker.scope c.one.new.checker.scope c.statements.invariant.1 c.in_ok-next.ensures.kept,
     )
@@ -93,9 +93,9 @@ inner-returns-clause-typed t c =
     let checker = checker_of c.args.checker.now in
     let last = checker_of c.steps.new.checker in
     let b = steps_tree c.in_ok-typed.typed.items in
-    let new = c.steps.new.noted in
+    let new = c.steps.new.first_fault in
     let again = c.leave.ensures ∙ ap (λ m. left m last.scope) c.mark-mark.ensures.mark ∙ left_again checker.scope last.scope c.in_ok-typed.ensures.kept in
-    then_noted c.args.noted.now new (steps_typed checker NoStep (source_block c.args.block.now)) (b, last) (λ b. sure (b.0, steps_behind checker b.1)) c.in_ok-typed.ensures.typed
+    outcome_then c.args.first_fault.now new (steps_typed checker NoStep (source_block c.args.block.now)) (b, last) (λ b. sure (b.0, steps_behind checker b.1)) c.in_ok-typed.ensures.typed
     ∙ (λ i. ((b, with_scope last (sym again i)), new))
 
 pub inner-returns-clause-kept : goal.inner-returns-clause-kept

@@ -1,7 +1,7 @@
 use Rattle.std.proofs.Common.{◌≡◌, drop}
 use Rattle.syntax.specs.SourceViews.{block_tree as source_block}
 use Rattle.typed_tree.specs.StepTree.{NoStep, steps_tree}
-use Rattle.expression_types.specs.Noted.{outcome}
+use Rattle.expression_types.specs.WithFaults.{outcome}
 use Rattle.expression_types.specs.ScopeTree.{Keeps}
 use Rattle.types.specs.Step.{steps_typed}
 use Rattle.types.specs.Checker.{checker_of}
@@ -10,6 +10,6 @@ use Rattle.types.proofs.step.+steps.Given as goal
 -- what the statements that are left give behind those so far is what all give
 abbrev pub invariant-steps-statements : goal.invariant-steps-statements
 invariant-steps-statements l =
-    (outcome l.fn.noted (steps_typed (checker_of l.fn.checker) NoStep (source_block l.block))
-    ≡ outcome l.noted (steps_typed (checker_of l.checker) (steps_tree l.typed.items) (source_block (drop l.statement-index l.block))))
+    (outcome l.fn.first_fault (steps_typed (checker_of l.fn.checker) NoStep (source_block l.block))
+    ≡ outcome l.first_fault (steps_typed (checker_of l.checker) (steps_tree l.typed.items) (source_block (drop l.statement-index l.block))))
     × Keeps l.fn.checker.scope l.checker.scope

@@ -1,5 +1,5 @@
 use Rattle.std.proofs.Common.{◌==◌, ℕ, ℤ, List, [], ◌∷◌, cond, refl, ap, sym, subst}
-use Rattle.syntax.specs.declared.statement.Reduction.{Reduction}
+use Rattle.apply_options.specs.declared.reduction.Reduction.{Reduction}
 use Rattle.edge_fold.specs.Given.{IsBy, all_given, each_given, given_on, reduced_at, row}
 use Rattle.edge_fold.proofs.Edges.{sent_row}
 use Rattle.edge_fold.proofs.JoinedSlots.{folded_before, joined_alike}

@@ -1,5 +1,5 @@
 use Rattle.std.proofs.Common.{◌==◌, ℕ, ℤ, List, [], ◌∷◌, cond, refl, subst}
-use Rattle.syntax.specs.declared.statement.Reduction.{Reduction}
+use Rattle.apply_options.specs.declared.reduction.Reduction.{Reduction}
 use Rattle.edge_fold.specs.Given.{IsBy, all_given, column, each_given, given_on}
 use Rattle.edge_fold.proofs.Columns.{together_given}
 use Rattle.edge_fold.proofs.JoinedSlots.{folded_before, joined_alike}

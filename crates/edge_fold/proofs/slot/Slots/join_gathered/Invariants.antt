@@ -1,5 +1,5 @@
 use Rattle.std.proofs.Common.{ℕ, take}
-use Rattle.syntax.specs.declared.statement.Reduction.{Reduction}
+use Rattle.apply_options.specs.declared.reduction.Reduction.{Reduction}
 use Rattle.edge_fold.specs.Gathered.{IsGatheredBy, gathered_for}
 use Rattle.edge_fold.specs.Slots.{HaveJoined}
 use Rattle.edge_fold.proofs.slot.Slots.join_gathered.Given as goal

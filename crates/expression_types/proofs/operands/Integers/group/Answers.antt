@@ -5,5 +5,5 @@ use Rattle.expression_types.proofs.operands.Integers.group.Goals as goal
 
 pub returns-in_ok-first-in-Typed : goal.returns-in_ok-first-in-Typed
 returns-in_ok-first-in-Typed c =
-    integers_grouped c.args.at c.args.noted.now (integers_of c.args.self) c.in-Typed.first c.in-Typed.more c.in_ok-first-in-Typed.first
+    integers_grouped c.args.at c.args.first_fault.now (integers_of c.args.self) c.in-Typed.first c.in-Typed.more c.in_ok-first-in-Typed.first
     (ap integers_of c.in-Typed.is) c.in_ok-first-in-Typed.ensures.ok

@@ -2,7 +2,7 @@ use Rattle.std.proofs.Common.{rules, ◌≡◌, ◌≤◌, ◌+◌, ◌∷◌, [
 use Rattle.std.proofs.lemmas.Result.{on_ok_weaker}
 use Rattle.typed_tree.specs.IntegerTree.{integer_tree}
 use Rattle.typed_tree.specs.ConditionTree.{condition_tree}
-use Rattle.typed_tree.specs.declared.statement.Statement.{Statement}
+use Rattle.typed_tree.specs.declared.statement.MainStatement.{MainStatement}
 use Rattle.typed_tree.specs.BlockTree.{If, IfElse, While, action_tree, block_tree}
 use Rattle.typed_tree.specs.ProgramTree.{program_tree}
 use Rattle.typed_tree.proofs.Blocks.{action_tree-If, action_tree-IfElse, action_tree-While, action_tree-For}
@@ -26,18 +26,18 @@ put_all-statements-preserved t c =
     let k = c.put_next.new.code.items in
     let d = depth_of c.statements.visible in
     let whole = plan_all p s (length a) (depth_of c.args.visible.now) false (block_tree c.args.statements.now) in
-    let here : Statement = c.in-Some.statement.now in
+    let here : MainStatement = c.in-Some.statement.now in
     let rest = block_tree c.in-Some.rest.now in
     let company = company_of p s d c.statements.is_done here.label (action_tree here.action) rest in
     let left : c.statements.left.now ≡ here ∷ c.in-Some.rest.now = search rules in
-    let before = subst (λ (ls : List Statement). HasPut p s whole a b d c.statements.is_done (block_tree ls)) left c.statements.invariant.put in
+    let before = subst (λ (ls : List MainStatement). HasPut p s whole a b d c.statements.is_done (block_tree ls)) left c.statements.invariant.put in
     let put = has_put_next p s whole a b k d c.statements.is_done here.number here.label (action_tree here.action) rest before c.in_ok-is_done.ensures.code in
-    let size : block_size (block_tree (here ∷ c.in-Some.rest.now)) ≤ block_size (block_tree c.args.statements.now) = subst (λ (ls : List Statement). block_size (block_tree ls) ≤ block_size (block_tree c.args.statements.now)) left c.statements.invariant.size in
+    let size : block_size (block_tree (here ∷ c.in-Some.rest.now)) ≤ block_size (block_tree c.args.statements.now) = subst (λ (ls : List MainStatement). block_size (block_tree ls) ≤ block_size (block_tree c.args.statements.now)) left c.statements.invariant.size in
     record {
       put = subst (λ e. HasPut p s whole a k e c.in_ok-is_done.is_done rest) (sym c.in_ok-is_done.ensures.visible)
           (subst (λ e. HasPut p s whole a k (behind (action_tree here.action) d) e rest) (sym c.in_ok-is_done.ensures.next) put);
       size = omega (arith, size);
-      visible = c.statements.invariant.visible ∙ ap (λ (ls : List Statement). behind_all (block_tree ls) d) left ∙ ap (λ e. behind_all rest e) (sym c.in_ok-is_done.ensures.visible);
+      visible = c.statements.invariant.visible ∙ ap (λ (ls : List MainStatement). behind_all (block_tree ls) d) left ∙ ap (λ e. behind_all rest e) (sym c.in_ok-is_done.ensures.visible);
     }
 
 pub put_inside-returns-clause-visible : goal.put_inside-returns-clause-visible
@@ -72,27 +72,27 @@ put_statement-returns-in-For-clause-code t c =
 pub put_statement-put_if-requires : goal.put_statement-put_if-requires
 put_statement-put_if-requires t c =
     let tree = ap action_tree c.in-If.is ∙ action_tree-If c.in-If.c c.in-If.body in
-    let falls = inner_falls _ (block_size (block_tree c.in-If.body.items)) _ (ap action_size tree) (ap (λ (ls : List Statement). block_size (block_tree ls)) c.deref.ensures.value) in
+    let falls = inner_falls _ (block_size (block_tree c.in-If.body.items)) _ (ap action_size tree) (ap (λ (ls : List MainStatement). block_size (block_tree ls)) c.deref.ensures.value) in
     (omega (arith, c.decreases, falls), tt)
 
 pub put_statement-put_choice-requires : goal.put_statement-put_choice-requires
 put_statement-put_choice-requires t c =
     let tree = ap action_tree c.in-IfElse.is ∙ action_tree-IfElse c.in-IfElse.c c.in-IfElse.body c.in-IfElse.other in
-    let body = ap (λ (ls : List Statement). block_size (block_tree ls)) c.deref-in-IfElse.ensures.value in
-    let other = ap (λ (ls : List Statement). block_size (block_tree ls)) c.deref-in-IfElse-2.ensures.value in
+    let body = ap (λ (ls : List MainStatement). block_size (block_tree ls)) c.deref-in-IfElse.ensures.value in
+    let other = ap (λ (ls : List MainStatement). block_size (block_tree ls)) c.deref-in-IfElse-2.ensures.value in
     let falls = inner_falls _ (block_size (block_tree c.in-IfElse.body.items) + block_size (block_tree c.in-IfElse.other.items)) (block_size (block_tree c.deref-in-IfElse.result.now) + block_size (block_tree c.deref-in-IfElse-2.result.now)) (ap action_size tree) (omega (arith, body, other)) in
     (omega (arith, c.decreases, falls), tt)
 
 pub put_statement-put_while-requires : goal.put_statement-put_while-requires
 put_statement-put_while-requires t c =
     let tree = ap action_tree c.in-While.is ∙ action_tree-While c.in-While.c c.in-While.body in
-    let falls = inner_falls _ (block_size (block_tree c.in-While.body.items)) _ (ap action_size tree) (ap (λ (ls : List Statement). block_size (block_tree ls)) c.deref-in-While.ensures.value) in
+    let falls = inner_falls _ (block_size (block_tree c.in-While.body.items)) _ (ap action_size tree) (ap (λ (ls : List MainStatement). block_size (block_tree ls)) c.deref-in-While.ensures.value) in
     (omega (arith, c.decreases, falls), tt)
 
 pub put_statement-put_for-requires : goal.put_statement-put_for-requires
 put_statement-put_for-requires t c =
     let tree = ap action_tree c.in-For.is ∙ action_tree-For c.in-For.name c.in-For.first c.in-For.end c.in-For.body in
-    let falls = inner_falls _ (block_size (block_tree c.in-For.body.items)) _ (ap action_size tree) (ap (λ (ls : List Statement). block_size (block_tree ls)) c.deref-in-For.ensures.value) in
+    let falls = inner_falls _ (block_size (block_tree c.in-For.body.items)) _ (ap action_size tree) (ap (λ (ls : List MainStatement). block_size (block_tree ls)) c.deref-in-For.ensures.value) in
     (omega (arith, c.decreases, falls), tt)
 
 pub put_if-returns-clause-code : goal.put_if-returns-clause-code

@@ -1,6 +1,6 @@
 use Rattle.std.proofs.Common.{◌-◌, ℕ, true, List, [], length, slice_range, refl, ap, ◌∙◌, subst, arith}
 use Rattle.edge_fold.specs.Gathered.{AreGatheredFor}
-use Rattle.piece_cuts.specs.Pieces.{end_of, piece_of}
+use Rattle.crew.specs.Partition.{end_of, piece_of}
 use Rattle.push_engine.proofs.SourceLists.{filter_all, piece_inside}
 use Rattle.pull_engine.specs.Columns.{columns}
 use Rattle.push_engine.specs.Words.{passes_words}

@@ -1,7 +1,7 @@
 use Rattle.std.proofs.Common.{◌-◌, ℕ, List, length, slice_range, refl, ap, ◌∙◌, subst, arith}
 use Rattle.std.specs.List.{filter}
 use Rattle.edge_fold.specs.Gathered.{AreGatheredFor}
-use Rattle.piece_cuts.specs.Pieces.{end_of, piece_of}
+use Rattle.crew.specs.Partition.{end_of, piece_of}
 use Rattle.push_engine.specs.Rows.{rows}
 use Rattle.push_engine.specs.Sources.{passing_in}
 use Rattle.push_engine.proofs.SourceLists.{piece_inside}

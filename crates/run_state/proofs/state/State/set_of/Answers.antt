@@ -6,12 +6,12 @@ use Rattle.algorithm_meaning.specs.Function.{steps_of}
 use Rattle.algorithm_meaning.specs.State.{GraphValue, StateValue}
 use Rattle.algorithm_meaning.specs.Value.{members_of}
 use Rattle.algorithm_meaning.specs.VertexSets.{members_for}
-use Rattle.stack_code.specs.Cells.{HasSizes}
+use Rattle.register_code.specs.Cells.{HasSizes}
 use Rattle.kernels.specs.declared.kernel.FilterKernel.{FilterKernel}
 use Rattle.kernels.specs.Kernels.{IsFilterKernel}
-use Rattle.instructions.specs.declared.members.Members.{Members}
-use Rattle.instructions.specs.Functions.{AreFunctions}
-use Rattle.instructions.specs.Members.{set_value}
+use Rattle.plans.specs.declared.members.Members.{Members}
+use Rattle.plans.specs.Functions.{AreFunctions}
+use Rattle.plans.specs.Members.{set_value}
 use Rattle.vertex_sets.specs.VertexSet.{VertexSubset}
 use Rattle.run_state.specs.State.{RunState}
 use Rattle.run_state.proofs.Runs.{has_sizes, if_ok_more}

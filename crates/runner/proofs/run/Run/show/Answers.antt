@@ -12,6 +12,6 @@ returns c =
     let run = c.args.self.now in
     if_ok _ _ c.show.result
     (λ o is p s plan. is p (sym plan.names ∙ sym c.deref.ensures.value) (sym plan.vectors ∙ sym c.deref-2.ensures.value)
-    ∙ (ap (λ (e : Ending). shown p c.args.turns (forgotten c.shown-shown.result run.state.state) e) c.unwrap_or-end.ensures
-    ∙ shows_so_far p c.args.turns (plan_of p s) run.end run.place (loops_of run) run.state.state c.shown-shown.result (c.shown-shown.ensures p s plan)))
+    ∙ (ap (λ (e : Ending). shown p c.args.turns (forgotten c.shown-shown.result run.memory.state.state) e) c.shown_end-end.ensures
+    ∙ shows_so_far p c.args.turns (plan_of p s) run.end run.place (loops_of run.memory) run.memory.state.state c.shown-shown.result (c.shown-shown.ensures p s plan)))
     c.show.ensures

@@ -2,7 +2,7 @@ use Rattle.std.proofs.Common.{Option, sym, subst}
 use Rattle.algorithm_meaning.specs.declared.outcome.End.{End as Ending}
 use Rattle.plans.specs.Instruction.{InstructionTree}
 use Rattle.plans.specs.Plan.{plan_of}
-use Rattle.instructions.specs.Operation.{IsInstruction}
+use Rattle.plans.specs.Operation.{IsInstruction}
 use Rattle.runner.specs.Position.{IsShown, IsShownWhere, loops_of, position}
 use Rattle.runner.proofs.Partners.{found_none, found_some, none_at, partner_at}
 use Rattle.runner.proofs.run.Run.shown.Goals as goal
@@ -14,8 +14,8 @@ returns-in-Some-get c p s plan =
     let is = c.args.plan.now.instructions.items in
     let found = found_some is c.deref.result.now run.place c.get.result c.in-Some-get.instruction c.deref.ensures.value c.get.ensures.lookup.1 c.get.ensures.lookup.3 c.in-Some-get.is in
     let partner = partner_at IsInstruction is (plan_of p s) run.place i plan.instructions found in
-    subst (λ (e : Option Ending). IsShown (plan_of p s) (position e run.place (loops_of run) run.state.state) i.shown) (sym c.in-None.is)
-    (subst (λ (o : Option InstructionTree). IsShownWhere o run.state.state i.shown) (sym partner.is_there) partner.related.shown)
+    subst (λ (e : Option Ending). IsShown (plan_of p s) (position e run.place (loops_of run.memory) run.memory.state.state) i.shown) (sym c.in-None.is)
+    (subst (λ (o : Option InstructionTree). IsShownWhere o run.memory.state.state i.shown) (sym partner.is_there) partner.related.shown)
 
 pub returns-in-None-get : goal.returns-in-None-get
 returns-in-None-get c p s plan =
@@ -24,5 +24,5 @@ returns-in-None-get c p s plan =
     let is = c.args.plan.now.instructions.items in
     let found = found_none is c.deref.result.now run.place c.get.result c.deref.ensures.value c.get.ensures.lookup.1 c.get.ensures.lookup.3 c.in-None-get.is in
     let none = none_at IsInstruction is (plan_of p s) run.place plan.instructions found in
-    subst (λ (e : Option Ending). IsShown (plan_of p s) (position e run.place (loops_of run) run.state.state) d) (sym c.in-None.is)
-    (subst (λ (o : Option InstructionTree). IsShownWhere o run.state.state d) (sym none) c.depth-in-None-get.ensures)
+    subst (λ (e : Option Ending). IsShown (plan_of p s) (position e run.place (loops_of run.memory) run.memory.state.state) d) (sym c.in-None.is)
+    (subst (λ (o : Option InstructionTree). IsShownWhere o run.memory.state.state d) (sym none) c.depth-in-None-get.ensures)

@@ -1,6 +1,6 @@
 use Rattle.std.proofs.Common.{ℕ, List, subst}
 use Rattle.typed_tree.specs.declared.program.Vector.{Vector}
-use Rattle.typed_tree.specs.declared.statement.Statement.{Statement}
+use Rattle.typed_tree.specs.declared.statement.MainStatement.{MainStatement}
 use Rattle.typed_tree.specs.BlockTree.{block_tree}
 use Rattle.schedule.specs.Names.{vector_names}
 use Rattle.schedule.specs.Putting.{ArePlaces, AreSites}
@@ -12,5 +12,5 @@ invariant_of-result c = record {
   vectors_found =
       subst (λ (vectors : List Vector). ArePlaces c.in_ok-vectors.vectors (vector_names c.args.program.now.names.items vectors)) c.deref-3.ensures.value
       (subst (λ (names : List (List ℕ)). ArePlaces c.in_ok-vectors.vectors (vector_names names c.deref-3.result.now)) c.deref-2.ensures.value c.in_ok-vectors.ensures);
-  sites_found = subst (λ (main : List Statement). AreSites c.in_ok-sites.sites (block_tree main)) c.deref-4.ensures.value c.in_ok-sites.ensures;
+  sites_found = subst (λ (main : List MainStatement). AreSites c.in_ok-sites.sites (block_tree main)) c.deref-4.ensures.value c.in_ok-sites.ensures;
 }

@@ -1,6 +1,6 @@
 use Rattle.std.proofs.Common.{ℕ, List, ap, sym, ◌∙◌, ◌++◌}
 use Rattle.std.specs.List.{concat}
-use Rattle.schedule.specs.Schedule.{ScheduleTree}
+use Rattle.apply_options.specs.ScheduleTree.{ScheduleTree}
 use Rattle.schedule.proofs.Places.{concat_last}
 use Rattle.schedule.proofs.calls.Tables.put_fields.Goals as goal
 

@@ -1,10 +1,10 @@
 use Rattle.std.proofs.Common.{◌≡◌, arith}
 use Rattle.std.proofs.lemmas.Grind.{common_steps}
-use Rattle.scripts.specs.declared.line_reply.LineReply.TheVariants as line_reply
-use Rattle.scripts.specs.ReplyText.{edges_text}
-use Rattle.scripts.specs.Stepping.{line_text}
+use Rattle.replies.specs.declared.line_reply.LineReply.TheVariants as line_reply
+use Rattle.replies.specs.ReplyText.{edges_text}
+use Rattle.replies.specs.ReplyText.{line_text}
 use Rattle.scripts.specs.Replies.{graph_of, listing_text}
-use Rattle.scripts.proofs.SendingLaws.{emits_as}
+use Rattle.replies.proofs.SendingLaws.{emits_as}
 use Rattle.scripts.proofs.open_graph.OpenGraph.list.Goals as goal
 
 pub returns-in-Some : goal.returns-in-Some

@@ -1,4 +1,4 @@
-use Rattle.std.proofs.Common.{◌≤◌, ◌∙◌, sym, subst}
+use Rattle.std.proofs.Common.{◌≤◌, ◌∙◌, subst}
 use Rattle.std.specs.Option.{IfSome}
 use Rattle.version_list.specs.Machine.{newest_number}
 use Rattle.version_list.specs.Timeline.{Timeline}

@@ -1,7 +1,0 @@
-use Rattle.std.proofs.Common.{◌≡◌, drop, replicate, false}
-use Rattle.algorithm_meaning.specs.Flags.{marked}
-use Rattle.algorithm_meaning.proofs.edge_apply.flags_of_members.Given as goal
-
--- what is left to do from here comes to what was to be done
-abbrev pub invariant-members : goal.invariant-members
-invariant-members l = marked (drop l.member-index l.members) l.flags.items ≡ marked l.members (replicate l.vertices false)

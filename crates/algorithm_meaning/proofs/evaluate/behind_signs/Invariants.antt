@@ -1,6 +1,0 @@
-use Rattle.std.proofs.Common.{◌≡◌}
-use Rattle.algorithm_meaning.specs.Chain.{negative_times}
-use Rattle.algorithm_meaning.proofs.evaluate.behind_signs.Given as goal
-
-abbrev pub invariant-signs : goal.invariant-signs
-invariant-signs l = l.now.number ≡ negative_times l.sign l.fn.total.number

@@ -1,5 +1,0 @@
-use Rattle.compiler.proofs.Offsets.{stands_in}
-use Rattle.compiler.proofs.program.refusals_stand_in_the_text.Goals as goal
-
-pub returns : goal.returns
-returns c = stands_in

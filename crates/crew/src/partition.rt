@@ -1,0 +1,197 @@
+//! The ends of pieces.
+ghost use Rattle.std.specs.Prelude.{◌≡◌, ℕ, ◌+◌, ◌-◌, ◌*◌, ◌^◌, ◌<◌, ◌≤◌, [], ◌++◌, length, replicate, IfOk, OnOk};
+ghost use Rattle.apply_options.specs.declared.apply_schedule.Parallelization.TheVariants.{EdgeAwareDynamicVertex};
+ghost use Rattle.crew.specs.Boundaries.{dynamic_ends, edge_aware_ends, boundaries, ends_from, rest_of, serial_ends, static_ends};
+ghost use Rattle.crew.specs.Limits.{limited_ends, weight};
+ghost use Rattle.crew.specs.Partition.{AreEnds, end_of};
+
+use apply_options::Parallelization;
+use std::alloc::{AllocError, Global};
+use std::marker::Model;
+use std::ops::Range;
+
+/// Where the pieces of a list of vertices end.
+#[derive(Drop)]
+pub struct Partition {
+    ends: Vec<usize>,
+}
+
+impl Model for Partition {
+    ghost use Rattle.std.specs.Prelude.{ℕ, List};
+
+    ghost Value = { List ℕ };
+
+    ghost view = { λ c. c.ends.items };
+}
+
+impl Partition {
+    /// The cuts of so many vertices for so many workers, as a schedule says. The degrees of the vertices are read where
+    /// it says `EdgeAwareDynamicVertex`, and then it takes time in proportion to the vertices, and else to the workers.
+    /// Where there is no vertex, there is no piece.
+    ///
+    /// The only error is out of memory.
+    pub fn of(
+        alloc: Global,
+        parallelization: Parallelization,
+        workers: usize,
+        count: usize,
+        degrees: &[u32],
+    ) -> Result<Partition, AllocError>
+        requires workers { (1 ≤ workers) × (workers ≤ 64) }
+        requires few { count < 2 ^ 32 }
+        requires degrees { parallelization ≡ EdgeAwareDynamicVertex → length degrees.now ≡ count }
+        ensures ends { IfOk result (λ c. c ≡ boundaries parallelization workers count degrees.now) }
+        ensures whole { IfOk result (λ c. AreEnds 0 count c) }
+    {
+        let mut ends = Vec::new(alloc);
+        if count > 0 {
+            push_ends(&mut ends, parallelization, workers, count, degrees)?;
+        }
+        Ok(Partition { ends })
+    }
+
+    /// How many pieces there are.
+    pub fn pieces(&self) -> usize
+        ensures { result ≡ length self.now }
+    {
+        self.ends.len()
+    }
+
+    /// The places of a piece in the list. Pieces are numbered from 1.
+    pub fn piece(&self, number: usize) -> Range<usize>
+        requires some { 0 < number }
+        requires inside { number ≤ length self.now }
+        ensures start { result.start ≡ end_of self.now (number - 1) }
+        ensures end { result.end ≡ end_of self.now number }
+    {
+        let start = if number == 1 {
+            0
+        } else {
+            self.ends[number - 2]
+        };
+        start..self.ends[number - 1]
+    }
+}
+
+/// Adds the ends of the pieces of so many vertices.
+fn push_ends(
+    ends: &mut Vec<usize>,
+    parallelization: Parallelization,
+    workers: usize,
+    count: usize,
+    degrees: &[u32],
+) -> Result<(), AllocError>
+    requires workers { (1 ≤ workers) × (workers ≤ 64) }
+    requires some { 0 < count }
+    requires few { count < 2 ^ 32 }
+    requires degrees { parallelization ≡ EdgeAwareDynamicVertex → length degrees.now ≡ count }
+    ensures { OnOk result (ends.new.items ≡ ends.old.items ++ boundaries parallelization workers count degrees.now) }
+{
+    match parallelization {
+        Parallelization::Serial => push_rest(ends, 0, count),
+        Parallelization::StaticVertex => push_static(ends, workers, count),
+        Parallelization::DynamicVertex => push_dynamic(ends, workers, count),
+        Parallelization::EdgeAwareDynamicVertex => push_edge_aware(ends, workers, degrees),
+    }
+}
+
+/// Those of a piece for each worker.
+fn push_static(ends: &mut Vec<usize>, workers: usize, count: usize) -> Result<(), AllocError>
+    requires workers { 0 < workers }
+    requires some { 0 < count }
+    requires few { count < 2 ^ 32 }
+    ensures { OnOk result (ends.new.items ≡ ends.old.items ++ static_ends workers count) }
+{
+    let pieces = workers.min(count);
+    let longer = count % pieces;
+    let run = count / pieces;
+    let middle = push_runs(ends, 0, longer, run + 1)?;
+    push_runs(ends, middle, pieces - longer, run)?;
+    Ok(())
+}
+
+/// Those of four pieces for each worker.
+fn push_dynamic(ends: &mut Vec<usize>, workers: usize, count: usize) -> Result<(), AllocError>
+    requires workers { (1 ≤ workers) × (workers ≤ 64) }
+    requires some { 0 < count }
+    requires few { count < 2 ^ 32 }
+    ensures { OnOk result (ends.new.items ≡ ends.old.items ++ dynamic_ends workers count) }
+{
+    let run = count.div_ceil(4 * workers);
+    let last = push_runs(ends, 0, count / run, run)?;
+    push_rest(ends, last, count % run)?;
+    Ok(())
+}
+
+/// Those of four pieces for each worker, by vertices and edges.
+fn push_edge_aware(ends: &mut Vec<usize>, workers: usize, degrees: &[u32]) -> Result<(), AllocError>
+    requires workers { (1 ≤ workers) × (workers ≤ 64) }
+    requires few { length degrees.now < 2 ^ 32 }
+    ensures { OnOk result (ends.new.items ≡ ends.old.items ++ edge_aware_ends workers degrees.now) }
+{
+    let limit = weight_of(degrees).div_ceil(4 * workers);
+    push_limited(ends, limit, degrees)?;
+    Ok(())
+}
+
+/// Adds the ends of so many runs that have so many vertices each, and gives the last one.
+fn push_runs(
+    ends: &mut Vec<usize>,
+    start: usize,
+    runs: usize,
+    run: usize,
+) -> Result<usize, AllocError>
+    requires { start + runs * run < 2 ^ 64 }
+    ensures ends { OnOk result (ends.new.items ≡ ends.old.items ++ ends_from start (replicate runs run)) }
+    ensures last { IfOk result (λ e. e ≡ start + runs * run) }
+{
+    let mut end = start;
+    'runs: for _place in 0..runs {
+        end += run;
+        ends.push(end)?;
+    }
+    Ok(end)
+}
+
+/// Adds the end of what is left over, where something is.
+fn push_rest(ends: &mut Vec<usize>, start: usize, rest: usize) -> Result<(), AllocError>
+    requires { start + rest < 2 ^ 64 }
+    ensures { OnOk result (ends.new.items ≡ ends.old.items ++ ends_from start (rest_of rest)) }
+{
+    if rest > 0 {
+        ends.push(start + rest)?;
+    }
+    Ok(())
+}
+
+/// The vertices of these degrees, and their edges.
+fn weight_of(degrees: &[u32]) -> usize
+    requires { length degrees.now < 2 ^ 32 }
+    ensures { result ≡ weight degrees.now }
+{
+    let mut weight = 0usize;
+    'degrees: for degree in degrees {
+        weight += *degree as usize + 1;
+    }
+    weight
+}
+
+/// Adds the ends of runs of vertices of these degrees, each ended where it reaches the limit, or with the list.
+fn push_limited(ends: &mut Vec<usize>, limit: usize, degrees: &[u32]) -> Result<(), AllocError>
+    requires limit { limit < 2 ^ 63 }
+    requires few { length degrees.now < 2 ^ 32 }
+    ensures { OnOk result (ends.new.items ≡ ends.old.items ++ limited_ends limit 0 0 degrees.now) }
+{
+    let mut reached = 0usize;
+    'degrees: for (place, degree) in degrees.iter().enumerate() {
+        reached += *degree as usize + 1;
+        if limit <= reached {
+            ends.push(place + 1)?;
+            reached = 0;
+        }
+    }
+    if reached > 0 {
+        ends.push(degrees.len())?;
+    }
+    Ok(())
+}

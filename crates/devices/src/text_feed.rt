@@ -1,0 +1,64 @@
+//! A text that is at hand, as a reader.
+ghost use Rattle.std.specs.Prelude.{◌≡◌, ◌≤◌, ◌+◌, ◌-◌, true, false, ℕ, List, [], length, take};
+
+use crate::traits::Feed;
+use std::io;
+use std::marker::{Brand, PhantomData};
+
+/// The text that a [`TextFeed`] gives, for contracts alone: who makes one picks it by `Brand`.
+pub trait Text {
+    ghost text: { List ℕ };
+}
+
+impl Text for Brand {
+    ghost text = { [] };
+}
+
+/// A reader of a text that is at hand, from its first byte. It has given a first part of the text, it ends after
+/// the whole text, and it never fails.
+#[derive(Drop)]
+pub struct TextFeed<'a, T: Text> {
+    text: &'a [u8],
+    count: usize,
+    is_ended: bool,
+    of: PhantomData<T>,
+    ghost same: { text.now ≡ T.text },
+    ghost within: { count ≤ length text.now },
+    ghost whole: { is_ended ≡ true → length text.now ≤ count },
+}
+
+impl<'a, T: Text> TextFeed<'a, T> {
+    /// A reader that has given nothing of a text.
+    pub fn new(text: &'a [u8]) -> TextFeed<'a, T>
+        requires { text.now ≡ T.text }
+        ensures count { result.count ≡ 0 }
+        ensures not_ended { result.is_ended ≡ false }
+    {
+        TextFeed {
+            text,
+            count: 0,
+            is_ended: false,
+            of: PhantomData,
+        }
+    }
+}
+
+impl<T: Text> Feed for TextFeed<'_, T> {
+    ghost given = { λ f. take f.count T.text };
+
+    ghost ended = { λ f. f.is_ended };
+
+    ghost failures = { λ _. 0 };
+
+    ghost reads_left = { λ f. length T.text - f.count };
+
+    /// Gives the next bytes of the text, as many as the buffer has room for.
+    fn read(&mut self, buffer: &mut [u8]) -> io::Result<usize> {
+        let rest = &self.text[self.count..];
+        let count = buffer.len().min(rest.len());
+        buffer[..count].copy_from_slice(&rest[..count]);
+        self.count += count;
+        self.is_ended = self.is_ended || (count == 0 && !buffer.is_empty());
+        Ok(count)
+    }
+}

@@ -1,2 +1,0 @@
-pub mod Pairwise
-pub mod Bounds

@@ -1,4 +1,0 @@
-pub mod Runs
-pub mod Reaching
-pub mod PieceLists
-pub mod AllCuts

@@ -1,0 +1,20 @@
+use Rattle.std.proofs.Common.{ap, ◌∙◌, List}
+use Rattle.typed_tree.specs.StepTree.{steps_tree}
+use Rattle.algorithm_meaning.specs.declared.contribution.Writing.TheVariants.{Collected}
+use Rattle.algorithm_meaning.specs.Function.{WorkValue, after_steps}
+use Rattle.plain_run.specs.Seen.{work_of}
+use Rattle.plain_run.proofs.Works.{collected_steps}
+use Rattle.algorithm_meaning.specs.declared.contribution.Contribution.{Contribution}
+use Rattle.algorithm_meaning.specs.EdgeApply.{with_given}
+use Rattle.plain_run.proofs.edge_apply.run_for_edge.Goals as goal
+
+pub returns-clause-after : goal.returns-clause-after
+returns-clause-after c =
+    let begun = c.begin.ensures c.args.before.now.items in
+    let given = ap (λ (w : WorkValue). w.given) (c.in_ok-run_steps.ensures ∙ ap (after_steps Collected c.args.sets.now (steps_tree c.args.steps.now)) begun) in
+    c.put_given.ensures ∙ ap (λ (g : List Contribution). with_given c.args.edge.1 g c.args.after.now.items) (c.deref.ensures.value ∙ given)
+
+pub returns-clause-before : goal.returns-clause-before
+returns-clause-before c =
+    ap (λ (w : WorkValue). w.vectors) c.in_ok-run_steps.ensures
+    ∙ collected_steps c.args.sets.now (steps_tree c.args.steps.now) (work_of c.args.before.now.items c.begin.new.work)

@@ -1,0 +1,11 @@
+use Rattle.std.proofs.Common.{◌≡◌, drop}
+use Rattle.typed_tree.specs.StepTree.{steps_tree}
+use Rattle.algorithm_meaning.specs.Function.{after_steps}
+use Rattle.plain_run.specs.Seen.{work_of}
+use Rattle.plain_run.proofs.function.+steps.Given as goal
+
+-- what is left to do from here comes to what was to be done
+abbrev pub invariant-run_steps-steps : goal.invariant-run_steps-steps
+invariant-run_steps-steps l =
+    after_steps l.writing l.sets (steps_tree (drop l.step-index l.steps)) (work_of l.vectors.items l.work)
+    ≡ after_steps l.writing l.sets (steps_tree l.steps) (work_of l.fn.vectors.items l.fn.work)

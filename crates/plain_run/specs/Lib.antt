@@ -1,0 +1,4 @@
+pub mod Seen
+pub mod Chain
+pub mod Flags
+pub mod Degrees

@@ -1,0 +1,50 @@
+//! Filters, and the statement `filter`.
+ghost use Rattle.std.specs.Prelude.{◌≡◌, false, IfOk, OnOk, map, slice_index_or};
+ghost use Rattle.std.specs.List.{filter};
+ghost use Rattle.typed_tree.specs.StepTree.{function_tree, steps_tree};
+ghost use Rattle.algorithm_meaning.specs.Filter.{filtered, lets_through, result_of};
+
+use crate::evaluate::condition_at;
+use crate::function::{Work, begin_filter, new_work, run_steps, steps_at};
+use algorithm_meaning::{VertexSet, Writing};
+use std::alloc::{AllocError, Global};
+use typed_tree::{Function, FunctionStatement, Sequence};
+
+/// Of these vertices those that the filter at a place lets through.
+pub(crate) fn filter_members(
+    alloc: Global,
+    filters: &[Function],
+    function: usize,
+    sets: &[VertexSet],
+    vectors: &mut Vec<Sequence<i64>>,
+    vertices: &[u32],
+) -> Result<Vec<u32>, AllocError>
+    ensures members { IfOk result (λ v. v.items ≡ filtered (map function_tree filters.now) function sets.now vectors.old.items vertices.now) }
+    ensures vectors { OnOk result (vectors.new.items ≡ vectors.old.items) }
+{
+    let steps = steps_at(filters, function);
+    let mut work = new_work(alloc);
+    let mut kept = Vec::new(alloc);
+    'vertices: for vertex in vertices {
+        if filter_passes(steps, sets, *vertex, vectors, &mut work)? {
+            kept.push(*vertex)?;
+        }
+    }
+    Ok(kept)
+}
+
+/// The result of a filter's statements at a vertex.
+pub(crate) fn filter_passes(
+    steps: &[FunctionStatement],
+    sets: &[VertexSet],
+    vertex: u32,
+    vectors: &mut Vec<Sequence<i64>>,
+    work: &mut Work,
+) -> Result<bool, AllocError>
+    ensures passes { IfOk result (λ b. b ≡ result_of (steps_tree steps.now) sets.now vectors.old.items vertex) }
+    ensures vectors { OnOk result (vectors.new.items ≡ vectors.old.items) }
+{
+    begin_filter(work, vertex)?;
+    run_steps(steps, Writing::Collected, sets, vectors, work)?;
+    Ok(condition_at(&work.scope, 0))
+}

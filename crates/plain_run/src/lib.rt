@@ -1,0 +1,24 @@
+//! A slow run of programs, which gives what they mean.
+//!
+//! [`plain_run`] goes over the trees of a checked program, on a list of edges, and gives the meaning, whole: what the definitions of
+//! `algorithm_meaning` say, in the order in which they say it. Runs of plans are compared with it.
+//!
+//! Tests and benchmark programs stand on it; no run of the product does.
+#![tactic(auto)]
+
+mod edge_apply;
+mod entries;
+mod evaluate;
+mod filter;
+mod function;
+mod opening;
+mod print;
+mod read;
+mod run;
+mod sets;
+mod show;
+mod state;
+mod variables;
+mod vertex_apply;
+
+pub use run::plain_run;

@@ -1,0 +1,67 @@
+//! `print`.
+ghost use Rattle.std.specs.Prelude.{◌≡◌, ◌++◌, IfOk, OnOk};
+ghost use Rattle.typed_tree.specs.IntegerTree.{integer_tree};
+ghost use Rattle.typed_tree.specs.ConditionTree.{condition_tree};
+ghost use Rattle.algorithm_meaning.specs.Print.{after_print_condition, after_print_integer, condition_line, integer_line};
+ghost use Rattle.plain_run.specs.Seen.{stand, state_of};
+
+use crate::read::{decide, fault, number_of};
+use crate::state::State;
+use algorithm_meaning::End;
+use decimal::push_integer;
+use std::alloc::AllocError;
+use typed_tree::{BoolExpression, IntExpression};
+
+pub(crate) fn print_integer_in(
+    e: &IntExpression,
+    number: u64,
+    vertices: u32,
+    state: &mut State,
+) -> Result<Option<End>, AllocError>
+    ensures meaning { IfOk result (λ end. stand end (state_of state.new)
+        ≡ after_print_integer vertices number (integer_tree e.now) (state_of state.old)) }
+    ensures turns { state.new.turns ≡ state.old.turns }
+{
+    let Some(printed) = number_of(e, vertices, state) else {
+        return Ok(fault(number));
+    };
+    print_integer(&mut state.text, printed)?;
+    Ok(None)
+}
+
+pub(crate) fn print_condition_in(
+    c: &BoolExpression,
+    number: u64,
+    vertices: u32,
+    state: &mut State,
+) -> Result<Option<End>, AllocError>
+    ensures meaning { IfOk result (λ end. stand end (state_of state.new)
+        ≡ after_print_condition vertices number (condition_tree c.now) (state_of state.old)) }
+    ensures turns { state.new.turns ≡ state.old.turns }
+{
+    let Some(value) = decide(c, vertices, state) else {
+        return Ok(fault(number));
+    };
+    print_condition(&mut state.text, value)?;
+    Ok(None)
+}
+
+/// Writes a number in decimal digits, `-` before it where it is negative, and a line feed.
+fn print_integer(text: &mut Vec<u8>, n: i64) -> Result<(), AllocError>
+    ensures { OnOk result (text.new.items ≡ text.old.items ++ integer_line n) }
+{
+    push_integer(text, n)?;
+    text.push(b'\n')?;
+    Ok(())
+}
+
+/// Writes `true` or `false` and a line feed.
+fn print_condition(text: &mut Vec<u8>, b: bool) -> Result<(), AllocError>
+    ensures { OnOk result (text.new.items ≡ text.old.items ++ condition_line b) }
+{
+    if b {
+        text.extend_from_slice(b"true\n")
+    } else {
+        text.extend_from_slice(b"false\n")
+    }
+}

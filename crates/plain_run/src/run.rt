@@ -1,0 +1,344 @@
+//! The slow run of programs.
+ghost use Rattle.std.specs.Prelude.{◌≡◌, ◌<◌, ◌≤◌, ℕ, [], ◌∷◌, IfOk, IfNone, OnOk};
+ghost use Rattle.typed_tree.specs.ConditionTree.{condition_tree};
+ghost use Rattle.typed_tree.specs.BlockTree.{action_tree, block_tree};
+ghost use Rattle.typed_tree.specs.ProgramTree.{program_tree};
+ghost use Rattle.algorithm_meaning.specs.EdgeApply.{after_edge_apply};
+ghost use Rattle.algorithm_meaning.specs.Entries.{with_vectors};
+ghost use Rattle.algorithm_meaning.specs.Loop.{after_for, after_while, for_body, inside, take_turn};
+ghost use Rattle.algorithm_meaning.specs.Meaning.{after, after_all};
+ghost use Rattle.plain_run.specs.Seen.{HasNoBlock, IsOverSets, graph_of, stand, state_of};
+ghost use Rattle.algorithm_meaning.specs.Shown.{meaning};
+ghost use Rattle.algorithm_meaning.specs.Stand.{Live};
+
+use crate::edge_apply::apply_edges;
+use crate::entries::{reduce_entry, set_entry_in};
+use crate::opening::open;
+use crate::print::{print_condition_in, print_integer_in};
+use crate::read::{bounds_of, decide, depth, fault, forget, go_on, is_below, push_bounds};
+use crate::sets::{add_vertex, assign_set, declare_set};
+use crate::show::show;
+use crate::state::{Graph, State};
+use crate::variables::{
+    declare_condition, declare_integer, reduce_integer, set_condition, set_integer,
+};
+use crate::vertex_apply::apply_vertex;
+use algorithm_meaning::{Bounds, End, Outcome};
+use std::alloc::{AllocError, Global};
+use typed_tree::{ApplyEnds, BoolExpression, MainStatement, StatementKind, Typed};
+
+/// Runs a program on a graph, whose vertices are the numbers below `vertices`, and gives what it means:
+/// it goes over the trees, one statement after the other, and is slow. The loops of the program make at
+/// most `turns` turns in all. The caller sees to it that the edges ascend and name vertices.
+///
+/// The only error is out of memory.
+pub fn plain_run(
+    alloc: Global,
+    program: &Typed,
+    vertices: u32,
+    edges: &[(u32, u32)],
+    turns: u64,
+) -> Result<Outcome, AllocError>
+    ensures { IfOk result (λ o. o ≡ meaning (program_tree program.now) (record { vertices = vertices; edges = edges.now }) turns) }
+{
+    let graph = Graph { vertices, edges };
+    let mut state = open(alloc, program, &graph, turns)?;
+    let end = run_all(alloc, &program.main, program, &graph, &mut state)?;
+    show(alloc, program, turns, state, end)
+}
+
+/// Runs statements in order, and answers how the run ended if it did.
+#[cycle(run)]
+fn run_all(
+    alloc: Global,
+    block: &[MainStatement],
+    program: &Typed,
+    graph: &Graph,
+    state: &mut State,
+) -> Result<Option<End>, AllocError>
+    ensures meaning { IfOk result (λ end. stand end (state_of state.new)
+        ≡ after_all (program_tree program.now) (graph_of graph.now) (block_tree block.now) (state_of state.old)) }
+    ensures turns { state.new.turns ≤ state.old.turns }
+{
+    'statements: for statement in block {
+        let end = run_statement(alloc, statement, program, graph, state)?;
+        if end.is_some() {
+            return Ok(end);
+        }
+    }
+    Ok(None)
+}
+
+#[cycle(run)]
+fn run_statement(
+    alloc: Global,
+    statement: &MainStatement,
+    program: &Typed,
+    graph: &Graph,
+    state: &mut State,
+) -> Result<Option<End>, AllocError>
+    ensures meaning { IfOk result (λ end. stand end (state_of state.new)
+        ≡ after (program_tree program.now) (graph_of graph.now) statement.now.number (action_tree statement.now.action) (state_of state.old)) }
+    ensures turns { state.new.turns ≤ state.old.turns }
+{
+    let number = statement.number;
+    let vertices = graph.vertices;
+    match &statement.action {
+        StatementKind::If(c, body) => match decide(c, vertices, state) {
+            None => Ok(fault(number)),
+            Some(true) => run_inside(alloc, body, program, graph, state),
+            Some(false) => Ok(None),
+        },
+        StatementKind::IfElse(c, body, other) => match decide(c, vertices, state) {
+            None => Ok(fault(number)),
+            Some(true) => run_inside(alloc, body, program, graph, state),
+            Some(false) => run_inside(alloc, other, program, graph, state),
+        },
+        StatementKind::While(c, body) => run_while(alloc, body, c, number, program, graph, state),
+        StatementKind::For(_, first, end, body) => match bounds_of(first, end, vertices, state) {
+            None => Ok(fault(number)),
+            Some(bounds) => run_for(alloc, body, bounds, number, program, graph, state),
+        },
+        action => run_without_block(alloc, action, number, program, graph, state),
+    }
+}
+
+/// Runs a statement that has no block.
+fn run_without_block(
+    alloc: Global,
+    action: &StatementKind,
+    number: u64,
+    program: &Typed,
+    graph: &Graph,
+    state: &mut State,
+) -> Result<Option<End>, AllocError>
+    requires { HasNoBlock action.now }
+    ensures meaning { IfOk result (λ end. stand end (state_of state.new)
+        ≡ after (program_tree program.now) (graph_of graph.now) number (action_tree action.now) (state_of state.old)) }
+    ensures turns { state.new.turns ≡ state.old.turns }
+{
+    let vertices = graph.vertices;
+    match action {
+        StatementKind::DeclareInteger(_, e) => declare_integer(e, number, vertices, state),
+        StatementKind::DeclareCondition(_, c) => declare_condition(c, number, vertices, state),
+        StatementKind::SetInteger(slot, e) => Ok(set_integer(
+            slot.place, e, number, vertices, state,
+        )),
+        StatementKind::SetCondition(slot, c) => Ok(set_condition(
+            slot.place, c, number, vertices, state,
+        )),
+        StatementKind::ReduceInteger(slot, reduction, e) => Ok(reduce_integer(
+            slot.place, *reduction, e, number, vertices, state,
+        )),
+        StatementKind::SetEntry(vector, index, e) => {
+            Ok(set_entry_in(*vector, index, e, number, vertices, state))
+        }
+        StatementKind::ReduceEntry(vector, index, reduction, e) => Ok(reduce_entry(
+            *vector, index, *reduction, e, number, vertices, state,
+        )),
+        StatementKind::AddVertex(slot, e) => add_vertex(
+            alloc, slot.place, e, number, vertices, state,
+        ),
+        StatementKind::PrintInteger(e) => print_integer_in(e, number, vertices, state),
+        StatementKind::PrintCondition(c) => print_condition_in(c, number, vertices, state),
+        StatementKind::DeclareSet(_, _)
+        | StatementKind::AssignSet(_, _)
+        | StatementKind::ApplyVertex(_, _)
+        | StatementKind::ApplyEdges(_, _) => {
+            run_over_sets(alloc, action, program, graph, state)?;
+            Ok(None)
+        }
+        StatementKind::If(_, _)
+        | StatementKind::IfElse(_, _, _)
+        | StatementKind::While(_, _)
+        | StatementKind::For(_, _, _, _) => { unreachable!() }
+    }
+}
+
+/// Runs a statement that makes a set or goes over one. It never faults.
+fn run_over_sets(
+    alloc: Global,
+    action: &StatementKind,
+    program: &Typed,
+    graph: &Graph,
+    state: &mut State,
+) -> Result<(), AllocError>
+    requires { IsOverSets action.now }
+    ensures meaning { OnOk result ((number : ℕ) → Live (state_of state.new)
+        ≡ after (program_tree program.now) (graph_of graph.now) number (action_tree action.now) (state_of state.old)) }
+    ensures turns { state.new.turns ≡ state.old.turns }
+{
+    match action {
+        StatementKind::DeclareSet(name, value) => {
+            declare_set(alloc, *name, *value, program, graph, state)
+        }
+        StatementKind::AssignSet(slot, value) => {
+            assign_set(alloc, slot.place, *value, program, graph, state)
+        }
+        StatementKind::ApplyVertex(set, function) => {
+            let functions = &program.vertex_functions;
+            apply_vertex(alloc, functions, set.place, *function, state)
+        }
+        StatementKind::ApplyEdges(ends, function) => {
+            apply_in(alloc, *ends, *function, program, graph, state)
+        }
+        _ => { unreachable!() }
+    }
+}
+
+/// Applies an edge function.
+fn apply_in(
+    alloc: Global,
+    ends: ApplyEnds,
+    function: usize,
+    program: &Typed,
+    graph: &Graph,
+    state: &mut State,
+) -> Result<(), AllocError>
+    ensures meaning { OnOk result (state_of state.new ≡ with_vectors (state_of state.old)
+        (after_edge_apply (program_tree program.now).filters (program_tree program.now).edge_functions (graph_of graph.now) ends (function ∷ []) (state_of state.old))) }
+    ensures turns { state.new.turns ≡ state.old.turns }
+{
+    let after = apply_edges(
+        alloc,
+        &program.filters,
+        &program.edge_functions,
+        graph,
+        ends,
+        function,
+        state,
+    )?;
+    state.vectors = after;
+    Ok(())
+}
+
+/// Runs a block and, where the run goes on, forgets what became visible in it.
+#[cycle(run)]
+fn run_inside(
+    alloc: Global,
+    block: &[MainStatement],
+    program: &Typed,
+    graph: &Graph,
+    state: &mut State,
+) -> Result<Option<End>, AllocError>
+    ensures meaning { IfOk result (λ end. stand end (state_of state.new)
+        ≡ inside (after_all (program_tree program.now) (graph_of graph.now) (block_tree block.now)) (state_of state.old)) }
+    ensures turns { state.new.turns ≤ state.old.turns }
+{
+    let depth = depth(state);
+    let end = run_all(alloc, block, program, graph, state)?;
+    if end.is_none() {
+        forget(depth, state);
+    }
+    Ok(end)
+}
+
+/// Runs the body as long as the test holds.
+#[cycle(run)]
+fn run_while(
+    alloc: Global,
+    body: &[MainStatement],
+    test: &BoolExpression,
+    number: u64,
+    program: &Typed,
+    graph: &Graph,
+    state: &mut State,
+) -> Result<Option<End>, AllocError>
+    ensures meaning { IfOk result (λ end. stand end (state_of state.new)
+        ≡ after_while graph.now.vertices number (condition_tree test.now)
+        (after_all (program_tree program.now) (graph_of graph.now) (block_tree body.now)) (state_of state.old)) }
+    ensures turns { state.new.turns ≤ state.old.turns }
+{
+    'turns: loop {
+        match decide(test, graph.vertices, state) {
+            None => return Ok(fault(number)),
+            Some(false) => return Ok(None),
+            Some(true) => {}
+        }
+        let end = run_turn(alloc, body, program, graph, state)?;
+        if end.is_some() {
+            return Ok(end);
+        }
+    }
+}
+
+/// Takes a turn and runs the body, or answers that no turn is left.
+#[cycle(run)]
+#[tactic(auto, using(crate::proofs::Loops::turn_is_taken))]
+fn run_turn(
+    alloc: Global,
+    body: &[MainStatement],
+    program: &Typed,
+    graph: &Graph,
+    state: &mut State,
+) -> Result<Option<End>, AllocError>
+    ensures meaning { IfOk result (λ end. stand end (state_of state.new)
+        ≡ take_turn state.old.turns (state_of state.old)
+        (inside (after_all (program_tree program.now) (graph_of graph.now) (block_tree body.now)))) }
+    ensures turns { state.new.turns ≤ state.old.turns }
+    ensures fewer { IfOk result (λ end. IfNone end (state.new.turns < state.old.turns)) }
+{
+    if state.turns == 0 {
+        return Ok(Some(End::TurnsOver));
+    }
+    state.turns -= 1;
+    run_inside(alloc, body, program, graph, state)
+}
+
+/// Runs the body with each value up to the bound.
+#[cycle(run)]
+fn run_for(
+    alloc: Global,
+    body: &[MainStatement],
+    bounds: Bounds,
+    number: u64,
+    program: &Typed,
+    graph: &Graph,
+    state: &mut State,
+) -> Result<Option<End>, AllocError>
+    ensures meaning { IfOk result (λ end. stand end (state_of state.new)
+        ≡ after_for number (after_all (program_tree program.now) (graph_of graph.now) (block_tree body.now)) bounds (state_of state.old)) }
+    ensures turns { state.new.turns ≤ state.old.turns }
+{
+    let mut bounds = bounds;
+    'turns: loop {
+        if !is_below(&bounds) {
+            return Ok(None);
+        }
+        let end = run_for_turn(alloc, body, &bounds, program, graph, state)?;
+        if end.is_some() {
+            return Ok(end);
+        }
+        go_on(&mut bounds);
+    }
+}
+
+/// Takes a turn and runs the body of a `for` with the next value, or answers that no turn is left.
+#[cycle(run)]
+#[tactic(auto, using(crate::proofs::Loops::turn_is_taken))]
+fn run_for_turn(
+    alloc: Global,
+    body: &[MainStatement],
+    bounds: &Bounds,
+    program: &Typed,
+    graph: &Graph,
+    state: &mut State,
+) -> Result<Option<End>, AllocError>
+    ensures meaning { IfOk result (λ end. stand end (state_of state.new)
+        ≡ take_turn state.old.turns (state_of state.old)
+        (for_body (after_all (program_tree program.now) (graph_of graph.now) (block_tree body.now)) bounds.now)) }
+    ensures turns { state.new.turns ≤ state.old.turns }
+    ensures fewer { IfOk result (λ end. IfNone end (state.new.turns < state.old.turns)) }
+{
+    if state.turns == 0 {
+        return Ok(Some(End::TurnsOver));
+    }
+    state.turns -= 1;
+    let depth = depth(state);
+    push_bounds(bounds, state)?;
+    let end = run_all(alloc, body, program, graph, state)?;
+    if end.is_none() {
+        forget(depth, state);
+    }
+    Ok(end)
+}

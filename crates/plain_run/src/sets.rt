@@ -1,0 +1,199 @@
+//! What statements of `main` do with vertex sets.
+ghost use Rattle.std.specs.Prelude.{◌≡◌, [], ◌∷◌, ◌++◌, if◌then◌else◌, nat_lt, IfOk, OnOk, map, slice_get};
+ghost use Rattle.typed_tree.specs.IntegerTree.{integer_tree};
+ghost use Rattle.typed_tree.specs.ProgramTree.{program_tree};
+ghost use Rattle.typed_tree.specs.StepTree.{function_tree};
+ghost use Rattle.algorithm_meaning.specs.EdgeApply.{after_edge_apply, modified};
+ghost use Rattle.algorithm_meaning.specs.Entries.{with_vectors};
+ghost use Rattle.algorithm_meaning.specs.Filter.{filtered};
+ghost use Rattle.plain_run.specs.Seen.{graph_of, stand, state_of};
+ghost use Rattle.algorithm_meaning.specs.Value.{members_of};
+ghost use Rattle.algorithm_meaning.specs.VertexSets.{after_add_vertex, after_assign_set, after_declare_set, inserted, members_for, set_members, vectors_after};
+
+use crate::edge_apply::{apply_edges, modified_vertices};
+use crate::evaluate::members_at;
+use crate::filter::filter_members;
+use crate::opening::vertices_below;
+use crate::read::{fault, vertex_of};
+use crate::state::{Graph, State};
+use algorithm_meaning::{End, VertexSet};
+use std::alloc::{AllocError, Global};
+use typed_tree::{ApplyEnds, Function, IntExpression, Sequence, SetValue, Typed};
+
+/// A set variable begins with this value. Where that is what an apply changed, the vectors are changed too.
+pub(crate) fn declare_set(
+    alloc: Global,
+    name: usize,
+    value: SetValue,
+    program: &Typed,
+    graph: &Graph,
+    state: &mut State,
+) -> Result<(), AllocError>
+    ensures meaning { OnOk result (state_of state.new ≡ after_declare_set (program_tree program.now) (graph_of graph.now) name value (state_of state.old)) }
+    ensures turns { state.new.turns ≡ state.old.turns }
+{
+    let members = value_of(alloc, value, program, graph, state)?;
+    state.sets.push(VertexSet { name, members })?;
+    Ok(())
+}
+
+/// A set variable gets this value, in the same way.
+pub(crate) fn assign_set(
+    alloc: Global,
+    place: usize,
+    value: SetValue,
+    program: &Typed,
+    graph: &Graph,
+    state: &mut State,
+) -> Result<(), AllocError>
+    ensures meaning { OnOk result (state_of state.new ≡ after_assign_set (program_tree program.now) (graph_of graph.now) place value (state_of state.old)) }
+    ensures turns { state.new.turns ≡ state.old.turns }
+{
+    let members = value_of(alloc, value, program, graph, state)?;
+    put_members(place, members, &mut state.sets);
+    Ok(())
+}
+
+/// A set gets one more vertex.
+pub(crate) fn add_vertex(
+    alloc: Global,
+    place: usize,
+    e: &IntExpression,
+    number: u64,
+    vertices: u32,
+    state: &mut State,
+) -> Result<Option<End>, AllocError>
+    ensures meaning { IfOk result (λ end. stand end (state_of state.new)
+        ≡ after_add_vertex vertices number place (integer_tree e.now) (state_of state.old)) }
+    ensures turns { state.new.turns ≡ state.old.turns }
+{
+    let Some(vertex) = vertex_of(e, vertices, state) else {
+        return Ok(fault(number));
+    };
+    let members = with_vertex(alloc, vertex, members_at(&state.sets, place))?;
+    put_members(place, Sequence::new(members), &mut state.sets);
+    Ok(None)
+}
+
+/// The members that a set value has, and the vectors after it.
+fn value_of(
+    alloc: Global,
+    value: SetValue,
+    program: &Typed,
+    graph: &Graph,
+    state: &mut State,
+) -> Result<Sequence<u32>, AllocError>
+    ensures members { IfOk result (λ members. members ≡ members_for (program_tree program.now) (graph_of graph.now) value (state_of state.old)) }
+    ensures vectors { OnOk result (state_of state.new
+        ≡ with_vectors (state_of state.old) (vectors_after (program_tree program.now) (graph_of graph.now) value (state_of state.old))) }
+    ensures turns { state.new.turns ≡ state.old.turns }
+{
+    match value {
+        SetValue::Empty => Ok(Sequence::new(Vec::new(alloc))),
+        SetValue::All => Ok(Sequence::new(vertices_below(alloc, graph.vertices)?)),
+        SetValue::Copy(slot) => {
+            let members = Vec::from_slice(alloc, members_at(&state.sets, slot.place))?;
+            Ok(Sequence::new(members))
+        }
+        SetValue::Filter(slot, function) => {
+            filter_set(alloc, slot.place, function, &program.filters, state)
+        }
+        SetValue::Modified(ends, function, vector) => {
+            apply_modified(alloc, ends, function, vector, program, graph, state)
+        }
+    }
+}
+
+/// The members of a set that a filter lets through.
+fn filter_set(
+    alloc: Global,
+    place: usize,
+    function: usize,
+    filters: &[Function],
+    state: &mut State,
+) -> Result<Sequence<u32>, AllocError>
+    ensures members { IfOk result (λ members. members ≡ filtered (map function_tree filters.now) function state.old.sets.items state.old.vectors.items (members_of (slice_get state.old.sets.items place))) }
+    ensures vectors { OnOk result (state_of state.new ≡ state_of state.old) }
+    ensures turns { state.new.turns ≡ state.old.turns }
+{
+    let members = members_at(&state.sets, place);
+    let kept = filter_members(
+        alloc,
+        filters,
+        function,
+        &state.sets,
+        &mut state.vectors,
+        members,
+    )?;
+    Ok(Sequence::new(kept))
+}
+
+/// Applies an edge function, and gives the vertices whose entry of a vector differs after it.
+fn apply_modified(
+    alloc: Global,
+    ends: ApplyEnds,
+    function: usize,
+    vector: usize,
+    program: &Typed,
+    graph: &Graph,
+    state: &mut State,
+) -> Result<Sequence<u32>, AllocError>
+    ensures members { IfOk result (λ members. members ≡ modified graph.now.vertices vector state.old.vectors.items
+        (after_edge_apply (program_tree program.now).filters (program_tree program.now).edge_functions (graph_of graph.now) ends (function ∷ []) (state_of state.old))) }
+    ensures vectors { OnOk result (state_of state.new ≡ with_vectors (state_of state.old)
+        (after_edge_apply (program_tree program.now).filters (program_tree program.now).edge_functions (graph_of graph.now) ends (function ∷ []) (state_of state.old))) }
+    ensures turns { state.new.turns ≡ state.old.turns }
+{
+    let after = apply_edges(
+        alloc,
+        &program.filters,
+        &program.edge_functions,
+        graph,
+        ends,
+        function,
+        state,
+    )?;
+    let changed = modified_vertices(alloc, graph.vertices, vector, &state.vectors, &after)?;
+    state.vectors = after;
+    Ok(Sequence::new(changed))
+}
+
+/// Gives the set at a place these members; where there is no set nothing is changed.
+fn put_members(place: usize, members: Sequence<u32>, sets: &mut Vec<VertexSet>)
+    ensures { sets.new.items ≡ set_members sets.old.items place members }
+{
+    if place < sets.len() {
+        let set = &mut sets[place];
+        set.members = members;
+    }
+}
+
+/// The members with one more vertex, once, in ascending order.
+#[tactic(auto, using(algorithm_meaning::proofs::Members::inserted_above))]
+fn with_vertex(alloc: Global, vertex: u32, members: &[u32]) -> Result<Vec<u32>, AllocError>
+    ensures { IfOk result (λ v. v.items ≡ inserted vertex members.now) }
+{
+    let mut more = Vec::new(alloc);
+    let mut left = members;
+    'members: while let Some((first, others)) = left.split_first() {
+        if vertex <= *first {
+            push_before(vertex, *first, &mut more)?;
+            more.extend_from_slice(left)?;
+            return Ok(more);
+        }
+        more.push(*first)?;
+        left = others;
+    }
+    more.push(vertex)?;
+    Ok(more)
+}
+
+/// Adds a vertex that is below the next one, and none that is the next one.
+fn push_before(vertex: u32, next: u32, members: &mut Vec<u32>) -> Result<(), AllocError>
+    ensures { OnOk result (members.new.items ≡ members.old.items ++ (if nat_lt vertex next then vertex ∷ [] else [])) }
+{
+    if vertex < next {
+        members.push(vertex)?;
+    }
+    Ok(())
+}

@@ -1,0 +1,30 @@
+//! What a run works on, and what it keeps.
+use algorithm_meaning::VertexSet;
+use typed_tree::Sequence;
+
+/// The graph that a program runs on.
+#[derive(Clone, Copy, Debug)]
+pub(crate) struct Graph<'a> {
+    pub(crate) vertices: u32,
+    pub(crate) edges: &'a [(u32, u32)],
+}
+
+/// The variables that are visible, by their places, and the vertices that a function works on.
+#[derive(Drop)]
+pub(crate) struct Scope {
+    pub(crate) integers: Vec<i64>,
+    pub(crate) conditions: Vec<bool>,
+    pub(crate) source: u32,
+    pub(crate) destination: u32,
+}
+
+/// Where a run stands.
+#[derive(Drop)]
+pub(crate) struct State {
+    pub(crate) vectors: Vec<Sequence<i64>>,
+    pub(crate) sets: Vec<VertexSet>,
+    pub(crate) scope: Scope,
+    pub(crate) text: Vec<u8>,
+    /// How many turns are left.
+    pub(crate) turns: u64,
+}

@@ -1,0 +1,125 @@
+//! Variables, in functions and in `main`, and the statements of `main` on them.
+//!
+//! Each is told its statement's number and the number of vertices, and answers how the run ended if it
+//! did, and then it has changed nothing.
+ghost use Rattle.std.specs.Prelude.{◌≡◌, IfOk, slice_set};
+ghost use Rattle.typed_tree.specs.IntegerTree.{integer_tree};
+ghost use Rattle.typed_tree.specs.ConditionTree.{condition_tree};
+ghost use Rattle.plain_run.specs.Seen.{stand, state_of};
+ghost use Rattle.algorithm_meaning.specs.Variables.{after_declare_condition, after_declare_integer, after_reduce_integer, after_set_condition, after_set_integer};
+
+use crate::evaluate::integer_at;
+use crate::read::{decide, fault, number_of};
+use crate::state::State;
+use algorithm_meaning::{End, reduce};
+use apply_options::Reduction;
+use std::alloc::AllocError;
+use typed_tree::{BoolExpression, IntExpression};
+
+pub(crate) fn declare_integer(
+    e: &IntExpression,
+    number: u64,
+    vertices: u32,
+    state: &mut State,
+) -> Result<Option<End>, AllocError>
+    ensures meaning { IfOk result (λ end. stand end (state_of state.new)
+        ≡ after_declare_integer vertices number (integer_tree e.now) (state_of state.old)) }
+    ensures turns { state.new.turns ≡ state.old.turns }
+{
+    let Some(value) = number_of(e, vertices, state) else {
+        return Ok(fault(number));
+    };
+    state.scope.integers.push(value)?;
+    Ok(None)
+}
+
+pub(crate) fn declare_condition(
+    c: &BoolExpression,
+    number: u64,
+    vertices: u32,
+    state: &mut State,
+) -> Result<Option<End>, AllocError>
+    ensures meaning { IfOk result (λ end. stand end (state_of state.new)
+        ≡ after_declare_condition vertices number (condition_tree c.now) (state_of state.old)) }
+    ensures turns { state.new.turns ≡ state.old.turns }
+{
+    let Some(value) = decide(c, vertices, state) else {
+        return Ok(fault(number));
+    };
+    state.scope.conditions.push(value)?;
+    Ok(None)
+}
+
+pub(crate) fn set_integer(
+    place: usize,
+    e: &IntExpression,
+    number: u64,
+    vertices: u32,
+    state: &mut State,
+) -> Option<End>
+    ensures meaning { stand result (state_of state.new)
+        ≡ after_set_integer vertices number place (integer_tree e.now) (state_of state.old) }
+    ensures turns { state.new.turns ≡ state.old.turns }
+{
+    let Some(value) = number_of(e, vertices, state) else {
+        return fault(number);
+    };
+    put_integer(place, value, &mut state.scope.integers);
+    None
+}
+
+pub(crate) fn set_condition(
+    place: usize,
+    c: &BoolExpression,
+    number: u64,
+    vertices: u32,
+    state: &mut State,
+) -> Option<End>
+    ensures meaning { stand result (state_of state.new)
+        ≡ after_set_condition vertices number place (condition_tree c.now) (state_of state.old) }
+    ensures turns { state.new.turns ≡ state.old.turns }
+{
+    let Some(value) = decide(c, vertices, state) else {
+        return fault(number);
+    };
+    put_condition(place, value, &mut state.scope.conditions);
+    None
+}
+
+pub(crate) fn reduce_integer(
+    place: usize,
+    reduction: Reduction,
+    e: &IntExpression,
+    number: u64,
+    vertices: u32,
+    state: &mut State,
+) -> Option<End>
+    ensures meaning { stand result (state_of state.new)
+        ≡ after_reduce_integer vertices number place reduction (integer_tree e.now) (state_of state.old) }
+    ensures turns { state.new.turns ≡ state.old.turns }
+{
+    let Some(given) = number_of(e, vertices, state) else {
+        return fault(number);
+    };
+    let value = reduce(reduction, integer_at(&state.scope, place), given);
+    put_integer(place, value, &mut state.scope.integers);
+    None
+}
+
+/// Puts a value at a place; where there is no such place nothing is changed.
+pub(crate) fn put_integer(place: usize, value: i64, integers: &mut Vec<i64>)
+    ensures { integers.new.items ≡ slice_set integers.old.items place value }
+{
+    if place < integers.len() {
+        integers[place] = value;
+    }
+}
+
+/// Puts a value at a place; where there is no such place nothing is changed.
+pub(crate) fn put_condition(place: usize, value: bool, conditions: &mut Vec<bool>)
+    ensures { conditions.new.items ≡ slice_set conditions.old.items place value }
+{
+    if place < conditions.len() {
+        conditions[place] = value;
+    }
+}

@@ -1,0 +1,59 @@
+//! `apply` of a vertex function.
+ghost use Rattle.std.specs.Prelude.{◌≡◌, OnOk, map};
+ghost use Rattle.typed_tree.specs.StepTree.{function_tree, steps_tree};
+ghost use Rattle.plain_run.specs.Seen.{state_of};
+ghost use Rattle.algorithm_meaning.specs.VertexApply.{after_apply_vertex, after_vertex, after_vertices};
+
+use crate::evaluate::members_at;
+use crate::function::{Work, begin, new_work, run_steps, steps_at};
+use crate::state::State;
+use algorithm_meaning::{VertexSet, Writing};
+use std::alloc::{AllocError, Global};
+use typed_tree::{Function, FunctionStatement, Sequence};
+
+/// Runs the function at a place for each member of a set alone.
+pub(crate) fn apply_vertex(
+    alloc: Global,
+    functions: &[Function],
+    set: usize,
+    function: usize,
+    state: &mut State,
+) -> Result<(), AllocError>
+    ensures meaning { OnOk result (state_of state.new ≡ after_apply_vertex (map function_tree functions.now) set function (state_of state.old)) }
+    ensures turns { state.new.turns ≡ state.old.turns }
+{
+    let steps = steps_at(functions, function);
+    let members = members_at(&state.sets, set);
+    run_for_vertices(alloc, steps, &state.sets, members, &mut state.vectors)
+}
+
+/// Runs statements for each of these vertices, one vertex after the other.
+fn run_for_vertices(
+    alloc: Global,
+    steps: &[FunctionStatement],
+    sets: &[VertexSet],
+    vertices: &[u32],
+    vectors: &mut Vec<Sequence<i64>>,
+) -> Result<(), AllocError>
+    ensures { OnOk result (vectors.new.items ≡ after_vertices (steps_tree steps.now) sets.now vertices.now vectors.old.items) }
+{
+    let mut work = new_work(alloc);
+    'vertices: for vertex in vertices {
+        run_for_vertex(steps, sets, *vertex, vectors, &mut work)?;
+    }
+    Ok(())
+}
+
+fn run_for_vertex(
+    steps: &[FunctionStatement],
+    sets: &[VertexSet],
+    vertex: u32,
+    vectors: &mut Vec<Sequence<i64>>,
+    work: &mut Work,
+) -> Result<(), AllocError>
+    ensures { OnOk result (vectors.new.items ≡ after_vertex (steps_tree steps.now) sets.now vertex vectors.old.items) }
+{
+    begin(work, vertex, vertex);
+    run_steps(steps, Writing::AtOnce, sets, vectors, work)?;
+    Ok(())
+}

@@ -1,0 +1,174 @@
+-- The bound on the steps of instructions is that on the steps of their plan.
+use Rattle.std.proofs.Common.{◌≡◌, ℕ, zero, suc, ◌+◌, ◌*◌, ◌<◌, Bool, true, false, List, [], ◌∷◌, map, length, Option, Some, None, slice_get, ap, sym, ◌∙◌, refl, subst, arith}
+use Rattle.typed_tree.specs.declared.expression.VarRef.{VarRef}
+use Rattle.typed_tree.specs.declared.statement.ApplyEnds.{ApplyEnds}
+use Rattle.typed_tree.specs.IntegerTree.{IntegerTree}
+use Rattle.typed_tree.specs.ConditionTree.{ConditionTree, Literal}
+use Rattle.typed_tree.specs.BlockTree.{ActionTree, DeclareInteger, DeclareCondition, SetInteger, SetCondition, ReduceInteger, SetEntry, ReduceEntry, DeclareSet, AssignSet, AddVertex, PrintInteger, PrintCondition, ApplyVertex}
+use Rattle.plans.specs.declared.depth.Depth.{Depth}
+use Rattle.plans.specs.Instruction.{EdgePartTree, OperationTree, Do, ApplyEdgesTogether, ApplyVerticesTogether, Unless, Enter, UnlessBelow, Advance, Turn, Jump, End, InstructionTree}
+use Rattle.plans.specs.declared.depth.Counter.{Counter}
+use Rattle.plans.specs.Plan.{plan_of}
+use Rattle.plans.specs.Machine.{Configuration, At, Ended, step}
+use Rattle.plans.proofs.Whole.{steps_lower}
+use Rattle.algorithm_meaning.specs.State.{GraphValue, StateValue}
+use Rattle.apply_options.specs.ScheduleTree.{ScheduleTree}
+use Rattle.typed_tree.specs.ProgramTree.{ProgramTree}
+use Rattle.plans.specs.declared.plan.Plan.{Plan}
+use Rattle.plans.specs.PlanOf.{IsPlan, program_of}
+use Rattle.std.proofs.Math.Bridge.{le_prop}
+use Rattle.std.proofs.Math.Logic.{∥∥₁_elim}
+use Rattle.std.proofs.lemmas.List.{length-map}
+use Rattle.plans.specs.Bound.{uses_turn, is_turn, rank_by, rank_where, most_steps}
+use Rattle.plans.specs.Parts.{part_tree}
+use Rattle.plans.specs.declared.instruction.Instruction.{Instruction}
+use Rattle.plans.specs.declared.operation.Operation.{Operation}
+use Rattle.plans.specs.declared.operation.Operation.TheVariants as op
+use Rattle.plans.specs.Members.{set_value}
+use Rattle.plans.specs.Operation.{IsOperation, AreInstructions}
+use Rattle.plans.specs.Outline.{outline, outline_of, most_steps_of}
+
+-- the bound sees no difference
+record SameBound (o t : OperationTree) : Type 0 where
+  turn : uses_turn o ≡ uses_turn t
+  rank : (count place : ℕ) (before_turn : Bool) → rank_by count place o before_turn ≡ rank_by count place t before_turn
+
+itself_alike : (o : OperationTree) → SameBound o o
+itself_alike o = record { turn = refl; rank = λ count place b. refl }
+
+do_alike : (action : ActionTree) → SameBound End (Do action)
+do_alike action = record { turn = refl; rank = λ count place b. by_test count place b }
+  where
+    by_test : (count place : ℕ) (b : Bool) → rank_by count place End b ≡ rank_by count place (Do action) b
+    by_test count place true = refl
+    by_test count place false = refl
+
+vertices_alike : (set : VarRef) (f g : ℕ) → SameBound End (ApplyVerticesTogether set f g)
+vertices_alike set f g = record { turn = refl; rank = λ count place b. by_test count place b }
+  where
+    by_test : (count place : ℕ) (b : Bool) → rank_by count place End b ≡ rank_by count place (ApplyVerticesTogether set f g) b
+    by_test count place true = refl
+    by_test count place false = refl
+
+edges_alike : (ends : ApplyEnds) (first second : EdgePartTree) → SameBound End (ApplyEdgesTogether ends first second)
+edges_alike ends first second = record { turn = refl; rank = λ count place b. by_test count place b }
+  where
+    by_test : (count place : ℕ) (b : Bool) → rank_by count place End b ≡ rank_by count place (ApplyEdgesTogether ends first second) b
+    by_test count place true = refl
+    by_test count place false = refl
+
+unless_alike : (c : ConditionTree) (to : ℕ) → SameBound (Unless (Literal true) to) (Unless c to)
+unless_alike c to = record { turn = refl; rank = λ count place b. by_test count place b }
+  where
+    by_test : (count place : ℕ) (b : Bool) → rank_by count place (Unless (Literal true) to) b ≡ rank_by count place (Unless c to) b
+    by_test count place true = refl
+    by_test count place false = refl
+
+enter_alike : (name : ℕ) (e : IntegerTree) → SameBound End (Enter name e)
+enter_alike name e = record { turn = refl; rank = λ count place b. by_test count place b }
+  where
+    by_test : (count place : ℕ) (b : Bool) → rank_by count place End b ≡ rank_by count place (Enter name e) b
+    by_test count place true = refl
+    by_test count place false = refl
+
+advance_alike : (name : ℕ) → SameBound End (Advance name)
+advance_alike name = record { turn = refl; rank = λ count place b. by_test count place b }
+  where
+    by_test : (count place : ℕ) (b : Bool) → rank_by count place End b ≡ rank_by count place (Advance name) b
+    by_test count place true = refl
+    by_test count place false = refl
+
+jump_alike : (to : ℕ) → SameBound End (Jump to)
+jump_alike to = record { turn = refl; rank = λ count place b. by_test count place b }
+  where
+    by_test : (count place : ℕ) (b : Bool) → rank_by count place End b ≡ rank_by count place (Jump to) b
+    by_test count place true = refl
+    by_test count place false = refl
+
+-- of an operation it sees the outline
+sees_alike : (keep shown : Depth) (o : Operation) (t : OperationTree) → IsOperation keep shown o t → SameBound (outline o) t
+sees_alike keep shown (op.DeclareInteger name k) t is = subst (SameBound End) (sym is.is) (do_alike (DeclareInteger name is.tree))
+sees_alike keep shown (op.DeclareCondition name k) t is = subst (SameBound End) (sym is.is) (do_alike (DeclareCondition name is.tree))
+sees_alike keep shown (op.SetInteger slot k) t is = subst (SameBound End) (sym is.is) (do_alike (SetInteger slot is.tree))
+sees_alike keep shown (op.SetCondition slot k) t is = subst (SameBound End) (sym is.is) (do_alike (SetCondition slot is.tree))
+sees_alike keep shown (op.ReduceInteger slot reduction k) t is = subst (SameBound End) (sym is.is) (do_alike (ReduceInteger slot reduction is.tree))
+sees_alike keep shown (op.SetEntry vector index k) t is = subst (SameBound End) (sym is.is) (do_alike (SetEntry vector is.index_tree is.value_tree))
+sees_alike keep shown (op.ReduceEntry vector index reduction k) t is = subst (SameBound End) (sym is.is) (do_alike (ReduceEntry vector is.index_tree reduction is.value_tree))
+sees_alike keep shown (op.DeclareSet name members) t is = subst (SameBound End) (sym is) (do_alike (DeclareSet name (set_value members)))
+sees_alike keep shown (op.AssignSet slot members) t is = subst (SameBound End) (sym is) (do_alike (AssignSet slot (set_value members)))
+sees_alike keep shown (op.AddVertex slot k) t is = subst (SameBound End) (sym is.is) (do_alike (AddVertex slot is.tree))
+sees_alike keep shown (op.PrintInteger k) t is = subst (SameBound End) (sym is.is) (do_alike (PrintInteger is.tree))
+sees_alike keep shown (op.PrintCondition k) t is = subst (SameBound End) (sym is.is) (do_alike (PrintCondition is.tree))
+sees_alike keep shown (op.ApplyVertices set first None) t is = subst (SameBound End) (sym is) (do_alike (ApplyVertex set first))
+sees_alike keep shown (op.ApplyVertices set first (Some second)) t is = subst (SameBound End) (sym is) (vertices_alike set first second)
+sees_alike keep shown (op.ApplyEdges ends first None) t is = subst (SameBound End) (sym is.is) (do_alike (is.action))
+sees_alike keep shown (op.ApplyEdges ends first (Some second)) t is = subst (SameBound End) (sym is) (edges_alike ends (part_tree first) (part_tree second))
+sees_alike keep shown (op.Unless k to) t is = subst (SameBound (Unless (Literal true) to)) (sym is.is) (unless_alike is.tree to)
+sees_alike keep shown (op.Enter name k) t is = subst (SameBound End) (sym is.is) (enter_alike name is.tree)
+sees_alike keep shown (op.UnlessBelow name to) t is = subst (SameBound (UnlessBelow name to)) (sym is) (itself_alike (UnlessBelow name to))
+sees_alike keep shown (op.Advance name) t is = subst (SameBound End) (sym is) (advance_alike name)
+sees_alike keep shown op.Turn t is = subst (SameBound Turn) (sym is) (itself_alike Turn)
+sees_alike keep shown (op.Jump to) t is = subst (SameBound End) (sym is) (jump_alike to)
+sees_alike keep shown op.End t is = subst (SameBound End) (sym is) (itself_alike End)
+
+abbrev SameAt : Option InstructionTree → Option InstructionTree → Type 0
+SameAt None None = Unit {0}
+SameAt None (Some t) = ⊥
+SameAt (Some i) None = ⊥
+SameAt (Some i) (Some t) = SameBound i.operation t.operation
+
+same_length : (is : List Instruction) (ts : List InstructionTree) → AreInstructions is ts → length (map outline_of is) ≡ length ts
+same_length [] [] are = refl
+same_length [] (t ∷ ts) are = absurd are
+same_length (i ∷ is) [] are = absurd are
+same_length (i ∷ is) (t ∷ ts) are = ap suc (same_length is ts are.1)
+
+same_at : (is : List Instruction) (ts : List InstructionTree) → AreInstructions is ts → (place : ℕ) → SameAt (slice_get (map outline_of is) place) (slice_get ts place)
+same_at [] [] are place = tt
+same_at [] (t ∷ ts) are place = absurd are
+same_at (i ∷ is) [] are place = absurd are
+same_at (i ∷ is) (t ∷ ts) are zero = sees_alike i.keep i.shown i.operation t.operation are.0.operation
+same_at (i ∷ is) (t ∷ ts) are (suc n) = same_at is ts are.1 n
+
+same_turn : (a b : Option InstructionTree) → SameAt a b → is_turn a ≡ is_turn b
+same_turn None None same = refl
+same_turn None (Some t) same = absurd same
+same_turn (Some i) None same = absurd same
+same_turn (Some i) (Some t) same = same.turn
+
+same_rank : (is ts : List InstructionTree) (place : ℕ) (a b : Option InstructionTree) → length is ≡ length ts → is_turn (slice_get is (place + 1)) ≡ is_turn (slice_get ts (place + 1)) → SameAt a b
+    → rank_where is place a ≡ rank_where ts place b
+same_rank is ts place None None long next same = refl
+same_rank is ts place None (Some t) long next same = absurd same
+same_rank is ts place (Some i) None long next same = absurd same
+same_rank is ts place (Some i) (Some t) long next same =
+    (λ j. rank_by (long j) place i.operation (next j)) ∙ same.rank (length ts) place (is_turn (slice_get ts (place + 1)))
+
+-- instructions and their plan have the same bound
+pub same_bound : (is : List Instruction) (ts : List InstructionTree) → AreInstructions is ts → (c : Configuration) → most_steps_of is c ≡ most_steps ts c
+same_bound is ts are (Ended s end) = refl
+same_bound is ts are (At place loops s) =
+    let os = map outline_of is in
+    let long = same_length is ts are in
+    let next = same_turn (slice_get os (place + 1)) (slice_get ts (place + 1)) (same_at is ts are (place + 1)) in
+    let ranks = same_rank os ts place (slice_get os place) (slice_get ts place) long next (same_at is ts are place) in
+    λ j. s.turns * (2 * long j + 2) + ranks j + 1
+
+-- a step of a plan, from wherever an instruction stands, lowers the bound
+pub step_falls : (plan : Plan) (g : GraphValue) (place : ℕ) (loops : List Counter) (s : StateValue) (next : Configuration) → place < length plan.instructions.items
+    → ((p : ProgramTree) (schedule : ScheduleTree) → IsPlan plan p schedule → next ≡ step p g (plan_of p schedule) (At place loops s))
+    → most_steps_of plan.instructions.items next < most_steps_of plan.instructions.items (At place loops s)
+step_falls plan g place loops s next within goes =
+    ∥∥₁_elim plan.lowered le_prop (λ of.
+    let p = program_of plan in
+    let ts = plan_of p of.schedule in
+    let is = plan.instructions.items in
+    let are = of.planned.instructions in
+    let now = At place loops s in
+    let long = same_length is ts are in
+    let inside : place < length ts = omega (arith, within, long, length-map is outline_of) in
+    let next_is = goes p of.schedule of.planned in
+    let fewer = steps_lower p of.schedule g now inside in
+    let before : most_steps_of is now ≡ most_steps ts now = same_bound is ts are now in
+    let after : most_steps_of is next ≡ most_steps ts (step p g ts now) = same_bound is ts are next ∙ ap (most_steps ts) next_is in
+    omega (arith, before, after, fewer))

@@ -1,0 +1,91 @@
+-- What an instruction shows it keeps.
+use Rattle.std.proofs.Common.{◌≡◌, ℕ, ◌+◌, false, List, [], ◌∷◌, Bool, Option, Some, slice_get, arith}
+use Rattle.typed_tree.specs.BlockTree.{ActionTree, DeclareInteger, DeclareCondition, SetInteger, SetCondition, ReduceInteger, SetEntry, ReduceEntry, DeclareSet, AssignSet, AddVertex, PrintInteger, PrintCondition, ApplyVertex, ApplyEdges, If, IfElse, While, For, BlockTree, Empty, Then}
+use Rattle.typed_tree.specs.ProgramTree.{ProgramTree}
+use Rattle.apply_options.specs.ScheduleTree.{ScheduleTree}
+use Rattle.plans.specs.declared.depth.Depth.{Depth}
+use Rattle.plans.specs.Instruction.{Advance, InstructionTree, Jump}
+use Rattle.plans.specs.Fusing.{Company, Alone, WithNext, WithPrevious, company_of, takes_next}
+use Rattle.plans.specs.Plan.{behind, behind_all, in_loop, loop_step, main_depth, plain, plan, plan_all, plan_in, plan_of, size, size_all, size_in, with_integer}
+use Rattle.plans.proofs.Depths.{IsWithin, within_itself}
+use Rattle.plans.proofs.Origins.{AllOf, all_append, all_at}
+
+-- no more is shown than kept
+abbrev pub ShowsWithin : InstructionTree → Type 0
+ShowsWithin i = IsWithin i.shown i.keep
+
+one_deeper : (d : Depth) → IsWithin d (with_integer d)
+one_deeper d = record { integers = omega arith; conditions = omega arith; sets = omega arith }
+
+two_deeper : (d : Depth) → IsWithin d (in_loop d)
+two_deeper d = record { integers = omega arith; conditions = omega arith; sets = omega arith }
+
+in_company : (company : Company) (s : ScheduleTree) (number : ℕ) (label : Option ℕ) (d : Depth) (is : List InstructionTree) → AllOf ShowsWithin is → AllOf ShowsWithin (plan_in company s number label d is)
+in_company Alone s number label d is own = own
+in_company (WithNext operation) s number label d is own = (within_itself d, tt)
+in_company WithPrevious s number label d is own = tt
+
+module _ (p : ProgramTree) (s : ScheduleTree) where
+  mutual
+    action_shows : (a : ActionTree) (place number : ℕ) (label : Option ℕ) (d : Depth) → AllOf ShowsWithin (plan p s place d number label a)
+    action_shows (DeclareInteger name e) place number label d = (within_itself d, tt)
+    action_shows (DeclareCondition name c) place number label d = (within_itself d, tt)
+    action_shows (SetInteger slot e) place number label d = (within_itself d, tt)
+    action_shows (SetCondition slot c) place number label d = (within_itself d, tt)
+    action_shows (ReduceInteger slot reduction e) place number label d = (within_itself d, tt)
+    action_shows (SetEntry vector index e) place number label d = (within_itself d, tt)
+    action_shows (ReduceEntry vector index reduction e) place number label d = (within_itself d, tt)
+    action_shows (DeclareSet name set) place number label d = (within_itself d, tt)
+    action_shows (AssignSet slot set) place number label d = (within_itself d, tt)
+    action_shows (AddVertex slot e) place number label d = (within_itself d, tt)
+    action_shows (PrintInteger e) place number label d = (within_itself d, tt)
+    action_shows (PrintCondition c) place number label d = (within_itself d, tt)
+    action_shows (ApplyVertex set function) place number label d = (within_itself d, tt)
+    action_shows (ApplyEdges ends function) place number label d = (within_itself d, tt)
+    action_shows (If c body) place number label d = (within_itself d, block_shows body false (place + 1) d)
+    action_shows (IfElse c body others) place number label d =
+        let to = place + 1 + size_all p s d false body + 1 in (
+          within_itself d,
+          all_append ShowsWithin (plan_all p s (place + 1) d false body) (plain number d (Jump (to + size_all p s d false others)) ∷ plan_all p s to d false others)
+              (block_shows body false (place + 1) d) (within_itself d, block_shows others false to d),
+        )
+    action_shows (While c body) place number label d = (
+      within_itself d,
+      (
+        within_itself d,
+        all_append ShowsWithin (plan_all p s (place + 2) d false body) (plain number d (Jump place) ∷ []) (block_shows body false (place + 2) d) (within_itself d, tt),
+      ),
+    )
+    action_shows (For name first end body) place number label d =
+        let deep = in_loop d in (
+          within_itself d,
+          (
+            one_deeper d,
+            (
+              two_deeper d,
+              (
+                two_deeper d,
+                all_append ShowsWithin (plan_all p s (place + 4) deep false body) (plain number d (Advance name) ∷ loop_step number deep d (Jump (place + 2)) ∷ [])
+                    (block_shows body false (place + 4) deep) (within_itself d, (two_deeper d, tt)),
+              ),
+            ),
+          ),
+        )
+
+    block_shows : (b : BlockTree) (is_done : Bool) (place : ℕ) (d : Depth) → AllOf ShowsWithin (plan_all p s place d is_done b)
+    block_shows Empty is_done place d = tt
+    block_shows (Then number label action rest) is_done place d =
+        let company = company_of p s d is_done label action rest in
+        let own = plan p s place d number label action in
+        let n = size_in company (size p s d action) in
+        all_append ShowsWithin (plan_in company s number label d own) (plan_all p s (place + n) (behind action d) (takes_next company) rest)
+        (in_company company s number label d own (action_shows action place number label d))
+        (block_shows rest (takes_next company) (place + n) (behind action d))
+
+-- each instruction of a plan does so
+pub shows_within : (p : ProgramTree) (s : ScheduleTree) (place : ℕ) (i : InstructionTree) → slice_get (plan_of p s) place ≡ Some i → IsWithin i.shown i.keep
+shows_within p s place i at =
+    let d = main_depth p in
+    let last = behind_all p.main d in
+    all_at ShowsWithin (plan_of p s) place i
+    (all_append ShowsWithin (plan_all p s 0 d false p.main) _ (block_shows p s p.main false 0 d) (within_itself last, tt)) at

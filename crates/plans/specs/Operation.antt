@@ -1,0 +1,91 @@
+-- Of which operation of a plan an operation is.
+use Rattle.std.specs.Prelude.{◌≡◌, List, Option, Some, None}
+use Rattle.typed_tree.specs.declared.statement.ApplyEnds.{ApplyEnds}
+use Rattle.typed_tree.specs.IntegerTree.{IntegerTree}
+use Rattle.typed_tree.specs.ConditionTree.{ConditionTree}
+use Rattle.typed_tree.specs.BlockTree.{ActionTree, DeclareInteger, DeclareCondition, SetInteger, SetCondition, ReduceInteger, SetEntry, ReduceEntry, DeclareSet, AssignSet, AddVertex, PrintInteger, PrintCondition, ApplyVertex}
+use Rattle.kernels.specs.declared.expression.ExpressionKernel.{ExpressionKernel}
+use Rattle.kernels.specs.Expressions.{IsIntegerKernel, IsConditionKernel}
+use Rattle.plans.specs.declared.depth.Depth.{Depth}
+use Rattle.plans.specs.Instruction.{OperationTree, Do, ApplyEdgesTogether, ApplyVerticesTogether, Unless, Enter, UnlessBelow, Advance, Turn, Jump, End, InstructionTree}
+use Rattle.plans.specs.Fusing.{edge_apply_of}
+use Rattle.plans.specs.declared.part.EdgePart.{EdgePart}
+use Rattle.plans.specs.Parts.{part_tree}
+use Rattle.plans.specs.declared.operation.Operation.{Operation}
+use Rattle.plans.specs.declared.operation.Operation.TheVariants as op
+use Rattle.plans.specs.declared.instruction.Instruction.{Instruction}
+use Rattle.plans.specs.Kernels.{ArePairwise}
+use Rattle.plans.specs.Members.{set_value}
+
+-- the kernel is made for so many visible variables
+pub record IsFor (d : Depth) (k : ExpressionKernel) : Type 0 where
+  pub integers : k.frame.integers ≡ d.integers
+  pub conditions : k.frame.conditions ≡ d.conditions
+
+-- the operation is made of an expression, of which this is the kernel, where so much is visible
+pub record HasInteger (d : Depth) (k : ExpressionKernel) (make : IntegerTree → OperationTree) (o : OperationTree) : Type 0 where
+  pub tree : IntegerTree
+  pub is : o ≡ make tree
+  pub kernel : IsIntegerKernel k tree
+  pub visible : IsFor d k
+
+pub record HasCondition (d : Depth) (k : ExpressionKernel) (make : ConditionTree → OperationTree) (o : OperationTree) : Type 0 where
+  pub tree : ConditionTree
+  pub is : o ≡ make tree
+  pub kernel : IsConditionKernel k tree
+  pub visible : IsFor d k
+
+-- of an index and a value
+pub record HasEntry (d : Depth) (index value : ExpressionKernel) (make : IntegerTree → IntegerTree → OperationTree) (o : OperationTree) : Type 0 where
+  pub index_tree : IntegerTree
+  pub value_tree : IntegerTree
+  pub is : o ≡ make index_tree value_tree
+  pub index_kernel : IsIntegerKernel index index_tree
+  pub value_kernel : IsIntegerKernel value value_tree
+  pub index_visible : IsFor d index
+  pub value_visible : IsFor d value
+
+-- the operation is a statement that is this edge apply
+pub record AppliesEdges (ends : ApplyEnds) (part : EdgePart) (o : OperationTree) : Type 0 where
+  pub action : ActionTree
+  pub is : o ≡ Do action
+  pub applies : edge_apply_of action ≡ Some (record { ends = ends; part = part_tree part })
+
+abbrev pub ApplyEdgesOf : ApplyEnds → (first : EdgePart) → (second : Option EdgePart) → OperationTree → Type 0
+ApplyEdgesOf ends first None o = AppliesEdges ends first o
+ApplyEdgesOf ends first (Some second) o = o ≡ ApplyEdgesTogether ends (part_tree first) (part_tree second)
+
+-- the operation is this one, where so much is kept and so much is shown
+abbrev pub IsOperation : (keep shown : Depth) → Operation → OperationTree → Type 0
+IsOperation keep shown (op.DeclareInteger name k) o = HasInteger keep k (λ e. Do (DeclareInteger name e)) o
+IsOperation keep shown (op.DeclareCondition name k) o = HasCondition keep k (λ c. Do (DeclareCondition name c)) o
+IsOperation keep shown (op.SetInteger slot k) o = HasInteger keep k (λ e. Do (SetInteger slot e)) o
+IsOperation keep shown (op.SetCondition slot k) o = HasCondition keep k (λ c. Do (SetCondition slot c)) o
+IsOperation keep shown (op.ReduceInteger slot reduction k) o = HasInteger keep k (λ e. Do (ReduceInteger slot reduction e)) o
+IsOperation keep shown (op.SetEntry vector index k) o = HasEntry keep index k (λ i e. Do (SetEntry vector i e)) o
+IsOperation keep shown (op.ReduceEntry vector index reduction k) o = HasEntry keep index k (λ i e. Do (ReduceEntry vector i reduction e)) o
+IsOperation keep shown (op.DeclareSet name members) o = o ≡ Do (DeclareSet name (set_value members))
+IsOperation keep shown (op.AssignSet slot members) o = o ≡ Do (AssignSet slot (set_value members))
+IsOperation keep shown (op.AddVertex slot k) o = HasInteger keep k (λ e. Do (AddVertex slot e)) o
+IsOperation keep shown (op.PrintInteger k) o = HasInteger keep k (λ e. Do (PrintInteger e)) o
+IsOperation keep shown (op.PrintCondition k) o = HasCondition keep k (λ c. Do (PrintCondition c)) o
+IsOperation keep shown (op.ApplyVertices set first None) o = o ≡ Do (ApplyVertex set first)
+IsOperation keep shown (op.ApplyVertices set first (Some second)) o = o ≡ ApplyVerticesTogether set first second
+IsOperation keep shown (op.ApplyEdges ends first second) o = ApplyEdgesOf ends first second o
+IsOperation keep shown (op.Unless k to) o = HasCondition keep k (λ c. Unless c to) o
+IsOperation keep shown (op.Enter name k) o = HasInteger shown k (λ e. Enter name e) o
+IsOperation keep shown (op.UnlessBelow name to) o = o ≡ UnlessBelow name to
+IsOperation keep shown (op.Advance name) o = o ≡ Advance name
+IsOperation keep shown op.Turn o = o ≡ Turn
+IsOperation keep shown (op.Jump to) o = o ≡ Jump to
+IsOperation keep shown op.End o = o ≡ End
+
+pub record IsInstruction (i : Instruction) (t : InstructionTree) : Type 0 where
+  pub number : i.number ≡ t.number
+  pub keep : i.keep ≡ t.keep
+  pub shown : i.shown ≡ t.shown
+  pub choice : i.choice ≡ t.choice
+  pub operation : IsOperation i.keep i.shown i.operation t.operation
+
+abbrev pub AreInstructions : List Instruction → List InstructionTree → Type 0
+AreInstructions is ts = ArePairwise IsInstruction is ts

@@ -1,0 +1,32 @@
+//! Instructions.
+use crate::depth::Depth;
+use crate::operation::Operation;
+use apply_options::ApplySchedule;
+
+/// One step of a run.
+pub struct Instruction {
+    /// The number of the statement of `main` that it came from.
+    pub number: u64,
+    /// What stays visible: a step first forgets what is beyond it.
+    pub keep: Depth,
+    /// What a run shows that ends here.
+    pub shown: Depth,
+    /// What the schedule says of it, which decides only how an edge apply is done.
+    pub choice: ApplySchedule,
+    pub operation: Operation,
+    /// Its words, each with a space behind it, without its number and without the place that it goes to.
+    pub words: Vec<u8>,
+}
+
+impl Drop for Instruction {
+    fn drop(self) {
+        let Instruction {
+            number: _,
+            keep: _,
+            shown: _,
+            choice: _,
+            operation: _,
+            words: _,
+        } = self;
+    }
+}

@@ -1,0 +1,156 @@
+//! What instructions do.
+use crate::members::Members;
+use crate::part::EdgePart;
+use apply_options::Reduction;
+use kernels::ExpressionKernel;
+use typed_tree::{ApplyEnds, VarRef};
+
+/// What an instruction does. A name is the place of one in the plan's names, a vector or a function its place in its list,
+/// and `to` the place of an instruction.
+pub enum Operation {
+    DeclareInteger {
+        name: usize,
+        value: ExpressionKernel,
+    },
+    DeclareCondition {
+        name: usize,
+        value: ExpressionKernel,
+    },
+    SetInteger {
+        slot: VarRef,
+        value: ExpressionKernel,
+    },
+    SetCondition {
+        slot: VarRef,
+        value: ExpressionKernel,
+    },
+    ReduceInteger {
+        slot: VarRef,
+        reduction: Reduction,
+        value: ExpressionKernel,
+    },
+    /// The entry of a vector at an index gets a value.
+    SetEntry {
+        vector: usize,
+        index: ExpressionKernel,
+        value: ExpressionKernel,
+    },
+    /// The entry of a vector at an index is reduced with a value.
+    ReduceEntry {
+        vector: usize,
+        index: ExpressionKernel,
+        reduction: Reduction,
+        value: ExpressionKernel,
+    },
+    DeclareSet {
+        name: usize,
+        members: Members,
+    },
+    AssignSet {
+        slot: VarRef,
+        members: Members,
+    },
+    /// The set gets a vertex.
+    AddVertex {
+        slot: VarRef,
+        vertex: ExpressionKernel,
+    },
+    PrintInteger {
+        value: ExpressionKernel,
+    },
+    PrintCondition {
+        value: ExpressionKernel,
+    },
+    /// One vertex function, or two, at each member of a set.
+    ApplyVertices {
+        set: VarRef,
+        first: usize,
+        second: Option<usize>,
+    },
+    /// One edge function, or two, on the edges between two ends.
+    ApplyEdges {
+        ends: ApplyEnds,
+        first: EdgePart,
+        second: Option<EdgePart>,
+    },
+    /// Goes on at the place unless the test holds.
+    Unless {
+        test: ExpressionKernel,
+        to: usize,
+    },
+    /// A `for` whose name has its first value: the bound, which does not see the name.
+    Enter {
+        name: usize,
+        end: ExpressionKernel,
+    },
+    /// Leaves the innermost `for` for the place unless its value is below its bound.
+    UnlessBelow {
+        name: usize,
+        to: usize,
+    },
+    /// The innermost `for` goes on to its next value.
+    Advance {
+        name: usize,
+    },
+    /// Uses a turn, or ends the run.
+    Turn,
+    Jump {
+        to: usize,
+    },
+    End,
+}
+
+impl Drop for Operation {
+    fn drop(self) {
+        match self {
+            Operation::DeclareInteger { name: _, value: _ }
+            | Operation::DeclareCondition { name: _, value: _ }
+            | Operation::SetInteger { slot: _, value: _ }
+            | Operation::SetCondition { slot: _, value: _ }
+            | Operation::ReduceInteger {
+                slot: _,
+                reduction: _,
+                value: _,
+            }
+            | Operation::SetEntry {
+                vector: _,
+                index: _,
+                value: _,
+            }
+            | Operation::ReduceEntry {
+                vector: _,
+                index: _,
+                reduction: _,
+                value: _,
+            }
+            | Operation::DeclareSet {
+                name: _,
+                members: _,
+            }
+            | Operation::AssignSet {
+                slot: _,
+                members: _,
+            }
+            | Operation::AddVertex { slot: _, vertex: _ }
+            | Operation::PrintInteger { value: _ }
+            | Operation::PrintCondition { value: _ }
+            | Operation::ApplyVertices {
+                set: _,
+                first: _,
+                second: _,
+            }
+            | Operation::ApplyEdges {
+                ends: _,
+                first: _,
+                second: _,
+            }
+            | Operation::Unless { test: _, to: _ }
+            | Operation::Enter { name: _, end: _ }
+            | Operation::UnlessBelow { name: _, to: _ }
+            | Operation::Advance { name: _ }
+            | Operation::Turn
+            | Operation::Jump { to: _ }
+            | Operation::End => {}
+        }
+    }
+}

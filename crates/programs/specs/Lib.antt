@@ -1,2 +1,0 @@
-pub mod Compiled
-pub mod Program

@@ -1,0 +1,52 @@
+-- What engines change, in the words of the meaning.
+use Rattle.std.proofs.Common.{◌≡◌, ℕ, ◌<◌, List, length, ap, ◌∙◌, subst₂, true}
+use Rattle.typed_tree.specs.declared.statement.ApplyEnds.{ApplyEnds}
+use Rattle.typed_tree.specs.ProgramTree.{ProgramTree}
+use Rattle.algorithm_meaning.specs.EdgeApply.{after_edge_apply, after_edges, matching, passes}
+use Rattle.algorithm_meaning.specs.State.{GraphValue, StateValue}
+use Rattle.algorithm_meaning.specs.Value.{entry}
+use Rattle.tree_batch.specs.Digraph.{Digraph, IsDigraph}
+use Rattle.tree_batch.specs.Edge.{has_edge, IsWithin}
+use Rattle.edge_fold.specs.Between.{edges_between}
+use Rattle.edge_fold.specs.Changed.{AreApart, changed, changes_of}
+use Rattle.push_engine.specs.Applied.{AreChangesOn}
+use Rattle.vectors.specs.declared.change.VectorChanges.{VectorChanges}
+use Rattle.plans.specs.Reducing.{AreReduced, steps_at}
+use Rattle.runner.specs.EdgeMap.{AreChangesTo}
+use Rattle.run_state.specs.View.{HasEntryForEach}
+use Rattle.runner.proofs.Between.{count_after_edges, entry_past, matching_between, rows_after_edges}
+use Rattle.runner.proofs.WrittenChanges.{changes_make}
+
+-- changes on the edges that an apply looks at
+changes_on_matching : (p : ProgramTree) (m : StateValue) (g : GraphValue) (ends : ApplyEnds) (places : List ℕ) (cs : List VectorChanges) → HasEntryForEach g.vertices m.vectors
+    → AreReduced (steps_at p.edge_functions places) m → AreApart cs
+    → AreChangesOn g.vertices (matching p.filters g m ends) m (steps_at p.edge_functions places) cs
+    → AreChangesTo g.vertices m.vectors (after_edge_apply p.filters p.edge_functions g ends places m) cs
+changes_on_matching p m g ends places cs long one apart are =
+    let steps = steps_at p.edge_functions places in
+    let edges = matching p.filters g m ends in
+    let differing : (x : ℕ) → x < length m.vectors → changes_of x cs ≡ changed g.vertices (entry m.vectors x) (entry (after_edges steps m.sets m.vectors edges m.vectors) x) =
+    λ x l. are x (one x).reduction (one x).alone (long x l) in
+    record {
+      written = changes_make g.vertices cs m.vectors (after_edges steps m.sets m.vectors edges m.vectors) apart
+          (count_after_edges steps m m.vectors edges m.vectors)
+          (λ x. rows_after_edges steps m m.vectors edges m.vectors x)
+          (λ x v past. entry_past p.filters g m ends steps x v past)
+          differing;
+      differing = differing;
+    }
+
+pub changes_are_meant : (d : Digraph) (p : ProgramTree) (m : StateValue) (g : GraphValue) (ends : ApplyEnds) (places : List ℕ) (cs : List VectorChanges) → IsDigraph d
+    → d.vertices ≡ g.vertices → d.edges ≡ g.edges → HasEntryForEach g.vertices m.vectors
+    → AreReduced (steps_at p.edge_functions places) m → AreApart cs
+    → AreChangesOn d.vertices (edges_between (passes p.filters m ends.from) (passes p.filters m ends.to) d.edges) m (steps_at p.edge_functions places) cs
+    → AreChangesTo g.vertices m.vectors (after_edge_apply p.filters p.edge_functions g ends places m) cs
+changes_are_meant d p m g ends places cs graph count edges long one apart are =
+    let steps = steps_at p.edge_functions places in
+    let from = passes p.filters m ends.from in
+    let to = passes p.filters m ends.to in
+    let within : (e : ℕ × ℕ) → has_edge g.edges e ≡ true → IsWithin g.vertices e =
+    subst₂ (λ (n : ℕ) (es : List (ℕ × ℕ)). (e : ℕ × ℕ) → has_edge es e ≡ true → IsWithin n e) count edges graph.within in
+    let looked_at = ap (λ (es : List (ℕ × ℕ)). edges_between from to es) edges ∙ matching_between p.filters g m ends within in
+    changes_on_matching p m g ends places cs long one apart
+    (subst₂ (λ (n : ℕ) (es : List (ℕ × ℕ)). AreChangesOn n es m steps cs) count looked_at are)

@@ -1,0 +1,16 @@
+use Rattle.std.proofs.Common.{rules, ◌≡◌, ap, sym, subst, slice_get, Some}
+use Rattle.typed_tree.specs.declared.statement.VertexFilter.TheVariants as end
+use Rattle.algorithm_meaning.specs.EdgeApply.{passes}
+use Rattle.algorithm_meaning.specs.Function.{steps_of}
+use Rattle.kernels.specs.Kernels.{IsFilterKernel}
+use Rattle.runner.proofs.ends.end_of.Goals as goal
+
+pub returns-in-Some-Function : goal.returns-in-Some-Function
+returns-in-Some-Function c p m functions sets =
+    let place = c.in-Some-Function.place in
+    let named : c.args.end ≡ Some (end.Function place) = search rules in
+    record {
+      steps = steps_of (slice_get p.filters place);
+      of = subst (λ k. IsFilterKernel k (steps_of (slice_get p.filters place))) (sym c.get-in-Some-Function.ensures) (functions.filter place);
+      result = λ v. ap (λ e. passes p.filters m e v) named;
+    }

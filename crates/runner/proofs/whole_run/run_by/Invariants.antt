@@ -1,0 +1,21 @@
+use Rattle.std.proofs.Common.{◌≡◌}
+use Rattle.typed_tree.specs.ProgramTree.{ProgramTree}
+use Rattle.apply_options.specs.ScheduleTree.{ScheduleTree}
+use Rattle.plans.specs.Plan.{plan_of}
+use Rattle.plans.specs.Reducing.{AppliesReduce}
+use Rattle.plans.specs.PlanOf.{IsPlan}
+use Rattle.run_state.specs.State.{graph_value}
+use Rattle.runner.specs.Position.{configuration_of, steps_left}
+use Rattle.runner.proofs.Running.{IsReached}
+use Rattle.runner.proofs.whole_run.run_by.Given as goal
+
+-- the run is on the graph, and stands where the machine gets to
+abbrev pub invariant-steps : goal.invariant-steps
+invariant-steps g l = record {
+  on : l.run.memory.state.vertices ≡ l.graph.vertices;
+  reached : (p : ProgramTree) (s : ScheduleTree) → IsPlan l.plan p s → AppliesReduce p (plan_of p s) → IsReached p (graph_value l.graph) (plan_of p s) l.turns (configuration_of l.run);
+  applier : g.E.EdgeApplier.is_ready l.by;
+}
+
+abbrev pub decreases-steps : goal.decreases-steps
+decreases-steps g l = steps_left l.plan l.run

@@ -1,0 +1,26 @@
+-- What an edge apply changes, as a whole.
+use Rattle.std.specs.Prelude.{◌≡◌, ℕ, ◌<◌, ◌≤◌, ℤ, List, [], length, slice_index_or}
+use Rattle.typed_tree.specs.ProgramTree.{ProgramTree}
+use Rattle.algorithm_meaning.specs.EdgeApply.{after_edge_apply}
+use Rattle.algorithm_meaning.specs.State.{GraphValue, StateValue}
+use Rattle.algorithm_meaning.specs.Value.{entry}
+use Rattle.edge_fold.specs.Changed.{changed, changes_of}
+use Rattle.plans.specs.Reducing.{AreReduced, places_of, steps_at}
+use Rattle.run_state.specs.declared.run_view.RunView.{RunView}
+use Rattle.run_state.specs.View.{HasEntryForEach, IsViewOf}
+use Rattle.runner.specs.declared.edge_maps.EdgeMap.{EdgeMap}
+use Rattle.vectors.specs.declared.change.VectorChanges.{VectorChanges}
+use Rattle.vectors.specs.Changes.{with_all_changes}
+
+-- the changes make the vectors before into those after, and are, for each vector, the vertices whose entry differs, with
+-- the entries after
+pub record AreChangesTo (vertices : ℕ) (before after : List (List ℤ)) (cs : List VectorChanges) : Type 0 where
+  pub written : with_all_changes cs before ≡ after
+  pub differing : (x : ℕ) → x < length before → changes_of x cs ≡ changed vertices (entry before x) (entry after x)
+
+-- the changes are those of an edge apply, in whatever program, state and graph the run shows, where the functions give
+-- each vector numbers by one reduction
+abbrev pub AreChangesOfApply : RunView → EdgeMap → List VectorChanges → Type 0
+AreChangesOfApply run asked cs = (p : ProgramTree) (m : StateValue) (g : GraphValue) → IsViewOf run p m g → HasEntryForEach g.vertices m.vectors
+    → AreReduced (steps_at p.edge_functions (places_of asked.first asked.second)) m
+    → AreChangesTo g.vertices m.vectors (after_edge_apply p.filters p.edge_functions g asked.ends (places_of asked.first asked.second) m) cs

@@ -1,0 +1,27 @@
+-- Where a job rests, and what a job is.
+use Rattle.std.specs.Prelude.{ℕ, List, Option, Some, None, slice_get}
+use Rattle.algorithm_meaning.specs.State.{StateValue}
+use Rattle.plans.specs.declared.depth.Counter.{Counter}
+use Rattle.plans.specs.declared.instruction.Instruction.{Instruction}
+use Rattle.plans.specs.declared.plan.Plan.{Plan}
+use Rattle.plans.specs.Machine.{Configuration, At, Ended, forgotten}
+use Rattle.tree_batch.specs.Digraph.{Digraph}
+
+-- a run before an instruction, without what that does not see
+abbrev pub kept_at : Option Instruction → (place : ℕ) → List Counter → StateValue → Configuration
+kept_at None place loops s = At place loops s
+kept_at (Some i) place loops s = At place loops (forgotten i.keep s)
+
+abbrev pub resting : List Instruction → Configuration → Configuration
+resting is (At place loops s) = kept_at (slice_get is place) place loops s
+resting is (Ended s end) = Ended s end
+
+-- a run of a plan on a graph, for at most so many turns, and where it stands
+pub record JobValue : Type 0 where
+  pub plan : Plan
+  pub graph : Digraph
+  pub turns : ℕ
+  pub stands : Configuration
+
+abbrev pub job_value : Plan → Digraph → (turns : ℕ) → Configuration → JobValue
+job_value plan graph turns c = record { plan = plan; graph = graph; turns = turns; stands = resting plan.instructions.items c }

@@ -1,0 +1,60 @@
+//! Who does the edge applies of a run.
+ghost use Rattle.std.specs.Prelude.{IfOk};
+ghost use Rattle.runner.specs.EdgeMap.{AreChangesOfApply};
+
+use crate::edge_maps::{EdgeMap, edge_map};
+use edge_fold::Scratch;
+use run_state::RunView;
+use std::alloc::{AllocError, Global};
+use vectors::Changes;
+
+/// Who does the edge applies of a run: one worker or many, it does not matter to the run.
+pub trait EdgeApplier {
+    /// It does applies as it promises.
+    ghost is_ready: { Self → Type 0 };
+
+    /// What an edge apply changes, as [`edge_map`] tells it. It serves any apply after this one, whatever became of it.
+    /// The only error is out of memory.
+    fn edge_map(
+        &mut self,
+        alloc: Global,
+        run: RunView<'_>,
+        asked: EdgeMap,
+    ) -> Result<Changes, AllocError>
+        requires { is_ready self.old }
+        ensures changes { IfOk result (λ c. AreChangesOfApply run.entry asked c.vectors.items) }
+        ensures ready { is_ready self.new };
+}
+
+/// One worker, with the memory that its applies use again and again.
+pub struct Alone {
+    scratch: Scratch,
+}
+
+impl Drop for Alone {
+    fn drop(self) {
+        let Alone { scratch: _ } = self;
+    }
+}
+
+impl Alone {
+    /// It has taken no memory yet.
+    pub fn new(alloc: Global) -> Alone {
+        Alone {
+            scratch: Scratch::new(alloc),
+        }
+    }
+}
+
+impl EdgeApplier for Alone {
+    ghost is_ready = { λ _. Unit {0} };
+
+    fn edge_map(
+        &mut self,
+        alloc: Global,
+        run: RunView<'_>,
+        asked: EdgeMap,
+    ) -> Result<Changes, AllocError> {
+        edge_map(alloc, run, asked, &mut self.scratch)
+    }
+}

@@ -1,0 +1,74 @@
+//! Edge applies of a plan, by one worker.
+ghost use Rattle.std.specs.Prelude.{ℕ, IfOk, slice_get};
+ghost use Rattle.typed_tree.specs.ProgramTree.{ProgramTree};
+ghost use Rattle.algorithm_meaning.specs.Function.{steps_of};
+ghost use Rattle.edge_fold.specs.Folded.{AreKernels};
+ghost use Rattle.kernels.specs.Kernels.{IsEdgeKernel};
+ghost use Rattle.kernels.specs.declared.kernel.EdgeKernel.{EdgeKernel};
+ghost use Rattle.plans.specs.Functions.{AreFunctions};
+ghost use Rattle.plans.specs.Reducing.{places_of, steps_at};
+ghost use Rattle.runner.specs.EdgeMap.{AreChangesOfApply};
+
+use crate::direction::push_or_pull;
+use crate::ends::end_of;
+use apply_options::{ApplySchedule, DenseVertexSet, Direction, Parallelization};
+use edge_fold::Scratch;
+use kernels::EdgeKernel;
+use push_engine::Apply;
+use run_state::RunView;
+use std::alloc::{AllocError, Global};
+use typed_tree::ApplyEnds;
+use vectors::Changes;
+use vertex_sets::{Form, VertexSet};
+
+/// An edge apply of a plan: the edge functions at one or two places, on the edges between two ends, and what the schedule
+/// says of how it is done. An end names a vertex set by its place.
+#[derive(Clone, Copy)]
+pub struct EdgeMap {
+    pub ends: ApplyEnds,
+    pub first: usize,
+    pub second: Option<usize>,
+    pub schedule: ApplySchedule,
+}
+
+/// What an edge apply changes: written to the vectors of the run, the changes make those after the apply. A place without
+/// a set has no members; a place without a function has one that does nothing. It promises so where the functions give
+/// each vector numbers by one reduction, and each vector has an entry for each vertex.
+///
+/// Where the schedule says nothing, a sparse push is done, in one piece. The changes do not depend on it. The vectors,
+/// the sets and the graph stay as they are, and the scratch serves any apply after this one, whatever became of it.
+///
+/// The only error is out of memory.
+pub fn edge_map(
+    alloc: Global,
+    run: RunView<'_>,
+    asked: EdgeMap,
+    scratch: &mut Scratch,
+) -> Result<Changes, AllocError>
+    ensures { IfOk result (λ c. AreChangesOfApply run.entry asked c.vectors.items) }
+{
+    let schedule = asked.schedule;
+    let no_members = VertexSet::empty(alloc, run.graph.vertices(), Form::List)?;
+    let apply = Apply {
+        from: end_of(asked.ends.from, run, &no_members),
+        to: end_of(asked.ends.to, run, &no_members),
+        first: run.functions.edge.get(asked.first),
+        second: second_kernel(run, asked.second),
+        direction: schedule.direction.unwrap_or(Direction::SparsePush),
+        parallelization: schedule.parallelization.unwrap_or(Parallelization::Serial),
+        dense_vertex_set: schedule
+            .dense_vertex_set
+            .unwrap_or(DenseVertexSet::BoolArray),
+    };
+    push_or_pull(alloc, &apply, run.graph, run.vectors, run.sizes, scratch)
+}
+
+/// The kernel of the function at the second place, where there is one.
+fn second_kernel<'a>(run: RunView<'a>, second: Option<usize>) -> Option<&'a EdgeKernel>
+    ensures { (p : ProgramTree) (kernel : EdgeKernel) (first : ℕ) → AreFunctions run.entry.functions.now p
+        → IsEdgeKernel kernel (steps_of (slice_get p.edge_functions first))
+        → AreKernels kernel result (steps_at p.edge_functions (places_of first second)) }
+{
+    let place = second?;
+    Some(run.functions.edge.get(place))
+}

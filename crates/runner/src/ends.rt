@@ -1,0 +1,33 @@
+//! The ends of an apply.
+ghost use Rattle.std.specs.Prelude.{◌≡◌, []};
+ghost use Rattle.typed_tree.specs.ProgramTree.{ProgramTree};
+ghost use Rattle.algorithm_meaning.specs.EdgeApply.{passes};
+ghost use Rattle.algorithm_meaning.specs.State.{StateValue};
+ghost use Rattle.edge_fold.specs.Ends.{IsEndTest};
+ghost use Rattle.plans.specs.Functions.{AreFunctions};
+ghost use Rattle.run_state.specs.View.{HasSets};
+
+use kernels::End;
+use run_state::RunView;
+use typed_tree::VertexFilter;
+use vertex_sets::VertexSet;
+
+/// The end of an apply that a program names: a set where it stands, or the kernel of a filter. A place without a set has
+/// the members of `no_members`, which has none.
+pub(crate) fn end_of<'a>(
+    end: Option<VertexFilter>,
+    run: RunView<'a>,
+    no_members: &'a VertexSet,
+) -> Option<End<'a>>
+    requires { no_members.now.members ≡ [] }
+    ensures { (p : ProgramTree) (m : StateValue) → AreFunctions run.entry.functions.now p → HasSets run.entry m → IsEndTest result m (passes p.filters m end) }
+{
+    match end {
+        None => None,
+        Some(VertexFilter::Members(slot)) => {
+            let set = run.sets.get(slot.place).unwrap_or(no_members);
+            Some(End::Members(set))
+        }
+        Some(VertexFilter::Function(place)) => Some(End::Filter(run.functions.filter.get(place))),
+    }
+}

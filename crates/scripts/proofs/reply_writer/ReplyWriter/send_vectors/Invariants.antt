@@ -1,9 +1,0 @@
-use Rattle.std.proofs.Common.{take}
-use Rattle.std.specs.List.{flat_map}
-use Rattle.scripts.specs.OutcomeText.{vector_line}
-use Rattle.scripts.specs.Sending.{Sends}
-use Rattle.scripts.proofs.reply_writer.ReplyWriter.send_vectors.Given as goal
-
--- those so far are sent
-abbrev pub invariant-vectors : goal.invariant-vectors
-invariant-vectors g l = Sends l.fn.self l.self (flat_map vector_line (take l.vector-index l.vectors))

@@ -1,4 +1,0 @@
-use Rattle.scripts.proofs.session.Session.finish.Goals as goal
-
-pub returns-clause-emits : goal.returns-clause-emits
-returns-clause-emits g c = rw (← c.self.view_is, ← c.deref.ensures.value) c.answer_line.ensures.emits

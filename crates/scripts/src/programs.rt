@@ -1,0 +1,56 @@
+//! Programs that a script may run.
+ghost use Rattle.std.specs.Prelude.{◌≡◌, ◌<◌, List, [], Bool, true, Some, IfOk, length};
+ghost use Rattle.std.specs.List.{slice_get};
+ghost use Rattle.typed_tree.specs.ProgramTree.{ProgramTree};
+ghost use Rattle.scripts.specs.Replies.{is_worker_count, meaning_on};
+
+use algorithm_meaning::Outcome;
+use flat_snapshot::Flat;
+use std::alloc::{AllocError, Global};
+
+/// Programs that a script may run, in the order of their numbers, and how a run of one goes.
+pub trait Programs {
+    /// The programs, as trees.
+    ghost trees: { Self → List ProgramTree };
+
+    /// How many there are.
+    fn count(&self) -> usize
+        ensures { result ≡ length (trees self.now) };
+
+    /// What the program at a place, counted from 0, shows on a snapshot of a graph within a bound of turns, by so many workers.
+    /// The only error is out of memory.
+    fn run(
+        &self,
+        alloc: Global,
+        place: usize,
+        graph: &Flat,
+        turns: u64,
+        workers: u64,
+    ) -> Result<Outcome, AllocError>
+        requires place { place < length (trees self.now) }
+        requires workers { is_worker_count workers ≡ true }
+        ensures { IfOk result (λ o. (program : ProgramTree) → slice_get (trees self.now) place ≡ Some program → o ≡ meaning_on graph.now program turns) };
+}
+
+/// No programs, for a script whose runs are all refused.
+#[derive(Clone, Copy, Debug)]
+pub struct NoPrograms;
+
+impl Programs for NoPrograms {
+    ghost trees = { λ _. [] };
+
+    fn count(&self) -> usize {
+        0
+    }
+
+    fn run(
+        &self,
+        _alloc: Global,
+        _place: usize,
+        _graph: &Flat,
+        _turns: u64,
+        _workers: u64,
+    ) -> Result<Outcome, AllocError> {
+        Err(AllocError)
+    }
+}

@@ -1,0 +1,767 @@
+-- A statement of main without a fault keeps the rules.
+use Rattle.std.proofs.Common.{◌≡◌, ◌⊎◌, inl, inr, refl, sym, subst, ap, ◌∙◌, ℕ, zero, suc, ℤ, pos, negsuc, Bool, true, false, ◌||◌, if◌then◌else◌, nat_eq, List, [], ◌∷◌, ◌++◌, get_or, Option, Some, None}
+use Rattle.std.specs.Prelude.{is_some, slice_index_or}
+use Rattle.std.specs.List.{Contains, list_any}
+use Rattle.std.specs.Map.{lookup}
+use Rattle.std.specs.Option.{option_map}
+use Rattle.std.specs.Str.{bytes_eq}
+use Rattle.std.proofs.lemmas.List.Folds.{list_any_at}
+use Rattle.std.proofs.lemmas.Slice.Eq.{bytes_eq-Decides}
+use Rattle.syntax.specs.Terminals.{Identifier}
+use Rattle.syntax.specs.ExpressionTrees.{ExpressionTree}
+use Rattle.syntax.specs.SourceTrees as source
+use Rattle.syntax.specs.SourceTrees.{EndsTree, InitialTree}
+use Rattle.syntax.specs.declared.declaration.DeclaredType.{DeclaredType}
+use Rattle.syntax.specs.declared.declaration.DeclaredType.TheVariants as declared
+use Rattle.apply_options.specs.declared.reduction.Reduction.{Reduction}
+use Rattle.typed_tree.specs.declared.expression.VarRef.{VarRef}
+use Rattle.typed_tree.specs.declared.statement.SetValue.TheVariants as set
+use Rattle.typed_tree.specs.BlockTree.{BlockTree, Empty}
+use Rattle.typed_tree.specs.IntegerTree.{IntegerTree}
+use Rattle.expression_types.specs.declared.fault.TypeRule.TheVariants as rule
+use Rattle.expression_types.specs.declared.scope.Entity.{Entity}
+use Rattle.expression_types.specs.declared.scope.Entity.TheVariants as entity
+use Rattle.expression_types.specs.declared.scope.Inside.{Inside}
+use Rattle.expression_types.specs.declared.scope.Inside.TheVariants as inside
+use Rattle.expression_types.specs.Expression.{used, value_of, vector_place}
+use Rattle.expression_types.specs.Names.{found}
+use Rattle.expression_types.specs.Operators.{first_condition, first_integer}
+use Rattle.expression_types.specs.ScopeTree.{ScopeTree, declared_over}
+use Rattle.expression_types.specs.ValueTree as value
+use Rattle.expression_types.specs.ValueTree.{ValueTree, condition_reads_entry, named_set, reads_entry}
+use Rattle.expression_types.specs.WithFaults.{WithFaults, fault_at, sure}
+use Rattle.types.specs.Block.{action_typed, behind, closed, statements_typed}
+use Rattle.types.specs.Checker.{CheckerTree, condition_slot, counted, declared_in, integer_slot, labelled, new_label, set_slot}
+use Rattle.types.specs.Initial as initial_value
+use Rattle.types.specs.Initial.{Absent, ApplyEndTree, Degrees, ErrorEnd, ErrorInitializer, InitializerTree, Loaded, Wrong, edge_function, end_of, ends_given, filter_function, filter_named, filtered, filtered_by, initializer_condition, initializer_integer, initializer_members, initializer_of, is_edges, is_error_end, is_wrong, loaded, modified, modified_by, names_error, new_set, of_edges, vector_of, writes_vector}
+use Rattle.types.specs.Statement.{add_vertex, added, apply, applied, assign, assigned, declare_variable, edges_applied, has_ends, print, printed, reduce, reduce_entry, reduced, set_applied, set_entry, vertices_applied}
+use Rattle.types.specs.Statement as statement
+use Rattle.types.specs.Wanted.{as_condition, as_index, as_integer, as_members, condition_in, integer_in, no_index}
+use Rattle.type_laws.specs.EntryAccess.{HasNoEntry}
+use Rattle.type_laws.specs.ExpressionTypes.{ExpressionHas, ExpressionType, IsNumber, IsTruth, NameHas, Number, Set, Truth, Vertex, type_named}
+use Rattle.type_laws.specs.KeptRules.{ActionKeeps, AppliesEdges, AppliesVertices, ApplyFits, AssignFits, AssignsNumber, AssignsSet, AssignsTruth, BlockKeeps, EndFits, EndsFit, GivesMembers, GivesNumber, GivesTruth, Modifies, VariableFits}
+use Rattle.type_laws.specs.Meanings as meaning
+use Rattle.type_laws.specs.ScopeMeanings.{AreMeant, meaning_of, meanings_of}
+use Rattle.type_laws.specs.Meanings.{IsNew, Known, LabelIsNew, Meaning, Meanings, closed_known, known_after, known_behind, labelled_known, reduced_in, variable_meaning, with_name}
+use Rattle.type_laws.proofs.Booleans.{both_false, false_is_not_true, neither_true}
+use Rattle.type_laws.proofs.Faultless.{no_left, no_right, not_empty}
+use Rattle.type_laws.proofs.PlainIndexes.{IsPlain, expression_plain}
+use Rattle.type_laws.proofs.TypedExpressions.{AreConditions, AreIntegers, IsOf, found_meaning}
+use Rattle.type_laws.proofs.FaultlessExpressions.{IsMeant, Typed, VectorFound, as_number, as_truth, expression_typed, used_meant, vector_found}
+use Rattle.type_laws.proofs.KeptNames.{Matches, closed_kept, counted_kept, declared_kept, labelled_kept, labels_named}
+use Rattle.type_laws.proofs.KeptStatements.{action_kept, statements_kept}
+
+-- no name has a faulty declaration
+abbrev pub IsSome : Meaning → Type 0
+IsSome meaning.Nothing = ⊥
+IsSome _ = Unit {0}
+
+abbrev pub AreSome : Meanings → Type 0
+AreSome [] = Unit {0}
+AreSome (x ∷ others) = IsSome x.1 × AreSome others
+
+some_clear : (e : Entity) → IsSome (meaning_of e) → e ≡ entity.Error → ⊥
+some_clear entity.Error is error = is
+some_clear entity.Edges is error = cc
+some_clear (entity.Vector place) is error = cc
+some_clear (entity.ConstantSet slot) is error = cc
+some_clear (entity.IntegerConstant name n) is error = cc
+some_clear (entity.ConditionConstant name b) is error = cc
+some_clear (entity.IntegerVariable slot) is error = cc
+some_clear (entity.ConditionVariable slot) is error = cc
+some_clear (entity.SetVariable slot) is error = cc
+some_clear (entity.LoopVariable slot) is error = cc
+some_clear (entity.Parameter p) is error = cc
+some_clear (entity.EdgeFunction place) is error = cc
+some_clear (entity.VertexFunction place) is error = cc
+some_clear (entity.Filter place) is error = cc
+some_clear entity.Main is error = cc
+
+all_meant : (visible : List (List ℕ × Entity)) → AreSome (meanings_of visible) → AreMeant visible
+all_meant [] all = tt
+all_meant (x ∷ others) all = (some_clear x.1 all.0, all_meant others all.1)
+
+pub more_some : (names : Meanings) (name : List ℕ) (m : Meaning) → AreSome names → IsSome m → AreSome (names ++ (name, m) ∷ [])
+more_some [] name m all is = (is, tt)
+more_some (x ∷ others) name m all is = (all.0, more_some others name m all.1 is)
+
+-- What is known at a point: the checker's names mean something, and are those of the source.
+pub record Sees (i : Inside) (c : CheckerTree) (k : Known) : Type 0 where
+  pub matches : Matches i c k
+  pub some : AreSome k.names
+
+pub meant : (i : Inside) (c : CheckerTree) (k : Known) → Sees i c k → AreMeant c.scope.visible
+meant i c k s = all_meant c.scope.visible (subst AreSome (sym s.matches.names) s.some)
+
+-- expressions
+pub value_typed : (i : Inside) (c : CheckerTree) (k : Known) → Sees i c k → (at : ℕ) (e : ExpressionTree) → (value_of c.scope at e).faults ≡ [] → Typed (value_of c.scope at e) (ExpressionHas k.names i e)
+value_typed i c k s at e none =
+    let t = expression_typed c.scope at (meant i c k s) e none in
+    record { type = t.type; has = subst (λ n. ExpressionHas n i e t.type) s.matches.names (subst (λ j. ExpressionHas (meanings_of c.scope.visible) j e t.type) s.matches.inside t.has); is = t.is }
+
+not_error : (type : ExpressionType) → IsOf type value.ErrorValue → ⊥
+not_error Number is = is
+not_error Truth is = is
+not_error (Vertex p) is = is
+not_error Set is = is
+
+pub integer_of : (at : ℕ) (type : ExpressionType) (v : ValueTree) → IsOf type v → (as_integer at v).faults ≡ [] → AreIntegers (first_integer v)
+integer_of at type (value.Integer e) is none = tt
+integer_of at type (value.Condition c) is none = absurd (not_empty _ _ none)
+integer_of at type (value.Vertex p) is none = tt
+integer_of at type (value.Set slot) is none = absurd (not_empty _ _ none)
+integer_of at type value.ErrorValue is none = absurd (not_error type is)
+
+pub condition_of : (at : ℕ) (type : ExpressionType) (v : ValueTree) → IsOf type v → (as_condition at v).faults ≡ [] → AreConditions (first_condition v)
+condition_of at type (value.Integer e) is none = absurd (not_empty _ _ none)
+condition_of at type (value.Condition c) is none = tt
+condition_of at type (value.Vertex p) is none = absurd (not_empty _ _ none)
+condition_of at type (value.Set slot) is none = absurd (not_empty _ _ none)
+condition_of at type value.ErrorValue is none = absurd (not_error type is)
+
+set_type : (type : ExpressionType) (slot : VarRef) → IsOf type (value.Set slot) → type ≡ Set
+set_type Set slot is = refl
+set_type Number slot is = absurd is
+set_type Truth slot is = absurd is
+set_type (Vertex p) slot is = absurd is
+
+pub set_of : (at : ℕ) (type : ExpressionType) (v : ValueTree) → IsOf type v → (as_members at v).faults ≡ [] → type ≡ Set
+set_of at type (value.Integer e) is none = absurd (not_empty _ _ none)
+set_of at type (value.Condition c) is none = absurd (not_empty _ _ none)
+set_of at type (value.Vertex p) is none = absurd (not_empty _ _ none)
+set_of at type (value.Set slot) is none = set_type type slot is
+set_of at type value.ErrorValue is none = absurd (not_error type is)
+
+pub value_number : (i : Inside) (c : CheckerTree) (k : Known) → Sees i c k → (at : ℕ) (e : ExpressionTree) → (value_of c.scope at e).faults ≡ [] → (as_integer at (value_of c.scope at e).value).faults ≡ []
+    → IsNumber k.names i e
+value_number i c k s at e none wanted =
+    let t = value_typed i c k s at e none in as_number (value_of c.scope at e) (ExpressionHas k.names i e) t (integer_of at t.type (value_of c.scope at e).value t.is wanted)
+
+pub value_truth : (i : Inside) (c : CheckerTree) (k : Known) → Sees i c k → (at : ℕ) (e : ExpressionTree) → (value_of c.scope at e).faults ≡ [] → (as_condition at (value_of c.scope at e).value).faults ≡ []
+    → IsTruth k.names i e
+value_truth i c k s at e none wanted =
+    let t = value_typed i c k s at e none in as_truth (value_of c.scope at e) (ExpressionHas k.names i e) t (condition_of at t.type (value_of c.scope at e).value t.is wanted)
+
+pub integer_number : (i : Inside) (c : CheckerTree) (k : Known) → Sees i c k → (at : ℕ) (e : ExpressionTree) → (integer_in c.scope at e).faults ≡ [] → IsNumber k.names i e
+integer_number i c k s at e none = value_number i c k s at e (no_left (value_of c.scope at e).faults _ none) (no_right (value_of c.scope at e).faults _ none)
+
+pub condition_truth : (i : Inside) (c : CheckerTree) (k : Known) → Sees i c k → (at : ℕ) (e : ExpressionTree) → (condition_in c.scope at e).faults ≡ [] → IsTruth k.names i e
+condition_truth i c k s at e none = value_truth i c k s at e (no_left (value_of c.scope at e).faults _ none) (no_right (value_of c.scope at e).faults _ none)
+
+-- names
+pub used_is : (i : Inside) (c : CheckerTree) (k : Known) → Sees i c k → (name : Identifier) → (used c.scope name).faults ≡ [] → IsMeant k.names name (used c.scope name).value
+used_is i c k s name none =
+    let m = used_meant c.scope name (meant i c k s) none in record { means = subst (λ n. found name.bytes n ≡ Some (meaning_of (used c.scope name).value)) s.matches.names m.means; clear = m.clear }
+
+pub vector_is_found : (i : Inside) (c : CheckerTree) (k : Known) → Sees i c k → (at : ℕ) (name : Identifier) → (vector_place c.scope at name).faults ≡ [] → VectorFound (vector_place c.scope at name) k.names name
+vector_is_found i c k s at name none =
+    let v = vector_found c.scope at name (meant i c k s) none in
+    record { vector = v.vector; means = subst (λ n. found name.bytes n ≡ Some (meaning.Vector v.vector)) s.matches.names v.means; place = v.place }
+
+clear_no_error : (e : Entity) → (e ≡ entity.Error → ⊥) → names_error e ≡ false
+clear_no_error entity.Error clear = absurd (clear refl)
+clear_no_error _ clear = refl
+
+-- the meanings of what is found
+edges_mean : (e : Entity) → is_edges e ≡ true → meaning_of e ≡ meaning.Edges
+edges_mean entity.Edges is = refl
+edges_mean _ is = absurd (false_is_not_true is)
+
+set_means : (e : Entity) (slot : VarRef) → named_set e ≡ Some slot → type_named (Some (meaning_of e)) ≡ Some Set
+set_means (entity.ConstantSet x) slot is = refl
+set_means (entity.SetVariable x) slot is = refl
+set_means _ slot is = absurd cc
+
+filter_means : (e : Entity) (place : ℕ) → filter_function e ≡ Some place → meaning_of e ≡ meaning.Filter
+filter_means (entity.Filter x) place is = refl
+filter_means _ place is = absurd cc
+
+edge_function_means : (e : Entity) (place : ℕ) → edge_function e ≡ Some place → meaning_of e ≡ meaning.EdgeFunction place
+edge_function_means (entity.EdgeFunction x) place is = cc
+edge_function_means _ place is = absurd cc
+
+vertex_function_means : (e : Entity) (place : ℕ) → initial_value.vertex_function e ≡ Some place → meaning_of e ≡ meaning.VertexFunction
+vertex_function_means (entity.VertexFunction x) place is = refl
+vertex_function_means _ place is = absurd cc
+
+vector_means : (e : Entity) (place : ℕ) → vector_of e ≡ Some place → meaning_of e ≡ meaning.Vector place
+vector_means (entity.Vector x) place is = cc
+vector_means _ place is = absurd cc
+
+means_as : (names : Meanings) (name : Identifier) (e : Entity) (m : Meaning) → IsMeant names name e → meaning_of e ≡ m → found name.bytes names ≡ Some m
+means_as names name e m is same = is.means ∙ ap Some same
+
+has_as : (names : Meanings) (name : Identifier) (e : Entity) (type : ExpressionType) → IsMeant names name e → type_named (Some (meaning_of e)) ≡ Some type → NameHas names name type
+has_as names name e type is same = subst (λ o. type_named o ≡ Some type) (sym is.means) same
+
+-- initial values: the edges' own
+of_edges_is : (at : ℕ) (x : InitializerTree) (e : Entity) → (e ≡ entity.Error → ⊥) → (of_edges at x e).faults ≡ [] → (meaning_of e ≡ meaning.Edges) × ((of_edges at x e).value ≡ x)
+of_edges_is at x entity.Edges clear none = (refl, refl)
+of_edges_is at x entity.Error clear none = absurd (clear refl)
+of_edges_is at x _ clear none = absurd (not_empty _ _ none)
+
+-- a filter on a set
+abbrev pub AreMembers : InitializerTree → Type 0
+AreMembers (initial_value.Members m) = Unit {0}
+AreMembers _ = ⊥
+
+pub record Filters (m : WithFaults InitializerTree) (s f : Entity) : Type 0 where
+  pub set : type_named (Some (meaning_of s)) ≡ Some Set
+  pub filter : meaning_of f ≡ meaning.Filter
+  pub members : AreMembers m.value
+
+filtered_by_is : (at : ℕ) (s f : Entity) (a : Option VarRef) (b : Option ℕ) → named_set s ≡ a → filter_function f ≡ b → (filtered_by at a b).faults ≡ [] → Filters (filtered_by at a b) s f
+filtered_by_is at s f None b one other none = absurd (not_empty _ _ none)
+filtered_by_is at s f (Some slot) None one other none = absurd (not_empty _ _ none)
+filtered_by_is at s f (Some slot) (Some place) one other none = record { set = set_means s slot one; filter = filter_means f place other; members = tt }
+
+filtered_is : (at : ℕ) (s f : Entity) → (s ≡ entity.Error → ⊥) → (f ≡ entity.Error → ⊥) → (filtered at s f).faults ≡ [] → Filters (filtered at s f) s f
+filtered_is at s f clear also none =
+    let neither = neither_true (names_error s) (names_error f) (clear_no_error s clear) (clear_no_error f also) in
+    subst (λ m. Filters m s f) (sym (at_test neither)) (filtered_by_is at s f (named_set s) (filter_function f) refl refl (subst (λ (m : WithFaults InitializerTree). m.faults ≡ []) (at_test neither) none))
+  where
+    at_test : (names_error s || names_error f) ≡ false → filtered at s f ≡ filtered_by at (named_set s) (filter_function f)
+    at_test is = ap (λ b. if b then sure ErrorInitializer else filtered_by at (named_set s) (filter_function f)) is
+
+-- ends of applies
+named_end_is_clear : (e : Entity) → (e ≡ entity.Error → ⊥) → is_error_end (filter_named e) ≡ false
+named_end_is_clear entity.Error clear = absurd (clear refl)
+named_end_is_clear _ clear = refl
+
+pub end_is_clear : (i : Inside) (c : CheckerTree) (k : Known) → Sees i c k → (name : Option Identifier) → (end_of c.scope name).faults ≡ [] → is_error_end (end_of c.scope name).value ≡ false
+end_is_clear i c k s None none = refl
+end_is_clear i c k s (Some name) none = named_end_is_clear (used c.scope name).value (used_is i c k s name (no_left (used c.scope name).faults [] none)).clear
+
+named_end_fits : (names : Meanings) (name : Identifier) (e : Entity) → IsMeant names name e → is_wrong (filter_named e) ≡ false → NameHas names name Set ⊎ (found name.bytes names ≡ Some meaning.Filter)
+named_end_fits names name (entity.ConstantSet slot) is right = inl (has_as names name (entity.ConstantSet slot) Set is refl)
+named_end_fits names name (entity.SetVariable slot) is right = inl (has_as names name (entity.SetVariable slot) Set is refl)
+named_end_fits names name (entity.Filter place) is right = inr is.means
+named_end_fits names name entity.Error is right = absurd (is.clear refl)
+named_end_fits names name _ is right = absurd cc
+
+pub end_fits : (i : Inside) (c : CheckerTree) (k : Known) → Sees i c k → (name : Option Identifier) → (end_of c.scope name).faults ≡ [] → is_wrong (end_of c.scope name).value ≡ false → EndFits k.names name
+end_fits i c k s None none right = tt
+end_fits i c k s (Some name) none right = named_end_fits k.names name (used c.scope name).value (used_is i c k s name (no_left (used c.scope name).faults [] none)) right
+
+-- the members that an apply modifies
+pub record ModifiesBy (m : WithFaults InitializerTree) (c : CheckerTree) (e f v : Entity) (a b : ApplyEndTree) : Type 0 where
+  pub edges : meaning_of e ≡ meaning.Edges
+  pub from : is_wrong a ≡ false
+  pub to : is_wrong b ≡ false
+  pub place : ℕ
+  pub vector : ℕ
+  pub by : Reduction
+  pub function_means : meaning_of f ≡ meaning.EdgeFunction place
+  pub vector_means_it : meaning_of v ≡ meaning.Vector vector
+  pub writes : lookup (nat_eq vector) (slice_index_or c.written place []) ≡ Some by
+  pub members : AreMembers m.value
+
+some_value : (o : Option Reduction) → is_some o ≡ true → (by : Reduction) × (o ≡ Some by)
+some_value None is = absurd (false_is_not_true is)
+some_value (Some by) is = (by, refl)
+
+modified_by_is : (c : CheckerTree) (at : ℕ) (e f v : Entity) (a b : ApplyEndTree) → meaning_of e ≡ meaning.Edges → is_wrong a ≡ false → is_wrong b ≡ false → (g : Option ℕ) (w : Option ℕ)
+    → edge_function f ≡ g → vector_of v ≡ w → (modified_by c at (ends_given a b) g w).faults ≡ [] → ModifiesBy (modified_by c at (ends_given a b) g w) c e f v a b
+modified_by_is c at e f v a b edges from to None w one other none = absurd (not_empty _ _ none)
+modified_by_is c at e f v a b edges from to (Some place) None one other none = absurd (not_empty _ _ none)
+modified_by_is c at e f v a b edges from to (Some place) (Some vector) one other none = at_test (writes_vector c.written place vector) refl none
+  where
+    at_test : (x : Bool) → writes_vector c.written place vector ≡ x
+        → (if x then sure (initial_value.Members (set.Modified (ends_given a b) place vector)) else fault_at at rule.WrongType ErrorInitializer).faults ≡ []
+        → ModifiesBy (if x then sure (initial_value.Members (set.Modified (ends_given a b) place vector)) else fault_at at rule.WrongType ErrorInitializer) c e f v a b
+    at_test true is none =
+        let by = some_value (lookup (nat_eq vector) (slice_index_or c.written place [])) is in
+        record { edges = edges; from = from; to = to; place = place; vector = vector; by = by.0; function_means = edge_function_means f place one; vector_means_it = vector_means v vector other; writes = by.1; members = tt }
+    at_test false is none = absurd (not_empty _ _ none)
+
+abbrev modified_at : CheckerTree → ℕ → (f v : Entity) → (a b : ApplyEndTree) → (error edges wrong : Bool) → WithFaults InitializerTree
+modified_at c at f v a b error edges wrong =
+    if error then sure ErrorInitializer
+    else (if edges then (if wrong then fault_at at rule.WrongType ErrorInitializer else modified_by c at (ends_given a b) (edge_function f) (vector_of v)) else fault_at at rule.WrongType ErrorInitializer)
+
+modified_where : (c : CheckerTree) (at : ℕ) (e f v : Entity) (a b : ApplyEndTree) (error edges wrong : Bool) → error ≡ false → is_edges e ≡ edges → (is_wrong a || is_wrong b) ≡ wrong
+    → (modified_at c at f v a b error edges wrong).faults ≡ [] → ModifiesBy (modified_at c at f v a b error edges wrong) c e f v a b
+modified_where c at e f v a b true edges wrong clear are is none = absurd cc
+modified_where c at e f v a b false false wrong clear are is none = absurd (not_empty _ _ none)
+modified_where c at e f v a b false true true clear are is none = absurd (not_empty _ _ none)
+modified_where c at e f v a b false true false clear are is none =
+    let right = both_false (is_wrong a) (is_wrong b) is in
+    modified_by_is c at e f v a b (edges_mean e are) right.0 right.1 (edge_function f) (vector_of v) refl refl none
+
+modified_is : (c : CheckerTree) (at : ℕ) (e f v : Entity) (a b : ApplyEndTree) → (e ≡ entity.Error → ⊥) → (f ≡ entity.Error → ⊥) → (v ≡ entity.Error → ⊥) → is_error_end a ≡ false → is_error_end b ≡ false
+    → (modified c at e a b f v).faults ≡ [] → ModifiesBy (modified c at e a b f v) c e f v a b
+modified_is c at e f v a b clear_e clear_f clear_v clear_a clear_b none =
+    let all = neither_true (names_error e || is_error_end a || is_error_end b || names_error f) (names_error v)
+    (neither_true (names_error e || is_error_end a || is_error_end b) (names_error f)
+    (neither_true (names_error e || is_error_end a) (is_error_end b) (neither_true (names_error e) (is_error_end a) (clear_no_error e clear_e) clear_a) clear_b) (clear_no_error f clear_f)) (clear_no_error v clear_v) in
+    modified_where c at e f v a b (names_error e || is_error_end a || is_error_end b || names_error f || names_error v) (is_edges e) (is_wrong a || is_wrong b) all refl refl none
+
+-- What an initial value is that has no fault.
+abbrev pub Gives : (i : Inside) (c : CheckerTree) (k : Known) → ℕ → InitialTree → InitializerTree → Type 0
+Gives i c k at (source.NewSet size) g = (size ≡ pos 0) × AreMembers g
+Gives i c k at (source.Load argument) g = (argument ≡ pos 1) × (g ≡ Loaded)
+Gives i c k at (source.Vertices edges) g = (found edges.bytes k.names ≡ Some meaning.Edges) × (g ≡ initial_value.Members set.All)
+Gives i c k at (source.OutDegrees edges) g = (found edges.bytes k.names ≡ Some meaning.Edges) × (g ≡ Degrees)
+Gives i c k at (source.Filter s f) g = (NameHas k.names s Set × (found f.bytes k.names ≡ Some meaning.Filter)) × AreMembers g
+Gives i c k at (source.ApplyModified edges ends f v) g = ((found edges.bytes k.names ≡ Some meaning.Edges) × EndsFit k.names ends × Modifies k f v) × AreMembers g
+Gives i c k at (source.Value e) g = ((value_of c.scope at e).faults ≡ []) × (g ≡ initial_value.Typed (value_of c.scope at e).value)
+
+new_set_is : (at : ℕ) (size : ℤ) → (new_set at size).faults ≡ [] → (size ≡ pos 0) × AreMembers (new_set at size).value
+new_set_is at (pos zero) none = (refl, tt)
+new_set_is at (pos (suc n)) none = absurd (not_empty _ _ none)
+new_set_is at (negsuc n) none = absurd (not_empty _ _ none)
+
+loaded_is : (at : ℕ) (n : ℤ) → (loaded at n).faults ≡ [] → (n ≡ pos 1) × ((loaded at n).value ≡ Loaded)
+loaded_is at (pos zero) none = absurd (not_empty _ _ none)
+loaded_is at (pos (suc zero)) none = (refl, refl)
+loaded_is at (pos (suc (suc n))) none = absurd (not_empty _ _ none)
+loaded_is at (negsuc n) none = absurd (not_empty _ _ none)
+
+pub initial_gives : (i : Inside) (c : CheckerTree) (k : Known) → Sees i c k → (at : ℕ) (initial : InitialTree) → (initializer_of c at initial).faults ≡ [] → Gives i c k at initial (initializer_of c at initial).value
+initial_gives i c k s at (source.NewSet size) none = new_set_is at size none
+initial_gives i c k s at (source.Load argument) none = loaded_is at argument none
+initial_gives i c k s at (source.Vertices edges) none =
+    let e = used c.scope edges in
+    let m = used_is i c k s edges (no_left e.faults _ none) in
+    let x = of_edges_is at (initial_value.Members set.All) e.value m.clear (no_right e.faults _ none) in
+    (means_as k.names edges e.value meaning.Edges m x.0, x.1)
+initial_gives i c k s at (source.OutDegrees edges) none =
+    let e = used c.scope edges in
+    let m = used_is i c k s edges (no_left e.faults _ none) in
+    let x = of_edges_is at Degrees e.value m.clear (no_right e.faults _ none) in
+    (means_as k.names edges e.value meaning.Edges m x.0, x.1)
+initial_gives i c k s at (source.Filter set test) none =
+    let e = used c.scope set in
+    let f = used c.scope test in
+    let behind = no_right e.faults _ none in
+    let m = used_is i c k s set (no_left e.faults _ none) in
+    let n = used_is i c k s test (no_left f.faults _ behind) in
+    let x = filtered_is at e.value f.value m.clear n.clear (no_right f.faults _ behind) in
+    ((has_as k.names set e.value Set m x.set, means_as k.names test f.value meaning.Filter n x.filter), x.members)
+initial_gives i c k s at (source.ApplyModified edges ends f v) none =
+    let e = used c.scope edges in
+    let a = end_of c.scope ends.from in
+    let b = end_of c.scope ends.to in
+    let g = used c.scope f in
+    let w = used c.scope v in
+    let behind_e = no_right e.faults _ none in
+    let behind_a = no_right a.faults _ behind_e in
+    let behind_b = no_right b.faults _ behind_a in
+    let behind_g = no_right g.faults _ behind_b in
+    let m = used_is i c k s edges (no_left e.faults _ none) in
+    let n = used_is i c k s f (no_left g.faults _ behind_b) in
+    let o = used_is i c k s v (no_left w.faults _ behind_g) in
+    let from = no_left a.faults _ behind_e in
+    let to = no_left b.faults _ behind_a in
+    let x = modified_is c at e.value g.value w.value a.value b.value m.clear n.clear o.clear (end_is_clear i c k s ends.from from) (end_is_clear i c k s ends.to to) (no_right w.faults _ behind_g) in (
+      (
+        means_as k.names edges e.value meaning.Edges m x.edges,
+        (end_fits i c k s ends.from from x.from, end_fits i c k s ends.to to x.to),
+        record {
+          place = x.place;
+          written = x.vector;
+          by = x.by;
+          function_means = means_as k.names f g.value (meaning.EdgeFunction x.place) n x.function_means;
+          vector_means = means_as k.names v w.value (meaning.Vector x.vector) o x.vector_means_it;
+          writes = subst (λ ws. lookup (nat_eq x.vector) (slice_index_or ws x.place []) ≡ Some x.by) s.matches.written x.writes;
+        },
+      ),
+      x.members,
+    )
+initial_gives i c k s at (source.Value e) none = (no_left (value_of c.scope at e).faults [] none, refl)
+
+-- members are no number, and no condition
+no_number : (at : ℕ) (g : InitializerTree) → AreMembers g → (initializer_integer at g).faults ≡ [] → ⊥
+no_number at (initial_value.Members m) are none = not_empty _ _ none
+no_number at (initial_value.Typed v) are none = are
+no_number at Loaded are none = are
+no_number at Degrees are none = are
+no_number at ErrorInitializer are none = are
+
+no_truth : (at : ℕ) (g : InitializerTree) → AreMembers g → (initializer_condition at g).faults ≡ [] → ⊥
+no_truth at (initial_value.Members m) are none = not_empty _ _ none
+no_truth at (initial_value.Typed v) are none = are
+no_truth at Loaded are none = are
+no_truth at Degrees are none = are
+no_truth at ErrorInitializer are none = are
+
+pub gives_number : (i : Inside) (c : CheckerTree) (k : Known) → Sees i c k → (at : ℕ) (initial : InitialTree) → (initializer_of c at initial).faults ≡ []
+    → (initializer_integer at (initializer_of c at initial).value).faults ≡ [] → GivesNumber k.names i initial
+gives_number i c k s at initial none wanted = at_initial initial (initializer_of c at initial).value (initial_gives i c k s at initial none) wanted
+  where
+    at_initial : (initial : InitialTree) (g : InitializerTree) → Gives i c k at initial g → (initializer_integer at g).faults ≡ [] → GivesNumber k.names i initial
+    at_initial (source.NewSet size) g is wanted = no_number at g is.1 wanted
+    at_initial (source.Load argument) g is wanted = not_empty _ _ (subst (λ g. (initializer_integer at g).faults ≡ []) is.1 wanted)
+    at_initial (source.Vertices edges) g is wanted = not_empty _ _ (subst (λ g. (initializer_integer at g).faults ≡ []) is.1 wanted)
+    at_initial (source.OutDegrees edges) g is wanted = not_empty _ _ (subst (λ g. (initializer_integer at g).faults ≡ []) is.1 wanted)
+    at_initial (source.Filter set test) g is wanted = no_number at g is.1 wanted
+    at_initial (source.ApplyModified edges ends f v) g is wanted = no_number at g is.1 wanted
+    at_initial (source.Value e) g is wanted = value_number i c k s at e is.0 (subst (λ g. (initializer_integer at g).faults ≡ []) is.1 wanted)
+
+pub gives_truth : (i : Inside) (c : CheckerTree) (k : Known) → Sees i c k → (at : ℕ) (initial : InitialTree) → (initializer_of c at initial).faults ≡ []
+    → (initializer_condition at (initializer_of c at initial).value).faults ≡ [] → GivesTruth k.names i initial
+gives_truth i c k s at initial none wanted = at_initial initial (initializer_of c at initial).value (initial_gives i c k s at initial none) wanted
+  where
+    at_initial : (initial : InitialTree) (g : InitializerTree) → Gives i c k at initial g → (initializer_condition at g).faults ≡ [] → GivesTruth k.names i initial
+    at_initial (source.NewSet size) g is wanted = no_truth at g is.1 wanted
+    at_initial (source.Load argument) g is wanted = not_empty _ _ (subst (λ g. (initializer_condition at g).faults ≡ []) is.1 wanted)
+    at_initial (source.Vertices edges) g is wanted = not_empty _ _ (subst (λ g. (initializer_condition at g).faults ≡ []) is.1 wanted)
+    at_initial (source.OutDegrees edges) g is wanted = not_empty _ _ (subst (λ g. (initializer_condition at g).faults ≡ []) is.1 wanted)
+    at_initial (source.Filter set test) g is wanted = no_truth at g is.1 wanted
+    at_initial (source.ApplyModified edges ends f v) g is wanted = no_truth at g is.1 wanted
+    at_initial (source.Value e) g is wanted = value_truth i c k s at e is.0 (subst (λ g. (initializer_condition at g).faults ≡ []) is.1 wanted)
+
+pub gives_members : (i : Inside) (c : CheckerTree) (k : Known) → Sees i c k → (at : ℕ) (initial : InitialTree) → (initializer_of c at initial).faults ≡ []
+    → (initializer_members at (initializer_of c at initial).value).faults ≡ [] → GivesMembers k i initial
+gives_members i c k s at initial none wanted = at_initial initial (initializer_of c at initial).value (initial_gives i c k s at initial none) wanted
+  where
+    at_initial : (initial : InitialTree) (g : InitializerTree) → Gives i c k at initial g → (initializer_members at g).faults ≡ [] → GivesMembers k i initial
+    at_initial (source.NewSet size) g is wanted = is.0
+    at_initial (source.Load argument) g is wanted = not_empty _ _ (subst (λ g. (initializer_members at g).faults ≡ []) is.1 wanted)
+    at_initial (source.Vertices edges) g is wanted = is.0
+    at_initial (source.OutDegrees edges) g is wanted = not_empty _ _ (subst (λ g. (initializer_members at g).faults ≡ []) is.1 wanted)
+    at_initial (source.Filter set test) g is wanted = is.0
+    at_initial (source.ApplyModified edges ends f v) g is wanted = is.0
+    at_initial (source.Value e) g is wanted =
+        let t = value_typed i c k s at e is.0 in
+        subst (ExpressionHas k.names i e) (set_of at t.type (value_of c.scope at e).value t.is (subst (λ g. (initializer_members at g).faults ≡ []) is.1 wanted)) t.has
+
+-- declarations, whose names are new
+no_meaning_found : (name : List ℕ) (visible : List (List ℕ × Entity)) (o : Option Entity) → found name visible ≡ o → o ≡ None → found name (meanings_of visible) ≡ None
+no_meaning_found name visible o is none = found_meaning name visible ∙ ap (option_map meaning_of) (is ∙ none)
+
+not_redeclared : (name : Identifier) (e : Entity) (scope : ScopeTree) (o : Option Entity) → (declared_over o name e scope).faults ++ [] ≡ [] → o ≡ None
+not_redeclared name e scope None none = refl
+not_redeclared name e scope (Some old) none = absurd (not_empty _ _ none)
+
+pub declares_new : (i : Inside) (c : CheckerTree) (k : Known) → Sees i c k → (name : Identifier) (e : Entity) → (declared_in c name e).faults ≡ [] → IsNew k name
+declares_new i c k s name e none =
+    subst (λ ns. found name.bytes ns ≡ None) s.matches.names
+    (no_meaning_found name.bytes c.scope.visible (found name.bytes c.scope.visible) refl (not_redeclared name e c.scope (found name.bytes c.scope.visible) none))
+
+declare_keeps : (c : CheckerTree) (k : Known) → Sees inside.Main c k → (at : ℕ) (name : Identifier) (initial : InitialTree) (type : DeclaredType) → (declare_variable c at name type initial).faults ≡ []
+    → VariableFits inside.Main k type initial × IsNew k name
+declare_keeps c k s at name initial declared.Int none =
+    let g = initializer_of c at initial in
+    let x = initializer_integer at g.value in
+    let behind_g = no_right g.faults _ none in
+    let d = no_right x.faults _ behind_g in (
+      gives_number inside.Main c k s at initial (no_left g.faults _ none) (no_left x.faults _ behind_g),
+      declares_new inside.Main c k s name (entity.IntegerVariable (integer_slot c)) (no_left (declared_in c name (entity.IntegerVariable (integer_slot c))).faults [] d),
+    )
+declare_keeps c k s at name initial declared.Bool none =
+    let g = initializer_of c at initial in
+    let x = initializer_condition at g.value in
+    let behind_g = no_right g.faults _ none in
+    let d = no_right x.faults _ behind_g in (
+      gives_truth inside.Main c k s at initial (no_left g.faults _ none) (no_left x.faults _ behind_g),
+      declares_new inside.Main c k s name (entity.ConditionVariable (condition_slot c)) (no_left (declared_in c name (entity.ConditionVariable (condition_slot c))).faults [] d),
+    )
+declare_keeps c k s at name initial declared.VertexSet none =
+    let g = initializer_of c at initial in
+    let x = initializer_members at g.value in
+    let behind_g = no_right g.faults _ none in
+    let d = no_right x.faults _ behind_g in (
+      (tt, gives_members inside.Main c k s at initial (no_left g.faults _ none) (no_left x.faults _ behind_g)),
+      declares_new inside.Main c k s name (entity.SetVariable (set_slot c)) (no_left (declared_in c name (entity.SetVariable (set_slot c))).faults [] d),
+    )
+declare_keeps c k s at name initial declared.Vertex none = absurd (not_empty _ _ (no_right (initializer_of c at initial).faults _ none))
+declare_keeps c k s at name initial declared.Vector none = absurd (not_empty _ _ (no_right (initializer_of c at initial).faults _ none))
+declare_keeps c k s at name initial declared.EdgeSet none = absurd (not_empty _ _ (no_right (initializer_of c at initial).faults _ none))
+
+-- assignments
+assigned_fits : (c : CheckerTree) (k : Known) → Sees inside.Main c k → (at : ℕ) (name : Identifier) (initial : InitialTree) → (initializer_of c at initial).faults ≡ [] → (e : Entity) → IsMeant k.names name e
+    → (assigned at (initializer_of c at initial).value e).faults ≡ [] → AssignFits inside.Main k name initial
+assigned_fits c k s at name initial given (entity.IntegerVariable slot) is none =
+    AssignsNumber is.means (gives_number inside.Main c k s at initial given (no_left (initializer_integer at (initializer_of c at initial).value).faults [] none))
+assigned_fits c k s at name initial given (entity.ConditionVariable slot) is none =
+    AssignsTruth is.means (gives_truth inside.Main c k s at initial given (no_left (initializer_condition at (initializer_of c at initial).value).faults [] none))
+assigned_fits c k s at name initial given (entity.SetVariable slot) is none =
+    AssignsSet is.means tt (gives_members inside.Main c k s at initial given (no_left (initializer_members at (initializer_of c at initial).value).faults [] none))
+assigned_fits c k s at name initial given entity.Error is none = absurd (is.clear refl)
+assigned_fits c k s at name initial given _ is none = absurd (not_empty _ _ none)
+
+assign_keeps : (c : CheckerTree) (k : Known) → Sees inside.Main c k → (at : ℕ) (name : Identifier) (initial : InitialTree) → (assign c at name initial).faults ≡ [] → AssignFits inside.Main k name initial
+assign_keeps c k s at name initial none =
+    let u = used c.scope name in
+    let g = initializer_of c at initial in
+    let behind_u = no_right u.faults _ none in
+    assigned_fits c k s at name initial (no_left g.faults _ behind_u) u.value (used_is inside.Main c k s name (no_left u.faults _ none)) (no_right g.faults _ behind_u)
+
+-- reductions, and vertices that are added
+reduced_is : (names : Meanings) (at : ℕ) (name : Identifier) (by : Reduction) (v : ValueTree) (e : Entity) → IsMeant names name e → (reduced at by v e).faults ≡ []
+    → (found name.bytes names ≡ Some meaning.NumberVariable) × ((as_integer at v).faults ≡ [])
+reduced_is names at name by v (entity.IntegerVariable slot) is none = (is.means, no_left (as_integer at v).faults [] none)
+reduced_is names at name by v entity.Error is none = absurd (is.clear refl)
+reduced_is names at name by v _ is none = absurd (not_empty _ _ none)
+
+reduce_keeps : (c : CheckerTree) (k : Known) → Sees inside.Main c k → (at : ℕ) (name : Identifier) (by : Reduction) (e : ExpressionTree) → (reduce c.scope at name by e).faults ≡ []
+    → (found name.bytes k.names ≡ Some meaning.NumberVariable) × IsNumber k.names inside.Main e
+reduce_keeps c k s at name by e none =
+    let u = used c.scope name in
+    let v = value_of c.scope at e in
+    let behind_u = no_right u.faults _ none in
+    let x = reduced_is k.names at name by v.value u.value (used_is inside.Main c k s name (no_left u.faults _ none)) (no_right v.faults _ behind_u) in
+    (x.0, value_number inside.Main c k s at e (no_left v.faults _ behind_u) x.1)
+
+added_is : (names : Meanings) (at : ℕ) (name : Identifier) (v : ValueTree) (e : Entity) → IsMeant names name e → (added at v e).faults ≡ []
+    → (found name.bytes names ≡ Some meaning.SetVariable) × ((as_integer at v).faults ≡ [])
+added_is names at name v (entity.SetVariable slot) is none = (is.means, no_left (as_integer at v).faults [] none)
+added_is names at name v entity.Error is none = absurd (is.clear refl)
+added_is names at name v _ is none = absurd (not_empty _ _ none)
+
+add_keeps : (c : CheckerTree) (k : Known) → Sees inside.Main c k → (at : ℕ) (name : Identifier) (e : ExpressionTree) → (add_vertex c.scope at name e).faults ≡ []
+    → (found name.bytes k.names ≡ Some meaning.SetVariable) × IsNumber k.names inside.Main e
+add_keeps c k s at name e none =
+    let u = used c.scope name in
+    let v = value_of c.scope at e in
+    let behind_u = no_right u.faults _ none in
+    let x = added_is k.names at name v.value u.value (used_is inside.Main c k s name (no_left u.faults _ none)) (no_right v.faults _ behind_u) in
+    (x.0, value_number inside.Main c k s at e (no_left v.faults _ behind_u) x.1)
+
+-- entries
+if_plain_index : (at : ℕ) (e : IntegerTree) (b : Bool) → reads_entry e ≡ b → (if b then fault_at at rule.WrongIndex None else sure (Some e)).faults ≡ [] → reads_entry e ≡ false
+if_plain_index at e true is none = absurd (not_empty _ _ none)
+if_plain_index at e false is none = is
+
+no_index_fault : (at : ℕ) (b : Bool) → (no_index at b).faults ≡ [] → ⊥
+no_index_fault at true none = not_empty _ _ none
+no_index_fault at false none = not_empty _ _ none
+
+index_is : (at : ℕ) (type : ExpressionType) (v : ValueTree) → IsOf type v → (as_index at v).faults ≡ [] → AreIntegers (first_integer v) × IsPlain v
+index_is at type (value.Integer e) is none = (tt, if_plain_index at e (reads_entry e) refl none)
+index_is at type (value.Condition c) is none = absurd (no_index_fault at (condition_reads_entry c) none)
+index_is at type (value.Vertex p) is none = (tt, tt)
+index_is at type (value.Set slot) is none = absurd (not_empty _ _ none)
+index_is at type value.ErrorValue is none = absurd (not_error type is)
+
+pub record KeepsEntry (k : Known) (name : Identifier) (index e : ExpressionTree) : Type 0 where
+  pub vector : ℕ
+  pub means : found name.bytes k.names ≡ Some (meaning.Vector vector)
+  pub number : IsNumber k.names inside.Main index
+  pub plain : HasNoEntry index
+  pub value : IsNumber k.names inside.Main e
+
+entry_keeps : (c : CheckerTree) (k : Known) → Sees inside.Main c k → (at : ℕ) (name : Identifier) (index e : ExpressionTree)
+    → (vector_place c.scope at name).faults ++ ((value_of c.scope at index).faults ++ ((as_index at (value_of c.scope at index).value).faults ++ ((integer_in c.scope at e).faults ++ []))) ≡ []
+    → KeepsEntry k name index e
+entry_keeps c k s at name index e none =
+    let place = vector_place c.scope at name in
+    let v = value_of c.scope at index in
+    let i = as_index at v.value in
+    let x = integer_in c.scope at e in
+    let behind_place = no_right place.faults _ none in
+    let behind_v = no_right v.faults _ behind_place in
+    let behind_i = no_right i.faults _ behind_v in
+    let there = vector_is_found inside.Main c k s at name (no_left place.faults _ none) in
+    let t = value_typed inside.Main c k s at index (no_left v.faults _ behind_place) in
+    let fits = index_is at t.type v.value t.is (no_left i.faults _ behind_v) in
+    record {
+      vector = there.vector;
+      means = there.means;
+      number = as_number v (ExpressionHas k.names inside.Main index) t fits.0;
+      plain = expression_plain c.scope at index fits.1;
+      value = integer_number inside.Main c k s at e (no_left x.faults [] behind_i);
+    }
+
+-- what is printed
+printed_is : (at : ℕ) (type : ExpressionType) (v : ValueTree) → IsOf type v → (printed at v).faults ≡ [] → AreIntegers (first_integer v) ⊎ AreConditions (first_condition v)
+printed_is at type (value.Integer e) is none = inl tt
+printed_is at type (value.Condition c) is none = inr tt
+printed_is at type (value.Vertex p) is none = inl tt
+printed_is at type (value.Set slot) is none = absurd (not_empty _ _ none)
+printed_is at type value.ErrorValue is none = absurd (not_error type is)
+
+print_keeps : (c : CheckerTree) (k : Known) → Sees inside.Main c k → (at : ℕ) (e : ExpressionTree) → (print c.scope at e).faults ≡ [] → IsNumber k.names inside.Main e ⊎ IsTruth k.names inside.Main e
+print_keeps c k s at e none =
+    let v = value_of c.scope at e in
+    let t = value_typed inside.Main c k s at e (no_left v.faults _ none) in
+    elim (printed_is at t.type v.value t.is (no_right v.faults _ none)) [
+      | inl number ↦ inl (as_number v (ExpressionHas k.names inside.Main e) t number)
+      | inr truth ↦ inr (as_truth v (ExpressionHas k.names inside.Main e) t truth)
+    ]
+
+-- applies
+pub record AppliesTo (t f : Entity) (a b : ApplyEndTree) (ends : Bool) : Type 0 where
+  pub edges : ((meaning_of t ≡ meaning.Edges) × (is_wrong a ≡ false) × (is_wrong b ≡ false) × ((place : ℕ) × (meaning_of f ≡ meaning.EdgeFunction place)))
+      ⊎ ((type_named (Some (meaning_of t)) ≡ Some Set) × (ends ≡ false) × (meaning_of f ≡ meaning.VertexFunction))
+
+edge_function_there : (at : ℕ) (a b : ApplyEndTree) (f : Entity) (o : Option ℕ) → edge_function f ≡ o → (edges_applied at a b false o).faults ≡ [] → (place : ℕ) × (meaning_of f ≡ meaning.EdgeFunction place)
+edge_function_there at a b f None is none = absurd (not_empty _ _ none)
+edge_function_there at a b f (Some place) is none = (place, edge_function_means f place is)
+
+vertex_function_there : (at : ℕ) (slot : VarRef) (f : Entity) (o : Option ℕ) → initial_value.vertex_function f ≡ o → (vertices_applied at slot false o).faults ≡ [] → meaning_of f ≡ meaning.VertexFunction
+vertex_function_there at slot f None is none = absurd (not_empty _ _ none)
+vertex_function_there at slot f (Some place) is none = vertex_function_means f place is
+
+set_applies : (at : ℕ) (t f : Entity) (a b : ApplyEndTree) (ends : Bool) (o : Option VarRef) → names_error f ≡ false → named_set t ≡ o → (set_applied at ends f o).faults ≡ [] → AppliesTo t f a b ends
+set_applies at t f a b ends None clear is none = absurd (not_empty _ _ none)
+set_applies at t f a b true (Some slot) clear is none = absurd (not_empty _ _ none)
+set_applies at t f a b false (Some slot) clear is none = record {
+  edges = inr (set_means t slot is, refl, vertex_function_there at slot f (initial_value.vertex_function f) refl (subst (λ x. (vertices_applied at slot x (initial_value.vertex_function f)).faults ≡ []) clear none));
+}
+
+applied_where : (at : ℕ) (t f : Entity) (a b : ApplyEndTree) (ends : Bool) (error edges wrong : Bool) → error ≡ false → names_error f ≡ false → is_edges t ≡ edges → (is_wrong a || is_wrong b) ≡ wrong
+    → (if error then sure statement.no_action else (if edges then (if wrong then fault_at at rule.WrongType statement.no_action else edges_applied at a b (names_error f) (edge_function f)) else set_applied at ends f (named_set t))).faults ≡ []
+    → AppliesTo t f a b ends
+applied_where at t f a b ends true edges wrong clear also are is none = absurd cc
+applied_where at t f a b ends false false wrong clear also are is none = set_applies at t f a b ends (named_set t) also refl none
+applied_where at t f a b ends false true true clear also are is none = absurd (not_empty _ _ none)
+applied_where at t f a b ends false true false clear also are is none =
+    let right = both_false (is_wrong a) (is_wrong b) is in
+    record { edges = inl (edges_mean t are, right.0, right.1, edge_function_there at a b f (edge_function f) refl (subst (λ x. (edges_applied at a b x (edge_function f)).faults ≡ []) also none)) }
+
+no_end : (from to : Option Identifier) → (is_some from || is_some to) ≡ false → (from ≡ None) × (to ≡ None)
+no_end None None is = (refl, refl)
+no_end None (Some to) is = absurd cc
+no_end (Some from) to is = absurd cc
+
+apply_keeps : (c : CheckerTree) (k : Known) → Sees inside.Main c k → (at : ℕ) (target : Identifier) (ends : EndsTree) (function : Identifier) → (apply c.scope at target ends function).faults ≡ []
+    → ApplyFits k target ends function
+apply_keeps c k s at target ends function none =
+    let t = used c.scope target in
+    let a = end_of c.scope ends.from in
+    let b = end_of c.scope ends.to in
+    let f = used c.scope function in
+    let behind_t = no_right t.faults _ none in
+    let behind_a = no_right a.faults _ behind_t in
+    let behind_b = no_right b.faults _ behind_a in
+    let m = used_is inside.Main c k s target (no_left t.faults _ none) in
+    let n = used_is inside.Main c k s function (no_left f.faults _ behind_b) in
+    let x = applied_where at t.value f.value a.value b.value (has_ends ends) (names_error t.value) (is_edges t.value) (is_wrong a.value || is_wrong b.value)
+    (clear_no_error t.value m.clear) (clear_no_error f.value n.clear) refl refl (no_right f.faults _ behind_b) in
+    elim x.edges [
+      | inl edges ↦ AppliesEdges edges.3.0 (means_as k.names target t.value meaning.Edges m edges.0)
+          (end_fits inside.Main c k s ends.from (no_left a.faults _ behind_t) edges.1, end_fits inside.Main c k s ends.to (no_left b.faults _ behind_a) edges.2)
+          (means_as k.names function f.value (meaning.EdgeFunction edges.3.0) n edges.3.1)
+      | inr vertices ↦ AppliesVertices (has_as k.names target t.value Set m vertices.0) (no_end ends.from ends.to vertices.1).0 (no_end ends.from ends.to vertices.1).1
+          (means_as k.names function f.value meaning.VertexFunction n vertices.2)
+    ]
+
+-- labels
+is_first : (b : Bool) (place : ℕ) (o : Option ℕ) → (if b then Some place else o) ≡ None → (b ≡ false) × (o ≡ None)
+is_first true place o is = absurd cc
+is_first false place o is = (refl, is)
+
+found_nowhere : (label : List ℕ) (labels : List (List ℕ × ℕ)) → found label labels ≡ None → list_any (bytes_eq label) (labels_named labels) ≡ false
+found_nowhere label [] none = refl
+found_nowhere label (x ∷ others) none =
+    let first = is_first (bytes_eq label x.0) x.1 (found label others) none in
+    neither_true (bytes_eq label x.0) (list_any (bytes_eq label) (labels_named others)) first.0 (found_nowhere label others first.1)
+
+contained_nowhere : (label : List ℕ) (labels : List (List ℕ × ℕ)) → found label labels ≡ None → Contains (labels_named labels) label → ⊥
+contained_nowhere label labels none there =
+    let same : bytes_eq label (get_or (labels_named labels) there.0 label) ≡ true = (bytes_eq-Decides label (get_or (labels_named labels) there.0 label)).1 (sym there.2) in
+    false_is_not_true (sym (found_nowhere label labels none) ∙ list_any_at (bytes_eq label) (labels_named labels) there.0 label there.1 same)
+
+label_keeps : (i : Inside) (c : CheckerTree) (k : Known) → Matches i c k → (label : Option Identifier) → (labelled c label).faults ≡ [] → LabelIsNew k label
+label_keeps i c k m None none = tt
+label_keeps i c k m (Some label) none = subst (λ ls. Contains ls label.bytes → ⊥) m.labels (at_found (found label.bytes c.labels) refl none)
+  where
+    at_found : (o : Option ℕ) → found label.bytes c.labels ≡ o → (new_label c label o).faults ≡ [] → Contains (labels_named c.labels) label.bytes → ⊥
+    at_found None is none there = contained_nowhere label.bytes c.labels is there
+    at_found (Some place) is none there = not_empty _ _ none
+
+-- what is known behind a statement that keeps the rules means something
+variable_some : (i : Inside) (k : Known) (type : DeclaredType) (initial : InitialTree) → VariableFits i k type initial → IsSome (variable_meaning type)
+variable_some i k declared.Int initial fits = tt
+variable_some i k declared.Bool initial fits = tt
+variable_some i k declared.VertexSet initial fits = tt
+variable_some i k declared.Vertex initial fits = absurd fits
+variable_some i k declared.Vector initial fits = absurd fits
+variable_some i k declared.EdgeSet initial fits = absurd fits
+
+reduced_some : (i : Inside) (k : Known) (vector : Identifier) (by : Reduction) → AreSome k.names → AreSome (reduced_in i k vector by).names
+reduced_some inside.Main k vector by some = some
+reduced_some inside.EdgeFunction k vector by some = some
+reduced_some inside.VertexFunction k vector by some = some
+reduced_some inside.Filter k vector by some = some
+
+pub behind_some : (i : Inside) (k : Known) (action : source.ActionTree) → AreSome k.names → ActionKeeps i k action → AreSome (known_behind i k action).names
+behind_some i k (source.Declare at p initial) some keeps = more_some k.names p.name.bytes (variable_meaning p.declared) some (variable_some i k p.declared initial keeps.0)
+behind_some i k (source.While at test body) some keeps = some
+behind_some i k (source.For at name first limit body) some keeps = some
+behind_some i k (source.If at test body) some keeps = some
+behind_some i k (source.IfElse at test body otherwise) some keeps = some
+behind_some i k (source.Print at e) some keeps = some
+behind_some i k (source.Assign name initial) some keeps = some
+behind_some i k (source.Reduce name by e) some keeps = some
+behind_some i k (source.SetEntry vector index e) some keeps = some
+behind_some i k (source.ReduceEntry vector index by e) some keeps = reduced_some i k vector by some
+behind_some i k (source.AddVertex set e) some keeps = some
+behind_some i k (source.Apply target ends function) some keeps = some
+
+label_some : (k : Known) (label : Option Identifier) → AreSome k.names → AreSome (labelled_known k label).names
+label_some k None some = some
+label_some k (Some label) some = some
+
+pub labelled_sees : (i : Inside) (c : CheckerTree) (k : Known) → Sees i c k → (label : Option Identifier) → (labelled c label).faults ≡ [] → LabelIsNew k label × Sees i (labelled c label).value.1 (labelled_known k label)
+labelled_sees i c k s label none =
+    let new = label_keeps i c k s.matches label none in
+    (new, record { matches = (labelled_kept i c k s.matches label new).1; some = label_some k label s.some })
+
+mutual
+  pub action_keeps : (c : CheckerTree) (k : Known) → Sees inside.Main c k → (action : source.ActionTree) → (action_typed c action).faults ≡ [] → ActionKeeps inside.Main k action
+  action_keeps c k s (source.Declare at p initial) none = declare_keeps c k s at p.name initial p.declared none
+  action_keeps c k s (source.While at test body) none =
+      let t = condition_in c.scope at test in
+      let b = statements_typed c Empty body in
+      (tt, condition_truth inside.Main c k s at test (no_left t.faults _ none), statements_keep c k s Empty body (no_left b.faults [] (no_right t.faults _ none)))
+  action_keeps c k s (source.For at name first limit body) none =
+      let a = integer_in c.scope at first in
+      let z = integer_in c.scope at limit in
+      let e = entity.LoopVariable (integer_slot c) in
+      let d = declared_in c name e in
+      let b = statements_typed d.value Empty body in
+      let behind_a = no_right a.faults _ none in
+      let behind_z = no_right z.faults _ behind_a in
+      let new = declares_new inside.Main c k s name e (no_left d.faults _ behind_z) in
+      let inner : Sees inside.Main d.value (with_name k name meaning.LoopName) = record { matches = (declared_kept inside.Main c k s.matches name e meaning.LoopName refl new).1; some = more_some k.names name.bytes meaning.LoopName s.some tt } in (
+        tt,
+        integer_number inside.Main c k s at first (no_left a.faults _ none),
+        integer_number inside.Main c k s at limit (no_left z.faults _ behind_a),
+        new,
+        statements_keep d.value (with_name k name meaning.LoopName) inner Empty body (no_left b.faults [] (no_right d.faults _ behind_z)),
+      )
+  action_keeps c k s (source.If at test body) none =
+      let t = condition_in c.scope at test in
+      let b = statements_typed c Empty body in
+      (condition_truth inside.Main c k s at test (no_left t.faults _ none), statements_keep c k s Empty body (no_left b.faults [] (no_right t.faults _ none)))
+  action_keeps c k s (source.IfElse at test body otherwise) none =
+      let t = condition_in c.scope at test in
+      let b = statements_typed c Empty body in
+      let d = closed c b.value.1 in
+      let o = statements_typed d Empty otherwise in
+      let behind_t = no_right t.faults _ none in
+      let first = statements_keep c k s Empty body (no_left b.faults _ behind_t) in
+      let inner : Sees inside.Main d (closed_known k (known_after inside.Main k body)) = record { matches = closed_kept inside.Main inside.Main c b.value.1 k (known_after inside.Main k body) s.matches (statements_kept c k s.matches Empty body first).1; some = s.some } in (
+        condition_truth inside.Main c k s at test (no_left t.faults _ none),
+        first,
+        statements_keep d (closed_known k (known_after inside.Main k body)) inner Empty otherwise (no_left o.faults [] (no_right b.faults _ behind_t)),
+      )
+  action_keeps c k s (source.Print at e) none = (tt, print_keeps c k s at e (no_left (print c.scope at e).faults [] none))
+  action_keeps c k s (source.Assign name initial) none = assign_keeps c k s name.at name initial (no_left (assign c name.at name initial).faults [] none)
+  action_keeps c k s (source.Reduce name by e) none = reduce_keeps c k s name.at name by e (no_left (reduce c.scope name.at name by e).faults [] none)
+  action_keeps c k s (source.SetEntry vector index e) none =
+      let x = entry_keeps c k s vector.at vector index e (no_left (set_entry c.scope vector.at vector index e).faults [] none) in
+      (tt, record { vector = x.vector; means = x.means }, (x.number, x.plain), x.value)
+  action_keeps c k s (source.ReduceEntry vector index by e) none =
+      let x = entry_keeps c k s vector.at vector index e (no_left (reduce_entry c.scope vector.at vector index by e).faults [] none) in
+      record { place = x.vector; means = x.means; may = tt; at = (x.number, x.plain); value = x.value }
+  action_keeps c k s (source.AddVertex set e) none =
+      let x = add_keeps c k s set.at set e (no_left (add_vertex c.scope set.at set e).faults [] none) in (tt, x.0, x.1)
+  action_keeps c k s (source.Apply target ends function) none = (tt, apply_keeps c k s target.at target ends function (no_left (apply c.scope target.at target ends function).faults [] none))
+
+  pub statements_keep : (c : CheckerTree) (k : Known) → Sees inside.Main c k → (so_far : BlockTree) (block : source.BlockTree) → (statements_typed c so_far block).faults ≡ [] → BlockKeeps inside.Main k block
+  statements_keep c k s so_far source.Empty none = tt
+  statements_keep c k s so_far (source.Then label action others) none =
+      let l = labelled c label in
+      let d = counted l.value.1 in
+      let a = action_typed d action in
+      let behind_l = no_right l.faults _ none in
+      let labels = labelled_sees inside.Main c k s label (no_left l.faults _ none) in
+      let known = labelled_known k label in
+      let here : Sees inside.Main d known = record { matches = counted_kept inside.Main l.value.1 known labels.1.matches; some = labels.1.some } in
+      let keeps = action_keeps d known here action (no_left a.faults _ behind_l) in
+      let next : Sees inside.Main a.value.1 (known_behind inside.Main known action) = record { matches = (action_kept d known here.matches action keeps).1; some = behind_some inside.Main known action here.some keeps } in
+      (labels.0, keeps, statements_keep a.value.1 (known_behind inside.Main known action) next (behind so_far (suc l.value.1.statements) l.value.0 a.value.0) others (no_right a.faults _ behind_l))

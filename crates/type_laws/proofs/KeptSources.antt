@@ -1,0 +1,255 @@
+-- A function that keeps the rules has no fault, and so has a source that does.
+use Rattle.std.proofs.Common.{◌≡◌, refl, sym, subst, ap, ◌∙◌, ℕ, Bool, true, false, if◌then◌else◌, ◌&&◌, List, [], ◌∷◌, ◌++◌, length, Option, Some, None}
+use Rattle.std.specs.Prelude.{is_some}
+use Rattle.std.specs.Str.{bytes_eq}
+use Rattle.std.proofs.lemmas.Slice.Eq.{bytes_eq-Decides}
+use Rattle.syntax.specs.Terminals.{Identifier}
+use Rattle.syntax.specs.SourceTrees as source
+use Rattle.syntax.specs.SourceTrees.{DeclarationTree, ParameterTree, SourceTree}
+use Rattle.syntax.specs.declared.declaration.DeclaredType.{DeclaredType}
+use Rattle.syntax.specs.declared.declaration.DeclaredType.TheVariants as declared
+use Rattle.typed_tree.specs.declared.expression.Endpoint.{Endpoint}
+use Rattle.typed_tree.specs.declared.expression.Endpoint.TheVariants as endpoint
+use Rattle.typed_tree.specs.BlockTree.{BlockTree, Empty}
+use Rattle.typed_tree.specs.StepTree.{NoStep}
+use Rattle.expression_types.specs.declared.scope.Entity.{Entity}
+use Rattle.expression_types.specs.declared.scope.Entity.TheVariants as entity
+use Rattle.expression_types.specs.declared.scope.Inside.{Inside}
+use Rattle.expression_types.specs.declared.scope.Inside.TheVariants as inside
+use Rattle.expression_types.specs.ScopeTree.{entered}
+use Rattle.expression_types.specs.WithFaults.{WithFaults}
+use Rattle.types.specs.Block.{statements_typed}
+use Rattle.types.specs.Checker.{CheckerTree, condition_slot, declared_in, restarted, with_scope}
+use Rattle.types.specs.Declaration.{DeclaredTree, EdgeKind, FilterKind, MainKind, NoKind, VertexKind, declaration_typed, declarations_typed, declare_function, declare_name, is_bool, is_vertex, kind_of, main_bytes, main_declared, opened, parameter, steps_declared, takes_nothing}
+use Rattle.types.specs.Program.{main_of, opening, program_of, set_count}
+use Rattle.types.specs.Step.{steps_typed, with_writes}
+use Rattle.type_laws.specs.KeptRules.{BlockKeeps, DeclarationKeeps, Declarations, DeclarationsKeep, FunctionKeeps, KeepsRules, MainKeeps, behind_declaration, behind_function, behind_main, known_at_vertex, known_in_filter, known_in_main, known_on_edge, nothing_declared}
+use Rattle.type_laws.specs.Meanings as meaning
+use Rattle.type_laws.specs.ScopeMeanings.{meaning_of}
+use Rattle.type_laws.specs.Meanings.{IsNew, Known, closed_known, known_after, known_behind, labelled_known, reduced_in, with_name}
+use Rattle.type_laws.proofs.TypedExpressions.{both_none}
+use Rattle.type_laws.proofs.KeptNames.{Matches, declared_kept}
+use Rattle.type_laws.proofs.KeptStatements.{statements_kept}
+use Rattle.type_laws.proofs.KeptSteps.{steps_kept}
+use Rattle.type_laws.proofs.KeptDeclarations.{Agrees, CheckerAgrees, Fits, constant_kept, checker_declared, one_more}
+
+label_written : (k : Known) (label : Option Identifier) → (labelled_known k label).written ≡ k.written
+label_written k None = refl
+label_written k (Some label) = refl
+
+-- what edge functions before it do stands behind a statement as it was
+mutual
+  behind_written : (i : Inside) (k : Known) (action : source.ActionTree) → (known_behind i k action).written ≡ k.written
+  behind_written i k (source.Declare at p initial) = refl
+  behind_written i k (source.While at test body) = after_written i k body
+  behind_written i k (source.For at name first limit body) = after_written i (with_name k name meaning.LoopName) body
+  behind_written i k (source.If at test body) = after_written i k body
+  behind_written i k (source.IfElse at test body otherwise) = after_written i (closed_known k (known_after i k body)) otherwise ∙ after_written i k body
+  behind_written i k (source.Print at e) = refl
+  behind_written i k (source.Assign name initial) = refl
+  behind_written i k (source.Reduce name by e) = refl
+  behind_written i k (source.SetEntry vector index e) = refl
+  behind_written inside.Main k (source.ReduceEntry vector index by e) = refl
+  behind_written inside.EdgeFunction k (source.ReduceEntry vector index by e) = refl
+  behind_written inside.VertexFunction k (source.ReduceEntry vector index by e) = refl
+  behind_written inside.Filter k (source.ReduceEntry vector index by e) = refl
+  behind_written i k (source.AddVertex set e) = refl
+  behind_written i k (source.Apply target ends function) = refl
+
+  after_written : (i : Inside) (k : Known) (block : source.BlockTree) → (known_after i k block).written ≡ k.written
+  after_written i k source.Empty = refl
+  after_written i k (source.Then label action others) =
+      after_written i (known_behind i (labelled_known k label) action) others ∙ behind_written i (labelled_known k label) action ∙ label_written k label
+
+-- at the first parameter of a function nothing is reduced
+abbrev pub begun : CheckerTree → Inside → CheckerTree
+begun c i = with_writes (with_scope c (entered i c.scope)) []
+
+pub begun_matches : (c : CheckerTree) (k : Known) (i : Inside) → CheckerAgrees c k → Matches i (begun c i) (known_in_main k)
+begun_matches c k i a = record { names = a.names; labels = a.labels; reduced = refl; written = a.written; inside = refl }
+
+-- behind a function the scope before it stands again
+pub left_agrees : (i : Inside) (c d : CheckerTree) (k after : Known) → CheckerAgrees c k → Matches i d after → CheckerAgrees (with_scope d c.scope) (closed_known k after)
+left_agrees i c d k after a m = record { names = a.names; labels = m.labels; written = m.written; inside = a.inside }
+
+-- parameters are vertices
+parameter_is : (p : Endpoint) (type : DeclaredType) → type ≡ declared.Vertex → meaning_of (parameter p type) ≡ meaning.Parameter p
+parameter_is p type is = subst (λ t. meaning_of (parameter p t) ≡ meaning.Parameter p) (sym is) refl
+
+abbrev pub Opens : Inside → WithFaults CheckerTree → Known → Type 0
+Opens i m k = (m.faults ≡ []) × Matches i m.value k
+
+pub parameter_opens : (i : Inside) (c : CheckerTree) (k : Known) → Matches i c k → (p : Endpoint) (v : ParameterTree) → v.declared ≡ declared.Vertex → IsNew k v.name
+    → Opens i (declared_in c v.name (parameter p v.declared)) (with_name k v.name (meaning.Parameter p))
+parameter_opens i c k m p v is new = declared_kept i c k m v.name (parameter p v.declared) (meaning.Parameter p) (parameter_is p v.declared is) new
+
+pub vertex_opens : (c : CheckerTree) (k : Known) → CheckerAgrees c k → (v : ParameterTree) → v.declared ≡ declared.Vertex → IsNew k v.name
+    → Opens inside.VertexFunction (opened c VertexKind (v ∷ []) None) (known_at_vertex k v)
+vertex_opens c k a v is new =
+    let s = begun c inside.VertexFunction in
+    let d = declared_in s v.name (parameter endpoint.Source v.declared) in
+    let one = parameter_opens inside.VertexFunction s (known_in_main k) (begun_matches c k inside.VertexFunction a) endpoint.Source v is new in
+    (both_none (d.faults ++ []) [] (both_none d.faults [] one.0 refl) refl, one.1)
+
+pub filter_opens : (c : CheckerTree) (k : Known) → CheckerAgrees c k → (v test : ParameterTree) → v.declared ≡ declared.Vertex → IsNew k v.name → IsNew (known_at_vertex k v) test.name
+    → Opens inside.Filter (opened c FilterKind (v ∷ []) (Some test)) (known_in_filter k v test)
+filter_opens c k a v test is new also =
+    let s = begun c inside.Filter in
+    let d = declared_in s v.name (parameter endpoint.Source v.declared) in
+    let one = parameter_opens inside.Filter s (known_in_main k) (begun_matches c k inside.Filter a) endpoint.Source v is new in
+    let r = declared_in d.value test.name (entity.ConditionVariable (condition_slot d.value)) in
+    let two = declared_kept inside.Filter d.value (known_at_vertex k v) one.1 test.name (entity.ConditionVariable (condition_slot d.value)) meaning.TruthVariable refl also in
+    (both_none (d.faults ++ []) r.faults (both_none d.faults [] one.0 refl) two.0, two.1)
+
+pub edge_opens : (c : CheckerTree) (k : Known) → CheckerAgrees c k → (src dst : ParameterTree) → src.declared ≡ declared.Vertex → dst.declared ≡ declared.Vertex → IsNew k src.name
+    → IsNew (known_at_vertex k src) dst.name → Opens inside.EdgeFunction (opened c EdgeKind (src ∷ dst ∷ []) None) (known_on_edge k src dst)
+edge_opens c k a src dst is also new further =
+    let s = begun c inside.EdgeFunction in
+    let d = declared_in s src.name (parameter endpoint.Source src.declared) in
+    let one = parameter_opens inside.EdgeFunction s (known_in_main k) (begun_matches c k inside.EdgeFunction a) endpoint.Source src is new in
+    let e = declared_in d.value dst.name (parameter endpoint.Destination dst.declared) in
+    let two = parameter_opens inside.EdgeFunction d.value (known_at_vertex k src) one.1 endpoint.Destination dst also further in
+    (both_none (d.faults ++ (e.faults ++ [])) [] (both_none d.faults _ one.0 (both_none e.faults [] two.0 refl)) refl, two.1)
+
+-- the name of a function, behind what is in it
+name_declared : (d : DeclaredTree) (k : Known) → CheckerAgrees d.checker k → (name : Identifier) (e : Entity) (n : meaning.Meaning) → meaning_of e ≡ n → IsNew k name
+    → ((declare_name d name e).faults ≡ []) × CheckerAgrees (declare_name d name e).value.checker (with_name k name n)
+name_declared d k a name e n is new = let c = checker_declared d.checker k a name e n is new in (both_none (declared_in d.checker name e).faults [] c.0 refl, c.1)
+
+vertex_function_kept : (d : DeclaredTree) (k : Declarations) → Agrees d k → (at : ℕ) (name : Identifier) (v : ParameterTree) (body : source.BlockTree) → IsNew k.known name
+    → FunctionKeeps k.known (v ∷ []) None body → Fits (steps_declared d at VertexKind name (v ∷ []) None body) (behind_function k name (v ∷ []) None body)
+vertex_function_kept d k a at name v body new keeps =
+    let o = opened d.checker VertexKind (v ∷ []) None in
+    let opens = vertex_opens d.checker k.known a.checker v keeps.0 keeps.1 in
+    let b = steps_typed o.value NoStep body in
+    let inner = steps_kept inside.VertexFunction o.value (known_at_vertex k.known v) tt opens.1 NoStep body keeps.2 in
+    let after = known_after inside.VertexFunction (known_at_vertex k.known v) body in
+    let e = record d { checker = with_scope b.value.1 d.checker.scope } in
+    let f = entity.VertexFunction (length d.vertex_functions) in
+    let named = name_declared e (closed_known k.known after) (left_agrees inside.VertexFunction d.checker b.value.1 k.known after a.checker inner.1) name f meaning.VertexFunction refl new in (
+      both_none o.faults _ opens.0 (both_none b.faults _ inner.0 (both_none (declare_name e name f).faults [] named.0 refl)),
+      record { checker = named.1; vectors = a.vectors; functions = a.functions ∙ ap length (sym (after_written inside.VertexFunction (known_at_vertex k.known v) body)); edges = a.edges; main = a.main },
+    )
+
+filter_kept : (d : DeclaredTree) (k : Declarations) → Agrees d k → (at : ℕ) (name : Identifier) (v test : ParameterTree) (body : source.BlockTree) → IsNew k.known name
+    → FunctionKeeps k.known (v ∷ []) (Some test) body → Fits (steps_declared d at FilterKind name (v ∷ []) (Some test) body) (behind_function k name (v ∷ []) (Some test) body)
+filter_kept d k a at name v test body new keeps =
+    let o = opened d.checker FilterKind (v ∷ []) (Some test) in
+    let opens = filter_opens d.checker k.known a.checker v test keeps.0 keeps.2 keeps.3 in
+    let b = steps_typed o.value NoStep body in
+    let inner = steps_kept inside.Filter o.value (known_in_filter k.known v test) tt opens.1 NoStep body keeps.4 in
+    let after = known_after inside.Filter (known_in_filter k.known v test) body in
+    let e = record d { checker = with_scope b.value.1 d.checker.scope } in
+    let f = entity.Filter (length d.filters) in
+    let named = name_declared e (closed_known k.known after) (left_agrees inside.Filter d.checker b.value.1 k.known after a.checker inner.1) name f meaning.Filter refl new in (
+      both_none o.faults _ opens.0 (both_none b.faults _ inner.0 (both_none (declare_name e name f).faults [] named.0 refl)),
+      record { checker = named.1; vectors = a.vectors; functions = a.functions ∙ ap length (sym (after_written inside.Filter (known_in_filter k.known v test) body)); edges = a.edges; main = a.main },
+    )
+
+edge_function_kept : (d : DeclaredTree) (k : Declarations) → Agrees d k → (at : ℕ) (name : Identifier) (src dst : ParameterTree) (body : source.BlockTree) → IsNew k.known name
+    → FunctionKeeps k.known (src ∷ dst ∷ []) None body → Fits (steps_declared d at EdgeKind name (src ∷ dst ∷ []) None body) (behind_function k name (src ∷ dst ∷ []) None body)
+edge_function_kept d k a at name src dst body new keeps =
+    let o = opened d.checker EdgeKind (src ∷ dst ∷ []) None in
+    let opens = edge_opens d.checker k.known a.checker src dst keeps.0 keeps.1 keeps.2 keeps.3 in
+    let b = steps_typed o.value NoStep body in
+    let inner = steps_kept inside.EdgeFunction o.value (known_on_edge k.known src dst) tt opens.1 NoStep body keeps.4 in
+    let after = known_after inside.EdgeFunction (known_on_edge k.known src dst) body in
+    let e = record d { checker = with_scope b.value.1 d.checker.scope } in
+    let f = entity.EdgeFunction (length d.edge_functions) in
+    let named = name_declared e (closed_known k.known after) (left_agrees inside.EdgeFunction d.checker b.value.1 k.known after a.checker inner.1) name f
+    (meaning.EdgeFunction (length k.known.written)) (ap meaning.EdgeFunction a.functions) new in (
+      both_none o.faults _ opens.0 (both_none b.faults _ inner.0 (both_none (declare_name e name f).faults [] named.0 refl)),
+      record {
+        checker = record {
+          names = named.1.names;
+          labels = named.1.labels;
+          written = ap (λ ws. ws ++ b.value.1.writes ∷ []) named.1.written ∙ ap (λ r. after.written ++ r ∷ []) inner.1.reduced;
+          inside = named.1.inside;
+        };
+        vectors = a.vectors;
+        functions = one_more d.edge_functions _ (length k.known.written) a.functions
+            ∙ sym (one_more after.written after.reduced (length k.known.written) (ap length (after_written inside.EdgeFunction (known_on_edge k.known src dst) body)));
+        edges = a.edges;
+        main = a.main;
+      },
+    )
+
+main_kept : (d : DeclaredTree) (k : Declarations) → Agrees d k → (name : Identifier) (parameters : List ParameterTree) (result : Option ParameterTree) (body : source.BlockTree) → IsNew k.known name
+    → MainKeeps k.known parameters result body → Fits (main_declared d (takes_nothing parameters result) name parameters result body) (behind_main k name body)
+main_kept d k a name parameters result body new keeps =
+    subst (λ ps. Fits (main_declared d (takes_nothing ps result) name ps result body) (behind_main k name body)) (sym keeps.0)
+    (subst (λ r. Fits (main_declared d (takes_nothing [] r) name [] r body) (behind_main k name body)) (sym keeps.1) (plain_main keeps.2))
+  where
+    plain_main : BlockKeeps inside.Main (known_in_main k.known) body → Fits (main_declared d true name [] None body) (behind_main k name body)
+    plain_main within =
+        let s = begun (restarted d.checker) inside.Main in
+        let b = statements_typed s Empty body in
+        let inner = statements_kept s (known_in_main k.known) (record { names = a.checker.names; labels = a.checker.labels; reduced = refl; written = a.checker.written; inside = refl }) Empty body within in
+        let after = known_after inside.Main (known_in_main k.known) body in
+        let e = record d { checker = with_scope b.value.1 d.checker.scope } in
+        let named = name_declared e (closed_known k.known after) (left_agrees inside.Main d.checker b.value.1 k.known after a.checker inner.1) name entity.Main meaning.Main refl new in (
+          both_none b.faults _ inner.0 (both_none (declare_name e name entity.Main).faults [] named.0 refl),
+          record { checker = named.1; vectors = a.vectors; functions = a.functions ∙ ap length (sym (after_written inside.Main (known_in_main k.known) body)); edges = a.edges; main = refl },
+        )
+
+-- the kind of a function that keeps the rules
+pub vertex_kind : (v : DeclaredType) → v ≡ declared.Vertex → (if is_vertex v then VertexKind else NoKind) ≡ VertexKind
+vertex_kind v is = subst (λ t. (if is_vertex t then VertexKind else NoKind) ≡ VertexKind) (sym is) refl
+
+pub filter_kind : (v test : DeclaredType) → v ≡ declared.Vertex → test ≡ declared.Bool → (if is_vertex v && is_bool test then FilterKind else NoKind) ≡ FilterKind
+filter_kind v test is also =
+    subst (λ t. (if is_vertex t && is_bool test then FilterKind else NoKind) ≡ FilterKind) (sym is) (subst (λ t. (if is_bool t then FilterKind else NoKind) ≡ FilterKind) (sym also) refl)
+
+pub edge_kind : (src dst : DeclaredType) → src ≡ declared.Vertex → dst ≡ declared.Vertex → (if is_vertex src && is_vertex dst then EdgeKind else NoKind) ≡ EdgeKind
+edge_kind src dst is also =
+    subst (λ t. (if is_vertex t && is_vertex dst then EdgeKind else NoKind) ≡ EdgeKind) (sym is) (subst (λ t. (if is_vertex t then EdgeKind else NoKind) ≡ EdgeKind) (sym also) refl)
+
+user_function_kept : (d : DeclaredTree) (k : Declarations) → Agrees d k → (at : ℕ) (name : Identifier) (parameters : List ParameterTree) (result : Option ParameterTree) (body : source.BlockTree)
+    → IsNew k.known name → FunctionKeeps k.known parameters result body
+    → Fits (declare_function d at name parameters result body (kind_of parameters result)) (behind_function k name parameters result body)
+user_function_kept d k a at name [] result body new keeps = absurd keeps
+user_function_kept d k a at name (v ∷ []) None body new keeps =
+    subst (λ f. Fits (declare_function d at name (v ∷ []) None body f) (behind_function k name (v ∷ []) None body)) (sym (vertex_kind v.declared keeps.0)) (vertex_function_kept d k a at name v body new keeps)
+user_function_kept d k a at name (v ∷ []) (Some test) body new keeps =
+    subst (λ f. Fits (declare_function d at name (v ∷ []) (Some test) body f) (behind_function k name (v ∷ []) (Some test) body)) (sym (filter_kind v.declared test.declared keeps.0 keeps.1))
+    (filter_kept d k a at name v test body new keeps)
+user_function_kept d k a at name (src ∷ dst ∷ []) None body new keeps =
+    subst (λ f. Fits (declare_function d at name (src ∷ dst ∷ []) None body f) (behind_function k name (src ∷ dst ∷ []) None body)) (sym (edge_kind src.declared dst.declared keeps.0 keeps.1))
+    (edge_function_kept d k a at name src dst body new keeps)
+user_function_kept d k a at name (src ∷ dst ∷ []) (Some result) body new keeps = absurd keeps
+user_function_kept d k a at name (x ∷ y ∷ z ∷ others) result body new keeps = absurd keeps
+
+function_kept : (d : DeclaredTree) (k : Declarations) → Agrees d k → (at : ℕ) (name : Identifier) (parameters : List ParameterTree) (result : Option ParameterTree) (body : source.BlockTree)
+    → (b : Bool) → bytes_eq name.bytes main_bytes ≡ b → DeclarationKeeps k (source.Function at name parameters result body)
+    → Fits (declare_function d at name parameters result body (if b then MainKind (takes_nothing parameters result) else kind_of parameters result))
+    (if b then behind_main k name body else behind_function k name parameters result body)
+function_kept d k a at name parameters result body true is keeps = main_kept d k a name parameters result body keeps.0 (keeps.1 ((bytes_eq-Decides name.bytes main_bytes).0 is))
+function_kept d k a at name parameters result body false is keeps =
+    user_function_kept d k a at name parameters result body keeps.0 (keeps.2 (λ same. differs ((bytes_eq-Decides name.bytes main_bytes).1 same)))
+  where
+    differs : bytes_eq name.bytes main_bytes ≡ true → ⊥
+    differs same = cc
+
+pub declaration_kept : (d : DeclaredTree) (k : Declarations) → Agrees d k → (x : DeclarationTree) → DeclarationKeeps k x → Fits (declaration_typed d x) (behind_declaration k x)
+declaration_kept d k a (source.Constant at p initial) keeps = constant_kept d k a at p p.declared initial refl keeps.0 keeps.1
+declaration_kept d k a (source.Function at name parameters result body) keeps = function_kept d k a at name parameters result body (bytes_eq name.bytes main_bytes) refl keeps
+
+declarations_kept : (d : DeclaredTree) (k : Declarations) → Agrees d k → (declarations : List DeclarationTree) → DeclarationsKeep k declarations
+    → ((declarations_typed d declarations).faults ≡ []) × (is_some (declarations_typed d declarations).value.main ≡ true)
+declarations_kept d k a [] keeps = (refl, a.main ∙ keeps)
+declarations_kept d k a (x ∷ others) keeps =
+    let here = declaration_kept d k a x keeps.0 in
+    let rest = declarations_kept (declaration_typed d x).value (behind_declaration k x) here.1 others keeps.1 in
+    (both_none (declaration_typed d x).faults _ here.0 rest.0, rest.1)
+
+main_there : (length : ℕ) (main : Option BlockTree) → is_some main ≡ true → (main_of length main).faults ≡ []
+main_there length None is = cc
+main_there length (Some main) is = refl
+
+pub source_kept : (source : SourceTree) (length : ℕ) → KeepsRules source → (program_of source length).faults ≡ []
+source_kept source length keeps =
+    let begins = opening (set_count source.declarations) in
+    let all = declarations_kept begins nothing_declared (record { checker = record { names = refl; labels = refl; written = refl; inside = refl }; vectors = refl; functions = refl; edges = refl; main = refl })
+    source.declarations keeps in
+    let d = declarations_typed begins source.declarations in
+    both_none d.faults _ all.0 (both_none (main_of length d.value.main).faults [] (main_there length d.value.main all.1) refl)

@@ -1,0 +1,401 @@
+-- A statement of main that keeps the rules has no fault, and behind it is known what its checker knows.
+use Rattle.std.proofs.Common.{◌≡◌, ◌⊎◌, inl, inr, refl, sym, subst, ap, ℕ, suc, ℤ, pos, Bool, true, false, ◌||◌, if◌then◌else◌, nat_eq, [], ◌++◌, length, Option, Some, None}
+use Rattle.std.specs.Prelude.{is_some, slice_index_or}
+use Rattle.std.specs.Map.{lookup}
+use Rattle.syntax.specs.Terminals.{Identifier}
+use Rattle.syntax.specs.ExpressionTrees.{ExpressionTree}
+use Rattle.syntax.specs.SourceTrees as source
+use Rattle.syntax.specs.SourceTrees.{InitialTree, EndsTree}
+use Rattle.syntax.specs.declared.declaration.DeclaredType.{DeclaredType}
+use Rattle.syntax.specs.declared.declaration.DeclaredType.TheVariants as declared
+use Rattle.apply_options.specs.declared.reduction.Reduction.{Reduction}
+use Rattle.typed_tree.specs.BlockTree.{ActionTree, BlockTree, Empty, DeclareCondition, DeclareInteger, DeclareSet}
+use Rattle.typed_tree.specs.IntegerTree.{IntegerTree}
+use Rattle.typed_tree.specs.declared.statement.SetValue.TheVariants as set
+use Rattle.expression_types.specs.declared.fault.TypeRule.TheVariants as rule
+use Rattle.expression_types.specs.declared.scope.Entity.{Entity}
+use Rattle.expression_types.specs.declared.scope.Entity.TheVariants as entity
+use Rattle.expression_types.specs.declared.scope.Inside.{Inside}
+use Rattle.expression_types.specs.declared.scope.Inside.TheVariants as inside
+use Rattle.expression_types.specs.Expression.{used, value_of, vector_place}
+use Rattle.expression_types.specs.Names.{found}
+use Rattle.expression_types.specs.ValueTree as value
+use Rattle.expression_types.specs.ValueTree.{ValueTree, named_set, reads_entry}
+use Rattle.expression_types.specs.WithFaults.{WithFaults, fault_at, sure}
+use Rattle.types.specs.Block.{action_typed, behind, closed, in_place, statements_typed}
+use Rattle.types.specs.Checker.{CheckerTree, condition_slot, counted, declared_in, integer_slot, labelled, set_slot}
+use Rattle.types.specs.Initial as initial_value
+use Rattle.types.specs.Initial.{ApplyEndTree, Absent, Wrong, ErrorEnd, InitializerTree, edge_function, end_of, filter_named, filtered, initializer_condition, initializer_integer, initializer_members, initializer_of, is_edges, is_error_end, is_wrong, modified, names_error, new_set, of_edges, vector_of, writes_vector}
+use Rattle.types.specs.Statement.{add_vertex, added, apply, applied, assign, assigned, declare_variable, has_ends, print, printed, reduce, reduce_entry, reduced, set_entry}
+use Rattle.types.specs.Wanted.{as_index, as_integer, as_members, condition_in, integer_in, unread}
+use Rattle.type_laws.specs.EntryAccess.{HasNoEntry}
+use Rattle.type_laws.specs.ExpressionTypes.{IsNumber, IsTruth, Set, Truth, type_named}
+use Rattle.type_laws.specs.KeptRules.{ActionKeeps, AppliesEdges, AppliesVertices, ApplyFits, AssignFits, AssignsNumber, AssignsSet, AssignsTruth, BlockKeeps, EndFits, EndsFit, GivesMembers, GivesNumber, GivesTruth, Modifies, VariableFits}
+use Rattle.type_laws.specs.Meanings as meaning
+use Rattle.type_laws.specs.ScopeMeanings.{meaning_of}
+use Rattle.type_laws.specs.Meanings.{IsNew, Known, closed_known, known_after, known_behind, labelled_known, variable_meaning, with_name}
+use Rattle.type_laws.proofs.PlainEntries.{ReadsNone, expression_reads_none}
+use Rattle.type_laws.proofs.TypedExpressions.{IsNumeric, IsOf, both_none}
+use Rattle.type_laws.proofs.KeptNames.{Matches, closed_kept, counted_kept, declared_kept, edge_function_entity, edges_are, expression_kept, filter_entity, labelled_kept, number_kept, number_value, number_variable, numeric_integer, set_kept, set_variable, truth_condition, truth_kept, truth_variable, used_kept, vector_entity, vector_kept, vertex_function_entity}
+
+-- initial and assigned values
+pub given_number : (i : Inside) (c : CheckerTree) (k : Known) → Matches i c k → (at : ℕ) (initial : InitialTree) → GivesNumber k.names i initial
+    → ((initializer_of c at initial).faults ≡ []) × ((initializer_integer at (initializer_of c at initial).value).faults ≡ [])
+given_number i c k m at (source.NewSet size) gives = absurd gives
+given_number i c k m at (source.Load argument) gives = absurd gives
+given_number i c k m at (source.Vertices edges) gives = absurd gives
+given_number i c k m at (source.OutDegrees edges) gives = absurd gives
+given_number i c k m at (source.Filter set test) gives = absurd gives
+given_number i c k m at (source.ApplyModified edges ends f v) gives = absurd gives
+given_number i c k m at (source.Value e) gives =
+    let x = number_value i c k m at e gives in
+    (both_none (value_of c.scope at e).faults [] x.none refl, numeric_integer at (value_of c.scope at e).value x.is)
+
+pub given_truth : (i : Inside) (c : CheckerTree) (k : Known) → Matches i c k → (at : ℕ) (initial : InitialTree) → GivesTruth k.names i initial
+    → ((initializer_of c at initial).faults ≡ []) × ((initializer_condition at (initializer_of c at initial).value).faults ≡ [])
+given_truth i c k m at (source.NewSet size) gives = absurd gives
+given_truth i c k m at (source.Load argument) gives = absurd gives
+given_truth i c k m at (source.Vertices edges) gives = absurd gives
+given_truth i c k m at (source.OutDegrees edges) gives = absurd gives
+given_truth i c k m at (source.Filter set test) gives = absurd gives
+given_truth i c k m at (source.ApplyModified edges ends f v) gives = absurd gives
+given_truth i c k m at (source.Value e) gives =
+    let x = expression_kept i c k m at e Truth gives in
+    (both_none (value_of c.scope at e).faults [] x.none refl, truth_condition at (value_of c.scope at e).value x.is)
+
+-- sets
+abbrev pub GivesSet : ℕ → WithFaults InitializerTree → Type 0
+GivesSet at m = (m.faults ≡ []) × ((initializer_members at m.value).faults ≡ [])
+
+new_set_fine : (at : ℕ) (size : ℤ) → size ≡ pos 0 → GivesSet at (new_set at size)
+new_set_fine at size is = subst (λ z. GivesSet at (new_set at z)) (sym is) (refl, refl)
+
+pub of_edges_fine : (at : ℕ) (e : Entity) → meaning_of e ≡ meaning.Edges → (x : InitializerTree) → ((of_edges at x e).faults ≡ []) × ((of_edges at x e).value ≡ x)
+of_edges_fine at e is x = subst (λ e. ((of_edges at x e).faults ≡ []) × ((of_edges at x e).value ≡ x)) (sym (edges_are e is)) (refl, refl)
+
+set_passes : (at : ℕ) (s : Entity) (place : ℕ) → type_named (Some (meaning_of s)) ≡ Some Set → GivesSet at (filtered at s (entity.Filter place))
+set_passes at (entity.ConstantSet slot) place is = (refl, refl)
+set_passes at (entity.SetVariable slot) place is = (refl, refl)
+set_passes at _ place is = absurd cc
+
+filtered_fine : (at : ℕ) (s f : Entity) → type_named (Some (meaning_of s)) ≡ Some Set → meaning_of f ≡ meaning.Filter → GivesSet at (filtered at s f)
+filtered_fine at s f set filter =
+    let is = filter_entity f filter in subst (λ f. GivesSet at (filtered at s f)) (sym is.1) (set_passes at s is.0 set)
+
+-- an end that fits
+abbrev pub IsGood : ApplyEndTree → Type 0
+IsGood Absent = Unit {0}
+IsGood (initial_value.Given f) = Unit {0}
+IsGood Wrong = ⊥
+IsGood ErrorEnd = ⊥
+
+set_end : (e : Entity) → type_named (Some (meaning_of e)) ≡ Some Set → IsGood (filter_named e)
+set_end (entity.ConstantSet slot) is = tt
+set_end (entity.SetVariable slot) is = tt
+set_end _ is = absurd cc
+
+filter_end : (e : Entity) → meaning_of e ≡ meaning.Filter → IsGood (filter_named e)
+filter_end (entity.Filter place) is = tt
+filter_end _ is = absurd cc
+
+pub end_kept : (i : Inside) (c : CheckerTree) (k : Known) → Matches i c k → (name : Option Identifier) → EndFits k.names name
+    → ((end_of c.scope name).faults ≡ []) × IsGood (end_of c.scope name).value
+end_kept i c k m None fits = (refl, tt)
+end_kept i c k m (Some name) fits =
+    elim fits [
+      | inl set ↦ let s = set_kept i c k m name set in (both_none (used c.scope name).faults [] s.0 refl, set_end (used c.scope name).value s.1)
+      | inr filter ↦ let f = used_kept i c k m name meaning.Filter filter in (both_none (used c.scope name).faults [] f.0 refl, filter_end (used c.scope name).value f.1)
+    ]
+
+-- the members that an apply modifies
+if_writes : (at : ℕ) (x : InitializerTree) (b : Bool) → b ≡ true → (initializer_members at x).faults ≡ []
+    → GivesSet at (if b then sure x else fault_at at rule.WrongType initial_value.ErrorInitializer)
+if_writes at x true is fine = (refl, fine)
+if_writes at x false is fine = absurd cc
+
+modified_good : (c : CheckerTree) (at : ℕ) (a b : ApplyEndTree) (place vector : ℕ) → IsGood a → IsGood b → writes_vector c.written place vector ≡ true
+    → GivesSet at (modified c at entity.Edges a b (entity.EdgeFunction place) (entity.Vector vector))
+modified_good c at Absent Absent place vector first second writes = if_writes at _ (writes_vector c.written place vector) writes refl
+modified_good c at Absent (initial_value.Given f) place vector first second writes = if_writes at _ (writes_vector c.written place vector) writes refl
+modified_good c at (initial_value.Given f) Absent place vector first second writes = if_writes at _ (writes_vector c.written place vector) writes refl
+modified_good c at (initial_value.Given f) (initial_value.Given g) place vector first second writes = if_writes at _ (writes_vector c.written place vector) writes refl
+modified_good c at Absent Wrong place vector first second writes = absurd second
+modified_good c at Absent ErrorEnd place vector first second writes = absurd second
+modified_good c at (initial_value.Given f) Wrong place vector first second writes = absurd second
+modified_good c at (initial_value.Given f) ErrorEnd place vector first second writes = absurd second
+modified_good c at Wrong b place vector first second writes = absurd first
+modified_good c at ErrorEnd b place vector first second writes = absurd first
+
+modified_fine : (i : Inside) (c : CheckerTree) (k : Known) → Matches i c k → (at : ℕ) (edges : Identifier) (ends : EndsTree) (f v : Identifier)
+    → found edges.bytes k.names ≡ Some meaning.Edges → EndsFit k.names ends → Modifies k f v → GivesSet at (initializer_of c at (source.ApplyModified edges ends f v))
+modified_fine i c k m at edges ends f v are fit modifies =
+    let e = used_kept i c k m edges meaning.Edges are in
+    let a = end_kept i c k m ends.from fit.0 in
+    let b = end_kept i c k m ends.to fit.1 in
+    let g = used_kept i c k m f (meaning.EdgeFunction modifies.place) modifies.function_means in
+    let w = used_kept i c k m v (meaning.Vector modifies.written) modifies.vector_means in
+    let writes : writes_vector c.written modifies.place modifies.written ≡ true =
+    ap is_some (subst (λ ws. lookup (nat_eq modifies.written) (slice_index_or ws modifies.place []) ≡ Some modifies.by) (sym m.written) modifies.writes) in
+    let all = subst (λ e. GivesSet at (modified c at e (end_of c.scope ends.from).value (end_of c.scope ends.to).value (used c.scope f).value (used c.scope v).value)) (sym (edges_are (used c.scope edges).value e.1))
+    (subst (λ g. GivesSet at (modified c at entity.Edges (end_of c.scope ends.from).value (end_of c.scope ends.to).value g (used c.scope v).value)) (sym (edge_function_entity (used c.scope f).value modifies.place g.1))
+    (subst (λ w. GivesSet at (modified c at entity.Edges (end_of c.scope ends.from).value (end_of c.scope ends.to).value (entity.EdgeFunction modifies.place) w)) (sym (vector_entity (used c.scope v).value modifies.written w.1))
+    (modified_good c at (end_of c.scope ends.from).value (end_of c.scope ends.to).value modifies.place modifies.written a.1 b.1 writes))) in (
+      both_none (used c.scope edges).faults _ e.0 (both_none (end_of c.scope ends.from).faults _ a.0 (both_none (end_of c.scope ends.to).faults _ b.0
+          (both_none (used c.scope f).faults _ g.0 (both_none (used c.scope v).faults _ w.0 all.0)))),
+      all.1,
+    )
+
+set_value : (at : ℕ) (v : ValueTree) → IsOf Set v → (as_members at v).faults ≡ []
+set_value at (value.Integer e) is = absurd is
+set_value at (value.Condition c) is = absurd is
+set_value at (value.Vertex p) is = absurd is
+set_value at (value.Set slot) is = refl
+set_value at value.ErrorValue is = absurd is
+
+pub given_members : (i : Inside) (c : CheckerTree) (k : Known) → Matches i c k → (at : ℕ) (initial : InitialTree) → GivesMembers k i initial → GivesSet at (initializer_of c at initial)
+given_members i c k m at (source.NewSet size) gives = new_set_fine at size gives
+given_members i c k m at (source.Load argument) gives = absurd gives
+given_members i c k m at (source.Vertices edges) gives =
+    let e = used_kept i c k m edges meaning.Edges gives in
+    let x = of_edges_fine at (used c.scope edges).value e.1 (initial_value.Members set.All) in
+    (both_none (used c.scope edges).faults _ e.0 x.0, subst (λ g. (initializer_members at g).faults ≡ []) (sym x.1) refl)
+given_members i c k m at (source.OutDegrees edges) gives = absurd gives
+given_members i c k m at (source.Filter s f) gives =
+    let x = set_kept i c k m s gives.0 in
+    let y = used_kept i c k m f meaning.Filter gives.1 in
+    let all = filtered_fine at (used c.scope s).value (used c.scope f).value x.1 y.1 in
+    (both_none (used c.scope s).faults _ x.0 (both_none (used c.scope f).faults _ y.0 all.0), all.1)
+given_members i c k m at (source.ApplyModified edges ends f v) gives = modified_fine i c k m at edges ends f v gives.0 gives.1 gives.2
+given_members i c k m at (source.Value e) gives =
+    let x = expression_kept i c k m at e Set gives in
+    (both_none (value_of c.scope at e).faults [] x.none refl, set_value at (value_of c.scope at e).value x.is)
+
+-- What a statement comes to that keeps the rules.
+abbrev pub Keeps : {A : Type 0} → Inside → WithFaults (A × CheckerTree) → Known → Type 0
+Keeps i m k = (m.faults ≡ []) × Matches i m.value.1 k
+
+pub declares : {A X : Type 0} (i : Inside) (c : CheckerTree) (k : Known) → Matches i c k → (name : Identifier) (e : Entity) (n : meaning.Meaning) → meaning_of e ≡ n → IsNew k name
+    → (x : WithFaults X) → x.faults ≡ [] → (a : X → A)
+    → Keeps i (record { faults = x.faults ++ ((declared_in c name e).faults ++ []); value = (a x.value, (declared_in c name e).value) }) (with_name k name n)
+declares i c k m name e n is new x none a =
+    let d = declared_kept i c k m name e n is new in (both_none x.faults _ none (both_none (declared_in c name e).faults [] d.0 refl), d.1)
+
+declare_kept : (c : CheckerTree) (k : Known) → Matches inside.Main c k → (at : ℕ) (name : Identifier) (initial : InitialTree) (type : DeclaredType) → VariableFits inside.Main k type initial
+    → IsNew k name → Keeps inside.Main (declare_variable c at name type initial) (with_name k name (variable_meaning type))
+declare_kept c k m at name initial declared.Int fits new =
+    let g = initializer_of c at initial in
+    let x = given_number inside.Main c k m at initial fits in
+    let d = declares inside.Main c k m name (entity.IntegerVariable (integer_slot c)) meaning.NumberVariable refl new (initializer_integer at g.value) x.1 (DeclareInteger (length c.names)) in
+    (both_none g.faults _ x.0 d.0, d.1)
+declare_kept c k m at name initial declared.Bool fits new =
+    let g = initializer_of c at initial in
+    let x = given_truth inside.Main c k m at initial fits in
+    let d = declares inside.Main c k m name (entity.ConditionVariable (condition_slot c)) meaning.TruthVariable refl new (initializer_condition at g.value) x.1 (DeclareCondition (length c.names)) in
+    (both_none g.faults _ x.0 d.0, d.1)
+declare_kept c k m at name initial declared.VertexSet fits new =
+    let g = initializer_of c at initial in
+    let x = given_members inside.Main c k m at initial fits.1 in
+    let d = declares inside.Main c k m name (entity.SetVariable (set_slot c)) meaning.SetVariable refl new (initializer_members at g.value) x.1 (DeclareSet (length c.names)) in
+    (both_none g.faults _ x.0 d.0, d.1)
+declare_kept c k m at name initial declared.Vertex fits new = absurd fits
+declare_kept c k m at name initial declared.Vector fits new = absurd fits
+declare_kept c k m at name initial declared.EdgeSet fits new = absurd fits
+
+assign_kept : (c : CheckerTree) (k : Known) → Matches inside.Main c k → (at : ℕ) (name : Identifier) (initial : InitialTree) → AssignFits inside.Main k name initial
+    → (assign c at name initial).faults ≡ []
+assign_kept c k m at name initial (AssignsNumber means gives) =
+    let u = used_kept inside.Main c k m name meaning.NumberVariable means in
+    let is = number_variable (used c.scope name).value u.1 in
+    let g = initializer_of c at initial in
+    let x = given_number inside.Main c k m at initial gives in
+    both_none (used c.scope name).faults _ u.0 (both_none g.faults _ x.0
+    (subst (λ e. (assigned at g.value e).faults ≡ []) (sym is.1) (both_none (initializer_integer at g.value).faults [] x.1 refl)))
+assign_kept c k m at name initial (AssignsTruth means gives) =
+    let u = used_kept inside.Main c k m name meaning.TruthVariable means in
+    let is = truth_variable (used c.scope name).value u.1 in
+    let g = initializer_of c at initial in
+    let x = given_truth inside.Main c k m at initial gives in
+    both_none (used c.scope name).faults _ u.0 (both_none g.faults _ x.0
+    (subst (λ e. (assigned at g.value e).faults ≡ []) (sym is.1) (both_none (initializer_condition at g.value).faults [] x.1 refl)))
+assign_kept c k m at name initial (AssignsSet means may gives) =
+    let u = used_kept inside.Main c k m name meaning.SetVariable means in
+    let is = set_variable (used c.scope name).value u.1 in
+    let g = initializer_of c at initial in
+    let x = given_members inside.Main c k m at initial gives in
+    both_none (used c.scope name).faults _ u.0 (both_none g.faults _ x.0
+    (subst (λ e. (assigned at g.value e).faults ≡ []) (sym is.1) (both_none (initializer_members at g.value).faults [] x.1 refl)))
+
+reduce_kept : (c : CheckerTree) (k : Known) → Matches inside.Main c k → (at : ℕ) (name : Identifier) (by : Reduction) (e : ExpressionTree) → found name.bytes k.names ≡ Some meaning.NumberVariable
+    → IsNumber k.names inside.Main e → (reduce c.scope at name by e).faults ≡ []
+reduce_kept c k m at name by e means number =
+    let u = used_kept inside.Main c k m name meaning.NumberVariable means in
+    let is = number_variable (used c.scope name).value u.1 in
+    let v = value_of c.scope at e in
+    let x = number_value inside.Main c k m at e number in
+    both_none (used c.scope name).faults _ u.0 (both_none v.faults _ x.none
+    (subst (λ n. (reduced at by v.value n).faults ≡ []) (sym is.1) (both_none (as_integer at v.value).faults [] (numeric_integer at v.value x.is) refl)))
+
+-- an index of main at which an entry is written
+unread_fine : (at : ℕ) (e : IntegerTree) → reads_entry e ≡ false → (unread at e).faults ≡ []
+unread_fine at e plain = subst (λ b. (if b then fault_at at rule.WrongIndex None else sure (Some e)).faults ≡ []) (sym plain) refl
+
+index_fits : (at : ℕ) (v : ValueTree) → IsNumeric v → ReadsNone v → (as_index at v).faults ≡ []
+index_fits at (value.Integer e) is plain = unread_fine at e plain
+index_fits at (value.Condition c) is plain = absurd is
+index_fits at (value.Vertex p) is plain = refl
+index_fits at (value.Set slot) is plain = absurd is
+index_fits at value.ErrorValue is plain = absurd is
+
+-- a vector, an index and a value
+entry_kept : (c : CheckerTree) (k : Known) → Matches inside.Main c k → (at : ℕ) (name : Identifier) (vector : ℕ) (index e : ExpressionTree) → found name.bytes k.names ≡ Some (meaning.Vector vector)
+    → IsNumber k.names inside.Main index → HasNoEntry index → IsNumber k.names inside.Main e
+    → (vector_place c.scope at name).faults ++ ((value_of c.scope at index).faults ++ ((as_index at (value_of c.scope at index).value).faults ++ ((integer_in c.scope at e).faults ++ []))) ≡ []
+entry_kept c k m at name vector index e means number plain gives =
+    let v = value_of c.scope at index in
+    let x = number_value inside.Main c k m at index number in
+    both_none (vector_place c.scope at name).faults _ (vector_kept inside.Main c k m at name vector means).0
+    (both_none v.faults _ x.none (both_none (as_index at v.value).faults _ (index_fits at v.value x.is (expression_reads_none c.scope at index plain))
+    (both_none (integer_in c.scope at e).faults [] (number_kept inside.Main c k m at e gives) refl)))
+
+add_kept : (c : CheckerTree) (k : Known) → Matches inside.Main c k → (at : ℕ) (name : Identifier) (e : ExpressionTree) → found name.bytes k.names ≡ Some meaning.SetVariable
+    → IsNumber k.names inside.Main e → (add_vertex c.scope at name e).faults ≡ []
+add_kept c k m at name e means number =
+    let u = used_kept inside.Main c k m name meaning.SetVariable means in
+    let is = set_variable (used c.scope name).value u.1 in
+    let v = value_of c.scope at e in
+    let x = number_value inside.Main c k m at e number in
+    both_none (used c.scope name).faults _ u.0 (both_none v.faults _ x.none
+    (subst (λ s. (added at v.value s).faults ≡ []) (sym is.1) (both_none (as_integer at v.value).faults [] (numeric_integer at v.value x.is) refl)))
+
+number_printed : (at : ℕ) (v : ValueTree) → IsNumeric v → (printed at v).faults ≡ []
+number_printed at (value.Integer e) is = refl
+number_printed at (value.Condition c) is = refl
+number_printed at (value.Vertex p) is = refl
+number_printed at (value.Set slot) is = absurd is
+number_printed at value.ErrorValue is = refl
+
+truth_printed : (at : ℕ) (v : ValueTree) → IsOf Truth v → (printed at v).faults ≡ []
+truth_printed at (value.Integer e) is = refl
+truth_printed at (value.Condition c) is = refl
+truth_printed at (value.Vertex p) is = refl
+truth_printed at (value.Set slot) is = absurd is
+truth_printed at value.ErrorValue is = refl
+
+print_kept : (c : CheckerTree) (k : Known) → Matches inside.Main c k → (at : ℕ) (e : ExpressionTree) → IsNumber k.names inside.Main e ⊎ IsTruth k.names inside.Main e → (print c.scope at e).faults ≡ []
+print_kept c k m at e has =
+    let v = value_of c.scope at e in
+    elim has [
+      | inl number ↦ let x = number_value inside.Main c k m at e number in both_none v.faults _ x.none (number_printed at v.value x.is)
+      | inr truth ↦ let x = expression_kept inside.Main c k m at e Truth truth in both_none v.faults _ x.none (truth_printed at v.value x.is)
+    ]
+
+-- applies
+edges_applied_fine : (at : ℕ) (a b : ApplyEndTree) (ends : Bool) (place : ℕ) → IsGood a → IsGood b → (applied at entity.Edges a b ends (entity.EdgeFunction place)).faults ≡ []
+edges_applied_fine at Absent Absent ends place first second = refl
+edges_applied_fine at Absent (initial_value.Given g) ends place first second = refl
+edges_applied_fine at (initial_value.Given f) Absent ends place first second = refl
+edges_applied_fine at (initial_value.Given f) (initial_value.Given g) ends place first second = refl
+edges_applied_fine at Absent Wrong ends place first second = absurd second
+edges_applied_fine at Absent ErrorEnd ends place first second = absurd second
+edges_applied_fine at (initial_value.Given f) Wrong ends place first second = absurd second
+edges_applied_fine at (initial_value.Given f) ErrorEnd ends place first second = absurd second
+edges_applied_fine at Wrong b ends place first second = absurd first
+edges_applied_fine at ErrorEnd b ends place first second = absurd first
+
+set_applied_fine : (at : ℕ) (t : Entity) (a b : ApplyEndTree) (place : ℕ) → type_named (Some (meaning_of t)) ≡ Some Set → (applied at t a b false (entity.VertexFunction place)).faults ≡ []
+set_applied_fine at (entity.ConstantSet slot) a b place is = refl
+set_applied_fine at (entity.SetVariable slot) a b place is = refl
+set_applied_fine at _ a b place is = absurd cc
+
+no_ends : (from to : Option Identifier) → from ≡ None → to ≡ None → (is_some from || is_some to) ≡ false
+no_ends None None first second = refl
+no_ends None (Some to) first second = absurd cc
+no_ends (Some from) to first second = absurd cc
+
+apply_kept : (c : CheckerTree) (k : Known) → Matches inside.Main c k → (at : ℕ) (target : Identifier) (ends : EndsTree) (function : Identifier) → ApplyFits k target ends function
+    → (apply c.scope at target ends function).faults ≡ []
+apply_kept c k m at target ends function (AppliesEdges place edges fit means) =
+    let t = used_kept inside.Main c k m target meaning.Edges edges in
+    let a = end_kept inside.Main c k m ends.from fit.0 in
+    let b = end_kept inside.Main c k m ends.to fit.1 in
+    let f = used_kept inside.Main c k m function (meaning.EdgeFunction place) means in
+    let x = (end_of c.scope ends.from).value in
+    let y = (end_of c.scope ends.to).value in
+    both_none (used c.scope target).faults _ t.0 (both_none (end_of c.scope ends.from).faults _ a.0 (both_none (end_of c.scope ends.to).faults _ b.0 (both_none (used c.scope function).faults _ f.0
+    (subst (λ t. (applied at t x y (has_ends ends) (used c.scope function).value).faults ≡ []) (sym (edges_are (used c.scope target).value t.1))
+    (subst (λ f. (applied at entity.Edges x y (has_ends ends) f).faults ≡ []) (sym (edge_function_entity (used c.scope function).value place f.1))
+    (edges_applied_fine at x y (has_ends ends) place a.1 b.1))))))
+apply_kept c k m at target ends function (AppliesVertices set from to means) =
+    let t = set_kept inside.Main c k m target set in
+    let f = used_kept inside.Main c k m function meaning.VertexFunction means in
+    let is = vertex_function_entity (used c.scope function).value f.1 in
+    let x = (end_of c.scope ends.from).value in
+    let y = (end_of c.scope ends.to).value in
+    both_none (used c.scope target).faults _ t.0
+    (both_none (end_of c.scope ends.from).faults _ (subst (λ o. (end_of c.scope o).faults ≡ []) (sym from) refl)
+    (both_none (end_of c.scope ends.to).faults _ (subst (λ o. (end_of c.scope o).faults ≡ []) (sym to) refl) (both_none (used c.scope function).faults _ f.0
+    (subst (λ f. (applied at (used c.scope target).value x y (has_ends ends) f).faults ≡ []) (sym is.1)
+    (subst (λ has. (applied at (used c.scope target).value x y has (entity.VertexFunction is.0)).faults ≡ []) (sym (no_ends ends.from ends.to from to))
+    (set_applied_fine at (used c.scope target).value x y is.0 t.1))))))
+
+-- a statement that declares nothing
+in_place_kept : (c : CheckerTree) (k : Known) → Matches inside.Main c k → (action : WithFaults ActionTree) → action.faults ≡ [] → Keeps inside.Main (in_place c action) k
+in_place_kept c k m action none = (both_none action.faults [] none refl, m)
+
+mutual
+  pub action_kept : (c : CheckerTree) (k : Known) → Matches inside.Main c k → (action : source.ActionTree) → ActionKeeps inside.Main k action
+      → Keeps inside.Main (action_typed c action) (known_behind inside.Main k action)
+  action_kept c k m (source.Declare at p initial) keeps = declare_kept c k m at p.name initial p.declared keeps.0 keeps.1
+  action_kept c k m (source.While at test body) keeps =
+      let b = statements_kept c k m Empty body keeps.2 in (
+        both_none (condition_in c.scope at test).faults _ (truth_kept inside.Main c k m at test keeps.1) (both_none (statements_typed c Empty body).faults [] b.0 refl),
+        closed_kept inside.Main inside.Main c (statements_typed c Empty body).value.1 k (known_after inside.Main k body) m b.1,
+      )
+  action_kept c k m (source.For at name first limit body) keeps =
+      let e = entity.LoopVariable (integer_slot c) in
+      let d = declared_kept inside.Main c k m name e meaning.LoopName refl keeps.3 in
+      let inner = (declared_in c name e).value in
+      let b = statements_kept inner (with_name k name meaning.LoopName) d.1 Empty body keeps.4 in (
+        both_none (integer_in c.scope at first).faults _ (number_kept inside.Main c k m at first keeps.1)
+            (both_none (integer_in c.scope at limit).faults _ (number_kept inside.Main c k m at limit keeps.2)
+            (both_none (declared_in c name e).faults _ d.0 (both_none (statements_typed inner Empty body).faults [] b.0 refl))),
+        closed_kept inside.Main inside.Main c (statements_typed inner Empty body).value.1 k (known_after inside.Main (with_name k name meaning.LoopName) body) m b.1,
+      )
+  action_kept c k m (source.If at test body) keeps =
+      let b = statements_kept c k m Empty body keeps.1 in (
+        both_none (condition_in c.scope at test).faults _ (truth_kept inside.Main c k m at test keeps.0) (both_none (statements_typed c Empty body).faults [] b.0 refl),
+        closed_kept inside.Main inside.Main c (statements_typed c Empty body).value.1 k (known_after inside.Main k body) m b.1,
+      )
+  action_kept c k m (source.IfElse at test body otherwise) keeps =
+      let b = statements_kept c k m Empty body keeps.1 in
+      let x = (statements_typed c Empty body).value.1 in
+      let d = closed c x in
+      let inner = closed_known k (known_after inside.Main k body) in
+      let behind_first = closed_kept inside.Main inside.Main c x k (known_after inside.Main k body) m b.1 in
+      let o = statements_kept d inner behind_first Empty otherwise keeps.2 in (
+        both_none (condition_in c.scope at test).faults _ (truth_kept inside.Main c k m at test keeps.0)
+            (both_none (statements_typed c Empty body).faults _ b.0 (both_none (statements_typed d Empty otherwise).faults [] o.0 refl)),
+        closed_kept inside.Main inside.Main d (statements_typed d Empty otherwise).value.1 inner (known_after inside.Main inner otherwise) behind_first o.1,
+      )
+  action_kept c k m (source.Print at e) keeps = in_place_kept c k m (print c.scope at e) (print_kept c k m at e keeps.1)
+  action_kept c k m (source.Assign name initial) keeps = in_place_kept c k m (assign c name.at name initial) (assign_kept c k m name.at name initial keeps)
+  action_kept c k m (source.Reduce name by e) keeps = in_place_kept c k m (reduce c.scope name.at name by e) (reduce_kept c k m name.at name by e keeps.0 keeps.1)
+  action_kept c k m (source.SetEntry vector index e) keeps =
+      in_place_kept c k m (set_entry c.scope vector.at vector index e) (entry_kept c k m vector.at vector keeps.1.vector index e keeps.1.means keeps.2.0 keeps.2.1 keeps.3)
+  action_kept c k m (source.ReduceEntry vector index by e) keeps =
+      in_place_kept c k m (reduce_entry c.scope vector.at vector index by e) (entry_kept c k m vector.at vector keeps.place index e keeps.means keeps.at.0 keeps.at.1 keeps.value)
+  action_kept c k m (source.AddVertex set e) keeps = in_place_kept c k m (add_vertex c.scope set.at set e) (add_kept c k m set.at set e keeps.1 keeps.2)
+  action_kept c k m (source.Apply target ends function) keeps = in_place_kept c k m (apply c.scope target.at target ends function) (apply_kept c k m target.at target ends function keeps.1)
+
+  pub statements_kept : (c : CheckerTree) (k : Known) → Matches inside.Main c k → (so_far : BlockTree) (block : source.BlockTree) → BlockKeeps inside.Main k block
+      → Keeps inside.Main (statements_typed c so_far block) (known_after inside.Main k block)
+  statements_kept c k m so_far source.Empty keeps = (refl, m)
+  statements_kept c k m so_far (source.Then label action others) keeps =
+      let l = labelled_kept inside.Main c k m label keeps.0 in
+      let d = counted (labelled c label).value.1 in
+      let here = counted_kept inside.Main (labelled c label).value.1 (labelled_known k label) l.1 in
+      let a = action_kept d (labelled_known k label) here action keeps.1 in
+      let x = (action_typed d action).value in
+      let more = behind so_far (suc (labelled c label).value.1.statements) (labelled c label).value.0 x.0 in
+      let rest = statements_kept x.1 (known_behind inside.Main (labelled_known k label) action) a.1 more others keeps.2 in
+      (both_none (labelled c label).faults _ l.0 (both_none (action_typed d action).faults _ a.0 rest.0), rest.1)

@@ -1,0 +1,149 @@
+-- What names stand for behind a declaration, and at the first statement of a function, in a source without a fault.
+use Rattle.std.proofs.Common.{◌≡◌, refl, ℕ, pos, Bool, true, false, if◌then◌else◌, List, [], ◌∷◌, ◌++◌, length, Option, Some, None}
+use Rattle.syntax.specs.Terminals.{Identifier}
+use Rattle.syntax.specs.declared.declaration.DeclaredType.{DeclaredType}
+use Rattle.syntax.specs.declared.declaration.DeclaredType.TheVariants as declared
+use Rattle.syntax.specs.SourceTrees as source
+use Rattle.syntax.specs.SourceTrees.{ParameterTree, InitialTree, DeclarationTree}
+use Rattle.typed_tree.specs.declared.expression.Endpoint.{Endpoint}
+use Rattle.typed_tree.specs.declared.expression.Endpoint.TheVariants as endpoint
+use Rattle.typed_tree.specs.BlockTree.{BlockTree, Empty}
+use Rattle.typed_tree.specs.StepTree.{StepsTree, NoStep}
+use Rattle.expression_types.specs.declared.scope.Entity.{Entity}
+use Rattle.expression_types.specs.declared.scope.Entity.TheVariants as entity
+use Rattle.expression_types.specs.declared.scope.Inside.{Inside}
+use Rattle.expression_types.specs.declared.scope.Inside.TheVariants as inside
+use Rattle.expression_types.specs.ScopeTree.{entered}
+use Rattle.types.specs.Block.{statements_typed}
+use Rattle.types.specs.Checker.{CheckerTree, condition_slot, declared_in, restarted, with_scope}
+use Rattle.types.specs.Declaration.{DeclaredTree, FunctionKindTree, MainKind, EdgeKind, VertexKind, FilterKind, NoKind, begins, declaration_typed, declare_constant_as, declare_function, declare_name, function_declared, has_all, inside_of, is_vertex, kind, kind_fits, literal_or_fault, loads, main_declared, next_name, only_edges, opened, parameter, parameters_declared, result_declared, steps_declared, with_main}
+use Rattle.types.specs.Initial.{InitializerTree, initializer_of, is_sound}
+use Rattle.types.specs.Literal.{literal_condition, literal_integer}
+use Rattle.types.specs.Step.{steps_typed, with_writes}
+use Rattle.type_laws.proofs.EachDeclaration.{IsUserKind}
+use Rattle.type_laws.proofs.Faultless.{no_left, no_right, not_empty}
+use Rattle.type_laws.proofs.KnownScopes.{EntityIsKnown, IsKnown, Vertices, becomes_known, declared_known, nowhere}
+
+-- parameters, which are vertices
+abbrev pub ParametersFit : Vertices → Endpoint → List ParameterTree → Type 0
+ParametersFit At p [] = Unit {0}
+ParametersFit At p (v ∷ others) = (is_vertex v.declared ≡ true) × At p v.name.bytes × ParametersFit At endpoint.Destination others
+
+parameter_known : (At : Vertices) (p : Endpoint) (name : List ℕ) (b : Bool) → b ≡ true → At p name → EntityIsKnown At name (if b then entity.Parameter p else entity.Error)
+parameter_known At p name true is there = there
+parameter_known At p name false is there = absurd cc
+
+parameters_known : (At : Vertices) (i : Inside) (c : CheckerTree) (p : Endpoint) (parameters : List ParameterTree) → ParametersFit At p parameters → IsKnown At i c.scope
+    → (parameters_declared c p parameters).faults ≡ [] → IsKnown At i (parameters_declared c p parameters).value.scope
+parameters_known At i c p [] fit known none = known
+parameters_known At i c p (v ∷ others) fit known none =
+    let e = parameter p v.declared in
+    let d = declared_in c v.name e in
+    let rest = parameters_declared d.value endpoint.Destination others in
+    let first = declared_known At i c v.name e known (parameter_known At p v.name.bytes (is_vertex v.declared) fit.0 fit.1) (no_left d.faults rest.faults none) in
+    parameters_known At i d.value endpoint.Destination others fit.2 first (no_right d.faults rest.faults none)
+
+-- a result, which only a filter has
+abbrev pub ResultFits : FunctionKindTree → Option ParameterTree → Type 0
+ResultFits kind None = Unit {0}
+ResultFits (MainKind fits) (Some result) = ⊥
+ResultFits EdgeKind (Some result) = ⊥
+ResultFits VertexKind (Some result) = ⊥
+ResultFits FilterKind (Some result) = Unit {0}
+ResultFits NoKind (Some result) = ⊥
+
+result_known : (At : Vertices) (i : Inside) (c : CheckerTree) (kind : FunctionKindTree) (result : Option ParameterTree) → ResultFits kind result → IsKnown At i c.scope
+    → (result_declared c kind result).faults ≡ [] → IsKnown At i (result_declared c kind result).value.scope
+result_known At i c kind None fits known none = known
+result_known At i c (MainKind main) (Some result) fits known none = absurd fits
+result_known At i c EdgeKind (Some result) fits known none = absurd fits
+result_known At i c VertexKind (Some result) fits known none = absurd fits
+result_known At i c FilterKind (Some result) fits known none = declared_known At i c result.name (entity.ConditionVariable (condition_slot c)) known tt none
+result_known At i c NoKind (Some result) fits known none = absurd fits
+
+pub opened_known : (At : Vertices) (c : CheckerTree) (kind : FunctionKindTree) (parameters : List ParameterTree) (result : Option ParameterTree) → ParametersFit At endpoint.Source parameters
+    → ResultFits kind result → IsKnown nowhere inside.Main c.scope → (opened c kind parameters result).faults ≡ [] → IsKnown At (inside_of kind) (opened c kind parameters result).value.scope
+opened_known At c kind parameters result fit fits known none =
+    let e = with_writes (with_scope c (entered (inside_of kind) c.scope)) [] in
+    let d = parameters_declared e endpoint.Source parameters in
+    let r = result_declared d.value kind result in
+    let first = parameters_known At (inside_of kind) e endpoint.Source parameters fit (refl, becomes_known At c.scope.visible known.1) (no_left d.faults r.faults none) in
+    result_known At (inside_of kind) d.value kind result fits first (no_right d.faults r.faults none)
+
+-- declarations
+abbrev pub AllKnown : DeclaredTree → Type 0
+AllKnown d = IsKnown nowhere inside.Main d.checker.scope
+
+name_known : (d : DeclaredTree) (name : Identifier) (e : Entity) → AllKnown d → EntityIsKnown nowhere name.bytes e → (declare_name d name e).faults ≡ []
+    → AllKnown (declare_name d name e).value
+name_known d name e known is none = declared_known nowhere inside.Main d.checker name e known is (no_left (declared_in d.checker name e).faults [] none)
+
+constant_known : (d : DeclaredTree) (at : ℕ) (name : Identifier) (initial : InitialTree) (type : DeclaredType) (initializer : InitializerTree) → AllKnown d
+    → (declare_constant_as d at name initial type initializer).faults ≡ [] → AllKnown (declare_constant_as d at name initial type initializer).value
+constant_known d at name initial declared.Int initializer known none =
+    let n = literal_or_fault at (is_sound initializer) (pos 0) (literal_integer initial) in
+    name_known d name (entity.IntegerConstant (next_name d) n.value) known tt (no_right n.faults _ none)
+constant_known d at name initial declared.Bool initializer known none =
+    let b = literal_or_fault at (is_sound initializer) false (literal_condition initial) in
+    name_known d name (entity.ConditionConstant (next_name d) b.value) known tt (no_right b.faults _ none)
+constant_known d at name initial declared.Vertex initializer known none = absurd (not_empty _ _ none)
+constant_known d at name initial declared.VertexSet initializer known none =
+    let e = entity.ConstantSet (record { place = length d.sets; name = next_name d }) in
+    name_known d name e known tt (no_left (declare_name d name e).faults [] (no_right (has_all at initializer).faults _ none))
+constant_known d at name initial declared.Vector initializer known none =
+    let e = entity.Vector (length d.vectors) in
+    name_known d name e known tt (no_left (declare_name d name e).faults [] (no_right (begins at initializer initial).faults _ none))
+constant_known d at name initial declared.EdgeSet initializer known none =
+    let only = only_edges name (next_name d) d.edges in
+    name_known d name entity.Edges known tt
+    (no_left (declare_name d name entity.Edges).faults [] (no_right only.faults ((declare_name d name entity.Edges).faults ++ []) (no_right (loads at initializer).faults _ none)))
+
+function_known : (d : DeclaredTree) (at : ℕ) (kind : FunctionKindTree) (name : Identifier) (steps : StepsTree) → IsUserKind kind → (kind_fits at kind).faults ≡ [] → AllKnown d
+    → (function_declared d kind name steps).faults ≡ [] → AllKnown (function_declared d kind name steps).value
+function_known d at (MainKind fits) name steps user sound known none = absurd user
+function_known d at EdgeKind name steps user sound known none =
+    let e = entity.EdgeFunction (length d.edge_functions) in name_known d name e known tt (no_left (declare_name d name e).faults [] none)
+function_known d at VertexKind name steps user sound known none =
+    let e = entity.VertexFunction (length d.vertex_functions) in name_known d name e known tt (no_left (declare_name d name e).faults [] none)
+function_known d at FilterKind name steps user sound known none =
+    let e = entity.Filter (length d.filters) in name_known d name e known tt (no_left (declare_name d name e).faults [] none)
+function_known d at NoKind name steps user sound known none = absurd (not_empty _ _ sound)
+
+steps_known : (d : DeclaredTree) (at : ℕ) (kind : FunctionKindTree) (name : Identifier) (parameters : List ParameterTree) (result : Option ParameterTree) (body : source.BlockTree) → IsUserKind kind
+    → AllKnown d → (steps_declared d at kind name parameters result body).faults ≡ [] → AllKnown (steps_declared d at kind name parameters result body).value
+steps_known d at kind name parameters result body user known none =
+    let f = kind_fits at kind in
+    let c = opened d.checker kind parameters result in
+    let b = steps_typed c.value NoStep body in
+    let around = record d { checker = with_scope b.value.1 d.checker.scope } in
+    let g = function_declared around kind name b.value.0 in
+    let behind = no_right c.faults (b.faults ++ g.faults) (no_right f.faults (c.faults ++ (b.faults ++ g.faults)) none) in
+    function_known around at kind name b.value.0 user (no_left f.faults (c.faults ++ (b.faults ++ g.faults)) none) known (no_right b.faults g.faults behind)
+
+with_main_known : (e : DeclaredTree) (fits : Bool) (main : BlockTree) → AllKnown e → AllKnown (with_main e fits main)
+with_main_known e true main known = known
+with_main_known e false main known = known
+
+main_known : (d : DeclaredTree) (fits : Bool) (name : Identifier) (parameters : List ParameterTree) (result : Option ParameterTree) (body : source.BlockTree) → AllKnown d
+    → (main_declared d fits name parameters result body).faults ≡ [] → AllKnown (main_declared d fits name parameters result body).value
+main_known d fits name parameters result body known none =
+    let c = opened (restarted d.checker) (MainKind fits) parameters result in
+    let b = statements_typed c.value Empty body in
+    let around = record d { checker = with_scope b.value.1 d.checker.scope } in
+    let e = declare_name around name entity.Main in
+    let both = no_right c.faults (b.faults ++ (e.faults ++ [])) none in
+    with_main_known e.value fits b.value.0 (name_known around name entity.Main known tt (no_left e.faults [] (no_right b.faults (e.faults ++ []) both)))
+
+each_function_known : (d : DeclaredTree) (at : ℕ) (name : Identifier) (parameters : List ParameterTree) (result : Option ParameterTree) (body : source.BlockTree) (kind : FunctionKindTree) → AllKnown d
+    → (declare_function d at name parameters result body kind).faults ≡ [] → AllKnown (declare_function d at name parameters result body kind).value
+each_function_known d at name parameters result body (MainKind fits) known none = main_known d fits name parameters result body known none
+each_function_known d at name parameters result body EdgeKind known none = steps_known d at EdgeKind name parameters result body tt known none
+each_function_known d at name parameters result body VertexKind known none = steps_known d at VertexKind name parameters result body tt known none
+each_function_known d at name parameters result body FilterKind known none = steps_known d at FilterKind name parameters result body tt known none
+each_function_known d at name parameters result body NoKind known none = steps_known d at NoKind name parameters result body tt known none
+
+pub declaration_known : (d : DeclaredTree) (x : DeclarationTree) → AllKnown d → (declaration_typed d x).faults ≡ [] → AllKnown (declaration_typed d x).value
+declaration_known d (source.Constant at x initial) known none =
+    let initializer = initializer_of d.checker at initial in constant_known d at x.name initial x.declared initializer.value known (no_right initializer.faults _ none)
+declaration_known d (source.Function at name parameters result body) known none =
+    each_function_known d at name parameters result body (kind name.bytes parameters result) known none

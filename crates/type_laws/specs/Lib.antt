@@ -1,0 +1,13 @@
+pub mod EntryAccess
+pub mod ExpressionTypes
+pub mod InitialValues
+pub mod KeptRules
+pub mod Labels
+pub mod MainFunction
+pub mod Meanings
+pub mod NewNames
+pub mod Numbers
+pub mod Prints
+pub mod ScopeMeanings
+pub mod UsedNames
+pub mod WellTyped

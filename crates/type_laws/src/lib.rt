@@ -1,0 +1,39 @@
+//! Laws of types: what the program and the faults of a source, which `types` defines as its checker goes, come to in the
+//! words of the language.
+//!
+//! The calls do nothing: each is a fact that is proved of every source. A source has a program or a told fault, never
+//! both (`sources_have_a_program_or_a_fault`), and the told fault is the least of its faults
+//! (`told_faults_are_the_least`). A source has a program exactly where it keeps the rules
+//! (`sources_have_a_program_where_they_keep_the_rules`): `specs/KeptRules.antt` has the rules as a relation over the source,
+//! with the types of expressions in `specs/ExpressionTypes.antt` and the meanings of names in `specs/Meanings.antt`. An
+//! expression has no fault exactly where it has a type (`expressions_have_types_where_they_have_no_fault`). In a source
+//! with a program:
+//!
+//! - each used name is visible (`checked_sources_use_visible_names`), and no visible name is declared again
+//!   (`checked_sources_declare_new_names`);
+//! - constants and functions are of the kinds that there are, and functions hold what their kind may hold
+//!   (`checked_sources_are_well_typed`);
+//! - functions read and write vectors at their own vertices, and no index of `main` has an entry in it
+//!   (`checked_sources_access_own_entries`);
+//! - `print` stands in `main` alone (`checked_sources_print_in_main_alone`), and one function is `main`
+//!   (`checked_sources_declare_main`);
+//! - no label stands twice (`checked_sources_have_distinct_labels`).
+//!
+//! In a checked program each place is that of something that is there (`checked_programs_are_resolved`, `IsResolved`
+//! of `typed_tree`), and the statements of `main` have the numbers 1, 2, 3 and so on
+//! (`statements_are_numbered_in_order`).
+//!
+//! No crate of the program stands on this one, so that its proofs are off the way of a build.
+#![tactic(auto)]
+
+mod laws;
+
+pub use laws::{
+    checked_programs_are_resolved, checked_sources_access_own_entries,
+    checked_sources_are_well_typed, checked_sources_declare_main,
+    checked_sources_declare_new_names, checked_sources_have_distinct_labels,
+    checked_sources_print_in_main_alone, checked_sources_use_visible_names,
+    expressions_have_types_where_they_have_no_fault, sources_have_a_program_or_a_fault,
+    sources_have_a_program_where_they_keep_the_rules, statements_are_numbered_in_order,
+    told_faults_are_the_least,
+};

@@ -1,0 +1,49 @@
+-- Which two applies have the same sets, and which are independent.
+use Rattle.std.specs.Prelude.{ℕ, Bool, true, false, not, ◌&&◌, ◌||◌, nat_eq, List, [], Option, Some, None, slice_get}
+use Rattle.std.specs.Str.{bytes_eq}
+use Rattle.typed_tree.specs.declared.statement.VertexFilter.{VertexFilter}
+use Rattle.typed_tree.specs.declared.statement.VertexFilter.TheVariants as end
+use Rattle.typed_tree.specs.ProgramTree.{ProgramTree}
+use Rattle.typed_tree.specs.declared.apply.StatementApply.{StatementApply}
+use Rattle.typed_tree.specs.declared.apply.StatementApply.TheVariants.{Vertices, Edges}
+use Rattle.typed_tree.specs.Access.{are_apart, end_reads, function_uses, function_writes}
+
+-- the name at a place; one that is not there is empty
+abbrev pub or_empty : Option (List ℕ) → List ℕ
+or_empty None = []
+or_empty (Some name) = name
+
+abbrev pub name_at : List (List ℕ) → ℕ → List ℕ
+name_at names place = or_empty (slice_get names place)
+
+-- the names at two places are the same
+abbrev pub are_same : List (List ℕ) → ℕ → ℕ → Bool
+are_same names a b = bytes_eq (name_at names a) (name_at names b)
+
+-- two ends are the same set or the same filter, or none is given
+abbrev pub are_same_ends : List (List ℕ) → Option VertexFilter → Option VertexFilter → Bool
+are_same_ends names None None = true
+are_same_ends names (Some (end.Members a)) (Some (end.Members b)) = are_same names a.name b.name
+are_same_ends names (Some (end.Function a)) (Some (end.Function b)) = nat_eq a b
+are_same_ends names _ _ = false
+
+-- both apply to vertices or both to edges, of the same sets and filters
+abbrev pub have_same_sets : List (List ℕ) → StatementApply → StatementApply → Bool
+have_same_sets names (Vertices a f) (Vertices b g) = are_same names a.name b.name
+have_same_sets names (Edges a f r) (Edges b g s) = are_same_ends names a.from b.from && are_same_ends names a.to b.to
+have_same_sets names _ _ = false
+
+-- an end is the set of this name
+abbrev pub is_end : List (List ℕ) → Option ℕ → Option VertexFilter → Bool
+is_end names (Some name) (Some (end.Members set)) = are_same names name set.name
+is_end names _ _ = false
+
+-- no vector that the first function writes is read or written by the second, or read by a filter of the second's ends, and
+-- no end of the second is the set that the first one's changes go to; two vertex applies are independent
+abbrev pub are_independent : ProgramTree → StatementApply → StatementApply → Bool
+are_independent p (Edges a f r) (Edges b g s) =
+    not (is_end p.names r b.from || is_end p.names r b.to)
+    && (are_apart (function_uses p.edge_functions g) (function_writes p.edge_functions f)
+    && (are_apart (end_reads p.filters b.from) (function_writes p.edge_functions f)
+    && are_apart (end_reads p.filters b.to) (function_writes p.edge_functions f)))
+are_independent p _ _ = true

@@ -1,7 +1,0 @@
-use Rattle.std.proofs.Common.{subst}
-use Rattle.typed_tree.specs.Resolved.{IsResolved}
-use Rattle.types.proofs.ResolvedPrograms.{program_resolved}
-use Rattle.types.proofs.laws.checked_programs_are_resolved.Goals as goal
-
-pub returns : goal.returns
-returns c = λ source length program checks. subst (λ p. IsResolved p) checks.1 (program_resolved source length checks.0)

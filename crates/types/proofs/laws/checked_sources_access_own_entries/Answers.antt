@@ -1,5 +1,0 @@
-use Rattle.types.proofs.EntryAccess.{entries_are_accessed_well}
-use Rattle.types.proofs.laws.checked_sources_access_own_entries.Goals as goal
-
-pub returns : goal.returns
-returns c = λ source length program checks. entries_are_accessed_well source length checks.0

@@ -1,9 +1,0 @@
-use Rattle.types.proofs.InitialValues.{initials_fit}
-use Rattle.types.proofs.WellTyped.{declarations_fit}
-use Rattle.types.proofs.laws.checked_sources_are_well_typed.Goals as goal
-
-pub returns : goal.returns
-returns c = record {
-  initials = λ source length program checks. initials_fit source length checks.0;
-  declarations = λ source length program checks. declarations_fit source length checks.0;
-}

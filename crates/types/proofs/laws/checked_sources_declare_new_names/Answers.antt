@@ -1,8 +1,0 @@
-use Rattle.types.proofs.NewNames.{edges_are_one, names_are_new}
-use Rattle.types.proofs.laws.checked_sources_declare_new_names.Goals as goal
-
-pub returns : goal.returns
-returns c = record {
-  names = λ source length program checks. names_are_new source length checks.0;
-  edges = λ source length program checks. edges_are_one source length checks.0;
-}

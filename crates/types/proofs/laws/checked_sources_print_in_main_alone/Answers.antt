@@ -1,5 +1,0 @@
-use Rattle.types.proofs.Prints.{prints_stand_in_main}
-use Rattle.types.proofs.laws.checked_sources_print_in_main_alone.Goals as goal
-
-pub returns : goal.returns
-returns c = λ source length program checks. prints_stand_in_main source length checks.0

@@ -1,5 +1,0 @@
-use Rattle.types.proofs.UsedNames.{names_are_visible}
-use Rattle.types.proofs.laws.checked_sources_use_visible_names.Goals as goal
-
-pub returns : goal.returns
-returns c = λ source length program checks. names_are_visible source length checks.0

@@ -1,9 +1,0 @@
-use Rattle.std.proofs.Common.{◌<◌, length, rules}
-use Rattle.syntax.specs.ExpressionViews.{term_of}
-use Rattle.types.proofs.Literals.{several_terms}
-use Rattle.types.proofs.literal.in_sum.Goals as goal
-
-pub returns-else-is_empty : goal.returns-else-is_empty
-returns-else-is_empty c =
-    let some : 0 < length c.args.sum.now.more.items = search rules in
-    several_terms (term_of c.args.sum.now.first) c.args.sum.now.more.items some

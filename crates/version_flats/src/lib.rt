@@ -1,0 +1,13 @@
+//! Flat snapshots of the versions that are kept, each made once for all runs on its version.
+//!
+//! [`VersionFlats`] is a map from the number of a version to its flat, which its users share. What holds of it is
+//! a relation to the state of the versions (`specs/VersionFlats.antt`): each flat is that of a version that is
+//! kept. [`VersionFlats::flat`] keeps it, and after a step that may let a version go [`VersionFlats::let_go`]
+//! brings it back.
+//!
+//! The crate of scripts stands on it.
+#![tactic(auto)]
+
+mod version_flats;
+
+pub use version_flats::VersionFlats;
