@@ -8,7 +8,7 @@ ghost use Rattle.driver.specs.Running.{Runs};
 use crate::command_line::request;
 use crate::files::Files;
 use crate::requests::RequestError;
-use crate::serving::{Text, serve};
+use crate::serving::{TextWriter, serve};
 use devices::{Drain, Feed};
 use scripts::ScriptState;
 use std::alloc::Global;
@@ -43,6 +43,6 @@ pub fn run<F: Files, R: Feed, W: Drain, E: Drain>(
 fn refused<E: Drain>(error: &RequestError, err: &mut E) -> u8
     ensures { result ≡ refusal_status_of error.now }
 {
-    let _ = write!(Text(err), "{error}");
+    let _ = write!(TextWriter(err), "{error}");
     error.status()
 }

@@ -15,7 +15,7 @@ use crate::status;
 use compiler::{CompileError, compile};
 use devices::{Drain, Feed, write_all};
 use plans::Plan;
-use scripts::{NoPrograms, ScriptError, ScriptState, run_text, script};
+use scripts::{ScriptError, ScriptState, run_text, script};
 use std::alloc::Global;
 use std::fmt;
 use std::fmt::Write;
@@ -71,7 +71,7 @@ fn told<E: Drain>(ended: Result<bool, ServeError<'_>>, err: &mut E) -> u8
         Ok(false) => status::DONE,
         Ok(true) => status::FAULTED,
         Err(error) => {
-            let _ = writeln!(Text(err), "{error}");
+            let _ = writeln!(TextWriter(err), "{error}");
             error.status()
         }
     }
@@ -89,7 +89,10 @@ fn run_input<'a, R: Feed, W: Drain>(
         (taken_by (W.taken out.old) (W.failures out.old))
         (taken_by (W.taken out.new) (W.failures out.new)) result.0 }
 {
-    let (ended, state) = script(alloc, &NoPrograms, input, out);
+    let programs = CompiledPrograms {
+        plans: Vec::new(alloc),
+    };
+    let (ended, state) = script(alloc, &programs, input, out);
     (ended_as(ended), state)
 }
 
@@ -198,9 +201,9 @@ fn compiled_file<'a, F: Files>(
 
 // Takes text for a writer of bytes.
 #[derive(Drop)]
-pub(crate) struct Text<'a, E: Drain>(pub &'a mut E);
+pub(crate) struct TextWriter<'a, E: Drain>(pub &'a mut E);
 
-impl<E: Drain> fmt::Write for Text<'_, E> {
+impl<E: Drain> fmt::Write for TextWriter<'_, E> {
     ghost write_str_gives = { λ old text new. E.taken new.0.now ≡ E.taken old.0.now ++ text };
 
     fn write_str(&mut self, text: &str) -> fmt::Result {

@@ -1,11 +1,38 @@
-//! Scripts and their replies, over readers and writers that fail or go slowly.
+//! Scripts and their replies, over readers and writers that fail or go slowly, and a run that lacks memory.
+ghost use Rattle.std.specs.Prelude.{[], ◌∷◌};
+ghost use Rattle.library_tests.specs.Programs.{empty_program};
+
+use algorithm_meaning::Outcome;
 use devices::Device;
-use scripts::{NoPrograms, ScriptError, script};
-use std::alloc::Global;
+use flat_snapshot::Flat;
+use scripts::{Programs, ScriptError, script};
+use std::alloc::{AllocError, Global};
 use std::io;
 use std::io::{Error, ErrorKind, Read, Write};
 use std::sync::atomic::{AtomicUsize, Ordering};
 use std::test::Fail;
+
+// One program, for whose runs there is never memory enough.
+struct StarvedProgram;
+
+impl Programs for StarvedProgram {
+    ghost trees = { λ _. empty_program ∷ [] };
+
+    fn count(&self) -> usize {
+        1
+    }
+
+    fn run(
+        &self,
+        _alloc: Global,
+        _place: usize,
+        _graph: &Flat,
+        _turns: u64,
+        _workers: u64,
+    ) -> Result<Outcome, AllocError> {
+        Err(AllocError)
+    }
+}
 
 // Is interrupted before each read, and fails where another would end.
 #[derive(Drop)]
@@ -64,7 +91,7 @@ fn run(alloc: Global, bytes: &[u8], room: usize) -> (Result<bool, ScriptError>, 
         is_interrupted: false,
     });
     let mut out = Device::new(&mut writer);
-    let (result, _state) = script(alloc, &NoPrograms, &mut reader, &mut out);
+    let (result, _state) = script(alloc, &StarvedProgram, &mut reader, &mut out);
     drop(out);
     (result, writer.bytes)
 }
@@ -161,7 +188,14 @@ fn replies_before_it_reads_on(rt: HostRuntime) {
         missed: &missed,
     });
     let mut writer = Device::new(CountingWriter(&taken));
-    let (ended, _state) = script(rt.alloc(), &NoPrograms, &mut reader, &mut writer);
+    let (ended, _state) = script(rt.alloc(), &StarvedProgram, &mut reader, &mut writer);
     let all = taken.load(Ordering::SeqCst) == FIRST_REPLIES.len();
     assert!(rt; ended == Ok(false) && all && missed.load(Ordering::SeqCst) == 0);
+}
+
+// The replies to the lines before a run that lacks memory are written, and no more.
+#[test]
+fn ends_where_a_run_lacks_memory(rt: HostRuntime) {
+    let (result, written) = run(rt.alloc(), b"vertices 4\nrun 1 9 1\nedges\n", usize::MAX);
+    assert!(rt; result == Err(ScriptError::NoMemory) && written.as_slice() == b"open 4\n");
 }

@@ -36,7 +36,7 @@ pub use commands::{Command, DEFAULT_CHUNK_SIZE};
 pub use error::ScriptError;
 pub use parse::command;
 pub use pieces::{first_piece, joined_pieces, last_line, split_line};
-pub use programs::{NoPrograms, Programs};
+pub use programs::Programs;
 pub use script_state::ScriptState;
 pub use scripts::script;
 pub use text::run_text;

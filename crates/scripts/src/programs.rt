@@ -1,5 +1,5 @@
 //! Programs that a script may run.
-ghost use Rattle.std.specs.Prelude.{◌≡◌, ◌<◌, List, [], Bool, true, Some, IfOk, length};
+ghost use Rattle.std.specs.Prelude.{◌≡◌, ◌<◌, List, Bool, true, Some, IfOk, length};
 ghost use Rattle.std.specs.List.{slice_get};
 ghost use Rattle.typed_tree.specs.ProgramTree.{ProgramTree};
 ghost use Rattle.scripts.specs.Replies.{is_worker_count, meaning_on};
@@ -30,27 +30,4 @@ pub trait Programs {
         requires place { place < length (trees self.now) }
         requires workers { is_worker_count workers ≡ true }
         ensures { IfOk result (λ o. (program : ProgramTree) → slice_get (trees self.now) place ≡ Some program → o ≡ meaning_on graph.now program turns) };
-}
-
-/// No programs, for a script whose runs are all refused.
-#[derive(Clone, Copy, Debug)]
-pub struct NoPrograms;
-
-impl Programs for NoPrograms {
-    ghost trees = { λ _. [] };
-
-    fn count(&self) -> usize {
-        0
-    }
-
-    fn run(
-        &self,
-        _alloc: Global,
-        _place: usize,
-        _graph: &Flat,
-        _turns: u64,
-        _workers: u64,
-    ) -> Result<Outcome, AllocError> {
-        Err(AllocError)
-    }
 }
