@@ -1,19 +1,19 @@
 -- Vertex sets: their places, and one more member.
 use Rattle.std.proofs.Common.{◌≡◌, ℕ, zero, suc, ◌<◌, ◌≤◌, cond, nat_lt, List, [], ◌∷◌, ◌++◌, length, slice_set, slice_index_or, ap, refl, arith}
 use Rattle.std.proofs.lemmas.Bool.Decides.{nat_tests}
-use Rattle.algorithm_meaning.specs.declared.state.VertexSet.{VertexSet}
+use Rattle.algorithm_meaning.specs.declared.state.SetBinding.{SetBinding}
 use Rattle.algorithm_meaning.specs.VertexSets.{set_members, inserted}
 
-pub set_members_inside : (sets : List VertexSet) (place : ℕ) (members : List ℕ) (d : VertexSet) → place < length sets
+pub set_members_inside : (sets : List SetBinding) (place : ℕ) (members : List ℕ) (d : SetBinding) → place < length sets
     → slice_set sets place (record { name = (slice_index_or sets place d).name; members = members }) ≡ set_members sets place members
 set_members_inside [] place members d h = absurd (omega (arith, h))
 set_members_inside (x ∷ xs) zero members d h = refl
-set_members_inside (x ∷ xs) (suc n) members d h = ap (λ (r : List VertexSet). x ∷ r) (set_members_inside xs n members d (omega (arith, h)))
+set_members_inside (x ∷ xs) (suc n) members d h = ap (λ (r : List SetBinding). x ∷ r) (set_members_inside xs n members d (omega (arith, h)))
 
-pub set_members_outside : (sets : List VertexSet) (place : ℕ) (members : List ℕ) → length sets ≤ place → sets ≡ set_members sets place members
+pub set_members_outside : (sets : List SetBinding) (place : ℕ) (members : List ℕ) → length sets ≤ place → sets ≡ set_members sets place members
 set_members_outside [] place members h = refl
 set_members_outside (x ∷ xs) zero members h = absurd (omega (arith, h))
-set_members_outside (x ∷ xs) (suc n) members h = ap (λ (r : List VertexSet). x ∷ r) (set_members_outside xs n members (omega (arith, h)))
+set_members_outside (x ∷ xs) (suc n) members h = ap (λ (r : List SetBinding). x ∷ r) (set_members_outside xs n members (omega (arith, h)))
 
 -- a number above the first goes in behind it
 pub inserted_above : (v x : ℕ) (xs : List ℕ) → x < v → inserted v (x ∷ xs) ≡ x ∷ inserted v xs

@@ -3,18 +3,18 @@ use Rattle.std.specs.Prelude.{ℕ, ℤ, Bool, false, List, slice_get, slice_inde
 use Rattle.std.specs.List.{filter}
 use Rattle.typed_tree.specs.StepTree.{StepsTree, FunctionTree}
 use Rattle.algorithm_meaning.specs.declared.contribution.Writing.TheVariants.{Collected}
-use Rattle.algorithm_meaning.specs.declared.state.VertexSet.{VertexSet}
+use Rattle.algorithm_meaning.specs.declared.state.SetBinding.{SetBinding}
 use Rattle.algorithm_meaning.specs.State.{filter_scope}
 use Rattle.algorithm_meaning.specs.Function.{first_work, after_steps, steps_of}
 
 -- the result of a filter at a vertex, which begins as false
-abbrev pub result_of : StepsTree → List VertexSet → List (List ℤ) → ℕ → Bool
+abbrev pub result_of : StepsTree → List SetBinding → List (List ℤ) → ℕ → Bool
 result_of steps sets vectors v = slice_index_or (after_steps Collected sets steps (first_work vectors (filter_scope v))).scope.conditions 0 false
 
 -- whether the filter at a place lets a vertex through
-abbrev pub lets_through : List FunctionTree → (function : ℕ) → List VertexSet → List (List ℤ) → ℕ → Bool
+abbrev pub lets_through : List FunctionTree → (function : ℕ) → List SetBinding → List (List ℤ) → ℕ → Bool
 lets_through filters function sets vectors v = result_of (steps_of (slice_get filters function)) sets vectors v
 
 -- of these vertices those that it lets through
-abbrev pub filtered : List FunctionTree → (function : ℕ) → List VertexSet → List (List ℤ) → List ℕ → List ℕ
+abbrev pub filtered : List FunctionTree → (function : ℕ) → List SetBinding → List (List ℤ) → List ℕ → List ℕ
 filtered filters function sets vectors vertices = filter (lets_through filters function sets vectors) vertices

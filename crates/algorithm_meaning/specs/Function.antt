@@ -5,7 +5,7 @@ use Rattle.typed_tree.specs.StepTree.{StepTree, DeclareInteger, DeclareCondition
 use Rattle.algorithm_meaning.specs.declared.contribution.Contribution.{Contribution}
 use Rattle.algorithm_meaning.specs.declared.contribution.Writing.{Writing}
 use Rattle.algorithm_meaning.specs.declared.contribution.Writing.TheVariants as writing
-use Rattle.algorithm_meaning.specs.declared.state.VertexSet.{VertexSet}
+use Rattle.algorithm_meaning.specs.declared.state.SetBinding.{SetBinding}
 use Rattle.algorithm_meaning.specs.State.{ScopeValue}
 use Rattle.algorithm_meaning.specs.Value.{value, truth, with_entry, reduce_at}
 use Rattle.algorithm_meaning.specs.Variables.{new_integer, new_condition, set_integer, set_condition, reduce_integer, forget_new}
@@ -37,7 +37,7 @@ after_block old w = record w { scope = forget_new old.scope w.scope }
 
 abbrev mutual
   -- after a statement; the sets are those of main
-  pub after_step : Writing → List VertexSet → StepTree → WorkValue → WorkValue
+  pub after_step : Writing → List SetBinding → StepTree → WorkValue → WorkValue
   after_step writing sets (DeclareInteger name e) w = record w { scope = new_integer w.scope (value w.vectors sets w.scope e) }
   after_step writing sets (DeclareCondition name c) w = record w { scope = new_condition w.scope (truth w.vectors sets w.scope c) }
   after_step writing sets (SetInteger slot e) w = record w { scope = set_integer w.scope slot.place (value w.vectors sets w.scope e) }
@@ -52,7 +52,7 @@ abbrev mutual
       if truth w.vectors sets w.scope c then after_block w (after_steps writing sets body w) else after_block w (after_steps writing sets other w)
 
   -- after statements, in order
-  pub after_steps : Writing → List VertexSet → StepsTree → WorkValue → WorkValue
+  pub after_steps : Writing → List SetBinding → StepsTree → WorkValue → WorkValue
   after_steps writing sets NoStep w = w
   after_steps writing sets (StepThen step rest) w = after_steps writing sets rest (after_step writing sets step w)
 

@@ -3,7 +3,7 @@ use Rattle.std.specs.Prelude.{ℕ, zero, suc, ℤ, pos, ◌+ℤ◌, int_lt, Bool
 use Rattle.typed_tree.specs.IntegerTree.{IntegerTree}
 use Rattle.typed_tree.specs.ConditionTree.{ConditionTree}
 use Rattle.algorithm_meaning.specs.declared.outcome.End.TheVariants.{TurnsOver}
-use Rattle.algorithm_meaning.specs.declared.state.Bounds.{Bounds}
+use Rattle.algorithm_meaning.specs.declared.state.LoopCounter.{LoopCounter}
 use Rattle.algorithm_meaning.specs.declared.state.Depth.{Depth}
 use Rattle.algorithm_meaning.specs.Arithmetic.{wrapped}
 use Rattle.algorithm_meaning.specs.State.{StateValue}
@@ -57,23 +57,23 @@ abbrev pub after_while : (vertices number : ℕ) → ConditionTree → (StateVal
 after_while vertices number c block s = loop (while_test vertices c) (while_body block) (λ (n : ℕ). n) number s.turns 0 s
 
 -- the two bounds of `for`, both read once
-abbrev pub both_bounds : Option ℤ → Option ℤ → Option Bounds
+abbrev pub both_bounds : Option ℤ → Option ℤ → Option LoopCounter
 both_bounds None end = None
 both_bounds (Some a) None = None
 both_bounds (Some a) (Some b) = Some (record { next = a; end = b })
 
-abbrev pub bounds_in : ℕ → (first end : IntegerTree) → StateValue → Option Bounds
+abbrev pub bounds_in : ℕ → (first end : IntegerTree) → StateValue → Option LoopCounter
 bounds_in vertices first end s = both_bounds (number_in vertices first s) (number_in vertices end s)
 
-abbrev pub for_test : Bounds → StateValue → Option Bool
+abbrev pub for_test : LoopCounter → StateValue → Option Bool
 for_test r s = Some (int_lt r.next r.end)
 
 -- the name and, behind it, the bound are variables in the body
-abbrev pub for_body : (StateValue → Stand) → Bounds → StateValue → Stand
+abbrev pub for_body : (StateValue → Stand) → LoopCounter → StateValue → Stand
 for_body block r s = leave (depth_of s) (block (with_new_integer (with_new_integer s r.next) r.end))
 
-abbrev pub next_of : Bounds → Bounds
+abbrev pub next_of : LoopCounter → LoopCounter
 next_of r = record { next = wrapped (r.next +ℤ pos 1); end = r.end }
 
-abbrev pub after_for : (number : ℕ) → (StateValue → Stand) → Bounds → StateValue → Stand
+abbrev pub after_for : (number : ℕ) → (StateValue → Stand) → LoopCounter → StateValue → Stand
 after_for number block r s = loop for_test (for_body block) next_of number s.turns r s

@@ -4,7 +4,7 @@ use Rattle.typed_tree.specs.declared.program.InitialValue.{InitialValue}
 use Rattle.typed_tree.specs.declared.program.InitialValue.TheVariants as beginning
 use Rattle.typed_tree.specs.BlockTree.{ActionTree, DeclareInteger, DeclareCondition, SetInteger, SetCondition, ReduceInteger, SetEntry, ReduceEntry, DeclareSet, AssignSet, AddVertex, PrintInteger, PrintCondition, ApplyVertex, ApplyEdges, If, IfElse, While, For, BlockTree, Empty, Then}
 use Rattle.typed_tree.specs.ProgramTree.{ProgramTree}
-use Rattle.algorithm_meaning.specs.declared.state.VertexSet.{VertexSet}
+use Rattle.algorithm_meaning.specs.declared.state.SetBinding.{SetBinding}
 use Rattle.algorithm_meaning.specs.Arithmetic.{wrapped}
 use Rattle.algorithm_meaning.specs.State.{GraphValue, StateValue, main_scope}
 use Rattle.algorithm_meaning.specs.Stand.{Stand, Live, then_do, choice_in, with_value, choose}
@@ -58,7 +58,7 @@ opening_entries g (beginning.Number n) = replicate g.vertices n
 opening_entries g beginning.OutDegrees = map (λ v. wrapped (pos (out_degree v g.edges))) (all_below g.vertices)
 
 -- a constant set has all vertices
-abbrev pub all_vertices : GraphValue → ℕ → VertexSet
+abbrev pub all_vertices : GraphValue → ℕ → SetBinding
 all_vertices g name = record { name = name; members = all_below g.vertices }
 
 -- before the first statement

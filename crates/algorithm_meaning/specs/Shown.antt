@@ -2,7 +2,7 @@
 use Rattle.std.specs.Prelude.{ℕ, ℤ, ◌-◌, List, [], ◌∷◌, map, slice_index_or}
 use Rattle.typed_tree.specs.declared.program.Vector.{Vector}
 use Rattle.typed_tree.specs.ProgramTree.{ProgramTree}
-use Rattle.algorithm_meaning.specs.declared.state.VertexSet.{VertexSet}
+use Rattle.algorithm_meaning.specs.declared.state.SetBinding.{SetBinding}
 use Rattle.algorithm_meaning.specs.declared.outcome.End.{End}
 use Rattle.algorithm_meaning.specs.declared.outcome.End.TheVariants.{Finished}
 use Rattle.algorithm_meaning.specs.declared.outcome.NamedVector.{NamedVector}
@@ -24,7 +24,7 @@ named_vectors names (v ∷ vs) (entries ∷ more) =
     record { name = name_at names v.name; entries = entries } ∷ named_vectors names vs more
 
 -- a set's name and members
-abbrev pub named_set : List (List ℕ) → VertexSet → NamedSet
+abbrev pub named_set : List (List ℕ) → SetBinding → NamedSet
 named_set names set = record { name = name_at names set.name; members = set.members }
 
 -- what is shown of a state, when the bound of turns was this and the run ended so

@@ -1,6 +1,6 @@
 -- What a run works on, and what it keeps.
 use Rattle.std.specs.Prelude.{ℕ, ℤ, Bool, false, List, [], ◌∷◌}
-use Rattle.algorithm_meaning.specs.declared.state.VertexSet.{VertexSet}
+use Rattle.algorithm_meaning.specs.declared.state.SetBinding.{SetBinding}
 
 -- the vertices are the numbers below this, and the edges are pairs of them
 pub record GraphValue : Type 0 where
@@ -17,7 +17,7 @@ pub record ScopeValue : Type 0 where
 -- vectors and vertex sets by their places, a vector with an entry for each vertex; what was printed; how many turns are left
 pub record StateValue : Type 0 where
   pub vectors : List (List ℤ)
-  pub sets : List VertexSet
+  pub sets : List SetBinding
   pub scope : ScopeValue
   pub text : List ℕ
   pub turns : ℕ

@@ -9,7 +9,7 @@ use Rattle.typed_tree.specs.IntegerTree.{IntegerTree}
 use Rattle.typed_tree.specs.ConditionTree as condition
 use Rattle.typed_tree.specs.ConditionTree.{ConditionTree}
 use Rattle.algorithm_meaning.specs.Arithmetic.{negative, arithmetic, compared, connected, reduced}
-use Rattle.algorithm_meaning.specs.declared.state.VertexSet.{VertexSet}
+use Rattle.algorithm_meaning.specs.declared.state.SetBinding.{SetBinding}
 use Rattle.algorithm_meaning.specs.State.{ScopeValue}
 
 -- a vertex that the function works on
@@ -35,7 +35,7 @@ abbrev pub reduce_at : List (List ℤ) → ℕ → ℕ → Reduction → ℤ →
 reduce_at vectors vector vertex reduction x = with_entry vectors vector vertex (reduced reduction (entry vectors vector vertex) x)
 
 -- the members of a set, none where there is no set
-abbrev pub members_of : Option VertexSet → List ℕ
+abbrev pub members_of : Option SetBinding → List ℕ
 members_of None = []
 members_of (Some set) = set.members
 
@@ -45,7 +45,7 @@ is_vertex vertices (pos n) = nat_lt n vertices
 is_vertex vertices (negsuc n) = false
 
 -- the value of an expression of type int; the size of a set counts as an int
-abbrev pub value : List (List ℤ) → List VertexSet → ScopeValue → IntegerTree → ℤ
+abbrev pub value : List (List ℤ) → List SetBinding → ScopeValue → IntegerTree → ℤ
 value vectors sets scope (integer.Number n) = n
 value vectors sets scope (integer.Constant name n) = n
 value vectors sets scope (integer.Variable slot) = slice_index_or scope.integers slot.place (pos 0)
@@ -57,7 +57,7 @@ value vectors sets scope (integer.Negative e) = negative (value vectors sets sco
 value vectors sets scope (integer.Arithmetic o a b) = arithmetic o (value vectors sets scope a) (value vectors sets scope b)
 
 -- the value of an expression of type bool
-abbrev pub truth : List (List ℤ) → List VertexSet → ScopeValue → ConditionTree → Bool
+abbrev pub truth : List (List ℤ) → List SetBinding → ScopeValue → ConditionTree → Bool
 truth vectors sets scope (condition.Literal b) = b
 truth vectors sets scope (condition.Constant name b) = b
 truth vectors sets scope (condition.Variable slot) = slice_index_or scope.conditions slot.place false
@@ -66,7 +66,7 @@ truth vectors sets scope (condition.Compare o a b) = compared o (value vectors s
 truth vectors sets scope (condition.Connect o a b) = connected o (truth vectors sets scope a) (truth vectors sets scope b)
 
 -- each index in the expression is a vertex, wherever it stands
-abbrev pub stays_inside : ℕ → List (List ℤ) → List VertexSet → ScopeValue → IntegerTree → Bool
+abbrev pub stays_inside : ℕ → List (List ℤ) → List SetBinding → ScopeValue → IntegerTree → Bool
 stays_inside vertices vectors sets scope (integer.Number n) = true
 stays_inside vertices vectors sets scope (integer.Constant name n) = true
 stays_inside vertices vectors sets scope (integer.Variable slot) = true
@@ -80,7 +80,7 @@ stays_inside vertices vectors sets scope (integer.Arithmetic o a b) =
     stays_inside vertices vectors sets scope a && stays_inside vertices vectors sets scope b
 
 -- the same of an expression of type bool; both sides of `and` and `or` count
-abbrev pub condition_stays_inside : ℕ → List (List ℤ) → List VertexSet → ScopeValue → ConditionTree → Bool
+abbrev pub condition_stays_inside : ℕ → List (List ℤ) → List SetBinding → ScopeValue → ConditionTree → Bool
 condition_stays_inside vertices vectors sets scope (condition.Literal b) = true
 condition_stays_inside vertices vectors sets scope (condition.Constant name b) = true
 condition_stays_inside vertices vectors sets scope (condition.Variable slot) = true

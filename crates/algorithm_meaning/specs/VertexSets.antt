@@ -5,7 +5,7 @@ use Rattle.typed_tree.specs.declared.statement.SetValue.{SetValue}
 use Rattle.typed_tree.specs.declared.statement.SetValue.TheVariants as set
 use Rattle.typed_tree.specs.IntegerTree.{IntegerTree}
 use Rattle.typed_tree.specs.ProgramTree.{ProgramTree}
-use Rattle.algorithm_meaning.specs.declared.state.VertexSet.{VertexSet}
+use Rattle.algorithm_meaning.specs.declared.state.SetBinding.{SetBinding}
 use Rattle.algorithm_meaning.specs.State.{GraphValue, StateValue}
 use Rattle.algorithm_meaning.specs.Value.{members_of}
 use Rattle.algorithm_meaning.specs.Stand.{Stand, Live, vertex_in, with_value}
@@ -38,7 +38,7 @@ abbrev pub with_new_set : StateValue → ℕ → List ℕ → StateValue
 with_new_set s name members = record s { sets = s.sets ++ record { name = name; members = members } ∷ [] }
 
 -- the set at a place with other members
-abbrev pub set_members : List VertexSet → ℕ → List ℕ → List VertexSet
+abbrev pub set_members : List SetBinding → ℕ → List ℕ → List SetBinding
 set_members [] place members = []
 set_members (set ∷ sets) zero members = record { name = set.name; members = members } ∷ sets
 set_members (set ∷ sets) (suc place) members = set ∷ set_members sets place members

@@ -1,14 +1,14 @@
 //! What a run of `main` keeps, as data that the definitions speak of.
 use typed_tree::Sequence;
 
-/// A vertex set: the place of its name in the program's names, and its members, ascending.
+/// A vertex set of `main`: the place of its name in the program's names, and its members, ascending.
 #[derive(Drop)]
-pub struct VertexSet {
+pub struct SetBinding {
     pub name: usize,
     pub members: Sequence<u32>,
 }
 
-/// How many variables and sets are visible.
+/// How many variables and vertex sets of `main` are visible, the constant sets among them.
 #[derive(Clone, Copy, Debug)]
 pub struct Depth {
     pub integers: usize,
@@ -16,9 +16,9 @@ pub struct Depth {
     pub sets: usize,
 }
 
-/// The next value of a `for`, and the bound that it stays below.
+/// The value that a `for` has, and the bound that it stays below.
 #[derive(Clone, Copy, Debug)]
-pub struct Bounds {
+pub struct LoopCounter {
     pub next: i64,
     pub end: i64,
 }

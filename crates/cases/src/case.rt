@@ -82,14 +82,14 @@ fn add_programs(folder: &Folder<'_>, name: &str, told: &mut String) -> io::Resul
 
 // What a case got: the digits of its status, and what its outputs were told.
 #[derive(Drop)]
-struct Outcome {
+struct CaseOutput {
     status: Vec<u8>,
     out: Vec<u8>,
     err: Vec<u8>,
 }
 
 // Does the command line of a case.
-fn outcome_of(folder: &Folder<'_>, name: &str) -> io::Result<Outcome> {
+fn outcome_of(folder: &Folder<'_>, name: &str) -> io::Result<CaseOutput> {
     let words = words_of(folder, name)?;
     let words = texts(folder.rt.alloc(), &words)?;
     match folder.read_with(name, "input")? {
@@ -99,7 +99,7 @@ fn outcome_of(folder: &Folder<'_>, name: &str) -> io::Result<Outcome> {
 }
 
 // Does these words over the files of the folder and this standard input.
-fn outcome_on(folder: &Folder<'_>, words: &[&str], input: &[u8]) -> io::Result<Outcome> {
+fn outcome_on(folder: &Folder<'_>, words: &[&str], input: &[u8]) -> io::Result<CaseOutput> {
     let alloc = folder.rt.alloc();
     let mut out = Vec::new(alloc);
     let mut err = Vec::new(alloc);
@@ -112,7 +112,7 @@ fn outcome_on(folder: &Folder<'_>, words: &[&str], input: &[u8]) -> io::Result<O
         &mut Device::new(&mut err),
     );
     let status = Vec::from_slice(alloc, format!(in alloc; "{status}\n")?.as_bytes())?;
-    Ok(Outcome { status, out, err })
+    Ok(CaseOutput { status, out, err })
 }
 
 // Adds how an output differs from what its file wants: its name, what is wanted where there is no file,

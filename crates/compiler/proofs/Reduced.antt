@@ -24,7 +24,8 @@ use Rattle.plans.specs.Instruction.{OperationTree, Do, ApplyEdgesTogether, Apply
 use Rattle.plans.specs.Plan.{plan_of}
 use Rattle.plans.specs.Fused.{FitTogether}
 use Rattle.plans.specs.Reducing.{AreReduced, OperationReduces, AppliesReduce}
-use Rattle.plans.proofs.Types.{VertexSet, Contribution}
+use Rattle.algorithm_meaning.specs.declared.state.SetBinding.{SetBinding}
+use Rattle.algorithm_meaning.specs.declared.contribution.Contribution.{Contribution}
 use Rattle.plans.proofs.Beside.{both_parts}
 use Rattle.plans.proofs.GivenVectors.{each_differs}
 use Rattle.plans.proofs.Matching.{writes_of}
@@ -47,7 +48,7 @@ either_given : (P : ℕ → Reduction → Type 0) (b : Bool) (v w : WorkValue) �
 either_given P true v w h k = h
 either_given P false v w h k = k
 
-module _ (P : ℕ → Reduction → Type 0) (sets : List VertexSet) (writing : _) (sets_nothing : (vector : ℕ) (n : ℤ) (w : WorkValue) → after_set writing vector n w ≡ w) (gives_number : (vector : ℕ) (r : Reduction) (n : ℤ) (w : WorkValue) → after_reduce writing vector r n w ≡ record w { given = w.given ++ record { vector = vector; reduction = r; number = n } ∷ [] }) where
+module _ (P : ℕ → Reduction → Type 0) (sets : List SetBinding) (writing : _) (sets_nothing : (vector : ℕ) (n : ℤ) (w : WorkValue) → after_set writing vector n w ≡ w) (gives_number : (vector : ℕ) (r : Reduction) (n : ℤ) (w : WorkValue) → after_reduce writing vector r n w ≡ record w { given = w.given ++ record { vector = vector; reduction = r; number = n } ∷ [] }) where
   mutual
     step_gives : (step : StepTree) (w : WorkValue) → ((vector : ℕ) (by : Reduction) → StepReduces vector by step → P vector by) → AreGiven P w.given
         → AreGiven P (after_step writing sets step w).given
@@ -74,7 +75,7 @@ module _ (P : ℕ → Reduction → Type 0) (sets : List VertexSet) (writing : _
         steps_give rest (after_step writing sets step w) (λ vector by is. such vector by (inr is)) (step_gives step w (λ vector by is. such vector by (inl is)) h)
 
 -- an edge function gives a vector numbers only as it reduces it
-gives_reduced : (steps : StepsTree) (sets : List VertexSet) (before : List (List ℤ)) (edge : ℕ × ℕ) → AreGiven (λ vector by. StepsReduce vector by steps) (gives steps sets before edge)
+gives_reduced : (steps : StepsTree) (sets : List SetBinding) (before : List (List ℤ)) (edge : ℕ × ℕ) → AreGiven (λ vector by. StepsReduce vector by steps) (gives steps sets before edge)
 gives_reduced steps sets before edge =
     steps_give (λ vector by. StepsReduce vector by steps) sets _ (λ vector n w. refl) (λ vector r n w. refl) steps (first_work before (edge_scope edge)) (λ vector by is. is) tt
 
@@ -169,7 +170,7 @@ both_alone_by f g vector one other apart (inr none) =
     (second.0, (λ by is. absurd (none by is), second.1))
 
 -- so are the numbers that it gives
-gives_alone : (f : StepsTree) (vector : ℕ) (r : Reduction) → IsAlone f vector r → (sets : List VertexSet) (before : List (List ℤ)) (edge : ℕ × ℕ)
+gives_alone : (f : StepsTree) (vector : ℕ) (r : Reduction) → IsAlone f vector r → (sets : List SetBinding) (before : List (List ℤ)) (edge : ℕ × ℕ)
     → AreGiven (λ v by. v ≡ vector → by ≡ r) (gives f sets before edge)
 gives_alone f vector r alone sets before edge =
     given_map (λ v by. StepsReduce v by f) (λ v by. v ≡ vector → by ≡ r) (gives f sets before edge)

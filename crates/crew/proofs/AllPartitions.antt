@@ -1,4 +1,4 @@
--- The cuts of each way.
+-- The boundaries of each way.
 use Rattle.std.proofs.Common.{◌≡◌, ℕ, ◌+◌, ◌*◌, ◌<◌, List, [], ◌∷◌, length, refl, arith}
 use Rattle.std.specs.Int.{div_ceil}
 use Rattle.apply_options.specs.declared.apply_schedule.Parallelization.{Parallelization}

@@ -1,4 +1,4 @@
--- The pieces of a list that is cut at ends.
+-- The pieces of a list at boundaries, the places where they end.
 use Rattle.std.specs.Prelude.{◌≡◌, ℕ, ◌-◌, ◌<◌, List, [], ◌∷◌, length, slice_index_or, slice_range}
 use Rattle.std.specs.List.{flat_map, range_with_len}
 

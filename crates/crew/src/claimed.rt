@@ -10,9 +10,9 @@ ghost use Rattle.crew.specs.Workers.{IsHired, HasClaimed};
 use crate::claim_word::{Claim, ClaimWord, dismiss, draw, hire, open_word};
 use crate::found::Found;
 use crate::gate::Gate;
-use crate::job::{Done, Job, bring_back};
 use crate::piece::{do_piece, state_or_new};
 use crate::work::Work;
+use crate::worker::{FinishedWorker, StartingWorker, bring_back};
 use std::alloc::{AllocError, Global};
 use std::thread::{self, Threads};
 
@@ -48,8 +48,8 @@ fn claim_all<R: Threads + Sync, G: Gate + Sync, W: Work + Sync>(
     gate: &G,
     work: &W,
     pieces: usize,
-    jobs: Vec<Job<Claim, W::State>>,
-) -> Result<Vec<Result<Done<Claim, W::State, W::Out>, AllocError>>, AllocError>
+    jobs: Vec<StartingWorker<Claim, W::State>>,
+) -> Result<Vec<Result<FinishedWorker<Claim, W::State, W::Out>, AllocError>>, AllocError>
     requires pieces { (pieces ≤ W.pieces work.now) × (pieces ≤ 2 ^ 32) }
     requires jobs { All (IsHired (W.keeps work.now) word.now.table_id) jobs.items }
     ensures { IfOk result (λ done. (length done.items ≡ length jobs.items)
@@ -58,7 +58,10 @@ fn claim_all<R: Threads + Sync, G: Gate + Sync, W: Work + Sync>(
     thread::map_vec(
         rt,
         jobs,
-        &|job: Job<Claim, W::State>| -> Result<Done<Claim, W::State, W::Out>, AllocError>
+        &|job: StartingWorker<Claim, W::State>| -> Result<
+            FinishedWorker<Claim, W::State, W::Out>,
+            AllocError,
+        >
             requires { (pieces ≤ W.pieces work.now) × (pieces ≤ 2 ^ 32)
                 × IsHired (W.keeps work.now) word.now.table_id job }
             ensures { IfOk result (HasClaimed (W.keeps work.entry.now) (W.answers work.entry.now)
@@ -76,7 +79,7 @@ fn hire_all<W: Work>(
     work: &W,
     workers: usize,
     states: &mut Vec<W::State>,
-) -> Result<Vec<Job<Claim, W::State>>, AllocError>
+) -> Result<Vec<StartingWorker<Claim, W::State>>, AllocError>
     requires workers { workers ≤ 64 }
     requires own { IsClaimAt word.now.table_id own.old × (view_of own.old ≡ claim_view all_rights [] 0) }
     requires states { All (W.keeps work.now) states.old.items }
@@ -88,7 +91,7 @@ fn hire_all<W: Work>(
 {
     let mut jobs = Vec::with_capacity(alloc, workers)?;
     for others in 0..workers {
-        jobs.push(Job {
+        jobs.push(StartingWorker {
             worker: workers - others,
             turn: hire(word, own),
             state: states.pop(),
@@ -104,13 +107,13 @@ fn claim_pieces<G: Gate, W: Work>(
     gate: &G,
     work: &W,
     pieces: usize,
-    job: Job<Claim, W::State>,
-) -> Result<Done<Claim, W::State, W::Out>, AllocError>
+    job: StartingWorker<Claim, W::State>,
+) -> Result<FinishedWorker<Claim, W::State, W::Out>, AllocError>
     requires pieces { (pieces ≤ W.pieces work.now) × (pieces ≤ 2 ^ 32) }
     requires job { IsHired (W.keeps work.now) word.now.table_id job }
     ensures { IfOk result (HasClaimed (W.keeps work.now) (W.answers work.now) word.now.table_id pieces) }
 {
-    let Job {
+    let StartingWorker {
         worker,
         mut turn,
         state,
@@ -124,7 +127,7 @@ fn claim_pieces<G: Gate, W: Work>(
         )?;
         place = draw(word, &mut turn) as usize;
     }
-    Ok(Done { turn, state, found })
+    Ok(FinishedWorker { turn, state, found })
 }
 
 // What the workers found, worker by worker, once all of them are back. `work` says what it answers.
@@ -134,7 +137,7 @@ fn gather<W: Work>(
     mut own: Claim,
     work: &W,
     pieces: usize,
-    mut workers: Vec<Result<Done<Claim, W::State, W::Out>, AllocError>>,
+    mut workers: Vec<Result<FinishedWorker<Claim, W::State, W::Out>, AllocError>>,
     states: &mut Vec<W::State>,
 ) -> Result<Vec<Found<W::Out>>, AllocError>
     requires workers { (0 < length workers.items) × (length workers.items ≤ 64)
@@ -148,7 +151,7 @@ fn gather<W: Work>(
 {
     let mut found = Vec::new(alloc);
     while let Some(worker) = workers.pop() {
-        let Done {
+        let FinishedWorker {
             turn,
             state,
             found: theirs,

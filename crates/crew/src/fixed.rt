@@ -7,9 +7,9 @@ ghost use Rattle.crew.specs.Workers.{AreNumbered, IsNumbered, HasEvery, HaveEver
 
 use crate::found::Found;
 use crate::gate::Gate;
-use crate::job::{Done, Job, bring_back};
 use crate::piece::{do_piece, state_or_new};
 use crate::work::Work;
+use crate::worker::{FinishedWorker, StartingWorker, bring_back};
 use std::alloc::{AllocError, Global};
 use std::thread::{self, Threads};
 
@@ -34,7 +34,10 @@ pub(crate) fn find_fixed<R: Threads + Sync, G: Gate + Sync, W: Work + Sync>(
     let done = thread::map_vec(
         rt,
         jobs,
-        &|job: Job<(), W::State>| -> Result<Done<(), W::State, W::Out>, AllocError>
+        &|job: StartingWorker<(), W::State>| -> Result<
+            FinishedWorker<(), W::State, W::Out>,
+            AllocError,
+        >
             requires { (pieces ≤ W.pieces work.now) × (pieces ≤ 2 ^ 32) × (workers ≤ 64)
                 × IsNumbered (W.keeps work.now) workers job }
             ensures { IfOk result (HasEvery (W.keeps work.entry.now) (W.answers work.entry.now)
@@ -51,7 +54,7 @@ fn number_all<W: Work>(
     work: &W,
     workers: usize,
     states: &mut Vec<W::State>,
-) -> Result<Vec<Job<(), W::State>>, AllocError>
+) -> Result<Vec<StartingWorker<(), W::State>>, AllocError>
     requires { All (W.keeps work.now) states.old.items }
     ensures jobs { IfOk result (λ jobs. (length jobs.items ≡ workers)
         × AreNumbered (W.keeps work.now) workers jobs.items) }
@@ -59,7 +62,7 @@ fn number_all<W: Work>(
 {
     let mut jobs = Vec::with_capacity(alloc, workers)?;
     for others in 0..workers {
-        jobs.push(Job {
+        jobs.push(StartingWorker {
             worker: workers - others,
             turn: (),
             state: states.pop(),
@@ -75,14 +78,14 @@ fn fixed_pieces<G: Gate, W: Work>(
     work: &W,
     pieces: usize,
     workers: usize,
-    job: Job<(), W::State>,
-) -> Result<Done<(), W::State, W::Out>, AllocError>
+    job: StartingWorker<(), W::State>,
+) -> Result<FinishedWorker<(), W::State, W::Out>, AllocError>
     requires pieces { (pieces ≤ W.pieces work.now) × (pieces ≤ 2 ^ 32) }
     requires workers { workers ≤ 64 }
     requires job { IsNumbered (W.keeps work.now) workers job }
     ensures { IfOk result (HasEvery (W.keeps work.now) (W.answers work.now) pieces workers job.worker) }
 {
-    let Job {
+    let StartingWorker {
         worker,
         turn: _,
         state,
@@ -96,7 +99,7 @@ fn fixed_pieces<G: Gate, W: Work>(
         )?;
         place += workers;
     }
-    Ok(Done {
+    Ok(FinishedWorker {
         turn: (),
         state,
         found,
@@ -108,7 +111,7 @@ fn gather<W: Work>(
     alloc: Global,
     work: &W,
     pieces: usize,
-    mut workers: Vec<Result<Done<(), W::State, W::Out>, AllocError>>,
+    mut workers: Vec<Result<FinishedWorker<(), W::State, W::Out>, AllocError>>,
     states: &mut Vec<W::State>,
 ) -> Result<Vec<Found<W::Out>>, AllocError>
     requires workers { HaveEvery (W.keeps work.now) (W.answers work.now) pieces (length workers.items) workers.items }
@@ -120,7 +123,7 @@ fn gather<W: Work>(
 {
     let mut found = Vec::new(alloc);
     while let Some(worker) = workers.pop() {
-        let Done {
+        let FinishedWorker {
             turn: _,
             state,
             found: theirs,

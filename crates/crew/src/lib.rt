@@ -6,10 +6,10 @@
 //! however the pieces fall to the workers. A worker keeps a state from piece to piece, so that it takes
 //! its memory once; the states go back to the caller, for the next run.
 //!
-//! By [`Share::Claimed`] the workers draw the places of their pieces from one word, the claim word, by
+//! By [`PieceAssignment::Claimed`] the workers draw the places of their pieces from one word, the claim word, by
 //! steps of one kind, a `fetch_add` of 1. `specs/ClaimWord.antt` has its rule: every number below the
 //! word was claimed by one worker, once, and by no other. Each worker has a part of the rights to claim;
-//! once all parts are back with the caller, it knows that no number was left out. By [`Share::Fixed`]
+//! once all parts are back with the caller, it knows that no number was left out. By [`PieceAssignment::Fixed`]
 //! the pieces go round the workers in turn.
 //!
 //! The starts go by halves, each half on a thread of its own, and where no thread can be started its half
@@ -35,13 +35,13 @@ mod fixed;
 mod found;
 mod gate;
 mod in_order;
-mod job;
 mod partition;
 mod partition_laws;
 mod piece;
+mod piece_assignment;
 mod run;
-mod share;
 mod work;
+mod worker;
 mod workers;
 
 pub use error::CrewError;
@@ -52,7 +52,7 @@ pub use partition_laws::{
     boundaries_cut_the_list, edge_aware_pieces_end_at_the_limit, pieces_make_the_list,
     static_pieces_are_those_of_workers, worked_partitions,
 };
+pub use piece_assignment::PieceAssignment;
 pub use run::run_pieces;
-pub use share::Share;
 pub use work::Work;
 pub use workers::workers_for;

@@ -25,7 +25,7 @@ impl Model for Partition {
 }
 
 impl Partition {
-    /// The cuts of so many vertices for so many workers, as a schedule says. The degrees of the vertices are read where
+    /// The partition of so many vertices for so many workers, as a schedule says. The degrees of the vertices are read where
     /// it says `EdgeAwareDynamicVertex`, and then it takes time in proportion to the vertices, and else to the workers.
     /// Where there is no vertex, there is no piece.
     ///

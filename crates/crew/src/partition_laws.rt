@@ -13,7 +13,7 @@ pub fn boundaries_cut_the_list()
         → AreEnds 0 count (boundaries p workers count degrees) }
 {}
 
-/// The law that the pieces of a list that is cut so are the list, one behind the other.
+/// The law that the pieces of a list at such boundaries are the list, one behind the other.
 pub fn pieces_make_the_list()
     ensures { (ends xs : List ℕ) → AreEnds 0 (length xs) ends → all_pieces ends xs ≡ xs }
 {}
@@ -29,7 +29,7 @@ pub fn edge_aware_pieces_end_at_the_limit()
     ensures { (workers : ℕ) (degrees : List ℕ) → 0 < workers → EachEndsAtLimit (div_ceil (weight degrees) (4 * workers)) 0 (edge_aware_ends workers degrees) degrees }
 {}
 
-/// The law of some cuts that were worked out by hand.
+/// The law of some partitions that were worked out by hand.
 pub fn worked_partitions()
     ensures seven { static_ends 7 100 ≡ 15 ∷ 30 ∷ 44 ∷ 58 ∷ 72 ∷ 86 ∷ 100 ∷ [] }
     ensures few { static_ends 7 3 ≡ 1 ∷ 2 ∷ 3 ∷ [] }

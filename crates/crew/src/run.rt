@@ -12,7 +12,7 @@ use crate::fixed::find_fixed;
 use crate::found::Found;
 use crate::gate::Gate;
 use crate::in_order::in_order;
-use crate::share::Share;
+use crate::piece_assignment::PieceAssignment;
 use crate::work::Work;
 use crate::workers::is_crew;
 use std::alloc::{AllocError, Global};
@@ -37,7 +37,7 @@ pub fn run_pieces<R: Threads + Sync, G: Gate + Sync, W: Work + Sync>(
     alloc: Global,
     pieces: usize,
     workers: usize,
-    share: Share,
+    share: PieceAssignment,
     gate: &G,
     work: &W,
     states: &mut Vec<W::State>,
@@ -63,7 +63,7 @@ fn run_together<R: Threads + Sync, G: Gate + Sync, W: Work + Sync>(
     alloc: Global,
     pieces: usize,
     workers: usize,
-    share: Share,
+    share: PieceAssignment,
     gate: &G,
     work: &W,
     states: &mut Vec<W::State>,
@@ -75,8 +75,8 @@ fn run_together<R: Threads + Sync, G: Gate + Sync, W: Work + Sync>(
     ensures states { All (W.keeps work.now) states.new.items }
 {
     let found = match share {
-        Share::Claimed => find_claimed(rt, alloc, gate, work, pieces, workers, states)?,
-        Share::Fixed => find_fixed(rt, alloc, gate, work, pieces, workers, states)?,
+        PieceAssignment::Claimed => find_claimed(rt, alloc, gate, work, pieces, workers, states)?,
+        PieceAssignment::Fixed => find_fixed(rt, alloc, gate, work, pieces, workers, states)?,
     };
     in_order(alloc, found, pieces)
 }

@@ -6,7 +6,7 @@ use Rattle.std.proofs.lemmas.List.{append-nil}
 use Rattle.std.proofs.lemmas.Int.{ints}
 use Rattle.std.proofs.lemmas.Bool.Decides.{nat_tests}
 use Rattle.algorithm_meaning.specs.Arithmetic.{int_equal}
-use Rattle.vectors.specs.declared.change.Change.{Change}
+use Rattle.vectors.specs.declared.changes.EntryChange.{EntryChange}
 use Rattle.edge_fold.specs.Changed.{change_at, changed_from}
 
 below : (k i : ℕ) → nat_lt k i ≡ true → k < i
@@ -49,7 +49,7 @@ unfolding changed_from
 nothing_changed old new v zero same = refl
 nothing_changed old new v (suc n) same =
     let quiet = ap (λ (y : ℤ). int_equal (old v) y) (same v (omega arith) (omega arith)) ∙ equal_itself (old v) in
-    let change : Change = record { vertex = v; number = new v } in
+    let change : EntryChange = record { vertex = v; number = new v } in
     ap (λ (b : Bool). cond b [] (change ∷ []) ++ changed_from old new (v + 1) n) quiet
     ∙ nothing_changed old new (v + 1) n (λ u a b. same u (omega (arith, a)) (omega (arith, b)))
 

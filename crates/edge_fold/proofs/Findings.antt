@@ -12,12 +12,12 @@ use Rattle.std.specs.List.Sorted.{IsNonDecreasing}
 use Rattle.std.proofs.lemmas.List.Folds.{Any-from_list_any, list_any_at}
 use Rattle.algorithm_meaning.specs.EdgeApply.{is_member}
 use Rattle.vertex_sets.proofs.Ascending.{contains_first, contains_later, contains_nothing, first_or_later}
-use Rattle.vectors.specs.declared.change.Change.{Change}
-use Rattle.vectors.specs.declared.change.VectorChanges.{VectorChanges}
-use Rattle.edge_fold.specs.declared.slot.Slot.{Slot}
+use Rattle.vectors.specs.declared.changes.EntryChange.{EntryChange}
+use Rattle.vectors.specs.declared.changes.VectorChanges.{VectorChanges}
+use Rattle.edge_fold.specs.declared.vector_accumulator.VectorAccumulator.{VectorAccumulator}
 use Rattle.edge_fold.specs.Changed.{AreApart, change_at, changed, changed_from, changes_or, is_named}
 use Rattle.edge_fold.specs.Held.{held}
-use Rattle.edge_fold.specs.Slots.{held_in}
+use Rattle.edge_fold.specs.VectorAccumulators.{held_in}
 use Rattle.edge_fold.proofs.ChangedRows.{nothing_changed}
 
 same : (m n : ℕ) → (m == n) ≡ true → m ≡ n
@@ -33,7 +33,7 @@ changed_agree a b c d old v (suc n) new =
     ∙ ap (λ cs. change_at b d v ++ cs) (changed_agree a b c d old (v + 1) n (λ u l. new u (omega (arith, l))))
 
 -- what the slots have for a vector
-abbrev pub found_in : (n : ℕ) → (ℕ → ℕ → ℤ) → (ℕ → Bool) → List Slot → (vector : ℕ) → List Change
+abbrev pub found_in : (n : ℕ) → (ℕ → ℕ → ℤ) → (ℕ → Bool) → List VectorAccumulator → (vector : ℕ) → List EntryChange
 found_in n e test [] x = []
 found_in n e test (s ∷ ss) x =
     cond (s.vector == x) (changed n (e s.vector) (λ v. if test v then held s.entries v (e s.vector v) else e s.vector v)) (found_in n e test ss x)
@@ -42,26 +42,26 @@ same_either : (b : Bool) (x : ℤ) → cond b x x ≡ x
 same_either true x = refl
 same_either false x = refl
 
-found_at : (n : ℕ) (e : ℕ → ℕ → ℤ) (test : ℕ → Bool) (s : Slot) (ss : List Slot) (x : ℕ) (b : Bool) → (s.vector == x) ≡ b
+found_at : (n : ℕ) (e : ℕ → ℕ → ℤ) (test : ℕ → Bool) (s : VectorAccumulator) (ss : List VectorAccumulator) (x : ℕ) (b : Bool) → (s.vector == x) ≡ b
     → found_in n e test ss x ≡ changed n (e x) (λ v. if test v then held_in ss x v (e x v) else e x v)
     → cond b (changed n (e s.vector) (λ v. if test v then held s.entries v (e s.vector v) else e s.vector v)) (found_in n e test ss x)
     ≡ changed n (e x) (λ v. if test v then cond b (held s.entries v (e x v)) (held_in ss x v (e x v)) else e x v)
 found_at n e test s ss x true is more = ap (λ (y : ℕ). changed n (e y) (λ v. if test v then held s.entries v (e y v) else e y v)) (same s.vector x is)
 found_at n e test s ss x false is more = more
 
-pub found_is : (n : ℕ) (e : ℕ → ℕ → ℤ) (test : ℕ → Bool) (ss : List Slot) (x : ℕ)
+pub found_is : (n : ℕ) (e : ℕ → ℕ → ℤ) (test : ℕ → Bool) (ss : List VectorAccumulator) (x : ℕ)
     → found_in n e test ss x ≡ changed n (e x) (λ v. if test v then held_in ss x v (e x v) else e x v)
 found_is n e test [] x = sym (nothing_changed (e x) (λ v. if test v then e x v else e x v) 0 n (λ u a b. same_either (test u) (e x u)))
 found_is n e test (s ∷ ss) x = found_at n e test s ss x (s.vector == x) refl (found_is n e test ss x)
 
 -- one more vector
-pub changes_or-push : (x : ℕ) (cs : List VectorChanges) (c : VectorChanges) (rest : List Change)
+pub changes_or-push : (x : ℕ) (cs : List VectorChanges) (c : VectorChanges) (rest : List EntryChange)
     → changes_or x (cs ++ c ∷ []) rest ≡ changes_or x cs (cond (c.vector == x) c.changes.items rest)
 changes_or-push x [] c rest = refl
-changes_or-push x (d ∷ ds) c rest = ap (λ (r : List Change). cond (d.vector == x) d.changes.items r) (changes_or-push x ds c rest)
+changes_or-push x (d ∷ ds) c rest = ap (λ (r : List EntryChange). cond (d.vector == x) d.changes.items r) (changes_or-push x ds c rest)
 
 -- a vector that is there already
-named_at : (x y : ℕ) (d : VectorChanges) (new rest now was : List Change) (p q : Bool) → (d.vector == y) ≡ p → (d.vector == x) ≡ q → ((p ≡ false) → now ≡ was)
+named_at : (x y : ℕ) (d : VectorChanges) (new rest now was : List EntryChange) (p q : Bool) → (d.vector == y) ≡ p → (d.vector == x) ≡ q → ((p ≡ false) → now ≡ was)
     → (p ≡ true → q ≡ false → (y == x) ≡ false) → ((y == x) ≡ false → now ≡ was)
     → cond q d.changes.items now ≡ cond q d.changes.items was
 named_at x y d new rest now was p true at is more off other = refl
@@ -71,14 +71,14 @@ named_at x y d new rest now was false false at is more off other = more refl
 apart_numbers : (k x y : ℕ) → (k == y) ≡ true → (k == x) ≡ false → (y == x) ≡ false
 apart_numbers k x y on off = grind (arith, nat_tests)
 
-not_its_own : (x y : ℕ) (cs : List VectorChanges) (new rest : List Change) → (y == x) ≡ false → changes_or x cs (cond (y == x) new rest) ≡ changes_or x cs rest
+not_its_own : (x y : ℕ) (cs : List VectorChanges) (new rest : List EntryChange) → (y == x) ≡ false → changes_or x cs (cond (y == x) new rest) ≡ changes_or x cs rest
 not_its_own x y cs new rest off = ap (λ (b : Bool). changes_or x cs (cond b new rest)) off
 
 skip_at : (p q : Bool) → p || q ≡ true → p ≡ false → q ≡ true
 skip_at true q h e = absurd (false≢true (sym e))
 skip_at false q h e = h
 
-pub changes_or-skip : (x y : ℕ) (cs : List VectorChanges) (new rest : List Change) → is_named y cs ≡ true → changes_or x cs (cond (y == x) new rest) ≡ changes_or x cs rest
+pub changes_or-skip : (x y : ℕ) (cs : List VectorChanges) (new rest : List EntryChange) → is_named y cs ≡ true → changes_or x cs (cond (y == x) new rest) ≡ changes_or x cs rest
 changes_or-skip x y [] new rest named = absurd (false≢true named)
 changes_or-skip x y (d ∷ ds) new rest named =
     named_at x y d new rest (changes_or x ds (cond (y == x) new rest)) (changes_or x ds rest) (d.vector == y) (d.vector == x) refl refl
@@ -111,22 +111,22 @@ apart_push (d ∷ ds) c none apart =
     (named_push d.vector ds c apart.0 (turned d.vector c.vector (first_off (d.vector == c.vector) (is_named c.vector ds) none)), apart_push ds c (rest_off (d.vector == c.vector) (is_named c.vector ds) none) apart.1)
 
 -- the slots that are left after one was worked on
-abbrev tail : List Slot → List Slot
+abbrev tail : List VectorAccumulator → List VectorAccumulator
 tail [] = []
 tail (s ∷ ss) = ss
 
-pub left_after : (k n : ℕ) (xs ys : List Slot) (s d : Slot) → k < n → k < length (take n xs) → k < length ys → drop k (take n xs) ≡ drop k ys
+pub left_after : (k n : ℕ) (xs ys : List VectorAccumulator) (s d : VectorAccumulator) → k < n → k < length (take n xs) → k < length ys → drop k (take n xs) ≡ drop k ys
     → drop (k + 1) (take n (set xs k s)) ≡ drop (k + 1) ys
 left_after k n xs ys s d l inside also left =
     ap (drop (k + 1)) (take-set-lt n xs k s l)
     ∙ drop-set-lt (k + 1) (take n xs) k s (omega arith)
     ∙ ap tail (sym (drop_more (take n xs) k d inside) ∙ left ∙ drop_more ys k d also)
 
-pub next_left : (k n : ℕ) (xs ys : List Slot) (d : Slot) → k < n → k < length (take n xs) → k < length ys → drop k (take n xs) ≡ drop k ys
+pub next_left : (k n : ℕ) (xs ys : List VectorAccumulator) (d : VectorAccumulator) → k < n → k < length (take n xs) → k < length ys → drop k (take n xs) ≡ drop k ys
     → drop k ys ≡ get_or xs k d ∷ drop (k + 1) ys
 next_left k n xs ys d l inside also left =
     sym left ∙ drop_more (take n xs) k d inside
-    ∙ ap (λ (s : Slot). s ∷ drop (k + 1) (take n xs)) (get_or-take n xs k d l)
+    ∙ ap (λ (s : VectorAccumulator). s ∷ drop (k + 1) (take n xs)) (get_or-take n xs k d l)
     ∙ ap (λ ss. get_or xs k d ∷ ss) (ap tail (sym (drop_more (take n xs) k d inside) ∙ left ∙ drop_more ys k d also))
 
 -- kept vertices

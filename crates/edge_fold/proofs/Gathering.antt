@@ -5,16 +5,16 @@ use Rattle.std.proofs.lemmas.Bool.{false≢true}
 use Rattle.std.proofs.lemmas.List.{append-nil, take_more}
 use Rattle.apply_options.specs.declared.reduction.Reduction.{Reduction}
 use Rattle.algorithm_meaning.specs.Arithmetic.{reduced}
-use Rattle.vectors.specs.declared.change.Change.{Change}
+use Rattle.vectors.specs.declared.changes.EntryChange.{EntryChange}
 use Rattle.edge_fold.specs.declared.accumulator.Accumulator.{Accumulator}
 use Rattle.edge_fold.specs.declared.functions.Start.TheVariants as start
 use Rattle.edge_fold.specs.declared.gathered.GatheredIn.{GatheredIn}
-use Rattle.edge_fold.specs.declared.slot.Slot.{Slot}
+use Rattle.edge_fold.specs.declared.vector_accumulator.VectorAccumulator.{VectorAccumulator}
 use Rattle.edge_fold.specs.Gathered.{IsGatheredBy, gathered_for, number_at, numbers_of}
 use Rattle.edge_fold.specs.Given.{reduced_at}
 use Rattle.edge_fold.specs.Held.{held_with}
 use Rattle.edge_fold.specs.Seeds.{combined}
-use Rattle.edge_fold.specs.Slots.{held_in_with, of_slot, place_in, reduction_in}
+use Rattle.edge_fold.specs.VectorAccumulators.{held_in_with, of_slot, place_in, reduction_in}
 use Rattle.edge_fold.proofs.Folds.{reduced_at-append}
 use Rattle.edge_fold.proofs.SlotRows.{of_slot-none, of_slot-push, of_slot-there, same_test}
 
@@ -25,7 +25,7 @@ same m n h = grind (arith, nat_tests)
 abbrev pub onto : Reduction → Accumulator → ℕ → ℤ → ℤ
 onto r a v h = held_with (combined start.Unit r) a v h
 
-numbers_of-append : (cs ds : List Change) → numbers_of (cs ++ ds) ≡ numbers_of cs ++ numbers_of ds
+numbers_of-append : (cs ds : List EntryChange) → numbers_of (cs ++ ds) ≡ numbers_of cs ++ numbers_of ds
 numbers_of-append [] ds = refl
 numbers_of-append (c ∷ cs) ds = ap (λ (gs : List (ℕ × ℤ)). (c.vertex, c.number) ∷ gs) (numbers_of-append cs ds)
 
@@ -42,11 +42,11 @@ own_vertex : (r : Reduction) (a : Accumulator) (v k : ℕ) (n : ℤ) (q : Bool) 
 own_vertex r a v k n true e = ap (λ (u : ℕ). onto r a u n) (same k v e)
 own_vertex r a v k n false e = refl
 
-pub one_number_more : (r : Reduction) (a : Accumulator) (v k : ℕ) (h : ℤ) (cs ds : List Change) → ds ≡ cs ++ number_at a k
+pub one_number_more : (r : Reduction) (a : Accumulator) (v k : ℕ) (h : ℤ) (cs ds : List EntryChange) → ds ≡ cs ++ number_at a k
     → reduced_at r v h (numbers_of ds) ≡ cond (k == v) (onto r a v (reduced_at r v h (numbers_of cs))) (reduced_at r v h (numbers_of cs))
 one_number_more r a v k h cs ds e =
     let n = reduced_at r v h (numbers_of cs) in
-    ap (λ (es : List Change). reduced_at r v h (numbers_of es)) e
+    ap (λ (es : List EntryChange). reduced_at r v h (numbers_of es)) e
     ∙ ap (λ (gs : List (ℕ × ℤ)). reduced_at r v h gs) (numbers_of-append cs (number_at a k))
     ∙ reduced_at-append r v h (numbers_of cs) (numbers_of (number_at a k))
     ∙ number_there r v k n (get_or a.values.items k (pos 0)) (get_or a.stamps.items k 0 == a.stamp) (k == v) refl
@@ -90,15 +90,15 @@ is_gathered_by-push r x [] g all own = (own, tt)
 is_gathered_by-push r x (f ∷ fs) g all own = (all.0, is_gathered_by-push r x fs g all.1 own)
 
 -- a slot whose vector has one before it
-hidden_at : {A : Type 0} (of : Slot → A) (ss : List Slot) (s : Slot) (x : ℕ) (d : A) (q : Bool) → (s.vector == x) ≡ q → place_in s.vector ss < length ss → of_slot of ss x (cond q (of s) d) ≡ of_slot of ss x d
+hidden_at : {A : Type 0} (of : VectorAccumulator → A) (ss : List VectorAccumulator) (s : VectorAccumulator) (x : ℕ) (d : A) (q : Bool) → (s.vector == x) ≡ q → place_in s.vector ss < length ss → of_slot of ss x (cond q (of s) d) ≡ of_slot of ss x d
 hidden_at of ss s x d true e l = of_slot-there of ss x (of s) d (let own = same s.vector x e in subst (λ (k : ℕ). place_in k ss < length ss) own l)
 hidden_at of ss s x d false e l = refl
 
-pub hidden_slot : {A : Type 0} (of : Slot → A) (ss : List Slot) (s : Slot) (x : ℕ) (d : A) → place_in s.vector ss < length ss → of_slot of (ss ++ s ∷ []) x d ≡ of_slot of ss x d
+pub hidden_slot : {A : Type 0} (of : VectorAccumulator → A) (ss : List VectorAccumulator) (s : VectorAccumulator) (x : ℕ) (d : A) → place_in s.vector ss < length ss → of_slot of (ss ++ s ∷ []) x d ≡ of_slot of ss x d
 hidden_slot of ss s x d l = of_slot-push of ss s x d ∙ hidden_at of ss s x d (s.vector == x) refl l
 
 -- a slot that is the first of its vector
-pub first_slot : {A : Type 0} (of : Slot → A) (ss : List Slot) (s : Slot) (x : ℕ) (d : A) (q : Bool) → (s.vector == x) ≡ q → length ss ≤ place_in s.vector ss → of_slot of ss x (cond q (of s) d) ≡ cond q (of s) (of_slot of ss x d)
+pub first_slot : {A : Type 0} (of : VectorAccumulator → A) (ss : List VectorAccumulator) (s : VectorAccumulator) (x : ℕ) (d : A) (q : Bool) → (s.vector == x) ≡ q → length ss ≤ place_in s.vector ss → of_slot of ss x (cond q (of s) d) ≡ cond q (of s) (of_slot of ss x d)
 first_slot of ss s x d true e l = of_slot-none of ss x (of s) (let own = same s.vector x e in subst (λ (k : ℕ). length ss ≤ place_in k ss) own l)
 first_slot of ss s x d false e l = refl
 
@@ -106,22 +106,22 @@ alike : (t : Bool) (h : ℤ) → cond t h h ≡ h
 alike true h = refl
 alike false h = refl
 
-gathered_at : (r : Reduction) (x v : ℕ) (h y : ℤ) (t : Bool) (ss : List Slot) (s : Slot) (ns : List (ℕ × ℤ)) (q : Bool) → (s.vector == x) ≡ q → length ss ≤ place_in s.vector ss
+gathered_at : (r : Reduction) (x v : ℕ) (h y : ℤ) (t : Bool) (ss : List VectorAccumulator) (s : VectorAccumulator) (ns : List (ℕ × ℤ)) (q : Bool) → (s.vector == x) ≡ q → length ss ≤ place_in s.vector ss
     → y ≡ cond t (held_in_with (combined start.Unit r) ss x v h) h
     → ((n : ℤ) → reduced_at r v n ns ≡ cond t (onto r s.entries v n) n)
     → reduced_at r v y (cond q ns []) ≡ cond t (cond q (onto r s.entries v h) (held_in_with (combined start.Unit r) ss x v h)) h
 gathered_at r x v h y t ss s ns true e l was numbers =
     let own = same s.vector x e in
-    let none = of_slot-none (λ (s : Slot). onto r s.entries v h) ss x h (subst (λ (k : ℕ). length ss ≤ place_in k ss) own l) in
+    let none = of_slot-none (λ (s : VectorAccumulator). onto r s.entries v h) ss x h (subst (λ (k : ℕ). length ss ≤ place_in k ss) own l) in
     ap (λ (n : ℤ). reduced_at r v n ns) (was ∙ ap (λ (n : ℤ). cond t n h) none ∙ alike t h) ∙ numbers h
 gathered_at r x v h y t ss s ns false e l was numbers = was
 
-pub gathered_more : (r : Reduction) (x v : ℕ) (h : ℤ) (t : Bool) (ss : List Slot) (s : Slot) (gs : List GatheredIn) (g : GatheredIn) → g.vector ≡ s.vector → length ss ≤ place_in s.vector ss
+pub gathered_more : (r : Reduction) (x v : ℕ) (h : ℤ) (t : Bool) (ss : List VectorAccumulator) (s : VectorAccumulator) (gs : List GatheredIn) (g : GatheredIn) → g.vector ≡ s.vector → length ss ≤ place_in s.vector ss
     → reduced_at r v h (gathered_for x gs) ≡ cond t (held_in_with (combined start.Unit r) ss x v h) h
     → ((n : ℤ) → reduced_at r v n (numbers_of g.numbers.items) ≡ cond t (onto r s.entries v n) n)
     → reduced_at r v h (gathered_for x (gs ++ g ∷ [])) ≡ cond t (held_in_with (combined start.Unit r) (ss ++ s ∷ []) x v h) h
 gathered_more r x v h t ss s gs g own l was numbers =
-    let of = λ (s : Slot). onto r s.entries v h in
+    let of = λ (s : VectorAccumulator). onto r s.entries v h in
     let ns = numbers_of g.numbers.items in
     ap (λ (hs : List (ℕ × ℤ)). reduced_at r v h hs) (gathered_for-push x gs g)
     ∙ reduced_at-append r v h (gathered_for x gs) (cond (g.vector == x) ns [])
@@ -132,18 +132,18 @@ gathered_more r x v h t ss s gs g own l was numbers =
 apart : (m n : ℕ) → (m == n) ≡ false → m ≡ n → ⊥
 apart m n h e = absurd (false≢true (sym h ∙ ap (λ k. k == n) e ∙ same_test n))
 
-gathered_by_at : (r : Reduction) (x : ℕ) (ss : List Slot) (s : Slot) (gs : List GatheredIn) (g : GatheredIn) (q : Bool) → (s.vector == x) ≡ q → g.vector ≡ s.vector → g.reduction ≡ s.reduction → length ss ≤ place_in s.vector ss
+gathered_by_at : (r : Reduction) (x : ℕ) (ss : List VectorAccumulator) (s : VectorAccumulator) (gs : List GatheredIn) (g : GatheredIn) (q : Bool) → (s.vector == x) ≡ q → g.vector ≡ s.vector → g.reduction ≡ s.reduction → length ss ≤ place_in s.vector ss
     → (reduction_in ss x r ≡ r → IsGatheredBy r x gs) → cond q s.reduction (reduction_in ss x r) ≡ r → IsGatheredBy r x (gs ++ g ∷ [])
 gathered_by_at r x ss s gs g true e own by l was now =
     let at = same s.vector x e in
-    let none = of_slot-none (λ (s : Slot). s.reduction) ss x r (subst (λ (k : ℕ). length ss ≤ place_in k ss) at l) in
+    let none = of_slot-none (λ (s : VectorAccumulator). s.reduction) ss x r (subst (λ (k : ℕ). length ss ≤ place_in k ss) at l) in
     is_gathered_by-push r x gs g (was none) (λ _. by ∙ now)
 gathered_by_at r x ss s gs g false e own by l was now = is_gathered_by-push r x gs g (was now) (λ i. absurd (apart s.vector x e (sym own ∙ i)))
 
-pub gathered_by_more : (r : Reduction) (x : ℕ) (ss : List Slot) (s : Slot) (gs : List GatheredIn) (g : GatheredIn) → g.vector ≡ s.vector → g.reduction ≡ s.reduction → length ss ≤ place_in s.vector ss
+pub gathered_by_more : (r : Reduction) (x : ℕ) (ss : List VectorAccumulator) (s : VectorAccumulator) (gs : List GatheredIn) (g : GatheredIn) → g.vector ≡ s.vector → g.reduction ≡ s.reduction → length ss ≤ place_in s.vector ss
     → (reduction_in ss x r ≡ r → IsGatheredBy r x gs) → reduction_in (ss ++ s ∷ []) x r ≡ r → IsGatheredBy r x (gs ++ g ∷ [])
 gathered_by_more r x ss s gs g own by l was now =
-    let of = λ (s : Slot). s.reduction in
+    let of = λ (s : VectorAccumulator). s.reduction in
     gathered_by_at r x ss s gs g (s.vector == x) refl own by l was (sym (of_slot-push of ss s x r ∙ first_slot of ss s x r (s.vector == x) refl l) ∙ now)
 
 -- what is gathered for the first vectors

@@ -9,8 +9,8 @@ use Rattle.edge_fold.specs.declared.functions.Start.{Start}
 use Rattle.edge_fold.specs.declared.functions.Start.TheVariants as start
 use Rattle.edge_fold.specs.declared.accumulator.Accumulator.{Accumulator}
 use Rattle.edge_fold.specs.declared.scratch.Scratch.{Scratch}
-use Rattle.edge_fold.specs.declared.slot.Slot.{Slot}
-use Rattle.edge_fold.specs.declared.slot.Slots.{Slots}
+use Rattle.edge_fold.specs.declared.vector_accumulator.VectorAccumulator.{VectorAccumulator}
+use Rattle.edge_fold.specs.declared.vector_accumulator.VectorAccumulators.{VectorAccumulators}
 use Rattle.typed_tree.specs.StepTree.{StepsTree}
 use Rattle.algorithm_meaning.specs.State.{StateValue}
 use Rattle.algorithm_meaning.specs.Value.{entry}
@@ -18,7 +18,7 @@ use Rattle.edge_fold.specs.Folded.{HasFoldedFor, waiting}
 use Rattle.edge_fold.specs.Given.{all_given, given_on, reduced_at}
 use Rattle.edge_fold.specs.Held.{held_with}
 use Rattle.edge_fold.specs.Seeds.{combined, first_entry, seed}
-use Rattle.edge_fold.specs.Slots.{HaveJoined, active, held_in, held_in_with, place_in, reduction_in}
+use Rattle.edge_fold.specs.VectorAccumulators.{HaveJoined, active, held_in, held_in_with, place_in, reduction_in}
 use Rattle.edge_fold.proofs.Edges.{fold_before, fold_more}
 use Rattle.edge_fold.proofs.Folds.{reduced_at-append}
 use Rattle.edge_fold.proofs.SlotRows.{first_vector, of_slot-change}
@@ -28,10 +28,10 @@ pub combined_more : (s : Start) (r : Reduction) (h y n : ℤ) → combined s r h
 combined_more start.OldEntry r h y n = refl
 combined_more start.Unit r h y n = let law = reductions r in sym (law.associative h y n)
 
-pub joined_nothing : (f : Functions) (x : ℕ) (r : Reduction) (s : Slots) → HaveJoined f x r s s []
+pub joined_nothing : (f : Functions) (x : ℕ) (r : Reduction) (s : VectorAccumulators) → HaveJoined f x r s s []
 joined_nothing f x r s = record { entries = λ v h. refl; reduction = λ was. was }
 
-pub joined_more : (f : Functions) (x : ℕ) (r : Reduction) (a b c : Slots) (gs hs : List (ℕ × ℤ)) → HaveJoined f x r a b gs → HaveJoined f x r b c hs → HaveJoined f x r a c (gs ++ hs)
+pub joined_more : (f : Functions) (x : ℕ) (r : Reduction) (a b c : VectorAccumulators) (gs hs : List (ℕ × ℤ)) → HaveJoined f x r a b gs → HaveJoined f x r b c hs → HaveJoined f x r a c (gs ++ hs)
 joined_more f x r a b c gs hs one more = record {
   entries = λ v h.
       let o = first_entry f x v h in
@@ -41,7 +41,7 @@ joined_more f x r a b c gs hs one more = record {
 }
 
 -- what is given otherwise, and comes to the same
-pub joined_alike : (f : Functions) (x : ℕ) (r : Reduction) (a b : Slots) (gs hs : List (ℕ × ℤ)) → ((v : ℕ) (n : ℤ) → reduced_at r v n gs ≡ reduced_at r v n hs) → HaveJoined f x r a b gs → HaveJoined f x r a b hs
+pub joined_alike : (f : Functions) (x : ℕ) (r : Reduction) (a b : VectorAccumulators) (gs hs : List (ℕ × ℤ)) → ((v : ℕ) (n : ℤ) → reduced_at r v n gs ≡ reduced_at r v n hs) → HaveJoined f x r a b gs → HaveJoined f x r a b hs
 joined_alike f x r a b gs hs same one = record {
   entries = λ v h. one.entries v h ∙ same v (held_in_with (combined f.start r) (active a) x v (first_entry f x v h));
   reduction = one.reduction;
@@ -64,7 +64,7 @@ along f x y v q r k a b h o gs own by begins from joined =
 same_number : (r : Reduction) (v : ℕ) (n : ℤ) (gs : List (ℕ × ℤ)) → gs ≡ [] → reduced_at r v n gs ≡ n
 same_number r v n gs none = ap (λ (hs : List (ℕ × ℤ)). reduced_at r v n hs) none
 
-pub joined_slot : (f : Functions) (x y p : ℕ) (r : Reduction) (before now after : Slots) (was t : Slot) (gs : List (ℕ × ℤ)) → active after ≡ take now.used (set now.slots.items p t)
+pub joined_slot : (f : Functions) (x y p : ℕ) (r : Reduction) (before now after : VectorAccumulators) (was t : VectorAccumulator) (gs : List (ℕ × ℤ)) → active after ≡ take now.used (set now.slots.items p t)
     → p ≡ place_in y (active now) → p < now.used → now.used ≤ length now.slots.items → was ≡ get_or now.slots.items p was → t.vector ≡ was.vector → t.reduction ≡ was.reduction
     → ((combine : ℤ → ℤ → ℤ) (x v : ℕ) (h : ℤ) → held_in_with combine (active now) x v h ≡ held_in_with combine (active before) x v h)
     → (reduction_in (active before) x r ≡ r → reduction_in (active now) x r ≡ r)
@@ -72,21 +72,21 @@ pub joined_slot : (f : Functions) (x y p : ℕ) (r : Reduction) (before now afte
     → ((y == x) ≡ false → gs ≡ [])
     → HaveJoined f x r before after gs
 joined_slot f x y p r before now after was t gs is place inside few slot vector reduction held kept here others =
-    let own = vector ∙ ap (λ (s : Slot). s.vector) slot ∙ first_vector now.slots.items y now.used p was place inside few in
+    let own = vector ∙ ap (λ (s : VectorAccumulator). s.vector) slot ∙ first_vector now.slots.items y now.used p was place inside few in
     record {
       entries = λ v h.
           let o = first_entry f x v h in
           let combine = combined f.start r in
           let F = λ (z : ℤ). reduced_at r v z gs in
-          ap (λ (ss : List Slot). held_in_with combine ss x v o) is
+          ap (λ (ss : List VectorAccumulator). held_in_with combine ss x v o) is
           ∙ of_slot-change (λ s. held_with combine s.entries v o) F o y x now.used p now.slots.items t was place inside few own
-          (λ at. here v h at ∙ ap (λ (s : Slot). F (held_with combine s.entries v o)) slot)
+          (λ at. here v h at ∙ ap (λ (s : VectorAccumulator). F (held_with combine s.entries v o)) slot)
           (λ off z. same_number r v z gs (others off))
           ∙ ap F (held combine x v o);
       reduction = λ has.
-          ap (λ (ss : List Slot). reduction_in ss x r) is
+          ap (λ (ss : List VectorAccumulator). reduction_in ss x r) is
           ∙ of_slot-change (λ s. s.reduction) (λ q. q) r y x now.used p now.slots.items t was place inside few own
-          (λ at. reduction ∙ ap (λ (s : Slot). s.reduction) slot)
+          (λ at. reduction ∙ ap (λ (s : VectorAccumulator). s.reduction) slot)
           (λ off z. refl)
           ∙ kept has;
     }
@@ -117,15 +117,15 @@ folded_later f m steps es more a b x r same waits has = record {
   entries = λ v h l.
       let g = all_given m steps in
       let o = first_entry f x v h in
-      let n = λ (s : Slots). held_in_with (combined f.start r) (active s) x v o in
-      ap (λ (s : Slots). reduced_at r v (n s) (given_on x g (waiting b.pairs))) same
+      let n = λ (s : VectorAccumulators). held_in_with (combined f.start r) (active s) x v o in
+      ap (λ (s : VectorAccumulators). reduced_at r v (n s) (given_on x g (waiting b.pairs))) same
       ∙ ap (λ (ws : List (ℕ × ℕ)). reduced_at r v (n a.slots) (given_on x g ws)) waits
       ∙ fold_more r v x (n a.slots) o g (waiting a.pairs) es more (has.entries v h l);
-  reduction = ap (λ (s : Slots). reduction_in (active s) x r) same ∙ has.reduction;
+  reduction = ap (λ (s : VectorAccumulators). reduction_in (active s) x r) same ∙ has.reduction;
 }
 
 -- new entries that began with the old ones
-pub old_entries : (f : Functions) (m : StateValue) (x v : ℕ) (r : Reduction) (ss : List Slot) (gs hs : List (ℕ × ℤ)) → f.start ≡ start.OldEntry → f.vectors.now.vectors ≡ m.vectors
+pub old_entries : (f : Functions) (m : StateValue) (x v : ℕ) (r : Reduction) (ss : List VectorAccumulator) (gs hs : List (ℕ × ℤ)) → f.start ≡ start.OldEntry → f.vectors.now.vectors ≡ m.vectors
     → reduced_at r v (held_in_with (combined f.start r) ss x v (first_entry f x v (entry m.vectors x v))) gs ≡ reduced_at r v (first_entry f x v (entry m.vectors x v)) hs
     → reduced_at r v (held_in ss x v (entry m.vectors x v)) gs ≡ reduced_at r v (entry m.vectors x v) hs
 old_entries f m x v r ss gs hs old vectors has =
@@ -134,7 +134,7 @@ old_entries f m x v r ss gs hs old vectors has =
     subst (λ (vs : List (List ℤ)). reduced_at r v (held_in ss x v (entry vs x v)) gs ≡ reduced_at r v (entry vs x v) hs) vectors then
 
 -- new entries that began with the unit, and are combined with a number
-pub unit_entries : (f : Functions) (x v : ℕ) (h : ℤ) (r : Reduction) (ss : List Slot) (gs hs : List (ℕ × ℤ)) → f.start ≡ start.Unit
+pub unit_entries : (f : Functions) (x v : ℕ) (h : ℤ) (r : Reduction) (ss : List VectorAccumulator) (gs hs : List (ℕ × ℤ)) → f.start ≡ start.Unit
     → reduced_at r v (held_in_with (combined f.start r) ss x v (first_entry f x v h)) gs ≡ reduced_at r v (first_entry f x v h) hs
     → reduced_at r v (held_in_with (combined start.Unit r) ss x v h) gs ≡ reduced_at r v h hs
 unit_entries f x v h r ss gs hs unit has =

@@ -5,7 +5,7 @@ use Rattle.std.proofs.lemmas.List.Elements.{filter-append}
 use Rattle.std.specs.List.{filter}
 use Rattle.typed_tree.specs.StepTree.{StepsTree}
 use Rattle.algorithm_meaning.specs.State.{StateValue}
-use Rattle.kernels.specs.declared.end.End.{End}
+use Rattle.kernels.specs.declared.endpoint_filter.EndpointFilter.{EndpointFilter}
 use Rattle.edge_fold.specs.declared.functions.Functions.{Functions}
 use Rattle.edge_fold.specs.declared.scratch.Scratch.{Scratch}
 use Rattle.edge_fold.specs.Ends.{IsTest}
@@ -56,23 +56,23 @@ walk_done f edges_of all left start s none w m steps es are has =
     folded_along f m steps (es ++ edges_of w.done) (es ++ edges_of all) s (ap (λ ks. es ++ edges_of ks) whole) (w.folded m steps es are has)
 
 -- the same where only those that an end lets through bring edges
-abbrev pub FoldsPassing : End → Functions → (edges_of : List ℕ → List (ℕ × ℕ)) → List ℕ → (before after : Scratch) → Type 0
+abbrev pub FoldsPassing : EndpointFilter → Functions → (edges_of : List ℕ → List (ℕ × ℕ)) → List ℕ → (before after : Scratch) → Type 0
 FoldsPassing end f edges_of us s t = (m : StateValue) (steps : List StepsTree) (test : ℕ → Bool) (es : List (ℕ × ℕ)) → AreFunctions f m steps → IsTest end m test
     → HasFolded f m steps es s → HasFolded f m steps (es ++ edges_of (filter test us)) t
 
-pub record HasPassed (end : End) (f : Functions) (edges_of : List ℕ → List (ℕ × ℕ)) (all left : List ℕ) (start s : Scratch) : Type 0 where
+pub record HasPassed (end : EndpointFilter) (f : Functions) (edges_of : List ℕ → List (ℕ × ℕ)) (all left : List ℕ) (start s : Scratch) : Type 0 where
   pub done : List ℕ
   pub split : done ++ left ≡ all
   pub folded : FoldsPassing end f edges_of done start s
 
-pub pass_begun : (end : End) (f : Functions) (edges_of : List ℕ → List (ℕ × ℕ)) (all : List ℕ) (s : Scratch) → edges_of [] ≡ [] → HasPassed end f edges_of all all s s
+pub pass_begun : (end : EndpointFilter) (f : Functions) (edges_of : List ℕ → List (ℕ × ℕ)) (all : List ℕ) (s : Scratch) → edges_of [] ≡ [] → HasPassed end f edges_of all all s s
 pass_begun end f edges_of all s none = record {
   done = [];
   split = refl;
   folded = λ m steps test es are is has. folded_along f m steps es (es ++ edges_of []) s (sym (ap (λ ks. es ++ ks) none ∙ append-nil es)) has;
 }
 
-pub pass_more : (end : End) (f : Functions) (edges_of : List ℕ → List (ℕ × ℕ)) (all left part rest kept : List ℕ) (start s t : Scratch) → InRow edges_of → part ++ rest ≡ left
+pub pass_more : (end : EndpointFilter) (f : Functions) (edges_of : List ℕ → List (ℕ × ℕ)) (all left part rest kept : List ℕ) (start s t : Scratch) → InRow edges_of → part ++ rest ≡ left
     → ((m : StateValue) (steps : List StepsTree) (test : ℕ → Bool) → AreFunctions f m steps → IsTest end m test → kept ≡ filter test part)
     → FoldsMore f (edges_of kept) s t → HasPassed end f edges_of all left start s → HasPassed end f edges_of all rest start t
 pass_more end f edges_of all left part rest kept start s t in_row parts are_kept more w = record {
@@ -86,7 +86,7 @@ pass_more end f edges_of all left part rest kept start s t in_row parts are_kept
       (more m steps (es ++ edges_of (filter test w.done)) are (w.folded m steps test es are is has));
 }
 
-pub pass_done : (end : End) (f : Functions) (edges_of : List ℕ → List (ℕ × ℕ)) (all left : List ℕ) (start s : Scratch) → left ≡ [] → HasPassed end f edges_of all left start s
+pub pass_done : (end : EndpointFilter) (f : Functions) (edges_of : List ℕ → List (ℕ × ℕ)) (all left : List ℕ) (start s : Scratch) → left ≡ [] → HasPassed end f edges_of all left start s
     → FoldsPassing end f edges_of all start s
 pass_done end f edges_of all left start s none w m steps test es are is has =
     let whole = sym (append-nil w.done) ∙ ap (λ ks. w.done ++ ks) (sym none) ∙ w.split in

@@ -12,7 +12,7 @@ use Rattle.edge_fold.specs.declared.pairs.Pairs.{Pairs}
 use Rattle.edge_fold.specs.declared.scratch.Scratch.{Scratch}
 use Rattle.edge_fold.specs.Given.{IsReducedBy, all_given, given_on, pairs, reduced_at}
 use Rattle.edge_fold.specs.Seeds.{combined, first_entry}
-use Rattle.edge_fold.specs.Slots.{active, held_in_with, reduction_in}
+use Rattle.edge_fold.specs.VectorAccumulators.{active, held_in_with, reduction_in}
 
 -- the kernels are those of these functions, in order
 abbrev pub AreKernels : EdgeKernel → Option (Bor EdgeKernel) → List StepsTree → Type 0

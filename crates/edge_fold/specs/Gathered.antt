@@ -3,19 +3,19 @@ use Rattle.std.specs.Prelude.{◌≡◌, ℕ, ◌<◌, ℤ, pos, ◌==◌, if◌
 use Rattle.apply_options.specs.declared.reduction.Reduction.{Reduction}
 use Rattle.typed_tree.specs.StepTree.{StepsTree}
 use Rattle.algorithm_meaning.specs.State.{StateValue}
-use Rattle.vectors.specs.declared.change.Change.{Change}
+use Rattle.vectors.specs.declared.changes.EntryChange.{EntryChange}
 use Rattle.edge_fold.specs.declared.accumulator.Accumulator.{Accumulator}
 use Rattle.edge_fold.specs.declared.gathered.Gathered.{Gathered}
 use Rattle.edge_fold.specs.declared.gathered.GatheredIn.{GatheredIn}
 use Rattle.edge_fold.specs.Given.{IsReducedBy, all_given, given_on, reduced_at}
 
 -- the numbers, each given to its vertex
-abbrev pub numbers_of : List Change → List (ℕ × ℤ)
+abbrev pub numbers_of : List EntryChange → List (ℕ × ℤ)
 numbers_of [] = []
 numbers_of (c ∷ cs) = (c.vertex, c.number) ∷ numbers_of cs
 
 -- what an accumulator has at a vertex
-abbrev pub number_at : Accumulator → ℕ → List Change
+abbrev pub number_at : Accumulator → ℕ → List EntryChange
 number_at a v = if slice_index_or a.stamps.items v 0 == a.stamp then record { vertex = v; number = slice_index_or a.values.items v (pos 0) } ∷ [] else []
 
 -- what is gathered for a vector

@@ -2,7 +2,7 @@
 use Rattle.std.specs.Prelude.{◌≡◌, ℕ, ℤ, pos, ◌==◌, if◌then◌else◌, List, slice_index_or, vec_len}
 use Rattle.apply_options.specs.declared.reduction.Reduction.{Reduction}
 use Rattle.edge_fold.specs.declared.accumulator.Accumulator.{Accumulator}
-use Rattle.edge_fold.specs.declared.opening.Opening.{Opening}
+use Rattle.edge_fold.specs.declared.initial_entries.InitialEntries.{InitialEntries}
 use Rattle.edge_fold.specs.Given.{reduced_at}
 use Rattle.edge_fold.specs.Seeds.{combined, opening_seed, start_of}
 
@@ -19,6 +19,6 @@ abbrev pub room : Accumulator → ℕ
 room a = vec_len a.stamps
 
 -- after a join an accumulator has what was given to vertices, too
-abbrev pub AreJoined : Opening → Reduction → (before after : Accumulator) → List (ℕ × ℤ) → Type 0
+abbrev pub AreJoined : InitialEntries → Reduction → (before after : Accumulator) → List (ℕ × ℤ) → Type 0
 AreJoined o r a b gs = (v : ℕ) (h : ℤ) → held_with (combined (start_of o) r) b v (opening_seed o v h)
     ≡ reduced_at r v (held_with (combined (start_of o) r) a v (opening_seed o v h)) gs

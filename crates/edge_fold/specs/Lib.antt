@@ -3,7 +3,7 @@ pub mod Between
 pub mod Seeds
 pub mod Held
 pub mod Changed
-pub mod Slots
+pub mod VectorAccumulators
 pub mod Folded
 pub mod Gathered
 pub mod Ends

@@ -7,8 +7,8 @@ use Rattle.vectors.specs.Lanes.{lane_entry}
 use Rattle.edge_fold.specs.declared.functions.Functions.{Functions}
 use Rattle.edge_fold.specs.declared.functions.Start.{Start}
 use Rattle.edge_fold.specs.declared.functions.Start.TheVariants as start
-use Rattle.edge_fold.specs.declared.opening.Opening.{Opening}
-use Rattle.edge_fold.specs.declared.opening.Opening.TheVariants as opening
+use Rattle.edge_fold.specs.declared.initial_entries.InitialEntries.{InitialEntries}
+use Rattle.edge_fold.specs.declared.initial_entries.InitialEntries.TheVariants as opening
 
 -- the number that a fold begins with: the old entry, or for a piece any number, with which the piece is combined later
 abbrev pub seed : Start → (old h : ℤ) → ℤ
@@ -25,10 +25,10 @@ abbrev pub first_entry : Functions → (vector v : ℕ) → ℤ → ℤ
 first_entry f x v h = seed f.start (entry f.vectors.now.vectors x v) h
 
 -- the same of an opening
-abbrev pub start_of : Opening → Start
+abbrev pub start_of : InitialEntries → Start
 start_of (opening.Entries old) = start.OldEntry
 start_of opening.Unit = start.Unit
 
-abbrev pub opening_seed : Opening → (v : ℕ) → ℤ → ℤ
+abbrev pub opening_seed : InitialEntries → (v : ℕ) → ℤ → ℤ
 opening_seed (opening.Entries old) v h = lane_entry old v
 opening_seed opening.Unit v h = h

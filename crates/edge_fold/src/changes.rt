@@ -7,7 +7,7 @@ ghost use Rattle.vectors.specs.Lanes.{lane_entry};
 
 use crate::accumulator::Accumulator;
 use std::alloc::{AllocError, Global};
-use vectors::{Change, Lane};
+use vectors::{EntryChange, Lane};
 
 impl Accumulator {
     /// The changes at these vertices, which do not fall, each named once; `new` is any account of the new entries that
@@ -18,7 +18,7 @@ impl Accumulator {
         old: Lane<'_>,
         kept: &[u32],
         vertices: u32,
-    ) -> Result<Vec<Change>, AllocError>
+    ) -> Result<Vec<EntryChange>, AllocError>
         ensures { IsNonDecreasing kept.now → (new : ℕ → ℤ) → ((v : ℕ) → Contains kept.now v → new v ≡ held self.now v (lane_entry old.entry v))
             → ((v : ℕ) → v < vertices → ¬ Contains kept.now v → new v ≡ lane_entry old.entry v)
             → IfOk result (λ cs. cs.items ≡ changed vertices (lane_entry old.entry) new) }
@@ -42,12 +42,12 @@ fn push_change(
     vertex: u32,
     before: i64,
     number: i64,
-    changes: &mut Vec<Change>,
+    changes: &mut Vec<EntryChange>,
 ) -> Result<(), AllocError>
     ensures { OnOk result (changes.new.items ≡ changes.old.items ++ change_at (λ _. before) (λ _. number) vertex) }
 {
     if before != number {
-        changes.push(Change { vertex, number })?;
+        changes.push(EntryChange { vertex, number })?;
     }
     Ok(())
 }

@@ -10,21 +10,21 @@ ghost use Rattle.algorithm_meaning.specs.State.{StateValue};
 ghost use Rattle.algorithm_meaning.specs.Value.{entry};
 ghost use Rattle.register_code.specs.Cells.{HasSizes};
 ghost use Rattle.edge_fold.specs.Changed.{AreApart, changed, changes_of, changes_or, is_named};
-ghost use Rattle.vectors.specs.declared.change.Change.{Change};
+ghost use Rattle.vectors.specs.declared.changes.EntryChange.{EntryChange};
 ghost use Rattle.edge_fold.specs.declared.functions.Functions.{Functions};
 ghost use Rattle.edge_fold.specs.declared.functions.Start.TheVariants.{OldEntry};
 ghost use Rattle.edge_fold.specs.Ends.{IsEndTest, IsTest};
 ghost use Rattle.edge_fold.specs.Folded.{AreFunctions, HasFolded};
 ghost use Rattle.edge_fold.specs.Held.{held, held_with};
-ghost use Rattle.edge_fold.specs.Slots.{active, held_in};
+ghost use Rattle.edge_fold.specs.VectorAccumulators.{active, held_in};
 
 use crate::functions::Functions;
 use crate::passing::keep_passing;
 use crate::scratch::Scratch;
-use crate::slot::{Slot, Slots};
-use kernels::{Block, End};
+use crate::vector_accumulator::{VectorAccumulator, VectorAccumulators};
+use kernels::{Block, EndpointFilter};
 use std::alloc::{AllocError, Global};
-use vectors::{Change, Changes, VectorChanges};
+use vectors::{Changes, EntryChange, VectorChanges};
 
 impl Scratch {
     /// What the edges that were folded change, at the vertices that an end lets through; one that is not given lets all
@@ -34,7 +34,7 @@ impl Scratch {
         &mut self,
         alloc: Global,
         functions: Functions<'_>,
-        to: Option<End<'_>>,
+        to: Option<EndpointFilter<'_>>,
     ) -> Result<Changes, AllocError>
         ensures once { IfOk result (λ c. AreApart c.vectors.items) }
         ensures changes { IfOk result (λ c. (m : StateValue) (steps : List StepsTree) (edges : List (ℕ × ℕ)) (test : ℕ → Bool) → AreFunctions functions.entry m steps → IsEndTest to.entry m test
@@ -52,7 +52,7 @@ impl Scratch {
     pub fn keep_passing(
         &mut self,
         functions: Functions<'_>,
-        end: End<'_>,
+        end: EndpointFilter<'_>,
         vertices: &[u32],
         kept: &mut Vec<u32>,
     ) -> Result<(), AllocError>
@@ -69,8 +69,8 @@ impl Scratch {
 fn found_in_slots(
     alloc: Global,
     functions: Functions<'_>,
-    to: Option<End<'_>>,
-    slots: &mut Slots,
+    to: Option<EndpointFilter<'_>>,
+    slots: &mut VectorAccumulators,
     block: &mut Block,
 ) -> Result<Changes, AllocError>
     ensures once { IfOk result (λ c. AreApart c.vectors.items) }
@@ -89,7 +89,7 @@ fn found_in_slots(
 /// Adds the changes of a vector that is not there yet.
 fn push_once(found: VectorChanges, vectors: &mut Vec<VectorChanges>) -> Result<(), AllocError>
     ensures apart { OnOk result (AreApart vectors.old.items → AreApart vectors.new.items) }
-    ensures changes { OnOk result ((x : ℕ) (rest : List Change)
+    ensures changes { OnOk result ((x : ℕ) (rest : List EntryChange)
         → changes_or x vectors.new.items rest ≡ changes_or x vectors.old.items (if found.vector == x then found.changes.items else rest)) }
 {
     if has_vector(vectors, found.vector) {
@@ -115,8 +115,8 @@ fn has_vector(vectors: &[VectorChanges], vector: usize) -> bool
 fn found_in_slot(
     alloc: Global,
     functions: Functions<'_>,
-    to: Option<End<'_>>,
-    slot: &mut Slot,
+    to: Option<EndpointFilter<'_>>,
+    slot: &mut VectorAccumulator,
     block: &mut Block,
 ) -> Result<VectorChanges, AllocError>
     ensures vector { IfOk result (λ c. c.vector ≡ slot.old.vector) }
@@ -139,8 +139,8 @@ fn found_in_slot(
 fn found_among(
     alloc: Global,
     functions: Functions<'_>,
-    to: Option<End<'_>>,
-    slot: &Slot,
+    to: Option<EndpointFilter<'_>>,
+    slot: &VectorAccumulator,
     touched: &[u32],
     block: &mut Block,
 ) -> Result<VectorChanges, AllocError>
@@ -168,9 +168,9 @@ fn found_among(
 fn all_changes(
     alloc: Global,
     functions: Functions<'_>,
-    slot: &Slot,
+    slot: &VectorAccumulator,
     touched: &[u32],
-) -> Result<Vec<Change>, AllocError>
+) -> Result<Vec<EntryChange>, AllocError>
     requires ascending { IsNonDecreasing touched.now }
     requires covers { (combine : ℤ → ℤ → ℤ) (v : ℕ) (h : ℤ) → v < functions.vertices → ¬ Contains touched.now v → held_with combine slot.now.entries v h ≡ h }
     ensures { IfOk result (λ cs. cs.items ≡ changed functions.entry.vertices (entry functions.entry.vectors.now.vectors slot.now.vector)
@@ -187,11 +187,11 @@ fn all_changes(
 fn passing_changes(
     alloc: Global,
     functions: Functions<'_>,
-    end: End<'_>,
-    slot: &Slot,
+    end: EndpointFilter<'_>,
+    slot: &VectorAccumulator,
     touched: &[u32],
     block: &mut Block,
-) -> Result<Vec<Change>, AllocError>
+) -> Result<Vec<EntryChange>, AllocError>
     requires ascending { IsNonDecreasing touched.now }
     requires covers { (combine : ℤ → ℤ → ℤ) (v : ℕ) (h : ℤ) → v < functions.vertices → ¬ Contains touched.now v → held_with combine slot.now.entries v h ≡ h }
     ensures { IfOk result (λ cs. (m : StateValue) (test : ℕ → Bool) → functions.entry.vectors.now.vectors ≡ m.vectors → HasSizes functions.entry.sizes.now m → IsTest end.entry m test

@@ -2,7 +2,7 @@
 ghost use Rattle.std.specs.Prelude.{◌≡◌, ℕ, ℤ};
 ghost use Rattle.edge_fold.specs.Seeds.{first_entry, opening_seed, start_of};
 
-use crate::opening::Opening;
+use crate::initial_entries::InitialEntries;
 use apply_options::Reduction;
 use kernels::EdgeKernel;
 use vectors::Vectors;
@@ -31,13 +31,13 @@ pub struct Functions<'a> {
 impl<'a> Functions<'a> {
     /// What the new entries of a vector begin with.
     #[inline]
-    pub(crate) fn opening(self, vector: usize) -> Opening<'a>
+    pub(crate) fn opening(self, vector: usize) -> InitialEntries<'a>
         ensures start { start_of result ≡ self.entry.start }
         ensures seed { (v : ℕ) (h : ℤ) → opening_seed result v h ≡ first_entry self.entry vector v h }
     {
         match self.start {
-            Start::OldEntry => Opening::Entries(self.vectors.lane(vector)),
-            Start::Unit => Opening::Unit,
+            Start::OldEntry => InitialEntries::Entries(self.vectors.lane(vector)),
+            Start::Unit => InitialEntries::Unit,
         }
     }
 }

@@ -13,18 +13,18 @@ ghost use Rattle.edge_fold.specs.Gathered.{AreGathered, IsGatheredBy, gathered_f
 ghost use Rattle.edge_fold.specs.Given.{reduced_at};
 ghost use Rattle.edge_fold.specs.Held.{held_with};
 ghost use Rattle.edge_fold.specs.Seeds.{combined};
-ghost use Rattle.edge_fold.specs.Slots.{active, held_in_with, reduction_in};
+ghost use Rattle.edge_fold.specs.VectorAccumulators.{active, held_in_with, reduction_in};
 
 use crate::accumulator::Accumulator;
 use crate::functions::Functions;
 use crate::passing::keep_passing;
 use crate::scratch::Scratch;
-use crate::slot::{Slot, Slots};
-use crate::slots::find;
+use crate::vector_accumulator::{VectorAccumulator, VectorAccumulators};
+use crate::vector_accumulators::find;
 use apply_options::Reduction;
-use kernels::{Block, End};
+use kernels::{Block, EndpointFilter};
 use std::alloc::{AllocError, Global};
-use vectors::Change;
+use vectors::EntryChange;
 
 /// What edges give one vector, by its place: the reduction, and numbers for vertices. A number that is reduced with those
 /// of a vertex is reduced with all that the edges give it.
@@ -32,7 +32,7 @@ use vectors::Change;
 pub struct GatheredIn {
     pub vector: usize,
     pub reduction: Reduction,
-    pub numbers: Vec<Change>,
+    pub numbers: Vec<EntryChange>,
 }
 
 /// What edges give: to each vector all that is listed for it.
@@ -54,7 +54,7 @@ impl Scratch {
         &mut self,
         alloc: Global,
         functions: Functions<'_>,
-        to: Option<End<'_>>,
+        to: Option<EndpointFilter<'_>>,
     ) -> Result<Gathered, AllocError>
         ensures { IfOk result (λ g. (m : StateValue) (steps : List StepsTree) (edges : List (ℕ × ℕ)) (test : ℕ → Bool) → AreFunctions functions.entry m steps → IsEndTest to.entry m test
             → HasFolded functions.entry m steps edges self.old → functions.entry.start ≡ FromUnit → AreGathered functions.entry.vertices m steps (filter (λ e. test e.1) edges) g) }
@@ -85,8 +85,8 @@ impl Scratch {
 fn gathered_in_slots(
     alloc: Global,
     functions: Functions<'_>,
-    to: Option<End<'_>>,
-    slots: &Slots,
+    to: Option<EndpointFilter<'_>>,
+    slots: &VectorAccumulators,
     block: &mut Block,
 ) -> Result<Gathered, AllocError>
     ensures reduction { IfOk result (λ g. (x : ℕ) (r : Reduction) → reduction_in (active slots.now) x r ≡ r → IsGatheredBy r x g.vectors.items) }
@@ -114,10 +114,10 @@ fn gathered_in_slots(
 fn numbers_in_slot(
     alloc: Global,
     functions: Functions<'_>,
-    to: Option<End<'_>>,
-    slot: &Slot,
+    to: Option<EndpointFilter<'_>>,
+    slot: &VectorAccumulator,
     block: &mut Block,
-) -> Result<Vec<Change>, AllocError>
+) -> Result<Vec<EntryChange>, AllocError>
     ensures { IfOk result (λ cs. (m : StateValue) (test : ℕ → Bool) → functions.entry.vectors.now.vectors ≡ m.vectors → HasSizes functions.entry.sizes.now m → IsEndTest to.entry m test
         → (r : Reduction) (v : ℕ) (h : ℤ) → v < functions.entry.vertices
         → reduced_at r v h (numbers_of cs.items) ≡ (if test v then held_with (combined FromUnit r) slot.now.entries v h else h)) }
@@ -157,7 +157,12 @@ impl Accumulator {
     /// What these vertices of the graph were given, which do not fall, each named once; `new` is any account of a
     /// number that is combined with that at these vertices, and stays at all others of the graph. The only error is out
     /// of memory.
-    fn numbers(&self, alloc: Global, kept: &[u32], vertices: u32) -> Result<Vec<Change>, AllocError>
+    fn numbers(
+        &self,
+        alloc: Global,
+        kept: &[u32],
+        vertices: u32,
+    ) -> Result<Vec<EntryChange>, AllocError>
         ensures { IsNonDecreasing kept.now → (r : Reduction) (h : ℤ) (new : ℕ → ℤ) → ((v : ℕ) → Contains kept.now v → new v ≡ held_with (combined FromUnit r) self.now v h)
             → ((v : ℕ) → v < vertices → ¬ Contains kept.now v → new v ≡ h)
             → IfOk result (λ cs. (v : ℕ) → v < vertices → reduced_at r v h (numbers_of cs.items) ≡ new v) }
@@ -175,12 +180,12 @@ impl Accumulator {
     }
 
     /// Adds what a vertex was given, if it was.
-    fn push_number(&self, vertex: u32, numbers: &mut Vec<Change>) -> Result<(), AllocError>
+    fn push_number(&self, vertex: u32, numbers: &mut Vec<EntryChange>) -> Result<(), AllocError>
         ensures { OnOk result (numbers.new.items ≡ numbers.old.items ++ number_at self.now vertex) }
     {
         let place = vertex as usize;
         if place < self.stamps.len() && self.stamps[place] == self.stamp {
-            numbers.push(Change {
+            numbers.push(EntryChange {
                 vertex,
                 number: self.values[place],
             })?;

@@ -7,13 +7,13 @@ ghost use Rattle.edge_fold.specs.Held.{AreJoined, held, held_with, room};
 ghost use Rattle.kernels.specs.Gifts.{gift_at, truth_at};
 
 use crate::accumulator::Accumulator;
-use crate::opening::Opening;
+use crate::initial_entries::InitialEntries;
 use crate::passing::keep_where;
 use algorithm_meaning::reduce;
 use apply_options::Reduction;
 use kernels::Gift;
 use std::alloc::{AllocError, Global};
-use vectors::Change;
+use vectors::EntryChange;
 
 impl Accumulator {
     /// No new entry, and room for no vertex.
@@ -63,7 +63,7 @@ impl Accumulator {
     /// entry yet, one begins. The only error is out of memory, after which a part was done.
     pub(crate) fn join_column(
         &mut self,
-        opening: Opening<'_>,
+        opening: InitialEntries<'_>,
         gift: Gift<'_>,
         destinations: &[u32],
     ) -> Result<(), AllocError>
@@ -81,7 +81,7 @@ impl Accumulator {
     fn join_all(
         &mut self,
         reduction: Reduction,
-        opening: Opening<'_>,
+        opening: InitialEntries<'_>,
         gift: Gift<'_>,
         destinations: &[u32],
     ) -> Result<(), AllocError>
@@ -99,7 +99,7 @@ impl Accumulator {
     fn join_pair(
         &mut self,
         reduction: Reduction,
-        opening: Opening<'_>,
+        opening: InitialEntries<'_>,
         gift: Gift<'_>,
         place: usize,
         vertex: u32,
@@ -118,7 +118,7 @@ impl Accumulator {
     pub(crate) fn join_number(
         &mut self,
         reduction: Reduction,
-        opening: Opening<'_>,
+        opening: InitialEntries<'_>,
         number: i64,
         destinations: &[u32],
     ) -> Result<(), AllocError>
@@ -135,7 +135,7 @@ impl Accumulator {
     fn join_each(
         &mut self,
         reduction: Reduction,
-        opening: Opening<'_>,
+        opening: InitialEntries<'_>,
         number: i64,
         destinations: &[u32],
     ) -> Result<(), AllocError>
@@ -151,8 +151,8 @@ impl Accumulator {
     pub(crate) fn join_changes(
         &mut self,
         reduction: Reduction,
-        opening: Opening<'_>,
-        numbers: &[Change],
+        opening: InitialEntries<'_>,
+        numbers: &[EntryChange],
     ) -> Result<(), AllocError>
         ensures { OnOk result (AreJoined opening.entry reduction self.old self.new (numbers_of numbers.now)) }
     {
@@ -167,7 +167,7 @@ impl Accumulator {
     fn join(
         &mut self,
         reduction: Reduction,
-        opening: Opening<'_>,
+        opening: InitialEntries<'_>,
         vertex: u32,
         number: i64,
     ) -> Result<(), AllocError>
@@ -185,7 +185,7 @@ impl Accumulator {
     fn join_beyond(
         &mut self,
         reduction: Reduction,
-        opening: Opening<'_>,
+        opening: InitialEntries<'_>,
         vertex: u32,
         number: i64,
     ) -> Result<(), AllocError>
@@ -200,7 +200,7 @@ impl Accumulator {
     fn join_inside(
         &mut self,
         reduction: Reduction,
-        opening: Opening<'_>,
+        opening: InitialEntries<'_>,
         vertex: u32,
         number: i64,
     ) -> Result<(), AllocError>

@@ -8,14 +8,14 @@ ghost use Rattle.kernels.specs.Kernels.{passes_at};
 ghost use Rattle.edge_fold.specs.Ends.{IsFilterTest, IsTest};
 
 use crate::functions::Functions;
-use kernels::{Around, Block, End, FilterKernel};
+use kernels::{Around, Block, EndpointFilter, FilterKernel};
 use std::alloc::AllocError;
 use vertex_sets::VertexSet;
 
 /// Adds those vertices that an end lets through, in their order. The only error is out of memory.
 pub(crate) fn keep_passing(
     functions: Functions<'_>,
-    end: End<'_>,
+    end: EndpointFilter<'_>,
     vertices: &[u32],
     block: &mut Block,
     kept: &mut Vec<u32>,
@@ -24,8 +24,8 @@ pub(crate) fn keep_passing(
         → kept.new.items ≡ kept.old.items ++ filter test vertices.now) }
 {
     match end {
-        End::Members(set) => keep_members(set, vertices, kept),
-        End::Filter(kernel) => keep_filtered(functions, kernel, vertices, block, kept),
+        EndpointFilter::Members(set) => keep_members(set, vertices, kept),
+        EndpointFilter::Filter(kernel) => keep_filtered(functions, kernel, vertices, block, kept),
     }
 }
 

@@ -4,13 +4,13 @@ ghost use Rattle.std.specs.Prelude.{◌≡◌, ℕ, ◌<◌, ◌≤◌, ◌++◌
 use crate::functions::Functions;
 use crate::pairs::Pairs;
 use crate::run::run_functions;
-use crate::slot::Slots;
+use crate::vector_accumulator::VectorAccumulators;
 use kernels::Block;
 use std::alloc::{AllocError, Global};
 
 /// Memory for applies of edge functions, kept from one to the next.
 pub struct Scratch {
-    pub(crate) slots: Slots,
+    pub(crate) slots: VectorAccumulators,
     pub(crate) pairs: Pairs,
     pub(crate) block: Block,
 }
@@ -37,7 +37,7 @@ impl Scratch {
         ensures { (f : Functions) (m : StateValue) (steps : List StepsTree) → HasFolded f m steps [] result }
     {
         Scratch {
-            slots: Slots::new(alloc),
+            slots: VectorAccumulators::new(alloc),
             pairs: Pairs::new(),
             block: Block::new(alloc),
         }

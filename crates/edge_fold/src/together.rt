@@ -10,7 +10,7 @@ ghost use Rattle.edge_fold.specs.Given.{all_given};
 ghost use Rattle.edge_fold.specs.Together.{IsTogether};
 
 use crate::functions::{Functions, Sent};
-use crate::numbers::{OneNumber, OwnEntry, OwnEntryPlus, OwnNumber, reduce_numbers};
+use crate::source_numbers::{OneNumber, OwnEntry, OwnEntryPlus, OwnNumber, reduce_numbers};
 use kernels::Shape;
 
 impl Functions<'_> {

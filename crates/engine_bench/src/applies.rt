@@ -7,7 +7,7 @@ use crate::samples::Sample;
 use algorithm_meaning::{NamedVector, Outcome};
 use apply_options::{DenseVertexSet, Direction, Parallelization};
 use edge_fold::Scratch;
-use kernels::{EdgeKernel, End, FilterKernel};
+use kernels::{EdgeKernel, EndpointFilter, FilterKernel};
 use measuring::Random;
 use plain_run::plain_run;
 use pull_engine::pull;
@@ -106,7 +106,7 @@ fn print_case(
     case: Case,
     scratch: &mut Scratch,
 ) -> io::Result<()> {
-    let work = Work::new(rt.alloc(), random, case)?;
+    let work = ApplyInput::new(rt.alloc(), random, case)?;
     let mut count = 0u32;
     for body in &FUNCTIONS {
         count = count.wrapping_add(work.compare_function(rt.alloc(), body, scratch)?);
@@ -116,16 +116,16 @@ fn print_case(
 }
 
 // A random graph, a random set, the sizes of a program's sets, and its vectors before the apply.
-struct Work {
+struct ApplyInput {
     sample: Sample,
     set: VertexSet,
     sizes: [i64; 2],
     before: Vectors,
 }
 
-impl Drop for Work {
+impl Drop for ApplyInput {
     fn drop(self) {
-        let Work {
+        let ApplyInput {
             sample: _,
             set: _,
             sizes: _,
@@ -134,12 +134,12 @@ impl Drop for Work {
     }
 }
 
-impl Work {
-    fn new(alloc: Global, random: &mut Random, case: Case) -> io::Result<Work> {
+impl ApplyInput {
+    fn new(alloc: Global, random: &mut Random, case: Case) -> io::Result<ApplyInput> {
         let (vertices, edges, form, every) = case;
         let sample = Sample::new(alloc, random, vertices, edges)?;
         let set = some_vertices(alloc, random, vertices, form, every)?;
-        Ok(Work {
+        Ok(ApplyInput {
             sample,
             sizes: [i64::from(vertices), i64::try_from(set.len()).unwrap_or(0)],
             set,
@@ -229,7 +229,7 @@ impl Tried {
 // An apply that is done in many ways, its ends, and the vector whose changes are asked for.
 #[derive(Clone, Copy)]
 struct Trial<'a> {
-    work: &'a Work,
+    work: &'a ApplyInput,
     tried: &'a Tried,
     ends: (Side, Side),
     vector: usize,
@@ -315,11 +315,11 @@ impl<'a> Trial<'a> {
         }
     }
 
-    fn end(self, side: Side) -> Option<End<'a>> {
+    fn end(self, side: Side) -> Option<EndpointFilter<'a>> {
         match side {
             Side::None => None,
-            Side::Members => Some(End::Members(&self.work.set)),
-            Side::Filter => Some(End::Filter(&self.tried.filter)),
+            Side::Members => Some(EndpointFilter::Members(&self.work.set)),
+            Side::Filter => Some(EndpointFilter::Filter(&self.tried.filter)),
         }
     }
 }

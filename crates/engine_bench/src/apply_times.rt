@@ -4,8 +4,8 @@ use crate::kernels_of::edge_kernel;
 use apply_options::{DenseVertexSet, Direction, Parallelization};
 use edge_fold::Scratch;
 use flat_snapshot::Flat;
-use kernels::{EdgeKernel, End};
-use measuring::{Job, Random, Turns, print_head, print_row, told};
+use kernels::{EdgeKernel, EndpointFilter};
+use measuring::{Benchmark, Random, Turns, print_head, print_row, told};
 use push_engine::Apply;
 use runner::push_or_pull;
 use std::alloc::{AllocError, Global};
@@ -55,7 +55,7 @@ fn print_flat<'a>(
     frontier: &'a VertexSet,
 ) -> io::Result<()> {
     let kernel = edge_kernel(rt.alloc(), PROGRAM, 0)?;
-    let mut work = Work {
+    let mut work = PushBenchmark {
         flat,
         apply: push_of(&kernel, frontier),
         vectors: own_numbers(rt.alloc(), flat.vertices())?,
@@ -66,16 +66,16 @@ fn print_flat<'a>(
 }
 
 // An apply, of which nothing is written, and the memory that it keeps.
-struct Work<'a> {
+struct PushBenchmark<'a> {
     flat: &'a Flat,
     apply: Apply<'a>,
     vectors: Vectors,
     scratch: Scratch,
 }
 
-impl Drop for Work<'_> {
+impl Drop for PushBenchmark<'_> {
     fn drop(self) {
-        let Work {
+        let PushBenchmark {
             flat: _,
             apply: _,
             vectors: _,
@@ -84,7 +84,7 @@ impl Drop for Work<'_> {
     }
 }
 
-impl Work<'_> {
+impl PushBenchmark<'_> {
     fn changes(&mut self, alloc: Global) -> Result<Changes, AllocError> {
         push_or_pull(
             alloc,
@@ -97,7 +97,7 @@ impl Work<'_> {
     }
 }
 
-impl Job for Work<'_> {
+impl Benchmark for PushBenchmark<'_> {
     type Row = ();
 
     fn items(&self, _row: ()) -> u64 {
@@ -111,7 +111,7 @@ impl Job for Work<'_> {
 
 fn push_of<'a>(kernel: &'a EdgeKernel, frontier: &'a VertexSet) -> Apply<'a> {
     Apply {
-        from: Some(End::Members(frontier)),
+        from: Some(EndpointFilter::Members(frontier)),
         to: None,
         first: kernel,
         second: None,

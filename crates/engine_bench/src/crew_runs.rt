@@ -2,7 +2,7 @@
 
 ghost use Rattle.std.specs.Prelude.{◌≡◌};
 
-use crew::{CrewError, Found, Open, Share, Work, run_pieces};
+use crew::{CrewError, Found, Open, PieceAssignment, Work, run_pieces};
 use measuring::{Taken, Times, print_head, print_times as print_row};
 use std::alloc::{AllocError, Global};
 use std::io;
@@ -14,9 +14,9 @@ use std::time::Instant;
 const TURNS: u32 = 25;
 
 // The number of each piece.
-struct Numbers;
+struct PieceNumbers;
 
-impl Work for Numbers {
+impl Work for PieceNumbers {
     type Out = usize;
 
     type State = ();
@@ -40,12 +40,12 @@ impl Work for Numbers {
 #[derive(Clone, Copy)]
 enum Row {
     Threads,
-    Pieces(Share),
+    Pieces(PieceAssignment),
 }
 
-const CLAIMED: Row = Row::Pieces(Share::Claimed);
+const CLAIMED: Row = Row::Pieces(PieceAssignment::Claimed);
 
-const FIXED: Row = Row::Pieces(Share::Fixed);
+const FIXED: Row = Row::Pieces(PieceAssignment::Fixed);
 
 // The row, the pieces or threads, the workers, and how often it is done in a turn.
 const ROWS: [(&str, Row, usize, usize, u64); 14] = [
@@ -126,9 +126,9 @@ fn found<T: Threads + Sync>(
     threads: &T,
     pieces: usize,
     workers: usize,
-    share: Share,
+    share: PieceAssignment,
 ) -> io::Result<Vec<Found<usize>>> {
-    let (pieces, work, mut states) = (pieces.min(1_000_000), &Numbers, Vec::new(alloc));
+    let (pieces, work, mut states) = (pieces.min(1_000_000), &PieceNumbers, Vec::new(alloc));
     match run_pieces(
         threads,
         alloc,
@@ -146,11 +146,11 @@ fn found<T: Threads + Sync>(
 }
 
 // The pieces, the workers and the share of each run that is looked at.
-const RUNS: [(usize, usize, Share); 4] = [
-    (40, 2, Share::Claimed),
-    (40, 4, Share::Fixed),
-    (40, 7, Share::Claimed),
-    (1000, 64, Share::Fixed),
+const RUNS: [(usize, usize, PieceAssignment); 4] = [
+    (40, 2, PieceAssignment::Claimed),
+    (40, 4, PieceAssignment::Fixed),
+    (40, 7, PieceAssignment::Claimed),
+    (1000, 64, PieceAssignment::Fixed),
 ];
 
 /// Prints of some runs of pieces that each piece was found once, in order. Fails where one was not.

@@ -2,7 +2,7 @@
 
 use flat_snapshot::Flat;
 use measuring::{
-    Job, Turns, print_head, print_rows, random_graph, sum_by_blocks, sum_of, sum_of_tails,
+    Benchmark, Turns, print_head, print_rows, random_graph, sum_by_blocks, sum_of, sum_of_tails,
     tail_error,
 };
 use std::alloc::Global;
@@ -58,20 +58,20 @@ pub fn print_times(rt: &HostRuntime) -> io::Result<()> {
 }
 
 fn print_size(rt: &HostRuntime, vertices: u32, edges: u32) -> io::Result<()> {
-    let mut work = Work::new(rt.alloc(), vertices, edges)?;
+    let mut work = FlatBenchmark::new(rt.alloc(), vertices, edges)?;
     print_rows(rt, &ROWS, TURNS, &mut work)
 }
 
 // A graph, its flat, and the tails of its destinations in a plain list.
-struct Work {
+struct FlatBenchmark {
     graph: Graph,
     flat: Flat,
     tails: Vec<Tail>,
 }
 
-impl Drop for Work {
+impl Drop for FlatBenchmark {
     fn drop(self) {
-        let Work {
+        let FlatBenchmark {
             graph: _,
             flat: _,
             tails: _,
@@ -79,10 +79,10 @@ impl Drop for Work {
     }
 }
 
-impl Work {
-    fn new(alloc: Global, vertices: u32, edges: u32) -> io::Result<Work> {
+impl FlatBenchmark {
+    fn new(alloc: Global, vertices: u32, edges: u32) -> io::Result<FlatBenchmark> {
         let graph = random_graph(alloc, vertices, edges)?;
-        let mut work = Work {
+        let mut work = FlatBenchmark {
             flat: shared(Flat::of(alloc, &graph)?),
             graph,
             tails: Vec::new(alloc),
@@ -97,7 +97,7 @@ fn shared<T: Send + Sync>(value: T) -> T {
     value
 }
 
-impl Job for Work {
+impl Benchmark for FlatBenchmark {
     type Row = Row;
 
     // Vertices that have edges, vertices, or edges.

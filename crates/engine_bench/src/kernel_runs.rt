@@ -4,7 +4,7 @@ use crate::kernels_of::edge_kernel;
 use crate::pair_loops::{add_to_each, join, max_sources, min_entries, min_of_less};
 use apply_options::Reduction;
 use kernels::{Around, Block, EdgeKernel, Shape};
-use measuring::{Job, Random, Turns, print_head, print_row, rmat_edge};
+use measuring::{Benchmark, Random, Turns, print_head, print_row, rmat_edge};
 use std::alloc::{AllocError, Global};
 use std::io;
 use std::io::Error;
@@ -88,7 +88,7 @@ pub fn print_times(rt: &HostRuntime) -> io::Result<()> {
 }
 
 fn print_way(rt: &HostRuntime, name: &str, kind: Kind, way: Way) -> io::Result<()> {
-    let mut work = Work::new(rt.alloc(), kind)?;
+    let mut work = KernelBenchmark::new(rt.alloc(), kind)?;
     work.begin_anew();
     work.run_loop();
     let wanted = sum_of(&work.new);
@@ -108,7 +108,7 @@ fn sum_of(numbers: &[i64]) -> i64 {
 }
 
 // A function and its kernel, the pairs of a graph, the vectors before an apply, and the first vector after it.
-struct Work {
+struct KernelBenchmark {
     kind: Kind,
     kernel: EdgeKernel,
     sources: Vec<u32>,
@@ -120,9 +120,9 @@ struct Work {
     block: Block,
 }
 
-impl Drop for Work {
+impl Drop for KernelBenchmark {
     fn drop(self) {
-        let Work {
+        let KernelBenchmark {
             kind: _,
             kernel: _,
             sources: _,
@@ -136,9 +136,9 @@ impl Drop for Work {
     }
 }
 
-impl Work {
-    fn new(alloc: Global, kind: Kind) -> io::Result<Work> {
-        let mut work = Work {
+impl KernelBenchmark {
+    fn new(alloc: Global, kind: Kind) -> io::Result<KernelBenchmark> {
+        let mut work = KernelBenchmark {
             kind,
             kernel: edge_kernel(alloc, PROGRAM, kind.place())?,
             sources: Vec::new(alloc),
@@ -226,7 +226,7 @@ impl Work {
     }
 }
 
-impl Job for Work {
+impl Benchmark for KernelBenchmark {
     type Row = Way;
 
     fn items(&self, _way: Way) -> u64 {

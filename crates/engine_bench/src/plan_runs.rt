@@ -3,7 +3,7 @@
 use crate::run_programs::{PROGRAMS, SEARCHES_AND_LABELS, Scheduled};
 use crate::samples::Sample;
 use algorithm_meaning::Outcome;
-use measuring::{Job, Random, Turns, print_head, print_rows, rmat_graph};
+use measuring::{Benchmark, Random, Turns, print_head, print_rows, rmat_graph};
 use plain_run::plain_run;
 use run_comparison::{TestedProgram, shows_the_same};
 use runner::run_alone;
@@ -31,7 +31,7 @@ pub fn print_agreement(rt: &HostRuntime) -> io::Result<()> {
 
 fn print_graph(rt: &HostRuntime, sample: &Sample) -> io::Result<()> {
     for scheduled in &PROGRAMS {
-        let run = Run::new(rt.alloc(), sample, scheduled)?;
+        let run = PlanBenchmark::new(rt.alloc(), sample, scheduled)?;
         run.compare(rt.alloc())?;
     }
     let (vertices, count) = (sample.vertices, PROGRAMS.len() * BOUNDS.len());
@@ -82,34 +82,38 @@ fn print_graph_times(
             rt,
             rows,
             TURNS,
-            &mut Run::new(rt.alloc(), &sample, scheduled)?,
+            &mut PlanBenchmark::new(rt.alloc(), &sample, scheduled)?,
         )?;
     }
     Ok(())
 }
 
 // A program on a graph.
-struct Run<'a> {
+struct PlanBenchmark<'a> {
     program: TestedProgram,
     sample: &'a Sample,
 }
 
-impl Drop for Run<'_> {
+impl Drop for PlanBenchmark<'_> {
     fn drop(self) {
-        let Run {
+        let PlanBenchmark {
             program: _,
             sample: _,
         } = self;
     }
 }
 
-impl<'a> Run<'a> {
-    fn new(alloc: Global, sample: &'a Sample, scheduled: &Scheduled) -> io::Result<Run<'a>> {
+impl<'a> PlanBenchmark<'a> {
+    fn new(
+        alloc: Global,
+        sample: &'a Sample,
+        scheduled: &Scheduled,
+    ) -> io::Result<PlanBenchmark<'a>> {
         let mut text = String::new(alloc);
         text.push_str(scheduled.1)?;
         text.push_str(scheduled.2)?;
         match TestedProgram::of(alloc, text.as_bytes()) {
-            Some(program) => Ok(Run { program, sample }),
+            Some(program) => Ok(PlanBenchmark { program, sample }),
             None => Err(Error::other("a program is refused")),
         }
     }
@@ -139,7 +143,7 @@ impl<'a> Run<'a> {
     }
 }
 
-impl Job for Run<'_> {
+impl Benchmark for PlanBenchmark<'_> {
     type Row = Row;
 
     fn items(&self, _row: Row) -> u64 {

@@ -1,6 +1,6 @@
 //! Sets of vertices: how long they take to go over, to look in and to make.
 
-use measuring::{Job, Random, Turns, print_head, print_rows};
+use measuring::{Benchmark, Random, Turns, print_head, print_rows};
 use std::alloc::{AllocError, Global};
 use std::io;
 use vertex_sets::{Form, VertexSet};
@@ -58,12 +58,12 @@ pub fn print_times(rt: &HostRuntime) -> io::Result<()> {
 }
 
 fn print_spread(rt: &HostRuntime, spread: u32) -> io::Result<()> {
-    let mut work = Work::new(rt.alloc(), spread)?;
+    let mut work = VertexSetBenchmark::new(rt.alloc(), spread)?;
     print_rows(rt, &ROWS, TURNS, &mut work)
 }
 
 // A set in each form, and vertices to look for.
-struct Work {
+struct VertexSetBenchmark {
     passes: Vec<bool>,
     list: VertexSet,
     flags: VertexSet,
@@ -71,9 +71,9 @@ struct Work {
     sought: Vec<u32>,
 }
 
-impl Drop for Work {
+impl Drop for VertexSetBenchmark {
     fn drop(self) {
-        let Work {
+        let VertexSetBenchmark {
             passes: _,
             list: _,
             flags: _,
@@ -83,10 +83,10 @@ impl Drop for Work {
     }
 }
 
-impl Work {
-    fn new(alloc: Global, spread: u32) -> Result<Work, AllocError> {
+impl VertexSetBenchmark {
+    fn new(alloc: Global, spread: u32) -> Result<VertexSetBenchmark, AllocError> {
         let mut random = Random::new(SEED);
-        let mut work = Work {
+        let mut work = VertexSetBenchmark {
             passes: Vec::new(alloc),
             list: VertexSet::empty(alloc, VERTICES, Form::List)?,
             flags: VertexSet::empty(alloc, VERTICES, Form::List)?,
@@ -118,7 +118,7 @@ impl Work {
     }
 }
 
-impl Job for Work {
+impl Benchmark for VertexSetBenchmark {
     type Row = Row;
 
     fn items(&self, _row: Row) -> u64 {

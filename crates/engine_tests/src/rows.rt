@@ -14,7 +14,7 @@ use std::io::Error;
 use std::test::Fail;
 use tree_batch::{Batch, Entry, Graph};
 use typed_tree::{Sequence, Typed};
-use vectors::{Change, Changes, Vectors};
+use vectors::{Changes, EntryChange, Vectors};
 use vertex_sets::{Form, VertexSet};
 
 // The vectors w and x, which programs declare in this order.
@@ -188,7 +188,7 @@ fn pulled_pieces_of(
 }
 
 // The changes in x, and none in another vector.
-fn in_x(changes: &Changes) -> &[Change] {
+fn in_x(changes: &Changes) -> &[EntryChange] {
     match changes.vectors.first() {
         Some(of_vector) if of_vector.vector == X => of_vector.changes.as_slice(),
         _ => &[],
@@ -213,7 +213,7 @@ fn spreads_by_one(alloc: Global, way: Way, kernel: &EdgeKernel, flat: &Flat) -> 
     let mut steps = true;
     for vertex in [1, 2] {
         let changes = changes_of(alloc, way, kernel, flat, &vectors)?;
-        steps = steps && in_x(&changes) == [Change { vertex, number: 1 }].as_slice();
+        steps = steps && in_x(&changes) == [EntryChange { vertex, number: 1 }].as_slice();
         vectors.write(&changes);
     }
     let changes = changes_of(alloc, way, kernel, flat, &vectors)?;

@@ -1,7 +1,7 @@
 //! Runs of pieces by workers: who does which piece, and what the workers keep.
 ghost use Rattle.std.specs.Prelude.{◌≡◌, ◌*◌};
 
-use crew::{CrewError, Found, Gate, Share, Work, run_pieces};
+use crew::{CrewError, Found, Gate, PieceAssignment, Work, run_pieces};
 use std::alloc::{AllocError, Global};
 use std::sync::atomic::{AtomicU64, Ordering};
 use std::test::Fail;
@@ -58,7 +58,7 @@ impl Gate for Watch {
 // So many pieces, at most 1000, by workers that keep these states, and the digits of the watch.
 fn run<R: Threads + AllocGlobal + Sync>(
     rt: &R,
-    (pieces, workers, share): (usize, usize, Share),
+    (pieces, workers, share): (usize, usize, PieceAssignment),
     held: u64,
     states: &mut Vec<usize>,
 ) -> Result<(Vec<Found<usize>>, u64), CrewError> {
@@ -79,7 +79,7 @@ fn are_squares(found: &[Found<usize>], pieces: usize) -> bool {
 // Whether two runs find the squares, and the workers keep how many pieces they did in both.
 fn run_twice<R: Threads + AllocGlobal + Sync>(
     rt: &R,
-    (pieces, workers, share): (usize, usize, Share),
+    (pieces, workers, share): (usize, usize, PieceAssignment),
 ) -> Result<bool, CrewError> {
     let mut states = Vec::new(rt.alloc());
     run(rt, (pieces, workers, share), 0, &mut states)?;
@@ -92,8 +92,8 @@ fn run_twice<R: Threads + AllocGlobal + Sync>(
 #[test]
 fn pieces_are_found_in_order_and_states_kept(rt: HostRuntime) -> Result<(), Fail> {
     for (pieces, workers) in &[(0, 1), (0, 4), (1, 64), (5, 1), (5, 3), (1000, 64)] {
-        let claimed = run_twice(&rt, (*pieces, *workers, Share::Claimed))?;
-        let fixed = run_twice(&rt, (*pieces, *workers, Share::Fixed))?;
+        let claimed = run_twice(&rt, (*pieces, *workers, PieceAssignment::Claimed))?;
+        let fixed = run_twice(&rt, (*pieces, *workers, PieceAssignment::Fixed))?;
         assert!(rt; claimed && fixed, "{pieces} by {workers}");
     }
     Ok(())
@@ -103,14 +103,19 @@ fn pieces_are_found_in_order_and_states_kept(rt: HostRuntime) -> Result<(), Fail
 fn workers_are_1_to_64(rt: HostRuntime) {
     for workers in [0, 65] {
         let mut states = Vec::new(rt.alloc());
-        let refused = run(&rt, (5, workers, Share::Claimed), 0, &mut states);
+        let refused = run(&rt, (5, workers, PieceAssignment::Claimed), 0, &mut states);
         assert!(rt; refused.is_err_and(|e| e.number() == 411), "{workers}");
     }
 }
 
 #[test]
 fn one_worker_claims_what_another_leaves(rt: HostRuntime) -> Result<(), Fail> {
-    let (_, digits) = run(&rt, (5, 2, Share::Claimed), 4, &mut Vec::new(rt.alloc()))?;
+    let (_, digits) = run(
+        &rt,
+        (5, 2, PieceAssignment::Claimed),
+        4,
+        &mut Vec::new(rt.alloc()),
+    )?;
     assert!(rt; digits < MISSED);
     Ok(())
 }
@@ -119,7 +124,7 @@ fn one_worker_claims_what_another_leaves(rt: HostRuntime) -> Result<(), Fail> {
 fn fixed_pieces_go_round_the_workers(rt: HostRuntime) -> Result<(), Fail> {
     for (workers, digits) in [(1, 1_111_111), (3, 1_231_231), (9, 1_234_567)] {
         let mut states = Vec::new(rt.alloc());
-        let (_, noted) = run(&rt, (7, workers, Share::Fixed), 0, &mut states)?;
+        let (_, noted) = run(&rt, (7, workers, PieceAssignment::Fixed), 0, &mut states)?;
         assert_eq!(rt; noted, digits, "by {workers}");
     }
     Ok(())

@@ -2,13 +2,13 @@
 use Rattle.std.proofs.Common.{◌≡◌, ◌≢◌, ◌<◌, ◌≤◌, ◌+◌, ℕ, List, [], ◌∷◌, ◌++◌, Some, None, length, drop, get_or, decimal, sym, ap, ◌∙◌, subst, append_assoc, append-nil}
 use Rattle.std.proofs.lemmas.List.{drop_all, drop_more}
 use Rattle.typed_tree.specs.ProgramTree.{ProgramTree}
-use Rattle.plans.specs.declared.depth.Depth.{Depth}
+use Rattle.algorithm_meaning.specs.declared.state.Depth.{Depth}
 use Rattle.plans.specs.Instruction.{OperationTree, InstructionTree}
 use Rattle.plan_text.specs.Words.{joined, spaced}
 use Rattle.plan_text.proofs.Spaces.{absurd_cons, spaced_append}
 use Rattle.plans.specs.declared.instruction.Instruction.{Instruction}
-use Rattle.plans.specs.declared.operation.Operation.{Operation}
-use Rattle.plans.specs.declared.operation.Operation.TheVariants as op
+use Rattle.plans.specs.declared.operation.PlanOperation.{PlanOperation}
+use Rattle.plans.specs.declared.operation.PlanOperation.TheVariants as op
 use Rattle.plans.specs.Operation.{AreInstructions, IsOperation}
 use Rattle.lowering.specs.Targets.{places_of}
 use Rattle.lowering.specs.Text.{AreWritten, IsWritten, instruction_line, instruction_lines, operation_words, target_words}
@@ -21,7 +21,7 @@ written_instructions p (i ∷ is) [] all = absurd all
 written_instructions p (i ∷ is) (t ∷ ts) all = (all.0.instruction, written_instructions p is ts all.1)
 
 -- an operation goes where its tree does
-pub target_words_of : (keep shown : Depth) (operation : Operation) (o : OperationTree) → IsOperation keep shown operation o → places_of operation ≡ target_words o
+pub target_words_of : (keep shown : Depth) (operation : PlanOperation) (o : OperationTree) → IsOperation keep shown operation o → places_of operation ≡ target_words o
 target_words_of keep shown (op.DeclareInteger name k) o h = ap target_words (sym h.is)
 target_words_of keep shown (op.DeclareCondition name k) o h = ap target_words (sym h.is)
 target_words_of keep shown (op.SetInteger slot k) o h = ap target_words (sym h.is)

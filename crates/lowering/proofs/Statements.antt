@@ -6,7 +6,7 @@ use Rattle.typed_tree.specs.ConditionTree.{ConditionTree}
 use Rattle.typed_tree.specs.BlockTree.{ActionTree, DeclareInteger, If, IfElse, While, For, BlockTree, Then, block_tree}
 use Rattle.typed_tree.specs.ProgramTree.{ProgramTree}
 use Rattle.apply_options.specs.ScheduleTree.{ScheduleTree}
-use Rattle.plans.specs.declared.depth.Depth.{Depth}
+use Rattle.algorithm_meaning.specs.declared.state.Depth.{Depth}
 use Rattle.plans.specs.Instruction.{InstructionTree, Do, Unless, Enter, UnlessBelow, Advance, Turn, Jump, End}
 use Rattle.plans.specs.Fusing.{company_of, takes_next}
 use Rattle.plans.specs.Plan.{behind, behind_all, in_loop, main_depth, plan_of, with_integer, plain, loop_step, plan_in, size_in, size, size_all, plan, plan_all}

@@ -5,8 +5,8 @@ use Rattle.apply_options.specs.declared.apply_schedule.ApplySchedule.{ApplySched
 use Rattle.apply_options.specs.ScheduleTree.{ScheduleTree}
 use Rattle.plans.specs.Instruction.{ResultTree, Dropped, Declared, Assigned, EdgePartTree, OperationTree, Do, ApplyEdgesTogether, ApplyVerticesTogether, Unless, Enter, UnlessBelow, Advance, Turn, Jump, End, InstructionTree}
 use Rattle.plans.specs.Plan.{plan_of}
-use Rattle.plan_text.specs.declared.part.ChangedSet.{ChangedSet}
-use Rattle.plan_text.specs.declared.part.Part.{Part}
+use Rattle.plan_text.specs.declared.applied_function.ChangedSet.{ChangedSet}
+use Rattle.plan_text.specs.declared.applied_function.AppliedFunction.{AppliedFunction}
 use Rattle.plan_text.specs.Lines.{advance_words, below_words, bound_words, edges_words, group_words, statement_words, unless_words, vertices_words}
 use Rattle.plan_text.specs.Words.{joined, spaced}
 use Rattle.plans.specs.declared.instruction.Instruction.{Instruction}
@@ -20,7 +20,7 @@ changed_set Dropped = None
 changed_set (Declared name vector) = Some (record { name = name; vector = vector })
 changed_set (Assigned slot vector) = Some (record { name = slot.name; vector = vector })
 
-abbrev pub shown_part : EdgePartTree → Part
+abbrev pub shown_part : EdgePartTree → AppliedFunction
 shown_part part = record { function = part.function; changed = changed_set part.result }
 
 -- the words of an operation, before the place that it may go to; an apply is done as the schedule says

@@ -1,6 +1,6 @@
 -- What is visible at a statement.
 use Rattle.std.specs.Prelude.{◌≤◌, vec_len}
-use Rattle.plans.specs.declared.depth.Depth.{Depth}
+use Rattle.algorithm_meaning.specs.declared.state.Depth.{Depth}
 use Rattle.lowering.specs.declared.visible.Visible.{Visible}
 
 -- how many of each kind

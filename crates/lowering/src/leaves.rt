@@ -18,14 +18,20 @@ ghost use Rattle.lowering.specs.Visible.{depth_of};
 use crate::blocks::Lowering;
 use crate::operations::{condition_kernel, integer_kernel, operation_of};
 use crate::visible::Visible;
+use algorithm_meaning::Depth;
 use apply_options::ApplySchedule;
-use plan_text::{ChangedSet, Lines, Part};
-use plans::{Depth, EdgePart, FusedPair, Instruction, Operation, PartResult};
+use plan_text::{AppliedFunction, ChangedSet, Lines};
+use plans::{EdgePart, FusedPair, Instruction, PartResult, PlanOperation};
 use std::alloc::AllocError;
 use typed_tree::{BoolExpression, IntExpression, MainStatement, StatementKind};
 
 /// An instruction at what is visible.
-pub(crate) fn plain(number: u64, depth: Depth, operation: Operation, words: Vec<u8>) -> Instruction
+pub(crate) fn plain(
+    number: u64,
+    depth: Depth,
+    operation: PlanOperation,
+    words: Vec<u8>,
+) -> Instruction
     ensures operation { result.operation ≡ operation }
     ensures number { result.number ≡ number }
     ensures keep { result.keep ≡ depth }
@@ -69,7 +75,7 @@ impl Lowering<'_> {
         }
         .put_unless(&mut words, c)?;
         let test = condition_kernel(self.alloc, c, depth)?;
-        Ok(plain(number, depth, Operation::Unless { test, to }, words))
+        Ok(plain(number, depth, PlanOperation::Unless { test, to }, words))
     }
 
     /// `turn`
@@ -83,7 +89,7 @@ impl Lowering<'_> {
             keep,
             shown,
             choice: ApplySchedule::none(),
-            operation: Operation::Turn,
+            operation: PlanOperation::Turn,
             words,
         })
     }
@@ -105,7 +111,7 @@ impl Lowering<'_> {
             keep,
             shown,
             choice: ApplySchedule::none(),
-            operation: Operation::Jump { to },
+            operation: PlanOperation::Jump { to },
             words,
         })
     }
@@ -119,7 +125,7 @@ impl Lowering<'_> {
             program: self.program,
         }
         .put_advance(&mut words, name)?;
-        Ok(plain(number, depth, Operation::Advance { name }, words))
+        Ok(plain(number, depth, PlanOperation::Advance { name }, words))
     }
 
     /// `unless [i i.end <] X`
@@ -143,7 +149,7 @@ impl Lowering<'_> {
             keep,
             shown,
             choice: ApplySchedule::none(),
-            operation: Operation::UnlessBelow { name, to },
+            operation: PlanOperation::UnlessBelow { name, to },
             words,
         })
     }
@@ -182,7 +188,7 @@ impl Lowering<'_> {
         Ok(plain(
             number,
             depth,
-            Operation::DeclareInteger { name, value },
+            PlanOperation::DeclareInteger { name, value },
             words,
         ))
     }
@@ -225,7 +231,7 @@ impl Lowering<'_> {
             keep,
             shown,
             choice: ApplySchedule::none(),
-            operation: Operation::Enter { name, end },
+            operation: PlanOperation::Enter { name, end },
             words,
         })
     }
@@ -240,7 +246,7 @@ impl Lowering<'_> {
         ensures { IfOk result (λ place. KeepsPlace code.old.items code.new.items place) }
     {
         let place = code.len();
-        code.push(plain(number, depth, Operation::End, Vec::new(self.alloc)))?;
+        code.push(plain(number, depth, PlanOperation::End, Vec::new(self.alloc)))?;
         Ok(place)
     }
 
@@ -437,7 +443,7 @@ impl Lowering<'_> {
 }
 
 /// What two applies that are done together do.
-fn operation_of_pair(pair: FusedPair) -> Operation
+fn operation_of_pair(pair: FusedPair) -> PlanOperation
     ensures { (keep shown : Depth) → IsOperation keep shown result (together_tree pair) }
 {
     match pair {
@@ -445,12 +451,12 @@ fn operation_of_pair(pair: FusedPair) -> Operation
             ends,
             first,
             second,
-        } => Operation::ApplyEdges {
+        } => PlanOperation::ApplyEdges {
             ends,
             first,
             second: Some(second),
         },
-        FusedPair::Vertices { set, first, second } => Operation::ApplyVertices {
+        FusedPair::Vertices { set, first, second } => PlanOperation::ApplyVertices {
             set,
             first,
             second: Some(second),
@@ -459,7 +465,7 @@ fn operation_of_pair(pair: FusedPair) -> Operation
 }
 
 /// An edge function as the plan's text names it.
-fn part_of(part: EdgePart) -> Part
+fn part_of(part: EdgePart) -> AppliedFunction
     ensures { result ≡ shown_part (part_tree part) }
 {
     let changed = match part.result {
@@ -470,7 +476,7 @@ fn part_of(part: EdgePart) -> Part
             vector,
         }),
     };
-    Part {
+    AppliedFunction {
         function: part.function,
         changed,
     }

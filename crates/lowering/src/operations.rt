@@ -6,13 +6,14 @@ ghost use Rattle.typed_tree.specs.IntegerTree.{integer_tree};
 ghost use Rattle.kernels.specs.Expressions.{IsConditionKernel, IsIntegerKernel};
 ghost use Rattle.plans.specs.Fusing.{EdgeApplyTree, edge_apply_of as edge_apply_in};
 ghost use Rattle.plans.specs.Instruction.{Do};
-ghost use Rattle.plans.specs.Members.{set_value};
+ghost use Rattle.plans.specs.SetExpression.{set_value};
 ghost use Rattle.plans.specs.Operation.{IsFor, IsOperation};
 ghost use Rattle.lowering.specs.Kinds.{HasNoBlock, IsModified, IsOnSets, IsOther};
 
 use crate::fusing::edge_apply_of;
+use algorithm_meaning::Depth;
 use kernels::ExpressionKernel;
-use plans::{Depth, Members, Operation};
+use plans::{PlanOperation, SetExpression};
 use std::alloc::{AllocError, Global};
 use typed_tree::{BoolExpression, IntExpression, SetValue, StatementKind};
 
@@ -45,29 +46,29 @@ pub(crate) fn operation_of(
     alloc: Global,
     action: &StatementKind,
     depth: Depth,
-) -> Result<Operation, AllocError>
+) -> Result<PlanOperation, AllocError>
     ensures { IfOk result (λ o. HasNoBlock (action_tree action.now) → IsOperation depth depth o (Do (action_tree action.now))) }
 {
     match action {
         StatementKind::DeclareInteger(name, e) => {
             let value = integer_kernel(alloc, e, depth)?;
-            Ok(Operation::DeclareInteger { name: *name, value })
+            Ok(PlanOperation::DeclareInteger { name: *name, value })
         }
         StatementKind::DeclareCondition(name, c) => {
             let value = condition_kernel(alloc, c, depth)?;
-            Ok(Operation::DeclareCondition { name: *name, value })
+            Ok(PlanOperation::DeclareCondition { name: *name, value })
         }
         StatementKind::SetInteger(slot, e) => {
             let value = integer_kernel(alloc, e, depth)?;
-            Ok(Operation::SetInteger { slot: *slot, value })
+            Ok(PlanOperation::SetInteger { slot: *slot, value })
         }
         StatementKind::SetCondition(slot, c) => {
             let value = condition_kernel(alloc, c, depth)?;
-            Ok(Operation::SetCondition { slot: *slot, value })
+            Ok(PlanOperation::SetCondition { slot: *slot, value })
         }
         StatementKind::ReduceInteger(slot, reduction, e) => {
             let value = integer_kernel(alloc, e, depth)?;
-            Ok(Operation::ReduceInteger {
+            Ok(PlanOperation::ReduceInteger {
                 slot: *slot,
                 reduction: *reduction,
                 value,
@@ -75,7 +76,7 @@ pub(crate) fn operation_of(
         }
         StatementKind::PrintCondition(c) => {
             let value = condition_kernel(alloc, c, depth)?;
-            Ok(Operation::PrintCondition { value })
+            Ok(PlanOperation::PrintCondition { value })
         }
         StatementKind::SetEntry(_, _, _)
         | StatementKind::ReduceEntry(_, _, _, _)
@@ -88,7 +89,7 @@ pub(crate) fn operation_of(
         StatementKind::If(_, _)
         | StatementKind::IfElse(_, _, _)
         | StatementKind::While(_, _)
-        | StatementKind::For(_, _, _, _) => Ok(Operation::End),
+        | StatementKind::For(_, _, _, _) => Ok(PlanOperation::End),
     }
 }
 
@@ -97,14 +98,14 @@ fn other_operation(
     alloc: Global,
     action: &StatementKind,
     depth: Depth,
-) -> Result<Operation, AllocError>
+) -> Result<PlanOperation, AllocError>
     ensures { IfOk result (λ o. IsOther (action_tree action.now) → IsOperation depth depth o (Do (action_tree action.now))) }
 {
     match action {
         StatementKind::SetEntry(vector, index, e) => {
             let index = integer_kernel(alloc, index, depth)?;
             let value = integer_kernel(alloc, e, depth)?;
-            Ok(Operation::SetEntry {
+            Ok(PlanOperation::SetEntry {
                 vector: *vector,
                 index,
                 value,
@@ -113,7 +114,7 @@ fn other_operation(
         StatementKind::ReduceEntry(vector, index, reduction, e) => {
             let index = integer_kernel(alloc, index, depth)?;
             let value = integer_kernel(alloc, e, depth)?;
-            Ok(Operation::ReduceEntry {
+            Ok(PlanOperation::ReduceEntry {
                 vector: *vector,
                 index,
                 reduction: *reduction,
@@ -122,75 +123,75 @@ fn other_operation(
         }
         StatementKind::AddVertex(slot, e) => {
             let vertex = integer_kernel(alloc, e, depth)?;
-            Ok(Operation::AddVertex {
+            Ok(PlanOperation::AddVertex {
                 slot: *slot,
                 vertex,
             })
         }
         StatementKind::PrintInteger(e) => {
             let value = integer_kernel(alloc, e, depth)?;
-            Ok(Operation::PrintInteger { value })
+            Ok(PlanOperation::PrintInteger { value })
         }
         StatementKind::DeclareSet(_, _)
         | StatementKind::AssignSet(_, _)
         | StatementKind::ApplyVertex(_, _)
         | StatementKind::ApplyEdges(_, _) => Ok(set_operation(action)),
-        _ => Ok(Operation::End),
+        _ => Ok(PlanOperation::End),
     }
 }
 
 /// The same of a statement on a vertex set, and of an apply.
-fn set_operation(action: &StatementKind) -> Operation
+fn set_operation(action: &StatementKind) -> PlanOperation
     ensures { (keep shown : Depth) → IsOnSets (action_tree action.now) → IsOperation keep shown result (Do (action_tree action.now)) }
 {
     match action {
-        StatementKind::ApplyVertex(set, function) => Operation::ApplyVertices {
+        StatementKind::ApplyVertex(set, function) => PlanOperation::ApplyVertices {
             set: *set,
             first: *function,
             second: None,
         },
         StatementKind::DeclareSet(name, value) => match members_of(*value) {
-            Some(members) => Operation::DeclareSet {
+            Some(members) => PlanOperation::DeclareSet {
                 name: *name,
                 members,
             },
             None => edge_operation(action),
         },
         StatementKind::AssignSet(slot, value) => match members_of(*value) {
-            Some(members) => Operation::AssignSet {
+            Some(members) => PlanOperation::AssignSet {
                 slot: *slot,
                 members,
             },
             None => edge_operation(action),
         },
         StatementKind::ApplyEdges(_, _) => edge_operation(action),
-        _ => Operation::End,
+        _ => PlanOperation::End,
     }
 }
 
 /// The edge apply that a statement is.
-fn edge_operation(action: &StatementKind) -> Operation
+fn edge_operation(action: &StatementKind) -> PlanOperation
     ensures { (keep shown : Depth) (x : EdgeApplyTree) → edge_apply_in (action_tree action.now) ≡ Some x → IsOperation keep shown result (Do (action_tree action.now)) }
 {
     match edge_apply_of(action) {
-        Some(apply) => Operation::ApplyEdges {
+        Some(apply) => PlanOperation::ApplyEdges {
             ends: apply.ends,
             first: apply.part,
             second: None,
         },
-        None => Operation::End,
+        None => PlanOperation::End,
     }
 }
 
 /// What a set gets that gets nothing of an apply.
-fn members_of(value: SetValue) -> Option<Members>
+fn members_of(value: SetValue) -> Option<SetExpression>
     ensures { MatchOption result (IsModified value) (λ m. value ≡ set_value m) }
 {
     match value {
-        SetValue::Empty => Some(Members::Nothing),
-        SetValue::All => Some(Members::All),
-        SetValue::Copy(slot) => Some(Members::Copy(slot)),
-        SetValue::Filter(slot, function) => Some(Members::Filter(slot, function)),
+        SetValue::Empty => Some(SetExpression::Nothing),
+        SetValue::All => Some(SetExpression::All),
+        SetValue::Copy(slot) => Some(SetExpression::Copy(slot)),
+        SetValue::Filter(slot, function) => Some(SetExpression::Filter(slot, function)),
         SetValue::Modified(_, _, _) => None,
     }
 }

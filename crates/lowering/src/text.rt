@@ -9,7 +9,7 @@ ghost use Rattle.lowering.specs.Text.{HasText, IsWritten, instruction_line, text
 
 use decimal::push_number;
 use plan_text::end_line;
-use plans::{Instruction, Operation, Plan};
+use plans::{Instruction, Plan, PlanOperation};
 use std::alloc::{AllocError, Global};
 
 /// The text of a plan: a line `fields` with names for each group of vectors, in the order of the schedule; then a line for
@@ -39,15 +39,16 @@ fn put_line(text: &mut Vec<u8>, place: u64, instruction: &Instruction) -> Result
 }
 
 /// The number of the instruction that an operation may go to.
-fn put_target(text: &mut Vec<u8>, operation: &Operation) -> Result<(), AllocError>
+fn put_target(text: &mut Vec<u8>, operation: &PlanOperation) -> Result<(), AllocError>
     ensures { OnOk result (text.new.items ≡ text.old.items ++ spaced (places_of operation.now)) }
 {
     match operation {
-        Operation::Unless { to, .. } | Operation::UnlessBelow { to, .. } | Operation::Jump { to } =>
-            {
-                push_number(text, *to as u64)?;
-                text.push(b' ')?;
-            }
+        PlanOperation::Unless { to, .. }
+        | PlanOperation::UnlessBelow { to, .. }
+        | PlanOperation::Jump { to } => {
+            push_number(text, *to as u64)?;
+            text.push(b' ')?;
+        }
         _ => {}
     }
     Ok(())

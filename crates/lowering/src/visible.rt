@@ -4,7 +4,7 @@ ghost use Rattle.typed_tree.specs.BlockTree.{action_tree};
 ghost use Rattle.plans.specs.Plan.{behind, with_integer};
 ghost use Rattle.lowering.specs.Visible.{IsWithin, depth_of};
 
-use plans::Depth;
+use algorithm_meaning::Depth;
 use std::alloc::{AllocError, Global};
 use typed_tree::StatementKind;
 

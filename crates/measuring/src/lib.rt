@@ -4,16 +4,16 @@
 //! It promises to be safe and to end, and no more; only programs that measure stand on it.
 #![tactic(auto)]
 
+mod arguments;
 mod graphs;
 mod random;
 mod table;
 mod tails;
 mod timing;
-mod words;
 
+pub use arguments::{Arguments, is_printed, status_of, words_of};
 pub use graphs::{random_batch, random_graph, rmat_edge, rmat_graph, told};
 pub use random::Random;
 pub use table::{print_head, print_row, print_rows, print_times};
 pub use tails::{sum_by_blocks, sum_of, sum_of_tails, tail_error};
-pub use timing::{Job, Taken, Times, Turns, nanos_since, times_of};
-pub use words::{Words, is_printed, status_of, words_of};
+pub use timing::{Benchmark, Taken, Times, Turns, nanos_since, times_of};

@@ -1,6 +1,6 @@
 //! Tables of times.
 
-use crate::timing::{Job, Times, Turns, times_of};
+use crate::timing::{Benchmark, Times, Turns, times_of};
 use std::io;
 
 /// Prints the head of a table: what its rows are, and what `print_times` prints of each.
@@ -18,7 +18,7 @@ pub fn print_times(rt: &HostRuntime, name: &str, items: u64, times: Times) -> io
 }
 
 /// Times some kinds of a job and prints a row for each.
-pub fn print_rows<J: Job>(
+pub fn print_rows<J: Benchmark>(
     rt: &HostRuntime,
     rows: &[(&str, J::Row)],
     turns: Turns,
@@ -31,7 +31,7 @@ pub fn print_rows<J: Job>(
 }
 
 /// Times a kind of a job and prints its row. Gives what it came to.
-pub fn print_row<J: Job>(
+pub fn print_row<J: Benchmark>(
     rt: &HostRuntime,
     name: &str,
     turns: Turns,

@@ -6,7 +6,7 @@ use std::rt::Clock;
 use std::time::Instant;
 
 /// Work of one kind or of several, which is done again and again.
-pub trait Job {
+pub trait Benchmark {
     /// Its kinds, each a row of a table.
     type Row: Copy;
 
@@ -99,7 +99,7 @@ pub fn nanos_since<C: Clock>(clock: &C, start: Instant) -> io::Result<u64> {
 }
 
 /// Does a row of a job so often.
-pub fn times_of<J: Job>(
+pub fn times_of<J: Benchmark>(
     rt: &HostRuntime,
     turns: Turns,
     job: &mut J,
@@ -112,7 +112,7 @@ pub fn times_of<J: Job>(
     taken.times()
 }
 
-fn add_turn<J: Job>(
+fn add_turn<J: Benchmark>(
     rt: &HostRuntime,
     rounds: u64,
     job: &mut J,
@@ -125,7 +125,7 @@ fn add_turn<J: Job>(
     taken.add(rt, start, rounds, found)
 }
 
-fn done<J: Job>(rt: &HostRuntime, rounds: u64, job: &mut J, row: J::Row) -> io::Result<u64> {
+fn done<J: Benchmark>(rt: &HostRuntime, rounds: u64, job: &mut J, row: J::Row) -> io::Result<u64> {
     let mut found = 0;
     for _ in 0..rounds {
         found = job.run(rt, row)?;

@@ -4,7 +4,7 @@ use Rattle.typed_tree.specs.IntegerTree.{IntegerTree}
 use Rattle.typed_tree.specs.ConditionTree.{ConditionTree}
 use Rattle.typed_tree.specs.BlockTree.{BlockTree, If, IfElse, For}
 use Rattle.typed_tree.specs.ProgramTree.{ProgramTree}
-use Rattle.algorithm_meaning.specs.declared.state.Bounds.{Bounds}
+use Rattle.algorithm_meaning.specs.declared.state.LoopCounter.{LoopCounter}
 use Rattle.algorithm_meaning.specs.State.{GraphValue, StateValue}
 use Rattle.algorithm_meaning.specs.Stand.{Live, choice_in, with_value, choose}
 use Rattle.algorithm_meaning.specs.Loop.{inside, after_for, bounds_in}
@@ -23,7 +23,7 @@ after-IfElse p g number c body other s b h =
     ap (λ (o : Option Bool). with_value o number s (λ b. choose b (inside (after_all p g body) s) (inside (after_all p g other) s))) h
 
 -- `for` with its bounds
-pub after-For : (p : ProgramTree) (g : GraphValue) (number name : ℕ) (first end : IntegerTree) (body : BlockTree) (s : StateValue) (r : Bounds)
+pub after-For : (p : ProgramTree) (g : GraphValue) (number name : ℕ) (first end : IntegerTree) (body : BlockTree) (s : StateValue) (r : LoopCounter)
     → bounds_in g.vertices first end s ≡ Some r → after p g number (For name first end body) s ≡ after_for number (after_all p g body) r s
 after-For p g number name first end body s r h =
-    ap (λ (o : Option Bounds). with_value o number s (λ r. after_for number (after_all p g body) r s)) h
+    ap (λ (o : Option LoopCounter). with_value o number s (λ r. after_for number (after_all p g body) r s)) h

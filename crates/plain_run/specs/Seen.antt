@@ -4,22 +4,22 @@ use Rattle.typed_tree.specs.declared.function.FunctionStatement.{FunctionStateme
 use Rattle.typed_tree.specs.declared.function.FunctionStatement.TheVariants as step
 use Rattle.typed_tree.specs.declared.statement.StatementKind.{StatementKind}
 use Rattle.typed_tree.specs.declared.statement.StatementKind.TheVariants as rust
-use Rattle.plain_run.specs.declared.state.Graph.{Graph}
-use Rattle.plain_run.specs.declared.state.Scope.{Scope}
-use Rattle.plain_run.specs.declared.state.State.{State}
+use Rattle.plain_run.specs.declared.state.EdgeList.{EdgeList}
+use Rattle.plain_run.specs.declared.state.Environment.{Environment}
+use Rattle.plain_run.specs.declared.state.InterpreterState.{InterpreterState}
 use Rattle.algorithm_meaning.specs.declared.outcome.End.{End}
-use Rattle.plain_run.specs.declared.function.Work.{Work}
+use Rattle.plain_run.specs.declared.function.FunctionFrame.{FunctionFrame}
 use Rattle.algorithm_meaning.specs.Function.{WorkValue}
 use Rattle.algorithm_meaning.specs.State.{GraphValue, ScopeValue, StateValue}
 use Rattle.algorithm_meaning.specs.Stand.{Stand, Live, Over}
 
-abbrev pub graph_of : Graph → GraphValue
+abbrev pub graph_of : EdgeList → GraphValue
 graph_of g = record { vertices = g.vertices; edges = g.edges.now }
 
-abbrev pub scope_of : Scope → ScopeValue
+abbrev pub scope_of : Environment → ScopeValue
 scope_of s = record { integers = s.integers.items; conditions = s.conditions.items; source = s.source; destination = s.destination }
 
-abbrev pub state_of : State → StateValue
+abbrev pub state_of : InterpreterState → StateValue
 state_of s = record { vectors = s.vectors.items; sets = s.sets.items; scope = scope_of s.scope; text = s.text.items; turns = s.turns }
 
 -- where a run stands: it goes on, or it has ended
@@ -44,7 +44,7 @@ IsOverSets (rust.ApplyEdges ends function) = Unit
 IsOverSets action = ⊥
 
 -- what a function works on
-abbrev pub work_of : List (List ℤ) → Work → WorkValue
+abbrev pub work_of : List (List ℤ) → FunctionFrame → WorkValue
 work_of vectors w = record { vectors = vectors; scope = scope_of w.scope; given = w.given.items }
 
 -- the statement of a function has no block

@@ -10,9 +10,9 @@ ghost use Rattle.plain_run.specs.Seen.{graph_of, state_of};
 use crate::entries::{copied, reduce_entry_at};
 use crate::evaluate::{entry_of, members_at};
 use crate::filter::filter_passes;
-use crate::function::{Work, begin, new_work, run_steps, steps_at};
-use crate::state::{Graph, State};
-use algorithm_meaning::{Contribution, VertexSet, Writing};
+use crate::function::{FunctionFrame, begin, new_work, run_steps, steps_at};
+use crate::state::{EdgeList, InterpreterState};
+use algorithm_meaning::{Contribution, SetBinding, Writing};
 use std::alloc::{AllocError, Global};
 use typed_tree::{ApplyEnds, Function, FunctionStatement, Sequence, VertexFilter};
 
@@ -37,10 +37,10 @@ pub(crate) fn apply_edges(
     alloc: Global,
     filters: &[Function],
     functions: &[Function],
-    graph: &Graph,
+    graph: &EdgeList,
     ends: ApplyEnds,
     function: usize,
-    state: &mut State,
+    state: &mut InterpreterState,
 ) -> Result<Vec<Sequence<i64>>, AllocError>
     ensures vectors { IfOk result (λ v. v.items
         ≡ after_edge_apply (map function_tree filters.now) (map function_tree functions.now) (graph_of graph.now) ends (function ∷ []) (state_of state.old)) }
@@ -55,7 +55,7 @@ pub(crate) fn apply_edges(
     };
     let mut after = copied(alloc, &state.vectors)?;
     let steps = steps_at(functions, function);
-    let State { vectors, sets, .. } = state;
+    let InterpreterState { vectors, sets, .. } = state;
     run_for_edges(
         alloc,
         steps,
@@ -74,7 +74,7 @@ fn run_for_edges(
     steps: &[FunctionStatement],
     passing: &Passing,
     edges: &[(u32, u32)],
-    sets: &[VertexSet],
+    sets: &[SetBinding],
     before: &mut Vec<Sequence<i64>>,
     after: &mut Vec<Sequence<i64>>,
 ) -> Result<(), AllocError>
@@ -107,11 +107,11 @@ fn flag_at(flags: &[bool], vertex: u32) -> bool
 
 fn run_for_edge(
     steps: &[FunctionStatement],
-    sets: &[VertexSet],
+    sets: &[SetBinding],
     edge: (u32, u32),
     before: &mut Vec<Sequence<i64>>,
     after: &mut Vec<Sequence<i64>>,
-    work: &mut Work,
+    work: &mut FunctionFrame,
 ) -> Result<(), AllocError>
     ensures after { OnOk result (after.new.items ≡ with_given edge.1 (gives (steps_tree steps.now) sets.now before.old.items edge) after.old.items) }
     ensures before { OnOk result (before.new.items ≡ before.old.items) }
@@ -135,9 +135,9 @@ fn put_given(given: &[Contribution], vertex: u32, vectors: &mut Vec<Sequence<i64
 fn flags_of(
     alloc: Global,
     filters: &[Function],
-    graph: &Graph,
+    graph: &EdgeList,
     end: Option<VertexFilter>,
-    state: &mut State,
+    state: &mut InterpreterState,
 ) -> Result<Vec<bool>, AllocError>
     ensures flags { IfOk result (λ f. HasFlags f.items (is_end (map function_tree filters.now) (graph_of graph.now) (state_of state.old) end)) }
     ensures state { OnOk result (state_of state.new ≡ state_of state.old) }
@@ -156,9 +156,9 @@ fn flags_of(
 fn flags_of_end(
     alloc: Global,
     filters: &[Function],
-    graph: &Graph,
+    graph: &EdgeList,
     end: VertexFilter,
-    state: &mut State,
+    state: &mut InterpreterState,
 ) -> Result<Vec<bool>, AllocError>
     ensures flags { IfOk result (λ f. HasFlags f.items (is_end (map function_tree filters.now) (graph_of graph.now) (state_of state.old) (Some end))) }
     ensures state { OnOk result (state_of state.new ≡ state_of state.old) }
@@ -204,7 +204,7 @@ fn flags_of_filter(
     alloc: Global,
     steps: &[FunctionStatement],
     vertices: u32,
-    sets: &[VertexSet],
+    sets: &[SetBinding],
     vectors: &mut Vec<Sequence<i64>>,
 ) -> Result<Vec<bool>, AllocError>
     ensures flags { IfOk result (λ f. f.items ≡ map (result_of (steps_tree steps.now) sets.now vectors.old.items) (range_with_len 0 vertices)) }

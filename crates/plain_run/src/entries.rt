@@ -10,7 +10,7 @@ ghost use Rattle.algorithm_meaning.specs.Value.{reduce_at, with_entry};
 
 use crate::evaluate::entry_of;
 use crate::read::{fault, number_of, vertex_of};
-use crate::state::State;
+use crate::state::InterpreterState;
 use algorithm_meaning::{Contribution, End, reduce};
 use apply_options::Reduction;
 use std::alloc::{AllocError, Global};
@@ -22,7 +22,7 @@ pub(crate) fn set_entry_in(
     e: &IntExpression,
     number: u64,
     vertices: u32,
-    state: &mut State,
+    state: &mut InterpreterState,
 ) -> Option<End>
     ensures meaning { stand result (state_of state.new)
         ≡ after_set_entry vertices number vector (integer_tree index.now) (integer_tree e.now) (state_of state.old) }
@@ -45,7 +45,7 @@ pub(crate) fn reduce_entry(
     e: &IntExpression,
     number: u64,
     vertices: u32,
-    state: &mut State,
+    state: &mut InterpreterState,
 ) -> Option<End>
     ensures meaning { stand result (state_of state.new)
         ≡ after_reduce_entry vertices number vector (integer_tree index.now) reduction (integer_tree e.now) (state_of state.old) }

@@ -11,8 +11,8 @@ ghost use Rattle.plain_run.specs.Chain.{conditions_stay_inside, conditions_truth
 ghost use Rattle.plain_run.specs.Seen.{scope_of};
 ghost use Rattle.algorithm_meaning.specs.Value.{condition_stays_inside, entry, entry_at, is_vertex, members_of, stays_inside, truth, value, vertex_at};
 
-use crate::state::Scope;
-use algorithm_meaning::{VertexSet, arithmetic_of, compare, connect, negate};
+use crate::state::Environment;
+use algorithm_meaning::{SetBinding, arithmetic_of, compare, connect, negate};
 use typed_tree::{BoolExpression, Connective, Endpoint, IntExpression, Operand, Sequence};
 
 /// The number that an expression comes to.
@@ -25,8 +25,8 @@ struct Total {
 pub(crate) fn evaluate(
     e: &IntExpression,
     vectors: &[Sequence<i64>],
-    sets: &[VertexSet],
-    scope: &Scope,
+    sets: &[SetBinding],
+    scope: &Environment,
 ) -> i64
     ensures { result ≡ value vectors.now sets.now (scope_of scope.now) (integer_tree e.now) }
 {
@@ -38,8 +38,8 @@ pub(crate) fn evaluate(
 fn total_of(
     e: &IntExpression,
     vectors: &[Sequence<i64>],
-    sets: &[VertexSet],
-    scope: &Scope,
+    sets: &[SetBinding],
+    scope: &Environment,
 ) -> Total
     ensures { result.number ≡ value vectors.now sets.now (scope_of scope.now) (integer_tree e.now) }
 {
@@ -100,8 +100,8 @@ fn before_operands(
     operands: &[Operand],
     left: Total,
     vectors: &[Sequence<i64>],
-    sets: &[VertexSet],
-    scope: &Scope,
+    sets: &[SetBinding],
+    scope: &Environment,
 ) -> Total
     ensures { result.number ≡ operands_value vectors.now sets.now (scope_of scope.now) left.number operands.now }
 {
@@ -127,8 +127,8 @@ fn combined(operand: &Operand, left: Total, right: Total) -> Total
 pub(crate) fn holds(
     c: &BoolExpression,
     vectors: &[Sequence<i64>],
-    sets: &[VertexSet],
-    scope: &Scope,
+    sets: &[SetBinding],
+    scope: &Environment,
 ) -> bool
     ensures { result ≡ truth vectors.now sets.now (scope_of scope.now) (condition_tree c.now) }
 {
@@ -167,8 +167,8 @@ fn before_conditions(
     connective: Connective,
     left: bool,
     vectors: &[Sequence<i64>],
-    sets: &[VertexSet],
-    scope: &Scope,
+    sets: &[SetBinding],
+    scope: &Environment,
 ) -> bool
     ensures { result ≡ conditions_truth vectors.now sets.now (scope_of scope.now) connective left conditions.now }
 {
@@ -187,8 +187,8 @@ pub(crate) fn is_inside(
     e: &IntExpression,
     vertices: u32,
     vectors: &[Sequence<i64>],
-    sets: &[VertexSet],
-    scope: &Scope,
+    sets: &[SetBinding],
+    scope: &Environment,
 ) -> bool
     ensures { result ≡ stays_inside vertices vectors.now sets.now (scope_of scope.now) (integer_tree e.now) }
 {
@@ -217,8 +217,8 @@ fn are_inside(
     operands: &[Operand],
     vertices: u32,
     vectors: &[Sequence<i64>],
-    sets: &[VertexSet],
-    scope: &Scope,
+    sets: &[SetBinding],
+    scope: &Environment,
 ) -> bool
     ensures { result ≡ operands_stay_inside vertices vectors.now sets.now (scope_of scope.now) operands.now }
 {
@@ -237,8 +237,8 @@ pub(crate) fn condition_is_inside(
     c: &BoolExpression,
     vertices: u32,
     vectors: &[Sequence<i64>],
-    sets: &[VertexSet],
-    scope: &Scope,
+    sets: &[SetBinding],
+    scope: &Environment,
 ) -> bool
     ensures { result ≡ condition_stays_inside vertices vectors.now sets.now (scope_of scope.now) (condition_tree c.now) }
 {
@@ -263,8 +263,8 @@ fn conditions_are_inside(
     conditions: &[BoolExpression],
     vertices: u32,
     vectors: &[Sequence<i64>],
-    sets: &[VertexSet],
-    scope: &Scope,
+    sets: &[SetBinding],
+    scope: &Environment,
 ) -> bool
     ensures { result ≡ conditions_stay_inside vertices vectors.now sets.now (scope_of scope.now) conditions.now }
 {
@@ -277,7 +277,7 @@ fn conditions_are_inside(
 }
 
 /// The variable at a place, 0 where there is none.
-pub(crate) fn integer_at(scope: &Scope, place: usize) -> i64
+pub(crate) fn integer_at(scope: &Environment, place: usize) -> i64
     ensures { result ≡ slice_index_or (scope_of scope.now).integers place (pos 0) }
 {
     match scope.integers.get(place) {
@@ -287,7 +287,7 @@ pub(crate) fn integer_at(scope: &Scope, place: usize) -> i64
 }
 
 /// The variable at a place, false where there is none.
-pub(crate) fn condition_at(scope: &Scope, place: usize) -> bool
+pub(crate) fn condition_at(scope: &Environment, place: usize) -> bool
     ensures { result ≡ slice_index_or (scope_of scope.now).conditions place false }
 {
     match scope.conditions.get(place) {
@@ -296,7 +296,7 @@ pub(crate) fn condition_at(scope: &Scope, place: usize) -> bool
     }
 }
 
-fn endpoint(scope: &Scope, at: Endpoint) -> u32
+fn endpoint(scope: &Environment, at: Endpoint) -> u32
     ensures { result ≡ vertex_at (scope_of scope.now) at }
 {
     match at {
@@ -336,7 +336,7 @@ fn names_vertex(vertices: u32, index: i64) -> bool
 }
 
 /// The members of the set at a place, none where there is no set.
-pub(crate) fn members_at(sets: &[VertexSet], place: usize) -> &[u32]
+pub(crate) fn members_at(sets: &[SetBinding], place: usize) -> &[u32]
     ensures { result.now ≡ members_of (slice_get sets.now place) }
 {
     match sets.get(place) {

@@ -5,8 +5,8 @@ ghost use Rattle.typed_tree.specs.StepTree.{function_tree, steps_tree};
 ghost use Rattle.algorithm_meaning.specs.Filter.{filtered, lets_through, result_of};
 
 use crate::evaluate::condition_at;
-use crate::function::{Work, begin_filter, new_work, run_steps, steps_at};
-use algorithm_meaning::{VertexSet, Writing};
+use crate::function::{FunctionFrame, begin_filter, new_work, run_steps, steps_at};
+use algorithm_meaning::{SetBinding, Writing};
 use std::alloc::{AllocError, Global};
 use typed_tree::{Function, FunctionStatement, Sequence};
 
@@ -15,7 +15,7 @@ pub(crate) fn filter_members(
     alloc: Global,
     filters: &[Function],
     function: usize,
-    sets: &[VertexSet],
+    sets: &[SetBinding],
     vectors: &mut Vec<Sequence<i64>>,
     vertices: &[u32],
 ) -> Result<Vec<u32>, AllocError>
@@ -36,10 +36,10 @@ pub(crate) fn filter_members(
 /// The result of a filter's statements at a vertex.
 pub(crate) fn filter_passes(
     steps: &[FunctionStatement],
-    sets: &[VertexSet],
+    sets: &[SetBinding],
     vertex: u32,
     vectors: &mut Vec<Sequence<i64>>,
-    work: &mut Work,
+    work: &mut FunctionFrame,
 ) -> Result<bool, AllocError>
     ensures passes { IfOk result (λ b. b ≡ result_of (steps_tree steps.now) sets.now vectors.old.items vertex) }
     ensures vectors { OnOk result (vectors.new.items ≡ vectors.old.items) }

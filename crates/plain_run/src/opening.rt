@@ -6,8 +6,8 @@ ghost use Rattle.plain_run.specs.Degrees.{counted, counted_once};
 ghost use Rattle.algorithm_meaning.specs.Meaning.{all_vertices, opening, opening_entries};
 ghost use Rattle.plain_run.specs.Seen.{graph_of, state_of};
 
-use crate::state::{Graph, Scope, State};
-use algorithm_meaning::{VertexSet, arithmetic_of};
+use crate::state::{EdgeList, Environment, InterpreterState};
+use algorithm_meaning::{SetBinding, arithmetic_of};
 use std::alloc::{AllocError, Global};
 use typed_tree::{InitialValue, Operator, Sequence, Typed, Vector};
 
@@ -15,15 +15,15 @@ use typed_tree::{InitialValue, Operator, Sequence, Typed, Vector};
 pub(crate) fn open(
     alloc: Global,
     program: &Typed,
-    graph: &Graph,
+    graph: &EdgeList,
     turns: u64,
-) -> Result<State, AllocError>
+) -> Result<InterpreterState, AllocError>
     ensures { IfOk result (λ s. state_of s ≡ opening (program_tree program.now) (graph_of graph.now) turns) }
 {
-    Ok(State {
+    Ok(InterpreterState {
         vectors: open_vectors(alloc, &program.vectors, graph)?,
         sets: open_sets(alloc, &program.sets, graph)?,
-        scope: Scope {
+        scope: Environment {
             integers: Vec::new(alloc),
             conditions: Vec::new(alloc),
             source: 0,
@@ -37,7 +37,7 @@ pub(crate) fn open(
 fn open_vectors(
     alloc: Global,
     vectors: &[Vector],
-    graph: &Graph,
+    graph: &EdgeList,
 ) -> Result<Vec<Sequence<i64>>, AllocError>
     ensures { IfOk result (λ v. v.items ≡ map (λ v. opening_entries (graph_of graph.now) v.beginning) vectors.now) }
 {
@@ -51,7 +51,7 @@ fn open_vectors(
 fn open_vector(
     alloc: Global,
     beginning: InitialValue,
-    graph: &Graph,
+    graph: &EdgeList,
 ) -> Result<Sequence<i64>, AllocError>
     ensures { IfOk result (λ v. v ≡ opening_entries (graph_of graph.now) beginning) }
 {
@@ -92,13 +92,17 @@ fn count_at(vertex: usize, degrees: &mut Vec<i64>)
     }
 }
 
-fn open_sets(alloc: Global, names: &[usize], graph: &Graph) -> Result<Vec<VertexSet>, AllocError>
+fn open_sets(
+    alloc: Global,
+    names: &[usize],
+    graph: &EdgeList,
+) -> Result<Vec<SetBinding>, AllocError>
     ensures { IfOk result (λ v. v.items ≡ map (all_vertices (graph_of graph.now)) names.now) }
 {
     let mut opened = Vec::new(alloc);
     'sets: for name in names {
         let members = Sequence::new(vertices_below(alloc, graph.vertices)?);
-        opened.push(VertexSet {
+        opened.push(SetBinding {
             name: *name,
             members,
         })?;

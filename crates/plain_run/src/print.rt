@@ -6,7 +6,7 @@ ghost use Rattle.algorithm_meaning.specs.Print.{after_print_condition, after_pri
 ghost use Rattle.plain_run.specs.Seen.{stand, state_of};
 
 use crate::read::{decide, fault, number_of};
-use crate::state::State;
+use crate::state::InterpreterState;
 use algorithm_meaning::End;
 use decimal::push_integer;
 use std::alloc::AllocError;
@@ -16,7 +16,7 @@ pub(crate) fn print_integer_in(
     e: &IntExpression,
     number: u64,
     vertices: u32,
-    state: &mut State,
+    state: &mut InterpreterState,
 ) -> Result<Option<End>, AllocError>
     ensures meaning { IfOk result (λ end. stand end (state_of state.new)
         ≡ after_print_integer vertices number (integer_tree e.now) (state_of state.old)) }
@@ -33,7 +33,7 @@ pub(crate) fn print_condition_in(
     c: &BoolExpression,
     number: u64,
     vertices: u32,
-    state: &mut State,
+    state: &mut InterpreterState,
 ) -> Result<Option<End>, AllocError>
     ensures meaning { IfOk result (λ end. stand end (state_of state.new)
         ≡ after_print_condition vertices number (condition_tree c.now) (state_of state.old)) }

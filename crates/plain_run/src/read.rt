@@ -9,8 +9,8 @@ ghost use Rattle.plain_run.specs.Seen.{state_of};
 ghost use Rattle.algorithm_meaning.specs.Stand.{choice_in, number_in, vertex_in};
 
 use crate::evaluate::{condition_is_inside, evaluate, holds, is_inside};
-use crate::state::State;
-use algorithm_meaning::{Bounds, Depth, End, arithmetic_of};
+use crate::state::InterpreterState;
+use algorithm_meaning::{Depth, End, LoopCounter, arithmetic_of};
 use std::alloc::AllocError;
 use typed_tree::{BoolExpression, IntExpression, Operator};
 
@@ -25,7 +25,7 @@ pub(crate) fn fault(number: u64) -> Option<End>
 }
 
 /// The value of a number, or `None` where an index in it is no vertex.
-pub(crate) fn number_of(e: &IntExpression, vertices: u32, state: &State) -> Option<i64>
+pub(crate) fn number_of(e: &IntExpression, vertices: u32, state: &InterpreterState) -> Option<i64>
     ensures { result ≡ number_in vertices (integer_tree e.now) (state_of state.now) }
 {
     if !is_inside(e, vertices, &state.vectors, &state.sets, &state.scope) {
@@ -35,7 +35,11 @@ pub(crate) fn number_of(e: &IntExpression, vertices: u32, state: &State) -> Opti
 }
 
 /// The vertex that an index is, or `None` where it or an index in it is none.
-pub(crate) fn vertex_of(index: &IntExpression, vertices: u32, state: &State) -> Option<u32>
+pub(crate) fn vertex_of(
+    index: &IntExpression,
+    vertices: u32,
+    state: &InterpreterState,
+) -> Option<u32>
     ensures { result ≡ vertex_in vertices (integer_tree index.now) (state_of state.now) }
 {
     let number = number_of(index, vertices, state)?;
@@ -48,7 +52,7 @@ pub(crate) fn vertex_of(index: &IntExpression, vertices: u32, state: &State) -> 
 }
 
 /// A truth value, or `None` where an index in it is no vertex.
-pub(crate) fn decide(c: &BoolExpression, vertices: u32, state: &State) -> Option<bool>
+pub(crate) fn decide(c: &BoolExpression, vertices: u32, state: &InterpreterState) -> Option<bool>
     ensures { result ≡ choice_in vertices (condition_tree c.now) (state_of state.now) }
 {
     if !condition_is_inside(c, vertices, &state.vectors, &state.sets, &state.scope) {
@@ -58,45 +62,48 @@ pub(crate) fn decide(c: &BoolExpression, vertices: u32, state: &State) -> Option
 }
 
 /// The two bounds of a `for`, or `None` where an index in them is no vertex.
-pub(crate) fn bounds_of(
+pub(crate) fn counter_of(
     first: &IntExpression,
     end: &IntExpression,
     vertices: u32,
-    state: &State,
-) -> Option<Bounds>
+    state: &InterpreterState,
+) -> Option<LoopCounter>
     ensures { result ≡ bounds_in vertices (integer_tree first.now) (integer_tree end.now) (state_of state.now) }
 {
     let next = number_of(first, vertices, state)?;
     let end = number_of(end, vertices, state)?;
-    Some(Bounds { next, end })
+    Some(LoopCounter { next, end })
 }
 
 /// Whether there is a next value.
-pub(crate) fn is_below(bounds: &Bounds) -> bool
-    ensures { result ≡ int_lt bounds.now.next bounds.now.end }
+pub(crate) fn is_below(counter: &LoopCounter) -> bool
+    ensures { result ≡ int_lt counter.now.next counter.now.end }
 {
-    bounds.next < bounds.end
+    counter.next < counter.end
 }
 
 /// Goes on to the next value.
-pub(crate) fn go_on(bounds: &mut Bounds)
-    ensures { bounds.new ≡ next_of bounds.old }
+pub(crate) fn go_on(counter: &mut LoopCounter)
+    ensures { counter.new ≡ next_of counter.old }
 {
-    bounds.next = arithmetic_of(Operator::Add, bounds.next, 1);
+    counter.next = arithmetic_of(Operator::Add, counter.next, 1);
 }
 
 /// The variables of a `for`: its name and, behind it, its bound.
-pub(crate) fn push_bounds(bounds: &Bounds, state: &mut State) -> Result<(), AllocError>
-    ensures pushed { OnOk result (state_of state.new ≡ with_new_integer (with_new_integer (state_of state.old) bounds.now.next) bounds.now.end) }
+pub(crate) fn push_counter(
+    counter: &LoopCounter,
+    state: &mut InterpreterState,
+) -> Result<(), AllocError>
+    ensures pushed { OnOk result (state_of state.new ≡ with_new_integer (with_new_integer (state_of state.old) counter.now.next) counter.now.end) }
     ensures turns { state.new.turns ≡ state.old.turns }
 {
-    state.scope.integers.push(bounds.next)?;
-    state.scope.integers.push(bounds.end)?;
+    state.scope.integers.push(counter.next)?;
+    state.scope.integers.push(counter.end)?;
     Ok(())
 }
 
 /// How many variables and sets are visible.
-pub(crate) fn depth(state: &State) -> Depth
+pub(crate) fn depth(state: &InterpreterState) -> Depth
     ensures { result ≡ depth_of (state_of state.now) }
 {
     Depth {
@@ -107,7 +114,7 @@ pub(crate) fn depth(state: &State) -> Depth
 }
 
 /// Forgets the variables and sets that are beyond this.
-pub(crate) fn forget(depth: Depth, state: &mut State)
+pub(crate) fn forget(depth: Depth, state: &mut InterpreterState)
     ensures forgotten { state_of state.new ≡ forget_beyond depth (state_of state.old) }
     ensures turns { state.new.turns ≡ state.old.turns }
 {

@@ -15,15 +15,15 @@ use crate::edge_apply::apply_edges;
 use crate::entries::{reduce_entry, set_entry_in};
 use crate::opening::open;
 use crate::print::{print_condition_in, print_integer_in};
-use crate::read::{bounds_of, decide, depth, fault, forget, go_on, is_below, push_bounds};
+use crate::read::{counter_of, decide, depth, fault, forget, go_on, is_below, push_counter};
 use crate::sets::{add_vertex, assign_set, declare_set};
 use crate::show::show;
-use crate::state::{Graph, State};
+use crate::state::{EdgeList, InterpreterState};
 use crate::variables::{
     declare_condition, declare_integer, reduce_integer, set_condition, set_integer,
 };
 use crate::vertex_apply::apply_vertex;
-use algorithm_meaning::{Bounds, End, Outcome};
+use algorithm_meaning::{End, LoopCounter, Outcome};
 use std::alloc::{AllocError, Global};
 use typed_tree::{ApplyEnds, BoolExpression, MainStatement, StatementKind, Typed};
 
@@ -41,7 +41,7 @@ pub fn plain_run(
 ) -> Result<Outcome, AllocError>
     ensures { IfOk result (λ o. o ≡ meaning (program_tree program.now) (record { vertices = vertices; edges = edges.now }) turns) }
 {
-    let graph = Graph { vertices, edges };
+    let graph = EdgeList { vertices, edges };
     let mut state = open(alloc, program, &graph, turns)?;
     let end = run_all(alloc, &program.main, program, &graph, &mut state)?;
     show(alloc, program, turns, state, end)
@@ -53,8 +53,8 @@ fn run_all(
     alloc: Global,
     block: &[MainStatement],
     program: &Typed,
-    graph: &Graph,
-    state: &mut State,
+    graph: &EdgeList,
+    state: &mut InterpreterState,
 ) -> Result<Option<End>, AllocError>
     ensures meaning { IfOk result (λ end. stand end (state_of state.new)
         ≡ after_all (program_tree program.now) (graph_of graph.now) (block_tree block.now) (state_of state.old)) }
@@ -74,8 +74,8 @@ fn run_statement(
     alloc: Global,
     statement: &MainStatement,
     program: &Typed,
-    graph: &Graph,
-    state: &mut State,
+    graph: &EdgeList,
+    state: &mut InterpreterState,
 ) -> Result<Option<End>, AllocError>
     ensures meaning { IfOk result (λ end. stand end (state_of state.new)
         ≡ after (program_tree program.now) (graph_of graph.now) statement.now.number (action_tree statement.now.action) (state_of state.old)) }
@@ -95,9 +95,9 @@ fn run_statement(
             Some(false) => run_inside(alloc, other, program, graph, state),
         },
         StatementKind::While(c, body) => run_while(alloc, body, c, number, program, graph, state),
-        StatementKind::For(_, first, end, body) => match bounds_of(first, end, vertices, state) {
+        StatementKind::For(_, first, end, body) => match counter_of(first, end, vertices, state) {
             None => Ok(fault(number)),
-            Some(bounds) => run_for(alloc, body, bounds, number, program, graph, state),
+            Some(counter) => run_for(alloc, body, counter, number, program, graph, state),
         },
         action => run_without_block(alloc, action, number, program, graph, state),
     }
@@ -109,8 +109,8 @@ fn run_without_block(
     action: &StatementKind,
     number: u64,
     program: &Typed,
-    graph: &Graph,
-    state: &mut State,
+    graph: &EdgeList,
+    state: &mut InterpreterState,
 ) -> Result<Option<End>, AllocError>
     requires { HasNoBlock action.now }
     ensures meaning { IfOk result (λ end. stand end (state_of state.new)
@@ -160,8 +160,8 @@ fn run_over_sets(
     alloc: Global,
     action: &StatementKind,
     program: &Typed,
-    graph: &Graph,
-    state: &mut State,
+    graph: &EdgeList,
+    state: &mut InterpreterState,
 ) -> Result<(), AllocError>
     requires { IsOverSets action.now }
     ensures meaning { OnOk result ((number : ℕ) → Live (state_of state.new)
@@ -192,8 +192,8 @@ fn apply_in(
     ends: ApplyEnds,
     function: usize,
     program: &Typed,
-    graph: &Graph,
-    state: &mut State,
+    graph: &EdgeList,
+    state: &mut InterpreterState,
 ) -> Result<(), AllocError>
     ensures meaning { OnOk result (state_of state.new ≡ with_vectors (state_of state.old)
         (after_edge_apply (program_tree program.now).filters (program_tree program.now).edge_functions (graph_of graph.now) ends (function ∷ []) (state_of state.old))) }
@@ -218,8 +218,8 @@ fn run_inside(
     alloc: Global,
     block: &[MainStatement],
     program: &Typed,
-    graph: &Graph,
-    state: &mut State,
+    graph: &EdgeList,
+    state: &mut InterpreterState,
 ) -> Result<Option<End>, AllocError>
     ensures meaning { IfOk result (λ end. stand end (state_of state.new)
         ≡ inside (after_all (program_tree program.now) (graph_of graph.now) (block_tree block.now)) (state_of state.old)) }
@@ -241,8 +241,8 @@ fn run_while(
     test: &BoolExpression,
     number: u64,
     program: &Typed,
-    graph: &Graph,
-    state: &mut State,
+    graph: &EdgeList,
+    state: &mut InterpreterState,
 ) -> Result<Option<End>, AllocError>
     ensures meaning { IfOk result (λ end. stand end (state_of state.new)
         ≡ after_while graph.now.vertices number (condition_tree test.now)
@@ -269,8 +269,8 @@ fn run_turn(
     alloc: Global,
     body: &[MainStatement],
     program: &Typed,
-    graph: &Graph,
-    state: &mut State,
+    graph: &EdgeList,
+    state: &mut InterpreterState,
 ) -> Result<Option<End>, AllocError>
     ensures meaning { IfOk result (λ end. stand end (state_of state.new)
         ≡ take_turn state.old.turns (state_of state.old)
@@ -290,26 +290,26 @@ fn run_turn(
 fn run_for(
     alloc: Global,
     body: &[MainStatement],
-    bounds: Bounds,
+    counter: LoopCounter,
     number: u64,
     program: &Typed,
-    graph: &Graph,
-    state: &mut State,
+    graph: &EdgeList,
+    state: &mut InterpreterState,
 ) -> Result<Option<End>, AllocError>
     ensures meaning { IfOk result (λ end. stand end (state_of state.new)
-        ≡ after_for number (after_all (program_tree program.now) (graph_of graph.now) (block_tree body.now)) bounds (state_of state.old)) }
+        ≡ after_for number (after_all (program_tree program.now) (graph_of graph.now) (block_tree body.now)) counter (state_of state.old)) }
     ensures turns { state.new.turns ≤ state.old.turns }
 {
-    let mut bounds = bounds;
+    let mut counter = counter;
     'turns: loop {
-        if !is_below(&bounds) {
+        if !is_below(&counter) {
             return Ok(None);
         }
-        let end = run_for_turn(alloc, body, &bounds, program, graph, state)?;
+        let end = run_for_turn(alloc, body, &counter, program, graph, state)?;
         if end.is_some() {
             return Ok(end);
         }
-        go_on(&mut bounds);
+        go_on(&mut counter);
     }
 }
 
@@ -319,14 +319,14 @@ fn run_for(
 fn run_for_turn(
     alloc: Global,
     body: &[MainStatement],
-    bounds: &Bounds,
+    counter: &LoopCounter,
     program: &Typed,
-    graph: &Graph,
-    state: &mut State,
+    graph: &EdgeList,
+    state: &mut InterpreterState,
 ) -> Result<Option<End>, AllocError>
     ensures meaning { IfOk result (λ end. stand end (state_of state.new)
         ≡ take_turn state.old.turns (state_of state.old)
-        (for_body (after_all (program_tree program.now) (graph_of graph.now) (block_tree body.now)) bounds.now)) }
+        (for_body (after_all (program_tree program.now) (graph_of graph.now) (block_tree body.now)) counter.now)) }
     ensures turns { state.new.turns ≤ state.old.turns }
     ensures fewer { IfOk result (λ end. IfNone end (state.new.turns < state.old.turns)) }
 {
@@ -335,7 +335,7 @@ fn run_for_turn(
     }
     state.turns -= 1;
     let depth = depth(state);
-    push_bounds(bounds, state)?;
+    push_counter(counter, state)?;
     let end = run_all(alloc, body, program, graph, state)?;
     if end.is_none() {
         forget(depth, state);

@@ -15,8 +15,8 @@ use crate::evaluate::members_at;
 use crate::filter::filter_members;
 use crate::opening::vertices_below;
 use crate::read::{fault, vertex_of};
-use crate::state::{Graph, State};
-use algorithm_meaning::{End, VertexSet};
+use crate::state::{EdgeList, InterpreterState};
+use algorithm_meaning::{End, SetBinding};
 use std::alloc::{AllocError, Global};
 use typed_tree::{ApplyEnds, Function, IntExpression, Sequence, SetValue, Typed};
 
@@ -26,14 +26,14 @@ pub(crate) fn declare_set(
     name: usize,
     value: SetValue,
     program: &Typed,
-    graph: &Graph,
-    state: &mut State,
+    graph: &EdgeList,
+    state: &mut InterpreterState,
 ) -> Result<(), AllocError>
     ensures meaning { OnOk result (state_of state.new ≡ after_declare_set (program_tree program.now) (graph_of graph.now) name value (state_of state.old)) }
     ensures turns { state.new.turns ≡ state.old.turns }
 {
     let members = value_of(alloc, value, program, graph, state)?;
-    state.sets.push(VertexSet { name, members })?;
+    state.sets.push(SetBinding { name, members })?;
     Ok(())
 }
 
@@ -43,8 +43,8 @@ pub(crate) fn assign_set(
     place: usize,
     value: SetValue,
     program: &Typed,
-    graph: &Graph,
-    state: &mut State,
+    graph: &EdgeList,
+    state: &mut InterpreterState,
 ) -> Result<(), AllocError>
     ensures meaning { OnOk result (state_of state.new ≡ after_assign_set (program_tree program.now) (graph_of graph.now) place value (state_of state.old)) }
     ensures turns { state.new.turns ≡ state.old.turns }
@@ -61,7 +61,7 @@ pub(crate) fn add_vertex(
     e: &IntExpression,
     number: u64,
     vertices: u32,
-    state: &mut State,
+    state: &mut InterpreterState,
 ) -> Result<Option<End>, AllocError>
     ensures meaning { IfOk result (λ end. stand end (state_of state.new)
         ≡ after_add_vertex vertices number place (integer_tree e.now) (state_of state.old)) }
@@ -80,8 +80,8 @@ fn value_of(
     alloc: Global,
     value: SetValue,
     program: &Typed,
-    graph: &Graph,
-    state: &mut State,
+    graph: &EdgeList,
+    state: &mut InterpreterState,
 ) -> Result<Sequence<u32>, AllocError>
     ensures members { IfOk result (λ members. members ≡ members_for (program_tree program.now) (graph_of graph.now) value (state_of state.old)) }
     ensures vectors { OnOk result (state_of state.new
@@ -110,7 +110,7 @@ fn filter_set(
     place: usize,
     function: usize,
     filters: &[Function],
-    state: &mut State,
+    state: &mut InterpreterState,
 ) -> Result<Sequence<u32>, AllocError>
     ensures members { IfOk result (λ members. members ≡ filtered (map function_tree filters.now) function state.old.sets.items state.old.vectors.items (members_of (slice_get state.old.sets.items place))) }
     ensures vectors { OnOk result (state_of state.new ≡ state_of state.old) }
@@ -135,8 +135,8 @@ fn apply_modified(
     function: usize,
     vector: usize,
     program: &Typed,
-    graph: &Graph,
-    state: &mut State,
+    graph: &EdgeList,
+    state: &mut InterpreterState,
 ) -> Result<Sequence<u32>, AllocError>
     ensures members { IfOk result (λ members. members ≡ modified graph.now.vertices vector state.old.vectors.items
         (after_edge_apply (program_tree program.now).filters (program_tree program.now).edge_functions (graph_of graph.now) ends (function ∷ []) (state_of state.old))) }
@@ -159,7 +159,7 @@ fn apply_modified(
 }
 
 /// Gives the set at a place these members; where there is no set nothing is changed.
-fn put_members(place: usize, members: Sequence<u32>, sets: &mut Vec<VertexSet>)
+fn put_members(place: usize, members: Sequence<u32>, sets: &mut Vec<SetBinding>)
     ensures { sets.new.items ≡ set_members sets.old.items place members }
 {
     if place < sets.len() {

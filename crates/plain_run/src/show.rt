@@ -5,8 +5,8 @@ ghost use Rattle.algorithm_meaning.specs.declared.outcome.End.TheVariants.{Finis
 ghost use Rattle.plain_run.specs.Seen.{stand, state_of};
 ghost use Rattle.algorithm_meaning.specs.Shown.{name_at, named_set, named_vectors, outcome_of};
 
-use crate::state::State;
-use algorithm_meaning::{End, NamedSet, NamedVector, Outcome, VertexSet};
+use crate::state::InterpreterState;
+use algorithm_meaning::{End, NamedSet, NamedVector, Outcome, SetBinding};
 use std::alloc::{AllocError, Global};
 use typed_tree::{Name, Sequence, Typed, Vector};
 
@@ -16,7 +16,7 @@ pub(crate) fn show(
     alloc: Global,
     program: &Typed,
     turns: u64,
-    state: State,
+    state: InterpreterState,
     end: Option<End>,
 ) -> Result<Outcome, AllocError>
     ensures { IfOk result (λ o. o ≡ outcome_of (program_tree program.now) turns (stand end (state_of state))) }
@@ -66,7 +66,7 @@ fn name_vectors(
 fn name_sets(
     alloc: Global,
     names: &[Name],
-    sets: Vec<VertexSet>,
+    sets: Vec<SetBinding>,
 ) -> Result<Vec<NamedSet>, AllocError>
     ensures { IfOk result (λ v. v.items ≡ map (named_set names.now) sets.items) }
 {

@@ -1,17 +1,17 @@
 //! What a run works on, and what it keeps.
-use algorithm_meaning::VertexSet;
+use algorithm_meaning::SetBinding;
 use typed_tree::Sequence;
 
 /// The graph that a program runs on.
 #[derive(Clone, Copy, Debug)]
-pub(crate) struct Graph<'a> {
+pub(crate) struct EdgeList<'a> {
     pub(crate) vertices: u32,
     pub(crate) edges: &'a [(u32, u32)],
 }
 
 /// The variables that are visible, by their places, and the vertices that a function works on.
 #[derive(Drop)]
-pub(crate) struct Scope {
+pub(crate) struct Environment {
     pub(crate) integers: Vec<i64>,
     pub(crate) conditions: Vec<bool>,
     pub(crate) source: u32,
@@ -20,10 +20,10 @@ pub(crate) struct Scope {
 
 /// Where a run stands.
 #[derive(Drop)]
-pub(crate) struct State {
+pub(crate) struct InterpreterState {
     pub(crate) vectors: Vec<Sequence<i64>>,
-    pub(crate) sets: Vec<VertexSet>,
-    pub(crate) scope: Scope,
+    pub(crate) sets: Vec<SetBinding>,
+    pub(crate) scope: Environment,
     pub(crate) text: Vec<u8>,
     /// How many turns are left.
     pub(crate) turns: u64,

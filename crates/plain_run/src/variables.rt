@@ -10,7 +10,7 @@ ghost use Rattle.algorithm_meaning.specs.Variables.{after_declare_condition, aft
 
 use crate::evaluate::integer_at;
 use crate::read::{decide, fault, number_of};
-use crate::state::State;
+use crate::state::InterpreterState;
 use algorithm_meaning::{End, reduce};
 use apply_options::Reduction;
 use std::alloc::AllocError;
@@ -20,7 +20,7 @@ pub(crate) fn declare_integer(
     e: &IntExpression,
     number: u64,
     vertices: u32,
-    state: &mut State,
+    state: &mut InterpreterState,
 ) -> Result<Option<End>, AllocError>
     ensures meaning { IfOk result (λ end. stand end (state_of state.new)
         ≡ after_declare_integer vertices number (integer_tree e.now) (state_of state.old)) }
@@ -37,7 +37,7 @@ pub(crate) fn declare_condition(
     c: &BoolExpression,
     number: u64,
     vertices: u32,
-    state: &mut State,
+    state: &mut InterpreterState,
 ) -> Result<Option<End>, AllocError>
     ensures meaning { IfOk result (λ end. stand end (state_of state.new)
         ≡ after_declare_condition vertices number (condition_tree c.now) (state_of state.old)) }
@@ -55,7 +55,7 @@ pub(crate) fn set_integer(
     e: &IntExpression,
     number: u64,
     vertices: u32,
-    state: &mut State,
+    state: &mut InterpreterState,
 ) -> Option<End>
     ensures meaning { stand result (state_of state.new)
         ≡ after_set_integer vertices number place (integer_tree e.now) (state_of state.old) }
@@ -73,7 +73,7 @@ pub(crate) fn set_condition(
     c: &BoolExpression,
     number: u64,
     vertices: u32,
-    state: &mut State,
+    state: &mut InterpreterState,
 ) -> Option<End>
     ensures meaning { stand result (state_of state.new)
         ≡ after_set_condition vertices number place (condition_tree c.now) (state_of state.old) }
@@ -92,7 +92,7 @@ pub(crate) fn reduce_integer(
     e: &IntExpression,
     number: u64,
     vertices: u32,
-    state: &mut State,
+    state: &mut InterpreterState,
 ) -> Option<End>
     ensures meaning { stand result (state_of state.new)
         ≡ after_reduce_integer vertices number place reduction (integer_tree e.now) (state_of state.old) }

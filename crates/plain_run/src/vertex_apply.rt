@@ -5,9 +5,9 @@ ghost use Rattle.plain_run.specs.Seen.{state_of};
 ghost use Rattle.algorithm_meaning.specs.VertexApply.{after_apply_vertex, after_vertex, after_vertices};
 
 use crate::evaluate::members_at;
-use crate::function::{Work, begin, new_work, run_steps, steps_at};
-use crate::state::State;
-use algorithm_meaning::{VertexSet, Writing};
+use crate::function::{FunctionFrame, begin, new_work, run_steps, steps_at};
+use crate::state::InterpreterState;
+use algorithm_meaning::{SetBinding, Writing};
 use std::alloc::{AllocError, Global};
 use typed_tree::{Function, FunctionStatement, Sequence};
 
@@ -17,7 +17,7 @@ pub(crate) fn apply_vertex(
     functions: &[Function],
     set: usize,
     function: usize,
-    state: &mut State,
+    state: &mut InterpreterState,
 ) -> Result<(), AllocError>
     ensures meaning { OnOk result (state_of state.new ≡ after_apply_vertex (map function_tree functions.now) set function (state_of state.old)) }
     ensures turns { state.new.turns ≡ state.old.turns }
@@ -31,7 +31,7 @@ pub(crate) fn apply_vertex(
 fn run_for_vertices(
     alloc: Global,
     steps: &[FunctionStatement],
-    sets: &[VertexSet],
+    sets: &[SetBinding],
     vertices: &[u32],
     vectors: &mut Vec<Sequence<i64>>,
 ) -> Result<(), AllocError>
@@ -46,10 +46,10 @@ fn run_for_vertices(
 
 fn run_for_vertex(
     steps: &[FunctionStatement],
-    sets: &[VertexSet],
+    sets: &[SetBinding],
     vertex: u32,
     vectors: &mut Vec<Sequence<i64>>,
-    work: &mut Work,
+    work: &mut FunctionFrame,
 ) -> Result<(), AllocError>
     ensures { OnOk result (vectors.new.items ≡ after_vertex (steps_tree steps.now) sets.now vertex vectors.old.items) }
 {

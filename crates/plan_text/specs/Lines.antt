@@ -20,8 +20,8 @@ use Rattle.apply_options.specs.declared.apply_schedule.Direction.{Direction}
 use Rattle.apply_options.specs.declared.apply_schedule.Direction.TheVariants as direction
 use Rattle.apply_options.specs.declared.apply_schedule.Parallelization.{Parallelization}
 use Rattle.apply_options.specs.declared.apply_schedule.Parallelization.TheVariants as parallelization
-use Rattle.plan_text.specs.declared.part.Part.{Part}
-use Rattle.plan_text.specs.declared.part.ChangedSet.{ChangedSet}
+use Rattle.plan_text.specs.declared.applied_function.AppliedFunction.{AppliedFunction}
+use Rattle.plan_text.specs.declared.applied_function.ChangedSet.{ChangedSet}
 use Rattle.plan_text.specs.Words.{bracketed}
 use Rattle.plan_text.specs.Expressions.{name_at, vector_at, integer_words, condition_words}
 
@@ -83,15 +83,15 @@ abbrev pub changed_words : ProgramTree → Option ChangedSet → List (List ℕ)
 changed_words p None = []
 changed_words p (Some c) = codes "->" ∷ name_at p c.name ∷ vector_at p c.vector ∷ []
 
-abbrev pub part_words : ProgramTree → Part → List (List ℕ)
+abbrev pub part_words : ProgramTree → AppliedFunction → List (List ℕ)
 part_words p part = function_at p p.edge_functions part.function ∷ changed_words p part.changed
 
-abbrev pub second_words : ProgramTree → Option Part → List (List ℕ)
+abbrev pub second_words : ProgramTree → Option AppliedFunction → List (List ℕ)
 second_words p None = []
 second_words p (Some part) = part_words p part
 
 -- eapply FROM TO f g : DIRECTION PARALLELIZATION DENSE
-abbrev pub edges_words : ProgramTree → ApplyEnds → Part → Option Part → ApplySchedule → List (List ℕ)
+abbrev pub edges_words : ProgramTree → ApplyEnds → AppliedFunction → Option AppliedFunction → ApplySchedule → List (List ℕ)
 edges_words p ends first second choice =
     codes "eapply" ∷ end_word p ends.from ∷ end_word p ends.to
     ∷ (part_words p first ++ (second_words p second
@@ -115,7 +115,7 @@ set_value_words p name (set.Filter slot place) = codes "filter" ∷ name_at p na
 set_value_words p name (set.Modified ends function vector) = []
 
 -- an apply of one edge function
-abbrev pub one_part : (function : ℕ) → Option ChangedSet → Part
+abbrev pub one_part : (function : ℕ) → Option ChangedSet → AppliedFunction
 one_part function changed = record { function = function; changed = changed }
 
 -- a set that gets a value; what an apply changes is that apply, as the schedule says

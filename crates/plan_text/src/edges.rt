@@ -5,8 +5,8 @@ ghost use Rattle.plan_text.specs.Expressions.{vector_at};
 ghost use Rattle.plan_text.specs.Lines.{changed_words, dense_word, direction_word, edges_words, end_word, group_words, parallelization_word, part_words, second_words};
 ghost use Rattle.plan_text.specs.Words.{spaced};
 
+use crate::applied_function::{AppliedFunction, ChangedSet};
 use crate::names::Lines;
-use crate::part::{ChangedSet, Part};
 use crate::words::put_word;
 use apply_options::{ApplySchedule, DenseVertexSet, Direction, Parallelization};
 use std::alloc::AllocError;
@@ -19,8 +19,8 @@ impl<'a> Lines<'a> {
         self,
         out: &mut Vec<u8>,
         ends: ApplyEnds,
-        first: Part,
-        second: Option<Part>,
+        first: AppliedFunction,
+        second: Option<AppliedFunction>,
         choice: ApplySchedule,
     ) -> Result<(), AllocError>
         ensures { OnOk result (out.new.items ≡ out.old.items ++ spaced (edges_words (program_tree self.entry.program.now) ends first second choice)) }
@@ -41,7 +41,11 @@ impl<'a> Lines<'a> {
         put_word(out, self.end(ends.to))
     }
 
-    fn put_second(self, out: &mut Vec<u8>, second: Option<Part>) -> Result<(), AllocError>
+    fn put_second(
+        self,
+        out: &mut Vec<u8>,
+        second: Option<AppliedFunction>,
+    ) -> Result<(), AllocError>
         ensures { OnOk result (out.new.items ≡ out.old.items ++ spaced (second_words (program_tree self.entry.program.now) second)) }
     {
         match second {
@@ -51,7 +55,7 @@ impl<'a> Lines<'a> {
     }
 
     /// `f`, or `f -> s v`
-    fn put_part(self, out: &mut Vec<u8>, part: Part) -> Result<(), AllocError>
+    fn put_part(self, out: &mut Vec<u8>, part: AppliedFunction) -> Result<(), AllocError>
         ensures { OnOk result (out.new.items ≡ out.old.items ++ spaced (part_words (program_tree self.entry.program.now) part)) }
     {
         put_word(

@@ -7,14 +7,14 @@
 //! Plans stand on it, and keep the words of each instruction.
 #![tactic(auto)]
 
+mod applied_function;
 mod edges;
 mod expressions;
 mod line;
 mod names;
-mod part;
 mod statements;
 mod words;
 
+pub use applied_function::{AppliedFunction, ChangedSet};
 pub use line::end_line;
 pub use names::Lines;
-pub use part::{ChangedSet, Part};

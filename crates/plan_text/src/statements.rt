@@ -10,9 +10,9 @@ ghost use Rattle.plan_text.specs.Statements.{TakesValues};
 ghost use Rattle.plan_text.specs.Words.{bracketed, spaced};
 ghost use Rattle.apply_options.specs.declared.apply_schedule.ApplySchedule.{ApplySchedule};
 
+use crate::applied_function::{AppliedFunction, ChangedSet};
 use crate::expressions::{put_condition, put_integer};
 use crate::names::Lines;
-use crate::part::{ChangedSet, Part};
 use crate::words::{close_bracket, open_bracket, put_marked, put_word};
 use apply_options::{ApplySchedule, Reduction};
 use std::alloc::AllocError;
@@ -36,7 +36,7 @@ impl Lines<'_> {
                 out, *set, *function, None,
             ),
             StatementKind::ApplyEdges(ends, function) => {
-                let part = Part {
+                let part = AppliedFunction {
                     function: *function,
                     changed: None,
                 };
@@ -231,7 +231,13 @@ impl Lines<'_> {
         match value {
             SetValue::Modified(ends, function, vector) => {
                 let changed = Some(ChangedSet { name, vector });
-                self.put_edges(out, ends, Part { function, changed }, None, choice)
+                self.put_edges(
+                    out,
+                    ends,
+                    AppliedFunction { function, changed },
+                    None,
+                    choice,
+                )
             }
             SetValue::Empty => self.put_words(out, b"newset", name),
             SetValue::All => self.put_words(out, b"allset", name),

@@ -19,7 +19,7 @@ use Rattle.algorithm_meaning.specs.EdgeApply.{gives}
 use Rattle.typed_tree.specs.Access.{is_none_of, are_apart, integer_reads, condition_reads, step_uses, steps_use}
 use Rattle.std.proofs.lemmas.Bool.{and_parts}
 use Rattle.plans.specs.Fusing.{integer_sizes, condition_sizes, step_sizes, steps_sizes}
-use Rattle.plans.proofs.Types.{VertexSet}
+use Rattle.algorithm_meaning.specs.declared.state.SetBinding.{SetBinding}
 
 pub both_parts : (P : ℕ → Bool) (xs ys : List ℕ) → list_all P (xs ++ ys) ≡ true → (list_all P xs ≡ true) × (list_all P ys ≡ true)
 both_parts P xs ys h = and_parts (list_all P xs) (list_all P ys) (sym (list_all-append P xs ys) ∙ h)
@@ -28,7 +28,7 @@ both_parts P xs ys h = and_parts (list_all P xs) (list_all P ys) (sym (list_all-
 abbrev pub AgreeBut : List ℕ → (xs ys : List (List ℤ)) → Type 0
 AgreeBut changed xs ys = (vector : ℕ) → is_none_of vector changed ≡ true → slice_index_or xs vector [] ≡ slice_index_or ys vector []
 
-abbrev pub SetsAgreeBut : List ℕ → (a b : List VertexSet) → Type 0
+abbrev pub SetsAgreeBut : List ℕ → (a b : List SetBinding) → Type 0
 SetsAgreeBut changed a b = (place : ℕ) → is_none_of place changed ≡ true → members_of (slice_get a place) ≡ members_of (slice_get b place)
 
 -- what two runs of a function have in common
@@ -41,7 +41,7 @@ index_same : (xs ys : List (List ℤ)) (vector : ℕ) (n : ℤ) → slice_index_
 index_same xs ys vector (pos n) e = ap (λ (row : List ℤ). slice_index_or row n (pos 0)) e
 index_same xs ys vector (negsuc n) e = refl
 
-module _ (vectors places : List ℕ) (a b : List VertexSet) (sets_agree : SetsAgreeBut places a b) where
+module _ (vectors places : List ℕ) (a b : List SetBinding) (sets_agree : SetsAgreeBut places a b) where
   value_beside : (v w : WorkValue) → IsBeside vectors v w → (e : IntegerTree) → are_apart (integer_reads e) vectors ≡ true → are_apart (integer_sizes e) places ≡ true
       → value v.vectors a v.scope e ≡ value w.vectors b w.scope e
   value_beside v w h (integer.Number n) reads sizes = refl
@@ -96,7 +96,7 @@ module _ (vectors places : List ℕ) (a b : List VertexSet) (sets_agree : SetsAg
   block_beside old v new w h k = record { rows = k.rows; scope = λ i. forget_new (h.scope i) (k.scope i); given = k.given }
 
 -- what is written is collected
-module _ (vectors places : List ℕ) (a b : List VertexSet) (sets_agree : SetsAgreeBut places a b) (writing : _) (sets_nothing : (vector : ℕ) (n : ℤ) (w : WorkValue) → after_set writing vector n w ≡ w) (gives_number : (vector : ℕ) (r : Reduction) (n : ℤ) (w : WorkValue) → after_reduce writing vector r n w ≡ record w { given = w.given ++ record { vector = vector; reduction = r; number = n } ∷ [] }) where
+module _ (vectors places : List ℕ) (a b : List SetBinding) (sets_agree : SetsAgreeBut places a b) (writing : _) (sets_nothing : (vector : ℕ) (n : ℤ) (w : WorkValue) → after_set writing vector n w ≡ w) (gives_number : (vector : ℕ) (r : Reduction) (n : ℤ) (w : WorkValue) → after_reduce writing vector r n w ≡ record w { given = w.given ++ record { vector = vector; reduction = r; number = n } ∷ [] }) where
   set_beside : (v w : WorkValue) → IsBeside vectors v w → (vector : ℕ) (x y : ℤ) → IsBeside vectors (after_set writing vector x v) (after_set writing vector y w)
   set_beside v w h vector x y =
       subst (λ (z : WorkValue). IsBeside vectors z (after_set writing vector y w)) (sym (sets_nothing vector x v))
@@ -171,7 +171,7 @@ module _ (vectors places : List ℕ) (a b : List VertexSet) (sets_agree : SetsAg
       let r = steps_beside steps (first_work xs scope) (first_work ys scope) (record { rows = agree; scope = refl; given = refl }) uses sizes in
       ap (λ (s : ScopeValue). slice_index_or s.conditions 0 false) r.scope
 
-module _ (vectors places : List ℕ) (a b : List VertexSet) (sets_agree : SetsAgreeBut places a b) (steps : StepsTree) (xs ys : List (List ℤ)) (agree : AgreeBut vectors xs ys) (uses : are_apart (steps_use steps) vectors ≡ true) (sizes : are_apart (steps_sizes steps) places ≡ true) where
+module _ (vectors places : List ℕ) (a b : List SetBinding) (sets_agree : SetsAgreeBut places a b) (steps : StepsTree) (xs ys : List (List ℤ)) (agree : AgreeBut vectors xs ys) (uses : are_apart (steps_use steps) vectors ≡ true) (sizes : are_apart (steps_sizes steps) places ≡ true) where
   -- an edge function gives the same
   pub gives_same : (edge : ℕ × ℕ) → gives steps a xs edge ≡ gives steps b ys edge
   gives_same edge = given_beside vectors places a b sets_agree _ (λ vector n w. refl) (λ vector r n w. refl) steps xs ys (edge_scope edge) agree uses sizes

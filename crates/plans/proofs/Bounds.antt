@@ -5,9 +5,9 @@ use Rattle.typed_tree.specs.declared.statement.ApplyEnds.{ApplyEnds}
 use Rattle.typed_tree.specs.IntegerTree.{IntegerTree}
 use Rattle.typed_tree.specs.ConditionTree.{ConditionTree, Literal}
 use Rattle.typed_tree.specs.BlockTree.{ActionTree, DeclareInteger, DeclareCondition, SetInteger, SetCondition, ReduceInteger, SetEntry, ReduceEntry, DeclareSet, AssignSet, AddVertex, PrintInteger, PrintCondition, ApplyVertex}
-use Rattle.plans.specs.declared.depth.Depth.{Depth}
+use Rattle.algorithm_meaning.specs.declared.state.Depth.{Depth}
 use Rattle.plans.specs.Instruction.{EdgePartTree, OperationTree, Do, ApplyEdgesTogether, ApplyVerticesTogether, Unless, Enter, UnlessBelow, Advance, Turn, Jump, End, InstructionTree}
-use Rattle.plans.specs.declared.depth.Counter.{Counter}
+use Rattle.algorithm_meaning.specs.declared.state.LoopCounter.{LoopCounter}
 use Rattle.plans.specs.Plan.{plan_of}
 use Rattle.plans.specs.Machine.{Configuration, At, Ended, step}
 use Rattle.plans.proofs.Whole.{steps_lower}
@@ -22,9 +22,9 @@ use Rattle.std.proofs.lemmas.List.{length-map}
 use Rattle.plans.specs.Bound.{uses_turn, is_turn, rank_by, rank_where, most_steps}
 use Rattle.plans.specs.Parts.{part_tree}
 use Rattle.plans.specs.declared.instruction.Instruction.{Instruction}
-use Rattle.plans.specs.declared.operation.Operation.{Operation}
-use Rattle.plans.specs.declared.operation.Operation.TheVariants as op
-use Rattle.plans.specs.Members.{set_value}
+use Rattle.plans.specs.declared.operation.PlanOperation.{PlanOperation}
+use Rattle.plans.specs.declared.operation.PlanOperation.TheVariants as op
+use Rattle.plans.specs.SetExpression.{set_value}
 use Rattle.plans.specs.Operation.{IsOperation, AreInstructions}
 use Rattle.plans.specs.Outline.{outline, outline_of, most_steps_of}
 
@@ -86,7 +86,7 @@ jump_alike to = record { turn = refl; rank = λ count place b. by_test count pla
     by_test count place false = refl
 
 -- of an operation it sees the outline
-sees_alike : (keep shown : Depth) (o : Operation) (t : OperationTree) → IsOperation keep shown o t → SameBound (outline o) t
+sees_alike : (keep shown : Depth) (o : PlanOperation) (t : OperationTree) → IsOperation keep shown o t → SameBound (outline o) t
 sees_alike keep shown (op.DeclareInteger name k) t is = subst (SameBound End) (sym is.is) (do_alike (DeclareInteger name is.tree))
 sees_alike keep shown (op.DeclareCondition name k) t is = subst (SameBound End) (sym is.is) (do_alike (DeclareCondition name is.tree))
 sees_alike keep shown (op.SetInteger slot k) t is = subst (SameBound End) (sym is.is) (do_alike (SetInteger slot is.tree))
@@ -155,7 +155,7 @@ same_bound is ts are (At place loops s) =
     λ j. s.turns * (2 * long j + 2) + ranks j + 1
 
 -- a step of a plan, from wherever an instruction stands, lowers the bound
-pub step_falls : (plan : Plan) (g : GraphValue) (place : ℕ) (loops : List Counter) (s : StateValue) (next : Configuration) → place < length plan.instructions.items
+pub step_falls : (plan : Plan) (g : GraphValue) (place : ℕ) (loops : List LoopCounter) (s : StateValue) (next : Configuration) → place < length plan.instructions.items
     → ((p : ProgramTree) (schedule : ScheduleTree) → IsPlan plan p schedule → next ≡ step p g (plan_of p schedule) (At place loops s))
     → most_steps_of plan.instructions.items next < most_steps_of plan.instructions.items (At place loops s)
 step_falls plan g place loops s next within goes =

@@ -4,12 +4,9 @@ use Rattle.std.proofs.Math.Seq.{take-length}
 use Rattle.std.proofs.lemmas.List.{length-take-le}
 use Rattle.typed_tree.specs.BlockTree.{ActionTree, DeclareInteger, DeclareCondition, SetInteger, SetCondition, ReduceInteger, SetEntry, ReduceEntry, DeclareSet, AssignSet, AddVertex, PrintInteger, PrintCondition, ApplyVertex, ApplyEdges, If, IfElse, While, For, BlockTree, Empty, Then}
 use Rattle.algorithm_meaning.specs.State.{StateValue}
-use Rattle.plans.specs.declared.depth.Depth.{Depth}
+use Rattle.algorithm_meaning.specs.declared.state.Depth.{Depth}
 use Rattle.plans.specs.Plan.{behind, behind_all}
-use Rattle.plans.specs.Machine.{forgotten}
-
-abbrev pub visible : StateValue → Depth
-visible s = record { integers = length s.scope.integers; conditions = length s.scope.conditions; sets = length s.sets }
+use Rattle.algorithm_meaning.specs.Loop.{depth_of, forget_beyond}
 
 -- no more is visible at the first than at the second
 pub record IsWithin (d e : Depth) : Type 0 where
@@ -59,17 +56,17 @@ take_less (suc m) (suc n) [] h = refl
 take_less {A} (suc m) (suc n) (x ∷ xs) h = ap (λ (ys : List A). x ∷ ys) (take_less m n xs (omega (arith, h)))
 
 -- nothing is forgotten
-all_kept : (s : StateValue) → forgotten (visible s) s ≡ s
+all_kept : (s : StateValue) → forget_beyond (depth_of s) s ≡ s
 all_kept s = λ i. record s {
   sets = take-length s.sets i;
   scope = record s.scope { integers = take-length s.scope.integers i; conditions = take-length s.scope.conditions i };
 }
 
-pub forgotten-all : (d : Depth) (s : StateValue) → visible s ≡ d → forgotten d s ≡ s
-forgotten-all d s e = ap (λ (d : Depth). forgotten d s) (sym e) ∙ all_kept s
+pub forgotten-all : (d : Depth) (s : StateValue) → depth_of s ≡ d → forget_beyond d s ≡ s
+forgotten-all d s e = ap (λ (d : Depth). forget_beyond d s) (sym e) ∙ all_kept s
 
 -- to forget twice
-pub forgotten-less : (d e : Depth) (s : StateValue) → IsWithin d e → forgotten d (forgotten e s) ≡ forgotten d s
+pub forgotten-less : (d e : Depth) (s : StateValue) → IsWithin d e → forget_beyond d (forget_beyond e s) ≡ forget_beyond d s
 forgotten-less d e s h = λ i. record s {
   sets = take_less d.sets e.sets s.sets h.sets i;
   scope = record s.scope {
@@ -78,12 +75,12 @@ forgotten-less d e s h = λ i. record s {
   };
 }
 
-visible-less : (d : Depth) (s : StateValue) → IsWithin d (visible s) → visible (forgotten d s) ≡ d
+visible-less : (d : Depth) (s : StateValue) → IsWithin d (depth_of s) → depth_of (forget_beyond d s) ≡ d
 visible-less d s h = λ i. record {
   integers = length-take-le d.integers s.scope.integers h.integers i;
   conditions = length-take-le d.conditions s.scope.conditions h.conditions i;
   sets = length-take-le d.sets s.sets h.sets i;
 }
 
-pub visible-forgotten : (d e : Depth) (s : StateValue) → visible s ≡ e → IsWithin d e → visible (forgotten d s) ≡ d
+pub visible-forgotten : (d e : Depth) (s : StateValue) → depth_of s ≡ e → IsWithin d e → depth_of (forget_beyond d s) ≡ d
 visible-forgotten d e s deep h = visible-less d s (rw deep h)

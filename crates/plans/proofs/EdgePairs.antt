@@ -8,7 +8,7 @@ use Rattle.algorithm_meaning.specs.Function.{steps_of}
 use Rattle.algorithm_meaning.specs.EdgeApply.{after_edge_apply, after_edges, matching, gives}
 use Rattle.typed_tree.specs.Access.{is_none_of, are_apart, end_reads, function_uses, function_writes, steps_use, steps_use_where, steps_write, steps_write_where}
 use Rattle.std.proofs.lemmas.Bool.{and_parts}
-use Rattle.plans.specs.declared.depth.Depth.{Depth}
+use Rattle.algorithm_meaning.specs.declared.state.Depth.{Depth}
 use Rattle.plans.specs.Fusing.{EdgeApplyTree, result_places, result_vectors, end_sets, function_sizes, is_same_end, edges_fit}
 use Rattle.plans.specs.Machine.{with_result, after_parts}
 use Rattle.plans.proofs.Beside.{AgreeBut, SetsAgreeBut, both_parts, gives_same}

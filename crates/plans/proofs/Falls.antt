@@ -5,10 +5,11 @@ use Rattle.typed_tree.specs.ProgramTree.{ProgramTree}
 use Rattle.algorithm_meaning.specs.State.{GraphValue, StateValue}
 use Rattle.algorithm_meaning.specs.Stand.{Stand, Live, Over, with_value, number_in, choice_in, vertex_in}
 use Rattle.algorithm_meaning.specs.Meaning.{after}
-use Rattle.plans.specs.declared.depth.Counter.{Counter}
-use Rattle.plans.specs.declared.depth.Depth.{Depth}
+use Rattle.algorithm_meaning.specs.declared.state.LoopCounter.{LoopCounter}
+use Rattle.algorithm_meaning.specs.declared.state.Depth.{Depth}
 use Rattle.plans.specs.Instruction.{ResultTree, Dropped, Declared, Assigned, EdgePartTree, OperationTree, Do, ApplyEdgesTogether, ApplyVerticesTogether, Unless, Enter, UnlessBelow, Advance, Turn, Jump, End, InstructionTree}
-use Rattle.plans.specs.Machine.{Configuration, At, Ended, forgotten, with_result, with_results, after_parts, go_on, after_unless, after_enter, after_unless_below, after_advance, after_turn, act, act_at, step}
+use Rattle.algorithm_meaning.specs.Loop.{forget_beyond}
+use Rattle.plans.specs.Machine.{Configuration, At, Ended, with_result, with_results, after_parts, go_on, after_unless, after_enter, after_unless_below, after_advance, after_turn, act, act_at, step}
 use Rattle.plans.specs.Laws.{GoesOn}
 use Rattle.plans.specs.Bound.{rank, most_steps}
 use Rattle.plans.proofs.Proper.{HasNoBlock}
@@ -67,50 +68,50 @@ module _ (p : ProgramTree) (g : GraphValue) (code : List InstructionTree) (well 
   ended : (x : ℕ) → 0 < x + 1
   ended x = omega arith
 
-  after_stand : (st : Stand) (place : ℕ) (loops : List Counter) (shown : Depth) (n here : ℕ) → HasTurns n st → rank code place < here → most_steps code (go_on place loops shown st) < n * many + here + 1
+  after_stand : (st : Stand) (place : ℕ) (loops : List LoopCounter) (shown : Depth) (n here : ℕ) → HasTurns n st → rank code place < here → most_steps code (go_on place loops shown st) < n * many + here + 1
   after_stand (Live t) place loops shown n here same h = lower (rank code place) here t.turns n same h
   after_stand (Over t end) place loops shown n here same h = ended (n * many + here)
 
-  after_test : (o : Option Bool) (next to : ℕ) (loops : List Counter) (number : ℕ) (shown : Depth) (s : StateValue) (here : ℕ) → rank code next < here → rank code to < here
+  after_test : (o : Option Bool) (next to : ℕ) (loops : List LoopCounter) (number : ℕ) (shown : Depth) (s : StateValue) (here : ℕ) → rank code next < here → rank code to < here
       → most_steps code (after_unless o next to loops number shown s) < s.turns * many + here + 1
   after_test None next to loops number shown s here h k = ended (s.turns * many + here)
   after_test (Some true) next to loops number shown s here h k = lower (rank code next) here s.turns s.turns refl h
   after_test (Some false) next to loops number shown s here h k = lower (rank code to) here s.turns s.turns refl k
 
-  after_entry : (o : Option ℤ) (next : ℕ) (loops : List Counter) (number : ℕ) (shown : Depth) (s : StateValue) (here : ℕ) → rank code next < here
+  after_entry : (o : Option ℤ) (next : ℕ) (loops : List LoopCounter) (number : ℕ) (shown : Depth) (s : StateValue) (here : ℕ) → rank code next < here
       → most_steps code (after_enter o next loops number shown s) < s.turns * many + here + 1
   after_entry None next loops number shown s here h = ended (s.turns * many + here)
   after_entry (Some x) next loops number shown s here h = lower (rank code next) here s.turns s.turns refl h
 
-  after_below : (b : Bool) (next to : ℕ) (loops others : List Counter) (s : StateValue) (here : ℕ) → rank code next < here → rank code to < here
+  after_below : (b : Bool) (next to : ℕ) (loops others : List LoopCounter) (s : StateValue) (here : ℕ) → rank code next < here → rank code to < here
       → most_steps code (if b then At next loops s else At to others s) < s.turns * many + here + 1
   after_below true next to loops others s here h k = lower (rank code next) here s.turns s.turns refl h
   after_below false next to loops others s here h k = lower (rank code to) here s.turns s.turns refl k
 
-  after_loop_test : (loops : List Counter) (next to : ℕ) (s : StateValue) (here : ℕ) → rank code next < here → rank code to < here
+  after_loop_test : (loops : List LoopCounter) (next to : ℕ) (s : StateValue) (here : ℕ) → rank code next < here → rank code to < here
       → most_steps code (after_unless_below next to loops s) < s.turns * many + here + 1
   after_loop_test [] next to s here h k = lower (rank code to) here s.turns s.turns refl k
   after_loop_test (r ∷ loops) next to s here h k = after_below (int_lt r.next r.end) next to (r ∷ loops) loops s here h k
 
-  after_next : (loops : List Counter) (next : ℕ) (s : StateValue) (here : ℕ) → rank code next < here → most_steps code (after_advance next loops s) < s.turns * many + here + 1
+  after_next : (loops : List LoopCounter) (next : ℕ) (s : StateValue) (here : ℕ) → rank code next < here → most_steps code (after_advance next loops s) < s.turns * many + here + 1
   after_next [] next s here h = lower (rank code next) here s.turns s.turns refl h
   after_next (r ∷ loops) next s here h = lower (rank code next) here s.turns s.turns refl h
 
   one_turn : (n : ℕ) → suc n * many ≡ n * many + many
   one_turn n = grind arith
 
-  use_turn : (n next : ℕ) (loops : List Counter) (shown : Depth) (s : StateValue) (here : ℕ) → most_steps code (after_turn n next loops shown s) < n * many + here + 1
+  use_turn : (n next : ℕ) (loops : List LoopCounter) (shown : Depth) (s : StateValue) (here : ℕ) → most_steps code (after_turn n next loops shown s) < n * many + here + 1
   use_turn zero next loops shown s here = ended (zero * many + here)
   use_turn (suc n) next loops shown s here = let below = low code well next in let e = one_turn n in omega (arith, below, e)
 
-  act_falls : (operation : OperationTree) (number place : ℕ) (shown : Depth) (loops : List Counter) (s : StateValue) → LeadsLower code place operation
+  act_falls : (operation : OperationTree) (number place : ℕ) (shown : Depth) (loops : List LoopCounter) (s : StateValue) → LeadsLower code place operation
       → most_steps code (act p g operation number shown place loops s) < s.turns * many + rank code place + 1
   act_falls (Do action) number place shown loops s h = after_stand (after p g number action s) (place + 1) loops shown s.turns (rank code place) (turns_stay p g action h.0 number s) h.1
   act_falls (ApplyEdgesTogether ends a b) number place shown loops s h =
       lower (rank code (place + 1)) (rank code place) (after_parts p g ends (a ∷ b ∷ []) s).turns s.turns (turns_of_results g.vertices _ _ (a ∷ b ∷ []) _) h
   act_falls (ApplyVerticesTogether set a b) number place shown loops s h = lower (rank code (place + 1)) (rank code place) s.turns s.turns refl h
   act_falls (Unless c to) number place shown loops s h = after_test (choice_in g.vertices c s) (place + 1) to loops number shown s (rank code place) h.0 h.1
-  act_falls (Enter name e) number place shown loops s h = after_entry (number_in g.vertices e (forgotten shown s)) (place + 1) loops number shown s (rank code place) h
+  act_falls (Enter name e) number place shown loops s h = after_entry (number_in g.vertices e (forget_beyond shown s)) (place + 1) loops number shown s (rank code place) h
   act_falls (UnlessBelow name to) number place shown loops s h = after_loop_test loops (place + 1) to s (rank code place) h.0 h.1
   act_falls (Advance name) number place shown loops s h = after_next loops (place + 1) s (rank code place) h
   act_falls Turn number place shown loops s h = use_turn s.turns (place + 1) loops shown s (rank code place)
@@ -128,5 +129,5 @@ module _ (p : ProgramTree) (g : GraphValue) (code : List InstructionTree) (well 
       let here = stands_inside code place within in
       let i = here.0 in
       subst (λ (o : Option InstructionTree). most_steps code (act_at p g o place loops s) < s.turns * many + rank code place + 1) (sym here.1)
-      (act_falls i.operation i.number place i.shown loops (forgotten i.keep s) (leads_lower code well place i here.1))
+      (act_falls i.operation i.number place i.shown loops (forget_beyond i.keep s) (leads_lower code well place i here.1))
   step_falls (Ended s end) within = absurd within

@@ -10,7 +10,8 @@ use Rattle.algorithm_meaning.specs.Function.{WorkValue, first_work, after_set, a
 use Rattle.algorithm_meaning.specs.EdgeApply.{gives}
 use Rattle.typed_tree.specs.Access.{is_none_of, integer_reads, condition_reads, step_uses, steps_use, step_writes, steps_write}
 use Rattle.std.proofs.lemmas.Bool.{and_parts}
-use Rattle.plans.proofs.Types.{VertexSet, Contribution}
+use Rattle.algorithm_meaning.specs.declared.state.SetBinding.{SetBinding}
+use Rattle.algorithm_meaning.specs.declared.contribution.Contribution.{Contribution}
 use Rattle.plans.proofs.Beside.{both_parts}
 
 -- each of these numbers is for such a vector
@@ -50,7 +51,7 @@ either_given : (P : ℕ → Bool) (b : Bool) (v w : WorkValue) → AreFor P v.gi
 either_given P true v w h k = h
 either_given P false v w h k = k
 
-module _ (P : ℕ → Bool) (sets : List VertexSet) (writing : _) (sets_nothing : (vector : ℕ) (n : ℤ) (w : WorkValue) → after_set writing vector n w ≡ w) (gives_number : (vector : ℕ) (r : Reduction) (n : ℤ) (w : WorkValue) → after_reduce writing vector r n w ≡ record w { given = w.given ++ record { vector = vector; reduction = r; number = n } ∷ [] }) where
+module _ (P : ℕ → Bool) (sets : List SetBinding) (writing : _) (sets_nothing : (vector : ℕ) (n : ℤ) (w : WorkValue) → after_set writing vector n w ≡ w) (gives_number : (vector : ℕ) (r : Reduction) (n : ℤ) (w : WorkValue) → after_reduce writing vector r n w ≡ record w { given = w.given ++ record { vector = vector; reduction = r; number = n } ∷ [] }) where
   mutual
     step_gives : (step : StepTree) (w : WorkValue) → list_all P (step_writes step) ≡ true → AreFor P w.given → AreFor P (after_step writing sets step w).given
     step_gives (DeclareInteger name e) w writes h = h
@@ -77,7 +78,7 @@ module _ (P : ℕ → Bool) (sets : List VertexSet) (writing : _) (sets_nothing 
         steps_give rest (after_step writing sets step w) both.1 (step_gives step w both.0 h)
 
 -- an edge function gives numbers for the vectors that it writes
-pub gives_for : (P : ℕ → Bool) (steps : StepsTree) (sets : List VertexSet) (before : List (List ℤ)) (edge : ℕ × ℕ) → list_all P (steps_write steps) ≡ true → AreFor P (gives steps sets before edge)
+pub gives_for : (P : ℕ → Bool) (steps : StepsTree) (sets : List SetBinding) (before : List (List ℤ)) (edge : ℕ × ℕ) → list_all P (steps_write steps) ≡ true → AreFor P (gives steps sets before edge)
 gives_for P steps sets before edge writes = steps_give P sets _ (λ vector n w. refl) (λ vector r n w. refl) steps (first_work before (edge_scope edge)) writes tt
 
 none_from : (a b c : Bool) → not (a || b) ≡ true → (not b ≡ true → c ≡ true) → not a && c ≡ true

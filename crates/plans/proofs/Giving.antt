@@ -5,7 +5,8 @@ use Rattle.typed_tree.specs.StepTree.{StepsTree}
 use Rattle.algorithm_meaning.specs.Arithmetic.{reduced}
 use Rattle.algorithm_meaning.specs.Value.{reduce_at}
 use Rattle.algorithm_meaning.specs.EdgeApply.{all_give, with_given, after_edges}
-use Rattle.plans.proofs.Types.{VertexSet, Contribution}
+use Rattle.algorithm_meaning.specs.declared.state.SetBinding.{SetBinding}
+use Rattle.algorithm_meaning.specs.declared.contribution.Contribution.{Contribution}
 use Rattle.plans.proofs.GivenVectors.{AreFor}
 
 -- the rows at two places are changed in any order
@@ -66,7 +67,7 @@ abbrev pub given_along : (ℕ × ℕ → List Contribution) → List (ℕ × ℕ
 given_along F [] xs = xs
 given_along F (edge ∷ edges) xs = given_along F edges (with_given edge.1 (F edge) xs)
 
-pub edges_give : (functions : List StepsTree) (sets : List VertexSet) (before : List (List ℤ)) (edges : List (ℕ × ℕ)) (xs : List (List ℤ))
+pub edges_give : (functions : List StepsTree) (sets : List SetBinding) (before : List (List ℤ)) (edges : List (ℕ × ℕ)) (xs : List (List ℤ))
     → after_edges functions sets before edges xs ≡ given_along (all_give functions sets before) edges xs
 edges_give functions sets before [] xs = refl
 edges_give functions sets before (edge ∷ edges) xs = edges_give functions sets before edges (with_given edge.1 (all_give functions sets before edge) xs)

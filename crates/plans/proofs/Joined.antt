@@ -5,8 +5,8 @@ use Rattle.typed_tree.specs.ProgramTree.{ProgramTree}
 use Rattle.algorithm_meaning.specs.State.{GraphValue, StateValue}
 use Rattle.algorithm_meaning.specs.Stand.{Live}
 use Rattle.algorithm_meaning.specs.Meaning.{after}
-use Rattle.plans.specs.declared.depth.Counter.{Counter}
-use Rattle.plans.specs.declared.depth.Depth.{Depth}
+use Rattle.algorithm_meaning.specs.declared.state.LoopCounter.{LoopCounter}
+use Rattle.algorithm_meaning.specs.declared.state.Depth.{Depth}
 use Rattle.plans.specs.Instruction.{OperationTree}
 use Rattle.plans.specs.Fusing.{Company, Alone, WithNext, WithPrevious}
 use Rattle.plans.specs.Plan.{behind}
@@ -25,7 +25,7 @@ module _ (p : ProgramTree) (g : GraphValue) where
     pub second : StateValue → StateValue
     pub first_means : IsFaultless a first
     pub second_means : IsFaultless b second
-    pub acts : (number : ℕ) (shown : Depth) (place : ℕ) (loops : List Counter) (turns : ℕ) (s : StateValue) → IsProper d turns s
+    pub acts : (number : ℕ) (shown : Depth) (place : ℕ) (loops : List LoopCounter) (turns : ℕ) (s : StateValue) → IsProper d turns s
         → act p g operation number shown place loops s ≡ At (place + 1) loops (second (first s))
 
   -- what holds of a statement in such company

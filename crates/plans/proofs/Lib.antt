@@ -1,4 +1,3 @@
-pub mod Types
 pub mod Depths
 pub mod Ascending
 pub mod Proper

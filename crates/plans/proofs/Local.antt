@@ -16,7 +16,7 @@ use Rattle.algorithm_meaning.specs.Function.{WorkValue, first_work, after_set, a
 use Rattle.algorithm_meaning.specs.VertexApply.{after_vertex}
 use Rattle.std.proofs.lemmas.Bool.{and_parts}
 use Rattle.plans.specs.Fusing.{integer_is_local, condition_is_local, step_is_local, steps_are_local}
-use Rattle.plans.proofs.Types.{VertexSet}
+use Rattle.algorithm_meaning.specs.declared.state.SetBinding.{SetBinding}
 use Rattle.plans.proofs.Columns.{column, entry_in, put, entry-column, column-here}
 
 -- what a function at this vertex cannot tell apart
@@ -39,7 +39,7 @@ other_source u v w h = ap (λ (s : ScopeValue). s.source) (sym h.scope) ∙ h.so
 other_destination : (u : ℕ) (v w : WorkValue) → IsAlike u v w → w.scope.destination ≡ u
 other_destination u v w h = ap (λ (s : ScopeValue). s.destination) (sym h.scope) ∙ h.destination
 
-module _ (u : ℕ) (sets : List VertexSet) where
+module _ (u : ℕ) (sets : List SetBinding) where
   value_alike : (v w : WorkValue) → IsAlike u v w → (e : IntegerTree) → integer_is_local e ≡ true → value v.vectors sets v.scope e ≡ value w.vectors sets w.scope e
   value_alike v w h (integer.Number n) local = refl
   value_alike v w h (integer.Constant name n) local = refl
@@ -98,7 +98,7 @@ module _ (u : ℕ) (sets : List VertexSet) where
   }
 
 -- what is written is seen at once
-module _ (u : ℕ) (sets : List VertexSet) (writing : _) (sets_at_once : (vector : ℕ) (n : ℤ) (w : WorkValue) → after_set writing vector n w ≡ record w { vectors = with_entry w.vectors vector w.scope.source n }) (reduces_at_once : (vector : ℕ) (r : Reduction) (n : ℤ) (w : WorkValue) → after_reduce writing vector r n w ≡ record w { vectors = reduce_at w.vectors vector w.scope.source r n }) where
+module _ (u : ℕ) (sets : List SetBinding) (writing : _) (sets_at_once : (vector : ℕ) (n : ℤ) (w : WorkValue) → after_set writing vector n w ≡ record w { vectors = with_entry w.vectors vector w.scope.source n }) (reduces_at_once : (vector : ℕ) (r : Reduction) (n : ℤ) (w : WorkValue) → after_reduce writing vector r n w ≡ record w { vectors = reduce_at w.vectors vector w.scope.source r n }) where
   with_entries : (v w : WorkValue) → IsAlike u v w → (vector : ℕ) (x y : ℤ) → x ≡ y
       → IsAlike u (record v { vectors = with_entry v.vectors vector v.scope.source x }) (record w { vectors = with_entry w.vectors vector w.scope.source y })
   with_entries v w h vector x y e = record {
@@ -166,6 +166,6 @@ module _ (u : ℕ) (sets : List VertexSet) (writing : _) (sets_at_once : (vector
       r.columns
 
 -- a function at a vertex works alike where the entries of the vertex are the same
-pub vertex_alike : (u : ℕ) (sets : List VertexSet) (steps : StepsTree) (xs ys : List (List ℤ)) → steps_are_local steps ≡ true → column u xs ≡ column u ys
+pub vertex_alike : (u : ℕ) (sets : List SetBinding) (steps : StepsTree) (xs ys : List (List ℤ)) → steps_are_local steps ≡ true → column u xs ≡ column u ys
     → column u (after_vertex steps sets u xs) ≡ column u (after_vertex steps sets u ys)
 vertex_alike u sets steps xs ys local h = columns_alike u sets _ (λ vector n w. refl) (λ vector r n w. refl) steps xs ys local h

@@ -3,7 +3,7 @@ use Rattle.std.proofs.Common.{◌≡◌, ℕ, zero, suc, ◌+◌, Bool, true, fa
 use Rattle.typed_tree.specs.BlockTree.{ActionTree, DeclareInteger, DeclareCondition, SetInteger, SetCondition, ReduceInteger, SetEntry, ReduceEntry, DeclareSet, AssignSet, AddVertex, PrintInteger, PrintCondition, ApplyVertex, ApplyEdges, If, IfElse, While, For, BlockTree, Empty, Then}
 use Rattle.typed_tree.specs.ProgramTree.{ProgramTree}
 use Rattle.apply_options.specs.ScheduleTree.{ScheduleTree, choice_at}
-use Rattle.plans.specs.declared.depth.Depth.{Depth}
+use Rattle.algorithm_meaning.specs.declared.state.Depth.{Depth}
 use Rattle.plans.specs.Instruction.{OperationTree, ApplyEdgesTogether, ApplyVerticesTogether, Advance, Jump, End, InstructionTree}
 use Rattle.plans.specs.Fusing.{EdgeApplyTree, VertexApplyTree, edge_apply_of, vertex_apply_of, edges_fit, vertices_fit, edges_together, vertices_together, either, together, is_with, Company, Alone, WithNext, WithPrevious, with_next, company_of, takes_next}
 use Rattle.plans.specs.Plan.{behind, behind_all, in_loop, main_depth, plain, loop_step, chosen, size_in, plan_in, size, size_all, plan, plan_all, plan_of}

@@ -9,7 +9,7 @@ use Rattle.algorithm_meaning.specs.Function.{WorkValue, first_work, after_set, a
 use Rattle.algorithm_meaning.specs.VertexApply.{after_vertex}
 use Rattle.std.proofs.lemmas.Bool.{and_parts}
 use Rattle.plans.specs.Fusing.{condition_is_local, step_is_local, steps_are_local}
-use Rattle.plans.proofs.Types.{VertexSet}
+use Rattle.algorithm_meaning.specs.declared.state.SetBinding.{SetBinding}
 use Rattle.plans.proofs.Columns.{column, column-elsewhere}
 use Rattle.plans.proofs.Local.{IsAlike, step_alike}
 
@@ -17,7 +17,7 @@ either_column : (b : Bool) (v : ℕ) (x y : WorkValue) (os : List (Option ℤ)) 
 either_column true v x y os h k = h
 either_column false v x y os h k = k
 
-module _ (u v : ℕ) (apart : (u == v) ≡ false) (sets : List VertexSet) (writing : _) (sets_at_once : (vector : ℕ) (n : ℤ) (w : WorkValue) → after_set writing vector n w ≡ record w { vectors = with_entry w.vectors vector w.scope.source n }) (reduces_at_once : (vector : ℕ) (r : Reduction) (n : ℤ) (w : WorkValue) → after_reduce writing vector r n w ≡ record w { vectors = reduce_at w.vectors vector w.scope.source r n }) where
+module _ (u v : ℕ) (apart : (u == v) ≡ false) (sets : List SetBinding) (writing : _) (sets_at_once : (vector : ℕ) (n : ℤ) (w : WorkValue) → after_set writing vector n w ≡ record w { vectors = with_entry w.vectors vector w.scope.source n }) (reduces_at_once : (vector : ℕ) (r : Reduction) (n : ℤ) (w : WorkValue) → after_reduce writing vector r n w ≡ record w { vectors = reduce_at w.vectors vector w.scope.source r n }) where
   written_elsewhere : (w : WorkValue) → IsAlike u w w → (vector : ℕ) (x : ℤ) → column v (with_entry w.vectors vector w.scope.source x) ≡ column v w.vectors
   written_elsewhere w h vector x = ap (λ (y : ℕ). column v (with_entry w.vectors vector y x)) h.source ∙ column-elsewhere w.vectors vector u v x apart
 
@@ -55,6 +55,6 @@ module _ (u v : ℕ) (apart : (u == v) ≡ false) (sets : List VertexSet) (writi
       → column v (after_steps writing sets steps (first_work vectors (vertex_scope u))).vectors ≡ column v vectors
   column_elsewhere steps vectors local = after_steps_elsewhere steps (first_work vectors (vertex_scope u)) local (record { columns = refl; scope = refl; source = refl; destination = refl })
 
-pub vertex_elsewhere : (u v : ℕ) → (u == v) ≡ false → (sets : List VertexSet) (steps : StepsTree) (vectors : List (List ℤ)) → steps_are_local steps ≡ true
+pub vertex_elsewhere : (u v : ℕ) → (u == v) ≡ false → (sets : List SetBinding) (steps : StepsTree) (vectors : List (List ℤ)) → steps_are_local steps ≡ true
     → column v (after_vertex steps sets u vectors) ≡ column v vectors
 vertex_elsewhere u v apart sets steps vectors local = column_elsewhere u v apart sets _ (λ vector n w. refl) (λ vector r n w. refl) steps vectors local

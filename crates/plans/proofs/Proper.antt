@@ -14,15 +14,15 @@ use Rattle.algorithm_meaning.specs.VertexSets.{members_for, set_members, inserte
 use Rattle.algorithm_meaning.specs.Entries.{with_vectors}
 use Rattle.algorithm_meaning.specs.Arithmetic.{reduced}
 use Rattle.algorithm_meaning.specs.Meaning.{after}
-use Rattle.plans.specs.declared.depth.Depth.{Depth}
+use Rattle.algorithm_meaning.specs.declared.state.Depth.{Depth}
 use Rattle.plans.specs.Plan.{behind, with_set}
-use Rattle.plans.specs.Machine.{forgotten}
-use Rattle.plans.proofs.Depths.{visible, IsWithin, visible-forgotten}
+use Rattle.algorithm_meaning.specs.Loop.{forget_beyond, depth_of}
+use Rattle.plans.proofs.Depths.{IsWithin, visible-forgotten}
 use Rattle.plans.proofs.Ascending.{AscendsFrom, AreAscending, ascends_range, ascends_filter, ascends_inserted}
 
 -- what a run keeps at a depth with no more turns left than these
 pub record IsProper (d : Depth) (turns : ℕ) (s : StateValue) : Type 0 where
-  pub deep : visible s ≡ d
+  pub deep : depth_of s ≡ d
   pub sets : AreAscending s
   pub fewer : s.turns ≤ turns
 
@@ -56,7 +56,7 @@ first_members P [] (suc n) place none all = none
 first_members P (y ∷ ys) (suc n) zero none all = all zero
 first_members P (y ∷ ys) (suc n) (suc m) none all = first_members P ys n m none (λ place. all (suc place))
 
-pub proper-forgotten : (d e : Depth) (turns : ℕ) (s : StateValue) → IsWithin d e → IsProper e turns s → IsProper d turns (forgotten d s)
+pub proper-forgotten : (d e : Depth) (turns : ℕ) (s : StateValue) → IsWithin d e → IsProper e turns s → IsProper d turns (forget_beyond d s)
 proper-forgotten d e turns s h k = record {
   deep = visible-forgotten d e s k.deep h;
   sets = λ place. first_members (AscendsFrom 0) s.sets d.sets place tt k.sets;
@@ -83,9 +83,9 @@ HasNoBlock a = Unit {0}
 -- where a statement leaves a run: it goes on at the second depth, or it has ended at the first
 abbrev pub Leaves : (d e : Depth) → (turns : ℕ) → Stand → Type 0
 Leaves d e turns (Live t) = IsProper e turns t
-Leaves d e turns (Over t end) = visible t ≡ d
+Leaves d e turns (Over t end) = depth_of t ≡ d
 
-by_value : {A : Type 0} (o : Option A) (d e : Depth) (turns number : ℕ) (s : StateValue) (go : A → Stand) → visible s ≡ d → ((x : A) → Leaves d e turns (go x))
+by_value : {A : Type 0} (o : Option A) (d e : Depth) (turns number : ℕ) (s : StateValue) (go : A → Stand) → depth_of s ≡ d → ((x : A) → Leaves d e turns (go x))
     → Leaves d e turns (with_value o number s go)
 by_value None d e turns number s go deep h = deep
 by_value (Some x) d e turns number s go deep h = h x

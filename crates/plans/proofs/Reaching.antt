@@ -7,25 +7,25 @@ use Rattle.algorithm_meaning.specs.declared.outcome.End.TheVariants.{TurnsOver, 
 use Rattle.algorithm_meaning.specs.State.{GraphValue, StateValue}
 use Rattle.algorithm_meaning.specs.Stand.{Stand, Live, Over, then_do, with_value, choose}
 use Rattle.algorithm_meaning.specs.Variables.{with_new_integer}
-use Rattle.algorithm_meaning.specs.Loop.{depth_of, leave, take_turn, loop}
+use Rattle.algorithm_meaning.specs.Loop.{depth_of, leave, take_turn, loop, forget_beyond}
 use Rattle.algorithm_meaning.specs.Meaning.{after}
 use Rattle.apply_options.specs.declared.apply_schedule.ApplySchedule.{ApplySchedule}
-use Rattle.plans.specs.declared.depth.Counter.{Counter}
-use Rattle.plans.specs.declared.depth.Depth.{Depth}
+use Rattle.algorithm_meaning.specs.declared.state.LoopCounter.{LoopCounter}
+use Rattle.algorithm_meaning.specs.declared.state.Depth.{Depth}
 use Rattle.plans.specs.Instruction.{Do, Jump, InstructionTree}
 use Rattle.plans.specs.Plan.{behind, loop_step}
-use Rattle.plans.specs.Machine.{Configuration, At, Ended, forgotten, go_on, act, act_at, step}
+use Rattle.plans.specs.Machine.{Configuration, At, Ended, go_on, act, act_at, step}
 use Rattle.plans.specs.Laws.{GoesOn}
-use Rattle.plans.proofs.Depths.{visible, IsWithin, forgotten-all, forgotten-less}
+use Rattle.plans.proofs.Depths.{IsWithin, forgotten-all, forgotten-less}
 use Rattle.plans.proofs.Proper.{IsProper, HasNoBlock, Leaves, alone-leaves, proper-forgotten}
 
 pub proper_more : (d : Depth) (m n : ℕ) (s : StateValue) → m ≤ n → IsProper d m s → IsProper d n s
 proper_more d m n s h proper = record { deep = proper.deep; sets = proper.sets; fewer = omega (arith, h, proper.fewer) }
 
 -- a new variable is beyond this
-pub forgotten-new : (d : Depth) (s : StateValue) (n : ℤ) → d.integers ≤ length s.scope.integers → forgotten d (with_new_integer s n) ≡ forgotten d s
-forgotten-new d s n h = λ i. record (forgotten d s) {
-  scope = record (forgotten d s).scope { integers = take-append-le d.integers s.scope.integers (n ∷ []) h i };
+pub forgotten-new : (d : Depth) (s : StateValue) (n : ℤ) → d.integers ≤ length s.scope.integers → forget_beyond d (with_new_integer s n) ≡ forget_beyond d s
+forgotten-new d s n h = λ i. record (forget_beyond d s) {
+  scope = record (forget_beyond d s).scope { integers = take-append-le d.integers s.scope.integers (n ∷ []) h i };
 }
 
 pub is_inside : (code : List InstructionTree) (place : ℕ) (i : InstructionTree) → slice_get code place ≡ Some i → place < length code
@@ -58,27 +58,27 @@ module _ (p : ProgramTree) (g : GraphValue) (code : List InstructionTree) where
   by_step c d e h r = next h.goes_on (subst (λ (x : Configuration). Reaches x e) (sym h.leads) r)
 
   -- it comes to a place with a state that is, without what is beyond a depth, this one
-  pub record Lands (to : ℕ) (loops : List Counter) (d : Depth) (turns : ℕ) (s : StateValue) (c : Configuration) : Type 0 where
+  pub record Lands (to : ℕ) (loops : List LoopCounter) (d : Depth) (turns : ℕ) (s : StateValue) (c : Configuration) : Type 0 where
     pub there : StateValue
     pub reaches : Reaches c (At to loops there)
-    pub same : forgotten d there ≡ s
+    pub same : forget_beyond d there ≡ s
     pub proper : IsProper d turns s
 
   -- it comes to where the program stands
-  abbrev pub Follows : (to : ℕ) → List Counter → Depth → (turns : ℕ) → Stand → Configuration → Type 0
+  abbrev pub Follows : (to : ℕ) → List LoopCounter → Depth → (turns : ℕ) → Stand → Configuration → Type 0
   Follows to loops d turns (Live s) c = Lands to loops d turns s c
   Follows to loops d turns (Over s end) c = Reaches c (Ended s end)
 
-  pub follows_from : (st : Stand) (to : ℕ) (loops : List Counter) (d : Depth) (turns : ℕ) (c c' : Configuration) → Reaches c c' → Follows to loops d turns st c' → Follows to loops d turns st c
+  pub follows_from : (st : Stand) (to : ℕ) (loops : List LoopCounter) (d : Depth) (turns : ℕ) (c c' : Configuration) → Reaches c c' → Follows to loops d turns st c' → Follows to loops d turns st c
   follows_from (Live s) to loops d turns c c' r f = record { there = f.there; reaches = and_reaches r f.reaches; same = f.same; proper = f.proper }
   follows_from (Over s end) to loops d turns c c' r f = and_reaches r f
 
-  pub follows_more : (st : Stand) (to : ℕ) (loops : List Counter) (d : Depth) (m n : ℕ) (c : Configuration) → m ≤ n → Follows to loops d m st c → Follows to loops d n st c
+  pub follows_more : (st : Stand) (to : ℕ) (loops : List LoopCounter) (d : Depth) (m n : ℕ) (c : Configuration) → m ≤ n → Follows to loops d m st c → Follows to loops d n st c
   follows_more (Live s) to loops d m n c h f = record { there = f.there; reaches = f.reaches; same = f.same; proper = proper_more d m n s h f.proper }
   follows_more (Over s end) to loops d m n c h f = f
 
   -- one instruction
-  pub takes : (place : ℕ) (loops : List Counter) (m : StateValue) (i : InstructionTree) (s : StateValue) → slice_get code place ≡ Some i → forgotten i.keep m ≡ s
+  pub takes : (place : ℕ) (loops : List LoopCounter) (m : StateValue) (i : InstructionTree) (s : StateValue) → slice_get code place ≡ Some i → forget_beyond i.keep m ≡ s
       → Moves (At place loops m) (act p g i.operation i.number i.shown place loops s)
   takes place loops m i s h e =
       record {
@@ -86,7 +86,7 @@ module _ (p : ProgramTree) (g : GraphValue) (code : List InstructionTree) where
         leads = ap (λ (o : Option InstructionTree). act_at p g o place loops m) h ∙ ap (λ (t : StateValue). act p g i.operation i.number i.shown place loops t) e;
       }
 
-  alone_stands : (st : Stand) (to : ℕ) (loops : List Counter) (d e : Depth) (turns : ℕ) (c : Configuration) → Leaves d e turns st
+  alone_stands : (st : Stand) (to : ℕ) (loops : List LoopCounter) (d e : Depth) (turns : ℕ) (c : Configuration) → Leaves d e turns st
       → Moves c (go_on to loops d st) → Follows to loops e turns st c
   alone_stands (Live t) to loops d e turns c leaves h =
       record { there = t; reaches = by_step c (At to loops t) (At to loops t) h here; same = forgotten-all e t leaves.deep; proper = leaves }
@@ -94,26 +94,26 @@ module _ (p : ProgramTree) (g : GraphValue) (code : List InstructionTree) where
       by_step c (Ended t end) (Ended t end) (moves_on h (ap (λ (u : StateValue). Ended u end) (forgotten-all d t leaves))) here
 
   -- a statement without a block
-  pub alone_runs : (a : ActionTree) → HasNoBlock a → (place number : ℕ) (choice : ApplySchedule) (d : Depth) (turns : ℕ) (loops : List Counter) (m s : StateValue)
+  pub alone_runs : (a : ActionTree) → HasNoBlock a → (place number : ℕ) (choice : ApplySchedule) (d : Depth) (turns : ℕ) (loops : List LoopCounter) (m s : StateValue)
       → slice_get code place ≡ Some (record { number = number; keep = d; shown = d; choice = choice; operation = Do a })
-      → forgotten d m ≡ s → IsProper d turns s → Follows (place + 1) loops (behind a d) turns (after p g number a s) (At place loops m)
+      → forget_beyond d m ≡ s → IsProper d turns s → Follows (place + 1) loops (behind a d) turns (after p g number a s) (At place loops m)
   alone_runs a alone place number choice d turns loops m s at same proper =
       alone_stands (after p g number a s) (place + 1) loops d (behind a d) turns (At place loops m) (alone-leaves p g number d turns s proper a alone)
       (takes place loops m (record { number = number; keep = d; shown = d; choice = choice; operation = Do a }) s at same)
 
   -- a block is left
-  pub leaving : (st : Stand) (to : ℕ) (loops : List Counter) (d e : Depth) (turns : ℕ) (s : StateValue) (c : Configuration) → visible s ≡ d → IsWithin d e
+  pub leaving : (st : Stand) (to : ℕ) (loops : List LoopCounter) (d e : Depth) (turns : ℕ) (s : StateValue) (c : Configuration) → depth_of s ≡ d → IsWithin d e
       → Follows to loops e turns st c → Follows to loops d turns (leave (depth_of s) st) c
   leaving (Live t) to loops d e turns s c deep within f = record {
     there = f.there;
     reaches = f.reaches;
-    same = sym (forgotten-less d e f.there within) ∙ ap (forgotten d) f.same ∙ ap (λ (x : Depth). forgotten x t) (sym deep);
-    proper = subst (λ (x : Depth). IsProper d turns (forgotten x t)) (sym deep) (proper-forgotten d e turns t within f.proper);
+    same = sym (forgotten-less d e f.there within) ∙ ap (forget_beyond d) f.same ∙ ap (λ (x : Depth). forget_beyond x t) (sym deep);
+    proper = subst (λ (x : Depth). IsProper d turns (forget_beyond x t)) (sym deep) (proper-forgotten d e turns t within f.proper);
   }
   leaving (Over t end) to loops d e turns s c deep within f = f
 
   -- a jump behind it
-  pub jumps : (st : Stand) (at to : ℕ) (loops : List Counter) (d shown : Depth) (turns number : ℕ) (c : Configuration) → slice_get code at ≡ Some (loop_step number d shown (Jump to))
+  pub jumps : (st : Stand) (at to : ℕ) (loops : List LoopCounter) (d shown : Depth) (turns number : ℕ) (c : Configuration) → slice_get code at ≡ Some (loop_step number d shown (Jump to))
       → Follows at loops d turns st c → Follows to loops d turns st c
   jumps (Live s) at to loops d shown turns number c h f = record {
     there = s;
@@ -124,7 +124,7 @@ module _ (p : ProgramTree) (g : GraphValue) (code : List InstructionTree) where
   jumps (Over s end) at to loops d shown turns number c h f = f
 
   -- the same place under another name
-  pub lands_at : (st : Stand) (a b : ℕ) (loops : List Counter) (d : Depth) (turns : ℕ) (c : Configuration) → a ≡ b → Follows a loops d turns st c → Follows b loops d turns st c
+  pub lands_at : (st : Stand) (a b : ℕ) (loops : List LoopCounter) (d : Depth) (turns : ℕ) (c : Configuration) → a ≡ b → Follows a loops d turns st c → Follows b loops d turns st c
   lands_at st a b loops d turns c e f = subst (λ (x : ℕ). Follows x loops d turns st c) e f
 
   -- what a turn of a loop leads to: the head of the loop again, or the end of the run
@@ -137,14 +137,14 @@ module _ (p : ProgramTree) (g : GraphValue) (code : List InstructionTree) where
   leads_from d turns IsHead (Over u end) c c' r on = and_reaches r on
 
   -- what the machine does at the head of a loop
-  pub record RunsLoop (A : Type 0) (test : A → StateValue → Option Bool) (body : A → StateValue → Stand) (following : A → A) (number to : ℕ) (loops : List Counter) (d : Depth) (IsHead : A → StateValue → Configuration → Type 0) : Type 0 where
+  pub record RunsLoop (A : Type 0) (test : A → StateValue → Option Bool) (body : A → StateValue → Stand) (following : A → A) (number to : ℕ) (loops : List LoopCounter) (d : Depth) (IsHead : A → StateValue → Configuration → Type 0) : Type 0 where
     pub faults : (a : A) (turns : ℕ) (s : StateValue) (c : Configuration) → IsProper d turns s → IsHead a s c → test a s ≡ None → Reaches c (Ended s (Fault 401 number))
     pub stops : (a : A) (turns : ℕ) (s : StateValue) (c : Configuration) → IsProper d turns s → IsHead a s c → test a s ≡ Some false → Lands to loops d turns s c
     pub is_over : (a : A) (turns : ℕ) (s : StateValue) (c : Configuration) → IsProper d turns s → IsHead a s c → test a s ≡ Some true → s.turns ≡ 0 → Reaches c (Ended s TurnsOver)
     pub turn : (a : A) (turns : ℕ) (s : StateValue) (c : Configuration) → IsProper d turns s → IsHead a s c → test a s ≡ Some true → (n : ℕ) → s.turns ≡ suc n
         → LeadsOn d n (IsHead (following a)) (body a (record s { turns = n })) c
 
-  module _ (A : Type 0) (test : A → StateValue → Option Bool) (body : A → StateValue → Stand) (following : A → A) (number to : ℕ) (loops : List Counter) (d : Depth) (IsHead : A → StateValue → Configuration → Type 0) (runs : RunsLoop A test body following number to loops d IsHead) where
+  module _ (A : Type 0) (test : A → StateValue → Option Bool) (body : A → StateValue → Stand) (following : A → A) (number to : ℕ) (loops : List LoopCounter) (d : Depth) (IsHead : A → StateValue → Configuration → Type 0) (runs : RunsLoop A test body following number to loops d IsHead) where
     at_end : (a : A) (s : StateValue) (c : Configuration) (o : Option Bool) → test a s ≡ o → IsProper d 0 s → IsHead a s c
         → Follows to loops d 0 (with_value o number s (λ b. choose b (Over s TurnsOver) (Live s))) c
     at_end a s c None e proper head = runs.faults a 0 s c proper head e

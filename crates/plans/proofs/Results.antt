@@ -10,11 +10,11 @@ use Rattle.algorithm_meaning.specs.VertexSets.{set_members, with_new_set, with_m
 use Rattle.algorithm_meaning.specs.EdgeApply.{modified}
 use Rattle.typed_tree.specs.Access.{is_none_of, are_apart}
 use Rattle.std.proofs.lemmas.Bool.{and_parts}
-use Rattle.plans.specs.declared.depth.Depth.{Depth}
+use Rattle.algorithm_meaning.specs.declared.state.Depth.{Depth}
 use Rattle.plans.specs.Instruction.{ResultTree, Dropped, Declared, Assigned}
 use Rattle.plans.specs.Fusing.{result_places, result_vectors}
 use Rattle.plans.specs.Machine.{with_result}
-use Rattle.plans.proofs.Types.{VertexSet}
+use Rattle.algorithm_meaning.specs.declared.state.SetBinding.{SetBinding}
 use Rattle.plans.proofs.Beside.{AgreeBut, SetsAgreeBut}
 
 modified_same : (n vector : ℕ) (xs ys xs' ys' : List (List ℤ)) → slice_index_or xs vector [] ≡ slice_index_or xs' vector [] → slice_index_or ys vector [] ≡ slice_index_or ys' vector []
@@ -50,13 +50,13 @@ is_other place at h = not_same (at == place) h
     not_same true h = cc
     not_same false h = refl
 
-other_than_new : (sets : List VertexSet) (x : VertexSet) (place : ℕ) → (length sets == place) ≡ false → members_of (slice_get sets place) ≡ members_of (slice_get (sets ++ x ∷ []) place)
+other_than_new : (sets : List SetBinding) (x : SetBinding) (place : ℕ) → (length sets == place) ≡ false → members_of (slice_get sets place) ≡ members_of (slice_get (sets ++ x ∷ []) place)
 other_than_new [] x zero h = absurd (grind (arith, nat_tests))
 other_than_new [] x (suc n) h = refl
 other_than_new (y ∷ ys) x zero h = refl
 other_than_new (y ∷ ys) x (suc n) h = let apart : (length ys == n) ≡ false = grind (arith, nat_tests) in other_than_new ys x n apart
 
-other_than_assigned : (sets : List VertexSet) (at : ℕ) (members : List ℕ) (place : ℕ) → (at == place) ≡ false → members_of (slice_get sets place) ≡ members_of (slice_get (set_members sets at members) place)
+other_than_assigned : (sets : List SetBinding) (at : ℕ) (members : List ℕ) (place : ℕ) → (at == place) ≡ false → members_of (slice_get sets place) ≡ members_of (slice_get (set_members sets at members) place)
 other_than_assigned [] at members place h = refl
 other_than_assigned (y ∷ ys) zero members zero h = absurd (grind (arith, nat_tests))
 other_than_assigned (y ∷ ys) zero members (suc n) h = refl

@@ -5,21 +5,21 @@ use Rattle.typed_tree.specs.BlockTree.{ActionTree, DeclareInteger, DeclareCondit
 use Rattle.typed_tree.specs.ProgramTree.{ProgramTree}
 use Rattle.algorithm_meaning.specs.State.{GraphValue, StateValue}
 use Rattle.algorithm_meaning.specs.Stand.{Stand, Live, Over, then_do, choice_in, with_value, choose}
-use Rattle.algorithm_meaning.specs.Loop.{inside, depth_of, leave}
+use Rattle.algorithm_meaning.specs.Loop.{inside, depth_of, leave, forget_beyond}
 use Rattle.algorithm_meaning.specs.Meaning.{after, after_all}
 use Rattle.apply_options.specs.ScheduleTree.{ScheduleTree, choice_at}
-use Rattle.plans.specs.declared.depth.Counter.{Counter}
-use Rattle.plans.specs.declared.depth.Depth.{Depth}
+use Rattle.algorithm_meaning.specs.declared.state.LoopCounter.{LoopCounter}
+use Rattle.algorithm_meaning.specs.declared.state.Depth.{Depth}
 use Rattle.plans.specs.Instruction.{OperationTree, Do, Unless, UnlessBelow, Turn, Jump, Advance, InstructionTree}
 use Rattle.plans.specs.Fusing.{Company, Alone, WithNext, WithPrevious, company_of, takes_next}
 use Rattle.plans.specs.Plan.{behind, behind_all, in_loop, plain, loop_step, chosen, size_in, plan_in, size, size_all, plan, plan_all}
-use Rattle.plans.specs.Machine.{Configuration, At, forgotten}
+use Rattle.plans.specs.Machine.{Configuration, At}
 use Rattle.plans.proofs.Depths.{IsWithin, within_behind_all, within_both, forgotten-all}
 use Rattle.plans.proofs.Proper.{IsProper, HasNoBlock}
 use Rattle.plans.proofs.Places.{HasAt, has_front, has_behind, length-plan, length-plan_all}
 use Rattle.plans.proofs.Reaching.{here, by_step, Moves, moves_on, Lands, Follows, follows_from, takes, alone_runs, leaving, jumps, lands_at}
 use Rattle.plans.proofs.Whiles.{unless_faults, unless_chooses, while_runs}
-use Rattle.plans.proofs.Fors.{counter, StandsFor, for_runs}
+use Rattle.plans.proofs.Fors.{StandsFor, for_runs}
 use Rattle.plans.proofs.Joined.{IsFaultless, DoesBoth, IsGoodCompany, faultless-proper}
 
 -- what is left of a block whose first statement may be done already, and what is visible there
@@ -38,23 +38,23 @@ within_loop d = record { integers = omega arith; conditions = omega arith; sets 
 
 module _ (p : ProgramTree) (g : GraphValue) (schedule : ScheduleTree) (code : List InstructionTree) where
   -- one statement after the other
-  then_follows : (st : Stand) (go : StateValue → Stand) (at to : ℕ) (loops : List Counter) (d e : Depth) (turns : ℕ) (c : Configuration)
+  then_follows : (st : Stand) (go : StateValue → Stand) (at to : ℕ) (loops : List LoopCounter) (d e : Depth) (turns : ℕ) (c : Configuration)
       → Follows p g code at loops d turns st c
-      → ((t there : StateValue) → forgotten d there ≡ t → IsProper d turns t → Follows p g code to loops e turns (go t) (At at loops there))
+      → ((t there : StateValue) → forget_beyond d there ≡ t → IsProper d turns t → Follows p g code to loops e turns (go t) (At at loops there))
       → Follows p g code to loops e turns (then_do st go) c
   then_follows (Live t) go at to loops d e turns c f next =
       follows_from p g code (go t) to loops e turns c (At at loops f.there) f.reaches (next t f.there f.same f.proper)
   then_follows (Over t end) go at to loops d e turns c f next = f
 
   -- a block inside a statement, at its first instruction
-  block_inside : (st : Stand) (to : ℕ) (loops : List Counter) (b : BlockTree) (d : Depth) (turns : ℕ) (s : StateValue) (c c' : Configuration) → IsProper d turns s
+  block_inside : (st : Stand) (to : ℕ) (loops : List LoopCounter) (b : BlockTree) (d : Depth) (turns : ℕ) (s : StateValue) (c c' : Configuration) → IsProper d turns s
       → Moves p g code c c' → Follows p g code to loops (behind_all b d) turns st c' → Follows p g code to loops d turns (leave (depth_of s) st) c
   block_inside st to loops b d turns s c c' q e f =
       follows_from p g code (leave (depth_of s) st) to loops d turns c c' (by_step p g code c c' c' e here)
       (leaving p g code st to loops d (behind_all b d) turns s c' q.deep (within_behind_all b d) f)
 
-  if_runs : (c : ConditionTree) (body : BlockTree) (place number to : ℕ) (d : Depth) (turns : ℕ) (loops : List Counter) (m s : StateValue) (o : Option Bool)
-      → slice_get code place ≡ Some (plain number d (Unless c to)) → forgotten d m ≡ s → IsProper d turns s → choice_in g.vertices c s ≡ o
+  if_runs : (c : ConditionTree) (body : BlockTree) (place number to : ℕ) (d : Depth) (turns : ℕ) (loops : List LoopCounter) (m s : StateValue) (o : Option Bool)
+      → slice_get code place ≡ Some (plain number d (Unless c to)) → forget_beyond d m ≡ s → IsProper d turns s → choice_in g.vertices c s ≡ o
       → Follows p g code to loops (behind_all body d) turns (after_all p g body s) (At (place + 1) loops s)
       → Follows p g code to loops d turns (with_value o number s (λ b. choose b (inside (after_all p g body) s) (Live s))) (At place loops m)
   if_runs c body place number to d turns loops m s None at same q e body_runs = unless_faults p g code c place number to d turns loops m s at same q e
@@ -68,8 +68,8 @@ module _ (p : ProgramTree) (g : GraphValue) (schedule : ScheduleTree) (code : Li
     proper = q;
   }
 
-  if_else_runs : (c : ConditionTree) (body other : BlockTree) (place number back from to : ℕ) (d : Depth) (turns : ℕ) (loops : List Counter) (m s : StateValue) (o : Option Bool)
-      → slice_get code place ≡ Some (plain number d (Unless c from)) → slice_get code back ≡ Some (plain number d (Jump to)) → forgotten d m ≡ s → IsProper d turns s → choice_in g.vertices c s ≡ o
+  if_else_runs : (c : ConditionTree) (body other : BlockTree) (place number back from to : ℕ) (d : Depth) (turns : ℕ) (loops : List LoopCounter) (m s : StateValue) (o : Option Bool)
+      → slice_get code place ≡ Some (plain number d (Unless c from)) → slice_get code back ≡ Some (plain number d (Jump to)) → forget_beyond d m ≡ s → IsProper d turns s → choice_in g.vertices c s ≡ o
       → Follows p g code back loops (behind_all body d) turns (after_all p g body s) (At (place + 1) loops s)
       → Follows p g code to loops (behind_all other d) turns (after_all p g other s) (At from loops s)
       → Follows p g code to loops d turns (with_value o number s (λ b. choose b (inside (after_all p g body) s) (inside (after_all p g other) s))) (At place loops m)
@@ -84,8 +84,8 @@ module _ (p : ProgramTree) (g : GraphValue) (schedule : ScheduleTree) (code : Li
       (unless_chooses p g code c place number from d loops m s false at same e) other_runs
 
   -- two statements that one instruction does
-  both_run : (operation : OperationTree) (a b : ActionTree) (place number : ℕ) (label : Option ℕ) (d : Depth) (turns : ℕ) (loops : List Counter) (m s : StateValue) (both : DoesBoth p g operation d a b)
-      → slice_get code place ≡ Some (chosen schedule number label d operation) → forgotten d m ≡ s → IsProper d turns s
+  both_run : (operation : OperationTree) (a b : ActionTree) (place number : ℕ) (label : Option ℕ) (d : Depth) (turns : ℕ) (loops : List LoopCounter) (m s : StateValue) (both : DoesBoth p g operation d a b)
+      → slice_get code place ≡ Some (chosen schedule number label d operation) → forget_beyond d m ≡ s → IsProper d turns s
       → Lands p g code (place + 1) loops (behind b (behind a d)) turns (both.second (both.first s)) (At place loops m)
   both_run operation a b place number label d turns loops m s both at same q =
       let proper = faultless-proper p g b both.second (behind a d) turns (both.first s) both.second_means (faultless-proper p g a both.first d turns s both.first_means q) in
@@ -105,8 +105,8 @@ module _ (p : ProgramTree) (g : GraphValue) (schedule : ScheduleTree) (code : Li
       ∙ ap (λ (st : Stand). then_do st (after_all p g (Then other label b rest))) (sym (a_means.means number s))
 
   -- the instruction of a statement without a block
-  single : (a : ActionTree) → HasNoBlock a → (place number : ℕ) (label : Option ℕ) (d : Depth) (turns : ℕ) (loops : List Counter) (m s : StateValue)
-      → HasAt code place (chosen schedule number label d (Do a) ∷ []) → forgotten d m ≡ s → IsProper d turns s
+  single : (a : ActionTree) → HasNoBlock a → (place number : ℕ) (label : Option ℕ) (d : Depth) (turns : ℕ) (loops : List LoopCounter) (m s : StateValue)
+      → HasAt code place (chosen schedule number label d (Do a) ∷ []) → forget_beyond d m ≡ s → IsProper d turns s
       → Follows p g code (place + 1) loops (behind a d) turns (after p g number a s) (At place loops m)
   single a alone place number label d turns loops m s at same q = alone_runs p g code a alone place number (choice_at label schedule) d turns loops m s at.0 same q
 
@@ -119,13 +119,13 @@ module _ (p : ProgramTree) (g : GraphValue) (schedule : ScheduleTree) (code : Li
       has_behind code place (size_all p schedule d false b) to (plan_all p schedule place d false b) rest (length-plan_all p schedule b place d false) e at
 
   -- a statement in such company, and what stands behind it
-  joined_runs : (company : Company) (action : ActionTree) (rest : BlockTree) (place number : ℕ) (label : Option ℕ) (d : Depth) (turns : ℕ) (loops : List Counter) (m s : StateValue) → IsGoodCompany p g company d action rest
+  joined_runs : (company : Company) (action : ActionTree) (rest : BlockTree) (place number : ℕ) (label : Option ℕ) (d : Depth) (turns : ℕ) (loops : List LoopCounter) (m s : StateValue) → IsGoodCompany p g company d action rest
       → HasAt code place (plan_in company schedule number label d (plan p schedule place d number label action)
       ++ plan_all p schedule (place + size_in company (size p schedule d action)) (behind action d) (takes_next company) rest)
-      → forgotten d m ≡ s → IsProper d turns s
+      → forget_beyond d m ≡ s → IsProper d turns s
       → (HasAt code place (plan p schedule place d number label action) → Follows p g code (place + size p schedule d action) loops (behind action d) turns (after p g number action s) (At place loops m))
       → ((is_done : Bool) (from : ℕ) (m t : StateValue) → HasAt code from (plan_all p schedule from (behind action d) is_done rest)
-      → forgotten (at_rest is_done rest (behind action d)) m ≡ t → IsProper (at_rest is_done rest (behind action d)) turns t
+      → forget_beyond (at_rest is_done rest (behind action d)) m ≡ t → IsProper (at_rest is_done rest (behind action d)) turns t
       → Follows p g code (from + size_all p schedule (behind action d) is_done rest) loops (behind_all rest (behind action d)) turns (after_rest p g is_done rest t) (At from loops m))
       → Follows p g code (place + (size_in company (size p schedule d action) + size_all p schedule (behind action d) (takes_next company) rest)) loops (behind_all rest (behind action d)) turns
       (then_do (after p g number action s) (after_all p g rest)) (At place loops m)
@@ -155,7 +155,7 @@ module _ (p : ProgramTree) (g : GraphValue) (schedule : ScheduleTree) (code : Li
       lands_at p g code (then_do (after p g number action s) (after_all p g block)) to (place + (1 + size_all p schedule e true block)) loops (behind_all block e) turns (At place loops m) (omega arith)
       (subst (λ (st : Stand). Follows p g code to loops (behind_all block e) turns st (At place loops m)) same_stand ran)
 
-  lands_here : (place : ℕ) (loops : List Counter) (d : Depth) (turns : ℕ) (m s : StateValue) → forgotten d m ≡ s → IsProper d turns s
+  lands_here : (place : ℕ) (loops : List LoopCounter) (d : Depth) (turns : ℕ) (m s : StateValue) → forget_beyond d m ≡ s → IsProper d turns s
       → Lands p g code (place + 0) loops d turns s (At place loops m)
   lands_here place loops d turns m s same q =
       let e : place ≡ place + 0 = omega arith in
@@ -163,8 +163,8 @@ module _ (p : ProgramTree) (g : GraphValue) (schedule : ScheduleTree) (code : Li
 
   module _ (good : (d : Depth) (label : Option ℕ) (a : ActionTree) (rest : BlockTree) → IsGoodCompany p g (company_of p schedule d false label a rest) d a rest) where
     mutual
-      pub action_runs : (a : ActionTree) (place number : ℕ) (label : Option ℕ) (d : Depth) (turns : ℕ) (loops : List Counter) (m s : StateValue)
-          → HasAt code place (plan p schedule place d number label a) → forgotten d m ≡ s → IsProper d turns s
+      pub action_runs : (a : ActionTree) (place number : ℕ) (label : Option ℕ) (d : Depth) (turns : ℕ) (loops : List LoopCounter) (m s : StateValue)
+          → HasAt code place (plan p schedule place d number label a) → forget_beyond d m ≡ s → IsProper d turns s
           → Follows p g code (place + size p schedule d a) loops (behind a d) turns (after p g number a s) (At place loops m)
       action_runs (DeclareInteger name e) place number label d turns loops m s at same q = single (DeclareInteger name e) tt place number label d turns loops m s at same q
       action_runs (DeclareCondition name c) place number label d turns loops m s at same q = single (DeclareCondition name c) tt place number label d turns loops m s at same q
@@ -221,11 +221,11 @@ module _ (p : ProgramTree) (g : GraphValue) (schedule : ScheduleTree) (code : Li
           lands_at p g code (after p g number (For name first end body) s) to (place + size p schedule d (For name first end body)) loops d turns (At place loops m) (omega arith)
           (for_runs p g code place number name back to first end d (behind_all body deep) loops stands (after_all p g body) turns s m
           (within_both d deep (behind_all body deep) (within_loop d) (within_behind_all body deep))
-          (λ r n t proper. block_runs body false (place + 4) deep n (counter r ∷ loops) t t (has_front code (place + 4) (plan_all p schedule (place + 4) deep false body) last inner) (forgotten-all deep t proper.deep) proper)
+          (λ r n t proper. block_runs body false (place + 4) deep n (r ∷ loops) t t (has_front code (place + 4) (plan_all p schedule (place + 4) deep false body) last inner) (forgotten-all deep t proper.deep) proper)
           same q)
 
-      pub block_runs : (b : BlockTree) (is_done : Bool) (place : ℕ) (d : Depth) (turns : ℕ) (loops : List Counter) (m s : StateValue)
-          → HasAt code place (plan_all p schedule place d is_done b) → forgotten (at_rest is_done b d) m ≡ s → IsProper (at_rest is_done b d) turns s
+      pub block_runs : (b : BlockTree) (is_done : Bool) (place : ℕ) (d : Depth) (turns : ℕ) (loops : List LoopCounter) (m s : StateValue)
+          → HasAt code place (plan_all p schedule place d is_done b) → forget_beyond (at_rest is_done b d) m ≡ s → IsProper (at_rest is_done b d) turns s
           → Follows p g code (place + size_all p schedule d is_done b) loops (behind_all b d) turns (after_rest p g is_done b s) (At place loops m)
       block_runs Empty true place d turns loops m s at same q = lands_here place loops d turns m s same q
       block_runs Empty false place d turns loops m s at same q = lands_here place loops d turns m s same q

@@ -6,7 +6,7 @@ use Rattle.algorithm_meaning.specs.State.{StateValue}
 use Rattle.algorithm_meaning.specs.VertexApply.{after_vertex, after_vertices}
 use Rattle.plans.specs.Fusing.{steps_are_local}
 use Rattle.plans.specs.Machine.{after_both}
-use Rattle.plans.proofs.Types.{VertexSet}
+use Rattle.algorithm_meaning.specs.declared.state.SetBinding.{SetBinding}
 use Rattle.plans.proofs.Ascending.{AscendsFrom}
 use Rattle.plans.proofs.Columns.{column, same_columns}
 use Rattle.plans.proofs.Local.{vertex_alike}
@@ -15,7 +15,7 @@ use Rattle.plans.proofs.OtherColumns.{vertex_elsewhere}
 same_number : (m n : ℕ) → (m == n) ≡ true → m ≡ n
 same_number m n h = grind (arith, nat_tests)
 
-module _ (sets : List VertexSet) (f g : StepsTree) (f_local : steps_are_local f ≡ true) (g_local : steps_are_local g ≡ true) where
+module _ (sets : List SetBinding) (f g : StepsTree) (f_local : steps_are_local f ≡ true) (g_local : steps_are_local g ≡ true) where
   at_first : (u v : ℕ) (xs : List (List ℤ)) → (u == v) ≡ false → (v == u) ≡ false
       → column u (after_vertex g sets v (after_vertex f sets u xs)) ≡ column u (after_vertex f sets u (after_vertex g sets v xs))
   at_first u v xs apart away =
@@ -62,7 +62,7 @@ module _ (sets : List VertexSet) (f g : StepsTree) (f_local : steps_are_local f 
       → after_both f g s vs xs ≡ after_vertices g sets vs (after_vertices f sets vs xs)
   both_members low s [] xs same ascending = refl
   both_members low s (v ∷ vs) xs same ascending =
-      ap (λ (sets : List VertexSet). after_both f g s vs (after_vertex g sets v (after_vertex f sets v xs))) same
+      ap (λ (sets : List SetBinding). after_both f g s vs (after_vertex g sets v (after_vertex f sets v xs))) same
       ∙ both_members (v + 1) s vs (after_vertex g sets v (after_vertex f sets v xs)) same ascending.1
       ∙ ap (after_vertices g sets vs) (goes_last v (v + 1) vs (after_vertex f sets v xs) (omega arith) ascending.1)
 

@@ -7,13 +7,13 @@ use Rattle.algorithm_meaning.specs.declared.outcome.End.TheVariants.{TurnsOver, 
 use Rattle.algorithm_meaning.specs.State.{GraphValue, StateValue}
 use Rattle.algorithm_meaning.specs.Stand.{Stand, Live, Over, choice_in}
 use Rattle.algorithm_meaning.specs.Variables.{with_new_integer}
-use Rattle.algorithm_meaning.specs.Loop.{inside, while_test, while_body, after_while}
-use Rattle.plans.specs.declared.depth.Counter.{Counter}
-use Rattle.plans.specs.declared.depth.Depth.{Depth}
+use Rattle.algorithm_meaning.specs.Loop.{inside, while_test, while_body, after_while, forget_beyond, depth_of}
+use Rattle.algorithm_meaning.specs.declared.state.LoopCounter.{LoopCounter}
+use Rattle.algorithm_meaning.specs.declared.state.Depth.{Depth}
 use Rattle.plans.specs.Instruction.{Unless, Turn, Jump, InstructionTree}
 use Rattle.plans.specs.Plan.{with_integer, in_loop, plain}
-use Rattle.plans.specs.Machine.{Configuration, At, Ended, forgotten, after_unless, after_turn}
-use Rattle.plans.proofs.Depths.{visible, IsWithin, forgotten-all}
+use Rattle.plans.specs.Machine.{Configuration, At, Ended, after_unless, after_turn}
+use Rattle.plans.proofs.Depths.{IsWithin, forgotten-all}
 use Rattle.plans.proofs.Proper.{IsProper}
 use Rattle.plans.proofs.Reaching.{Reaches, here, and_reaches, by_step, Moves, moves_on, moves_from, Follows, follows_more, takes, leaving, LeadsOn, leads_from, RunsLoop, loop_runs, forgotten-new}
 
@@ -36,20 +36,20 @@ pub proper-pushed : (d : Depth) (turns : ℕ) (s : StateValue) (next end : ℤ) 
 proper-pushed d turns s next end proper = proper-integer (with_integer d) turns (with_new_integer s next) end (proper-integer d turns s next proper)
 
 -- what is beyond the name is forgotten
-pub forgotten-integer : (d : Depth) (turns : ℕ) (s : StateValue) (n : ℤ) → IsProper d turns s → forgotten d (with_new_integer s n) ≡ s
+pub forgotten-integer : (d : Depth) (turns : ℕ) (s : StateValue) (n : ℤ) → IsProper d turns s → forget_beyond d (with_new_integer s n) ≡ s
 forgotten-integer d turns s n proper =
     let e = ap (λ (d : Depth). d.integers) proper.deep in
     forgotten-new d s n (omega (arith, e)) ∙ forgotten-all d s proper.deep
 
-pub forgotten-pushed : (d : Depth) (turns : ℕ) (s : StateValue) (next end : ℤ) → IsProper d turns s → forgotten d (pushed s next end) ≡ s
+pub forgotten-pushed : (d : Depth) (turns : ℕ) (s : StateValue) (next end : ℤ) → IsProper d turns s → forget_beyond d (pushed s next end) ≡ s
 forgotten-pushed d turns s next end proper =
     let e = ap (λ (d : Depth). d.integers) (proper-integer d turns s next proper).deep in
     forgotten-new d (with_new_integer s next) end (omega (arith, e)) ∙ forgotten-integer d turns s next proper
 
 module _ (p : ProgramTree) (g : GraphValue) (code : List InstructionTree) where
   -- the test of a loop or of a choice, which has no value, or fails
-  pub unless_faults : (c : ConditionTree) (place number to : ℕ) (d : Depth) (turns : ℕ) (loops : List Counter) (m s : StateValue)
-      → slice_get code place ≡ Some (plain number d (Unless c to)) → forgotten d m ≡ s → IsProper d turns s → choice_in g.vertices c s ≡ None
+  pub unless_faults : (c : ConditionTree) (place number to : ℕ) (d : Depth) (turns : ℕ) (loops : List LoopCounter) (m s : StateValue)
+      → slice_get code place ≡ Some (plain number d (Unless c to)) → forget_beyond d m ≡ s → IsProper d turns s → choice_in g.vertices c s ≡ None
       → Reaches p g code (At place loops m) (Ended s (Fault 401 number))
   unless_faults c place number to d turns loops m s at same proper e =
       by_step p g code (At place loops m) (Ended s (Fault 401 number)) (Ended s (Fault 401 number))
@@ -57,18 +57,18 @@ module _ (p : ProgramTree) (g : GraphValue) (code : List InstructionTree) where
       (ap (λ (o : Option Bool). after_unless o (place + 1) to loops number d s) e
       ∙ ap (λ (t : StateValue). Ended t (Fault 401 number)) (forgotten-all d s proper.deep))) here
 
-  pub unless_chooses : (c : ConditionTree) (place number to : ℕ) (d : Depth) (loops : List Counter) (m s : StateValue) (b : Bool)
-      → slice_get code place ≡ Some (plain number d (Unless c to)) → forgotten d m ≡ s → choice_in g.vertices c s ≡ Some b
+  pub unless_chooses : (c : ConditionTree) (place number to : ℕ) (d : Depth) (loops : List LoopCounter) (m s : StateValue) (b : Bool)
+      → slice_get code place ≡ Some (plain number d (Unless c to)) → forget_beyond d m ≡ s → choice_in g.vertices c s ≡ Some b
       → Moves p g code (At place loops m) (At (if b then place + 1 else to) loops s)
   unless_chooses c place number to d loops m s b at same e =
       moves_on p g code (takes p g code place loops m (plain number d (Unless c to)) s at same)
       (ap (λ (o : Option Bool). after_unless o (place + 1) to loops number d s) e)
 
   -- at the head of `while`
-  abbrev IsAtWhile : ℕ → List Counter → Depth → ℕ → StateValue → Configuration → Type 0
-  IsAtWhile place loops d n s c = (m : StateValue) × (forgotten d m ≡ s) × (c ≡ At place loops m)
+  abbrev IsAtWhile : ℕ → List LoopCounter → Depth → ℕ → StateValue → Configuration → Type 0
+  IsAtWhile place loops d n s c = (m : StateValue) × (forget_beyond d m ≡ s) × (c ≡ At place loops m)
 
-  while_leads : (st : Stand) (place number back : ℕ) (d : Depth) (turns : ℕ) (loops : List Counter) (c : Configuration)
+  while_leads : (st : Stand) (place number back : ℕ) (d : Depth) (turns : ℕ) (loops : List LoopCounter) (c : Configuration)
       → slice_get code back ≡ Some (plain number d (Jump place)) → Follows p g code back loops d turns st c → LeadsOn p g code d turns (IsAtWhile place loops d 0) st c
   while_leads (Live u) place number back d turns loops c at f = (
     At place loops u,
@@ -79,10 +79,10 @@ module _ (p : ProgramTree) (g : GraphValue) (code : List InstructionTree) where
   )
   while_leads (Over u end) place number back d turns loops c at f = f
 
-  pub while_runs : (c : ConditionTree) (block : StateValue → Stand) (place number back to : ℕ) (d e : Depth) (turns : ℕ) (loops : List Counter) (m s : StateValue)
+  pub while_runs : (c : ConditionTree) (block : StateValue → Stand) (place number back to : ℕ) (d e : Depth) (turns : ℕ) (loops : List LoopCounter) (m s : StateValue)
       → slice_get code place ≡ Some (plain number d (Unless c to)) → slice_get code (place + 1) ≡ Some (plain number d Turn) → slice_get code back ≡ Some (plain number d (Jump place))
       → IsWithin d e → ((n : ℕ) (t : StateValue) → IsProper d n t → Follows p g code back loops e n (block t) (At (place + 2) loops t))
-      → forgotten d m ≡ s → IsProper d turns s → Follows p g code to loops d turns (after_while g.vertices number c block s) (At place loops m)
+      → forget_beyond d m ≡ s → IsProper d turns s → Follows p g code to loops d turns (after_while g.vertices number c block s) (At place loops m)
   while_runs c block place number back to d e turns loops m s at_test at_turn at_back within block_runs same proper =
       let st = after_while g.vertices number c block s in
       follows_more p g code st to loops d s.turns turns (At place loops m) proper.fewer
@@ -93,7 +93,7 @@ module _ (p : ProgramTree) (g : GraphValue) (code : List InstructionTree) where
           → Moves p g code x (At (if b then place + 1 else to) loops t)
       chosen b t x head e = moves_from p g code head.2 (unless_chooses c place number to d loops head.0 t b at_test head.1 e)
 
-      turned : (t : StateValue) → visible t ≡ d → Moves p g code (At (place + 1) loops t) (after_turn t.turns (place + 2) loops d t)
+      turned : (t : StateValue) → depth_of t ≡ d → Moves p g code (At (place + 1) loops t) (after_turn t.turns (place + 2) loops d t)
       turned t deep =
           moves_on p g code (takes p g code (place + 1) loops t (plain number d Turn) t at_turn (forgotten-all d t deep)) (ap (λ (x : ℕ). after_turn t.turns x loops d t) (omega arith))
 

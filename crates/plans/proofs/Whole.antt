@@ -8,7 +8,7 @@ use Rattle.algorithm_meaning.specs.Stand.{Stand, Live, Over}
 use Rattle.algorithm_meaning.specs.Meaning.{after_all, opening, all_vertices}
 use Rattle.algorithm_meaning.specs.Shown.{outcome_of, meaning}
 use Rattle.apply_options.specs.ScheduleTree.{ScheduleTree}
-use Rattle.plans.specs.declared.depth.Depth.{Depth}
+use Rattle.algorithm_meaning.specs.declared.state.Depth.{Depth}
 use Rattle.plans.specs.Instruction.{End, InstructionTree}
 use Rattle.plans.specs.Plan.{behind_all, main_depth, plain, size_all, plan_all, plan_of}
 use Rattle.plans.specs.Machine.{Configuration, At, Ended, first_configuration, finish}

@@ -14,7 +14,7 @@ use Rattle.typed_tree.specs.StepTree.{FunctionTree, StepTree, StepsTree, Declare
 use Rattle.typed_tree.specs.BlockTree as block
 use Rattle.typed_tree.specs.BlockTree.{ActionTree, BlockTree, Empty, Then}
 use Rattle.typed_tree.specs.ProgramTree.{ProgramTree}
-use Rattle.plans.specs.declared.depth.Depth.{Depth}
+use Rattle.algorithm_meaning.specs.declared.state.Depth.{Depth}
 use Rattle.apply_options.specs.declared.apply_schedule.Fused.{Fused}
 use Rattle.apply_options.specs.declared.apply_schedule.Fused.TheVariants.{With, Into}
 use Rattle.typed_tree.specs.declared.apply.StatementApply.{StatementApply}

@@ -5,7 +5,7 @@ use Rattle.typed_tree.specs.declared.statement.ApplyEnds.{ApplyEnds}
 use Rattle.typed_tree.specs.IntegerTree.{IntegerTree}
 use Rattle.typed_tree.specs.ConditionTree.{ConditionTree}
 use Rattle.typed_tree.specs.BlockTree.{ActionTree}
-use Rattle.plans.specs.declared.depth.Depth.{Depth}
+use Rattle.algorithm_meaning.specs.declared.state.Depth.{Depth}
 use Rattle.apply_options.specs.declared.apply_schedule.ApplySchedule.{ApplySchedule}
 
 -- what is done with the vertices where an edge apply changed a vector: nothing, or a set gets them, a new variable of this name or one that is there

@@ -11,7 +11,7 @@ pub mod Examples
 pub mod Parts
 pub mod Kernels
 pub mod Functions
-pub mod Members
+pub mod SetExpression
 pub mod Operation
 pub mod Lowered
 pub mod Outline

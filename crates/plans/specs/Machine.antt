@@ -1,13 +1,12 @@
 -- The machine that runs a plan.
-use Rattle.std.specs.Prelude.{ℕ, zero, suc, ◌+◌, ℤ, pos, ◌+ℤ◌, int_lt, Bool, if◌then◌else◌, List, [], ◌∷◌, map, slice_get, slice_index_or, Option, Some, None}
+use Rattle.std.specs.Prelude.{ℕ, zero, suc, ◌+◌, ℤ, pos, int_lt, Bool, if◌then◌else◌, List, [], ◌∷◌, map, slice_get, slice_index_or, Option, Some, None}
 use Rattle.typed_tree.specs.declared.statement.ApplyEnds.{ApplyEnds}
 use Rattle.typed_tree.specs.StepTree.{StepsTree}
 use Rattle.typed_tree.specs.ProgramTree.{ProgramTree}
 use Rattle.algorithm_meaning.specs.declared.outcome.End.{End as Ending}
 use Rattle.algorithm_meaning.specs.declared.outcome.End.TheVariants.{Finished, TurnsOver, Fault}
-use Rattle.plans.specs.declared.depth.Counter.{Counter}
-use Rattle.plans.specs.declared.depth.Depth.{Depth}
-use Rattle.algorithm_meaning.specs.Arithmetic.{wrapped}
+use Rattle.algorithm_meaning.specs.declared.state.LoopCounter.{LoopCounter}
+use Rattle.algorithm_meaning.specs.declared.state.Depth.{Depth}
 use Rattle.algorithm_meaning.specs.State.{GraphValue, StateValue}
 use Rattle.algorithm_meaning.specs.Value.{members_of}
 use Rattle.algorithm_meaning.specs.Stand.{Stand, Live, Over, number_in, choice_in}
@@ -17,18 +16,14 @@ use Rattle.algorithm_meaning.specs.Function.{steps_of}
 use Rattle.algorithm_meaning.specs.VertexSets.{with_new_set, with_members}
 use Rattle.algorithm_meaning.specs.VertexApply.{after_vertex}
 use Rattle.algorithm_meaning.specs.EdgeApply.{after_edge_apply, modified}
-use Rattle.algorithm_meaning.specs.Loop.{forget_beyond}
+use Rattle.algorithm_meaning.specs.Loop.{forget_beyond, next_of}
 use Rattle.algorithm_meaning.specs.Meaning.{after}
 use Rattle.plans.specs.Instruction.{ResultTree, Dropped, Declared, Assigned, EdgePartTree, OperationTree, Do, ApplyEdgesTogether, ApplyVerticesTogether, Unless, Enter, UnlessBelow, Advance, Turn, Jump, End, InstructionTree}
 
 -- where a run of a plan stands: before the instruction at a place, with the values of the `for` loops around it, the innermost first; or at its end
 pub data Configuration : Type 0 where
-  At : (place : ℕ) → (loops : List Counter) → StateValue → Configuration
+  At : (place : ℕ) → (loops : List LoopCounter) → StateValue → Configuration
   Ended : StateValue → Ending → Configuration
-
--- the state without what is beyond this
-abbrev pub forgotten : Depth → StateValue → StateValue
-forgotten d s = forget_beyond (record { integers = d.integers; conditions = d.conditions; sets = d.sets }) s
 
 -- what is done with the vertices where a vector changed
 abbrev pub with_result : (vertices : ℕ) → (before after : List (List ℤ)) → ResultTree → StateValue → StateValue
@@ -57,61 +52,58 @@ after_apply_both p set first second s =
     with_vectors s (after_both (steps_of (slice_get p.vertex_functions first)) (steps_of (slice_get p.vertex_functions second)) s (members_of (slice_get s.sets set)) s.vectors)
 
 -- at the next instruction, or at the end, where what is visible at the statement is shown
-abbrev pub go_on : (place : ℕ) → List Counter → (shown : Depth) → Stand → Configuration
+abbrev pub go_on : (place : ℕ) → List LoopCounter → (shown : Depth) → Stand → Configuration
 go_on place loops shown (Live s) = At place loops s
-go_on place loops shown (Over s end) = Ended (forgotten shown s) end
+go_on place loops shown (Over s end) = Ended (forget_beyond shown s) end
 
 abbrev pub faulty : (number : ℕ) → (shown : Depth) → StateValue → Configuration
-faulty number shown s = Ended (forgotten shown s) (Fault 401 number)
+faulty number shown s = Ended (forget_beyond shown s) (Fault 401 number)
 
 -- at one of two places
-abbrev pub either_place : Bool → (here there : ℕ) → List Counter → StateValue → Configuration
+abbrev pub either_place : Bool → (here there : ℕ) → List LoopCounter → StateValue → Configuration
 either_place b here there loops s = At (if b then here else there) loops s
 
-abbrev pub after_unless : Option Bool → (here there : ℕ) → List Counter → (number : ℕ) → (shown : Depth) → StateValue → Configuration
+abbrev pub after_unless : Option Bool → (here there : ℕ) → List LoopCounter → (number : ℕ) → (shown : Depth) → StateValue → Configuration
 after_unless None here there loops number shown s = faulty number shown s
 after_unless (Some b) here there loops number shown s = either_place b here there loops s
 
 -- the loop's name is the last variable; the bound does not see it
-abbrev pub after_enter : Option ℤ → (here : ℕ) → List Counter → (number : ℕ) → (shown : Depth) → StateValue → Configuration
+abbrev pub after_enter : Option ℤ → (here : ℕ) → List LoopCounter → (number : ℕ) → (shown : Depth) → StateValue → Configuration
 after_enter None here loops number shown s = faulty number shown s
 after_enter (Some end) here loops number shown s =
     At here (record { next = slice_index_or s.scope.integers shown.integers (pos 0); end = end } ∷ loops) (with_new_integer s end)
 
 -- in the innermost loop; outside loops there is nothing to do
-abbrev pub after_unless_below : (here there : ℕ) → List Counter → StateValue → Configuration
+abbrev pub after_unless_below : (here there : ℕ) → List LoopCounter → StateValue → Configuration
 after_unless_below here there [] s = At there [] s
 after_unless_below here there (r ∷ loops) s = if int_lt r.next r.end then At here (r ∷ loops) s else At there loops s
 
-abbrev pub next_of : Counter → Counter
-next_of r = record { next = wrapped (r.next +ℤ pos 1); end = r.end }
-
-abbrev pub after_advance : (here : ℕ) → List Counter → StateValue → Configuration
+abbrev pub after_advance : (here : ℕ) → List LoopCounter → StateValue → Configuration
 after_advance here [] s = At here [] s
 after_advance here (r ∷ loops) s = At here (next_of r ∷ loops) (with_new_integer (with_new_integer s (next_of r).next) (next_of r).end)
 
-abbrev pub after_turn : (turns : ℕ) → (here : ℕ) → List Counter → (shown : Depth) → StateValue → Configuration
-after_turn zero here loops shown s = Ended (forgotten shown s) TurnsOver
+abbrev pub after_turn : (turns : ℕ) → (here : ℕ) → List LoopCounter → (shown : Depth) → StateValue → Configuration
+after_turn zero here loops shown s = Ended (forget_beyond shown s) TurnsOver
 after_turn (suc n) here loops shown s = At here loops (record s { turns = n })
 
 -- what an operation of a statement does at a place, on a state without what is beyond it
-abbrev pub act : ProgramTree → GraphValue → OperationTree → (number : ℕ) → (shown : Depth) → (place : ℕ) → List Counter → StateValue → Configuration
+abbrev pub act : ProgramTree → GraphValue → OperationTree → (number : ℕ) → (shown : Depth) → (place : ℕ) → List LoopCounter → StateValue → Configuration
 act p g (Do action) number shown place loops s = go_on (place + 1) loops shown (after p g number action s)
 act p g (ApplyEdgesTogether ends a b) number shown place loops s = At (place + 1) loops (after_parts p g ends (a ∷ b ∷ []) s)
 act p g (ApplyVerticesTogether set a b) number shown place loops s = At (place + 1) loops (after_apply_both p set.place a b s)
 act p g (Unless c to) number shown place loops s = after_unless (choice_in g.vertices c s) (place + 1) to loops number shown s
 act p g (Enter name e) number shown place loops s =
-    after_enter (number_in g.vertices e (forgotten shown s)) (place + 1) loops number shown s
+    after_enter (number_in g.vertices e (forget_beyond shown s)) (place + 1) loops number shown s
 act p g (UnlessBelow name to) number shown place loops s = after_unless_below (place + 1) to loops s
 act p g (Advance name) number shown place loops s = after_advance (place + 1) loops s
 act p g Turn number shown place loops s = after_turn s.turns (place + 1) loops shown s
 act p g (Jump to) number shown place loops s = At to loops s
-act p g End number shown place loops s = Ended (forgotten shown s) Finished
+act p g End number shown place loops s = Ended (forget_beyond shown s) Finished
 
 -- the instruction at a place; behind the last one the run has come to the end
-abbrev pub act_at : ProgramTree → GraphValue → Option InstructionTree → (place : ℕ) → List Counter → StateValue → Configuration
+abbrev pub act_at : ProgramTree → GraphValue → Option InstructionTree → (place : ℕ) → List LoopCounter → StateValue → Configuration
 act_at p g None place loops s = Ended s Finished
-act_at p g (Some i) place loops s = act p g i.operation i.number i.shown place loops (forgotten i.keep s)
+act_at p g (Some i) place loops s = act p g i.operation i.number i.shown place loops (forget_beyond i.keep s)
 
 -- one instruction; a run that has ended stays
 abbrev pub step : ProgramTree → GraphValue → List InstructionTree → Configuration → Configuration

@@ -6,16 +6,16 @@ use Rattle.typed_tree.specs.ConditionTree.{ConditionTree}
 use Rattle.typed_tree.specs.BlockTree.{ActionTree, DeclareInteger, DeclareCondition, SetInteger, SetCondition, ReduceInteger, SetEntry, ReduceEntry, DeclareSet, AssignSet, AddVertex, PrintInteger, PrintCondition, ApplyVertex}
 use Rattle.kernels.specs.declared.expression.ExpressionKernel.{ExpressionKernel}
 use Rattle.kernels.specs.Expressions.{IsIntegerKernel, IsConditionKernel}
-use Rattle.plans.specs.declared.depth.Depth.{Depth}
+use Rattle.algorithm_meaning.specs.declared.state.Depth.{Depth}
 use Rattle.plans.specs.Instruction.{OperationTree, Do, ApplyEdgesTogether, ApplyVerticesTogether, Unless, Enter, UnlessBelow, Advance, Turn, Jump, End, InstructionTree}
 use Rattle.plans.specs.Fusing.{edge_apply_of}
 use Rattle.plans.specs.declared.part.EdgePart.{EdgePart}
 use Rattle.plans.specs.Parts.{part_tree}
-use Rattle.plans.specs.declared.operation.Operation.{Operation}
-use Rattle.plans.specs.declared.operation.Operation.TheVariants as op
+use Rattle.plans.specs.declared.operation.PlanOperation.{PlanOperation}
+use Rattle.plans.specs.declared.operation.PlanOperation.TheVariants as op
 use Rattle.plans.specs.declared.instruction.Instruction.{Instruction}
 use Rattle.plans.specs.Kernels.{ArePairwise}
-use Rattle.plans.specs.Members.{set_value}
+use Rattle.plans.specs.SetExpression.{set_value}
 
 -- the kernel is made for so many visible variables
 pub record IsFor (d : Depth) (k : ExpressionKernel) : Type 0 where
@@ -56,7 +56,7 @@ ApplyEdgesOf ends first None o = AppliesEdges ends first o
 ApplyEdgesOf ends first (Some second) o = o ≡ ApplyEdgesTogether ends (part_tree first) (part_tree second)
 
 -- the operation is this one, where so much is kept and so much is shown
-abbrev pub IsOperation : (keep shown : Depth) → Operation → OperationTree → Type 0
+abbrev pub IsOperation : (keep shown : Depth) → PlanOperation → OperationTree → Type 0
 IsOperation keep shown (op.DeclareInteger name k) o = HasInteger keep k (λ e. Do (DeclareInteger name e)) o
 IsOperation keep shown (op.DeclareCondition name k) o = HasCondition keep k (λ c. Do (DeclareCondition name c)) o
 IsOperation keep shown (op.SetInteger slot k) o = HasInteger keep k (λ e. Do (SetInteger slot e)) o

@@ -5,11 +5,11 @@ use Rattle.plans.specs.Instruction.{OperationTree, Unless, UnlessBelow, Turn, En
 use Rattle.plans.specs.Machine.{Configuration}
 use Rattle.plans.specs.Bound.{most_steps}
 use Rattle.plans.specs.declared.instruction.Instruction.{Instruction}
-use Rattle.plans.specs.declared.operation.Operation.{Operation}
-use Rattle.plans.specs.declared.operation.Operation.TheVariants as op
+use Rattle.plans.specs.declared.operation.PlanOperation.{PlanOperation}
+use Rattle.plans.specs.declared.operation.PlanOperation.TheVariants as op
 
 -- an operation as the bound sees it: where it may go, and whether it uses a turn
-abbrev pub outline : Operation → OperationTree
+abbrev pub outline : PlanOperation → OperationTree
 outline (op.Unless test to) = Unless (Literal true) to
 outline (op.UnlessBelow name to) = UnlessBelow name to
 outline op.Turn = Turn

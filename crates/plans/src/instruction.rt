@@ -1,6 +1,6 @@
 //! Instructions.
-use crate::depth::Depth;
-use crate::operation::Operation;
+use crate::operation::PlanOperation;
+use algorithm_meaning::Depth;
 use apply_options::ApplySchedule;
 
 /// One step of a run.
@@ -13,7 +13,7 @@ pub struct Instruction {
     pub shown: Depth,
     /// What the schedule says of it, which decides only how an edge apply is done.
     pub choice: ApplySchedule,
-    pub operation: Operation,
+    pub operation: PlanOperation,
     /// Its words, each with a space behind it, without its number and without the place that it goes to.
     pub words: Vec<u8>,
 }

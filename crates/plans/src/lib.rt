@@ -19,17 +19,15 @@
 //! (Leroy, "Formal verification of a realistic compiler", CACM 2009).
 #![tactic(auto)]
 
-mod depth;
 mod functions;
 mod instruction;
 mod kernels_at;
 mod laws;
-mod members;
 mod operation;
 mod part;
 mod plan;
+mod set_expression;
 
-pub use depth::{Counter, Depth};
 pub use functions::FunctionKernels;
 pub use instruction::Instruction;
 pub use kernels_at::{Kernel, Kernels};
@@ -37,7 +35,7 @@ pub use laws::{
     edge_applies_go_by_the_schedule, examples_have_their_plans, fused_applies_fit,
     plans_do_what_programs_do, steps_lower_their_bound,
 };
-pub use members::Members;
-pub use operation::Operation;
+pub use operation::PlanOperation;
 pub use part::{EdgeApply, EdgePart, FusedPair, PartResult, VertexApply};
 pub use plan::Plan;
+pub use set_expression::SetExpression;

@@ -1,13 +1,13 @@
 //! What instructions do.
-use crate::members::Members;
 use crate::part::EdgePart;
+use crate::set_expression::SetExpression;
 use apply_options::Reduction;
 use kernels::ExpressionKernel;
 use typed_tree::{ApplyEnds, VarRef};
 
 /// What an instruction does. A name is the place of one in the plan's names, a vector or a function its place in its list,
 /// and `to` the place of an instruction.
-pub enum Operation {
+pub enum PlanOperation {
     DeclareInteger {
         name: usize,
         value: ExpressionKernel,
@@ -44,11 +44,11 @@ pub enum Operation {
     },
     DeclareSet {
         name: usize,
-        members: Members,
+        members: SetExpression,
     },
     AssignSet {
         slot: VarRef,
-        members: Members,
+        members: SetExpression,
     },
     /// The set gets a vertex.
     AddVertex {
@@ -100,57 +100,57 @@ pub enum Operation {
     End,
 }
 
-impl Drop for Operation {
+impl Drop for PlanOperation {
     fn drop(self) {
         match self {
-            Operation::DeclareInteger { name: _, value: _ }
-            | Operation::DeclareCondition { name: _, value: _ }
-            | Operation::SetInteger { slot: _, value: _ }
-            | Operation::SetCondition { slot: _, value: _ }
-            | Operation::ReduceInteger {
+            PlanOperation::DeclareInteger { name: _, value: _ }
+            | PlanOperation::DeclareCondition { name: _, value: _ }
+            | PlanOperation::SetInteger { slot: _, value: _ }
+            | PlanOperation::SetCondition { slot: _, value: _ }
+            | PlanOperation::ReduceInteger {
                 slot: _,
                 reduction: _,
                 value: _,
             }
-            | Operation::SetEntry {
+            | PlanOperation::SetEntry {
                 vector: _,
                 index: _,
                 value: _,
             }
-            | Operation::ReduceEntry {
+            | PlanOperation::ReduceEntry {
                 vector: _,
                 index: _,
                 reduction: _,
                 value: _,
             }
-            | Operation::DeclareSet {
+            | PlanOperation::DeclareSet {
                 name: _,
                 members: _,
             }
-            | Operation::AssignSet {
+            | PlanOperation::AssignSet {
                 slot: _,
                 members: _,
             }
-            | Operation::AddVertex { slot: _, vertex: _ }
-            | Operation::PrintInteger { value: _ }
-            | Operation::PrintCondition { value: _ }
-            | Operation::ApplyVertices {
+            | PlanOperation::AddVertex { slot: _, vertex: _ }
+            | PlanOperation::PrintInteger { value: _ }
+            | PlanOperation::PrintCondition { value: _ }
+            | PlanOperation::ApplyVertices {
                 set: _,
                 first: _,
                 second: _,
             }
-            | Operation::ApplyEdges {
+            | PlanOperation::ApplyEdges {
                 ends: _,
                 first: _,
                 second: _,
             }
-            | Operation::Unless { test: _, to: _ }
-            | Operation::Enter { name: _, end: _ }
-            | Operation::UnlessBelow { name: _, to: _ }
-            | Operation::Advance { name: _ }
-            | Operation::Turn
-            | Operation::Jump { to: _ }
-            | Operation::End => {}
+            | PlanOperation::Unless { test: _, to: _ }
+            | PlanOperation::Enter { name: _, end: _ }
+            | PlanOperation::UnlessBelow { name: _, to: _ }
+            | PlanOperation::Advance { name: _ }
+            | PlanOperation::Turn
+            | PlanOperation::Jump { to: _ }
+            | PlanOperation::End => {}
         }
     }
 }

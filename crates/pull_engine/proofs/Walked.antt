@@ -5,7 +5,7 @@ use Rattle.std.specs.List.{filter}
 use Rattle.typed_tree.specs.StepTree.{StepsTree}
 use Rattle.algorithm_meaning.specs.EdgeApply.{is_member}
 use Rattle.algorithm_meaning.specs.State.{StateValue}
-use Rattle.kernels.specs.declared.end.End.{End}
+use Rattle.kernels.specs.declared.endpoint_filter.EndpointFilter.{EndpointFilter}
 use Rattle.edge_fold.specs.declared.functions.Functions.{Functions}
 use Rattle.edge_fold.specs.declared.scratch.Scratch.{Scratch}
 use Rattle.edge_fold.specs.Between.{edges_between, firsts}
@@ -45,7 +45,7 @@ walked_all f from to edges all left start s none up agree w m steps are has =
 pub destinations_agree : (edges ds : List (ℕ × ℕ)) (to : ℕ → Bool) → AreDegreesOf (λ u. sources_of u edges) ds → ((v : ℕ) → to v ≡ true) → (u : ℕ) → 0 < length (sources_of u edges) → is_member u (firsts ds) ≡ to u
 destinations_agree edges ds to are all u l = degree_listed (λ u. sources_of u edges) ds u are l ∙ sym (all u)
 
-pub passed_all : (to : End) (f : Functions) (from : ℕ → Bool) (edges ds : List (ℕ × ℕ)) (left : List ℕ) (start s : Scratch) → left ≡ [] → AreDegreesOf (λ u. sources_of u edges) ds
+pub passed_all : (to : EndpointFilter) (f : Functions) (from : ℕ → Bool) (edges ds : List (ℕ × ℕ)) (left : List ℕ) (start s : Scratch) → left ≡ [] → AreDegreesOf (λ u. sources_of u edges) ds
     → HasPassed to f (columns from edges) (firsts ds) left start s
     → (m : StateValue) (steps : List StepsTree) (test : ℕ → Bool) → AreFunctions f m steps → IsTest to m test → HasFolded f m steps [] start → HasFolded f m steps (edges_between from test edges) s
 passed_all to f from edges ds left start s none degrees w m steps test are is has =

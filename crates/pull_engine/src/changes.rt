@@ -14,7 +14,7 @@ ghost use Rattle.push_engine.specs.Words.{passes_words};
 use crate::destinations::fold_to;
 use edge_fold::{Functions, Scratch, Start};
 use flat_snapshot::Flat;
-use kernels::End;
+use kernels::EndpointFilter;
 use push_engine::{Apply, passing_set};
 use std::alloc::{AllocError, Global};
 use vectors::{Changes, Vectors};
@@ -54,8 +54,10 @@ pub fn pull(
         return pull_from(alloc, flat, functions, None, apply.to, scratch);
     };
     match end {
-        End::Members(set) => pull_members(alloc, flat, functions, set, apply.to, scratch),
-        End::Filter(_) => {
+        EndpointFilter::Members(set) => pull_members(
+            alloc, flat, functions, set, apply.to, scratch,
+        ),
+        EndpointFilter::Filter(_) => {
             let passing = passing_set(alloc, functions, end, scratch)?;
             pull_members(alloc, flat, functions, &passing, apply.to, scratch)
         }
@@ -68,7 +70,7 @@ fn pull_members(
     flat: &Flat,
     functions: Functions<'_>,
     set: &VertexSet,
-    to: Option<End<'_>>,
+    to: Option<EndpointFilter<'_>>,
     scratch: &mut Scratch,
 ) -> Result<Changes, AllocError>
     ensures once { IfOk result (λ c. AreApart c.vectors.items) }
@@ -91,7 +93,7 @@ fn pull_from(
     flat: &Flat,
     functions: Functions<'_>,
     from: Option<&[u64]>,
-    to: Option<End<'_>>,
+    to: Option<EndpointFilter<'_>>,
     scratch: &mut Scratch,
 ) -> Result<Changes, AllocError>
     ensures once { IfOk result (λ c. AreApart c.vectors.items) }

@@ -14,7 +14,7 @@ ghost use Rattle.push_engine.specs.Words.{passes_words};
 
 use edge_fold::{Functions, Scratch};
 use flat_snapshot::Flat;
-use kernels::End;
+use kernels::EndpointFilter;
 use push_engine::{keep_members, take_part};
 use std::alloc::{AllocError, Global};
 use vertex_sets::VertexSet;
@@ -26,7 +26,7 @@ pub(crate) fn fold_to(
     flat: &Flat,
     functions: Functions<'_>,
     from: Option<&[u64]>,
-    to: Option<End<'_>>,
+    to: Option<EndpointFilter<'_>>,
     scratch: &mut Scratch,
 ) -> Result<(), AllocError>
     ensures { OnOk result ((m : StateValue) (steps : List StepsTree) (test : ℕ → Bool) → AreFunctions functions.entry m steps → IsEndTest to.entry m test
@@ -38,11 +38,11 @@ pub(crate) fn fold_to(
         return Ok(());
     };
     match end {
-        End::Members(set) => {
+        EndpointFilter::Members(set) => {
             fold_members(alloc, flat, functions, from, set, &mut block, scratch)?;
             Ok(())
         }
-        End::Filter(_) => {
+        EndpointFilter::Filter(_) => {
             fold_passing(alloc, flat, functions, from, end, &mut block, scratch)?;
             Ok(())
         }
@@ -94,7 +94,7 @@ fn fold_passing(
     flat: &Flat,
     functions: Functions<'_>,
     from: Option<&[u64]>,
-    to: End<'_>,
+    to: EndpointFilter<'_>,
     block: &mut [u32],
     scratch: &mut Scratch,
 ) -> Result<(), AllocError>

@@ -17,7 +17,7 @@ use apply_options::Parallelization;
 use crew::Partition;
 use edge_fold::{Functions, Scratch};
 use flat_snapshot::Flat;
-use kernels::End;
+use kernels::EndpointFilter;
 use push_engine::{members_of, passing_set};
 use std::alloc::{AllocError, Global};
 use vertex_sets::{Form, VertexSet};
@@ -26,7 +26,7 @@ use vertex_sets::{Form, VertexSet};
 /// through. The only error is out of memory.
 pub(crate) fn list_destinations(
     alloc: Global,
-    to: Option<End<'_>>,
+    to: Option<EndpointFilter<'_>>,
     flat: &Flat,
     functions: Functions<'_>,
     scratch: &mut Scratch,
@@ -49,7 +49,7 @@ pub(crate) fn list_destinations(
 /// Those that pass.
 fn passing_destinations(
     alloc: Global,
-    to: End<'_>,
+    to: EndpointFilter<'_>,
     flat: &Flat,
     functions: Functions<'_>,
     scratch: &mut Scratch,
@@ -58,11 +58,11 @@ fn passing_destinations(
         → AreDestinations flat.now.edges test vs.items) }
 {
     match to {
-        End::Members(set) => {
+        EndpointFilter::Members(set) => {
             let members = members_of(alloc, set)?;
             Ok(members)
         }
-        End::Filter(_) => {
+        EndpointFilter::Filter(_) => {
             let all = all_destinations(alloc, flat)?;
             let mut kept = Vec::new(alloc);
             scratch.keep_passing(functions, to, &all, &mut kept)?;
@@ -134,7 +134,7 @@ fn degrees_of(alloc: Global, flat: &Flat, destinations: &[u32]) -> Result<Vec<u3
 /// The sources that pass, as bits, where not all do. The only error is out of memory.
 pub(crate) fn source_bits(
     alloc: Global,
-    from: Option<End<'_>>,
+    from: Option<EndpointFilter<'_>>,
     functions: Functions<'_>,
     scratch: &mut Scratch,
 ) -> Result<Option<VertexSet>, AllocError>
@@ -144,7 +144,7 @@ pub(crate) fn source_bits(
 {
     match from {
         None => Ok(None),
-        Some(End::Members(set)) => {
+        Some(EndpointFilter::Members(set)) => {
             let bits = set.to_form(alloc, Form::Bits)?;
             Ok(Some(bits))
         }

@@ -6,7 +6,7 @@ use Rattle.typed_tree.specs.StepTree.{StepsTree}
 use Rattle.algorithm_meaning.specs.State.{StateValue}
 use Rattle.tree_batch.specs.Edge.{edge_eq, has_edge}
 use Rattle.tree_batch.specs.Digraph.{Digraph, IsDigraph}
-use Rattle.vectors.specs.declared.change.VectorChanges.{VectorChanges}
+use Rattle.vectors.specs.declared.changes.VectorChanges.{VectorChanges}
 use Rattle.edge_fold.specs.Between.{edges_between}
 use Rattle.push_engine.specs.Applied.{AreChangesOn}
 

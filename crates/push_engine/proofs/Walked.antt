@@ -7,7 +7,7 @@ use Rattle.std.specs.List.{filter}
 use Rattle.typed_tree.specs.StepTree.{StepsTree}
 use Rattle.algorithm_meaning.specs.EdgeApply.{is_member}
 use Rattle.algorithm_meaning.specs.State.{StateValue}
-use Rattle.kernels.specs.declared.end.End.{End}
+use Rattle.kernels.specs.declared.endpoint_filter.EndpointFilter.{EndpointFilter}
 use Rattle.edge_fold.specs.declared.functions.Functions.{Functions}
 use Rattle.edge_fold.specs.declared.scratch.Scratch.{Scratch}
 use Rattle.edge_fold.specs.Ends.{IsTest}
@@ -99,7 +99,7 @@ pub rises_filtered : (test : ℕ → Bool) (low : ℕ) (us : List ℕ) → Rises
 rises_filtered test low [] up = tt
 rises_filtered test low (x ∷ us) up = rises_filtered_at test low x us (test x) up.0 (rises_filtered test (x + 1) us up.1)
 
-pub passed_all : (from : End) (f : Functions) (to : ℕ → Bool) (edges ds : List (ℕ × ℕ)) (left : List ℕ) (start s : Scratch) → left ≡ [] → AreDegreesOf (λ u. destinations_of u edges) ds → HasPassed from f (rows_to to edges) (firsts ds) left start s
+pub passed_all : (from : EndpointFilter) (f : Functions) (to : ℕ → Bool) (edges ds : List (ℕ × ℕ)) (left : List ℕ) (start s : Scratch) → left ≡ [] → AreDegreesOf (λ u. destinations_of u edges) ds → HasPassed from f (rows_to to edges) (firsts ds) left start s
     → (m : StateValue) (steps : List StepsTree) (test : ℕ → Bool) → AreFunctions f m steps → IsTest from m test → HasFolded f m steps [] start → HasFolded f m steps (edges_between test to edges) s
 passed_all from f to edges ds left start s none degrees w m steps test are is has =
     let neighbours = λ (u : ℕ). destinations_of u edges in

@@ -8,7 +8,7 @@ use Rattle.algorithm_meaning.specs.State.{StateValue}
 use Rattle.algorithm_meaning.specs.Value.{entry}
 use Rattle.register_code.specs.Cells.{HasSizes}
 use Rattle.tree_batch.specs.Digraph.{Digraph}
-use Rattle.vectors.specs.declared.change.VectorChanges.{VectorChanges}
+use Rattle.vectors.specs.declared.changes.VectorChanges.{VectorChanges}
 use Rattle.edge_fold.specs.Between.{edges_between}
 use Rattle.edge_fold.specs.Changed.{changed, changes_of}
 use Rattle.edge_fold.specs.Ends.{IsEndTest}

@@ -19,7 +19,7 @@ use crate::sources::{fold_all, fold_members, fold_passing};
 use apply_options::Direction;
 use edge_fold::{Functions, Scratch, Start};
 use flat_snapshot::Flat;
-use kernels::End;
+use kernels::EndpointFilter;
 use std::alloc::{AllocError, Global};
 use vectors::{Changes, Vectors};
 use vertex_sets::{Form, VertexSet};
@@ -64,15 +64,15 @@ pub fn push(
 }
 
 /// Whether destinations are tested as they come, and not at the end.
-fn is_tested_first(flat: &Flat, from: Option<End<'_>>, to: End<'_>) -> bool {
-    if let End::Members(set) = to {
+fn is_tested_first(flat: &Flat, from: Option<EndpointFilter<'_>>, to: EndpointFilter<'_>) -> bool {
+    if let EndpointFilter::Members(set) = to {
         if set.words().is_some() {
             return true;
         }
     }
     let limit = flat.vertices() as usize / 8;
     match from {
-        Some(End::Members(set)) => is_work_above(flat, set, limit),
+        Some(EndpointFilter::Members(set)) => is_work_above(flat, set, limit),
         _ => flat.edge_count() > limit,
     }
 }
@@ -99,7 +99,7 @@ fn push_tested(
     apply: &Apply<'_>,
     flat: &Flat,
     functions: Functions<'_>,
-    to: End<'_>,
+    to: EndpointFilter<'_>,
     scratch: &mut Scratch,
 ) -> Result<Changes, AllocError>
     requires { IsDigraph flat.now }
@@ -108,8 +108,10 @@ fn push_tested(
         → IsEndTest apply.now.from m from → IsTest to.entry m test → AreChangesOn flat.now.vertices (edges_between from test flat.now.edges) m steps c.vectors.items) }
 {
     match to {
-        End::Members(set) => push_to_members(alloc, apply, flat, functions, set, scratch),
-        End::Filter(_) => {
+        EndpointFilter::Members(set) => push_to_members(
+            alloc, apply, flat, functions, set, scratch,
+        ),
+        EndpointFilter::Filter(_) => {
             let passing = passing_set(alloc, functions, to, scratch)?;
             push_to_members(alloc, apply, flat, functions, &passing, scratch)
         }
@@ -147,7 +149,7 @@ fn push_to(
     flat: &Flat,
     functions: Functions<'_>,
     words: Option<&[u64]>,
-    to: Option<End<'_>>,
+    to: Option<EndpointFilter<'_>>,
     scratch: &mut Scratch,
 ) -> Result<Changes, AllocError>
     ensures once { IfOk result (λ c. AreApart c.vectors.items) }
@@ -200,7 +202,7 @@ fn fold_from(
 fn fold_from_end(
     alloc: Global,
     direction: Direction,
-    from: End<'_>,
+    from: EndpointFilter<'_>,
     flat: &Flat,
     functions: Functions<'_>,
     to: Option<&[u64]>,
@@ -211,7 +213,7 @@ fn fold_from_end(
     ensures { OnOk result ((m : StateValue) (steps : List StepsTree) (test : ℕ → Bool) → AreFunctions functions.entry m steps → IsTest from.entry m test
         → HasFolded functions.entry m steps [] scratch.old → HasFolded functions.entry m steps (edges_between test (passes_words to.entry) flat.now.edges) scratch.new) }
 {
-    if let End::Members(set) = from {
+    if let EndpointFilter::Members(set) = from {
         if direction != Direction::DensePush {
             fold_members(alloc, flat, functions, set, to, block, scratch)?;
             return Ok(());

@@ -1,13 +1,13 @@
 //! Applies of edge functions.
 use apply_options::{DenseVertexSet, Direction, Parallelization};
-use kernels::{EdgeKernel, End};
+use kernels::{EdgeKernel, EndpointFilter};
 
 /// An apply of one or two edge functions to the edges between two ends, and the values that its schedule has for it.
 /// An end that is not given lets all vertices through.
 #[derive(Clone, Copy)]
 pub struct Apply<'a> {
-    pub from: Option<End<'a>>,
-    pub to: Option<End<'a>>,
+    pub from: Option<EndpointFilter<'a>>,
+    pub to: Option<EndpointFilter<'a>>,
     pub first: &'a EdgeKernel,
     pub second: Option<&'a EdgeKernel>,
     pub direction: Direction,

@@ -16,7 +16,7 @@ use apply_options::{Direction, Parallelization};
 use crew::Partition;
 use edge_fold::{Functions, Scratch};
 use flat_snapshot::Flat;
-use kernels::End;
+use kernels::EndpointFilter;
 use std::alloc::{AllocError, Global};
 use vertex_sets::VertexSet;
 
@@ -58,7 +58,7 @@ pub(crate) fn list_sources(
 fn list_from(
     alloc: Global,
     direction: Direction,
-    from: End<'_>,
+    from: EndpointFilter<'_>,
     flat: &Flat,
     functions: Functions<'_>,
     scratch: &mut Scratch,
@@ -83,7 +83,7 @@ fn list_from(
 /// The sources that pass.
 fn passing_sources(
     alloc: Global,
-    from: End<'_>,
+    from: EndpointFilter<'_>,
     flat: &Flat,
     functions: Functions<'_>,
     scratch: &mut Scratch,
@@ -92,11 +92,11 @@ fn passing_sources(
         → AreSources flat.now.edges test false us.items) }
 {
     match from {
-        End::Members(set) => {
+        EndpointFilter::Members(set) => {
             let members = members_of(alloc, set)?;
             Ok(members)
         }
-        End::Filter(_) => {
+        EndpointFilter::Filter(_) => {
             let all = all_sources(alloc, flat)?;
             let mut kept = Vec::new(alloc);
             scratch.keep_passing(functions, from, &all, &mut kept)?;

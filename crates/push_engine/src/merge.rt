@@ -17,7 +17,7 @@ use crate::work::PushWork;
 use crew::{Found, Work};
 use edge_fold::{Functions, Gathered, Scratch, Start};
 use flat_snapshot::Flat;
-use kernels::End;
+use kernels::EndpointFilter;
 use std::alloc::{AllocError, Global};
 use vectors::Changes;
 
@@ -129,7 +129,7 @@ pub fn part_between(vertices: &[u32], start: usize, end: usize) -> &[u32]
 /// Folds the edges from those of some sources that an end lets through.
 fn fold_passing_part(
     alloc: Global,
-    from: Option<End<'_>>,
+    from: Option<EndpointFilter<'_>>,
     flat: &Flat,
     functions: Functions<'_>,
     part: &[u32],

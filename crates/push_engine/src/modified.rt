@@ -7,7 +7,7 @@ ghost use Rattle.vertex_sets.specs.VertexSet.{IsAscendingBelow};
 
 use apply_options::DenseVertexSet;
 use std::alloc::{AllocError, Global};
-use vectors::{Change, Changes};
+use vectors::{Changes, EntryChange};
 use vertex_sets::{Form, VertexSet};
 
 /// The vertices of a graph of so many at which an apply has changed a vector: a list where they are few, and else in the
@@ -32,7 +32,7 @@ pub fn apply_modified(
 }
 
 /// The changes in a vector.
-fn changes_in(changes: &Changes, vector: usize) -> &[Change]
+fn changes_in(changes: &Changes, vector: usize) -> &[EntryChange]
     ensures { result.now ≡ changes_of vector changes.now.vectors.items }
 {
     'vectors: for of_vector in &changes.vectors {
@@ -46,7 +46,7 @@ fn changes_in(changes: &Changes, vector: usize) -> &[Change]
 /// Their vertices. One that is no vertex, or does not ascend, is left out.
 fn changed_vertices(
     alloc: Global,
-    changes: &[Change],
+    changes: &[EntryChange],
     vertices: u32,
 ) -> Result<Vec<u32>, AllocError>
     ensures ascending { IfOk result (λ vs. IsAscendingBelow vertices vs.items) }

@@ -7,7 +7,7 @@ ghost use Rattle.register_code.specs.Cells.{HasSizes};
 ghost use Rattle.edge_fold.specs.Ends.{IsTest};
 
 use edge_fold::{Functions, Scratch};
-use kernels::End;
+use kernels::EndpointFilter;
 use std::alloc::{AllocError, Global};
 use vertex_sets::{Form, VertexSet};
 
@@ -15,7 +15,7 @@ use vertex_sets::{Form, VertexSet};
 pub fn passing_set(
     alloc: Global,
     functions: Functions<'_>,
-    end: End<'_>,
+    end: EndpointFilter<'_>,
     scratch: &mut Scratch,
 ) -> Result<VertexSet, AllocError>
     ensures form { IfOk result (λ s. s.form ≡ Form.Bits) }

@@ -16,7 +16,7 @@ use crate::members::keep_members;
 use crate::parts::take_part;
 use edge_fold::{Functions, Scratch};
 use flat_snapshot::Flat;
-use kernels::End;
+use kernels::EndpointFilter;
 use std::alloc::{AllocError, Global};
 use vertex_sets::VertexSet;
 
@@ -64,7 +64,7 @@ pub(crate) fn fold_passing(
     alloc: Global,
     flat: &Flat,
     functions: Functions<'_>,
-    from: End<'_>,
+    from: EndpointFilter<'_>,
     to: Option<&[u64]>,
     block: &mut [u32],
     scratch: &mut Scratch,

@@ -24,11 +24,11 @@ mod compile_function;
 mod compile_vertex;
 mod instruction;
 mod needs;
-mod room;
+mod register_counts;
 
 pub use compile::{Frame, code_of_condition, code_of_integer};
 pub use compile_function::{FunctionCode, code_of_edge_function, code_of_filter};
 pub use compile_vertex::{code_of_vertex_function, reads_elsewhere};
 pub use instruction::{Give, RegisterInstruction};
 pub use needs::{room_of, with_gives};
-pub use room::Room;
+pub use register_counts::RegisterCounts;

@@ -16,8 +16,8 @@ use Rattle.register_code.specs.declared.instruction.RegisterInstruction.{Registe
 use Rattle.register_code.specs.declared.instruction.RegisterInstruction.TheVariants.{SetEntry}
 use Rattle.register_code.specs.Cells.{Cells, HasSizes, Surroundings, after, is_active, step, written}
 use Rattle.register_code.specs.Meaning.{IsVertexCode, around_vertex}
-use Rattle.vectors.specs.declared.change.Change.{Change}
-use Rattle.vectors.specs.declared.change.VectorChanges.{VectorChanges}
+use Rattle.vectors.specs.declared.changes.EntryChange.{EntryChange}
+use Rattle.vectors.specs.declared.changes.VectorChanges.{VectorChanges}
 use Rattle.vectors.specs.Changes.{with_all_changes, with_changes}
 use Rattle.run_state.specs.NamedSets.{HaveLength}
 
@@ -28,7 +28,7 @@ lengths vectors = map (λ (xs : List ℤ). length xs) vectors
 lengths_after_entry : (vectors : List (List ℤ)) (x v : ℕ) (n : ℤ) → lengths (with_entry vectors x v n) ≡ lengths vectors
 lengths_after_entry vectors x v n = map-set_same (λ (xs : List ℤ). length xs) vectors x (set (get_or vectors x []) v n) [] (length-set (get_or vectors x []) v n)
 
-lengths_after_changes : (vector : ℕ) (cs : List Change) (vectors : List (List ℤ)) → lengths (with_changes vector cs vectors) ≡ lengths vectors
+lengths_after_changes : (vector : ℕ) (cs : List EntryChange) (vectors : List (List ℤ)) → lengths (with_changes vector cs vectors) ≡ lengths vectors
 lengths_after_changes vector [] vectors = refl
 lengths_after_changes vector (c ∷ cs) vectors =
     lengths_after_changes vector cs (with_entry vectors vector c.vertex c.number) ∙ lengths_after_entry vectors vector c.vertex c.number

@@ -7,9 +7,9 @@ use Rattle.algorithm_meaning.specs.State.{GraphValue, StateValue}
 use Rattle.algorithm_meaning.specs.Value.{members_of}
 use Rattle.algorithm_meaning.specs.VertexSets.{vectors_after}
 use Rattle.typed_tree.specs.ProgramTree.{ProgramTree}
-use Rattle.plans.specs.declared.members.Members.{Members}
-use Rattle.plans.specs.declared.members.Members.TheVariants.{Nothing, All, Copy, Filter}
-use Rattle.plans.specs.Members.{set_value}
+use Rattle.plans.specs.declared.set_expression.SetExpression.{SetExpression}
+use Rattle.plans.specs.declared.set_expression.SetExpression.TheVariants.{Nothing, All, Copy, Filter}
+use Rattle.plans.specs.SetExpression.{set_value}
 use Rattle.register_code.specs.Cells.{HasSizes}
 use Rattle.run_state.specs.State.{IsRunState, RunState}
 use Rattle.run_state.specs.NamedSets.{AreAscending, HaveLength, run_state, size_of, sizes_of, with_first_sets}
@@ -25,7 +25,7 @@ on_ok_more (Ok v) P Q more is = more is
 on_ok_more (Err e) P Q more is = tt
 
 -- a set value that applies nothing leaves the vectors
-pub no_vectors : (p : ProgramTree) (g : GraphValue) (members : Members) (s : StateValue) → vectors_after p g (set_value members) s ≡ s.vectors
+pub no_vectors : (p : ProgramTree) (g : GraphValue) (members : SetExpression) (s : StateValue) → vectors_after p g (set_value members) s ≡ s.vectors
 no_vectors p g Nothing s = refl
 no_vectors p g All s = refl
 no_vectors p g (Copy slot) s = refl

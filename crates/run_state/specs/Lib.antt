@@ -1,5 +1,5 @@
 pub mod State
-pub mod Taken
+pub mod SetUpdate
 pub mod NamedSets
 pub mod Passing
 pub mod VertexKernels

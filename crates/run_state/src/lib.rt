@@ -16,12 +16,12 @@ mod filtering;
 mod named_sets;
 mod opening;
 mod run_view;
+mod set_update;
 mod show;
 mod state;
-mod taken;
 mod text;
 mod vertices;
 
 pub use run_view::RunView;
+pub use set_update::SetUpdate;
 pub use state::State;
-pub use taken::Taken;

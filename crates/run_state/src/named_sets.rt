@@ -9,10 +9,10 @@ ghost use Rattle.algorithm_meaning.specs.VertexSets.{inserted, with_members, wit
 ghost use Rattle.run_state.specs.View.{members_in};
 ghost use Rattle.vertex_sets.specs.VertexSet.{IsVertexSet};
 ghost use Rattle.run_state.specs.NamedSets.{AreNamed, named, size_of as size};
-ghost use Rattle.run_state.specs.Taken.{IsTakenOf, with_taken};
+ghost use Rattle.run_state.specs.SetUpdate.{IsTakenOf, with_taken};
 
+use crate::set_update::SetUpdate;
 use crate::show::{first, name_sets};
-use crate::taken::Taken;
 use algorithm_meaning::NamedSet;
 use std::alloc::{AllocError, Global};
 use std::marker::Model;
@@ -137,7 +137,11 @@ impl NamedSets {
     }
 
     /// Takes two sets, one after the other. The only error is out of memory, and then nothing is changed.
-    pub(crate) fn take_both(&mut self, first: Taken, second: Taken) -> Result<(), AllocError>
+    pub(crate) fn take_both(
+        &mut self,
+        first: SetUpdate,
+        second: SetUpdate,
+    ) -> Result<(), AllocError>
         requires first { IsTakenOf self.old.vertices first }
         requires second { IsTakenOf self.old.vertices second }
         ensures ok { OnOk result (self.new ≡ with_state self.old (with_taken (with_taken self.old.state first) second)) }
@@ -231,7 +235,7 @@ fn take_set(
     names: &mut Vec<usize>,
     members: &mut Vec<VertexSet>,
     sizes: &mut Vec<i64>,
-    taken: Taken,
+    taken: SetUpdate,
 )
     requires names { vec_len names.old < vec_capacity names.old }
     requires members { vec_len members.old < vec_capacity members.old }
@@ -245,13 +249,13 @@ fn take_set(
     ensures sizes_room { vec_capacity sizes.old + vec_len sizes.new ≤ vec_capacity sizes.new + vec_len sizes.old + 1 }
 {
     match taken {
-        Taken::Nothing => {}
-        Taken::New { name, set } => {
+        SetUpdate::Nothing => {}
+        SetUpdate::New { name, set } => {
             names.push_reserved(name);
             sizes.push_reserved(size_of(&set));
             members.push_reserved(set);
         }
-        Taken::Other { place, set } => {
+        SetUpdate::Other { place, set } => {
             if place < members.len() {
                 sizes[place] = size_of(&set);
                 members[place] = set;

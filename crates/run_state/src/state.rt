@@ -17,30 +17,30 @@ ghost use Rattle.algorithm_meaning.specs.VertexSets.{after_assign_set, after_dec
 ghost use Rattle.register_code.specs.Meaning.{IsVertexCode};
 ghost use Rattle.kernels.specs.Expressions.{IsConditionKernel, IsIntegerKernel, IsMainState};
 ghost use Rattle.kernels.specs.Kernels.{HasCells, IsFilterKernel};
-ghost use Rattle.register_code.specs.declared.room.Room.{Room};
-ghost use Rattle.plans.specs.Machine.{forgotten};
+ghost use Rattle.register_code.specs.declared.register_counts.RegisterCounts.{RegisterCounts};
+ghost use Rattle.algorithm_meaning.specs.Loop.{forget_beyond};
 ghost use Rattle.vectors.specs.Changes.{with_all_changes};
 ghost use Rattle.plans.specs.Functions.{AreFunctions};
-ghost use Rattle.plans.specs.Members.{set_value};
+ghost use Rattle.plans.specs.SetExpression.{set_value};
 ghost use Rattle.plans.specs.Operation.{IsFor};
 ghost use Rattle.run_state.specs.View.{HasEntryForEach, IsViewOf};
 ghost use Rattle.run_state.specs.State.{IsRunState, RunState, opened, with_state};
-ghost use Rattle.run_state.specs.Taken.{IsTakenOf, with_taken};
+ghost use Rattle.run_state.specs.SetUpdate.{IsTakenOf, with_taken};
 ghost use Rattle.run_state.specs.VertexKernels.{IsVertexKernel};
 
 use crate::filtering::filtered;
 use crate::named_sets::NamedSets;
 use crate::opening::open_vectors;
 use crate::run_view::RunView;
+use crate::set_update::SetUpdate;
 use crate::show::{first, name_vectors};
-use crate::taken::Taken;
 use crate::text::{push_condition_line, push_integer_line};
 use crate::vertices::run_for_all;
-use algorithm_meaning::{End, Outcome, reduce};
+use algorithm_meaning::{Depth, End, Outcome, reduce};
 use apply_options::Reduction;
 use flat_snapshot::Flat;
 use kernels::{Block, ExpressionKernel, FilterKernel, MainState, Registers, VertexKernel};
-use plans::{Depth, FunctionKernels, Members};
+use plans::{FunctionKernels, SetExpression};
 use std::alloc::{AllocError, Global};
 use std::marker::Model;
 use typed_tree::{Name, Sequence, Vector};
@@ -130,7 +130,7 @@ impl State {
 
     /// How many variables and sets are visible.
     pub fn depth(&self) -> Depth
-        ensures { forgotten result self.now.state ≡ self.now.state }
+        ensures { forget_beyond result self.now.state ≡ self.now.state }
     {
         Depth {
             integers: self.integers.len(),
@@ -158,7 +158,7 @@ impl State {
 
     /// Forgets the variables and sets that are beyond this. It takes no memory.
     pub fn forget_beyond(&mut self, depth: Depth)
-        ensures { self.new ≡ with_state self.old (forgotten depth self.old.state) }
+        ensures { self.new ≡ with_state self.old (forget_beyond depth self.old.state) }
     {
         self.sets.truncate(depth.sets);
         self.integers.truncate(depth.integers);
@@ -175,7 +175,7 @@ impl State {
     ) -> Result<Option<i64>, AllocError>
         requires { IsFor depth kernel.now }
         ensures { IfOk result (λ n. (e : IntegerTree) → IsIntegerKernel kernel.now e
-            → n ≡ number_in self.now.vertices e (forgotten depth self.now.state)) }
+            → n ≡ number_in self.now.vertices e (forget_beyond depth self.now.state)) }
     {
         kernel.number(self.main_state(depth), registers)
     }
@@ -189,7 +189,7 @@ impl State {
     ) -> Result<Option<bool>, AllocError>
         requires { IsFor depth kernel.now }
         ensures { IfOk result (λ b. (c : ConditionTree) → IsConditionKernel kernel.now c
-            → b ≡ choice_in self.now.vertices c (forgotten depth self.now.state)) }
+            → b ≡ choice_in self.now.vertices c (forget_beyond depth self.now.state)) }
     {
         kernel.choice(self.main_state(depth), registers)
     }
@@ -204,7 +204,7 @@ impl State {
     ) -> Result<Option<u32>, AllocError>
         requires { IsFor depth kernel.now }
         ensures vertex { IfOk result (λ v. (e : IntegerTree) → IsIntegerKernel kernel.now e
-            → v ≡ vertex_in self.now.vertices e (forgotten depth self.now.state)) }
+            → v ≡ vertex_in self.now.vertices e (forget_beyond depth self.now.state)) }
         ensures below { IfOk result (λ v. IfSome v (λ v. v < self.now.vertices)) }
     {
         let number = self.number(kernel, depth, registers)?;
@@ -213,7 +213,7 @@ impl State {
 
     /// What expressions read where so much is visible.
     fn main_state(&self, depth: Depth) -> MainState<'_>
-        ensures main { IsMainState result (forgotten depth self.now.state) }
+        ensures main { IsMainState result (forget_beyond depth self.now.state) }
         ensures vertices { result.vertices ≡ self.now.vertices }
         ensures integers { length result.integers.now ≤ depth.integers }
         ensures conditions { length result.conditions.now ≤ depth.conditions }
@@ -336,7 +336,7 @@ impl State {
         &mut self,
         alloc: Global,
         name: usize,
-        members: Members,
+        members: SetExpression,
         functions: &FunctionKernels,
         block: &mut Block,
     ) -> Result<(), AllocError>
@@ -356,7 +356,7 @@ impl State {
         &mut self,
         alloc: Global,
         place: usize,
-        members: Members,
+        members: SetExpression,
         functions: &FunctionKernels,
         block: &mut Block,
     ) -> Result<(), AllocError>
@@ -375,7 +375,7 @@ impl State {
     fn set_of(
         &self,
         alloc: Global,
-        members: Members,
+        members: SetExpression,
         functions: &FunctionKernels,
         block: &mut Block,
     ) -> Result<VertexSet, AllocError>
@@ -385,13 +385,13 @@ impl State {
     {
         let vertices = self.sets.vertices();
         match members {
-            Members::Nothing => VertexSet::empty(alloc, vertices, Form::List),
-            Members::All => VertexSet::full(alloc, vertices, Form::Bits),
-            Members::Copy(slot) => match self.sets.get(slot.place) {
+            SetExpression::Nothing => VertexSet::empty(alloc, vertices, Form::List),
+            SetExpression::All => VertexSet::full(alloc, vertices, Form::Bits),
+            SetExpression::Copy(slot) => match self.sets.get(slot.place) {
                 Some(set) => set.to_form(alloc, set.form()),
                 None => VertexSet::empty(alloc, vertices, Form::List),
             },
-            Members::Filter(slot, function) => {
+            SetExpression::Filter(slot, function) => {
                 let filter = functions.filter.get(function);
                 match self.sets.get(slot.place) {
                     Some(set) => {
@@ -460,7 +460,7 @@ impl State {
             (after_vertices steps self.old.state.sets (members_of (slice_get self.old.state.sets set)) self.old.state.vectors)) }
         ensures turns { self.new.state.turns ≡ self.old.state.turns }
         ensures vertices { self.new.vertices ≡ self.old.vertices }
-        ensures keeps { (other : Room) → HasCells block.old other → HasCells block.new other }
+        ensures keeps { (other : RegisterCounts) → HasCells block.old other → HasCells block.new other }
     {
         if let Some(members) = self.sets.get(set) {
             run_for_all(
@@ -499,7 +499,7 @@ impl State {
     }
 
     /// Takes two sets, one after the other. The only error is out of memory, and then nothing is changed.
-    pub fn take_both(&mut self, first: Taken, second: Taken) -> Result<(), AllocError>
+    pub fn take_both(&mut self, first: SetUpdate, second: SetUpdate) -> Result<(), AllocError>
         requires first { IsTakenOf self.old.vertices first }
         requires second { IsTakenOf self.old.vertices second }
         ensures ok { OnOk result (self.new ≡ with_state self.old (with_taken (with_taken self.old.state first) second)) }
@@ -520,7 +520,7 @@ impl State {
         visible: Depth,
     ) -> Result<Outcome, AllocError>
         ensures { IfOk result (λ o. (p : ProgramTree) → p.names ≡ names.now → p.vectors ≡ vectors.now
-            → o ≡ shown p turns (forgotten visible self.now.state) end) }
+            → o ≡ shown p turns (forget_beyond visible self.now.state) end) }
     {
         let arrays = self.vectors.to_arrays(alloc)?;
         let shown = name_vectors(alloc, names, vectors, arrays)?;
@@ -546,7 +546,7 @@ impl State {
         visible: Depth,
     ) -> Result<Outcome, AllocError>
         ensures { IfOk result (λ o. (p : ProgramTree) → p.names ≡ names.now → p.vectors ≡ vectors.now
-            → o ≡ shown p turns (forgotten visible self.state) end) }
+            → o ≡ shown p turns (forget_beyond visible self.state) end) }
     {
         let visible_sets = self.sets.shown(alloc, names, visible.sets)?;
         let State {

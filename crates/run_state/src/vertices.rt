@@ -7,7 +7,7 @@ ghost use Rattle.algorithm_meaning.specs.VertexApply.{after_vertices};
 ghost use Rattle.register_code.specs.Cells.{HasSizes};
 ghost use Rattle.register_code.specs.Meaning.{IsVertexCode};
 ghost use Rattle.kernels.specs.Kernels.{HasCells};
-ghost use Rattle.register_code.specs.declared.room.Room.{Room};
+ghost use Rattle.register_code.specs.declared.register_counts.RegisterCounts.{RegisterCounts};
 
 use kernels::{Block, VertexKernel};
 use vectors::Vectors;
@@ -41,7 +41,7 @@ pub(crate) fn run_for_all(
     requires ascending { IsStrictlyIncreasing vertices }
     ensures vectors { (steps : StepsTree) (m : StateValue) → IsVertexCode kernel.now.code.items steps → vectors.old.vectors ≡ m.vectors → HasSizes sizes.now m
         → vectors.new.vectors ≡ after_vertices steps m.sets vertices.entry m.vectors }
-    ensures keeps { (other : Room) → HasCells block.old other → HasCells block.new other }
+    ensures keeps { (other : RegisterCounts) → HasCells block.old other → HasCells block.new other }
 {
     let mut left = vertices;
     let mut part = [0u32; 128];

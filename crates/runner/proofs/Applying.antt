@@ -26,12 +26,12 @@ use Rattle.plans.specs.Machine.{At, act, go_on, with_result}
 use Rattle.plans.specs.Reducing.{AreReduced, OperationReduces, places_of, steps_at}
 use Rattle.plans.proofs.EdgePairs.{after_part}
 use Rattle.plans.proofs.Results.{result_beside_vectors, vectors_of_result}
-use Rattle.run_state.specs.declared.taken.Taken.{Taken}
-use Rattle.run_state.specs.declared.taken.Taken.TheVariants as taken
+use Rattle.run_state.specs.declared.set_update.SetUpdate.{SetUpdate}
+use Rattle.run_state.specs.declared.set_update.SetUpdate.TheVariants as taken
 use Rattle.run_state.specs.NamedSets.{HaveLength}
-use Rattle.run_state.specs.Taken.{with_taken}
+use Rattle.run_state.specs.SetUpdate.{with_taken}
 use Rattle.run_state.proofs.Lengths.{after_all_changes, count}
-use Rattle.vectors.specs.declared.change.VectorChanges.{VectorChanges}
+use Rattle.vectors.specs.declared.changes.VectorChanges.{VectorChanges}
 use Rattle.vectors.specs.Changes.{with_all_changes}
 use Rattle.runner.specs.declared.flow.Flow.TheVariants.{Next}
 use Rattle.runner.specs.declared.memory.Memory.{Memory}
@@ -70,7 +70,7 @@ none_modified n vector before after cs each past are =
     sym (unmodified vector before after past behind (range_with_len 0 n))
 
 -- to write changes behind what was taken is to take it behind the changes
-pub written_behind : (n : ℕ) (first second : PartResult) (s : StateValue) (a b : Taken) (cs : List VectorChanges) (after : List (List ℤ))
+pub written_behind : (n : ℕ) (first second : PartResult) (s : StateValue) (a b : SetUpdate) (cs : List VectorChanges) (after : List (List ℤ))
     → IsTakenFor n s.vectors after (result_tree first) a → IsTakenFor n s.vectors after (result_tree second) b → with_all_changes cs s.vectors ≡ after
     → with_vectors (with_taken (with_taken s a) b) (with_all_changes cs (with_taken (with_taken s a) b).vectors) ≡ with_both n first second after s
 written_behind n first second s a b cs after of_first of_second written =
@@ -82,12 +82,12 @@ written_behind n first second s a b cs after of_first of_second written =
     ∙ ap (with_result n s.vectors after (result_tree second)) (result_beside_vectors n s.vectors after s.vectors after (result_tree first) s)
 
 -- a set that is taken uses no turn
-turns_stay : (s : StateValue) (a : Taken) → (with_taken s a).turns ≡ s.turns
+turns_stay : (s : StateValue) (a : SetUpdate) → (with_taken s a).turns ≡ s.turns
 turns_stay s taken.Nothing = refl
 turns_stay s (taken.New name set) = refl
 turns_stay s (taken.Other place set) = refl
 
-pub turns_of_both : (s : StateValue) (a b : Taken) → (with_taken (with_taken s a) b).turns ≡ s.turns
+pub turns_of_both : (s : StateValue) (a b : SetUpdate) → (with_taken (with_taken s a) b).turns ≡ s.turns
 turns_of_both s a b = turns_stay (with_taken s a) b ∙ turns_stay s a
 
 -- the statement is this apply

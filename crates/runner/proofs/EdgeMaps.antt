@@ -10,7 +10,7 @@ use Rattle.tree_batch.specs.Edge.{has_edge, IsWithin}
 use Rattle.edge_fold.specs.Between.{edges_between}
 use Rattle.edge_fold.specs.Changed.{AreApart, changed, changes_of}
 use Rattle.push_engine.specs.Applied.{AreChangesOn}
-use Rattle.vectors.specs.declared.change.VectorChanges.{VectorChanges}
+use Rattle.vectors.specs.declared.changes.VectorChanges.{VectorChanges}
 use Rattle.plans.specs.Reducing.{AreReduced, steps_at}
 use Rattle.runner.specs.EdgeMap.{AreChangesTo}
 use Rattle.run_state.specs.View.{HasEntryForEach}

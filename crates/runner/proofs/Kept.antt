@@ -1,15 +1,16 @@
 -- What is kept before an instruction, and how many steps are left.
 use Rattle.std.proofs.Common.{◌≡◌, ℕ, ◌+◌, ◌*◌, List, length, refl, ap₂}
 use Rattle.algorithm_meaning.specs.State.{StateValue}
-use Rattle.plans.specs.declared.depth.Depth.{Depth}
+use Rattle.algorithm_meaning.specs.declared.state.Depth.{Depth}
 use Rattle.plans.specs.Bound.{most_steps, rank}
 use Rattle.plans.specs.Instruction.{InstructionTree}
-use Rattle.plans.specs.Machine.{Configuration, At, Ended, forgotten}
+use Rattle.algorithm_meaning.specs.Loop.{forget_beyond}
+use Rattle.plans.specs.Machine.{Configuration, At, Ended}
 use Rattle.plans.proofs.Depths.{forgotten-less, within_itself}
 use Rattle.runner.specs.Done.{AreLevel}
 
 -- what is forgotten stays forgotten
-pub forgotten_twice : (d : Depth) (s : StateValue) → forgotten d (forgotten d s) ≡ forgotten d s
+pub forgotten_twice : (d : Depth) (s : StateValue) → forget_beyond d (forget_beyond d s) ≡ forget_beyond d s
 forgotten_twice d s = forgotten-less d d s (within_itself d)
 
 -- what stands level has as many steps left at most

@@ -6,14 +6,14 @@ use Rattle.algorithm_meaning.specs.Function.{steps_of}
 use Rattle.kernels.specs.declared.expression.ExpressionKernel.{ExpressionKernel}
 use Rattle.kernels.specs.declared.vertex_kernel.VertexKernel.{VertexKernel}
 use Rattle.register_code.specs.Meaning.{IsVertexCode}
-use Rattle.plans.specs.declared.depth.Depth.{Depth}
+use Rattle.algorithm_meaning.specs.declared.state.Depth.{Depth}
 use Rattle.plans.specs.Instruction.{OperationTree}
 use Rattle.plans.specs.Plan.{plan_of}
 use Rattle.plans.specs.PlanOf.{program_of}
 use Rattle.plans.specs.declared.functions.FunctionKernels.{FunctionKernels}
 use Rattle.plans.specs.declared.instruction.Instruction.{Instruction}
-use Rattle.plans.specs.declared.operation.Operation.{Operation}
-use Rattle.plans.specs.declared.operation.Operation.TheVariants as op
+use Rattle.plans.specs.declared.operation.PlanOperation.{PlanOperation}
+use Rattle.plans.specs.declared.operation.PlanOperation.TheVariants as op
 use Rattle.plans.specs.declared.plan.Plan.{Plan}
 use Rattle.plans.specs.Kernels.{kernel_at}
 use Rattle.plans.specs.Operation.{IsFor, IsInstruction, IsOperation}
@@ -22,7 +22,7 @@ use Rattle.runner.specs.Done.{HaveTrees, IsReady}
 use Rattle.runner.proofs.Partners.{partner_at}
 
 -- an operation of a tree is ready
-ready : (keep shown : Depth) (o : Operation) (t : OperationTree) → IsOperation keep shown o t → IsReady keep shown o
+ready : (keep shown : Depth) (o : PlanOperation) (t : OperationTree) → IsOperation keep shown o t → IsReady keep shown o
 ready keep shown (op.DeclareInteger name k) t is = is.visible
 ready keep shown (op.DeclareCondition name k) t is = is.visible
 ready keep shown (op.SetInteger slot k) t is = is.visible
@@ -49,7 +49,7 @@ ready keep shown op.End t is = tt
 for_once : (d : Depth) (k : ExpressionKernel) (x y : IsFor d k) → x ≡ y
 for_once d k x y = λ i. record { integers = ℕ_set _ _ x.integers y.integers i; conditions = ℕ_set _ _ x.conditions y.conditions i }
 
-ready_once : (keep shown : Depth) (o : Operation) (x y : IsReady keep shown o) → x ≡ y
+ready_once : (keep shown : Depth) (o : PlanOperation) (x y : IsReady keep shown o) → x ≡ y
 ready_once keep shown (op.DeclareInteger name k) x y = for_once keep k x y
 ready_once keep shown (op.DeclareCondition name k) x y = for_once keep k x y
 ready_once keep shown (op.SetInteger slot k) x y = for_once keep k x y

@@ -4,12 +4,13 @@ use Rattle.algorithm_meaning.specs.declared.outcome.End.TheVariants.{TurnsOver}
 use Rattle.algorithm_meaning.specs.Shown.{shown}
 use Rattle.algorithm_meaning.specs.State.{GraphValue, StateValue}
 use Rattle.apply_options.specs.ScheduleTree.{ScheduleTree}
-use Rattle.plans.specs.declared.depth.Counter.{Counter}
-use Rattle.plans.specs.declared.depth.Depth.{Depth}
+use Rattle.algorithm_meaning.specs.declared.state.LoopCounter.{LoopCounter}
+use Rattle.algorithm_meaning.specs.declared.state.Depth.{Depth}
 use Rattle.plans.specs.declared.instruction.Instruction.{Instruction}
 use Rattle.plans.specs.declared.plan.Plan.{Plan}
 use Rattle.plans.specs.Instruction.{InstructionTree}
-use Rattle.plans.specs.Machine.{Configuration, At, Ended, act, act_at, forgotten, step}
+use Rattle.algorithm_meaning.specs.Loop.{forget_beyond}
+use Rattle.plans.specs.Machine.{Configuration, At, Ended, act, act_at, step}
 use Rattle.plans.specs.Operation.{IsInstruction}
 use Rattle.plans.specs.Plan.{plan_of}
 use Rattle.plans.specs.PlanOf.{IsPlan}
@@ -22,8 +23,8 @@ use Rattle.runner.proofs.Partners.{partner_at}
 use Rattle.typed_tree.specs.ProgramTree.{ProgramTree}
 
 -- what rests at a place is what stands there, where a fact of both holds at each instruction
-at_place : (P : Configuration → Type 0) (is : List Instruction) (place : ℕ) (loops : List Counter) (s : StateValue) (o : Option Instruction) → slice_get is place ≡ o
-    → P (At place loops s) → ((i : Instruction) → slice_get is place ≡ Some i → P (At place loops (forgotten i.keep s))) → P (kept_at o place loops s)
+at_place : (P : Configuration → Type 0) (is : List Instruction) (place : ℕ) (loops : List LoopCounter) (s : StateValue) (o : Option Instruction) → slice_get is place ≡ o
+    → P (At place loops s) → ((i : Instruction) → slice_get is place ≡ Some i → P (At place loops (forget_beyond i.keep s))) → P (kept_at o place loops s)
 at_place P is place loops s None found here there = here
 at_place P is place loops s (Some i) found here there = there i found
 
@@ -35,9 +36,9 @@ step_resting p g plan schedule planned (At place loops s) =
     at_place (λ (c : Configuration). step p g code c ≡ step p g code (At place loops s)) is place loops s (slice_get is place) refl refl (λ i found.
     let partner = partner_at IsInstruction is code place i planned.instructions found in
     let t = partner.partner in
-    let kept : forgotten t.keep (forgotten i.keep s) ≡ forgotten t.keep s =
-    ap (λ (d : Depth). forgotten t.keep (forgotten d s)) partner.related.keep ∙ forgotten_twice t.keep s in
-    ap (λ (o : Option InstructionTree). act_at p g o place loops (forgotten i.keep s)) partner.is_there
+    let kept : forget_beyond t.keep (forget_beyond i.keep s) ≡ forget_beyond t.keep s =
+    ap (λ (d : Depth). forget_beyond t.keep (forget_beyond d s)) partner.related.keep ∙ forgotten_twice t.keep s in
+    ap (λ (o : Option InstructionTree). act_at p g o place loops (forget_beyond i.keep s)) partner.is_there
     ∙ (ap (λ (u : StateValue). act p g t.operation t.number t.shown place loops u) kept
     ∙ sym (ap (λ (o : Option InstructionTree). act_at p g o place loops s) partner.is_there)))
 step_resting p g plan schedule planned (Ended s end) = refl
@@ -52,7 +53,7 @@ outcome_resting p turns plan schedule planned (At place loops s) =
     let partner = partner_at IsInstruction is code place i planned.instructions found in
     let t = partner.partner in
     let within : IsWithin t.shown i.keep = subst (IsWithin t.shown) (sym partner.related.keep) (shows_within p schedule place t partner.is_there) in
-    ap (λ (o : Option InstructionTree). shown_where p turns o (forgotten i.keep s)) partner.is_there
+    ap (λ (o : Option InstructionTree). shown_where p turns o (forget_beyond i.keep s)) partner.is_there
     ∙ (ap (λ (u : StateValue). shown p turns u TurnsOver) (forgotten-less t.shown i.keep s within)
     ∙ sym (ap (λ (o : Option InstructionTree). shown_where p turns o s) partner.is_there)))
 outcome_resting p turns plan schedule planned (Ended s end) = refl

@@ -16,7 +16,7 @@ use Rattle.plans.specs.Machine.{Configuration, At, Ended, step, steps, first_con
 use Rattle.plans.specs.Plan.{plan_of}
 use Rattle.plans.specs.Laws.{GoesOn, Shows, RunsAs}
 use Rattle.plans.proofs.Whole.{runs_as}
-use Rattle.plans.specs.declared.depth.Counter.{Counter}
+use Rattle.algorithm_meaning.specs.declared.state.LoopCounter.{LoopCounter}
 use Rattle.run_state.specs.State.{graph_value, opened}
 use Rattle.runner.specs.Position.{outcome_so_far, position}
 
@@ -96,7 +96,7 @@ means p s g turns c r end =
     let there = shows_the_meaning p s g turns r.count (subst HasEnded r.is end) in
     shows_so p (plan_of p s) turns c (meaning p g turns) (subst (λ (d : Configuration). Shows p turns d (meaning p g turns)) (sym r.is) there)
 
-pub has_ended : (end : Option Ending) (place : ℕ) (loops : List Counter) (s : StateValue) → is_some end ≡ true → HasEnded (position end place loops s)
+pub has_ended : (end : Option Ending) (place : ℕ) (loops : List LoopCounter) (s : StateValue) → is_some end ≡ true → HasEnded (position end place loops s)
 has_ended None place loops s is = let bad : true ≡ false = sym is in cc
 has_ended (Some end) place loops s is = tt
 

@@ -6,18 +6,18 @@ use Rattle.algorithm_meaning.specs.declared.outcome.End.{End as Ending}
 use Rattle.algorithm_meaning.specs.declared.outcome.End.TheVariants.{TurnsOver}
 use Rattle.algorithm_meaning.specs.Shown.{shown}
 use Rattle.algorithm_meaning.specs.State.{StateValue}
-use Rattle.plans.specs.declared.depth.Counter.{Counter}
-use Rattle.plans.specs.declared.depth.Depth.{Depth}
+use Rattle.algorithm_meaning.specs.declared.state.LoopCounter.{LoopCounter}
+use Rattle.algorithm_meaning.specs.declared.state.Depth.{Depth}
 use Rattle.plans.specs.Instruction.{InstructionTree}
-use Rattle.plans.specs.Machine.{forgotten}
+use Rattle.algorithm_meaning.specs.Loop.{forget_beyond}
 use Rattle.runner.specs.Position.{IsShown, IsShownWhere, outcome_so_far, position, shown_where}
 
-shown_here : (p : ProgramTree) (turns : ℕ) (o : Option InstructionTree) (s : StateValue) (d : Depth) → IsShownWhere o s d → shown p turns (forgotten d s) TurnsOver ≡ shown_where p turns o s
+shown_here : (p : ProgramTree) (turns : ℕ) (o : Option InstructionTree) (s : StateValue) (d : Depth) → IsShownWhere o s d → shown p turns (forget_beyond d s) TurnsOver ≡ shown_where p turns o s
 shown_here p turns None s d is = ap (λ (t : StateValue). shown p turns t TurnsOver) is
-shown_here p turns (Some i) s d is = ap (λ (e : Depth). shown p turns (forgotten e s) TurnsOver) is
+shown_here p turns (Some i) s d is = ap (λ (e : Depth). shown p turns (forget_beyond e s) TurnsOver) is
 
-pub shows_so_far : (p : ProgramTree) (turns : ℕ) (plan : List InstructionTree) (end : Option Ending) (place : ℕ) (loops : List Counter) (s : StateValue) (d : Depth)
-    → IsShown plan (position end place loops s) d → shown p turns (forgotten d s) (unwrap_or end TurnsOver) ≡ outcome_so_far p turns plan (position end place loops s)
+pub shows_so_far : (p : ProgramTree) (turns : ℕ) (plan : List InstructionTree) (end : Option Ending) (place : ℕ) (loops : List LoopCounter) (s : StateValue) (d : Depth)
+    → IsShown plan (position end place loops s) d → shown p turns (forget_beyond d s) (unwrap_or end TurnsOver) ≡ outcome_so_far p turns plan (position end place loops s)
 shows_so_far p turns plan None place loops s d is = shown_here p turns (slice_get plan place) s d is
 shows_so_far p turns plan (Some end) place loops s d is = ap (λ (t : StateValue). shown p turns t end) is
 

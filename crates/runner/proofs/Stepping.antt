@@ -10,18 +10,19 @@ use Rattle.algorithm_meaning.specs.declared.outcome.End.{End as Ending}
 use Rattle.algorithm_meaning.specs.State.{GraphValue, StateValue}
 use Rattle.algorithm_meaning.specs.Variables.{with_new_integer}
 use Rattle.apply_options.specs.ScheduleTree.{ScheduleTree}
-use Rattle.plans.specs.declared.depth.Counter.{Counter}
-use Rattle.plans.specs.declared.depth.Depth.{Depth}
+use Rattle.algorithm_meaning.specs.declared.state.LoopCounter.{LoopCounter}
+use Rattle.algorithm_meaning.specs.declared.state.Depth.{Depth}
 use Rattle.plans.specs.Bound.{most_steps}
 use Rattle.plans.specs.Fused.{FitTogether}
 use Rattle.plans.specs.Instruction.{ApplyVerticesTogether, Do, InstructionTree, OperationTree}
-use Rattle.plans.specs.Machine.{Configuration, At, act, act_at, after_advance, forgotten, next_of, step}
+use Rattle.algorithm_meaning.specs.Loop.{forget_beyond, next_of}
+use Rattle.plans.specs.Machine.{Configuration, At, act, act_at, after_advance, step}
 use Rattle.plans.specs.Plan.{plan_of}
 use Rattle.plans.proofs.Reaching.{is_inside}
 use Rattle.plans.proofs.Whole.{steps_lower}
 use Rattle.plans.specs.Outline.{most_steps_of}
 use Rattle.plans.specs.declared.instruction.Instruction.{Instruction}
-use Rattle.plans.specs.declared.operation.Operation.TheVariants as op
+use Rattle.plans.specs.declared.operation.PlanOperation.TheVariants as op
 use Rattle.plans.specs.declared.plan.Plan.{Plan}
 use Rattle.plans.specs.Operation.{IsInstruction, IsOperation}
 use Rattle.plans.specs.PlanOf.{IsPlan, program_of}
@@ -36,16 +37,16 @@ use Rattle.runner.proofs.Kept.{as_many_left, forgotten_twice}
 use Rattle.runner.proofs.Partners.{partner_at}
 
 -- to act on what is kept is to step
-pub act_steps : (p : ProgramTree) (g : GraphValue) (plan : List InstructionTree) (place : ℕ) (loops : List Counter) (s t : StateValue) (i : Instruction) (tree : InstructionTree)
-    → slice_get plan place ≡ Some tree → IsInstruction i tree → t ≡ forgotten i.keep s
+pub act_steps : (p : ProgramTree) (g : GraphValue) (plan : List InstructionTree) (place : ℕ) (loops : List LoopCounter) (s t : StateValue) (i : Instruction) (tree : InstructionTree)
+    → slice_get plan place ≡ Some tree → IsInstruction i tree → t ≡ forget_beyond i.keep s
     → act p g tree.operation i.number i.shown place loops t ≡ step p g plan (At place loops s)
 act_steps p g plan place loops s t i tree at is kept =
     ap (λ (u : StateValue). act p g tree.operation i.number i.shown place loops u) kept
-    ∙ ((λ j. act p g tree.operation (is.number j) (is.shown j) place loops (forgotten (is.keep j) s))
+    ∙ ((λ j. act p g tree.operation (is.number j) (is.shown j) place loops (forget_beyond (is.keep j) s))
     ∙ sym (ap (λ (o : Option InstructionTree). act_at p g o place loops s) at))
 
 -- what stands level with the next step of a plan has fewer steps left
-pub level_falls : (plan : Plan) (g : GraphValue) (place : ℕ) (loops : List Counter) (s : StateValue) (i : Instruction) (next : Configuration)
+pub level_falls : (plan : Plan) (g : GraphValue) (place : ℕ) (loops : List LoopCounter) (s : StateValue) (i : Instruction) (next : Configuration)
     → slice_get plan.instructions.items place ≡ Some i
     → ((p : ProgramTree) (schedule : ScheduleTree) → IsPlan plan p schedule → AreLevel next (step p g (plan_of p schedule) (At place loops s)))
     → most_steps_of plan.instructions.items next < most_steps_of plan.instructions.items (At place loops s)
@@ -64,15 +65,15 @@ level_falls plan g place loops s i next found level =
     omega (arith, before, after, fewer))
 
 -- the innermost loop is the last
-pub reverse_last : (xs : List Counter) (x : Counter) → reverse (xs ++ x ∷ []) ≡ x ∷ reverse xs
+pub reverse_last : (xs : List LoopCounter) (x : LoopCounter) → reverse (xs ++ x ∷ []) ≡ x ∷ reverse xs
 reverse_last xs x = reverse-append xs (x ∷ [])
 
 -- the innermost loop goes on
-pub loop_goes_on : (here : ℕ) (loops old new : List Counter) (x : Counter) (s : StateValue) → old ≡ loops ++ x ∷ [] → new ≡ loops ++ next_of x ∷ []
+pub loop_goes_on : (here : ℕ) (loops old new : List LoopCounter) (x : LoopCounter) (s : StateValue) → old ≡ loops ++ x ∷ [] → new ≡ loops ++ next_of x ∷ []
     → At here (reverse new) (with_new_integer (with_new_integer s (next_of x).next) (next_of x).end) ≡ after_advance here (reverse old) s
 loop_goes_on here loops old new x s was is =
-    ap (λ (ls : List Counter). At here ls (with_new_integer (with_new_integer s (next_of x).next) (next_of x).end)) (ap reverse is ∙ reverse_last loops (next_of x))
-    ∙ sym (ap (λ (ls : List Counter). after_advance here ls s) (ap reverse was ∙ reverse_last loops x))
+    ap (λ (ls : List LoopCounter). At here ls (with_new_integer (with_new_integer s (next_of x).next) (next_of x).end)) (ap reverse is ∙ reverse_last loops (next_of x))
+    ∙ sym (ap (λ (ls : List LoopCounter). after_advance here ls s) (ap reverse was ∙ reverse_last loops x))
 
 -- an apply of one vertex function, or of two
 pub vertices_done : (i : Instruction) (old new : Memory) (p : ProgramTree) (g : GraphValue) (keep shown : Depth) (set : VarRef) (first : ℕ) (second : Option ℕ) (t : OperationTree)
@@ -85,16 +86,16 @@ vertices_done i old new p g keep shown set first (Some place) t is fit one two =
     subst (λ (o : OperationTree). HasDone i Next old new p g o) (sym is) (two place refl (subst (λ (o : OperationTree). FitTogether p o) is fit))
 
 -- at the next place, in a state that was made of another
-pub stands : (place : ℕ) (loops : List Counter) (r new : RunState) (s : StateValue) → new ≡ with_state r s → At place loops new.state ≡ At place loops s
+pub stands : (place : ℕ) (loops : List LoopCounter) (r new : RunState) (s : StateValue) → new ≡ with_state r s → At place loops new.state ≡ At place loops s
 stands place loops r new s made = ap (λ (t : RunState). At place loops t.state) made
 
 -- a run that goes on rests where it would if what its instruction does not see were forgotten
-pub rests : (is : List Instruction) (end : Option Ending) (place : ℕ) (loops : List Counter) (s t : StateValue) (i : Instruction) (new : Configuration)
-    → slice_get is place ≡ Some i → t ≡ forgotten i.keep s → end ≡ None → new ≡ position end place loops t → resting is new ≡ resting is (position end place loops s)
+pub rests : (is : List Instruction) (end : Option Ending) (place : ℕ) (loops : List LoopCounter) (s t : StateValue) (i : Instruction) (new : Configuration)
+    → slice_get is place ≡ Some i → t ≡ forget_beyond i.keep s → end ≡ None → new ≡ position end place loops t → resting is new ≡ resting is (position end place loops s)
 rests is end place loops s t i new found kept going stays =
     ap (resting is) (stays ∙ ap (λ (e : Option Ending). position e place loops t) going)
     ∙ (ap (λ (o : Option Instruction). kept_at o place loops t) found
-    ∙ (ap (λ (u : StateValue). At place loops (forgotten i.keep u)) kept
+    ∙ (ap (λ (u : StateValue). At place loops (forget_beyond i.keep u)) kept
     ∙ (ap (λ (u : StateValue). At place loops u) (forgotten_twice i.keep s)
     ∙ (sym (ap (λ (o : Option Instruction). kept_at o place loops s) found)
     ∙ sym (ap (λ (e : Option Ending). resting is (position e place loops s)) going)))))

@@ -7,13 +7,13 @@ use Rattle.algorithm_meaning.specs.Arithmetic.{int_equal}
 use Rattle.algorithm_meaning.specs.Value.{entry, with_entry}
 use Rattle.algorithm_meaning.proofs.WrittenEntries.{entry_written, entry_elsewhere, entry_of_other, length_stays}
 use Rattle.edge_fold.specs.Changed.{AreApart, change_at, changed, changed_from, changes_of, is_named}
-use Rattle.vectors.specs.declared.change.Change.{Change}
-use Rattle.vectors.specs.declared.change.VectorChanges.{VectorChanges}
+use Rattle.vectors.specs.declared.changes.EntryChange.{EntryChange}
+use Rattle.vectors.specs.declared.changes.VectorChanges.{VectorChanges}
 use Rattle.vectors.specs.Changes.{with_all_changes, with_changes}
 use Rattle.vectors.proofs.Layouts.{same_lists}
 
 -- what changes of a vector make of the entry at a vertex
-abbrev pub number_after : List Change → ℕ → ℤ → ℤ
+abbrev pub number_after : List EntryChange → ℕ → ℤ → ℤ
 number_after [] v n = n
 number_after (c ∷ cs) v n = number_after cs v (cond (c.vertex == v) c.number n)
 
@@ -29,7 +29,7 @@ equal_itself n = grind (arith, nat_tests)
 still_inside : (v m n : ℕ) → m ≡ n → v < n → v < m
 still_inside v m n e h = omega (arith, e, h)
 
-rows_after_changes : (vector : ℕ) (cs : List Change) (vectors : List (List ℤ)) (x : ℕ) → length (slice_index_or (with_changes vector cs vectors) x []) ≡ length (slice_index_or vectors x [])
+rows_after_changes : (vector : ℕ) (cs : List EntryChange) (vectors : List (List ℤ)) (x : ℕ) → length (slice_index_or (with_changes vector cs vectors) x []) ≡ length (slice_index_or vectors x [])
 rows_after_changes vector [] vectors x = refl
 rows_after_changes vector (c ∷ cs) vectors x =
     rows_after_changes vector cs (with_entry vectors vector c.vertex c.number) x ∙ length_stays vectors vector c.vertex c.number x
@@ -43,7 +43,7 @@ count_after_entry [] vector v n = refl
 count_after_entry (xs ∷ more) zero v n = refl
 count_after_entry (xs ∷ more) (suc x) v n = ap suc (count_after_entry more x v n)
 
-count_after_changes : (vector : ℕ) (cs : List Change) (vectors : List (List ℤ)) → length (with_changes vector cs vectors) ≡ length vectors
+count_after_changes : (vector : ℕ) (cs : List EntryChange) (vectors : List (List ℤ)) → length (with_changes vector cs vectors) ≡ length vectors
 count_after_changes vector [] vectors = refl
 count_after_changes vector (c ∷ cs) vectors =
     count_after_changes vector cs (with_entry vectors vector c.vertex c.number) ∙ count_after_entry vectors vector c.vertex c.number
@@ -52,7 +52,7 @@ count_after_all : (cs : List VectorChanges) (vectors : List (List ℤ)) → leng
 count_after_all [] vectors = refl
 count_after_all (c ∷ cs) vectors = count_after_all cs (with_changes c.vector c.changes.items vectors) ∙ count_after_changes c.vector c.changes.items vectors
 
-one_entry : (c : Change) (vectors : List (List ℤ)) (x v : ℕ) (b : Bool) → (c.vertex == v) ≡ b → v < length (slice_index_or vectors x [])
+one_entry : (c : EntryChange) (vectors : List (List ℤ)) (x v : ℕ) (b : Bool) → (c.vertex == v) ≡ b → v < length (slice_index_or vectors x [])
     → entry (with_entry vectors x c.vertex c.number) x v ≡ cond (c.vertex == v) c.number (entry vectors x v)
 one_entry c vectors x v true e h =
     ap (λ (u : ℕ). entry (with_entry vectors x u c.number) x v) (same_number c.vertex v e)
@@ -62,7 +62,7 @@ one_entry c vectors x v false e h =
     entry_elsewhere vectors x c.vertex c.number x v e ∙ sym (ap (λ (t : Bool). cond t c.number (entry vectors x v)) e)
 
 -- an entry after the changes of its vector
-entry_after_changes : (x : ℕ) (cs : List Change) (vectors : List (List ℤ)) (v : ℕ) → v < length (slice_index_or vectors x [])
+entry_after_changes : (x : ℕ) (cs : List EntryChange) (vectors : List (List ℤ)) (v : ℕ) → v < length (slice_index_or vectors x [])
     → entry (with_changes x cs vectors) x v ≡ number_after cs v (entry vectors x v)
 entry_after_changes x [] vectors v h = refl
 entry_after_changes x (c ∷ cs) vectors v h =
@@ -71,7 +71,7 @@ entry_after_changes x (c ∷ cs) vectors v h =
     ∙ ap (λ (n : ℤ). number_after cs v n) (one_entry c vectors x v (c.vertex == v) refl h)
 
 -- after those of another one
-entry_beside : (y : ℕ) (cs : List Change) (vectors : List (List ℤ)) (x v : ℕ) → (y == x) ≡ false → entry (with_changes y cs vectors) x v ≡ entry vectors x v
+entry_beside : (y : ℕ) (cs : List EntryChange) (vectors : List (List ℤ)) (x v : ℕ) → (y == x) ≡ false → entry (with_changes y cs vectors) x v ≡ entry vectors x v
 entry_beside y [] vectors x v apart = refl
 entry_beside y (c ∷ cs) vectors x v apart =
     entry_beside y cs (with_entry vectors y c.vertex c.number) x v apart ∙ entry_of_other vectors y c.vertex c.number x v apart
@@ -116,7 +116,7 @@ entry_after_all (c ∷ cs) vectors x v apart h =
     after_first c cs vectors x v (c.vector == x) refl apart.0 h
     (entry_after_all cs next x v apart.1 (still_inside v (length (slice_index_or next x [])) (length (slice_index_or vectors x [])) long h))
 
-number_after-append : (cs ds : List Change) (v : ℕ) (n : ℤ) → number_after (cs ++ ds) v n ≡ number_after ds v (number_after cs v n)
+number_after-append : (cs ds : List EntryChange) (v : ℕ) (n : ℤ) → number_after (cs ++ ds) v n ≡ number_after ds v (number_after cs v n)
 number_after-append [] ds v n = refl
 number_after-append (c ∷ cs) ds v n = number_after-append cs ds v (cond (c.vertex == v) c.number n)
 
@@ -183,7 +183,7 @@ changes_make n cs before after apart count rows beyond differing =
     same_lists (slice_index_or written x []) (slice_index_or after x []) (pos 0) (long ∙ sym (rows x)) (λ v k.
     let there : v < length (slice_index_or before x []) = omega (arith, long, k) in
     entry_after_all cs before x v apart there
-    ∙ ap (λ (ks : List Change). number_after ks v (old v)) (differing x inside)
+    ∙ ap (λ (ks : List EntryChange). number_after ks v (old v)) (differing x inside)
     ∙ elim (leb_tells n v) [
       | inl h ↦ (let past = h.1 in number_outside old new 0 n v (old v) (λ u a b. apart_numbers u v (omega (arith, past, b))) ∙ sym (beyond x v past))
       | inr h ↦ (let below = h.1 in number_inside old new 0 n v (omega arith) (omega (arith, below)))

@@ -2,14 +2,15 @@
 use Rattle.std.specs.Prelude.{◌≡◌, ℕ, ◌+◌, List}
 use Rattle.typed_tree.specs.ProgramTree.{ProgramTree}
 use Rattle.algorithm_meaning.specs.State.{GraphValue, StateValue}
-use Rattle.plans.specs.declared.depth.Counter.{Counter}
-use Rattle.plans.specs.declared.depth.Depth.{Depth}
+use Rattle.algorithm_meaning.specs.declared.state.LoopCounter.{LoopCounter}
+use Rattle.algorithm_meaning.specs.declared.state.Depth.{Depth}
 use Rattle.plans.specs.Instruction.{OperationTree}
-use Rattle.plans.specs.Machine.{Configuration, At, Ended, faulty, forgotten, act}
+use Rattle.algorithm_meaning.specs.Loop.{forget_beyond}
+use Rattle.plans.specs.Machine.{Configuration, At, Ended, faulty, act}
 use Rattle.plans.specs.declared.instruction.Instruction.{Instruction}
 use Rattle.plans.specs.declared.functions.FunctionKernels.{FunctionKernels}
-use Rattle.plans.specs.declared.operation.Operation.{Operation}
-use Rattle.plans.specs.declared.operation.Operation.TheVariants as op
+use Rattle.plans.specs.declared.operation.PlanOperation.{PlanOperation}
+use Rattle.plans.specs.declared.operation.PlanOperation.TheVariants as op
 use Rattle.plans.specs.Functions.{AreFunctions}
 use Rattle.plans.specs.Operation.{IsFor}
 use Rattle.runner.specs.declared.flow.Flow.{Flow}
@@ -19,17 +20,17 @@ use Rattle.runner.specs.Position.{loops_of}
 
 -- nothing is there beyond this
 abbrev pub IsKept : Depth → StateValue → Type 0
-IsKept d s = forgotten d s ≡ s
+IsKept d s = forget_beyond d s ≡ s
 
 -- where a run stands behind an instruction at a place
-abbrev pub after_flow : Flow → (number : ℕ) → (shown : Depth) → (place : ℕ) → List Counter → StateValue → Configuration
+abbrev pub after_flow : Flow → (number : ℕ) → (shown : Depth) → (place : ℕ) → List LoopCounter → StateValue → Configuration
 after_flow flow.Next number shown place loops s = At (place + 1) loops s
 after_flow (flow.Goto to) number shown place loops s = At to loops s
 after_flow flow.Fault number shown place loops s = faulty number shown s
-after_flow (flow.Ended end) number shown place loops s = Ended (forgotten shown s) end
+after_flow (flow.Ended end) number shown place loops s = Ended (forget_beyond shown s) end
 
 -- its kernels are made for what is visible
-abbrev pub IsReady : (keep shown : Depth) → Operation → Type 0
+abbrev pub IsReady : (keep shown : Depth) → PlanOperation → Type 0
 IsReady keep shown (op.DeclareInteger name k) = IsFor keep k
 IsReady keep shown (op.DeclareCondition name k) = IsFor keep k
 IsReady keep shown (op.SetInteger slot k) = IsFor keep k
@@ -53,7 +54,7 @@ IsReady keep shown (op.Jump to) = Unit {0}
 IsReady keep shown op.End = Unit {0}
 
 -- it says where the run goes on, or that it ends
-abbrev pub IsControl : Operation → Type 0
+abbrev pub IsControl : PlanOperation → Type 0
 IsControl (op.Unless k to) = Unit {0}
 IsControl (op.Enter name k) = Unit {0}
 IsControl (op.UnlessBelow name to) = Unit {0}
@@ -64,7 +65,7 @@ IsControl op.End = Unit {0}
 IsControl other = ⊥
 
 -- it takes values of expressions, and the run goes on at the next place
-abbrev pub TakesValues : Operation → Type 0
+abbrev pub TakesValues : PlanOperation → Type 0
 TakesValues (op.DeclareInteger name k) = Unit {0}
 TakesValues (op.DeclareCondition name k) = Unit {0}
 TakesValues (op.SetInteger slot k) = Unit {0}

@@ -9,7 +9,7 @@ use Rattle.plans.specs.Reducing.{AreReduced, places_of, steps_at}
 use Rattle.run_state.specs.declared.run_view.RunView.{RunView}
 use Rattle.run_state.specs.View.{HasEntryForEach, IsViewOf}
 use Rattle.runner.specs.declared.edge_maps.EdgeMap.{EdgeMap}
-use Rattle.vectors.specs.declared.change.VectorChanges.{VectorChanges}
+use Rattle.vectors.specs.declared.changes.VectorChanges.{VectorChanges}
 use Rattle.vectors.specs.Changes.{with_all_changes}
 
 -- the changes make the vectors before into those after, and are, for each vector, the vertices whose entry differs, with

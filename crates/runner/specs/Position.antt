@@ -2,29 +2,30 @@
 use Rattle.std.specs.Prelude.{◌≡◌, ℕ, List, Option, Some, None, reverse, slice_get}
 use Rattle.algorithm_meaning.specs.declared.outcome.End.{End}
 use Rattle.algorithm_meaning.specs.State.{GraphValue, StateValue}
-use Rattle.plans.specs.declared.depth.Counter.{Counter}
-use Rattle.plans.specs.declared.depth.Depth.{Depth}
+use Rattle.algorithm_meaning.specs.declared.state.LoopCounter.{LoopCounter}
+use Rattle.algorithm_meaning.specs.declared.state.Depth.{Depth}
 use Rattle.plans.specs.Outline.{most_steps_of}
 use Rattle.plans.specs.declared.plan.Plan.{Plan}
 use Rattle.plans.specs.Instruction.{InstructionTree}
-use Rattle.plans.specs.Machine.{Configuration, At, Ended, forgotten}
+use Rattle.algorithm_meaning.specs.Loop.{forget_beyond}
+use Rattle.plans.specs.Machine.{Configuration, At, Ended}
 use Rattle.typed_tree.specs.ProgramTree.{ProgramTree}
 use Rattle.algorithm_meaning.specs.declared.outcome.End.TheVariants.{TurnsOver}
 use Rattle.algorithm_meaning.specs.declared.outcome.Outcome.{Outcome}
 use Rattle.algorithm_meaning.specs.Shown.{shown}
 use Rattle.runner.specs.declared.memory.Memory.{Memory}
-use Rattle.runner.specs.declared.run.Run.{Run}
+use Rattle.runner.specs.declared.plan_run.PlanRun.{PlanRun}
 
 -- before the instruction at a place, or at an end
-abbrev pub position : Option End → (place : ℕ) → List Counter → StateValue → Configuration
+abbrev pub position : Option End → (place : ℕ) → List LoopCounter → StateValue → Configuration
 position None place loops s = At place loops s
 position (Some end) place loops s = Ended s end
 
 -- the loops around the place, the innermost first
-abbrev pub loops_of : Memory → List Counter
+abbrev pub loops_of : Memory → List LoopCounter
 loops_of m = reverse m.loops.items
 
-abbrev pub configuration_of : Run → Configuration
+abbrev pub configuration_of : PlanRun → Configuration
 configuration_of r = position r.end r.place (loops_of r.memory) r.memory.state.state
 
 -- the run is on a graph of so many vertices
@@ -32,13 +33,13 @@ abbrev pub IsOn : GraphValue → Memory → Type 0
 IsOn g m = m.state.vertices ≡ g.vertices
 
 abbrev pub IsShownWhere : Option InstructionTree → StateValue → Depth → Type 0
-IsShownWhere None s d = forgotten d s ≡ s
+IsShownWhere None s d = forget_beyond d s ≡ s
 IsShownWhere (Some i) s d = d ≡ i.shown
 
 -- what a run shows so far: one that goes on shows what is visible at the next instruction, as if its turns were over
 abbrev pub shown_where : ProgramTree → (turns : ℕ) → Option InstructionTree → StateValue → Outcome
 shown_where p turns None s = shown p turns s TurnsOver
-shown_where p turns (Some i) s = shown p turns (forgotten i.shown s) TurnsOver
+shown_where p turns (Some i) s = shown p turns (forget_beyond i.shown s) TurnsOver
 
 abbrev pub outcome_so_far : ProgramTree → (turns : ℕ) → List InstructionTree → Configuration → Outcome
 outcome_so_far p turns plan (At place loops s) = shown_where p turns (slice_get plan place) s
@@ -47,8 +48,8 @@ outcome_so_far p turns plan (Ended s end) = shown p turns s end
 -- to forget what is beyond this leaves what such a run shows
 abbrev pub IsShown : List InstructionTree → Configuration → Depth → Type 0
 IsShown plan (At place loops s) d = IsShownWhere (slice_get plan place) s d
-IsShown plan (Ended s end) d = forgotten d s ≡ s
+IsShown plan (Ended s end) d = forget_beyond d s ≡ s
 
 -- so many steps a run takes at most from here
-abbrev pub steps_left : Plan → Run → ℕ
+abbrev pub steps_left : Plan → PlanRun → ℕ
 steps_left plan r = most_steps_of plan.instructions.items (configuration_of r)

@@ -1,16 +1,17 @@
 -- Where a job rests, and what a job is.
 use Rattle.std.specs.Prelude.{ℕ, List, Option, Some, None, slice_get}
 use Rattle.algorithm_meaning.specs.State.{StateValue}
-use Rattle.plans.specs.declared.depth.Counter.{Counter}
+use Rattle.algorithm_meaning.specs.declared.state.LoopCounter.{LoopCounter}
 use Rattle.plans.specs.declared.instruction.Instruction.{Instruction}
 use Rattle.plans.specs.declared.plan.Plan.{Plan}
-use Rattle.plans.specs.Machine.{Configuration, At, Ended, forgotten}
+use Rattle.algorithm_meaning.specs.Loop.{forget_beyond}
+use Rattle.plans.specs.Machine.{Configuration, At, Ended}
 use Rattle.tree_batch.specs.Digraph.{Digraph}
 
 -- a run before an instruction, without what that does not see
-abbrev pub kept_at : Option Instruction → (place : ℕ) → List Counter → StateValue → Configuration
+abbrev pub kept_at : Option Instruction → (place : ℕ) → List LoopCounter → StateValue → Configuration
 kept_at None place loops s = At place loops s
-kept_at (Some i) place loops s = At place loops (forgotten i.keep s)
+kept_at (Some i) place loops s = At place loops (forget_beyond i.keep s)
 
 abbrev pub resting : List Instruction → Configuration → Configuration
 resting is (At place loops s) = kept_at (slice_get is place) place loops s

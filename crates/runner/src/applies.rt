@@ -9,10 +9,10 @@ ghost use Rattle.plans.specs.Fused.{FitTogether};
 ghost use Rattle.plans.specs.Instruction.{OperationTree};
 ghost use Rattle.plans.specs.Reducing.{OperationReduces};
 ghost use Rattle.plans.specs.Functions.{AreFunctions};
-ghost use Rattle.plans.specs.declared.operation.Operation.TheVariants as op;
+ghost use Rattle.plans.specs.declared.operation.PlanOperation.TheVariants as op;
 ghost use Rattle.plans.specs.Operation.{ApplyEdgesOf, IsOperation};
 ghost use Rattle.run_state.specs.State.{graph_value, with_state};
-ghost use Rattle.run_state.specs.Taken.{IsTakenOf};
+ghost use Rattle.run_state.specs.SetUpdate.{IsTakenOf};
 ghost use Rattle.run_state.specs.VertexKernels.{IsVertexKernel};
 ghost use Rattle.std.specs.Option.{ForSome, option_map};
 ghost use Rattle.algorithm_meaning.specs.Function.{steps_of};
@@ -30,7 +30,7 @@ use apply_options::ApplySchedule;
 use flat_snapshot::Flat;
 use kernels::VertexKernel;
 use plans::{EdgeApply, EdgePart, FunctionKernels, Instruction, PartResult};
-use run_state::{State, Taken};
+use run_state::{SetUpdate, State};
 use std::alloc::{AllocError, Global};
 use typed_tree::VarRef;
 use vectors::Changes;
@@ -152,21 +152,21 @@ fn taken(
     changes: &Changes,
     choice: ApplySchedule,
     asked: PartResult,
-) -> Result<Taken, AllocError>
+) -> Result<SetUpdate, AllocError>
     ensures of { IfOk result (λ t. IsTakenOf state.now.vertices t) }
     ensures taken { IfOk result (λ t. (after : List (List ℤ)) → AreChangesTo state.now.vertices state.now.state.vectors after changes.now.vectors.items
         → IsTakenFor state.now.vertices state.now.state.vectors after (result_tree asked) t) }
 {
     match asked {
-        PartResult::Dropped => Ok(Taken::Nothing),
+        PartResult::Dropped => Ok(SetUpdate::Nothing),
         PartResult::Declared { name, vector } => {
             let set = modified(alloc, state, changes, choice, vector)?;
-            Ok(Taken::New { name, set })
+            Ok(SetUpdate::New { name, set })
         }
         PartResult::Assigned { set, vector } => {
             let place = set.place;
             let set = modified(alloc, state, changes, choice, vector)?;
-            Ok(Taken::Other { place, set })
+            Ok(SetUpdate::Other { place, set })
         }
     }
 }

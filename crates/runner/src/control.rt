@@ -9,9 +9,9 @@ ghost use Rattle.runner.specs.Position.{IsOn};
 
 use crate::flow::Flow;
 use crate::memory::Memory;
-use algorithm_meaning::{End, arithmetic_of};
+use algorithm_meaning::{End, LoopCounter, arithmetic_of};
 use kernels::ExpressionKernel;
-use plans::{Counter, Instruction};
+use plans::Instruction;
 use std::alloc::AllocError;
 use typed_tree::Operator;
 
@@ -60,7 +60,7 @@ impl Memory {
                 let next = self.state.integer(instruction.shown.integers);
                 self.loops.reserve(1)?;
                 self.state.declare_integer(end)?;
-                self.loops.push_reserved(Counter { next, end });
+                self.loops.push_reserved(LoopCounter { next, end });
                 Ok(Flow::Next)
             }
             None => Ok(Flow::Fault),
@@ -93,7 +93,7 @@ impl Memory {
         let following = arithmetic_of(Operator::Add, counter.next, 1);
         match self.state.declare_two(following, counter.end) {
             Ok(()) => {
-                self.loops.push_reserved(Counter {
+                self.loops.push_reserved(LoopCounter {
                     next: following,
                     end: counter.end,
                 });

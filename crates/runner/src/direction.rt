@@ -8,7 +8,7 @@ ghost use Rattle.push_engine.specs.Work.{work_from};
 use apply_options::Direction;
 use edge_fold::{Functions, Scratch, Start};
 use flat_snapshot::Flat;
-use kernels::End;
+use kernels::EndpointFilter;
 use pull_engine::pull;
 use push_engine::{Apply, is_work_above, passing_set, push};
 use std::alloc::{AllocError, Global};
@@ -62,8 +62,10 @@ fn hybrid(
         return pull(alloc, apply, flat, vectors, sizes, scratch);
     };
     match end {
-        End::Members(set) => hybrid_from(alloc, apply, flat, vectors, sizes, set, scratch),
-        End::Filter(_) => {
+        EndpointFilter::Members(set) => hybrid_from(
+            alloc, apply, flat, vectors, sizes, set, scratch,
+        ),
+        EndpointFilter::Filter(_) => {
             let functions = Functions {
                 first: apply.first,
                 second: apply.second,
@@ -74,7 +76,7 @@ fn hybrid(
             };
             let passing = passing_set(alloc, functions, end, scratch)?;
             let among = Apply {
-                from: Some(End::Members(&passing)),
+                from: Some(EndpointFilter::Members(&passing)),
                 ..*apply
             };
             hybrid_from(alloc, &among, flat, vectors, sizes, &passing, scratch)

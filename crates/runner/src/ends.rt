@@ -7,7 +7,7 @@ ghost use Rattle.edge_fold.specs.Ends.{IsEndTest};
 ghost use Rattle.plans.specs.Functions.{AreFunctions};
 ghost use Rattle.run_state.specs.View.{HasSets};
 
-use kernels::End;
+use kernels::EndpointFilter;
 use run_state::RunView;
 use typed_tree::VertexFilter;
 use vertex_sets::VertexSet;
@@ -18,7 +18,7 @@ pub(crate) fn end_of<'a>(
     end: Option<VertexFilter>,
     run: RunView<'a>,
     no_members: &'a VertexSet,
-) -> Option<End<'a>>
+) -> Option<EndpointFilter<'a>>
     requires { no_members.now.members ≡ [] }
     ensures { (p : ProgramTree) (m : StateValue) → AreFunctions run.entry.functions.now p → HasSets run.entry m → IsEndTest result m (passes p.filters m end) }
 {
@@ -26,8 +26,10 @@ pub(crate) fn end_of<'a>(
         None => None,
         Some(VertexFilter::Members(slot)) => {
             let set = run.sets.get(slot.place).unwrap_or(no_members);
-            Some(End::Members(set))
+            Some(EndpointFilter::Members(set))
         }
-        Some(VertexFilter::Function(place)) => Some(End::Filter(run.functions.filter.get(place))),
+        Some(VertexFilter::Function(place)) => Some(EndpointFilter::Filter(
+            run.functions.filter.get(place),
+        )),
     }
 }

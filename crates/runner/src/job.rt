@@ -11,7 +11,7 @@ ghost use Rattle.plans.specs.PlanOf.{IsPlan};
 ghost use Rattle.run_state.specs.State.{graph_value};
 
 use crate::edge_applier::EdgeApplier;
-use crate::run::Run;
+use crate::plan_run::PlanRun;
 use algorithm_meaning::{End, Outcome};
 use flat_snapshot::Flat;
 use plans::Plan;
@@ -33,7 +33,7 @@ pub struct Job {
     plan: Arc<Plan>,
     graph: Arc<Flat>,
     turns: u64,
-    run: Run,
+    run: PlanRun,
 }
 
 impl Drop for Job {
@@ -79,7 +79,7 @@ impl Job {
         ensures { IfOk result (λ job. (p : ProgramTree) (s : ScheduleTree) → IsPlan (arc_value plan) p s
             → job ≡ job_value (arc_value plan) (arc_value graph) turns (first_configuration (opening p (graph_value (arc_value graph)) turns))) }
     {
-        let run = Run::open(alloc, &plan, &graph, turns)?;
+        let run = PlanRun::open(alloc, &plan, &graph, turns)?;
         Ok(Job {
             plan,
             graph,

@@ -1,14 +1,14 @@
 //! What the instructions of a run work on.
 ghost use Rattle.std.specs.Prelude.{◌≡◌};
 
+use algorithm_meaning::LoopCounter;
 use kernels::{Block, Registers};
-use plans::Counter;
 use run_state::State;
 
 /// What the instructions of a run work on, wherever they stand: the state, the values of the `for` loops around the
 /// place, the innermost last, and memory for kernels of functions and of expressions.
 pub(crate) struct Memory {
-    pub(crate) loops: Vec<Counter>,
+    pub(crate) loops: Vec<LoopCounter>,
     pub(crate) state: State,
     pub(crate) block: Block,
     pub(crate) registers: Registers,

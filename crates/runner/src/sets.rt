@@ -5,13 +5,13 @@ ghost use Rattle.typed_tree.specs.ProgramTree.{ProgramTree};
 ghost use Rattle.algorithm_meaning.specs.State.{GraphValue};
 ghost use Rattle.plans.specs.Instruction.{Do};
 ghost use Rattle.plans.specs.Functions.{AreFunctions};
-ghost use Rattle.plans.specs.Members.{set_value};
+ghost use Rattle.plans.specs.SetExpression.{set_value};
 ghost use Rattle.runner.specs.Done.{HasDone, IsAsBefore};
 ghost use Rattle.runner.specs.Position.{IsOn};
 
 use crate::flow::Flow;
 use crate::memory::Memory;
-use plans::{FunctionKernels, Instruction, Members};
+use plans::{FunctionKernels, Instruction, SetExpression};
 use std::alloc::{AllocError, Global};
 use typed_tree::VarRef;
 
@@ -23,7 +23,7 @@ impl Memory {
         functions: &FunctionKernels,
         instruction: &Instruction,
         name: usize,
-        members: Members,
+        members: SetExpression,
     ) -> Result<(), AllocError>
         ensures done { OnOk result ((p : ProgramTree) (g : GraphValue) → IsOn g self.old → AreFunctions functions.now p
             → HasDone instruction.now Flow.Next self.old self.new p g (Do (DeclareSet name (set_value members)))) }
@@ -43,7 +43,7 @@ impl Memory {
         functions: &FunctionKernels,
         instruction: &Instruction,
         slot: VarRef,
-        members: Members,
+        members: SetExpression,
     ) -> Result<(), AllocError>
         ensures done { OnOk result ((p : ProgramTree) (g : GraphValue) → IsOn g self.old → AreFunctions functions.now p
             → HasDone instruction.now Flow.Next self.old self.new p g (Do (AssignSet slot (set_value members)))) }

@@ -19,13 +19,13 @@ ghost use Rattle.runner.specs.Resting.{resting};
 use crate::edge_applier::EdgeApplier;
 use crate::flow::Flow;
 use crate::memory::Memory;
-use crate::run::Run;
+use crate::plan_run::PlanRun;
 use algorithm_meaning::End;
 use flat_snapshot::Flat;
-use plans::{EdgeApply, Instruction, Operation, Plan};
+use plans::{EdgeApply, Instruction, Plan, PlanOperation};
 use std::alloc::{AllocError, Global};
 
-impl Run {
+impl PlanRun {
     /// Does one instruction; a run that has ended stays. After an error it stands before that instruction. The only error
     /// is out of memory.
     pub(crate) fn step<E: EdgeApplier>(
@@ -87,19 +87,19 @@ impl Memory {
     {
         let functions = &plan.functions;
         match &i.operation {
-            Operation::DeclareSet { name, members } => {
+            PlanOperation::DeclareSet { name, members } => {
                 self.declare_set(alloc, functions, i, *name, *members)?;
                 Ok(Flow::Next)
             }
-            Operation::AssignSet { slot, members } => {
+            PlanOperation::AssignSet { slot, members } => {
                 self.assign_set(alloc, functions, i, *slot, *members)?;
                 Ok(Flow::Next)
             }
-            Operation::ApplyVertices { set, first, second } => {
+            PlanOperation::ApplyVertices { set, first, second } => {
                 self.apply_vertices(functions, i, *set, *first, *second)?;
                 Ok(Flow::Next)
             }
-            Operation::ApplyEdges {
+            PlanOperation::ApplyEdges {
                 ends,
                 first,
                 second,
@@ -111,13 +111,13 @@ impl Memory {
                 self.apply_edges(alloc, functions, graph, i, apply, *second, by)?;
                 Ok(Flow::Next)
             }
-            Operation::Unless { .. }
-            | Operation::Enter { .. }
-            | Operation::UnlessBelow { .. }
-            | Operation::Advance { .. }
-            | Operation::Turn
-            | Operation::Jump { .. }
-            | Operation::End => self.go_on(i),
+            PlanOperation::Unless { .. }
+            | PlanOperation::Enter { .. }
+            | PlanOperation::UnlessBelow { .. }
+            | PlanOperation::Advance { .. }
+            | PlanOperation::Turn
+            | PlanOperation::Jump { .. }
+            | PlanOperation::End => self.go_on(i),
             _ => self.evaluate(i),
         }
     }
@@ -133,16 +133,16 @@ impl Memory {
         ensures err { OnErr result (IsAsBefore self.old self.new) }
     {
         match &i.operation {
-            Operation::Unless { test, to } => self.unless(i, test, *to),
-            Operation::Enter { name: _, end } => self.enter(i, end),
-            Operation::UnlessBelow { name: _, to } => Ok(self.unless_below(i, *to)),
-            Operation::Advance { name: _ } => {
+            PlanOperation::Unless { test, to } => self.unless(i, test, *to),
+            PlanOperation::Enter { name: _, end } => self.enter(i, end),
+            PlanOperation::UnlessBelow { name: _, to } => Ok(self.unless_below(i, *to)),
+            PlanOperation::Advance { name: _ } => {
                 self.advance(i)?;
                 Ok(Flow::Next)
             }
-            Operation::Turn => Ok(self.turn(i)),
-            Operation::Jump { to } => Ok(Flow::Goto(*to)),
-            Operation::End => Ok(Flow::Ended(End::Finished)),
+            PlanOperation::Turn => Ok(self.turn(i)),
+            PlanOperation::Jump { to } => Ok(Flow::Goto(*to)),
+            PlanOperation::End => Ok(Flow::Ended(End::Finished)),
             _ => unreachable!(),
         }
     }
@@ -158,29 +158,29 @@ impl Memory {
         ensures err { OnErr result (IsAsBefore self.old self.new) }
     {
         match &i.operation {
-            Operation::DeclareInteger { name: _, value } => self.declare_integer(i, value),
-            Operation::DeclareCondition { name: _, value } => self.declare_condition(i, value),
-            Operation::SetInteger { slot, value } => self.set_integer(i, *slot, value),
-            Operation::SetCondition { slot, value } => self.set_condition(i, *slot, value),
-            Operation::ReduceInteger {
+            PlanOperation::DeclareInteger { name: _, value } => self.declare_integer(i, value),
+            PlanOperation::DeclareCondition { name: _, value } => self.declare_condition(i, value),
+            PlanOperation::SetInteger { slot, value } => self.set_integer(i, *slot, value),
+            PlanOperation::SetCondition { slot, value } => self.set_condition(i, *slot, value),
+            PlanOperation::ReduceInteger {
                 slot,
                 reduction,
                 value,
             } => self.reduce_integer(i, *slot, *reduction, value),
-            Operation::SetEntry {
+            PlanOperation::SetEntry {
                 vector,
                 index,
                 value,
             } => self.set_entry(i, *vector, index, value),
-            Operation::ReduceEntry {
+            PlanOperation::ReduceEntry {
                 vector,
                 index,
                 reduction,
                 value,
             } => self.reduce_entry(i, *vector, index, *reduction, value),
-            Operation::AddVertex { slot, vertex } => self.add_vertex(i, *slot, vertex),
-            Operation::PrintInteger { value } => self.print_integer(i, value),
-            Operation::PrintCondition { value } => self.print_condition(i, value),
+            PlanOperation::AddVertex { slot, vertex } => self.add_vertex(i, *slot, vertex),
+            PlanOperation::PrintInteger { value } => self.print_integer(i, value),
+            PlanOperation::PrintCondition { value } => self.print_condition(i, value),
             _ => unreachable!(),
         }
     }

@@ -9,7 +9,7 @@ ghost use Rattle.plans.specs.PlanOf.{IsPlan};
 ghost use Rattle.run_state.specs.State.{graph_value};
 
 use crate::edge_applier::{Alone, EdgeApplier};
-use crate::run::Run;
+use crate::plan_run::PlanRun;
 use algorithm_meaning::Outcome;
 use flat_snapshot::Flat;
 use plans::Plan;
@@ -32,7 +32,7 @@ pub fn run_by<E: EdgeApplier>(
         → o ≡ meaning p (graph_value graph.now) turns) }
     ensures ready { E.is_ready by.new }
 {
-    let mut run = Run::open(alloc, plan, graph, turns)?;
+    let mut run = PlanRun::open(alloc, plan, graph, turns)?;
     'steps: while run.end.is_none() {
         run.step(alloc, plan, graph, by)?;
     }

@@ -3,7 +3,8 @@
 use crate::sets::set_of;
 use c_tree::CTree;
 use measuring::{
-    Job, Random, Turns, print_head, print_rows, sum_by_blocks, sum_of, sum_of_tails, tail_error,
+    Benchmark, Random, Turns, print_head, print_rows, sum_by_blocks, sum_of, sum_of_tails,
+    tail_error,
 };
 use std::alloc::{AllocError, Global};
 use std::io;
@@ -56,7 +57,7 @@ fn print_size(
     rounds: u64,
 ) -> io::Result<()> {
     let turns = Turns { count: 5, rounds };
-    let mut work = Work::new(rt.alloc());
+    let mut work = ChunkSetBenchmark::new(rt.alloc());
     for _ in 0..sets {
         work.add(rt.alloc(), random, size)?;
     }
@@ -64,16 +65,16 @@ fn print_size(
 }
 
 // Lists, the sets of them, the prefixes and tails of the sets, and the number of elements.
-struct Work {
+struct ChunkSetBenchmark {
     lists: Vec<Vec<u32>>,
     sets: Vec<CTree>,
     tails: Vec<Tail>,
     elements: u64,
 }
 
-impl Drop for Work {
+impl Drop for ChunkSetBenchmark {
     fn drop(self) {
-        let Work {
+        let ChunkSetBenchmark {
             lists: _,
             sets: _,
             tails: _,
@@ -82,9 +83,9 @@ impl Drop for Work {
     }
 }
 
-impl Work {
-    fn new(alloc: Global) -> Work {
-        Work {
+impl ChunkSetBenchmark {
+    fn new(alloc: Global) -> ChunkSetBenchmark {
+        ChunkSetBenchmark {
             lists: Vec::new(alloc),
             sets: Vec::new(alloc),
             tails: Vec::new(alloc),
@@ -101,7 +102,7 @@ impl Work {
     }
 }
 
-impl Job for Work {
+impl Benchmark for ChunkSetBenchmark {
     type Row = Row;
 
     fn items(&self, _row: Row) -> u64 {

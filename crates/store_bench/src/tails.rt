@@ -1,7 +1,7 @@
 //! Tails: how long they take to read and to make.
 
 use measuring::{
-    Job, Random, Turns, print_head, print_rows, sum_by_blocks, sum_of_tails, tail_error,
+    Benchmark, Random, Turns, print_head, print_rows, sum_by_blocks, sum_of_tails, tail_error,
 };
 use std::alloc::{AllocError, Global};
 use std::io;
@@ -83,32 +83,32 @@ pub fn print_times(rt: &HostRuntime) -> io::Result<()> {
 }
 
 fn print_gaps(rt: &HostRuntime, gaps: Gaps, rows: &Rows) -> io::Result<()> {
-    print_rows(rt, rows, TURNS, &mut Work::new(rt.alloc(), gaps)?)
+    print_rows(rt, rows, TURNS, &mut TailBenchmark::new(rt.alloc(), gaps)?)
 }
 
 // Lists and their tails.
-struct Work {
+struct TailBenchmark {
     lists: Vec<Vec<u32>>,
     tails: Vec<Tail>,
 }
 
-impl Drop for Work {
+impl Drop for TailBenchmark {
     fn drop(self) {
-        let Work { lists: _, tails: _ } = self;
+        let TailBenchmark { lists: _, tails: _ } = self;
     }
 }
 
-impl Work {
-    fn new(alloc: Global, gaps: Gaps) -> io::Result<Work> {
+impl TailBenchmark {
+    fn new(alloc: Global, gaps: Gaps) -> io::Result<TailBenchmark> {
         let lists = lists(alloc, gaps)?;
         match encoded(alloc, &lists) {
-            Ok(tails) => Ok(Work { lists, tails }),
+            Ok(tails) => Ok(TailBenchmark { lists, tails }),
             Err(error) => Err(tail_error(error)),
         }
     }
 }
 
-impl Job for Work {
+impl Benchmark for TailBenchmark {
     type Row = Row;
 
     fn items(&self, _row: Row) -> u64 {

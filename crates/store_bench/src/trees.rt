@@ -1,6 +1,6 @@
 //! Persistent trees beside the `BTreeMap` of std, on the same work.
 
-use measuring::{Job, Random, Turns, print_head, print_row};
+use measuring::{Benchmark, Random, Turns, print_head, print_row};
 use shared_tree::{Share, Tree, TreeError};
 use std::alloc::{AllocError, Global};
 use std::collections::BTreeMap;
@@ -179,7 +179,7 @@ impl<T: Ordered> Kept<T> {
     }
 }
 
-impl<T: Ordered> Job for Kept<T> {
+impl<T: Ordered> Benchmark for Kept<T> {
     type Row = Row;
 
     fn items(&self, row: Row) -> u64 {

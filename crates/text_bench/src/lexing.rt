@@ -1,7 +1,7 @@
 //! How long the lexer takes for a long source, beside a plain loop over its bytes.
 
 use crate::parsing::parsed;
-use measuring::{Job, Turns, print_head, print_row};
+use measuring::{Benchmark, Turns, print_head, print_row};
 use std::alloc::{AllocError, Global};
 use std::io;
 use std::io::Error;
@@ -137,7 +137,7 @@ pub enum Row {
     PlainLoop,
 }
 
-impl Job for Reading<'_> {
+impl Benchmark for Reading<'_> {
     type Row = Row;
 
     fn items(&self, _row: Row) -> u64 {

@@ -13,14 +13,14 @@
 //! OOPSLA 2018). Kernels read vectors; the engines and the runs of plans are to stand on this crate.
 #![tactic(auto)]
 
-mod change;
+mod changes;
 mod error;
 mod grouping;
 mod lane;
 mod location;
 mod vectors;
 
-pub use change::{Change, Changes, VectorChanges};
+pub use changes::{Changes, EntryChange, VectorChanges};
 pub use error::GroupError;
 pub use lane::Lane;
 pub use vectors::Vectors;

@@ -2,7 +2,7 @@
 ghost use Rattle.std.specs.Prelude.{◌≡◌, ℕ, ◌*◌, ◌<◌, ◌≤◌, [], IfOk, MatchOption, length, slice_index_or, slice_set};
 ghost use Rattle.algorithm_meaning.specs.Value.{entry};
 
-use crate::change::{Change, Changes};
+use crate::changes::{Changes, EntryChange};
 use crate::error::GroupError;
 use crate::grouping::{copied, locate_groups, new_arrays};
 use crate::lane::Lane;
@@ -135,7 +135,7 @@ impl Vectors {
     }
 
     /// Writes the changes of one vector, in time in proportion to them.
-    pub fn write_vector(&mut self, vector: usize, changes: &[Change])
+    pub fn write_vector(&mut self, vector: usize, changes: &[EntryChange])
         ensures { self.new ≡ with_vectors self.old (with_changes vector changes.now self.old.vectors) }
     {
         'changes: for change in changes {

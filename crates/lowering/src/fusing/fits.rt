@@ -9,7 +9,8 @@ ghost use Rattle.plans.specs.Parts.{edge_apply_tree, result_tree, vertex_apply_t
 
 use crate::fusing::local::function_is_local;
 use crate::fusing::sizes::{end_does_omit, function_does_omit};
-use plans::{Depth, EdgeApply, PartResult, VertexApply};
+use algorithm_meaning::Depth;
+use plans::{EdgeApply, PartResult, VertexApply};
 use schedule::{are_independent, push_written};
 use std::alloc::{AllocError, Global};
 use typed_tree::{Function, StatementApply, Typed, VertexFilter};

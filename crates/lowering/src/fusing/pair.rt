@@ -8,8 +8,9 @@ ghost use Rattle.plans.specs.Parts.{edge_apply_tree, together_tree, vertex_apply
 
 use crate::fusing::applies::{edge_apply_of, vertex_apply_of};
 use crate::fusing::fits::{edges_fit, vertices_fit};
+use algorithm_meaning::Depth;
 use apply_options::Fused;
-use plans::{Depth, EdgeApply, FusedPair, VertexApply};
+use plans::{EdgeApply, FusedPair, VertexApply};
 use schedule::Schedule;
 use std::alloc::{AllocError, Global};
 use typed_tree::{MainStatement, StatementKind, Typed};

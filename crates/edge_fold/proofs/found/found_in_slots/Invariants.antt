@@ -3,7 +3,7 @@ use Rattle.algorithm_meaning.specs.State.{StateValue}
 use Rattle.algorithm_meaning.specs.Value.{entry}
 use Rattle.register_code.specs.Cells.{HasSizes}
 use Rattle.edge_fold.specs.Ends.{IsEndTest}
-use Rattle.edge_fold.specs.Slots.{active}
+use Rattle.edge_fold.specs.VectorAccumulators.{active}
 use Rattle.edge_fold.specs.Changed.{AreApart, changes_or}
 use Rattle.edge_fold.proofs.Findings.{found_in}
 use Rattle.edge_fold.proofs.found.found_in_slots.Given as goal

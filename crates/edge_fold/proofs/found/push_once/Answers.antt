@@ -1,5 +1,5 @@
 use Rattle.std.proofs.Common.{rules, ◌≡◌, true, false, List, ap, sym, ◌∙◌, subst}
-use Rattle.vectors.specs.declared.change.VectorChanges.{VectorChanges}
+use Rattle.vectors.specs.declared.changes.VectorChanges.{VectorChanges}
 use Rattle.edge_fold.specs.Changed.{AreApart, changes_or, is_named}
 use Rattle.edge_fold.proofs.Findings.{apart_push, changes_or-push, changes_or-skip}
 use Rattle.edge_fold.proofs.found.push_once.Goals as goal

@@ -2,11 +2,11 @@ use Rattle.std.proofs.Common.{rules, ◌≡◌, ◌<◌, ◌≤◌, ◌++◌, �
 use Rattle.std.proofs.lemmas.List.{length-take-le, take_more}
 use Rattle.edge_fold.specs.declared.functions.Start.TheVariants as start
 use Rattle.edge_fold.specs.declared.gathered.GatheredIn.{GatheredIn}
-use Rattle.edge_fold.specs.declared.slot.Slot.{Slot}
+use Rattle.edge_fold.specs.declared.vector_accumulator.VectorAccumulator.{VectorAccumulator}
 use Rattle.edge_fold.specs.Gathered.{IsGatheredBy, gathered_for}
 use Rattle.edge_fold.specs.Given.{reduced_at}
 use Rattle.edge_fold.specs.Seeds.{combined}
-use Rattle.edge_fold.specs.Slots.{held_in_with, place_in, reduction_in}
+use Rattle.edge_fold.specs.VectorAccumulators.{held_in_with, place_in, reduction_in}
 use Rattle.edge_fold.proofs.Gathering.{gathered_by_more, gathered_more, hidden_slot, onto}
 use Rattle.edge_fold.proofs.gathered.gathered_in_slots.Goals as goal
 
@@ -14,11 +14,11 @@ pub slots-preserved-then-find-place : goal.slots-preserved-then-find-place
 slots-preserved-then-find-place c =
     let items = c.args.slots.now.slots.items in
     let k = c.slots.place in
-    let s : Slot = c.index-slot.result.now in
+    let s : VectorAccumulator = c.index-slot.result.now in
     let inside : k < length items = search rules in
     let ts = take k items in
     let long = length-take-le k items (omega (arith, inside)) in
-    let step = take_more items k s inside ∙ ap (λ (t : Slot). ts ++ t ∷ []) (sym c.index-slot.ensures) in
+    let step = take_more items k s inside ∙ ap (λ (t : VectorAccumulator). ts ++ t ∷ []) (sym c.index-slot.ensures) in
     let place : c.find.result ≡ place_in s.vector ts = search rules in
     let before : place_in s.vector ts < length ts = omega (arith, place, long, c.if-find-place.true) in
     record {
@@ -32,11 +32,11 @@ pub slots-preserved : goal.slots-preserved
 slots-preserved c =
     let items = c.args.slots.now.slots.items in
     let k = c.slots.place in
-    let s : Slot = c.index-slot.result.now in
+    let s : VectorAccumulator = c.index-slot.result.now in
     let inside : k < length items = search rules in
     let ts = take k items in
     let long = length-take-le k items (omega (arith, inside)) in
-    let step = take_more items k s inside ∙ ap (λ (t : Slot). ts ++ t ∷ []) (sym c.index-slot.ensures) in
+    let step = take_more items k s inside ∙ ap (λ (t : VectorAccumulator). ts ++ t ∷ []) (sym c.index-slot.ensures) in
     let place : c.find.result ≡ place_in s.vector ts = search rules in
     let first : length ts ≤ place_in s.vector ts = omega (arith, place, long, c.if-find-place.false) in
     let vs = c.slots.vectors.items in

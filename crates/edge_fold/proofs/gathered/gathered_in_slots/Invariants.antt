@@ -7,7 +7,7 @@ use Rattle.edge_fold.specs.Ends.{IsEndTest}
 use Rattle.edge_fold.specs.Gathered.{IsGatheredBy, gathered_for}
 use Rattle.edge_fold.specs.Given.{reduced_at}
 use Rattle.edge_fold.specs.Seeds.{combined}
-use Rattle.edge_fold.specs.Slots.{held_in_with, reduction_in}
+use Rattle.edge_fold.specs.VectorAccumulators.{held_in_with, reduction_in}
 use Rattle.edge_fold.proofs.gathered.gathered_in_slots.Given as goal
 
 -- what the first slots have is gathered

@@ -2,7 +2,7 @@ use Rattle.std.proofs.Common.{◌≡◌, ◌++◌, ℕ, ℤ, Bool, true, false, 
 use Rattle.std.proofs.lemmas.List.Kept.{IsNonDecreasingBy-filter}
 use Rattle.std.specs.List.{filter}
 use Rattle.std.specs.List.Sorted.{IsNonDecreasing}
-use Rattle.kernels.specs.declared.end.End.{End}
+use Rattle.kernels.specs.declared.endpoint_filter.EndpointFilter.{EndpointFilter}
 use Rattle.edge_fold.specs.declared.functions.Start.TheVariants as start
 use Rattle.edge_fold.specs.Ends.{IsEndTest}
 use Rattle.edge_fold.specs.Seeds.{combined}
@@ -18,7 +18,7 @@ pub returns-in-None : goal.returns-in-None
 returns-in-None c m test vectors sizes is r v h l =
     let e = c.args.slot.now.entries in
     let same = c.deref.ensures.value in
-    let all = subst (λ (o : Option End). IsEndTest o m test) c.in-None.is is in
+    let all = subst (λ (o : Option EndpointFilter). IsEndTest o m test) c.in-None.is is in
     let touched = c.in_ok-touched.ensures in
     c.in_ok-numbers-in-None.ensures (subst (λ (ks : List ℕ). IsNonDecreasing ks) (sym same) touched.ascending) r h (λ u. if test u then onto r e u h else h)
     (λ u has. ap (λ (b : Bool). if b then onto r e u h else h) (all u))
@@ -30,7 +30,7 @@ returns c m test vectors sizes is r v h l =
     let e = c.args.slot.now.entries in
     let vertices = c.in_ok-touched.touched.items in
     let touched = c.in_ok-touched.ensures in
-    let some = subst (λ (o : Option End). IsEndTest o m test) c.in-Some.is is in
+    let some = subst (λ (o : Option EndpointFilter). IsEndTest o m test) c.in-Some.is is in
     let same = c.deref-in-Some-2.ensures.value ∙ c.in_ok-keep_passing-in-Some.ensures m test vectors sizes some
     ∙ ap (λ (ks : List ℕ). ks ++ filter test c.deref-in-Some.result.now) c.new-kept.ensures.items ∙ ap (filter test) c.deref-in-Some.ensures.value in
     let rising = IsNonDecreasingBy-filter (λ (x : ℕ). x) test vertices touched.ascending in

@@ -5,7 +5,7 @@ use Rattle.typed_tree.specs.BlockTree.{action_tree, block_tree}
 use Rattle.typed_tree.specs.ProgramTree.{program_tree}
 use Rattle.typed_tree.proofs.Blocks.{action_tree-If, action_tree-IfElse, action_tree-While, action_tree-For}
 use Rattle.algorithm_meaning.specs.declared.outcome.End.{End}
-use Rattle.algorithm_meaning.specs.declared.state.Bounds.{Bounds}
+use Rattle.algorithm_meaning.specs.declared.state.LoopCounter.{LoopCounter}
 use Rattle.algorithm_meaning.specs.Loop.{for_test, for_body, next_of, while_body, while_test}
 use Rattle.algorithm_meaning.specs.Meaning.{after_all}
 use Rattle.plain_run.specs.Seen.{graph_of, stand, state_of}
@@ -48,15 +48,15 @@ pub run_statement-returns-in-Some-clause-meaning :
     goal.run_statement-returns-in-Some-clause-meaning
 run_statement-returns-in-Some-clause-meaning t c =
     let tree = ap action_tree c.in-For.is ∙ action_tree-For c.in-For.field-0 c.in-For.first c.in-For.end c.in-For.body in
-    let bounds = sym c.bounds_of.ensures ∙ c.in-Some.is in
-    let step = after-For (program_tree c.args.program.now) (graph_of c.args.graph.now) c.args.statement.now.number c.in-For.field-0 (integer_tree c.in-For.first) (integer_tree c.in-For.end) (block_tree c.in-For.body.items) (state_of c.args.state.now) c.in-Some.bounds bounds in
+    let counter = sym c.counter_of.ensures ∙ c.in-Some.is in
+    let step = after-For (program_tree c.args.program.now) (graph_of c.args.graph.now) c.args.statement.now.number c.in-For.field-0 (integer_tree c.in-For.first) (integer_tree c.in-For.end) (block_tree c.in-For.body.items) (state_of c.args.state.now) c.in-Some.counter counter in
     rw (tree, step, ← c.deref-in-Some.ensures.value) c.run_for.ensures.meaning
 
 pub run_for-returns-then-is_some-clause-meaning : goal.run_for-returns-then-is_some-clause-meaning
 run_for-returns-then-is_some-clause-meaning t c =
     let body = for_body (after_all (program_tree c.args.program.now) (graph_of c.args.graph.now) (block_tree c.args.body.now)) in
     let below = ap (λ (b : Bool). Some b) (sym c.is_below.ensures ∙ c.if-not-is_below.false) in
-    again_over Bounds for_test body next_of c.args.number c.args.bounds (state_of c.args.state.now) c.turns.bounds (state_of c.turns.state) (state_of c.run_for_turn.new.state) c.in_ok-end.end
+    again_over LoopCounter for_test body next_of c.args.number c.args.counter (state_of c.args.state.now) c.turns.counter (state_of c.turns.state) (state_of c.run_for_turn.new.state) c.in_ok-end.end
     c.turns.invariant.0 below c.in_ok-end.ensures.meaning (sym c.is_some.ensures ∙ c.if-is_some.true)
 
 pub run_all-statements-preserved : goal.run_all-statements-preserved
@@ -83,9 +83,9 @@ pub run_for-turns-preserved : goal.run_for-turns-preserved
 run_for-turns-preserved t c =
     let body = for_body (after_all (program_tree c.args.program.now) (graph_of c.args.graph.now) (block_tree c.args.body.now)) in
     let below = ap (λ (b : Bool). Some b) (sym c.is_below.ensures ∙ c.if-not-is_below.false) in
-    let again = again_goes Bounds for_test body next_of c.args.number c.args.bounds (state_of c.args.state.now) c.turns.bounds (state_of c.turns.state) (state_of c.run_for_turn.new.state) c.in_ok-end.end
+    let again = again_goes LoopCounter for_test body next_of c.args.number c.args.counter (state_of c.args.state.now) c.turns.counter (state_of c.turns.state) (state_of c.run_for_turn.new.state) c.in_ok-end.end
     c.turns.invariant.0 below c.in_ok-end.ensures.meaning (sym c.is_some.ensures ∙ c.if-is_some.false) c.in_ok-end.ensures.fewer in (
-      subst (λ (b : Bounds). Again Bounds for_test body next_of c.args.number c.args.bounds (state_of c.args.state.now) b (state_of c.run_for_turn.new.state)) (sym c.go_on.ensures) again,
+      subst (λ (b : LoopCounter). Again LoopCounter for_test body next_of c.args.number c.args.counter (state_of c.args.state.now) b (state_of c.run_for_turn.new.state)) (sym c.go_on.ensures) again,
       omega (arith, c.turns.invariant.1, c.in_ok-end.ensures.turns),
     )
 

@@ -2,7 +2,7 @@ use Rattle.std.proofs.Common.{◌≡◌, ℕ, ◌≤◌, drop}
 use Rattle.typed_tree.specs.ConditionTree.{condition_tree}
 use Rattle.typed_tree.specs.BlockTree.{block_tree}
 use Rattle.typed_tree.specs.ProgramTree.{program_tree}
-use Rattle.algorithm_meaning.specs.declared.state.Bounds.{Bounds}
+use Rattle.algorithm_meaning.specs.declared.state.LoopCounter.{LoopCounter}
 use Rattle.algorithm_meaning.specs.Loop.{while_test, while_body, for_test, for_body, next_of}
 use Rattle.algorithm_meaning.specs.Meaning.{after_all}
 use Rattle.plain_run.specs.Seen.{graph_of, state_of}
@@ -18,8 +18,8 @@ invariant-run_all-statements l =
 
 abbrev pub invariant-run_for-turns : goal.invariant-run_for-turns
 invariant-run_for-turns l =
-    Again Bounds for_test (for_body (after_all (program_tree l.program) (graph_of l.graph) (block_tree l.body))) next_of l.number
-    l.fn.bounds (state_of l.fn.state) l.bounds (state_of l.state)
+    Again LoopCounter for_test (for_body (after_all (program_tree l.program) (graph_of l.graph) (block_tree l.body))) next_of l.number
+    l.fn.counter (state_of l.fn.state) l.counter (state_of l.state)
     × (l.state.turns ≤ l.fn.state.turns)
 
 abbrev pub decreases-run_for-turns : goal.decreases-run_for-turns

@@ -1,12 +1,12 @@
 use Rattle.std.proofs.Common.{◌<◌, ◌≤◌, length, slice_set, ap, ◌∙◌, rules}
-use Rattle.algorithm_meaning.specs.declared.state.VertexSet.{VertexSet}
+use Rattle.algorithm_meaning.specs.declared.state.SetBinding.{SetBinding}
 use Rattle.algorithm_meaning.proofs.Members.{set_members_inside, set_members_outside}
 use Rattle.plain_run.proofs.sets.put_members.Goals as goal
 
 pub returns-then-place-len : goal.returns-then-place-len
 returns-then-place-len c =
     let below : c.args.place < length c.args.sets.now.items = search rules in
-    ap (λ (x : VertexSet). slice_set c.args.sets.now.items c.args.place (record { name = x.name; members = c.args.members })) c.index_mut-set.ensures.value
+    ap (λ (x : SetBinding). slice_set c.args.sets.now.items c.args.place (record { name = x.name; members = c.args.members })) c.index_mut-set.ensures.value
     ∙ set_members_inside c.args.sets.now.items c.args.place c.args.members c.index_mut-set.result.now below
 
 pub returns-else-place-len : goal.returns-else-place-len

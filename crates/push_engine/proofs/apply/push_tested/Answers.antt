@@ -1,7 +1,7 @@
 use Rattle.std.proofs.Common.{ℕ, refl, sym, subst, arith}
 use Rattle.std.proofs.lemmas.Result.{IfOk-weaker}
 use Rattle.algorithm_meaning.specs.EdgeApply.{is_member}
-use Rattle.kernels.specs.declared.end.End.{End}
+use Rattle.kernels.specs.declared.endpoint_filter.EndpointFilter.{EndpointFilter}
 use Rattle.edge_fold.specs.Ends.{IsTest}
 use Rattle.push_engine.proofs.Filtered.{changes_along, to_agree}
 use Rattle.push_engine.proofs.apply.push_tested.Goals as goal
@@ -9,7 +9,7 @@ use Rattle.push_engine.proofs.apply.push_tested.Goals as goal
 pub returns-in-Members-clause-changes : goal.returns-in-Members-clause-changes
 returns-in-Members-clause-changes c =
     IfOk-weaker c.push_to_members.result _ _
-    (λ cs changes m steps from to are count starts is_from is_to. changes m steps from to are count starts is_from (subst (λ (e : End). IsTest e m to) c.in-Members.is is_to))
+    (λ cs changes m steps from to are count starts is_from is_to. changes m steps from to are count starts is_from (subst (λ (e : EndpointFilter). IsTest e m to) c.in-Members.is is_to))
     c.push_to_members.ensures.changes
 
 pub returns-in_ok-passing-in-Filter-clause-changes : goal.returns-in_ok-passing-in-Filter-clause-changes

@@ -1,6 +1,6 @@
 use Rattle.std.proofs.Common.{◌++◌, ℕ, true, [], List, Option, sym, ap, ◌∙◌, subst}
 use Rattle.std.specs.List.{filter}
-use Rattle.kernels.specs.declared.end.End.{End}
+use Rattle.kernels.specs.declared.endpoint_filter.EndpointFilter.{EndpointFilter}
 use Rattle.edge_fold.specs.Ends.{IsEndTest}
 use Rattle.edge_fold.proofs.Walks.{folded_along}
 use Rattle.push_engine.specs.Rows.{rows, rows_to}
@@ -12,7 +12,7 @@ pub returns-in_ok-fold_rows-in-None : goal.returns-in_ok-fold_rows-in-None
 returns-in_ok-fold_rows-in-None c m steps test are is has =
     let a = c.args in
     let edges = a.flat.now.edges in
-    let all = subst (λ (o : Option End). IsEndTest o m test) c.in-None.is is in
+    let all = subst (λ (o : Option EndpointFilter). IsEndTest o m test) c.in-None.is is in
     folded_along a.functions m steps (rows_to (λ v. true) edges a.part.now) (rows edges (filter test a.part.now)) c.fold_rows.new.scratch (all_pass (rows edges a.part.now) ∙ ap (rows edges) (sym (filter_all test a.part.now all)))
     (c.in_ok-fold_rows-in-None.ensures m steps [] are has)
 
@@ -20,7 +20,7 @@ pub returns-in_ok-fold_rows-in-Some : goal.returns-in_ok-fold_rows-in-Some
 returns-in_ok-fold_rows-in-Some c m steps test are is has =
     let a = c.args in
     let edges = a.flat.now.edges in
-    let some = subst (λ (o : Option End). IsEndTest o m test) c.in-Some.is is in
+    let some = subst (λ (o : Option EndpointFilter). IsEndTest o m test) c.in-Some.is is in
     let kept = c.deref.ensures.value ∙ c.in_ok-keep_passing-in-Some.ensures.kept m test are.vectors are.sizes some ∙ ap (λ (ks : List ℕ). ks ++ filter test a.part.now) c.new-kept.ensures.items in
     folded_along a.functions m steps (rows_to (λ v. true) edges c.deref.result.now) (rows edges (filter test a.part.now)) c.fold_rows-in-Some.new.scratch (all_pass (rows edges c.deref.result.now) ∙ ap (rows edges) kept)
     (c.in_ok-fold_rows-in-Some.ensures m steps [] are (c.in_ok-keep_passing-in-Some.ensures.folded a.functions m steps [] has))

@@ -1,7 +1,7 @@
 use Rattle.std.proofs.Common.{ℕ, ◌<◌, ◌≤◌, ◌+◌, pos, List, length, drop, get_or, sym, subst, arith}
 use Rattle.std.proofs.lemmas.List.{drop_all, drop_more}
 use Rattle.algorithm_meaning.specs.Value.{entry}
-use Rattle.vectors.specs.declared.change.Change.{Change}
+use Rattle.vectors.specs.declared.changes.EntryChange.{EntryChange}
 use Rattle.vertex_sets.specs.VertexSet.{IsAscendingBelow}
 use Rattle.vertex_sets.proofs.Ascending.{ascending_end, ascending_weaker}
 use Rattle.push_engine.proofs.Differences.{HasFound, found_all, found_more}
@@ -13,7 +13,7 @@ changes-preserved c =
     let n = c.args.vertices in
     let xs = c.args.changes.now in
     let i = c.changes.change-index in
-    let d : Change = record { vertex = 0; number = pos 0 } in
+    let d : EntryChange = record { vertex = 0; number = pos 0 } in
     let one = get_or xs i d in
     let v = one.vertex in
     let next = c.changes.next in
@@ -28,7 +28,7 @@ changes-preserved c =
       found = λ before after vector e.
           let old = entry before vector in
           let new = entry after vector in
-          let left = subst (λ (ks : List Change). HasFound n old new members next ks) (drop_more xs i d inside) (c.changes.invariant.found before after vector e) in
+          let left = subst (λ (ks : List EntryChange). HasFound n old new members next ks) (drop_more xs i d inside) (c.changes.invariant.found before after vector e) in
           let more = found_more n old new members next one (drop (i + 1) xs) left in
           subst (λ (ks : List ℕ). HasFound n old new ks (v + 1) (drop (i + 1) xs)) (sym items) more.2;
     }
@@ -38,7 +38,7 @@ changes-preserved-then-change-next c =
     let n = c.args.vertices in
     let xs = c.args.changes.now in
     let i = c.changes.change-index in
-    let d : Change = record { vertex = 0; number = pos 0 } in
+    let d : EntryChange = record { vertex = 0; number = pos 0 } in
     let one = get_or xs i d in
     let next = c.changes.next in
     let members = c.changes.members.items in
@@ -49,7 +49,7 @@ changes-preserved-then-change-next c =
       found = λ before after vector e.
           let old = entry before vector in
           let new = entry after vector in
-          let left = subst (λ (ks : List Change). HasFound n old new members next ks) (drop_more xs i d inside) (c.changes.invariant.found before after vector e) in
+          let left = subst (λ (ks : List EntryChange). HasFound n old new members next ks) (drop_more xs i d inside) (c.changes.invariant.found before after vector e) in
           let more = found_more n old new members next one (drop (i + 1) xs) left in
           let from = more.0 in
           let below = more.1 in
@@ -68,4 +68,4 @@ returns-clause-members c before after vector e =
     let new = entry after vector in
     let all : length xs ≤ i = c.changes-test.false in
     found_all n old new c.changes.members.items c.changes.next
-    (subst (λ (ks : List Change). HasFound n old new c.changes.members.items c.changes.next ks) (drop_all i xs all) (c.changes.invariant.found before after vector e))
+    (subst (λ (ks : List EntryChange). HasFound n old new c.changes.members.items c.changes.next ks) (drop_all i xs all) (c.changes.invariant.found before after vector e))

@@ -2,7 +2,7 @@ use Rattle.std.proofs.Common.{◌≡◌, ℕ, ◌+◌, ◌<◌, length, FitsSign
 use Rattle.std.proofs.lemmas.Int.{to_z-of_z}
 use Rattle.vertex_sets.specs.VertexSet.{IsAscendingBelow}
 use Rattle.run_state.specs.NamedSets.{named}
-use Rattle.run_state.specs.Taken.{IsTakenOf, with_taken}
+use Rattle.run_state.specs.SetUpdate.{IsTakenOf, with_taken}
 use Rattle.run_state.proofs.Named.{named_push, named_replaced, pushed, replaced, replaced_outside}
 use Rattle.run_state.proofs.named_sets.take_set.Goals as goal
 

@@ -4,7 +4,7 @@ use Rattle.algorithm_meaning.specs.State.{StateValue}
 use Rattle.algorithm_meaning.specs.VertexApply.{after_vertices}
 use Rattle.register_code.specs.Cells.{HasSizes}
 use Rattle.register_code.specs.Meaning.{IsVertexCode}
-use Rattle.register_code.specs.declared.room.Room.{Room}
+use Rattle.register_code.specs.declared.register_counts.RegisterCounts.{RegisterCounts}
 use Rattle.kernels.specs.Kernels.{HasCells}
 use Rattle.vertex_sets.proofs.Ascending.{Rises}
 use Rattle.run_state.proofs.vertices.run_for_all.Given as goal
@@ -14,7 +14,7 @@ abbrev pub invariant-parts : goal.invariant-parts
 invariant-parts l = record {
   size : length l.part ≡ 128;
   ascending : Rises 0 l.left;
-  keeps : (other : Room) → HasCells l.fn.block other → HasCells l.block other;
+  keeps : (other : RegisterCounts) → HasCells l.fn.block other → HasCells l.block other;
   rest : (steps : StepsTree) (m : StateValue) → IsVertexCode l.kernel.code.items steps → l.fn.vectors.vectors ≡ m.vectors → HasSizes l.sizes m
       → after_vertices steps m.sets l.left l.vectors.vectors ≡ after_vertices steps m.sets l.fn.vertices m.vectors;
 }

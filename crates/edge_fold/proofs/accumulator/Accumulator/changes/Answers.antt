@@ -1,7 +1,7 @@
 use Rattle.std.proofs.Common.{rules, ◌<◌, ◌≤◌, ◌++◌, inl, ℤ, List, length, get_or, FitsSigned, to_z, of_z, w64, ap, sym, ◌∙◌, arith}
 use Rattle.std.proofs.lemmas.Int.{to_z-of_z}
 use Rattle.std.proofs.lemmas.List.Elements.{Contains-get_or}
-use Rattle.vectors.specs.declared.change.Change.{Change}
+use Rattle.vectors.specs.declared.changes.EntryChange.{EntryChange}
 use Rattle.vectors.specs.Lanes.{lane_entry}
 use Rattle.edge_fold.specs.Changed.{change_at}
 use Rattle.edge_fold.specs.Held.{held}
@@ -37,7 +37,7 @@ kept-preserved c =
           c.in_ok-push_change.ensures
           ∙ ap (λ (y : ℤ). items ++ change_at (λ _. y) (λ _. number) v) was
           ∙ ap (λ (y : ℤ). items ++ change_at (λ _. old v) (λ _. y) v) is
-          ∙ ap (λ (cs : List Change). cs ++ change_at old new v) (c.kept.invariant.found up new here there)
+          ∙ ap (λ (cs : List EntryChange). cs ++ change_at old new v) (c.kept.invariant.found up new here there)
           ∙ changed_more old new next v from (λ u a b. there u (omega (arith, b, c.if-vertices-vertex.false)) (between_kept kept index next c.args.vertices u up (c.kept.invariant.passed up) a (omega (arith, b, c.if-vertices-vertex.false)) (λ l. b)));
     }
 

@@ -2,7 +2,7 @@ use Rattle.std.proofs.Common.{rules, ◌==◌, ◌<◌, ◌+◌, if◌then◌els
 use Rattle.std.proofs.lemmas.Int.{to_z-of_z}
 use Rattle.std.proofs.lemmas.List.{drop_more}
 use Rattle.algorithm_meaning.specs.Arithmetic.{reduced}
-use Rattle.vectors.specs.declared.change.Change.{Change}
+use Rattle.vectors.specs.declared.changes.EntryChange.{EntryChange}
 use Rattle.edge_fold.specs.Gathered.{numbers_of}
 use Rattle.edge_fold.specs.Given.{reduced_at}
 use Rattle.edge_fold.specs.Held.{held_with}
@@ -15,12 +15,12 @@ numbers-preserved c v h =
     let r = a.reduction in
     let cs = a.numbers.now in
     let i = c.numbers.change-index in
-    let none : Change = record { vertex = 0; number = pos 0 } in
+    let none : EntryChange = record { vertex = 0; number = pos 0 } in
     let change = get_or cs i none in
     let inside : i < length cs = c.numbers-test.true in
     let fits : FitsSigned w64 change.number = search rules in
     let now = held_with (combined (start_of a.opening) r) c.numbers.self v (opening_seed a.opening v h) in
     ap (λ (n : ℤ). reduced_at r v n (numbers_of (drop (i + 1) cs)))
     (c.in_ok-join.ensures v h ∙ ap (λ (n : ℤ). if change.vertex == v then reduced r now n else now) (to_z-of_z w64 change.number fits))
-    ∙ ap (λ (ds : List Change). reduced_at r v now (numbers_of ds)) (sym (drop_more cs i none inside))
+    ∙ ap (λ (ds : List EntryChange). reduced_at r v now (numbers_of ds)) (sym (drop_more cs i none inside))
     ∙ c.numbers.invariant v h

@@ -1,7 +1,7 @@
 use Rattle.std.proofs.Common.{ℕ, ◌<◌, ◌≤◌, inl, ℤ, List, length, get_or, Contains, ap, ◌∙◌, subst, arith}
 use Rattle.std.proofs.lemmas.List.Elements.{Contains-get_or}
 use Rattle.apply_options.specs.declared.reduction.Reduction.{Reduction}
-use Rattle.vectors.specs.declared.change.Change.{Change}
+use Rattle.vectors.specs.declared.changes.EntryChange.{EntryChange}
 use Rattle.edge_fold.specs.Gathered.{numbers_of}
 use Rattle.edge_fold.specs.Given.{reduced_at}
 use Rattle.edge_fold.proofs.ChangedRows.{between_kept}
@@ -13,7 +13,7 @@ kept-init c = record {
   inside = omega arith;
   passed = λ up i l. absurd (omega (arith, l));
   found = λ up r h new here there v l. absurd (omega (arith, l));
-  left = λ r v h l. ap (λ (cs : List Change). reduced_at r v h (numbers_of cs)) c.new-numbers.ensures.items;
+  left = λ r v h l. ap (λ (cs : List EntryChange). reduced_at r v h (numbers_of cs)) c.new-numbers.ensures.items;
 }
 
 pub kept-preserved : goal.kept-preserved

@@ -3,7 +3,7 @@ use Rattle.edge_fold.specs.declared.functions.Start.TheVariants as start
 use Rattle.edge_fold.specs.Folded.{waiting}
 use Rattle.edge_fold.specs.Given.{all_given, given_on, pairs, reduced_at}
 use Rattle.edge_fold.specs.Seeds.{combined}
-use Rattle.edge_fold.specs.Slots.{active, held_in_with}
+use Rattle.edge_fold.specs.VectorAccumulators.{active, held_in_with}
 use Rattle.edge_fold.proofs.JoinedSlots.{unit_entries}
 use Rattle.edge_fold.proofs.Meaning.{filtered_edges}
 use Rattle.edge_fold.proofs.scratch.Scratch.gathered.Goals as goal

@@ -1,6 +1,6 @@
 use Rattle.std.proofs.Common.{subst, sym}
 use Rattle.run_state.specs.State.{RunState}
-use Rattle.run_state.specs.Taken.{IsTakenOf}
+use Rattle.run_state.specs.SetUpdate.{IsTakenOf}
 use Rattle.run_state.proofs.Named.{measured_length}
 use Rattle.run_state.proofs.named_sets.NamedSets.take_both.Goals as goal
 

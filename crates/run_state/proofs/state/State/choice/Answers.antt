@@ -1,10 +1,10 @@
 use Rattle.std.proofs.Common.{ℕ, ap, ◌∙◌}
 use Rattle.std.proofs.lemmas.Result.{IfOk-weaker}
 use Rattle.algorithm_meaning.specs.Stand.{choice_in}
-use Rattle.plans.specs.Machine.{forgotten}
+use Rattle.algorithm_meaning.specs.Loop.{forget_beyond}
 use Rattle.run_state.proofs.state.State.choice.Goals as goal
 
 pub returns : goal.returns
 returns c =
-    let m = forgotten c.args.depth c.args.self.now.state in
+    let m = forget_beyond c.args.depth c.args.self.now.state in
     IfOk-weaker c.choice.result _ _ (λ n value e is. value e m is c.main_state.ensures.main ∙ ap (λ (n : ℕ). choice_in n e m) c.main_state.ensures.vertices) c.choice.ensures

@@ -9,9 +9,9 @@ use Rattle.algorithm_meaning.specs.VertexSets.{members_for}
 use Rattle.register_code.specs.Cells.{HasSizes}
 use Rattle.kernels.specs.declared.kernel.FilterKernel.{FilterKernel}
 use Rattle.kernels.specs.Kernels.{IsFilterKernel}
-use Rattle.plans.specs.declared.members.Members.{Members}
+use Rattle.plans.specs.declared.set_expression.SetExpression.{SetExpression}
 use Rattle.plans.specs.Functions.{AreFunctions}
-use Rattle.plans.specs.Members.{set_value}
+use Rattle.plans.specs.SetExpression.{set_value}
 use Rattle.vertex_sets.specs.VertexSet.{VertexSubset}
 use Rattle.run_state.specs.State.{RunState}
 use Rattle.run_state.proofs.Runs.{has_sizes, if_ok_more}
@@ -32,5 +32,5 @@ returns-in-Some-get-clause-members c =
     given steps m is refl has
     ∙ ap (filter (result_of steps m.sets m.vectors)) c.in-Some-get.ensures.members
     ∙ ap (λ (r : RunState). filtered p.filters function r.state.sets r.state.vectors (members_of (slice_get r.state.sets slot.place))) c.self.view_is
-    ∙ sym (ap (λ (ms : Members). members_for p g (set_value ms) now.state) c.in-Filter.is))
+    ∙ sym (ap (λ (ms : SetExpression). members_for p g (set_value ms) now.state) c.in-Filter.is))
     c.filtered.ensures.members

@@ -1,0 +1,12 @@
+//! The ends of edge applies.
+use crate::kernel::FilterKernel;
+use vertex_sets::VertexSet;
+
+/// Which vertices an end of an edge may be.
+#[derive(Clone, Copy)]
+pub enum EndpointFilter<'a> {
+    /// The members of a set.
+    Members(&'a VertexSet),
+    /// Those that a filter lets through.
+    Filter(&'a FilterKernel),
+}

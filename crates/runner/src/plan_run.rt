@@ -1,0 +1,147 @@
+//! A run of a plan, and how it ends.
+ghost use Rattle.std.specs.Prelude.{◌≡◌, ◌<◌, ◌^◌, ◌+◌, IfOk, None, unwrap_or};
+ghost use Rattle.algorithm_meaning.specs.declared.outcome.End.TheVariants.{TurnsOver};
+ghost use Rattle.typed_tree.specs.ProgramTree.{ProgramTree};
+ghost use Rattle.apply_options.specs.ScheduleTree.{ScheduleTree};
+ghost use Rattle.algorithm_meaning.specs.Meaning.{opening};
+ghost use Rattle.algorithm_meaning.specs.Loop.{forget_beyond};
+ghost use Rattle.plans.specs.Machine.{Ended, first_configuration};
+ghost use Rattle.plans.specs.Plan.{plan_of};
+ghost use Rattle.plans.specs.PlanOf.{IsPlan};
+ghost use Rattle.run_state.specs.State.{graph_value};
+ghost use Rattle.runner.specs.Done.{after_flow};
+ghost use Rattle.runner.specs.Position.{configuration_of, IsShown, loops_of, outcome_so_far};
+
+use crate::flow::Flow;
+use crate::memory::Memory;
+use algorithm_meaning::{Depth, End, Outcome};
+use flat_snapshot::Flat;
+use kernels::{Block, Registers};
+use plans::{Instruction, Plan};
+use run_state::State;
+use std::alloc::{AllocError, Global};
+
+/// Where a run of a plan stands, and what its instructions work on.
+pub(crate) struct PlanRun {
+    /// The place of the next instruction.
+    pub(crate) place: usize,
+    /// How it ended, where it has.
+    pub(crate) end: Option<End>,
+    pub(crate) memory: Memory,
+}
+
+impl Drop for PlanRun {
+    fn drop(self) {
+        let PlanRun {
+            place: _,
+            end: _,
+            memory: _,
+        } = self;
+    }
+}
+
+impl PlanRun {
+    /// Before the first instruction. The only error is out of memory.
+    pub(crate) fn open(
+        alloc: Global,
+        plan: &Plan,
+        graph: &Flat,
+        turns: u64,
+    ) -> Result<PlanRun, AllocError>
+        ensures configuration { IfOk result (λ r. (p : ProgramTree) → plan.now.vectors.items ≡ p.vectors → plan.now.sets.items ≡ p.sets
+            → configuration_of r ≡ first_configuration (opening p (graph_value graph.now) turns)) }
+        ensures vertices { IfOk result (λ r. r.memory.state.vertices ≡ graph.now.vertices) }
+        ensures going { IfOk result (λ r. r.end ≡ None) }
+    {
+        let state = State::open(alloc, &plan.vectors, &plan.sets, &plan.groups, graph, turns)?;
+        let memory = Memory {
+            loops: Vec::new(alloc),
+            state,
+            block: Block::new(alloc),
+            registers: Registers::new(alloc),
+        };
+        Ok(PlanRun {
+            place: 0,
+            end: None,
+            memory,
+        })
+    }
+
+    /// Goes on where an instruction leads, or ends there.
+    pub(crate) fn follow(&mut self, flow: Flow, instruction: &Instruction)
+        requires going { self.old.end ≡ None }
+        requires room { self.old.place + 1 < 2 ^ 64 }
+        ensures configuration { configuration_of self.new
+            ≡ after_flow flow instruction.now.number instruction.now.shown self.old.place (loops_of self.old.memory) self.old.memory.state.state }
+        ensures vertices { self.new.memory.state.vertices ≡ self.old.memory.state.vertices }
+    {
+        match flow {
+            Flow::Next => self.place += 1,
+            Flow::Goto(to) => self.place = to,
+            Flow::Fault => self.finish(instruction.shown, End::Fault(401, instruction.number)),
+            Flow::Ended(end) => self.finish(instruction.shown, end),
+        }
+    }
+
+    /// Ends, and what is shown is what is visible.
+    fn finish(&mut self, shown: Depth, end: End)
+        ensures configuration { configuration_of self.new ≡ Ended (forget_beyond shown self.old.memory.state.state) end }
+        ensures vertices { self.new.memory.state.vertices ≡ self.old.memory.state.vertices }
+    {
+        self.memory.state.forget_beyond(shown);
+        self.end = Some(end);
+    }
+
+    /// What it shows so far, copied. The only error is out of memory.
+    pub(crate) fn show(&self, alloc: Global, plan: &Plan, turns: u64) -> Result<Outcome, AllocError>
+        ensures { IfOk result (λ o. (p : ProgramTree) (s : ScheduleTree) → IsPlan plan.now p s
+            → o ≡ outcome_so_far p turns (plan_of p s) (configuration_of self.now)) }
+    {
+        let end = self.shown_end();
+        let shown = self.shown(plan);
+        self.memory
+            .state
+            .show(alloc, &plan.names, &plan.vectors, turns, end, shown)
+    }
+
+    /// The same of a run that is over: what it has is handed over. The only error is out of memory.
+    pub(crate) fn into_outcome(
+        self,
+        alloc: Global,
+        plan: &Plan,
+        turns: u64,
+    ) -> Result<Outcome, AllocError>
+        ensures { IfOk result (λ o. (p : ProgramTree) (s : ScheduleTree) → IsPlan plan.now p s
+            → o ≡ outcome_so_far p turns (plan_of p s) (configuration_of self)) }
+    {
+        let end = self.shown_end();
+        let shown = self.shown(plan);
+        let PlanRun {
+            place: _,
+            end: _,
+            memory,
+        } = self;
+        let state = memory.into_state();
+        state.into_outcome(alloc, &plan.names, &plan.vectors, turns, end, shown)
+    }
+
+    /// How it ended; one that goes on is shown as if its turns were over.
+    fn shown_end(&self) -> End
+        ensures { result ≡ unwrap_or self.now.end TurnsOver }
+    {
+        self.end.unwrap_or(End::TurnsOver)
+    }
+
+    /// What is visible: at the end all that is there, and else what is so at the next instruction.
+    fn shown(&self, plan: &Plan) -> Depth
+        ensures { (p : ProgramTree) (s : ScheduleTree) → IsPlan plan.now p s → IsShown (plan_of p s) (configuration_of self.now) result }
+    {
+        match self.end {
+            Some(_) => self.memory.state.depth(),
+            None => match plan.instructions.get(self.place) {
+                Some(instruction) => instruction.shown,
+                None => self.memory.state.depth(),
+            },
+        }
+    }
+}
