@@ -1,7 +1,6 @@
 pub mod Copying
 pub mod Measures
 pub mod Modified
-pub mod Within
 pub mod Putting
 pub mod PlanLines
 pub mod Statements

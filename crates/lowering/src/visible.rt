@@ -1,8 +1,8 @@
 //! What is visible at a statement.
 ghost use Rattle.std.specs.Prelude.{◌≡◌, IfOk, OnOk, length};
 ghost use Rattle.typed_tree.specs.BlockTree.{action_tree};
-ghost use Rattle.plans.specs.Plan.{behind, with_integer};
-ghost use Rattle.lowering.specs.Visible.{IsWithin, depth_of};
+ghost use Rattle.plans.specs.Plan.{IsWithin, behind, with_integer};
+ghost use Rattle.lowering.specs.Visible.{depth_of};
 
 use algorithm_meaning::Depth;
 use std::alloc::{AllocError, Global};

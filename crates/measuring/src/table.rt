@@ -17,28 +17,28 @@ pub fn print_times(rt: &HostRuntime, name: &str, items: u64, times: Times) -> io
     println!(rt; " {:>14} {:>14} {each:>14}", times.median, times.found)
 }
 
-/// Times some kinds of a job and prints a row for each.
-pub fn print_rows<J: Benchmark>(
+/// Times some kinds of a benchmark and prints a row for each.
+pub fn print_rows<B: Benchmark>(
     rt: &HostRuntime,
-    rows: &[(&str, J::Row)],
+    rows: &[(&str, B::Row)],
     turns: Turns,
-    job: &mut J,
+    benchmark: &mut B,
 ) -> io::Result<()> {
     for (name, row) in rows {
-        print_row(rt, name, turns, job, *row)?;
+        print_row(rt, name, turns, benchmark, *row)?;
     }
     Ok(())
 }
 
-/// Times a kind of a job and prints its row. Gives what it came to.
-pub fn print_row<J: Benchmark>(
+/// Times a kind of a benchmark and prints its row. Gives what it came to.
+pub fn print_row<B: Benchmark>(
     rt: &HostRuntime,
     name: &str,
     turns: Turns,
-    job: &mut J,
-    row: J::Row,
+    benchmark: &mut B,
+    row: B::Row,
 ) -> io::Result<u64> {
-    let times = times_of(rt, turns, job, row)?;
-    print_times(rt, name, job.items(row), times)?;
+    let times = times_of(rt, turns, benchmark, row)?;
+    print_times(rt, name, benchmark.items(row), times)?;
     Ok(times.found)
 }

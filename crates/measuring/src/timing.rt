@@ -98,37 +98,42 @@ pub fn nanos_since<C: Clock>(clock: &C, start: Instant) -> io::Result<u64> {
     Ok(u64::try_from(taken.as_nanos()).unwrap_or(u64::MAX))
 }
 
-/// Does a row of a job so often.
-pub fn times_of<J: Benchmark>(
+/// Does a row of a benchmark so often.
+pub fn times_of<B: Benchmark>(
     rt: &HostRuntime,
     turns: Turns,
-    job: &mut J,
-    row: J::Row,
+    benchmark: &mut B,
+    row: B::Row,
 ) -> io::Result<Times> {
     let mut taken = Taken::new(rt.alloc());
     for _ in 0..turns.count {
-        add_turn(rt, turns.rounds, job, row, &mut taken)?;
+        add_turn(rt, turns.rounds, benchmark, row, &mut taken)?;
     }
     taken.times()
 }
 
-fn add_turn<J: Benchmark>(
+fn add_turn<B: Benchmark>(
     rt: &HostRuntime,
     rounds: u64,
-    job: &mut J,
-    row: J::Row,
+    benchmark: &mut B,
+    row: B::Row,
     taken: &mut Taken,
 ) -> io::Result<()> {
-    job.begin(rt, row)?;
+    benchmark.begin(rt, row)?;
     let start = Instant::now(rt)?;
-    let found = done(rt, rounds, job, row)?;
+    let found = done(rt, rounds, benchmark, row)?;
     taken.add(rt, start, rounds, found)
 }
 
-fn done<J: Benchmark>(rt: &HostRuntime, rounds: u64, job: &mut J, row: J::Row) -> io::Result<u64> {
+fn done<B: Benchmark>(
+    rt: &HostRuntime,
+    rounds: u64,
+    benchmark: &mut B,
+    row: B::Row,
+) -> io::Result<u64> {
     let mut found = 0;
     for _ in 0..rounds {
-        found = job.run(rt, row)?;
+        found = benchmark.run(rt, row)?;
     }
     Ok(found)
 }

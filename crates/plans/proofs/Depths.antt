@@ -5,14 +5,8 @@ use Rattle.std.proofs.lemmas.List.{length-take-le}
 use Rattle.typed_tree.specs.BlockTree.{ActionTree, DeclareInteger, DeclareCondition, SetInteger, SetCondition, ReduceInteger, SetEntry, ReduceEntry, DeclareSet, AssignSet, AddVertex, PrintInteger, PrintCondition, ApplyVertex, ApplyEdges, If, IfElse, While, For, BlockTree, Empty, Then}
 use Rattle.algorithm_meaning.specs.State.{StateValue}
 use Rattle.algorithm_meaning.specs.declared.state.Depth.{Depth}
-use Rattle.plans.specs.Plan.{behind, behind_all}
+use Rattle.plans.specs.Plan.{IsWithin, in_loop, behind, behind_all}
 use Rattle.algorithm_meaning.specs.Loop.{depth_of, forget_beyond}
-
--- no more is visible at the first than at the second
-pub record IsWithin (d e : Depth) : Type 0 where
-  pub integers : d.integers ≤ e.integers
-  pub conditions : d.conditions ≤ e.conditions
-  pub sets : d.sets ≤ e.sets
 
 pub within_itself : (d : Depth) → IsWithin d d
 within_itself d = record { integers = omega arith; conditions = omega arith; sets = omega arith }
@@ -23,6 +17,9 @@ within_both d e f h k = record {
   conditions = omega (arith, h.conditions, k.conditions);
   sets = omega (arith, h.sets, k.sets);
 }
+
+pub within_loop : (d : Depth) → IsWithin d (in_loop d)
+within_loop d = record { integers = omega arith; conditions = omega arith; sets = omega arith }
 
 pub within_behind : (a : ActionTree) (d : Depth) → IsWithin d (behind a d)
 within_behind (DeclareInteger name e) d = record { integers = omega arith; conditions = omega arith; sets = omega arith }

@@ -12,9 +12,9 @@ use Rattle.algorithm_meaning.specs.Loop.{for_test, for_body, after_for, both_bou
 use Rattle.algorithm_meaning.specs.declared.state.LoopCounter.{LoopCounter}
 use Rattle.algorithm_meaning.specs.declared.state.Depth.{Depth}
 use Rattle.plans.specs.Instruction.{Do, Enter, UnlessBelow, Advance, Turn, Jump, InstructionTree}
-use Rattle.plans.specs.Plan.{with_integer, in_loop, plain, loop_step}
+use Rattle.plans.specs.Plan.{IsWithin, with_integer, in_loop, plain, loop_step}
 use Rattle.plans.specs.Machine.{Configuration, At, Ended, go_on, after_turn, after_enter}
-use Rattle.plans.proofs.Depths.{IsWithin, forgotten-all}
+use Rattle.plans.proofs.Depths.{forgotten-all}
 use Rattle.plans.proofs.Proper.{IsProper}
 use Rattle.plans.proofs.Reaching.{here, and_reaches, by_step, Moves, moves_on, moves_from, Follows, follows_from, follows_more, takes, leaving, LeadsOn, leads_from, RunsLoop, loop_runs}
 use Rattle.plans.proofs.Whiles.{pushed, proper-integer, proper-pushed, forgotten-integer, forgotten-pushed}

@@ -13,10 +13,10 @@ use Rattle.apply_options.specs.declared.apply_schedule.ApplySchedule.{ApplySched
 use Rattle.algorithm_meaning.specs.declared.state.LoopCounter.{LoopCounter}
 use Rattle.algorithm_meaning.specs.declared.state.Depth.{Depth}
 use Rattle.plans.specs.Instruction.{Do, Jump, InstructionTree}
-use Rattle.plans.specs.Plan.{behind, loop_step}
+use Rattle.plans.specs.Plan.{IsWithin, behind, loop_step}
 use Rattle.plans.specs.Machine.{Configuration, At, Ended, go_on, act, act_at, step}
 use Rattle.plans.specs.Laws.{GoesOn}
-use Rattle.plans.proofs.Depths.{IsWithin, forgotten-all, forgotten-less}
+use Rattle.plans.proofs.Depths.{forgotten-all, forgotten-less}
 use Rattle.plans.proofs.Proper.{IsProper, HasNoBlock, Leaves, alone-leaves, proper-forgotten}
 
 pub proper_more : (d : Depth) (m n : ℕ) (s : StateValue) → m ≤ n → IsProper d m s → IsProper d n s

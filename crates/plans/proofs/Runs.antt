@@ -12,9 +12,9 @@ use Rattle.algorithm_meaning.specs.declared.state.LoopCounter.{LoopCounter}
 use Rattle.algorithm_meaning.specs.declared.state.Depth.{Depth}
 use Rattle.plans.specs.Instruction.{OperationTree, Do, Unless, UnlessBelow, Turn, Jump, Advance, InstructionTree}
 use Rattle.plans.specs.Fusing.{Company, Alone, WithNext, WithPrevious, company_of, takes_next}
-use Rattle.plans.specs.Plan.{behind, behind_all, in_loop, plain, loop_step, chosen, size_in, plan_in, size, size_all, plan, plan_all}
+use Rattle.plans.specs.Plan.{IsWithin, behind, behind_all, in_loop, plain, loop_step, chosen, size_in, plan_in, size, size_all, plan, plan_all}
 use Rattle.plans.specs.Machine.{Configuration, At}
-use Rattle.plans.proofs.Depths.{IsWithin, within_behind_all, within_both, forgotten-all}
+use Rattle.plans.proofs.Depths.{within_loop, within_behind_all, within_both, forgotten-all}
 use Rattle.plans.proofs.Proper.{IsProper, HasNoBlock}
 use Rattle.plans.proofs.Places.{HasAt, has_front, has_behind, length-plan, length-plan_all}
 use Rattle.plans.proofs.Reaching.{here, by_step, Moves, moves_on, Lands, Follows, follows_from, takes, alone_runs, leaving, jumps, lands_at}
@@ -32,9 +32,6 @@ abbrev pub at_rest : (is_done : Bool) → BlockTree → Depth → Depth
 at_rest false b d = d
 at_rest true Empty d = d
 at_rest true (Then number label action rest) d = behind action d
-
-within_loop : (d : Depth) → IsWithin d (in_loop d)
-within_loop d = record { integers = omega arith; conditions = omega arith; sets = omega arith }
 
 module _ (p : ProgramTree) (g : GraphValue) (schedule : ScheduleTree) (code : List InstructionTree) where
   -- one statement after the other

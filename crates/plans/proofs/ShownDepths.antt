@@ -6,8 +6,8 @@ use Rattle.apply_options.specs.ScheduleTree.{ScheduleTree}
 use Rattle.algorithm_meaning.specs.declared.state.Depth.{Depth}
 use Rattle.plans.specs.Instruction.{Advance, InstructionTree, Jump}
 use Rattle.plans.specs.Fusing.{Company, Alone, WithNext, WithPrevious, company_of, takes_next}
-use Rattle.plans.specs.Plan.{behind, behind_all, in_loop, loop_step, main_depth, plain, plan, plan_all, plan_in, plan_of, size, size_all, size_in, with_integer}
-use Rattle.plans.proofs.Depths.{IsWithin, within_itself}
+use Rattle.plans.specs.Plan.{IsWithin, behind, behind_all, in_loop, loop_step, main_depth, plain, plan, plan_all, plan_in, plan_of, size, size_all, size_in, with_integer}
+use Rattle.plans.proofs.Depths.{within_itself, within_loop}
 use Rattle.plans.proofs.Origins.{AllOf, all_append, all_at}
 
 -- no more is shown than kept
@@ -16,9 +16,6 @@ ShowsWithin i = IsWithin i.shown i.keep
 
 one_deeper : (d : Depth) → IsWithin d (with_integer d)
 one_deeper d = record { integers = omega arith; conditions = omega arith; sets = omega arith }
-
-two_deeper : (d : Depth) → IsWithin d (in_loop d)
-two_deeper d = record { integers = omega arith; conditions = omega arith; sets = omega arith }
 
 in_company : (company : Company) (s : ScheduleTree) (number : ℕ) (label : Option ℕ) (d : Depth) (is : List InstructionTree) → AllOf ShowsWithin is → AllOf ShowsWithin (plan_in company s number label d is)
 in_company Alone s number label d is own = own
@@ -62,11 +59,11 @@ module _ (p : ProgramTree) (s : ScheduleTree) where
           (
             one_deeper d,
             (
-              two_deeper d,
+              within_loop d,
               (
-                two_deeper d,
+                within_loop d,
                 all_append ShowsWithin (plan_all p s (place + 4) deep false body) (plain number d (Advance name) ∷ loop_step number deep d (Jump (place + 2)) ∷ [])
-                    (block_shows body false (place + 4) deep) (within_itself d, (two_deeper d, tt)),
+                    (block_shows body false (place + 4) deep) (within_itself d, (within_loop d, tt)),
               ),
             ),
           ),

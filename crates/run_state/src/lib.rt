@@ -6,8 +6,8 @@
 //! a name up, and one that runs out of memory leaves the state as it was.
 //!
 //! Expressions, vertex functions and filters come as kernels. An edge apply stands outside, in the runner: it reads the
-//! [`RunView`] that [`State::view`] lends, [`State::write`] writes what it found, and [`State::take_both`] takes the sets
-//! that it makes.
+//! [`RunView`] that [`State::view`] lends, [`State::write`] writes what it found, and [`State::update_sets`] gives the
+//! sets their new values.
 //!
 //! The runner stands on it.
 #![tactic(auto)]

@@ -9,7 +9,7 @@ ghost use Rattle.algorithm_meaning.specs.VertexSets.{inserted, with_members, wit
 ghost use Rattle.run_state.specs.View.{members_in};
 ghost use Rattle.vertex_sets.specs.VertexSet.{IsVertexSet};
 ghost use Rattle.run_state.specs.NamedSets.{AreNamed, named, size_of as size};
-ghost use Rattle.run_state.specs.SetUpdate.{IsTakenOf, with_taken};
+ghost use Rattle.run_state.specs.SetUpdate.{IsUpdateOf, with_update};
 
 use crate::set_update::SetUpdate;
 use crate::show::{first, name_sets};
@@ -136,20 +136,20 @@ impl NamedSets {
         self.members.len()
     }
 
-    /// Takes two sets, one after the other. The only error is out of memory, and then nothing is changed.
-    pub(crate) fn take_both(
+    /// Does two updates, one after the other. The only error is out of memory, and then nothing is changed.
+    pub(crate) fn update_sets(
         &mut self,
         first: SetUpdate,
         second: SetUpdate,
     ) -> Result<(), AllocError>
-        requires first { IsTakenOf self.old.vertices first }
-        requires second { IsTakenOf self.old.vertices second }
-        ensures ok { OnOk result (self.new ≡ with_state self.old (with_taken (with_taken self.old.state first) second)) }
+        requires first { IsUpdateOf self.old.vertices first }
+        requires second { IsUpdateOf self.old.vertices second }
+        ensures ok { OnOk result (self.new ≡ with_state self.old (with_update (with_update self.old.state first) second)) }
         ensures err { OnErr result (self.new ≡ self.old) }
     {
         make_room(&mut self.names, &mut self.members, &mut self.sizes, 2)?;
-        take_set(&mut self.names, &mut self.members, &mut self.sizes, first);
-        take_set(&mut self.names, &mut self.members, &mut self.sizes, second);
+        update_set(&mut self.names, &mut self.members, &mut self.sizes, first);
+        update_set(&mut self.names, &mut self.members, &mut self.sizes, second);
         Ok(())
     }
 
@@ -230,25 +230,25 @@ fn make_room(
     Ok(())
 }
 
-/// Takes a set into names, sets and their sizes, which have room for one more.
-fn take_set(
+/// Does an update of names, sets and their sizes, which have room for one more.
+fn update_set(
     names: &mut Vec<usize>,
     members: &mut Vec<VertexSet>,
     sizes: &mut Vec<i64>,
-    taken: SetUpdate,
+    update: SetUpdate,
 )
     requires names { vec_len names.old < vec_capacity names.old }
     requires members { vec_len members.old < vec_capacity members.old }
     requires sizes { vec_len sizes.old < vec_capacity sizes.old }
     requires counted { length names.old.items ≡ length members.old.items }
     requires measured { length sizes.old.items ≡ length members.old.items }
-    ensures sets { named names.new.items members.new.items ≡ with_taken (named names.old.items members.old.items) taken }
-    ensures are { (n : ℕ) → AreNamed n names.old.items members.old.items sizes.old.items → IsTakenOf n taken → AreNamed n names.new.items members.new.items sizes.new.items }
+    ensures sets { named names.new.items members.new.items ≡ with_update (named names.old.items members.old.items) update }
+    ensures are { (n : ℕ) → AreNamed n names.old.items members.old.items sizes.old.items → IsUpdateOf n update → AreNamed n names.new.items members.new.items sizes.new.items }
     ensures names_room { vec_capacity names.old + vec_len names.new ≤ vec_capacity names.new + vec_len names.old + 1 }
     ensures members_room { vec_capacity members.old + vec_len members.new ≤ vec_capacity members.new + vec_len members.old + 1 }
     ensures sizes_room { vec_capacity sizes.old + vec_len sizes.new ≤ vec_capacity sizes.new + vec_len sizes.old + 1 }
 {
-    match taken {
+    match update {
         SetUpdate::Nothing => {}
         SetUpdate::New { name, set } => {
             names.push_reserved(name);

@@ -1,7 +1,8 @@
-//! Sets that a state takes.
+//! Updates of the sets of a state.
 use vertex_sets::VertexSet;
 
-/// A set that a state takes: none, a new variable of this name, or the variable at this place, where there is one.
+/// An update of the sets of a state: none, a new variable of this name, or a new value of the variable at this place, where
+/// there is one.
 #[derive(Drop)]
 pub enum SetUpdate {
     Nothing,

@@ -25,7 +25,7 @@ ghost use Rattle.plans.specs.SetExpression.{set_value};
 ghost use Rattle.plans.specs.Operation.{IsFor};
 ghost use Rattle.run_state.specs.View.{HasEntryForEach, IsViewOf};
 ghost use Rattle.run_state.specs.State.{IsRunState, RunState, opened, with_state};
-ghost use Rattle.run_state.specs.SetUpdate.{IsTakenOf, with_taken};
+ghost use Rattle.run_state.specs.SetUpdate.{IsUpdateOf, with_update};
 ghost use Rattle.run_state.specs.VertexKernels.{IsVertexKernel};
 
 use crate::filtering::filtered;
@@ -498,14 +498,14 @@ impl State {
         self.vectors.write(changes);
     }
 
-    /// Takes two sets, one after the other. The only error is out of memory, and then nothing is changed.
-    pub fn take_both(&mut self, first: SetUpdate, second: SetUpdate) -> Result<(), AllocError>
-        requires first { IsTakenOf self.old.vertices first }
-        requires second { IsTakenOf self.old.vertices second }
-        ensures ok { OnOk result (self.new ≡ with_state self.old (with_taken (with_taken self.old.state first) second)) }
+    /// Does two updates of sets, one after the other. The only error is out of memory, and then nothing is changed.
+    pub fn update_sets(&mut self, first: SetUpdate, second: SetUpdate) -> Result<(), AllocError>
+        requires first { IsUpdateOf self.old.vertices first }
+        requires second { IsUpdateOf self.old.vertices second }
+        ensures ok { OnOk result (self.new ≡ with_state self.old (with_update (with_update self.old.state first) second)) }
         ensures err { OnErr result (self.new ≡ self.old) }
     {
-        self.sets.take_both(first, second)
+        self.sets.update_sets(first, second)
     }
 
     /// What a run shows that began with so many turns and ended so: its vectors by these names, and the sets that are

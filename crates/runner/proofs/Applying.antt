@@ -27,9 +27,9 @@ use Rattle.plans.specs.Reducing.{AreReduced, OperationReduces, places_of, steps_
 use Rattle.plans.proofs.EdgePairs.{after_part}
 use Rattle.plans.proofs.Results.{result_beside_vectors, vectors_of_result}
 use Rattle.run_state.specs.declared.set_update.SetUpdate.{SetUpdate}
-use Rattle.run_state.specs.declared.set_update.SetUpdate.TheVariants as taken
+use Rattle.run_state.specs.declared.set_update.SetUpdate.TheVariants as update
 use Rattle.run_state.specs.NamedSets.{HaveLength}
-use Rattle.run_state.specs.SetUpdate.{with_taken}
+use Rattle.run_state.specs.SetUpdate.{with_update}
 use Rattle.run_state.proofs.Lengths.{after_all_changes, count}
 use Rattle.vectors.specs.declared.changes.VectorChanges.{VectorChanges}
 use Rattle.vectors.specs.Changes.{with_all_changes}
@@ -37,7 +37,7 @@ use Rattle.runner.specs.declared.flow.Flow.TheVariants.{Next}
 use Rattle.runner.specs.declared.memory.Memory.{Memory}
 use Rattle.runner.specs.Done.{HasDone}
 use Rattle.runner.specs.Position.{loops_of}
-use Rattle.runner.specs.Results.{IsTakenFor, result_of_second, with_both}
+use Rattle.runner.specs.Results.{IsUpdateFor, result_of_second, with_both}
 
 -- vectors that have as many entries each
 have_length : (n : ℕ) (vectors : List (List ℤ)) → ((x : ℕ) → x < length vectors → length (get_or vectors x []) ≡ n) → HaveLength (length vectors) n vectors
@@ -71,24 +71,24 @@ none_modified n vector before after cs each past are =
 
 -- to write changes behind what was taken is to take it behind the changes
 pub written_behind : (n : ℕ) (first second : PartResult) (s : StateValue) (a b : SetUpdate) (cs : List VectorChanges) (after : List (List ℤ))
-    → IsTakenFor n s.vectors after (result_tree first) a → IsTakenFor n s.vectors after (result_tree second) b → with_all_changes cs s.vectors ≡ after
-    → with_vectors (with_taken (with_taken s a) b) (with_all_changes cs (with_taken (with_taken s a) b).vectors) ≡ with_both n first second after s
+    → IsUpdateFor n s.vectors after (result_tree first) a → IsUpdateFor n s.vectors after (result_tree second) b → with_all_changes cs s.vectors ≡ after
+    → with_vectors (with_update (with_update s a) b) (with_all_changes cs (with_update (with_update s a) b).vectors) ≡ with_both n first second after s
 written_behind n first second s a b cs after of_first of_second written =
     let one = with_result n s.vectors after (result_tree first) s in
     let two = with_result n s.vectors after (result_tree second) one in
-    ap (λ (u : StateValue). with_vectors u (with_all_changes cs u.vectors)) (ap (λ (u : StateValue). with_taken u b) (of_first s) ∙ of_second one)
+    ap (λ (u : StateValue). with_vectors u (with_all_changes cs u.vectors)) (ap (λ (u : StateValue). with_update u b) (of_first s) ∙ of_second one)
     ∙ ap (with_vectors two) (ap (with_all_changes cs) (vectors_of_result n s.vectors after (result_tree second) one ∙ vectors_of_result n s.vectors after (result_tree first) s) ∙ written)
     ∙ result_beside_vectors n s.vectors after one.vectors after (result_tree second) one
     ∙ ap (with_result n s.vectors after (result_tree second)) (result_beside_vectors n s.vectors after s.vectors after (result_tree first) s)
 
 -- a set that is taken uses no turn
-turns_stay : (s : StateValue) (a : SetUpdate) → (with_taken s a).turns ≡ s.turns
-turns_stay s taken.Nothing = refl
-turns_stay s (taken.New name set) = refl
-turns_stay s (taken.Other place set) = refl
+turns_stay : (s : StateValue) (a : SetUpdate) → (with_update s a).turns ≡ s.turns
+turns_stay s update.Nothing = refl
+turns_stay s (update.New name set) = refl
+turns_stay s (update.Other place set) = refl
 
-pub turns_of_both : (s : StateValue) (a b : SetUpdate) → (with_taken (with_taken s a) b).turns ≡ s.turns
-turns_of_both s a b = turns_stay (with_taken s a) b ∙ turns_stay s a
+pub turns_of_both : (s : StateValue) (a b : SetUpdate) → (with_update (with_update s a) b).turns ≡ s.turns
+turns_of_both s a b = turns_stay (with_update s a) b ∙ turns_stay s a
 
 -- the statement is this apply
 module _ (p : ProgramTree) (g : GraphValue) (number : ℕ) (s : StateValue) where

@@ -9,7 +9,7 @@ use Rattle.plans.specs.Parts.{result_tree}
 use Rattle.plans.specs.Instruction.{ResultTree}
 use Rattle.plans.specs.Machine.{with_result}
 use Rattle.run_state.specs.declared.set_update.SetUpdate.{SetUpdate}
-use Rattle.run_state.specs.SetUpdate.{with_taken}
+use Rattle.run_state.specs.SetUpdate.{with_update}
 
 -- the result of the second part, where there is one
 abbrev pub result_of_second : Option EdgePart → PartResult
@@ -17,8 +17,8 @@ result_of_second None = result.Dropped
 result_of_second (Some part) = part.result
 
 -- to take the set is what is done with the vertices that changed
-abbrev pub IsTakenFor : (vertices : ℕ) → (before after : List (List ℤ)) → ResultTree → SetUpdate → Type 0
-IsTakenFor vertices before after r taken = (s : StateValue) → with_taken s taken ≡ with_result vertices before after r s
+abbrev pub IsUpdateFor : (vertices : ℕ) → (before after : List (List ℤ)) → ResultTree → SetUpdate → Type 0
+IsUpdateFor vertices before after r update = (s : StateValue) → with_update s update ≡ with_result vertices before after r s
 
 -- the state after an apply that gave these vectors, with the results of one part or two
 abbrev pub with_both : (vertices : ℕ) → (first second : PartResult) → (after : List (List ℤ)) → StateValue → StateValue

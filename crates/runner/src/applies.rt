@@ -12,14 +12,14 @@ ghost use Rattle.plans.specs.Functions.{AreFunctions};
 ghost use Rattle.plans.specs.declared.operation.PlanOperation.TheVariants as op;
 ghost use Rattle.plans.specs.Operation.{ApplyEdgesOf, IsOperation};
 ghost use Rattle.run_state.specs.State.{graph_value, with_state};
-ghost use Rattle.run_state.specs.SetUpdate.{IsTakenOf};
+ghost use Rattle.run_state.specs.SetUpdate.{IsUpdateOf};
 ghost use Rattle.run_state.specs.VertexKernels.{IsVertexKernel};
 ghost use Rattle.std.specs.Option.{ForSome, option_map};
 ghost use Rattle.algorithm_meaning.specs.Function.{steps_of};
 ghost use Rattle.register_code.specs.Meaning.{IsVertexCode};
 ghost use Rattle.runner.specs.Done.{HasDone, HaveTrees, IsAsBefore};
 ghost use Rattle.runner.specs.Position.{IsOn};
-ghost use Rattle.runner.specs.Results.{IsTakenFor, result_of_second, with_both};
+ghost use Rattle.runner.specs.Results.{IsUpdateFor, result_of_second, with_both};
 
 use crate::changed_vertices::changed_vertices;
 use crate::edge_applier::EdgeApplier;
@@ -138,24 +138,24 @@ fn take_changes(
     ensures vertices { state.new.vertices ≡ state.old.vertices }
     ensures err { OnErr result (state.new ≡ state.old) }
 {
-    let of_first = taken(alloc, state, changes, choice, first)?;
-    let of_second = taken(alloc, state, changes, choice, second)?;
-    state.take_both(of_first, of_second)?;
+    let of_first = set_update(alloc, state, changes, choice, first)?;
+    let of_second = set_update(alloc, state, changes, choice, second)?;
+    state.update_sets(of_first, of_second)?;
     state.write(changes);
     Ok(())
 }
 
-/// The set that takes the vertices at which an edge function changed a vector. The only error is out of memory.
-fn taken(
+/// The update by which a set gets the vertices at which an edge function changed a vector. The only error is out of memory.
+fn set_update(
     alloc: Global,
     state: &State,
     changes: &Changes,
     choice: ApplySchedule,
     asked: PartResult,
 ) -> Result<SetUpdate, AllocError>
-    ensures of { IfOk result (λ t. IsTakenOf state.now.vertices t) }
-    ensures taken { IfOk result (λ t. (after : List (List ℤ)) → AreChangesTo state.now.vertices state.now.state.vectors after changes.now.vectors.items
-        → IsTakenFor state.now.vertices state.now.state.vectors after (result_tree asked) t) }
+    ensures of { IfOk result (λ t. IsUpdateOf state.now.vertices t) }
+    ensures update { IfOk result (λ t. (after : List (List ℤ)) → AreChangesTo state.now.vertices state.now.state.vectors after changes.now.vectors.items
+        → IsUpdateFor state.now.vertices state.now.state.vectors after (result_tree asked) t) }
 {
     match asked {
         PartResult::Dropped => Ok(SetUpdate::Nothing),

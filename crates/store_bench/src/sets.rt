@@ -69,7 +69,7 @@ fn print_size<T: Threads + Sync>(
     size: u64,
     rounds: u64,
 ) -> io::Result<()> {
-    let mut work = SetBenchmark::new(rt.alloc(), random, size)?;
+    let mut work = SetPair::new(rt.alloc(), random, size)?;
     for (name, row) in &ROWS {
         let times = times_of(rt, threads, &mut work, *row, rounds)?;
         print_row(rt, name, size, times)?;
@@ -81,7 +81,7 @@ fn print_size<T: Threads + Sync>(
 fn times_of<T: Threads + Sync>(
     rt: &HostRuntime,
     threads: &T,
-    work: &mut SetBenchmark,
+    work: &mut SetPair,
     row: Row,
     rounds: u64,
 ) -> io::Result<Times> {
@@ -97,7 +97,7 @@ fn times_of<T: Threads + Sync>(
 fn done<T: Threads + Sync>(
     alloc: Global,
     threads: &T,
-    work: &mut SetBenchmark,
+    work: &mut SetPair,
     row: Row,
     rounds: u64,
 ) -> io::Result<u64> {
@@ -113,7 +113,7 @@ fn done<T: Threads + Sync>(
 }
 
 // Two lists and the sets of them, and how often an element was looked for.
-struct SetBenchmark {
+struct SetPair {
     first: Vec<u32>,
     second: Vec<u32>,
     one: CTree,
@@ -121,9 +121,9 @@ struct SetBenchmark {
     looked: u64,
 }
 
-impl Drop for SetBenchmark {
+impl Drop for SetPair {
     fn drop(self) {
-        let SetBenchmark {
+        let SetPair {
             first: _,
             second: _,
             one: _,
@@ -133,13 +133,13 @@ impl Drop for SetBenchmark {
     }
 }
 
-impl SetBenchmark {
-    fn new(alloc: Global, random: &mut Random, size: u64) -> io::Result<SetBenchmark> {
+impl SetPair {
+    fn new(alloc: Global, random: &mut Random, size: u64) -> io::Result<SetPair> {
         let first = ascending(alloc, random, SIZE)?;
         let second = ascending(alloc, random, size)?;
         let one = set_of(alloc, &first)?;
         match set_of(alloc, &second) {
-            Ok(other) => Ok(SetBenchmark {
+            Ok(other) => Ok(SetPair {
                 first,
                 second,
                 one,
@@ -167,7 +167,7 @@ fn combined<T: Threads + Sync>(
     threads: &T,
     alloc: Global,
     way: Way,
-    work: &SetBenchmark,
+    work: &SetPair,
 ) -> Result<CTree, SetError> {
     match way {
         Way::Union => union(alloc, &work.one, &work.other),

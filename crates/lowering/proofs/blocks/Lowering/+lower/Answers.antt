@@ -8,13 +8,13 @@ use Rattle.typed_tree.specs.ProgramTree.{program_tree}
 use Rattle.typed_tree.proofs.Blocks.{action_tree-If, action_tree-IfElse, action_tree-While, action_tree-For}
 use Rattle.plans.specs.Fusing.{company_of}
 use Rattle.plans.specs.Instruction.{UnlessBelow, Jump, Turn, Advance}
-use Rattle.plans.specs.Plan.{behind, behind_all, in_loop, loop_step, plain, plan, plan_all}
+use Rattle.plans.specs.Plan.{IsWithin, behind, behind_all, in_loop, loop_step, plain, plan, plan_all}
+use Rattle.plans.proofs.Depths.{within_behind_all}
 use Rattle.lowering.specs.Putting.{BeginsLoop, Fills, Puts}
-use Rattle.lowering.specs.Visible.{IsWithin, depth_of}
+use Rattle.lowering.specs.Visible.{depth_of}
 use Rattle.lowering.proofs.Measures.{action_size, block_size, inner_falls}
 use Rattle.lowering.proofs.Putting.{puts_nothing}
 use Rattle.lowering.proofs.Statements.{HasPut, behind_none, has_put_all, has_put_next, has_put_none, puts_if, puts_choice, puts_while, puts_for}
-use Rattle.lowering.proofs.Within.{within_block}
 use Rattle.lowering.proofs.blocks.Lowering.+lower.Goals as goal
 
 pub put_all-statements-preserved : goal.put_all-statements-preserved
@@ -46,7 +46,7 @@ put_inside-returns-clause-visible t c =
     let body = block_tree c.args.body.now in
     let within : IsWithin c.depth-depth.result (depth_of c.put_all.new.visible) =
     subst (λ x. IsWithin x (depth_of c.put_all.new.visible)) (sym c.depth-depth.ensures)
-    (subst (λ x. IsWithin d x) (sym c.in_ok-put_all.ensures.visible) (within_block body d)) in
+    (subst (λ x. IsWithin d x) (sym c.in_ok-put_all.ensures.visible) (within_behind_all body d)) in
     c.cut.ensures within ∙ c.depth-depth.ensures
 
 pub put_statement-returns-in-If-clause-code : goal.put_statement-returns-in-If-clause-code

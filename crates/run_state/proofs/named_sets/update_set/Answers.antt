@@ -2,9 +2,9 @@ use Rattle.std.proofs.Common.{◌≡◌, ℕ, ◌+◌, ◌<◌, length, FitsSign
 use Rattle.std.proofs.lemmas.Int.{to_z-of_z}
 use Rattle.vertex_sets.specs.VertexSet.{IsAscendingBelow}
 use Rattle.run_state.specs.NamedSets.{named}
-use Rattle.run_state.specs.SetUpdate.{IsTakenOf, with_taken}
+use Rattle.run_state.specs.SetUpdate.{IsUpdateOf, with_update}
 use Rattle.run_state.proofs.Named.{named_push, named_replaced, pushed, replaced, replaced_outside}
-use Rattle.run_state.proofs.named_sets.take_set.Goals as goal
+use Rattle.run_state.proofs.named_sets.update_set.Goals as goal
 
 pub returns-in-New-clause-sets : goal.returns-in-New-clause-sets
 returns-in-New-clause-sets c =
@@ -12,13 +12,13 @@ returns-in-New-clause-sets c =
     let ms = c.args.members.now.items in
     ap₂ named c.push_reserved.ensures.items c.push_reserved-in-New-2.ensures.items
     ∙ named_push ns ms c.in-New.name c.in-New.set c.requires.counted
-    ∙ ap (with_taken (named ns ms)) (sym c.in-New.is)
+    ∙ ap (with_update (named ns ms)) (sym c.in-New.is)
 
 pub returns-in-New-clause-are : goal.returns-in-New-clause-are
 returns-in-New-clause-are c = λ n are is.
     let set = c.in-New.set in
     let fits : FitsSigned w64 c.size_of.result = search rules in
-    let many : set.vertices ≡ n = subst (IsTakenOf n) c.in-New.is is in
+    let many : set.vertices ≡ n = subst (IsUpdateOf n) c.in-New.is is in
     let valid = subst (λ (k : ℕ). IsAscendingBelow k set.members) many c.size_of.ensures.valid in
     rw (c.push_reserved.ensures.items, c.push_reserved-in-New.ensures.items, c.push_reserved-in-New-2.ensures.items)
     (pushed n c.args.names.now.items c.args.members.now.items c.args.sizes.now.items are c.in-New.name set _ many valid (to_z-of_z w64 c.size_of.result fits ∙ c.size_of.ensures.size))
@@ -28,13 +28,13 @@ returns-then-place-len-clause-sets c =
     let ns = c.args.names.now.items in
     let ms = c.args.members.now.items in
     named_replaced ns ms c.in-Other.place c.in-Other.set c.requires.counted
-    ∙ ap (with_taken (named ns ms)) (sym c.in-Other.is)
+    ∙ ap (with_update (named ns ms)) (sym c.in-Other.is)
 
 pub returns-then-place-len-clause-are : goal.returns-then-place-len-clause-are
 returns-then-place-len-clause-are c = λ n are is.
     let set = c.in-Other.set in
     let fits : FitsSigned w64 c.size_of-then-place-len.result = search rules in
-    let many : set.vertices ≡ n = subst (IsTakenOf n) c.in-Other.is is in
+    let many : set.vertices ≡ n = subst (IsUpdateOf n) c.in-Other.is is in
     let valid = subst (λ (k : ℕ). IsAscendingBelow k set.members) many c.size_of-then-place-len.ensures.valid in
     replaced n c.args.names.now.items c.args.members.now.items c.args.sizes.now.items are c.in-Other.place set _ many valid
     (to_z-of_z w64 c.size_of-then-place-len.result fits ∙ c.size_of-then-place-len.ensures.size)
@@ -46,4 +46,4 @@ returns-else-place-len-clause-sets c =
     let place = c.in-Other.place in
     let outside : length ms < place + 1 = omega (arith, c.args.members.now.ok) in
     replaced_outside ns ms place c.in-Other.set.members outside
-    ∙ ap (with_taken (named ns ms)) (sym c.in-Other.is)
+    ∙ ap (with_update (named ns ms)) (sym c.in-Other.is)
