@@ -10,7 +10,7 @@ ghost use Rattle.plain_run.specs.Seen.{graph_of, state_of};
 use crate::entries::{copied, reduce_entry_at};
 use crate::evaluate::{entry_of, members_at};
 use crate::filter::filter_passes;
-use crate::function::{FunctionFrame, begin, new_work, run_steps, steps_at};
+use crate::function::{FunctionFrame, begin, new_frame, run_steps, steps_at};
 use crate::state::{EdgeList, InterpreterState};
 use algorithm_meaning::{Contribution, SetBinding, Writing};
 use std::alloc::{AllocError, Global};
@@ -81,10 +81,10 @@ fn run_for_edges(
     ensures after { OnOk result (after.new.items ≡ after_edges (steps_tree steps.now ∷ []) sets.now before.old.items (filter (flagged passing.now) edges.now) after.old.items) }
     ensures before { OnOk result (before.new.items ≡ before.old.items) }
 {
-    let mut work = new_work(alloc);
+    let mut frame = new_frame(alloc);
     'edges: for edge in edges {
         if passes(passing, *edge) {
-            run_for_edge(steps, sets, *edge, before, after, &mut work)?;
+            run_for_edge(steps, sets, *edge, before, after, &mut frame)?;
         }
     }
     Ok(())
@@ -111,14 +111,14 @@ fn run_for_edge(
     edge: (u32, u32),
     before: &mut Vec<Sequence<i64>>,
     after: &mut Vec<Sequence<i64>>,
-    work: &mut FunctionFrame,
+    frame: &mut FunctionFrame,
 ) -> Result<(), AllocError>
     ensures after { OnOk result (after.new.items ≡ with_given edge.1 (gives (steps_tree steps.now) sets.now before.old.items edge) after.old.items) }
     ensures before { OnOk result (before.new.items ≡ before.old.items) }
 {
-    begin(work, edge.0, edge.1);
-    run_steps(steps, Writing::Collected, sets, before, work)?;
-    put_given(&work.given, edge.1, after);
+    begin(frame, edge.0, edge.1);
+    run_steps(steps, Writing::Collected, sets, before, frame)?;
+    put_given(&frame.given, edge.1, after);
     Ok(())
 }
 
@@ -210,10 +210,10 @@ fn flags_of_filter(
     ensures flags { IfOk result (λ f. f.items ≡ map (result_of (steps_tree steps.now) sets.now vectors.old.items) (range_with_len 0 vertices)) }
     ensures vectors { OnOk result (vectors.new.items ≡ vectors.old.items) }
 {
-    let mut work = new_work(alloc);
+    let mut frame = new_frame(alloc);
     let mut flags = Vec::new(alloc);
     'vertices: for vertex in 0..vertices {
-        let flag = filter_passes(steps, sets, vertex, vectors, &mut work)?;
+        let flag = filter_passes(steps, sets, vertex, vectors, &mut frame)?;
         flags.push(flag)?;
     }
     Ok(flags)

@@ -5,7 +5,7 @@ ghost use Rattle.typed_tree.specs.StepTree.{function_tree, steps_tree};
 ghost use Rattle.algorithm_meaning.specs.Filter.{filtered, lets_through, result_of};
 
 use crate::evaluate::condition_at;
-use crate::function::{FunctionFrame, begin_filter, new_work, run_steps, steps_at};
+use crate::function::{FunctionFrame, begin_filter, new_frame, run_steps, steps_at};
 use algorithm_meaning::{SetBinding, Writing};
 use std::alloc::{AllocError, Global};
 use typed_tree::{Function, FunctionStatement, Sequence};
@@ -23,10 +23,10 @@ pub(crate) fn filter_members(
     ensures vectors { OnOk result (vectors.new.items ≡ vectors.old.items) }
 {
     let steps = steps_at(filters, function);
-    let mut work = new_work(alloc);
+    let mut frame = new_frame(alloc);
     let mut kept = Vec::new(alloc);
     'vertices: for vertex in vertices {
-        if filter_passes(steps, sets, *vertex, vectors, &mut work)? {
+        if filter_passes(steps, sets, *vertex, vectors, &mut frame)? {
             kept.push(*vertex)?;
         }
     }
@@ -39,12 +39,12 @@ pub(crate) fn filter_passes(
     sets: &[SetBinding],
     vertex: u32,
     vectors: &mut Vec<Sequence<i64>>,
-    work: &mut FunctionFrame,
+    frame: &mut FunctionFrame,
 ) -> Result<bool, AllocError>
     ensures passes { IfOk result (λ b. b ≡ result_of (steps_tree steps.now) sets.now vectors.old.items vertex) }
     ensures vectors { OnOk result (vectors.new.items ≡ vectors.old.items) }
 {
-    begin_filter(work, vertex)?;
-    run_steps(steps, Writing::Collected, sets, vectors, work)?;
-    Ok(condition_at(&work.scope, 0))
+    begin_filter(frame, vertex)?;
+    run_steps(steps, Writing::Collected, sets, vectors, frame)?;
+    Ok(condition_at(&frame.scope, 0))
 }

@@ -5,7 +5,7 @@ ghost use Rattle.plain_run.specs.Seen.{state_of};
 ghost use Rattle.algorithm_meaning.specs.VertexApply.{after_apply_vertex, after_vertex, after_vertices};
 
 use crate::evaluate::members_at;
-use crate::function::{FunctionFrame, begin, new_work, run_steps, steps_at};
+use crate::function::{FunctionFrame, begin, new_frame, run_steps, steps_at};
 use crate::state::InterpreterState;
 use algorithm_meaning::{SetBinding, Writing};
 use std::alloc::{AllocError, Global};
@@ -37,9 +37,9 @@ fn run_for_vertices(
 ) -> Result<(), AllocError>
     ensures { OnOk result (vectors.new.items ≡ after_vertices (steps_tree steps.now) sets.now vertices.now vectors.old.items) }
 {
-    let mut work = new_work(alloc);
+    let mut frame = new_frame(alloc);
     'vertices: for vertex in vertices {
-        run_for_vertex(steps, sets, *vertex, vectors, &mut work)?;
+        run_for_vertex(steps, sets, *vertex, vectors, &mut frame)?;
     }
     Ok(())
 }
@@ -49,11 +49,11 @@ fn run_for_vertex(
     sets: &[SetBinding],
     vertex: u32,
     vectors: &mut Vec<Sequence<i64>>,
-    work: &mut FunctionFrame,
+    frame: &mut FunctionFrame,
 ) -> Result<(), AllocError>
     ensures { OnOk result (vectors.new.items ≡ after_vertex (steps_tree steps.now) sets.now vertex vectors.old.items) }
 {
-    begin(work, vertex, vertex);
-    run_steps(steps, Writing::AtOnce, sets, vectors, work)?;
+    begin(frame, vertex, vertex);
+    run_steps(steps, Writing::AtOnce, sets, vectors, frame)?;
     Ok(())
 }

@@ -12,7 +12,7 @@ use Rattle.algorithm_meaning.specs.declared.state.LoopCounter.{LoopCounter}
 use Rattle.algorithm_meaning.specs.declared.state.Depth.{Depth}
 use Rattle.plans.specs.Instruction.{OperationTree, Do, Unless, UnlessBelow, Turn, Jump, Advance, InstructionTree}
 use Rattle.plans.specs.Fusing.{Company, Alone, WithNext, WithPrevious, company_of, takes_next}
-use Rattle.plans.specs.Plan.{IsWithin, behind, behind_all, in_loop, plain, loop_step, chosen, size_in, plan_in, size, size_all, plan, plan_all}
+use Rattle.plans.specs.Plan.{behind, behind_all, in_loop, plain, loop_step, chosen, size_in, plan_in, size, size_all, plan, plan_all}
 use Rattle.plans.specs.Machine.{Configuration, At}
 use Rattle.plans.proofs.Depths.{within_loop, within_behind_all, within_both, forgotten-all}
 use Rattle.plans.proofs.Proper.{IsProper, HasNoBlock}

@@ -17,4 +17,4 @@ returns-clause-after c =
 pub returns-clause-before : goal.returns-clause-before
 returns-clause-before c =
     ap (λ (w : WorkValue). w.vectors) c.in_ok-run_steps.ensures
-    ∙ collected_steps c.args.sets.now (steps_tree c.args.steps.now) (work_of c.args.before.now.items c.begin.new.work)
+    ∙ collected_steps c.args.sets.now (steps_tree c.args.steps.now) (work_of c.args.before.now.items c.begin.new.frame)

@@ -15,4 +15,4 @@ returns-clause-passes c =
 pub returns-clause-vectors : goal.returns-clause-vectors
 returns-clause-vectors c =
     ap (λ (w : WorkValue). w.vectors) c.in_ok-run_steps.ensures
-    ∙ collected_steps c.args.sets.now (steps_tree c.args.steps.now) (work_of c.args.vectors.now.items c.begin_filter.new.work)
+    ∙ collected_steps c.args.sets.now (steps_tree c.args.steps.now) (work_of c.args.vectors.now.items c.begin_filter.new.frame)
