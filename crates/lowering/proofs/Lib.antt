@@ -5,5 +5,4 @@ pub mod Within
 pub mod Putting
 pub mod PlanLines
 pub mod Statements
-pub mod Rows
 pub mod SetsRead

@@ -3,5 +3,4 @@ pub mod Kinds
 pub mod Text
 pub mod Targets
 pub mod Putting
-pub mod Omitting
-pub mod Rows
+pub mod Listed

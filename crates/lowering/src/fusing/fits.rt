@@ -1,18 +1,17 @@
 //! Whether two applies fit.
-ghost use Rattle.std.specs.Prelude.{◌≡◌, map, IfOk};
+ghost use Rattle.std.specs.Prelude.{◌≡◌, [], ◌∷◌, map, IfOk};
 ghost use Rattle.typed_tree.specs.ProgramTree.{program_tree};
 ghost use Rattle.typed_tree.specs.StepTree.{function_tree};
 ghost use Rattle.typed_tree.specs.Access.{are_apart, function_writes};
 ghost use Rattle.plans.specs.Fusing.{apply_tree, edges_fit as fit_edges, is_same_end as same_end, result_places, result_vectors, sets_read, vertices_fit as fit_vertices};
-ghost use Rattle.lowering.specs.Omitting.{edges_omit, listed};
+ghost use Rattle.lowering.specs.Listed.{listed};
 ghost use Rattle.plans.specs.Parts.{edge_apply_tree, result_tree, vertex_apply_tree};
 
-use crate::fusing::local::function_is_local;
-use crate::fusing::sizes::{end_does_omit, function_does_omit};
+use crate::fusing::accesses::{end_does_omit, function_does_omit, function_is_local};
 use plans::{Depth, EdgeApply, PartResult, VertexApply};
-use schedule::{are_independent, push_written};
+use schedule::are_independent;
 use std::alloc::{AllocError, Global};
-use typed_tree::{Function, StatementApply, Typed, VertexFilter};
+use typed_tree::{Function, StatementApply, Typed, VertexFilter, push_written};
 
 /// Whether the second of two edge applies gives the same behind the first as beside it: they have the same ends, they
 /// are independent, the second depends on no set that the first changes, and neither is asked for a vector that the
@@ -95,7 +94,7 @@ fn is_apart(program: &Typed, edges: &EdgeApply, set: Option<usize>) -> bool
 }
 
 fn edges_do_omit(program: &Typed, edges: &EdgeApply, set: usize) -> bool
-    ensures { result ≡ edges_omit set (program_tree program.now) (edge_apply_tree edges.now) }
+    ensures { result ≡ are_apart (sets_read (program_tree program.now) (edge_apply_tree edges.now)) (set ∷ []) }
 {
     end_does_omit(&program.filters, edges.ends.from, set)
         && end_does_omit(&program.filters, edges.ends.to, set)
