@@ -9,6 +9,7 @@ use Rattle.typed_tree.specs.Fold.{all_pass, end_fold, function_fold}
 use Rattle.typed_tree.specs.ProgramTree.{ProgramTree}
 use Rattle.typed_tree.proofs.Gathered.{end_gathered, function_gathered}
 use Rattle.plans.specs.Fusing.{EdgeApplyTree, end_sets, function_sizes, set_of, sets_read}
+use Rattle.lowering.specs.Omitting.{edges_omit}
 
 -- nothing is apart from no set but in the end
 pub apart_of_none : (xs : List ℕ) → true ≡ are_apart xs []
@@ -35,7 +36,5 @@ three sets xs ys zs =
     ∙ sym (list_all-append (λ v. is_none_of v sets) xs (ys ++ zs))
 
 -- an edge apply
-pub edges_are_apart : (sets : List ℕ) (p : ProgramTree) (x : EdgeApplyTree)
-    → (are_apart (end_sets p.filters x.ends.from) sets && are_apart (end_sets p.filters x.ends.to) sets) && are_apart (function_sizes p.edge_functions x.part.function) sets
-    ≡ are_apart (sets_read p x) sets
-edges_are_apart sets p x = three sets (end_sets p.filters x.ends.from) (end_sets p.filters x.ends.to) (function_sizes p.edge_functions x.part.function)
+pub edges_are_apart : (set : ℕ) (p : ProgramTree) (x : EdgeApplyTree) → edges_omit set p x ≡ are_apart (sets_read p x) (set ∷ [])
+edges_are_apart set p x = three (set ∷ []) (end_sets p.filters x.ends.from) (end_sets p.filters x.ends.to) (function_sizes p.edge_functions x.part.function)

@@ -3,4 +3,4 @@ pub mod Kinds
 pub mod Text
 pub mod Targets
 pub mod Putting
-pub mod Listed
+pub mod Omitting

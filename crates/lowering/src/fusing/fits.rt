@@ -1,10 +1,10 @@
 //! Whether two applies fit.
-ghost use Rattle.std.specs.Prelude.{◌≡◌, [], ◌∷◌, map, IfOk};
+ghost use Rattle.std.specs.Prelude.{◌≡◌, map, IfOk};
 ghost use Rattle.typed_tree.specs.ProgramTree.{program_tree};
 ghost use Rattle.typed_tree.specs.StepTree.{function_tree};
 ghost use Rattle.typed_tree.specs.Access.{are_apart, function_writes};
 ghost use Rattle.plans.specs.Fusing.{apply_tree, edges_fit as fit_edges, is_same_end as same_end, result_places, result_vectors, sets_read, vertices_fit as fit_vertices};
-ghost use Rattle.lowering.specs.Listed.{listed};
+ghost use Rattle.lowering.specs.Omitting.{edges_omit, listed};
 ghost use Rattle.plans.specs.Parts.{edge_apply_tree, result_tree, vertex_apply_tree};
 
 use crate::fusing::accesses::{end_does_omit, function_does_omit, function_is_local};
@@ -94,7 +94,7 @@ fn is_apart(program: &Typed, edges: &EdgeApply, set: Option<usize>) -> bool
 }
 
 fn edges_do_omit(program: &Typed, edges: &EdgeApply, set: usize) -> bool
-    ensures { result ≡ are_apart (sets_read (program_tree program.now) (edge_apply_tree edges.now)) (set ∷ []) }
+    ensures { result ≡ edges_omit set (program_tree program.now) (edge_apply_tree edges.now) }
 {
     end_does_omit(&program.filters, edges.ends.from, set)
         && end_does_omit(&program.filters, edges.ends.to, set)
