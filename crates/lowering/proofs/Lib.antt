@@ -4,5 +4,4 @@ pub mod Modified
 pub mod Putting
 pub mod PlanLines
 pub mod Statements
-pub mod Rows
 pub mod SetsRead

@@ -4,4 +4,3 @@ pub mod Text
 pub mod Targets
 pub mod Putting
 pub mod Omitting
-pub mod Rows

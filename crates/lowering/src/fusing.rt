@@ -8,11 +8,10 @@
 //! The time is in proportion to the two functions and the filters of the ends, and for two edge applies to the product of
 //! what the one writes and the other reads.
 
+mod accesses;
 mod applies;
 mod fits;
-mod local;
 mod pair;
-mod sizes;
 
 pub(crate) use applies::edge_apply_of;
 pub(crate) use pair::pair_at;

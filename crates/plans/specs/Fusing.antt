@@ -1,16 +1,16 @@
 -- Two applies that are done together.
-use Rattle.std.specs.Prelude.{ℕ, nat_eq, Bool, true, false, ◌&&◌, List, [], ◌∷◌, ◌++◌, if◌then◌else◌, Option, Some, None, slice_get}
+use Rattle.std.specs.Prelude.{ℕ, nat_eq, Bool, true, false, ◌&&◌, List, [], ◌∷◌, ◌++◌, if◌then◌else◌, Option, Some, None}
+use Rattle.typed_tree.specs.declared.accesses.Access.{Access}
+use Rattle.typed_tree.specs.declared.accesses.Access.TheVariants.{ReadAtVertex, ReadAtIndex, ReadSet, Write}
 use Rattle.typed_tree.specs.declared.expression.VarRef.{VarRef}
 use Rattle.typed_tree.specs.declared.statement.VertexFilter.{VertexFilter}
 use Rattle.typed_tree.specs.declared.statement.VertexFilter.TheVariants as end
 use Rattle.typed_tree.specs.declared.statement.ApplyEnds.{ApplyEnds}
 use Rattle.typed_tree.specs.declared.statement.SetValue.{SetValue}
 use Rattle.typed_tree.specs.declared.statement.SetValue.TheVariants as set
-use Rattle.typed_tree.specs.IntegerTree as integer
 use Rattle.typed_tree.specs.IntegerTree.{IntegerTree}
-use Rattle.typed_tree.specs.ConditionTree as condition
 use Rattle.typed_tree.specs.ConditionTree.{ConditionTree}
-use Rattle.typed_tree.specs.StepTree.{FunctionTree, StepTree, StepsTree, DeclareInteger, DeclareCondition, SetInteger, SetCondition, ReduceInteger, SetEntry, ReduceEntry, If, IfElse, NoStep, StepThen}
+use Rattle.typed_tree.specs.StepTree.{FunctionTree, StepTree, StepsTree}
 use Rattle.typed_tree.specs.BlockTree as block
 use Rattle.typed_tree.specs.BlockTree.{ActionTree, BlockTree, Empty, Then}
 use Rattle.typed_tree.specs.ProgramTree.{ProgramTree}
@@ -20,6 +20,7 @@ use Rattle.apply_options.specs.declared.apply_schedule.Fused.TheVariants.{With, 
 use Rattle.typed_tree.specs.declared.apply.StatementApply.{StatementApply}
 use Rattle.typed_tree.specs.declared.apply.StatementApply.TheVariants.{Edges}
 use Rattle.typed_tree.specs.Access.{are_apart, function_writes}
+use Rattle.typed_tree.specs.Fold.{all_pass, condition_fold, end_fold, function_fold, gathered, integer_fold, step_fold, steps_fold, steps_fold_where}
 use Rattle.typed_tree.specs.Independence.{are_independent}
 use Rattle.apply_options.specs.ScheduleTree.{ScheduleTree, choice_at}
 use Rattle.plans.specs.Instruction.{ResultTree, Dropped, Declared, Assigned, EdgePartTree, OperationTree, ApplyEdgesTogether, ApplyVerticesTogether}
@@ -68,56 +69,37 @@ result_vectors Dropped = []
 result_vectors (Declared name vector) = vector ∷ []
 result_vectors (Assigned slot vector) = vector ∷ []
 
+-- the vertex set that an access reads
+abbrev pub set_of : Access → List ℕ
+set_of (ReadAtVertex vector) = []
+set_of (ReadAtIndex vector) = []
+set_of (ReadSet place) = place ∷ []
+set_of (Write vector) = []
+
 -- the vertex sets of which an expression reads the size
 abbrev pub integer_sizes : IntegerTree → List ℕ
-integer_sizes (integer.Number n) = []
-integer_sizes (integer.Constant name n) = []
-integer_sizes (integer.Variable slot) = []
-integer_sizes (integer.Parameter at) = []
-integer_sizes (integer.EntryAt vector at) = []
-integer_sizes (integer.Entry vector index) = integer_sizes index
-integer_sizes (integer.SetSize slot) = slot.place ∷ []
-integer_sizes (integer.Negative e) = integer_sizes e
-integer_sizes (integer.Arithmetic operator a b) = integer_sizes a ++ integer_sizes b
+integer_sizes e = integer_fold (gathered set_of) e
 
 abbrev pub condition_sizes : ConditionTree → List ℕ
-condition_sizes (condition.Literal b) = []
-condition_sizes (condition.Constant name b) = []
-condition_sizes (condition.Variable slot) = []
-condition_sizes (condition.Not c) = condition_sizes c
-condition_sizes (condition.Compare comparison a b) = integer_sizes a ++ integer_sizes b
-condition_sizes (condition.Connect connective a b) = condition_sizes a ++ condition_sizes b
+condition_sizes c = condition_fold (gathered set_of) c
 
-abbrev mutual
-  -- the same of statements of functions
-  pub step_sizes : StepTree → List ℕ
-  step_sizes (DeclareInteger name e) = integer_sizes e
-  step_sizes (DeclareCondition name c) = condition_sizes c
-  step_sizes (SetInteger slot e) = integer_sizes e
-  step_sizes (SetCondition slot c) = condition_sizes c
-  step_sizes (ReduceInteger slot reduction e) = integer_sizes e
-  step_sizes (SetEntry vector e) = integer_sizes e
-  step_sizes (ReduceEntry vector reduction e) = integer_sizes e
-  step_sizes (If c body) = condition_sizes c ++ steps_sizes body
-  step_sizes (IfElse c body other) = condition_sizes c ++ (steps_sizes body ++ steps_sizes other)
+-- the same of statements of functions
+abbrev pub step_sizes : StepTree → List ℕ
+step_sizes step = step_fold (gathered set_of) step
 
-  pub steps_sizes : StepsTree → List ℕ
-  steps_sizes NoStep = []
-  steps_sizes (StepThen step rest) = step_sizes step ++ steps_sizes rest
+abbrev pub steps_sizes : StepsTree → List ℕ
+steps_sizes steps = steps_fold (gathered set_of) steps
 
--- the same of the function at a place; one that is not there does nothing
+-- the same of the function at a place
 abbrev pub steps_sizes_where : Option FunctionTree → List ℕ
-steps_sizes_where None = []
-steps_sizes_where (Some f) = steps_sizes f.steps
+steps_sizes_where f = steps_fold_where (gathered set_of) f
 
 abbrev pub function_sizes : List FunctionTree → ℕ → List ℕ
-function_sizes functions place = steps_sizes_where (slice_get functions place)
+function_sizes functions place = function_fold (gathered set_of) functions place
 
 -- the vertex sets that an end of an edge apply depends on
 abbrev pub end_sets : List FunctionTree → Option VertexFilter → List ℕ
-end_sets filters None = []
-end_sets filters (Some (end.Members slot)) = slot.place ∷ []
-end_sets filters (Some (end.Function function)) = function_sizes filters function
+end_sets filters end = end_fold (gathered set_of) filters end
 
 -- the vertex sets that an edge apply depends on
 abbrev pub sets_read : ProgramTree → EdgeApplyTree → List ℕ
@@ -147,49 +129,32 @@ edges_fit p d x y =
     && (are_apart (result_vectors x.part.result) (function_writes p.edge_functions y.part.function)
     && are_apart (result_vectors y.part.result) (function_writes p.edge_functions x.part.function))))
 
--- an expression reads no entry at an index, and so none but those of the vertex that its function works on
+-- an access is to no entry at an index, and so to none but those of the vertex that its function works on
+abbrev pub is_local : Access → Bool
+is_local (ReadAtVertex vector) = true
+is_local (ReadAtIndex vector) = false
+is_local (ReadSet place) = true
+is_local (Write vector) = true
+
+-- so are all those of an expression
 abbrev pub integer_is_local : IntegerTree → Bool
-integer_is_local (integer.Number n) = true
-integer_is_local (integer.Constant name n) = true
-integer_is_local (integer.Variable slot) = true
-integer_is_local (integer.Parameter at) = true
-integer_is_local (integer.EntryAt vector at) = true
-integer_is_local (integer.Entry vector index) = false
-integer_is_local (integer.SetSize slot) = true
-integer_is_local (integer.Negative e) = integer_is_local e
-integer_is_local (integer.Arithmetic operator a b) = integer_is_local a && integer_is_local b
+integer_is_local e = integer_fold (all_pass is_local) e
 
 abbrev pub condition_is_local : ConditionTree → Bool
-condition_is_local (condition.Literal b) = true
-condition_is_local (condition.Constant name b) = true
-condition_is_local (condition.Variable slot) = true
-condition_is_local (condition.Not c) = condition_is_local c
-condition_is_local (condition.Compare comparison a b) = integer_is_local a && integer_is_local b
-condition_is_local (condition.Connect connective a b) = condition_is_local a && condition_is_local b
+condition_is_local c = condition_fold (all_pass is_local) c
 
-abbrev mutual
-  -- the same of statements of vertex functions
-  pub step_is_local : StepTree → Bool
-  step_is_local (DeclareInteger name e) = integer_is_local e
-  step_is_local (DeclareCondition name c) = condition_is_local c
-  step_is_local (SetInteger slot e) = integer_is_local e
-  step_is_local (SetCondition slot c) = condition_is_local c
-  step_is_local (ReduceInteger slot reduction e) = integer_is_local e
-  step_is_local (SetEntry vector e) = integer_is_local e
-  step_is_local (ReduceEntry vector reduction e) = integer_is_local e
-  step_is_local (If c body) = condition_is_local c && steps_are_local body
-  step_is_local (IfElse c body other) = condition_is_local c && (steps_are_local body && steps_are_local other)
+-- the same of statements of vertex functions
+abbrev pub step_is_local : StepTree → Bool
+step_is_local step = step_fold (all_pass is_local) step
 
-  pub steps_are_local : StepsTree → Bool
-  steps_are_local NoStep = true
-  steps_are_local (StepThen step rest) = step_is_local step && steps_are_local rest
+abbrev pub steps_are_local : StepsTree → Bool
+steps_are_local steps = steps_fold (all_pass is_local) steps
 
 abbrev pub steps_are_local_where : Option FunctionTree → Bool
-steps_are_local_where None = true
-steps_are_local_where (Some f) = steps_are_local f.steps
+steps_are_local_where f = steps_fold_where (all_pass is_local) f
 
 abbrev pub function_is_local : List FunctionTree → ℕ → Bool
-function_is_local functions place = steps_are_local_where (slice_get functions place)
+function_is_local functions place = function_fold (all_pass is_local) functions place
 
 -- two vertex applies to the same set, of functions that work on their own vertex alone
 abbrev pub vertices_fit : ProgramTree → VertexApplyTree → VertexApplyTree → Bool

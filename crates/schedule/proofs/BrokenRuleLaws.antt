@@ -1,6 +1,6 @@
 -- A call that is accepted breaks no rule, and one that is not is told by the least rule that it breaks.
 use Rattle.std.proofs.Common.{◌≡◌, ◌⊎◌, ◌<◌, ◌≤◌, ◌↔◌, inl, inr, refl, sym, ap, subst, ◌∙◌, arith, lit≤, ℕ, nat_eq, nat_lt, Bool, true, false, not, ◌||◌, if◌then◌else◌, length, List, [], ◌∷◌, ◌++◌, Option, Some, None, Result, Ok, Err}
-use Rattle.std.specs.Prelude.{IsOk, IsSome, IsTrue}
+use Rattle.std.specs.Prelude.{IsOk, IsSome}
 use Rattle.std.specs.Cmp.{nat_eq_equiv}
 use Rattle.std.specs.List.{concat, Contains, list_any}
 use Rattle.std.proofs.lemmas.Bool.Decides.{nat_tests}
@@ -8,7 +8,6 @@ use Rattle.std.proofs.lemmas.List.{append_assoc, append-nil}
 use Rattle.std.proofs.lemmas.List.Elements.{Contains-append_left, Contains-push, Contains-push_cases}
 use Rattle.std.proofs.lemmas.Map.Views.{Contains-from_any, list_any-from_Contains}
 use Rattle.apply_options.specs.declared.apply_schedule.ApplySchedule.{ApplySchedule}
-use Rattle.apply_options.specs.declared.apply_schedule.Fused.TheVariants.{With, Into}
 use Rattle.apply_options.specs.declared.setting.Setting.{Setting}
 use Rattle.apply_options.specs.declared.setting.Setting.TheVariants as setting
 use Rattle.apply_options.specs.ScheduleTree.{ScheduleTree, choice_of}
@@ -19,10 +18,10 @@ use Rattle.typed_tree.specs.ProgramTree.{ProgramTree, ScheduleCallTree}
 use Rattle.schedule.specs.declared.error.ScheduleRule.{ScheduleRule}
 use Rattle.schedule.specs.declared.error.ScheduleRule.TheVariants as rule
 use Rattle.schedule.specs.BrokenRules.{AppliesNoEdges, BreakNoRule, BreaksConfigRule, BreaksFields, BreaksFieldsRule, BreaksFuseRule, BreaksRule, BreaksRuleOf, HasNoVector, HasValueOf, InGroup, IsFusedTwice, IsLeastBroken, IsNoValue, IsRefused, NamedTwice, NamesOneTwice, NamesVector, NoVector, OnApplies, OnLabel, OnLabels, TooFew, WithTwo}
-use Rattle.schedule.specs.Calls.{after_call, and_then, apply_at, first_given, fuse_at, fuse_or, fusing_fault_of, fusing_of_two, given, grown, grown_by, is_followed_by, schedule_of, two_of, value_at, value_of_two, value_on, with_call, with_call_of, with_calls, with_fields, with_group}
+use Rattle.schedule.specs.Calls.{after_call, and_then, apply_at, first_given, fuse_at, fuse_or, fusing_fault_of, fusing_of_two, given, grown, grown_by, is_followed_by, schedule_of, two_of, value_at, value_of_two, value_on, with_call, with_call_of, with_calls, with_group}
 use Rattle.schedule.specs.Names.{label_place, vector_place}
 use Rattle.schedule.specs.Refusal.{number_of_rule}
-use Rattle.schedule.specs.Schedule.{empty_schedule, is_fused, with_choice, with_fused, with_one_group}
+use Rattle.schedule.specs.Schedule.{empty_schedule, is_fused, with_choice}
 use Rattle.schedule.specs.Values.{dense_vertex_set_of, direction_of, parallelization_of}
 use Rattle.schedule.proofs.CallSteps.{ok_is}
 

@@ -1,6 +1,5 @@
 pub mod BrokenRuleLaws
 pub mod CallSteps
-pub mod Chains
 pub mod Choices
 pub mod Defaults
 pub mod FusedOnce

@@ -1,7 +1,5 @@
-pub mod Avoiding
 pub mod BrokenRules
 pub mod Calls
-pub mod Chain
 pub mod Laws
 pub mod Names
 pub mod Putting

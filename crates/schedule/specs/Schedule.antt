@@ -1,9 +1,9 @@
 -- Accepted schedules: the choices of labels, and the groups of vectors.
-use Rattle.std.specs.Prelude.{ℕ, Bool, is_some, List, [], ◌∷◌, ◌++◌, nat_eq, Option, Some, None}
+use Rattle.std.specs.Prelude.{ℕ, Bool, is_some, List, [], ◌∷◌, ◌++◌, nat_eq}
 use Rattle.indexmap.specs.IndexMap.{insert_entry}
 use Rattle.apply_options.specs.declared.apply_schedule.ApplySchedule.{ApplySchedule}
 use Rattle.apply_options.specs.declared.apply_schedule.Fused.{Fused}
-use Rattle.apply_options.specs.ScheduleTree.{ScheduleTree, choice_at, choice_of, fused_as, no_choice}
+use Rattle.apply_options.specs.ScheduleTree.{ScheduleTree, choice_of, fused_as}
 
 abbrev pub with_choice : ℕ → ApplySchedule → ScheduleTree → ScheduleTree
 with_choice label c s = record { choices = insert_entry nat_eq s.choices label c; groups = s.groups }

@@ -3,10 +3,10 @@ ghost use Rattle.std.specs.Prelude.{◌≡◌, IfOk};
 ghost use Rattle.typed_tree.specs.ProgramTree.{program_tree};
 ghost use Rattle.typed_tree.specs.Independence.{are_independent as independent, are_same as same_name, are_same_ends as same_ends, have_same_sets as same_sets, is_end};
 
-use crate::access::{end_does_avoid, function_does_avoid, push_written};
+use crate::access::{end_does_avoid, function_does_avoid};
 use crate::names::name_at;
 use std::alloc::{AllocError, Global};
-use typed_tree::{ApplyEnds, Name, StatementApply, Typed, VertexFilter};
+use typed_tree::{ApplyEnds, Name, StatementApply, Typed, VertexFilter, push_written};
 
 /// Whether both apply to vertices or both to edges, of the same sets and filters.
 pub(crate) fn have_same_sets(names: &[Name], first: StatementApply, second: StatementApply) -> bool
@@ -45,7 +45,6 @@ fn are_same_ends(names: &[Name], first: Option<VertexFilter>, second: Option<Ver
 /// Whether two applies that have the same sets are independent: the second edge function neither reads nor writes, and
 /// no filter of its ends reads, a vector that the first writes, and its ends do not name the set that the first gives.
 /// Two vertex applies always are. The only error is out of memory.
-#[tactic(auto, using(crate::proofs::Uses::function_is_apart, crate::proofs::Uses::end_is_apart))]
 pub fn are_independent(
     alloc: Global,
     program: &Typed,

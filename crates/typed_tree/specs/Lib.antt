@@ -4,5 +4,6 @@ pub mod StepTree
 pub mod BlockTree
 pub mod ProgramTree
 pub mod Resolved
+pub mod Fold
 pub mod Access
 pub mod Independence

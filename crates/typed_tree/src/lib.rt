@@ -15,12 +15,18 @@
 //! `specs/Resolved.antt` says what it is for each place in a program to be that of something that is there, and for
 //! entries at an index to stand in `main` alone (`IsResolved`). The checker's programs are so by a law of `types`.
 //!
+//! What functions read and write besides their own variables is found by one walk over their trees. `specs/Fold.antt`
+//! says what it gives for each kind of tree, and the definitions of what functions use, of whatever crate, are cases of
+//! it; `specs/Access.antt` has those of vectors. In code [`function_passes`] and [`end_passes`] put each access to an
+//! [`AccessTest`], and [`push_written`] collects what is written.
+//!
 //! The trees have their `Drop` by hand. A derived one would be written out, and proved again, in each
 //! function of each crate where a tree ends.
 //!
 //! The checker, which makes these trees, the meaning of programs and the schedule stand on this crate.
 #![tactic(auto)]
 
+mod accesses;
 mod apply;
 mod expression;
 mod function;
@@ -28,6 +34,7 @@ mod program;
 mod sequence;
 mod statement;
 
+pub use accesses::{Access, AccessTest, end_passes, function_passes, push_written};
 pub use apply::StatementApply;
 pub use expression::{
     BoolExpression, ComparisonOperator, Connective, Endpoint, IntExpression, Operand, Operator,

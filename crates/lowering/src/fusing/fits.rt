@@ -7,13 +7,12 @@ ghost use Rattle.plans.specs.Fusing.{apply_tree, edges_fit as fit_edges, is_same
 ghost use Rattle.lowering.specs.Omitting.{edges_omit, listed};
 ghost use Rattle.plans.specs.Parts.{edge_apply_tree, result_tree, vertex_apply_tree};
 
-use crate::fusing::local::function_is_local;
-use crate::fusing::sizes::{end_does_omit, function_does_omit};
+use crate::fusing::accesses::{end_does_omit, function_does_omit, function_is_local};
 use algorithm_meaning::Depth;
 use plans::{EdgeApply, PartResult, VertexApply};
-use schedule::{are_independent, push_written};
+use schedule::are_independent;
 use std::alloc::{AllocError, Global};
-use typed_tree::{Function, StatementApply, Typed, VertexFilter};
+use typed_tree::{Function, StatementApply, Typed, VertexFilter, push_written};
 
 /// Whether the second of two edge applies gives the same behind the first as beside it: they have the same ends, they
 /// are independent, the second depends on no set that the first changes, and neither is asked for a vector that the

@@ -1,0 +1,7 @@
+use Rattle.std.proofs.Common.{◌∙◌, map, [], ◌∷◌}
+use Rattle.typed_tree.specs.StepTree.{function_tree}
+use Rattle.lowering.proofs.SetsRead.{function_is_apart}
+use Rattle.lowering.proofs.fusing.accesses.function_does_omit.Goals as goal
+
+pub returns : goal.returns
+returns c = c.function_passes.ensures ∙ function_is_apart (c.args.set ∷ []) (map function_tree c.args.functions.now) c.args.place
