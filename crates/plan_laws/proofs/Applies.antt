@@ -3,6 +3,7 @@ use Rattle.std.proofs.Common.{◌≡◌, refl, ap, sym, subst, ◌∙◌, inl, i
 use Rattle.std.specs.Prelude.{slice_get}
 use Rattle.std.specs.List.{Contains}
 use Rattle.std.proofs.lemmas.Option.{none-some, same_Some}
+use Rattle.typed_tree.specs.declared.expression.VarRef.{VarRef}
 use Rattle.typed_tree.specs.declared.statement.ApplyEnds.{ApplyEnds}
 use Rattle.typed_tree.specs.declared.statement.SetValue.{SetValue}
 use Rattle.typed_tree.specs.declared.statement.SetValue.TheVariants as set
@@ -34,7 +35,6 @@ end_stays a names (Some (filter.Members slot)) visible = stays_visible a names s
 end_stays a names (Some (filter.Function place)) visible = tt
 
 value_stays : (a : ActionTree) (names : SetNames) (value : SetValue) → ValueIsVisible names value → ValueIsVisible (names_behind a names) value
-value_stays a names (set.Copy slot) visible = stays_visible a names slot.place (Some slot.name) visible
 value_stays a names (set.Filter slot place) visible = stays_visible a names slot.place (Some slot.name) visible
 value_stays a names (set.Modified ends function vector) visible = (end_stays a names ends.from visible.0, end_stays a names ends.to visible.1)
 value_stays a names _ visible = tt
@@ -91,7 +91,7 @@ module _ (p : ProgramTree) where
       })
   declared_apply v names name _ x is resolved visible asks = absurd (none-some x is)
 
-  assigned_apply : (v : VisibleTree) (names : SetNames) (slot : _) (value : SetValue) (x : StatementApply) → modifying_as slot.name value ≡ Some x → ActionIsResolved p v (AssignSet slot value)
+  assigned_apply : (v : VisibleTree) (names : SetNames) (slot : VarRef) (value : SetValue) (x : StatementApply) → modifying_as slot.name value ≡ Some x → ActionIsResolved p v (AssignSet slot value)
       → SetsAreVisible p names (AssignSet slot value) → AsksForWritten p (AssignSet slot value) → IsApply v names (AssignSet slot value) x
   assigned_apply v names slot (set.Modified ends function vector) x is resolved visible asks =
       let part : EdgePartTree = record { function = function; result = Assigned slot vector } in

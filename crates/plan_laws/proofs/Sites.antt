@@ -139,21 +139,20 @@ has_above n [] label apply order has = absurd has
 has_above n (x ∷ xs) label apply order (inl here) = let a : x.0 ≡ n = order.0 in let b : x.0 ≡ label = here.0 in omega arith
 has_above n (x ∷ xs) label apply order (inr has) = let more : suc n ≤ label = has_above (suc n) xs label apply order.1 has in omega arith
 
-mutual
-  one_site : (n : ℕ) (xs : Sites) (label : ℕ) (apply : Option StatementApply) (site : Site) → InOrder n (keys xs) → lookup (nat_eq label) xs ≡ Some site → Has xs label apply → apply ≡ site.apply
-  one_site n [] label apply site order is has = absurd has
-  one_site n (x ∷ xs) label apply site order is has = by_test n x xs label apply site (nat_eq label x.0) refl order is has
+by_test : (n : ℕ) (x : ℕ × Site) (xs : Sites) (label : ℕ) (apply : Option StatementApply) (site : Site) (b : Bool) → nat_eq label x.0 ≡ b → InOrder n (keys (x ∷ xs))
+    → cond b (Some x.1) (lookup (nat_eq label) xs) ≡ Some site → Has (x ∷ xs) label apply → (lookup (nat_eq label) xs ≡ Some site → Has xs label apply → apply ≡ site.apply) → apply ≡ site.apply
+by_test n x xs label apply site true test order is (inl here) further = sym here.1 ∙ ap (λ (s : Site). s.apply) (same_Some x.1 site is)
+by_test n x xs label apply site true test order is (inr has) further =
+    let same : label ≡ x.0 = eqb-true label x.0 test in
+    let first : x.0 ≡ n = order.0 in
+    let more : suc n ≤ label = has_above (suc n) xs label apply order.1 has in
+    absurd (omega arith)
+by_test n x xs label apply site false test order is (inl here) further = absurd (eqb-false label x.0 test (sym here.0))
+by_test n x xs label apply site false test order is (inr has) further = further is has
 
-  by_test : (n : ℕ) (x : ℕ × Site) (xs : Sites) (label : ℕ) (apply : Option StatementApply) (site : Site) (b : Bool) → nat_eq label x.0 ≡ b → InOrder n (keys (x ∷ xs))
-      → cond b (Some x.1) (lookup (nat_eq label) xs) ≡ Some site → Has (x ∷ xs) label apply → apply ≡ site.apply
-  by_test n x xs label apply site true test order is (inl here) = sym here.1 ∙ ap (λ (s : Site). s.apply) (same_Some x.1 site is)
-  by_test n x xs label apply site true test order is (inr has) =
-      let same : label ≡ x.0 = eqb-true label x.0 test in
-      let first : x.0 ≡ n = order.0 in
-      let more : suc n ≤ label = has_above (suc n) xs label apply order.1 has in
-      absurd (omega arith)
-  by_test n x xs label apply site false test order is (inl here) = absurd (eqb-false label x.0 test (sym here.0))
-  by_test n x xs label apply site false test order is (inr has) = one_site (suc n) xs label apply site order.1 is has
+one_site : (n : ℕ) (xs : Sites) (label : ℕ) (apply : Option StatementApply) (site : Site) → InOrder n (keys xs) → lookup (nat_eq label) xs ≡ Some site → Has xs label apply → apply ≡ site.apply
+one_site n [] label apply site order is has = absurd has
+one_site n (x ∷ xs) label apply site order is has = by_test n x xs label apply site (nat_eq label x.0) refl order is has (one_site (suc n) xs label apply site order.1)
 
 own_keys : (label : Option ℕ) (action : ActionTree) (rest : BlockTree) → keys (site_at label action rest) ≡ own_place label
 own_keys None action rest = refl
