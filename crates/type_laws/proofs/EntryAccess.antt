@@ -315,7 +315,7 @@ user_body At i names own user among last = record {
 }
 
 -- the names of the vertices of a function
-abbrev named : (src dst : List ℕ) → Vertices
+abbrev pub named : (src dst : List ℕ) → Vertices
 named src dst endpoint.Source name = name ≡ src
 named src dst endpoint.Destination name = name ≡ dst
 
@@ -340,7 +340,7 @@ destination_alone src dst endpoint.Destination name is there = first_of_names na
 vertex_body : (i : Inside) (v : List ℕ) → IsUser i → Body (named v v) i (IsNameAmong (v ∷ [])) (IsNameAmong (v ∷ []))
 vertex_body i v user = user_body (named v v) i (v ∷ []) v user (one_vertex v) (λ p name own there. one_vertex v p name there)
 
-edge_body : (src dst : List ℕ) → Body (named src dst) inside.EdgeFunction (IsNameAmong (src ∷ dst ∷ [])) (IsNameAmong (dst ∷ []))
+pub edge_body : (src dst : List ℕ) → Body (named src dst) inside.EdgeFunction (IsNameAmong (src ∷ dst ∷ [])) (IsNameAmong (dst ∷ []))
 edge_body src dst = user_body (named src dst) inside.EdgeFunction (src ∷ dst ∷ []) dst tt (two_vertices src dst) (destination_alone src dst)
 
 -- functions

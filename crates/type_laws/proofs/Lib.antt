@@ -1,6 +1,7 @@
 pub mod Booleans
 pub mod ClearValues
 pub mod EachDeclaration
+pub mod EdgeAdds
 pub mod EntryAccess
 pub mod EntryReads
 pub mod Faultless
@@ -18,6 +19,10 @@ pub mod KnownDeclarations
 pub mod KnownScopes
 pub mod LabelLaws
 pub mod MainFunction
+pub mod MainLabels
+pub mod NamedPrograms
+pub mod NamedSets
+pub mod NamesGrow
 pub mod NewNames
 pub mod Numbers
 pub mod Outcomes

@@ -576,7 +576,7 @@ function_sets d at name parameters result body VertexKind = refl
 function_sets d at name parameters result body FilterKind = refl
 function_sets d at name parameters result body NoKind = refl
 
-sets_counted : (d : DeclaredTree) (xs : List DeclarationTree) → length (declarations_typed d xs).value.sets ≡ length d.sets + set_count xs
+pub sets_counted : (d : DeclaredTree) (xs : List DeclarationTree) → length (declarations_typed d xs).value.sets ≡ length d.sets + set_count xs
 sets_counted d [] = omega arith
 sets_counted d (source.Constant at x initial ∷ others) =
     sets_counted (declaration_typed d (source.Constant at x initial)).value others

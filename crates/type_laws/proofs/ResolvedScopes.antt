@@ -78,7 +78,7 @@ abbrev pub Within : ProgramTree → CheckerTree → Type 0
 Within p c = (length c.names ≤ length p.names) × (length c.label_names ≤ length p.labels)
 
 -- a declaration
-declared_over_is : (o : Option Entity) (name : Identifier) (e : Entity) (scope : ScopeTree) → (declared_over o name e scope).faults ≡ []
+pub declared_over_is : (o : Option Entity) (name : Identifier) (e : Entity) (scope : ScopeTree) → (declared_over o name e scope).faults ≡ []
     → (declared_over o name e scope).value ≡ with_entity name.bytes e scope
 declared_over_is None name e scope none = refl
 declared_over_is (Some old) name e scope none = absurd (not_empty _ _ none)

@@ -1,7 +1,10 @@
+pub mod AskedVectors
+pub mod EachStatement
 pub mod EntryAccess
 pub mod ExpressionTypes
 pub mod InitialValues
 pub mod KeptRules
+pub mod LabelPlaces
 pub mod Labels
 pub mod MainFunction
 pub mod Meanings
@@ -10,4 +13,5 @@ pub mod Numbers
 pub mod Prints
 pub mod ScopeMeanings
 pub mod UsedNames
+pub mod VisibleSets
 pub mod WellTyped

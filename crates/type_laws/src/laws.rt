@@ -12,17 +12,20 @@ ghost use Rattle.expression_types.specs.Least.{IsLeast};
 ghost use Rattle.expression_types.specs.ScopeTree.{ScopeTree};
 ghost use Rattle.type_laws.specs.ExpressionTypes.{ExpressionHas, ExpressionType};
 ghost use Rattle.type_laws.specs.ScopeMeanings.{AreMeant, meanings_of};
+ghost use Rattle.type_laws.specs.AskedVectors.{AskForWritten};
 ghost use Rattle.type_laws.specs.EntryAccess.{AccessesEntriesWell};
 ghost use Rattle.types.specs.Checker.{without_ends};
 ghost use Rattle.types.specs.Declaration.{main_bytes};
 ghost use Rattle.type_laws.specs.InitialValues.{DeclarationInitialsFit};
 ghost use Rattle.type_laws.specs.KeptRules.{KeepsRules};
+ghost use Rattle.type_laws.specs.LabelPlaces.{LabelsAreInOrder};
 ghost use Rattle.type_laws.specs.Labels.{labels_of};
 ghost use Rattle.type_laws.specs.MainFunction.{DeclaresMain, functions_named};
 ghost use Rattle.type_laws.specs.NewNames.{DeclarationsDeclareNew, edges_declared};
 ghost use Rattle.type_laws.specs.Numbers.{InOrder, numbers};
 ghost use Rattle.type_laws.specs.Prints.{PrintsInMainAlone};
 ghost use Rattle.type_laws.specs.UsedNames.{DeclarationsUseVisible};
+ghost use Rattle.type_laws.specs.VisibleSets.{NamesSetsApart};
 ghost use Rattle.type_laws.specs.WellTyped.{DeclarationFits};
 ghost use Rattle.types.specs.Program.{Checks, program_of};
 
@@ -61,10 +64,31 @@ pub fn checked_programs_are_resolved()
     ensures { (source : SourceTree) (length : ℕ) (program : ProgramTree) → Checks source length (Ok program) → IsResolved program }
 {}
 
+/// The law that at each statement of `main` the visible vertex sets have different names, and that each set which a
+/// statement changes, filters, applies a vertex function to or has as an end of an edge apply is visible by its name: so two
+/// references by the same name are to one set. A set that is changed is a variable.
+///
+/// Of the constant sets those that stand before `main` are visible. One behind it may have the name of a variable in it.
+pub fn checked_programs_name_visible_sets_apart()
+    ensures { (source : SourceTree) (length : ℕ) (program : ProgramTree) → Checks source length (Ok program) → NamesSetsApart program }
+{}
+
+/// The law that in a checked program a vertex set gets the vertices where an edge apply changed only such a vector as the
+/// edge function writes.
+pub fn checked_programs_ask_for_written_vectors()
+    ensures { (source : SourceTree) (length : ℕ) (program : ProgramTree) → Checks source length (Ok program) → AskForWritten program }
+{}
+
 /// The law that the statements of `main` are numbered from 1 in the order of the text, without a gap, a block before
 /// its body.
 pub fn statements_are_numbered_in_order()
     ensures { (source : SourceTree) (length : ℕ) → InOrder 1 (numbers (program_of source length).value.main) }
+{}
+
+/// The law that the labels of the statements of `main` are the places of labels that follow each other in the order of the
+/// text, without a gap: no two statements have the same one.
+pub fn labels_of_main_are_in_order()
+    ensures { (source : SourceTree) (length : ℕ) (program : ProgramTree) → Checks source length (Ok program) → LabelsAreInOrder program }
 {}
 
 /// The law that in a source with a program no function but `main` has a `print` in it, at any depth.

@@ -21,7 +21,9 @@
 //!
 //! In a checked program each place is that of something that is there (`checked_programs_are_resolved`, `IsResolved`
 //! of `typed_tree`), and the statements of `main` have the numbers 1, 2, 3 and so on
-//! (`statements_are_numbered_in_order`).
+//! (`statements_are_numbered_in_order`). Their labels are in order (`labels_of_main_are_in_order`), visible vertex sets have
+//! different names (`checked_programs_name_visible_sets_apart`), and a set that gets the vertices where an edge apply changed
+//! a vector asks for one that the edge function writes (`checked_programs_ask_for_written_vectors`).
 //!
 //! No crate of the program stands on this one, so that its proofs are off the way of a build.
 #![tactic(auto)]
@@ -29,11 +31,11 @@
 mod laws;
 
 pub use laws::{
-    checked_programs_are_resolved, checked_sources_access_own_entries,
+    checked_programs_are_resolved, checked_programs_ask_for_written_vectors, checked_programs_name_visible_sets_apart, checked_sources_access_own_entries,
     checked_sources_are_well_typed, checked_sources_declare_main,
     checked_sources_declare_new_names, checked_sources_have_distinct_labels,
     checked_sources_print_in_main_alone, checked_sources_use_visible_names,
-    expressions_have_types_where_they_have_no_fault, sources_have_a_program_or_a_fault,
+    expressions_have_types_where_they_have_no_fault, labels_of_main_are_in_order, sources_have_a_program_or_a_fault,
     sources_have_a_program_where_they_keep_the_rules, statements_are_numbered_in_order,
     told_faults_are_the_least,
 };

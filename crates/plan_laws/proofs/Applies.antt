@@ -1,0 +1,132 @@
+-- What is known of the applies of a checked program.
+use Rattle.std.proofs.Common.{◌≡◌, refl, ap, sym, subst, ◌∙◌, inl, inr, ◌⊎◌, ℕ, ◌≤◌, List, [], ◌∷◌, ◌++◌, length, arith, Option, Some, None}
+use Rattle.std.specs.Prelude.{slice_get}
+use Rattle.std.specs.List.{Contains}
+use Rattle.std.proofs.lemmas.Option.{none-some, same_Some}
+use Rattle.typed_tree.specs.declared.expression.VarRef.{VarRef}
+use Rattle.typed_tree.specs.declared.statement.ApplyEnds.{ApplyEnds}
+use Rattle.typed_tree.specs.declared.statement.SetValue.{SetValue}
+use Rattle.typed_tree.specs.declared.statement.SetValue.TheVariants as set
+use Rattle.typed_tree.specs.declared.statement.VertexFilter.{VertexFilter}
+use Rattle.typed_tree.specs.declared.statement.VertexFilter.TheVariants as filter
+use Rattle.typed_tree.specs.declared.apply.StatementApply.{StatementApply}
+use Rattle.typed_tree.specs.declared.apply.StatementApply.TheVariants.{Vertices, Edges}
+use Rattle.typed_tree.specs.Access.{function_writes}
+use Rattle.typed_tree.specs.BlockTree.{ActionTree, DeclareSet, AssignSet, ApplyVertex, ApplyEdges}
+use Rattle.typed_tree.specs.ProgramTree.{ProgramTree}
+use Rattle.typed_tree.specs.Resolved.{VisibleTree, ActionIsResolved, EndsAreResolved, behind_action}
+use Rattle.schedule.specs.Sites.{apply_of, modifying_as}
+use Rattle.plans.specs.declared.depth.Depth.{Depth}
+use Rattle.plans.specs.Instruction.{ResultTree, Dropped, Declared, Assigned, EdgePartTree}
+use Rattle.plans.specs.Fusing.{EdgeApplyTree, VertexApplyTree, apply_tree, edge_apply_of, vertex_apply_of}
+use Rattle.type_laws.specs.AskedVectors.{AsksForWritten}
+use Rattle.type_laws.specs.EachStatement.{SetNames, names_behind}
+use Rattle.type_laws.specs.VisibleSets.{EndIsVisible, EndsAreVisible, IsVisible, SetsAreVisible, ValueIsVisible}
+use Rattle.type_laws.proofs.ResolvedScopes.{get_before, get_last}
+
+-- what is visible stays so behind a statement
+pub stays_visible : (a : ActionTree) (names : SetNames) (k : ℕ) (x : Option ℕ) → slice_get names k ≡ Some x → slice_get (names_behind a names) k ≡ Some x
+stays_visible (DeclareSet name value) names k x is = get_before names (Some name ∷ []) k x is
+stays_visible _ names k x is = is
+
+end_stays : (a : ActionTree) (names : SetNames) (end : Option VertexFilter) → EndIsVisible names end → EndIsVisible (names_behind a names) end
+end_stays a names None visible = tt
+end_stays a names (Some (filter.Members slot)) visible = stays_visible a names slot.place (Some slot.name) visible
+end_stays a names (Some (filter.Function place)) visible = tt
+
+value_stays : (a : ActionTree) (names : SetNames) (value : SetValue) → ValueIsVisible names value → ValueIsVisible (names_behind a names) value
+value_stays a names (set.Filter slot place) visible = stays_visible a names slot.place (Some slot.name) visible
+value_stays a names (set.Modified ends function vector) visible = (end_stays a names ends.from visible.0, end_stays a names ends.to visible.1)
+value_stays a names _ visible = tt
+
+-- what a statement speaks of is visible behind it too
+pub sets_stay : (p : ProgramTree) (a : ActionTree) (names : SetNames) → SetsAreVisible p names a → SetsAreVisible p (names_behind a names) a
+sets_stay p (DeclareSet name value) names visible = value_stays (DeclareSet name value) names value visible
+sets_stay p _ names visible = visible
+
+module _ (p : ProgramTree) where
+  -- the set that gets what an apply changed stands at its place behind the statement, and is a variable
+  abbrev pub ResultStands : VisibleTree → Depth → ResultTree → Type 0
+  ResultStands behind d Dropped = Unit {0}
+  ResultStands behind d (Declared name vector) = (slice_get behind.sets d.sets ≡ Some name) × (length p.sets ≤ d.sets)
+  ResultStands behind d (Assigned slot vector) = (slice_get behind.sets slot.place ≡ Some slot.name) × (length p.sets ≤ slot.place)
+
+  -- its vector is one that the edge function writes
+  abbrev pub ResultIsWritten : (function : ℕ) → ResultTree → Type 0
+  ResultIsWritten function Dropped = Unit {0}
+  ResultIsWritten function (Declared name vector) = Contains (function_writes p.edge_functions function) vector
+  ResultIsWritten function (Assigned slot vector) = Contains (function_writes p.edge_functions function) vector
+
+  pub record IsEdgeApply (v : VisibleTree) (names : SetNames) (a : ActionTree) (x : StatementApply) : Type 0 where
+    pub apply : EdgeApplyTree
+    pub is : edge_apply_of a ≡ Some apply
+    pub tree : x ≡ apply_tree apply
+    pub resolved : EndsAreResolved p v apply.ends
+    pub visible : EndsAreVisible names apply.ends
+    pub written : ResultIsWritten apply.part.function apply.part.result
+    pub stands : (d : Depth) → d.sets ≡ length v.sets → length p.sets ≤ d.sets → ResultStands (behind_action a v) d apply.part.result
+
+  pub record IsVertexApply (names : SetNames) (a : ActionTree) (x : StatementApply) : Type 0 where
+    pub apply : VertexApplyTree
+    pub is : vertex_apply_of a ≡ Some apply
+    pub no_edges : edge_apply_of a ≡ None
+    pub tree : x ≡ Vertices apply.set apply.function
+    pub visible : IsVisible names apply.set
+
+  abbrev pub IsApply : VisibleTree → SetNames → ActionTree → StatementApply → Type 0
+  IsApply v names a x = IsEdgeApply v names a x ⊎ IsVertexApply names a x
+
+  declared_apply : (v : VisibleTree) (names : SetNames) (name : ℕ) (value : SetValue) (x : StatementApply) → modifying_as name value ≡ Some x → ActionIsResolved p v (DeclareSet name value)
+      → SetsAreVisible p names (DeclareSet name value) → AsksForWritten p (DeclareSet name value) → IsApply v names (DeclareSet name value) x
+  declared_apply v names name (set.Modified ends function vector) x is resolved visible asks =
+      let part : EdgePartTree = record { function = function; result = Declared name vector } in
+      inl (record {
+        apply = record { ends = ends; part = part };
+        is = refl;
+        tree = sym (same_Some (Edges ends function (Some name)) x is);
+        resolved = resolved.1.0;
+        visible = visible;
+        written = asks;
+        stands = λ d deep low. (ap (λ k. slice_get (v.sets ++ name ∷ []) k) deep ∙ get_last v.sets name [], low);
+      })
+  declared_apply v names name _ x is resolved visible asks = absurd (none-some x is)
+
+  assigned_apply : (v : VisibleTree) (names : SetNames) (slot : VarRef) (value : SetValue) (x : StatementApply) → modifying_as slot.name value ≡ Some x → ActionIsResolved p v (AssignSet slot value)
+      → SetsAreVisible p names (AssignSet slot value) → AsksForWritten p (AssignSet slot value) → IsApply v names (AssignSet slot value) x
+  assigned_apply v names slot (set.Modified ends function vector) x is resolved visible asks =
+      let part : EdgePartTree = record { function = function; result = Assigned slot vector } in
+      inl (record {
+        apply = record { ends = ends; part = part };
+        is = refl;
+        tree = sym (same_Some (Edges ends function (Some slot.name)) x is);
+        resolved = resolved.1.0;
+        visible = visible.1;
+        written = asks;
+        stands = λ d deep low. (resolved.0.0, visible.0.1);
+      })
+  assigned_apply v names slot _ x is resolved visible asks = absurd (none-some x is)
+
+  pub statement_apply : (v : VisibleTree) (names : SetNames) (a : ActionTree) (x : StatementApply) → apply_of a ≡ Some x → ActionIsResolved p v a → SetsAreVisible p names a → AsksForWritten p a
+      → IsApply v names a x
+  statement_apply v names (ApplyVertex set function) x is resolved visible asks =
+      inr (record {
+        apply = record { set = set; function = function };
+        is = refl;
+        no_edges = refl;
+        tree = sym (same_Some (Vertices set function) x is);
+        visible = visible;
+      })
+  statement_apply v names (ApplyEdges ends function) x is resolved visible asks =
+      let part : EdgePartTree = record { function = function; result = Dropped } in
+      inl (record {
+        apply = record { ends = ends; part = part };
+        is = refl;
+        tree = sym (same_Some (Edges ends function None) x is);
+        resolved = resolved.0;
+        visible = visible;
+        written = tt;
+        stands = λ d deep low. tt;
+      })
+  statement_apply v names (DeclareSet name value) x is resolved visible asks = declared_apply v names name value x is resolved visible asks
+  statement_apply v names (AssignSet slot value) x is resolved visible asks = assigned_apply v names slot value x is resolved visible asks
+  statement_apply v names _ x is resolved visible asks = absurd (none-some x is)

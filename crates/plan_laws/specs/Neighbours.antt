@@ -1,0 +1,43 @@
+-- Two statements of main, the second right behind the first in a block.
+use Rattle.std.specs.Prelude.{◌≡◌, ◌⊎◌, ℕ, Option}
+use Rattle.typed_tree.specs.BlockTree.{ActionTree, DeclareInteger, DeclareCondition, SetInteger, SetCondition, ReduceInteger, SetEntry, ReduceEntry, DeclareSet, AssignSet, AddVertex, PrintInteger, PrintCondition, ApplyVertex, ApplyEdges, If, IfElse, While, For, BlockTree, Empty, Then}
+
+-- a statement with its number and its label
+pub record StatementTree : Type 0 where
+  pub number : ℕ
+  pub label : Option ℕ
+  pub action : ActionTree
+
+-- the block begins with the statement
+abbrev pub BeginsWith : StatementTree → BlockTree → Type 0
+BeginsWith s Empty = ⊥
+BeginsWith s (Then number label action others) = record { number = number; label = label; action = action } ≡ s
+
+abbrev mutual
+  -- the second statement stands right behind the first in a block of the statement
+  pub AreNeighboursInside : (first second : StatementTree) → ActionTree → Type 0
+  AreNeighboursInside first second (DeclareInteger name e) = ⊥
+  AreNeighboursInside first second (DeclareCondition name c) = ⊥
+  AreNeighboursInside first second (SetInteger slot e) = ⊥
+  AreNeighboursInside first second (SetCondition slot c) = ⊥
+  AreNeighboursInside first second (ReduceInteger slot by e) = ⊥
+  AreNeighboursInside first second (SetEntry vector index e) = ⊥
+  AreNeighboursInside first second (ReduceEntry vector index by e) = ⊥
+  AreNeighboursInside first second (DeclareSet name value) = ⊥
+  AreNeighboursInside first second (AssignSet slot value) = ⊥
+  AreNeighboursInside first second (AddVertex slot e) = ⊥
+  AreNeighboursInside first second (PrintInteger e) = ⊥
+  AreNeighboursInside first second (PrintCondition c) = ⊥
+  AreNeighboursInside first second (ApplyVertex set function) = ⊥
+  AreNeighboursInside first second (ApplyEdges ends function) = ⊥
+  AreNeighboursInside first second (If c body) = AreNeighbours first second body
+  AreNeighboursInside first second (IfElse c body other) = AreNeighbours first second body ⊎ AreNeighbours first second other
+  AreNeighboursInside first second (While c body) = AreNeighbours first second body
+  AreNeighboursInside first second (For name start end body) = AreNeighbours first second body
+
+  -- so they stand in the block: as its first two statements, inside the first, or behind it
+  pub AreNeighbours : (first second : StatementTree) → BlockTree → Type 0
+  AreNeighbours first second Empty = ⊥
+  AreNeighbours first second (Then number label action others) =
+      (BeginsWith first (Then number label action others) × BeginsWith second others)
+      ⊎ (AreNeighboursInside first second action ⊎ AreNeighbours first second others)

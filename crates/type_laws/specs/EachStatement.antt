@@ -1,0 +1,61 @@
+-- What holds of each statement of main, by the names of the vertex sets that are visible there.
+use Rattle.std.specs.Prelude.{ℕ, zero, suc, List, [], ◌∷◌, ◌++◌, Option, Some, None}
+use Rattle.typed_tree.specs.BlockTree.{ActionTree, DeclareInteger, DeclareCondition, SetInteger, SetCondition, ReduceInteger, SetEntry, ReduceEntry, DeclareSet, AssignSet, AddVertex, PrintInteger, PrintCondition, ApplyVertex, ApplyEdges, If, IfElse, While, For, BlockTree, Empty, Then}
+
+-- at each place of a vertex set its name, where it is visible by it
+abbrev pub SetNames : Type 0
+SetNames = List (Option ℕ)
+
+-- Of the constant sets so many stand before main in the text, and are visible there. Those behind it have their places too.
+abbrev pub names_before : (count : ℕ) → (sets : List ℕ) → SetNames
+names_before count [] = []
+names_before zero (name ∷ sets) = None ∷ names_before zero sets
+names_before (suc count) (name ∷ sets) = Some name ∷ names_before count sets
+
+-- behind a statement: a declared set is visible to the end of its block
+abbrev pub names_behind : ActionTree → SetNames → SetNames
+names_behind (DeclareInteger name e) names = names
+names_behind (DeclareCondition name c) names = names
+names_behind (SetInteger slot e) names = names
+names_behind (SetCondition slot c) names = names
+names_behind (ReduceInteger slot by e) names = names
+names_behind (SetEntry vector index e) names = names
+names_behind (ReduceEntry vector index by e) names = names
+names_behind (DeclareSet name value) names = names ++ Some name ∷ []
+names_behind (AssignSet slot value) names = names
+names_behind (AddVertex slot e) names = names
+names_behind (PrintInteger e) names = names
+names_behind (PrintCondition c) names = names
+names_behind (ApplyVertex slot function) names = names
+names_behind (ApplyEdges ends function) names = names
+names_behind (If c body) names = names
+names_behind (IfElse c body other) names = names
+names_behind (While c body) names = names
+names_behind (For name first end body) names = names
+
+abbrev mutual
+  -- P holds of each statement in the blocks of a statement
+  pub HoldsInside : (P : SetNames → ActionTree → Type 0) → SetNames → ActionTree → Type 0
+  HoldsInside P names (DeclareInteger name e) = Unit {0}
+  HoldsInside P names (DeclareCondition name c) = Unit {0}
+  HoldsInside P names (SetInteger slot e) = Unit {0}
+  HoldsInside P names (SetCondition slot c) = Unit {0}
+  HoldsInside P names (ReduceInteger slot by e) = Unit {0}
+  HoldsInside P names (SetEntry vector index e) = Unit {0}
+  HoldsInside P names (ReduceEntry vector index by e) = Unit {0}
+  HoldsInside P names (DeclareSet name value) = Unit {0}
+  HoldsInside P names (AssignSet slot value) = Unit {0}
+  HoldsInside P names (AddVertex slot e) = Unit {0}
+  HoldsInside P names (PrintInteger e) = Unit {0}
+  HoldsInside P names (PrintCondition c) = Unit {0}
+  HoldsInside P names (ApplyVertex slot function) = Unit {0}
+  HoldsInside P names (ApplyEdges ends function) = Unit {0}
+  HoldsInside P names (If c body) = HoldsOfEach P names body
+  HoldsInside P names (IfElse c body other) = HoldsOfEach P names body × HoldsOfEach P names other
+  HoldsInside P names (While c body) = HoldsOfEach P names body
+  HoldsInside P names (For name first end body) = HoldsOfEach P names body
+
+  -- P holds of each statement of a block, at the names that are visible before it
+  pub HoldsOfEach : (P : SetNames → ActionTree → Type 0) → SetNames → BlockTree → Type 0
+  HoldsOfEach P names Empty = Unit {0}
+  HoldsOfEach P names (Then number label action others) = P names action × HoldsInside P names action × HoldsOfEach P (names_behind action names) others
