@@ -15,7 +15,7 @@ set_members_outside [] place members h = refl
 set_members_outside (x ∷ xs) zero members h = absurd (omega (arith, h))
 set_members_outside (x ∷ xs) (suc n) members h = ap (λ (r : List SetBinding). x ∷ r) (set_members_outside xs n members (omega (arith, h)))
 
--- a number above the first goes in behind it
+-- a number above the first goes in after it
 pub inserted_above : (v x : ℕ) (xs : List ℕ) → x < v → inserted v (x ∷ xs) ≡ x ∷ inserted v xs
 inserted_above v x xs h = grind (arith, nat_tests)
 

@@ -73,7 +73,7 @@ pub reduced_all-append : (n : ℤ) (cs ds : List Contribution) → reduced_all n
 reduced_all-append n [] ds = refl
 reduced_all-append n (c ∷ cs) ds = reduced_all-append (reduced c.reduction n c.number) cs ds
 
--- a number given before the others may be given behind them
+-- a number given before the others may be given after them
 given_last : (r : Reduction) (n x : ℤ) (cs : List Contribution) → All (λ c. c.reduction ≡ r) cs → reduced_all (reduced r n x) cs ≡ reduced r (reduced_all n cs) x
 given_last r n x [] by_one = refl
 given_last r n x (c ∷ cs) by_one =

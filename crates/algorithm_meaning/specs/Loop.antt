@@ -68,7 +68,7 @@ bounds_in vertices first end s = both_bounds (number_in vertices first s) (numbe
 abbrev pub for_test : LoopCounter → StateValue → Option Bool
 for_test r s = Some (int_lt r.next r.end)
 
--- the name and, behind it, the bound are variables in the body
+-- the name and, after it, the bound are variables in the body
 abbrev pub for_body : (StateValue → Stand) → LoopCounter → StateValue → Stand
 for_body block r s = leave (depth_of s) (block (with_new_integer (with_new_integer s r.next) r.end))
 

@@ -1,4 +1,4 @@
-//! What functions of users write and give, as data that the definitions speak of.
+//! Contributions: what functions of users write and give, as data that the definitions speak of.
 use apply_options::Reduction;
 
 /// When what a function writes is seen.

@@ -1,4 +1,4 @@
-//! How a run ends, and what it shows.
+//! Outcomes: how a run ends, and what it shows.
 use typed_tree::{Name, Sequence};
 
 /// How a run ended.

@@ -1,4 +1,4 @@
-//! What a run of `main` keeps, as data that the definitions speak of.
+//! State of `main`: what a run keeps, as data that the definitions speak of.
 use typed_tree::Sequence;
 
 /// A vertex set of `main`: the place of its name in the program's names, and its members, ascending.

@@ -34,7 +34,7 @@ pub fn add_differences(
     Ok(())
 }
 
-// The lines of an output, each without its line feed; behind the last line feed stands an empty one.
+// The lines of an output, each without its line feed; after the last line feed stands an empty one.
 fn lines_of(alloc: Global, bytes: &[u8]) -> Result<Vec<&[u8]>, AllocError> {
     bytes.split(|byte| *byte == b'\n').collect(alloc)
 }

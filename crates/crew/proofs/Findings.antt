@@ -8,7 +8,7 @@ use Rattle.std.proofs.lemmas.Bool.{ltb-false}
 use Rattle.std.proofs.lemmas.Bool.Decides.{nat_tests}
 use mathlib.Core.Logic.{dite}
 use native.Mathlib.Decide.{dec_lt}
-use Rattle.crew.specs.declared.found.Found.{Found}
+use Rattle.crew.specs.declared.piece_results.Found.{Found}
 use Rattle.crew.specs.ClaimWord.{times}
 use Rattle.crew.specs.Claims.{pieces_at}
 use Rattle.crew.specs.Finding.{pieces_of, IsAnswered, HasAdded}

@@ -4,7 +4,7 @@ use Rattle.std.proofs.lemmas.List.{drop-drop, drop_all, get_or-drop, take-append
 use Rattle.std.specs.List.{flat_map, range_with_len}
 use Rattle.crew.specs.Partition.{AreEnds, all_pieces, end_of, piece_of}
 
--- a piece and what is behind it
+-- a piece and what is after it
 part_and_rest : (s e : ℕ) (xs : List ℕ) → s < e → slice_range xs s e ++ drop e xs ≡ drop s xs
 part_and_rest s e xs low =
     let q : s + (e - s) ≡ e = omega (arith, low) in

@@ -143,7 +143,7 @@ dynamic_are_ends w zero some = subst (AreEnds 0 0) (sym (dynamic_none w)) refl
 dynamic_are_ends w (suc c) some =
     subst (AreEnds 0 (suc c)) (sym (dynamic_is w (suc c))) (equal_are_ends (div_ceil (suc c) (4 * w)) (suc c) (part_is_some (suc c) (4 * w) (omega arith) (omega (arith, some))))
 
--- the same in parts, behind others
+-- the same in parts, after others
 parts_behind : (before first second both part after : List ℕ) → part ≡ before ++ first → after ≡ part ++ second → first ++ second ≡ both → after ≡ before ++ both
 parts_behind before first second both part after d e f = e ∙ ap (λ es. es ++ second) d ∙ append_assoc before first second ∙ ap (λ es. before ++ es) f
 

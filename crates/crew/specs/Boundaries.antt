@@ -1,4 +1,4 @@
--- Where the pieces of a list of vertices end. Pieces are runs of the list, one behind the other.
+-- Where the pieces of a list of vertices end. Pieces are runs of the list, one after the other.
 use Rattle.std.specs.Prelude.{ℕ, ◌+◌, ◌-◌, ◌*◌, ◌/◌, ◌%◌, ◌==◌, min, if◌then◌else◌, List, [], ◌∷◌, ◌++◌, replicate}
 use Rattle.std.specs.Int.{div_ceil}
 use Rattle.apply_options.specs.declared.apply_schedule.Parallelization.{Parallelization}

@@ -38,7 +38,7 @@ AreClaimed n views =
 abbrev pub IsClaimWord : List ℕ → List ClaimView → Type 0
 IsClaimWord words views = (n : ℕ) × (words ≡ n ∷ []) × AreClaimed n views
 
--- What a claim tells: the number is not below one that the worker has, and stands behind those.
+-- What a claim tells: the number is not below one that the worker has, and stands after those.
 -- Who has all rights claimed each number below it before, and no other
 abbrev pub Claims : ClaimView → ℕ → ClaimView → Type 0
 Claims v k w = (v.next ≤ k) × (w ≡ claim_view v.rights (v.claimed ++ k ∷ []) (k + 1))

@@ -1,6 +1,6 @@
 -- For proofs only: what workers found, before it is put in order.
 use Rattle.std.specs.Prelude.{◌≡◌, ℕ, ◌+◌, ◌-◌, ◌<◌, ◌≤◌, Option, Some, List, [], ◌∷◌, ◌++◌, map, slice_set}
-use Rattle.crew.specs.declared.found.Found.{Found}
+use Rattle.crew.specs.declared.piece_results.Found.{Found}
 use Rattle.crew.specs.ClaimWord.{times}
 
 module _ {T : Type 0} where

@@ -7,7 +7,7 @@ abbrev pub weight : (degrees : List ℕ) → ℕ
 weight degrees = sum_by (λ d. d + 1) degrees
 
 -- the ends of runs, each ended at the first vertex where its weight reaches a limit, and the last one with the list;
--- the run that is not ended has reached so much at a place, behind which vertices of these degrees stand
+-- the run that is not ended has reached so much at a place, after which vertices of these degrees stand
 abbrev pub limited_ends : (limit reached place : ℕ) → (degrees : List ℕ) → List ℕ
 limited_ends limit reached place [] = if reached == 0 then [] else place ∷ []
 limited_ends limit reached place (d ∷ ds) =

@@ -2,7 +2,7 @@
 use Rattle.std.specs.Prelude.{◌≡◌, ℕ, ◌/◌, ◌≤◌, min, max, Result, Ok, Err, Vec}
 use Rattle.crew.specs.declared.error.CrewError.{CrewError}
 use Rattle.crew.specs.declared.error.CrewError.TheVariants.{BadWorkers, NoMemory}
-use Rattle.crew.specs.declared.found.Found.{Found}
+use Rattle.crew.specs.declared.piece_results.Found.{Found}
 use Rattle.crew.specs.Pieces.{AreFound}
 
 -- a run may have 1 to 64 workers

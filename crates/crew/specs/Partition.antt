@@ -15,6 +15,6 @@ end_of ends k = slice_index_or (0 ∷ ends) k 0
 abbrev pub piece_of : {A : Type 0} → (ends : List ℕ) → List A → ℕ → List A
 piece_of ends xs k = slice_range xs (end_of ends (k - 1)) (end_of ends k)
 
--- the pieces, one behind the other
+-- the pieces, one after the other
 abbrev pub all_pieces : {A : Type 0} → (ends : List ℕ) → List A → List A
 all_pieces ends xs = flat_map (piece_of ends xs) (range_with_len 1 (length ends))

@@ -1,6 +1,6 @@
 -- What a run of pieces finds.
 use Rattle.std.specs.Prelude.{◌≡◌, ℕ, ◌+◌, ◌<◌, Some, List, length, slice_get}
-use Rattle.crew.specs.declared.found.Found.{Found}
+use Rattle.crew.specs.declared.piece_results.Found.{Found}
 
 module _ {T : Type 0} (answers : ℕ → T → Type 0) where
   -- at place j stands piece j + 1, with an answer for it

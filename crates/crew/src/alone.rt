@@ -4,9 +4,9 @@ ghost use Rattle.std.specs.Prelude.{◌≤◌, IfOk};
 ghost use Rattle.std.specs.List.{All};
 ghost use Rattle.crew.specs.Pieces.{AreFound};
 
-use crate::found::Found;
 use crate::gate::Gate;
 use crate::piece::{do_piece, state_or_new};
+use crate::piece_results::Found;
 use crate::work::Work;
 use std::alloc::{AllocError, Global};
 

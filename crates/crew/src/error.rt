@@ -1,4 +1,4 @@
-//! Why a run of pieces gave nothing.
+//! Run errors: why a run of pieces gave nothing.
 
 ghost use Rattle.std.specs.Prelude.{◌≡◌};
 ghost use Rattle.crew.specs.declared.error.CrewError.TheVariants.{NoMemory};

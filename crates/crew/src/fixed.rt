@@ -5,9 +5,9 @@ ghost use Rattle.std.specs.List.{All};
 ghost use Rattle.crew.specs.Finding.{AreAll, IsAnswered};
 ghost use Rattle.crew.specs.Workers.{AreNumbered, IsNumbered, HasEvery, HaveEvery};
 
-use crate::found::Found;
 use crate::gate::Gate;
 use crate::piece::{do_piece, state_or_new};
+use crate::piece_results::Found;
 use crate::work::Work;
 use crate::worker::{FinishedWorker, StartingWorker, bring_back};
 use std::alloc::{AllocError, Global};

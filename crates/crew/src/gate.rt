@@ -1,4 +1,4 @@
-//! Who is told of the pieces that begin.
+//! Gate: who is told of the pieces that begin.
 
 /// Told of each piece before it is done.
 pub trait Gate {

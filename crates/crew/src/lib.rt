@@ -17,7 +17,7 @@
 //! afterwards, in time `O(n)`. A [`Gate`] is told of each piece before it is done. [`workers_for`] says
 //! how many workers are worth their threads.
 //!
-//! [`Partition`] cuts a list of vertices into pieces, which are runs of it, one behind the other, as a schedule says: one piece, one
+//! [`Partition`] cuts a list of vertices into pieces, which are runs of it, one after the other, as a schedule says: one piece, one
 //! for each worker, or four for each, of as many vertices or of as many vertices and edges. A contract sees it as the list of the
 //! pieces' ends (`specs/Boundaries.antt`). Its laws say that the pieces are disjoint and make the whole list
 //! ([`boundaries_cut_the_list`], [`pieces_make_the_list`]), that there is a piece for each worker
@@ -32,20 +32,19 @@ mod claim_word;
 mod claimed;
 mod error;
 mod fixed;
-mod found;
 mod gate;
 mod in_order;
 mod partition;
 mod partition_laws;
 mod piece;
 mod piece_assignment;
+mod piece_results;
 mod run;
 mod work;
 mod worker;
 mod workers;
 
 pub use error::CrewError;
-pub use found::Found;
 pub use gate::{Gate, Open};
 pub use partition::Partition;
 pub use partition_laws::{
@@ -53,6 +52,7 @@ pub use partition_laws::{
     static_pieces_are_those_of_workers, worked_partitions,
 };
 pub use piece_assignment::PieceAssignment;
+pub use piece_results::Found;
 pub use run::run_pieces;
 pub use work::Work;
 pub use workers::workers_for;

@@ -1,4 +1,4 @@
-//! The ends of pieces.
+//! Partition: where the pieces of some work end.
 ghost use Rattle.std.specs.Prelude.{◌≡◌, ℕ, ◌+◌, ◌-◌, ◌*◌, ◌^◌, ◌<◌, ◌≤◌, [], ◌++◌, length, replicate, IfOk, OnOk};
 ghost use Rattle.apply_options.specs.declared.apply_schedule.Parallelization.TheVariants.{EdgeAwareDynamicVertex};
 ghost use Rattle.crew.specs.Boundaries.{dynamic_ends, edge_aware_ends, boundaries, ends_from, rest_of, serial_ends, static_ends};

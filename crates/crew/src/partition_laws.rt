@@ -13,7 +13,7 @@ pub fn boundaries_cut_the_list()
         → AreEnds 0 count (boundaries p workers count degrees) }
 {}
 
-/// The law that the pieces of a list at such boundaries are the list, one behind the other.
+/// The law that the pieces of a list at such boundaries are the list, one after the other.
 pub fn pieces_make_the_list()
     ensures { (ends xs : List ℕ) → AreEnds 0 (length xs) ends → all_pieces ends xs ≡ xs }
 {}

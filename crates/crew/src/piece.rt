@@ -3,8 +3,8 @@
 ghost use Rattle.std.specs.Prelude.{◌+◌, ◌<◌, ◌≤◌, IfOk, IfSome};
 ghost use Rattle.crew.specs.Finding.{HasAdded};
 
-use crate::found::Found;
 use crate::gate::Gate;
+use crate::piece_results::Found;
 use crate::work::Work;
 use std::alloc::{AllocError, Global};
 

@@ -1,8 +1,8 @@
-//! Workers as they start, and as they come back.
+//! Workers: as they start, and as they come back.
 
 ghost use Rattle.std.specs.Prelude.{◌≡◌, [], ◌∷◌, ◌++◌, IfOk, IfErr};
 
-use crate::found::Found;
+use crate::piece_results::Found;
 use std::alloc::AllocError;
 
 /// A worker that is to start: its number from 1, where its pieces come from, and a state that an
@@ -22,7 +22,7 @@ pub(crate) struct FinishedWorker<T, S, O> {
     pub found: Vec<Found<O>>,
 }
 
-/// Puts what a worker found behind what others found, and its state to theirs, which stay as they were
+/// Puts what a worker found after what others found, and its state to theirs, which stay as they were
 /// where there is no memory.
 pub(crate) fn bring_back<S: Drop, O: Drop>(
     state: S,

@@ -66,6 +66,6 @@ lacks_memory : (holds : List ℕ → List ℕ → Type 0) (fails : List ℕ → 
 lacks_memory holds fails [] = refl
 lacks_memory holds fails (name ∷ names) = inl tt
 
--- memory ran out behind some files
+-- memory ran out after some files
 pub memory_ends : (holds : List ℕ → List ℕ → Type 0) (fails : List ℕ → Error → Type 0) (all left : List (List ℕ)) (programs : List ProgramTree) → Compiles holds fails all left programs → LacksProgram holds fails all NoMemory
 memory_ends holds fails all left programs c = c.fails_on NoMemory (lacks_memory holds fails left)

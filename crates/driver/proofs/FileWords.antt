@@ -43,7 +43,7 @@ at_file file behind = record { held = held (pending_file file); waiting = idle; 
 abbrev after_words : Option Text → Bool → List Text → Walk
 after_words file behind words = fold (walked rules []) (at_file file behind) words
 
--- the operands among words behind a `--` or not
+-- the operands among words after a `--` or not
 abbrev operands_from : Bool → List Text → List Text
 operands_from true words = words
 operands_from false words = operands words

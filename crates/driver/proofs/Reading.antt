@@ -219,7 +219,7 @@ no_operands words m read none = go (subcommand_rows_of m) read (none ∙ name-ro
 
 -- ---- which words a parse takes
 
--- the words behind a subcommand are left to it
+-- the words after a subcommand are left to it
 left_to_it : (name : Text) (before words : List Text) → walk_passes top names (record (at_start false) { stopped = Some (name, before) }) words ≡ true
 unfolding walk_passes walked
 left_to_it name before [] = refl

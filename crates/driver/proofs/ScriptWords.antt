@@ -81,7 +81,7 @@ all_behind fs (word ∷ words) =
     ap (λ w. fold (walked script.rules []) w words) (walked_behind fs word) ∙ all_behind (fs ++ word ∷ []) words
     ∙ ap (λ gs. at_files gs true) (append_assoc fs (word ∷ []) words)
 
--- the walk ends after the files, behind a `--` or not
+-- the walk ends after the files, after a `--` or not
 pub record Ends (fs words : List Text) : Type 0 where
   pub behind : Bool
   pub is : after_words fs false words ≡ at_files (fs ++ operands words) behind

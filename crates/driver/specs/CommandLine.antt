@@ -68,7 +68,7 @@ NamesCommand words name files = (operands words ≡ name ∷ files) × FitsComma
 abbrev pub HasNoHyphen : Text → Type 0
 HasNoHyphen word = strip_byte 45 word ≡ None
 
--- no words, or `check` or `plan` and one file, or `script` and files; behind `--` where a hyphen may begin a name
+-- no words, or `check` or `plan` and one file, or `script` and files; after `--` where a hyphen may begin a name
 pub data IsCommand : List Text → Type 0 where
   no_words : IsCommand []
   check_word : (file : Text) → HasNoHyphen file → IsCommand (codes "check" ∷ file ∷ [])

@@ -57,7 +57,7 @@ pub one_change : (old new : ℕ → ℤ) (v : ℕ) → changed_from old new v 1 
 unfolding changed_from
 one_change old new v = refl
 
--- the next change behind a row without any
+-- the next change after a row without any
 pub changed_more : (old new : ℕ → ℤ) (next v : ℕ) → next ≤ v → ((u : ℕ) → next ≤ u → u < v → new u ≡ old u)
     → changed_from old new 0 next ++ change_at old new v ≡ changed_from old new 0 (v + 1)
 changed_more old new next v l same =

@@ -7,9 +7,9 @@ use borrow.Rule.Slice.PartMut.{put_mid}
 use Rattle.apply_options.specs.declared.reduction.Reduction.{Reduction}
 use Rattle.algorithm_meaning.specs.Arithmetic.{reduced}
 use Rattle.algorithm_meaning.proofs.Reductions.{reductions}
-use Rattle.edge_fold.specs.declared.functions.Sent.{Sent}
+use Rattle.edge_fold.specs.declared.apply_context.SourceContribution.{SourceContribution}
 use Rattle.edge_fold.specs.Given.{column, each_given, for_vector, given_on, pairs, reduced_at}
-use Rattle.edge_fold.specs.Together.{IsReducedTo, IsTogether, numbers_given, reduced_with}
+use Rattle.edge_fold.specs.ReducedContributions.{IsReducedTo, IsReducedContribution, numbers_given, reduced_with}
 use Rattle.edge_fold.proofs.Edges.{pairs-append}
 
 -- two numbers may be reduced to one before a third is reduced with them
@@ -54,7 +54,7 @@ joined_at r s v h gs hs true own all = subst (λ (t : Reduction). reduced_at t v
 joined_at r s v h gs hs false own all = refl
 
 -- to join what is sent is to join what the edges give
-pub together_given : (r : Reduction) (x d v : ℕ) (h : ℤ) (sent : Sent) (g : ℕ × ℕ → List (ℕ × Reduction × ℤ)) (ss : List ℕ) → IsTogether sent g ss → (sent.vector ≡ x → sent.reduction ≡ r)
+pub together_given : (r : Reduction) (x d v : ℕ) (h : ℤ) (sent : SourceContribution) (g : ℕ × ℕ → List (ℕ × Reduction × ℤ)) (ss : List ℕ) → IsReducedContribution sent g ss → (sent.vector ≡ x → sent.reduction ≡ r)
     → reduced_at r v h (cond (sent.vector == x) (each_given sent.number (d ∷ [])) []) ≡ reduced_at r v h (given_on x g (column d ss))
 together_given r x d v h sent g ss is own =
     joined_at r sent.reduction v h (each_given sent.number (d ∷ [])) (numbers_given is.number d ss) (sent.vector == x) (λ at. own (equal sent.vector x at)) (is.all d v h)
@@ -70,7 +70,7 @@ pairs-column : (d : ℕ) (ss : List ℕ) → pairs ss (replicate (length ss) d) 
 pairs-column d [] = refl
 pairs-column d (s ∷ ss) = ap (λ es. (s, d) ∷ es) (pairs-column d ss)
 
--- the first places of two lists after more were written behind them
+-- the first places of two lists after more were written after them
 pub waiting_into : (d n k : ℕ) (ss ts ys zs us : List ℕ) → n ≤ length ss → n ≤ length ts → length zs ≡ length us → zs ≡ replicate (length us) d → ys ≡ us
     → pairs (take (n + length us) (put_mid n k ss ys)) (take (n + length us) (put_mid n k ts zs)) ≡ pairs (take n ss) (take n ts) ++ column d us
 waiting_into d n k ss ts ys zs us l m long filled copied =

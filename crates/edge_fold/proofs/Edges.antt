@@ -53,7 +53,7 @@ on_same x a b same (e ∷ es) =
     ap (λ (gs : List (ℕ × Reduction × ℤ)). for_vector x e.1 gs ++ given_on x a es) (same e)
     ∙ ap (λ (gs : List (ℕ × ℤ)). for_vector x e.1 (b e) ++ gs) (on_same x a b same es)
 
--- edges that come behind
+-- edges that come after
 pub fold_more : (r : Reduction) (v x : ℕ) (h o : ℤ) (g : ℕ × ℕ → List (ℕ × Reduction × ℤ)) (ws es more : List (ℕ × ℕ))
     → reduced_at r v h (given_on x g ws) ≡ reduced_at r v o (given_on x g es) → reduced_at r v h (given_on x g (ws ++ more)) ≡ reduced_at r v o (given_on x g (es ++ more))
 fold_more r v x h o g ws es more e =
@@ -137,7 +137,7 @@ row_parts s k ds es =
     append_assoc es (row s (take k ds)) (row s (drop k ds))
     ∙ ap (λ fs. es ++ fs) (sym (map-append (λ d. (s, d)) (take k ds) (drop k ds)) ∙ ap (row s) (take-append-drop k ds))
 
--- the first places of two lists after more were written behind them
+-- the first places of two lists after more were written after them
 pub waiting_more : (s n k : ℕ) (ss ts ys zs ds : List ℕ) → n ≤ length ss → n ≤ length ts → length ys ≡ length ds → ys ≡ replicate (length ds) s → zs ≡ ds
     → pairs (take (n + length ds) (put_mid n k ss ys)) (take (n + length ds) (put_mid n k ts zs)) ≡ pairs (take n ss) (take n ts) ++ row s ds
 waiting_more s n k ss ts ys zs ds l m long filled copied =

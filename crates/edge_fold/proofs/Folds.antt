@@ -26,7 +26,7 @@ joined_swapped r x a b true false = refl
 joined_swapped r x a b false true = refl
 joined_swapped r x a b false false = refl
 
--- what is given before the rest may be given behind it
+-- what is given before the rest may be given after it
 given_last : (r : Reduction) (v : ℕ) (x : ℤ) (g : ℕ × ℤ) (gs : List (ℕ × ℤ)) → reduced_at r v (joined r v x g) gs ≡ joined r v (reduced_at r v x gs) g
 given_last r v x g [] = refl
 given_last r v x g (h ∷ hs) =

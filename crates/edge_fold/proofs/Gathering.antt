@@ -7,13 +7,13 @@ use Rattle.apply_options.specs.declared.reduction.Reduction.{Reduction}
 use Rattle.algorithm_meaning.specs.Arithmetic.{reduced}
 use Rattle.vectors.specs.declared.changes.EntryChange.{EntryChange}
 use Rattle.edge_fold.specs.declared.accumulator.Accumulator.{Accumulator}
-use Rattle.edge_fold.specs.declared.functions.Start.TheVariants as start
+use Rattle.edge_fold.specs.declared.apply_context.FoldStart.TheVariants as start
 use Rattle.edge_fold.specs.declared.gathered.GatheredIn.{GatheredIn}
 use Rattle.edge_fold.specs.declared.vector_accumulator.VectorAccumulator.{VectorAccumulator}
 use Rattle.edge_fold.specs.Gathered.{IsGatheredBy, gathered_for, number_at, numbers_of}
 use Rattle.edge_fold.specs.Given.{reduced_at}
 use Rattle.edge_fold.specs.Held.{held_with}
-use Rattle.edge_fold.specs.Seeds.{combined}
+use Rattle.edge_fold.specs.FoldStarts.{combined}
 use Rattle.edge_fold.specs.VectorAccumulators.{held_in_with, of_slot, place_in, reduction_in}
 use Rattle.edge_fold.proofs.Folds.{reduced_at-append}
 use Rattle.edge_fold.proofs.SlotRows.{of_slot-none, of_slot-push, of_slot-there, same_test}

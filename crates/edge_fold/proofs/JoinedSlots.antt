@@ -4,9 +4,9 @@ use Rattle.std.proofs.lemmas.Bool.Decides.{nat_tests}
 use Rattle.apply_options.specs.declared.reduction.Reduction.{Reduction}
 use Rattle.algorithm_meaning.specs.Arithmetic.{reduced}
 use Rattle.algorithm_meaning.proofs.Reductions.{reductions}
-use Rattle.edge_fold.specs.declared.functions.Functions.{Functions}
-use Rattle.edge_fold.specs.declared.functions.Start.{Start}
-use Rattle.edge_fold.specs.declared.functions.Start.TheVariants as start
+use Rattle.edge_fold.specs.declared.apply_context.ApplyContext.{ApplyContext}
+use Rattle.edge_fold.specs.declared.apply_context.FoldStart.{FoldStart}
+use Rattle.edge_fold.specs.declared.apply_context.FoldStart.TheVariants as start
 use Rattle.edge_fold.specs.declared.accumulator.Accumulator.{Accumulator}
 use Rattle.edge_fold.specs.declared.scratch.Scratch.{Scratch}
 use Rattle.edge_fold.specs.declared.vector_accumulator.VectorAccumulator.{VectorAccumulator}
@@ -17,21 +17,21 @@ use Rattle.algorithm_meaning.specs.Value.{entry}
 use Rattle.edge_fold.specs.Folded.{HasFoldedFor, waiting}
 use Rattle.edge_fold.specs.Given.{all_given, given_on, reduced_at}
 use Rattle.edge_fold.specs.Held.{held_with}
-use Rattle.edge_fold.specs.Seeds.{combined, first_entry, seed}
+use Rattle.edge_fold.specs.FoldStarts.{combined, first_entry, seed}
 use Rattle.edge_fold.specs.VectorAccumulators.{HaveJoined, active, held_in, held_in_with, place_in, reduction_in}
 use Rattle.edge_fold.proofs.Edges.{fold_before, fold_more}
 use Rattle.edge_fold.proofs.Folds.{reduced_at-append}
 use Rattle.edge_fold.proofs.SlotRows.{first_vector, of_slot-change}
 
 -- to combine with a number and reduce, in either order
-pub combined_more : (s : Start) (r : Reduction) (h y n : ℤ) → combined s r h (reduced r y n) ≡ reduced r (combined s r h y) n
+pub combined_more : (s : FoldStart) (r : Reduction) (h y n : ℤ) → combined s r h (reduced r y n) ≡ reduced r (combined s r h y) n
 combined_more start.OldEntry r h y n = refl
 combined_more start.Unit r h y n = let law = reductions r in sym (law.associative h y n)
 
-pub joined_nothing : (f : Functions) (x : ℕ) (r : Reduction) (s : VectorAccumulators) → HaveJoined f x r s s []
+pub joined_nothing : (f : ApplyContext) (x : ℕ) (r : Reduction) (s : VectorAccumulators) → HaveJoined f x r s s []
 joined_nothing f x r s = record { entries = λ v h. refl; reduction = λ was. was }
 
-pub joined_more : (f : Functions) (x : ℕ) (r : Reduction) (a b c : VectorAccumulators) (gs hs : List (ℕ × ℤ)) → HaveJoined f x r a b gs → HaveJoined f x r b c hs → HaveJoined f x r a c (gs ++ hs)
+pub joined_more : (f : ApplyContext) (x : ℕ) (r : Reduction) (a b c : VectorAccumulators) (gs hs : List (ℕ × ℤ)) → HaveJoined f x r a b gs → HaveJoined f x r b c hs → HaveJoined f x r a c (gs ++ hs)
 joined_more f x r a b c gs hs one more = record {
   entries = λ v h.
       let o = first_entry f x v h in
@@ -41,7 +41,7 @@ joined_more f x r a b c gs hs one more = record {
 }
 
 -- what is given otherwise, and comes to the same
-pub joined_alike : (f : Functions) (x : ℕ) (r : Reduction) (a b : VectorAccumulators) (gs hs : List (ℕ × ℤ)) → ((v : ℕ) (n : ℤ) → reduced_at r v n gs ≡ reduced_at r v n hs) → HaveJoined f x r a b gs → HaveJoined f x r a b hs
+pub joined_alike : (f : ApplyContext) (x : ℕ) (r : Reduction) (a b : VectorAccumulators) (gs hs : List (ℕ × ℤ)) → ((v : ℕ) (n : ℤ) → reduced_at r v n gs ≡ reduced_at r v n hs) → HaveJoined f x r a b gs → HaveJoined f x r a b hs
 joined_alike f x r a b gs hs same one = record {
   entries = λ v h. one.entries v h ∙ same v (held_in_with (combined f.start r) (active a) x v (first_entry f x v h));
   reduction = one.reduction;
@@ -51,20 +51,20 @@ joined_alike f x r a b gs hs same one = record {
 pub equal : (m n : ℕ) → (m == n) ≡ true → m ≡ n
 equal m n h = grind (arith, nat_tests)
 
-pub along : (f : Functions) (x y v : ℕ) (q r : Reduction) (k : Start) (a b : Accumulator) (h o : ℤ) (gs : ℕ → List (ℕ × ℤ)) → y ≡ x → q ≡ r → k ≡ f.start → o ≡ first_entry f y v h
+pub along : (f : ApplyContext) (x y v : ℕ) (q r : Reduction) (k : FoldStart) (a b : Accumulator) (h o : ℤ) (gs : ℕ → List (ℕ × ℤ)) → y ≡ x → q ≡ r → k ≡ f.start → o ≡ first_entry f y v h
     → held_with (combined k q) b v o ≡ reduced_at q v (held_with (combined k q) a v o) (gs y)
     → held_with (combined f.start r) b v (first_entry f x v h) ≡ reduced_at r v (held_with (combined f.start r) a v (first_entry f x v h)) (gs x)
 along f x y v q r k a b h o gs own by begins from joined =
     let at = subst (λ (y : ℕ). held_with (combined k q) b v o ≡ reduced_at q v (held_with (combined k q) a v o) (gs y)) own joined in
     let with = subst (λ (q : Reduction). held_with (combined k q) b v o ≡ reduced_at q v (held_with (combined k q) a v o) (gs x)) by at in
-    let starts = subst (λ (k : Start). held_with (combined k r) b v o ≡ reduced_at r v (held_with (combined k r) a v o) (gs x)) begins with in
+    let starts = subst (λ (k : FoldStart). held_with (combined k r) b v o ≡ reduced_at r v (held_with (combined k r) a v o) (gs x)) begins with in
     let seeds = from ∙ ap (λ (y : ℕ). first_entry f y v h) own in
     subst (λ (o : ℤ). held_with (combined f.start r) b v o ≡ reduced_at r v (held_with (combined f.start r) a v o) (gs x)) seeds starts
 
 same_number : (r : Reduction) (v : ℕ) (n : ℤ) (gs : List (ℕ × ℤ)) → gs ≡ [] → reduced_at r v n gs ≡ n
 same_number r v n gs none = ap (λ (hs : List (ℕ × ℤ)). reduced_at r v n hs) none
 
-pub joined_slot : (f : Functions) (x y p : ℕ) (r : Reduction) (before now after : VectorAccumulators) (was t : VectorAccumulator) (gs : List (ℕ × ℤ)) → active after ≡ take now.used (set now.slots.items p t)
+pub joined_slot : (f : ApplyContext) (x y p : ℕ) (r : Reduction) (before now after : VectorAccumulators) (was t : VectorAccumulator) (gs : List (ℕ × ℤ)) → active after ≡ take now.used (set now.slots.items p t)
     → p ≡ place_in y (active now) → p < now.used → now.used ≤ length now.slots.items → was ≡ get_or now.slots.items p was → t.vector ≡ was.vector → t.reduction ≡ was.reduction
     → ((combine : ℤ → ℤ → ℤ) (x v : ℕ) (h : ℤ) → held_in_with combine (active now) x v h ≡ held_in_with combine (active before) x v h)
     → (reduction_in (active before) x r ≡ r → reduction_in (active now) x r ≡ r)
@@ -92,7 +92,7 @@ joined_slot f x y p r before now after was t gs is place inside few slot vector 
     }
 
 -- edges that are joined at once, before those that wait, where what is joined comes to what they give
-pub folded_before_alike : (f : Functions) (m : StateValue) (steps : List StepsTree) (es more : List (ℕ × ℕ)) (a b : Scratch) (x : ℕ) (r : Reduction) (gs : List (ℕ × ℤ)) → waiting b.pairs ≡ waiting a.pairs
+pub folded_before_alike : (f : ApplyContext) (m : StateValue) (steps : List StepsTree) (es more : List (ℕ × ℕ)) (a b : Scratch) (x : ℕ) (r : Reduction) (gs : List (ℕ × ℤ)) → waiting b.pairs ≡ waiting a.pairs
     → HaveJoined f x r a.slots b.slots gs → ((v : ℕ) (n : ℤ) → v < f.vertices → reduced_at r v n gs ≡ reduced_at r v n (given_on x (all_given m steps) more))
     → HasFoldedFor f m steps es a x r → HasFoldedFor f m steps (es ++ more) b x r
 folded_before_alike f m steps es more a b x r gs same joined alike has = record {
@@ -106,12 +106,12 @@ folded_before_alike f m steps es more a b x r gs same joined alike has = record 
   reduction = joined.reduction has.reduction;
 }
 
-pub folded_before : (f : Functions) (m : StateValue) (steps : List StepsTree) (es more : List (ℕ × ℕ)) (a b : Scratch) (x : ℕ) (r : Reduction) → waiting b.pairs ≡ waiting a.pairs
+pub folded_before : (f : ApplyContext) (m : StateValue) (steps : List StepsTree) (es more : List (ℕ × ℕ)) (a b : Scratch) (x : ℕ) (r : Reduction) → waiting b.pairs ≡ waiting a.pairs
     → HaveJoined f x r a.slots b.slots (given_on x (all_given m steps) more) → HasFoldedFor f m steps es a x r → HasFoldedFor f m steps (es ++ more) b x r
 folded_before f m steps es more a b x r same joined has = folded_before_alike f m steps es more a b x r (given_on x (all_given m steps) more) same joined (λ v n l. refl) has
 
 -- edges that wait
-pub folded_later : (f : Functions) (m : StateValue) (steps : List StepsTree) (es more : List (ℕ × ℕ)) (a b : Scratch) (x : ℕ) (r : Reduction) → b.slots ≡ a.slots → waiting b.pairs ≡ waiting a.pairs ++ more
+pub folded_later : (f : ApplyContext) (m : StateValue) (steps : List StepsTree) (es more : List (ℕ × ℕ)) (a b : Scratch) (x : ℕ) (r : Reduction) → b.slots ≡ a.slots → waiting b.pairs ≡ waiting a.pairs ++ more
     → HasFoldedFor f m steps es a x r → HasFoldedFor f m steps (es ++ more) b x r
 folded_later f m steps es more a b x r same waits has = record {
   entries = λ v h l.
@@ -125,18 +125,18 @@ folded_later f m steps es more a b x r same waits has = record {
 }
 
 -- new entries that began with the old ones
-pub old_entries : (f : Functions) (m : StateValue) (x v : ℕ) (r : Reduction) (ss : List VectorAccumulator) (gs hs : List (ℕ × ℤ)) → f.start ≡ start.OldEntry → f.vectors.now.vectors ≡ m.vectors
+pub old_entries : (f : ApplyContext) (m : StateValue) (x v : ℕ) (r : Reduction) (ss : List VectorAccumulator) (gs hs : List (ℕ × ℤ)) → f.start ≡ start.OldEntry → f.vectors.now.vectors ≡ m.vectors
     → reduced_at r v (held_in_with (combined f.start r) ss x v (first_entry f x v (entry m.vectors x v))) gs ≡ reduced_at r v (first_entry f x v (entry m.vectors x v)) hs
     → reduced_at r v (held_in ss x v (entry m.vectors x v)) gs ≡ reduced_at r v (entry m.vectors x v) hs
 old_entries f m x v r ss gs hs old vectors has =
     let o = entry m.vectors x v in
-    let then = subst (λ (k : Start). reduced_at r v (held_in_with (combined k r) ss x v (seed k (entry f.vectors.now.vectors x v) o)) gs ≡ reduced_at r v (seed k (entry f.vectors.now.vectors x v) o) hs) old has in
+    let then = subst (λ (k : FoldStart). reduced_at r v (held_in_with (combined k r) ss x v (seed k (entry f.vectors.now.vectors x v) o)) gs ≡ reduced_at r v (seed k (entry f.vectors.now.vectors x v) o) hs) old has in
     subst (λ (vs : List (List ℤ)). reduced_at r v (held_in ss x v (entry vs x v)) gs ≡ reduced_at r v (entry vs x v) hs) vectors then
 
 -- new entries that began with the unit, and are combined with a number
-pub unit_entries : (f : Functions) (x v : ℕ) (h : ℤ) (r : Reduction) (ss : List VectorAccumulator) (gs hs : List (ℕ × ℤ)) → f.start ≡ start.Unit
+pub unit_entries : (f : ApplyContext) (x v : ℕ) (h : ℤ) (r : Reduction) (ss : List VectorAccumulator) (gs hs : List (ℕ × ℤ)) → f.start ≡ start.Unit
     → reduced_at r v (held_in_with (combined f.start r) ss x v (first_entry f x v h)) gs ≡ reduced_at r v (first_entry f x v h) hs
     → reduced_at r v (held_in_with (combined start.Unit r) ss x v h) gs ≡ reduced_at r v h hs
 unit_entries f x v h r ss gs hs unit has =
     let o = entry f.vectors.now.vectors x v in
-    subst (λ (k : Start). reduced_at r v (held_in_with (combined k r) ss x v (seed k o h)) gs ≡ reduced_at r v (seed k o h) hs) unit has
+    subst (λ (k : FoldStart). reduced_at r v (held_in_with (combined k r) ss x v (seed k o h)) gs ≡ reduced_at r v (seed k o h) hs) unit has

@@ -6,15 +6,15 @@ use Rattle.apply_options.specs.declared.reduction.Reduction.{Reduction}
 use Rattle.typed_tree.specs.StepTree.{StepsTree}
 use Rattle.algorithm_meaning.specs.State.{StateValue}
 use Rattle.algorithm_meaning.proofs.Lists.{fold-permutation}
-use Rattle.edge_fold.specs.declared.functions.Functions.{Functions}
+use Rattle.edge_fold.specs.declared.apply_context.ApplyContext.{ApplyContext}
 use Rattle.edge_fold.specs.declared.scratch.Scratch.{Scratch}
 use Rattle.edge_fold.specs.Folded.{HasFolded}
 use Rattle.edge_fold.specs.Given.{all_given, given_on, reduced_at}
-use Rattle.edge_fold.specs.Seeds.{first_entry}
+use Rattle.edge_fold.specs.FoldStarts.{first_entry}
 use Rattle.edge_fold.proofs.Folds.{given_on-append, reduced_at-append, reduced_at-swap}
 
 -- edges that give vertices the same
-pub folded_alike : (f : Functions) (m : StateValue) (steps : List StepsTree) (es fs : List (ℕ × ℕ)) (s : Scratch)
+pub folded_alike : (f : ApplyContext) (m : StateValue) (steps : List StepsTree) (es fs : List (ℕ × ℕ)) (s : Scratch)
     → ((x v : ℕ) (r : Reduction) (n : ℤ) → reduced_at r v n (given_on x (all_given m steps) es) ≡ reduced_at r v n (given_on x (all_given m steps) fs))
     → HasFolded f m steps es s → HasFolded f m steps fs s
 folded_alike f m steps es fs s alike has x r by =
@@ -42,7 +42,7 @@ module _ {K : Type 0} (r : Reduction) (x v : ℕ) (g : ℕ × ℕ → List (ℕ 
       → reduced_at r v n (given_on x g (flat_map edges_of ks)) ≡ reduced_at r v n (given_on x g (flat_map edges_of ls))
   groups_in_any_order ks ls same n = group_by_group ks n ∙ fold-permutation K ℤ group groups_swap n ks ls same ∙ sym (group_by_group ls n)
 
-pub folded_in_any_order : {K : Type 0} (f : Functions) (m : StateValue) (steps : List StepsTree) (edges_of : K → List (ℕ × ℕ)) (ks ls : List K) (s : Scratch) → IsPermutation ks ls
+pub folded_in_any_order : {K : Type 0} (f : ApplyContext) (m : StateValue) (steps : List StepsTree) (edges_of : K → List (ℕ × ℕ)) (ks ls : List K) (s : Scratch) → IsPermutation ks ls
     → HasFolded f m steps (flat_map edges_of ks) s → HasFolded f m steps (flat_map edges_of ls) s
 folded_in_any_order f m steps edges_of ks ls s same =
     folded_alike f m steps (flat_map edges_of ks) (flat_map edges_of ls) s (λ x v r n. groups_in_any_order r x v (all_given m steps) edges_of ks ls same n)
@@ -52,7 +52,7 @@ one_by_one : (es : List (ℕ × ℕ)) → flat_map (λ e. e ∷ []) es ≡ es
 one_by_one [] = refl
 one_by_one (e ∷ es) = ap (λ fs. e ∷ fs) (one_by_one es)
 
-pub edges_in_any_order : (f : Functions) (m : StateValue) (steps : List StepsTree) (es fs : List (ℕ × ℕ)) (s : Scratch) → IsPermutation es fs → HasFolded f m steps es s → HasFolded f m steps fs s
+pub edges_in_any_order : (f : ApplyContext) (m : StateValue) (steps : List StepsTree) (es fs : List (ℕ × ℕ)) (s : Scratch) → IsPermutation es fs → HasFolded f m steps es s → HasFolded f m steps fs s
 edges_in_any_order f m steps es fs s same has =
     folded_alike f m steps es fs s
     (λ x v r n.

@@ -23,7 +23,7 @@ of_slot-append : {A : Type 0} (of : VectorAccumulator → A) (ss : List VectorAc
 of_slot-append of [] s x d clean = alike (s.vector == x) (of s) d clean
 of_slot-append of (t ∷ ts) s x d clean = ap (λ y. cond (t.vector == x) (of t) y) (of_slot-append of ts s x d clean)
 
--- a slot behind the others has it only where there was none
+-- a slot after the others has it only where there was none
 pub of_slot-push : {A : Type 0} (of : VectorAccumulator → A) (ss : List VectorAccumulator) (s : VectorAccumulator) (x : ℕ) (d : A) → of_slot of (ss ++ s ∷ []) x d ≡ of_slot of ss x (cond (s.vector == x) (of s) d)
 of_slot-push of [] s x d = refl
 of_slot-push of (t ∷ ts) s x d = ap (λ y. cond (t.vector == x) (of t) y) (of_slot-push of ts s x d)

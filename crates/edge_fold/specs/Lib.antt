@@ -1,10 +1,10 @@
 pub mod Given
 pub mod Between
-pub mod Seeds
+pub mod FoldStarts
 pub mod Held
 pub mod Changed
 pub mod VectorAccumulators
 pub mod Folded
 pub mod Gathered
 pub mod Ends
-pub mod Together
+pub mod ReducedContributions

@@ -1,12 +1,12 @@
 -- What slots have.
 use Rattle.std.specs.Prelude.{◌≡◌, ℕ, suc, ℤ, ◌==◌, if◌then◌else◌, List, [], ◌∷◌, take}
 use Rattle.apply_options.specs.declared.reduction.Reduction.{Reduction}
-use Rattle.edge_fold.specs.declared.functions.Functions.{Functions}
+use Rattle.edge_fold.specs.declared.apply_context.ApplyContext.{ApplyContext}
 use Rattle.edge_fold.specs.declared.vector_accumulator.VectorAccumulator.{VectorAccumulator}
 use Rattle.edge_fold.specs.declared.vector_accumulator.VectorAccumulators.{VectorAccumulators}
 use Rattle.edge_fold.specs.Given.{reduced_at}
 use Rattle.edge_fold.specs.Held.{held_with}
-use Rattle.edge_fold.specs.Seeds.{combined, first_entry}
+use Rattle.edge_fold.specs.FoldStarts.{combined, first_entry}
 
 -- what the first slot of a vector has, or this where there is none
 abbrev pub of_slot : {A : Type 0} → (VectorAccumulator → A) → List VectorAccumulator → (vector : ℕ) → A → A
@@ -35,7 +35,7 @@ abbrev pub active : VectorAccumulators → List VectorAccumulator
 active s = take s.used s.slots.items
 
 -- after a join slots have what was given for a vector by a reduction, too
-pub record HaveJoined (f : Functions) (x : ℕ) (r : Reduction) (before after : VectorAccumulators) (gs : List (ℕ × ℤ)) : Type 0 where
+pub record HaveJoined (f : ApplyContext) (x : ℕ) (r : Reduction) (before after : VectorAccumulators) (gs : List (ℕ × ℤ)) : Type 0 where
   pub entries : (v : ℕ) (h : ℤ) → held_in_with (combined f.start r) (active after) x v (first_entry f x v h)
       ≡ reduced_at r v (held_in_with (combined f.start r) (active before) x v (first_entry f x v h)) gs
   pub reduction : reduction_in (active before) x r ≡ r → reduction_in (active after) x r ≡ r

@@ -1,4 +1,4 @@
-//! The new entries of one vector.
+//! Accumulator: the new entries of one vector, known by a stamp.
 ghost use Rattle.std.specs.Prelude.{◌≡◌, ℕ, ◌<◌, ◌≤◌, Contains, slice_index_or, vec_len};
 
 /// The new entries of one vector, at the vertices that an apply has given something.

@@ -1,4 +1,4 @@
-//! What has changed at the end of an apply.
+//! Changes of one vector: where a new entry differs from the old one.
 ghost use Rattle.std.specs.Prelude.{◌≡◌, ℕ, ℤ, ◌<◌, ◌≤◌, ◌++◌, Contains, IfOk, OnOk};
 ghost use Rattle.std.specs.List.Sorted.{IsNonDecreasing};
 ghost use Rattle.edge_fold.specs.Changed.{change_at, changed};

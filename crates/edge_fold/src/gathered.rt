@@ -1,4 +1,4 @@
-//! What a piece of an apply gives.
+//! Gathered contributions: what a piece of an apply gives.
 ghost use Rattle.std.specs.Prelude.{◌≡◌, ℕ, ℤ, ◌<◌, ◌++◌, Bool, Contains, List, if◌then◌else◌, IfOk, OnOk};
 ghost use Rattle.std.specs.List.{filter};
 ghost use Rattle.std.specs.List.Sorted.{IsNonDecreasing};
@@ -6,17 +6,17 @@ ghost use Rattle.apply_options.specs.declared.reduction.Reduction.{Reduction};
 ghost use Rattle.typed_tree.specs.StepTree.{StepsTree};
 ghost use Rattle.algorithm_meaning.specs.State.{StateValue};
 ghost use Rattle.register_code.specs.Cells.{HasSizes};
-ghost use Rattle.edge_fold.specs.declared.functions.Start.TheVariants.{Unit as FromUnit};
+ghost use Rattle.edge_fold.specs.declared.apply_context.FoldStart.TheVariants.{Unit as FromUnit};
 ghost use Rattle.edge_fold.specs.Ends.{IsEndTest};
-ghost use Rattle.edge_fold.specs.Folded.{AreFunctions, HasFolded};
+ghost use Rattle.edge_fold.specs.Folded.{IsContextOf, HasFolded};
 ghost use Rattle.edge_fold.specs.Gathered.{AreGathered, IsGatheredBy, gathered_for, number_at, numbers_of};
 ghost use Rattle.edge_fold.specs.Given.{reduced_at};
 ghost use Rattle.edge_fold.specs.Held.{held_with};
-ghost use Rattle.edge_fold.specs.Seeds.{combined};
+ghost use Rattle.edge_fold.specs.FoldStarts.{combined};
 ghost use Rattle.edge_fold.specs.VectorAccumulators.{active, held_in_with, reduction_in};
 
 use crate::accumulator::Accumulator;
-use crate::functions::Functions;
+use crate::apply_context::ApplyContext;
 use crate::passing::keep_passing;
 use crate::scratch::Scratch;
 use crate::vector_accumulator::{VectorAccumulator, VectorAccumulators};
@@ -53,14 +53,14 @@ impl Scratch {
     pub fn gathered(
         &mut self,
         alloc: Global,
-        functions: Functions<'_>,
+        context: ApplyContext<'_>,
         to: Option<EndpointFilter<'_>>,
     ) -> Result<Gathered, AllocError>
-        ensures { IfOk result (λ g. (m : StateValue) (steps : List StepsTree) (edges : List (ℕ × ℕ)) (test : ℕ → Bool) → AreFunctions functions.entry m steps → IsEndTest to.entry m test
-            → HasFolded functions.entry m steps edges self.old → functions.entry.start ≡ FromUnit → AreGathered functions.entry.vertices m steps (filter (λ e. test e.1) edges) g) }
+        ensures { IfOk result (λ g. (m : StateValue) (steps : List StepsTree) (edges : List (ℕ × ℕ)) (test : ℕ → Bool) → IsContextOf context.entry m steps → IsEndTest to.entry m test
+            → HasFolded context.entry m steps edges self.old → context.entry.start ≡ FromUnit → AreGathered context.entry.vertices m steps (filter (λ e. test e.1) edges) g) }
     {
-        self.flush(alloc, functions)?;
-        let gathered = gathered_in_slots(alloc, functions, to, &self.slots, &mut self.block)?;
+        self.flush(alloc, context)?;
+        let gathered = gathered_in_slots(alloc, context, to, &self.slots, &mut self.block)?;
         Ok(gathered)
     }
 
@@ -69,14 +69,13 @@ impl Scratch {
     pub fn join_gathered(
         &mut self,
         alloc: Global,
-        functions: Functions<'_>,
+        context: ApplyContext<'_>,
         gathered: &Gathered,
     ) -> Result<(), AllocError>
-        ensures { OnOk result ((m : StateValue) (steps : List StepsTree) (edges more : List (ℕ × ℕ)) → HasFolded functions.entry m steps edges self.old
-            → AreGathered functions.entry.vertices m steps more gathered.now → HasFolded functions.entry m steps (edges ++ more) self.new) }
+        ensures { OnOk result ((m : StateValue) (steps : List StepsTree) (edges more : List (ℕ × ℕ)) → HasFolded context.entry m steps edges self.old
+            → AreGathered context.entry.vertices m steps more gathered.now → HasFolded context.entry m steps (edges ++ more) self.new) }
     {
-        self.slots
-            .join_gathered(alloc, functions, &gathered.vectors)?;
+        self.slots.join_gathered(alloc, context, &gathered.vectors)?;
         Ok(())
     }
 }
@@ -84,14 +83,14 @@ impl Scratch {
 /// What the slots have for their vectors.
 fn gathered_in_slots(
     alloc: Global,
-    functions: Functions<'_>,
+    context: ApplyContext<'_>,
     to: Option<EndpointFilter<'_>>,
     slots: &VectorAccumulators,
     block: &mut Block,
 ) -> Result<Gathered, AllocError>
     ensures reduction { IfOk result (λ g. (x : ℕ) (r : Reduction) → reduction_in (active slots.now) x r ≡ r → IsGatheredBy r x g.vectors.items) }
-    ensures numbers { IfOk result (λ g. (m : StateValue) (test : ℕ → Bool) → functions.entry.vectors.now.vectors ≡ m.vectors → HasSizes functions.entry.sizes.now m → IsEndTest to.entry m test
-        → (x v : ℕ) (r : Reduction) (h : ℤ) → v < functions.entry.vertices → reduced_at r v h (gathered_for x g.vectors.items)
+    ensures numbers { IfOk result (λ g. (m : StateValue) (test : ℕ → Bool) → context.entry.vectors.now.vectors ≡ m.vectors → HasSizes context.entry.sizes.now m → IsEndTest to.entry m test
+        → (x v : ℕ) (r : Reduction) (h : ℤ) → v < context.entry.vertices → reduced_at r v h (gathered_for x g.vectors.items)
         ≡ (if test v then held_in_with (combined FromUnit r) (active slots.now) x v h else h)) }
 {
     let mut vectors = Vec::new(alloc);
@@ -100,7 +99,7 @@ fn gathered_in_slots(
         if find(&slots.slots[..place], slot.vector) < place {
             continue;
         }
-        let numbers = numbers_in_slot(alloc, functions, to, slot, block)?;
+        let numbers = numbers_in_slot(alloc, context, to, slot, block)?;
         vectors.push(GatheredIn {
             vector: slot.vector,
             reduction: slot.reduction,
@@ -113,25 +112,25 @@ fn gathered_in_slots(
 /// What a slot has for its vector.
 fn numbers_in_slot(
     alloc: Global,
-    functions: Functions<'_>,
+    context: ApplyContext<'_>,
     to: Option<EndpointFilter<'_>>,
     slot: &VectorAccumulator,
     block: &mut Block,
 ) -> Result<Vec<EntryChange>, AllocError>
-    ensures { IfOk result (λ cs. (m : StateValue) (test : ℕ → Bool) → functions.entry.vectors.now.vectors ≡ m.vectors → HasSizes functions.entry.sizes.now m → IsEndTest to.entry m test
-        → (r : Reduction) (v : ℕ) (h : ℤ) → v < functions.entry.vertices
+    ensures { IfOk result (λ cs. (m : StateValue) (test : ℕ → Bool) → context.entry.vectors.now.vectors ≡ m.vectors → HasSizes context.entry.sizes.now m → IsEndTest to.entry m test
+        → (r : Reduction) (v : ℕ) (h : ℤ) → v < context.entry.vertices
         → reduced_at r v h (numbers_of cs.items) ≡ (if test v then held_with (combined FromUnit r) slot.now.entries v h else h)) }
 {
-    let touched = slot.entries.ascending(alloc, functions.vertices)?;
+    let touched = slot.entries.ascending(alloc, context.vertices)?;
     match to {
         None => {
-            let numbers = slot.entries.numbers(alloc, &touched, functions.vertices)?;
+            let numbers = slot.entries.numbers(alloc, &touched, context.vertices)?;
             Ok(numbers)
         }
         Some(end) => {
             let mut kept = Vec::new(alloc);
-            keep_passing(functions, end, &touched, block, &mut kept)?;
-            let numbers = slot.entries.numbers(alloc, &kept, functions.vertices)?;
+            keep_passing(context, end, &touched, block, &mut kept)?;
+            let numbers = slot.entries.numbers(alloc, &kept, context.vertices)?;
             Ok(numbers)
         }
     }

@@ -1,17 +1,17 @@
-//! Joining what is given to vertices.
+//! Joins: contributions reduced into the entries of an accumulator.
 ghost use Rattle.std.specs.Prelude.{◌≡◌, ℕ, ℤ, pos, ◌==◌, ◌∷◌, [], ◌<◌, ◌≤◌, true, false, Contains, length, slice_index_or, vec_len, IfOk, OnOk};
 ghost use Rattle.std.specs.List.Sorted.{IsNonDecreasing};
 ghost use Rattle.edge_fold.specs.Gathered.{numbers_of};
 ghost use Rattle.edge_fold.specs.Given.{each_given, for_vector, given_from};
 ghost use Rattle.edge_fold.specs.Held.{AreJoined, held, held_with, room};
-ghost use Rattle.kernels.specs.Gifts.{gift_at, truth_at};
+ghost use Rattle.kernels.specs.ContributionColumns.{contribution_at, truth_at};
 
 use crate::accumulator::Accumulator;
 use crate::initial_entries::InitialEntries;
 use crate::passing::keep_where;
 use algorithm_meaning::reduce;
 use apply_options::Reduction;
-use kernels::Gift;
+use kernels::ContributionColumn;
 use std::alloc::{AllocError, Global};
 use vectors::EntryChange;
 
@@ -64,16 +64,16 @@ impl Accumulator {
     pub(crate) fn join_column(
         &mut self,
         opening: InitialEntries<'_>,
-        gift: Gift<'_>,
+        contribution: ContributionColumn<'_>,
         destinations: &[u32],
     ) -> Result<(), AllocError>
-        requires { length destinations.now ≤ length gift.numbers.now }
-        ensures { OnOk result (AreJoined opening.entry gift.entry.reduction self.old self.new (given_from gift.entry.vector (gift_at gift.entry) 0 destinations.now)) }
+        requires { length destinations.now ≤ length contribution.numbers.now }
+        ensures { OnOk result (AreJoined opening.entry contribution.entry.reduction self.old self.new (given_from contribution.entry.vector (contribution_at contribution.entry) 0 destinations.now)) }
     {
-        match gift.reduction {
-            Reduction::Min => self.join_all(Reduction::Min, opening, gift, destinations),
-            Reduction::Max => self.join_all(Reduction::Max, opening, gift, destinations),
-            Reduction::Plus => self.join_all(Reduction::Plus, opening, gift, destinations),
+        match contribution.reduction {
+            Reduction::Min => self.join_all(Reduction::Min, opening, contribution, destinations),
+            Reduction::Max => self.join_all(Reduction::Max, opening, contribution, destinations),
+            Reduction::Plus => self.join_all(Reduction::Plus, opening, contribution, destinations),
         }
     }
 
@@ -82,14 +82,14 @@ impl Accumulator {
         &mut self,
         reduction: Reduction,
         opening: InitialEntries<'_>,
-        gift: Gift<'_>,
+        contribution: ContributionColumn<'_>,
         destinations: &[u32],
     ) -> Result<(), AllocError>
-        requires { length destinations.now ≤ length gift.numbers.now }
-        ensures { OnOk result (AreJoined opening.entry reduction self.old self.new (given_from gift.entry.vector (gift_at gift.entry) 0 destinations.now)) }
+        requires { length destinations.now ≤ length contribution.numbers.now }
+        ensures { OnOk result (AreJoined opening.entry reduction self.old self.new (given_from contribution.entry.vector (contribution_at contribution.entry) 0 destinations.now)) }
     {
         'pairs: for (k, vertex) in destinations.iter().enumerate() {
-            self.join_pair(reduction, opening, gift, k, *vertex)?;
+            self.join_pair(reduction, opening, contribution, k, *vertex)?;
         }
         Ok(())
     }
@@ -100,15 +100,15 @@ impl Accumulator {
         &mut self,
         reduction: Reduction,
         opening: InitialEntries<'_>,
-        gift: Gift<'_>,
+        contribution: ContributionColumn<'_>,
         place: usize,
         vertex: u32,
     ) -> Result<(), AllocError>
-        requires { place < length gift.numbers.now }
-        ensures { OnOk result (AreJoined opening.entry reduction self.old self.new (for_vector gift.entry.vector vertex (gift_at gift.entry place))) }
+        requires { place < length contribution.numbers.now }
+        ensures { OnOk result (AreJoined opening.entry reduction self.old self.new (for_vector contribution.entry.vector vertex (contribution_at contribution.entry place))) }
     {
-        if is_given(gift, place) {
-            self.join(reduction, opening, vertex, gift.numbers[place])?;
+        if is_given(contribution, place) {
+            self.join(reduction, opening, vertex, contribution.numbers[place])?;
         }
         Ok(())
     }
@@ -307,10 +307,10 @@ fn lengthen_numbers(numbers: &mut Vec<i64>, count: usize) -> Result<(), AllocErr
 
 /// Whether a column gives a pair something.
 #[inline(always)]
-fn is_given(gift: Gift<'_>, place: usize) -> bool
-    ensures { result ≡ truth_at gift.entry.when place }
+fn is_given(contribution: ContributionColumn<'_>, place: usize) -> bool
+    ensures { result ≡ truth_at contribution.entry.when place }
 {
-    match gift.when {
+    match contribution.when {
         None => true,
         Some(when) => match when.get(place) {
             Some(n) => *n != 0,
@@ -320,12 +320,12 @@ fn is_given(gift: Gift<'_>, place: usize) -> bool
 }
 
 /// Whether a column gives one of the first pairs something.
-pub(crate) fn gives_some(gift: Gift<'_>, count: usize) -> bool
-    ensures some { result ≡ true → (i : ℕ) × (i < count) × (truth_at gift.entry.when i ≡ true) }
-    ensures none { result ≡ false → (i : ℕ) → i < count → truth_at gift.entry.when i ≡ false }
+pub(crate) fn gives_some(contribution: ContributionColumn<'_>, count: usize) -> bool
+    ensures some { result ≡ true → (i : ℕ) × (i < count) × (truth_at contribution.entry.when i ≡ true) }
+    ensures none { result ≡ false → (i : ℕ) → i < count → truth_at contribution.entry.when i ≡ false }
 {
     'pairs: for pair in 0..count {
-        if is_given(gift, pair) {
+        if is_given(contribution, pair) {
             return true;
         }
     }

@@ -5,14 +5,14 @@
 //! destinations, and [`Scratch::fold_into`] a destination with up to 128 of its sources. [`Scratch::changes`] says at the
 //! end what has changed, for each vector once, by ascending vertices.
 //!
-//! A worker that does a piece of an apply lets new entries begin with the unit of the reduction ([`Start`]).
+//! A worker that does a piece of an apply lets new entries begin with the unit of the reduction ([`FoldStart`]).
 //! [`Scratch::gathered`] then says what its edges give, as numbers for vertices, and [`Scratch::join_gathered`] joins that
 //! to the entries of the whole, piece by piece in any order.
 //!
 //! `HasFolded` (`specs/Folded.antt`) says which edges a scratch has folded: for each vector to which the functions give
 //! by one reduction, the new entries, reduced with what the edges that still wait give, are the old entries reduced with
 //! what those edges give. Where new entries begin with the unit, a number that is
-//! reduced with one is that number reduced with what those edges give (`specs/Seeds.antt`). `changes` then promises the entries after an apply of them (`after_edges` of
+//! reduced with one is that number reduced with what those edges give (`specs/FoldStarts.antt`). `changes` then promises the entries after an apply of them (`after_edges` of
 //! `algorithm_meaning`), for each vector that has an entry for each vertex. The functions read the vectors that are
 //! lent, which stay as they are until the changes are written.
 //!
@@ -33,23 +33,23 @@
 #![tactic(auto)]
 
 mod accumulator;
+mod apply_changes;
+mod apply_context;
+mod by_destination;
 mod changes;
-mod found;
-mod functions;
 mod gathered;
 mod initial_entries;
-mod into;
 mod joins;
 mod pairs;
 mod passing;
+mod reduced_contributions;
 mod run;
 mod scratch;
-mod sent;
+mod source_contributions;
 mod source_numbers;
-mod together;
 mod vector_accumulator;
 mod vector_accumulators;
 
-pub use functions::{Functions, Start};
+pub use apply_context::{ApplyContext, FoldStart};
 pub use gathered::{Gathered, GatheredIn};
 pub use scratch::Scratch;

@@ -1,4 +1,4 @@
-//! Pairs that wait for a run of the kernels.
+//! Waiting pairs: edges that wait for a run of the kernels.
 ghost use Rattle.std.specs.Prelude.{◌≡◌, ℕ, ◌+◌, ◌<◌, ◌≤◌, ◌++◌, length};
 
 /// Pairs of a source and a destination that wait for the kernels: the first ones, as many as there are.

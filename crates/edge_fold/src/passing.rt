@@ -1,4 +1,4 @@
-//! Vertices that an end of an edge lets through.
+//! Endpoint tests: the vertices that an end of an edge lets through.
 ghost use Rattle.std.specs.Prelude.{◌≡◌, ℕ, ◌<◌, ◌≤◌, ◌++◌, ◌∷◌, [], Bool, if◌then◌else◌, length, slice_index_or, OnOk};
 ghost use Rattle.std.specs.List.{filter};
 ghost use Rattle.algorithm_meaning.specs.EdgeApply.{is_member};
@@ -7,25 +7,25 @@ ghost use Rattle.register_code.specs.Cells.{HasSizes};
 ghost use Rattle.kernels.specs.Kernels.{passes_at};
 ghost use Rattle.edge_fold.specs.Ends.{IsFilterTest, IsTest};
 
-use crate::functions::Functions;
-use kernels::{Around, Block, EndpointFilter, FilterKernel};
+use crate::apply_context::ApplyContext;
+use kernels::{Block, BlockInput, EndpointFilter, FilterKernel};
 use std::alloc::AllocError;
 use vertex_sets::VertexSet;
 
 /// Adds those vertices that an end lets through, in their order. The only error is out of memory.
 pub(crate) fn keep_passing(
-    functions: Functions<'_>,
+    context: ApplyContext<'_>,
     end: EndpointFilter<'_>,
     vertices: &[u32],
     block: &mut Block,
     kept: &mut Vec<u32>,
 ) -> Result<(), AllocError>
-    ensures { OnOk result ((m : StateValue) (test : ℕ → Bool) → functions.entry.vectors.now.vectors ≡ m.vectors → HasSizes functions.entry.sizes.now m → IsTest end.entry m test
+    ensures { OnOk result ((m : StateValue) (test : ℕ → Bool) → context.entry.vectors.now.vectors ≡ m.vectors → HasSizes context.entry.sizes.now m → IsTest end.entry m test
         → kept.new.items ≡ kept.old.items ++ filter test vertices.now) }
 {
     match end {
         EndpointFilter::Members(set) => keep_members(set, vertices, kept),
-        EndpointFilter::Filter(kernel) => keep_filtered(functions, kernel, vertices, block, kept),
+        EndpointFilter::Filter(kernel) => keep_filtered(context, kernel, vertices, block, kept),
     }
 }
 
@@ -41,19 +41,19 @@ fn keep_members(set: &VertexSet, vertices: &[u32], kept: &mut Vec<u32>) -> Resul
 
 /// Those that a filter lets through.
 fn keep_filtered(
-    functions: Functions<'_>,
+    context: ApplyContext<'_>,
     kernel: &FilterKernel,
     vertices: &[u32],
     block: &mut Block,
     kept: &mut Vec<u32>,
 ) -> Result<(), AllocError>
-    ensures { OnOk result ((m : StateValue) (test : ℕ → Bool) → functions.entry.vectors.now.vectors ≡ m.vectors → HasSizes functions.entry.sizes.now m → IsFilterTest kernel.now m test
+    ensures { OnOk result ((m : StateValue) (test : ℕ → Bool) → context.entry.vectors.now.vectors ≡ m.vectors → HasSizes context.entry.sizes.now m → IsFilterTest kernel.now m test
         → kept.new.items ≡ kept.old.items ++ filter test vertices.now) }
 {
     let mut rest = vertices;
     'parts: while !rest.is_empty() {
         let (part, more) = rest.split_at(rest.len().min(128));
-        keep_part(functions, kernel, part, block, kept)?;
+        keep_part(context, kernel, part, block, kept)?;
         rest = more;
     }
     Ok(())
@@ -61,21 +61,21 @@ fn keep_filtered(
 
 /// The same of at most 128.
 fn keep_part(
-    functions: Functions<'_>,
+    context: ApplyContext<'_>,
     kernel: &FilterKernel,
     part: &[u32],
     block: &mut Block,
     kept: &mut Vec<u32>,
 ) -> Result<(), AllocError>
     requires { length part.now ≤ 128 }
-    ensures { OnOk result ((m : StateValue) (test : ℕ → Bool) → functions.entry.vectors.now.vectors ≡ m.vectors → HasSizes functions.entry.sizes.now m → IsFilterTest kernel.now m test
+    ensures { OnOk result ((m : StateValue) (test : ℕ → Bool) → context.entry.vectors.now.vectors ≡ m.vectors → HasSizes context.entry.sizes.now m → IsFilterTest kernel.now m test
         → kept.new.items ≡ kept.old.items ++ filter test part.now) }
 {
     block.make_room(kernel.room())?;
-    let around = Around {
-        vectors: functions.vectors,
-        sizes: functions.sizes,
-        vertices: functions.vertices,
+    let around = BlockInput {
+        vectors: context.vectors,
+        sizes: context.sizes,
+        vertices: context.vertices,
         sources: part,
         destinations: part,
     };

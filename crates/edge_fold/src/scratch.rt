@@ -1,7 +1,7 @@
-//! What a run keeps for its applies.
+//! Scratch: the memory that a run keeps for its applies.
 ghost use Rattle.std.specs.Prelude.{◌≡◌, ℕ, ◌<◌, ◌≤◌, ◌++◌, List, [], length, IfSome, OnOk};
 
-use crate::functions::Functions;
+use crate::apply_context::ApplyContext;
 use crate::pairs::Pairs;
 use crate::run::run_functions;
 use crate::vector_accumulator::VectorAccumulators;
@@ -28,13 +28,13 @@ impl Drop for Scratch {
 impl Scratch {
     ghost use Rattle.typed_tree.specs.StepTree.{StepsTree};
     ghost use Rattle.algorithm_meaning.specs.State.{StateValue};
-    ghost use Rattle.edge_fold.specs.declared.functions.Functions.{Functions};
-    ghost use Rattle.edge_fold.specs.Folded.{AreFunctions, HasFolded};
+    ghost use Rattle.edge_fold.specs.declared.apply_context.ApplyContext.{ApplyContext};
+    ghost use Rattle.edge_fold.specs.Folded.{IsContextOf, HasFolded};
     ghost use Rattle.edge_fold.specs.Given.{row};
 
     /// Memory for applies, of which none is taken yet.
     pub fn new(alloc: Global) -> Scratch
-        ensures { (f : Functions) (m : StateValue) (steps : List StepsTree) → HasFolded f m steps [] result }
+        ensures { (f : ApplyContext) (m : StateValue) (steps : List StepsTree) → HasFolded f m steps [] result }
     {
         Scratch {
             slots: VectorAccumulators::new(alloc),
@@ -45,7 +45,7 @@ impl Scratch {
 
     /// Begins an apply, whatever became of the one before. It takes constant time.
     pub fn begin(&mut self)
-        ensures { (f : Functions) (m : StateValue) (steps : List StepsTree) → HasFolded f m steps [] self.new }
+        ensures { (f : ApplyContext) (m : StateValue) (steps : List StepsTree) → HasFolded f m steps [] self.new }
     {
         self.slots.used = 0;
         self.pairs.count = 0;
@@ -55,33 +55,32 @@ impl Scratch {
     pub fn fold(
         &mut self,
         alloc: Global,
-        functions: Functions<'_>,
+        context: ApplyContext<'_>,
         source: u32,
         destinations: &[u32],
     ) -> Result<(), AllocError>
         requires { length destinations.now ≤ 128 }
-        ensures { OnOk result ((m : StateValue) (steps : List StepsTree) (edges : List (ℕ × ℕ)) → AreFunctions functions.entry m steps
-            → HasFolded functions.entry m steps edges self.old → HasFolded functions.entry m steps (edges ++ row source destinations.now) self.new) }
+        ensures { OnOk result ((m : StateValue) (steps : List StepsTree) (edges : List (ℕ × ℕ)) → IsContextOf context.entry m steps
+            → HasFolded context.entry m steps edges self.old → HasFolded context.entry m steps (edges ++ row source destinations.now) self.new) }
     {
-        if let Some(sent) = functions.sent(source) {
-            self.slots
-                .join_number(alloc, functions, sent, destinations)?;
+        if let Some(sent) = context.sent(source) {
+            self.slots.join_number(alloc, context, sent, destinations)?;
             return Ok(());
         }
-        self.gather(alloc, functions, source, destinations)
+        self.gather(alloc, context, source, destinations)
     }
 
     /// Adds edges to those that wait, and lets the kernels run where these are 128.
     fn gather(
         &mut self,
         alloc: Global,
-        functions: Functions<'_>,
+        context: ApplyContext<'_>,
         source: u32,
         destinations: &[u32],
     ) -> Result<(), AllocError>
         requires { length destinations.now ≤ 128 }
-        ensures { OnOk result ((m : StateValue) (steps : List StepsTree) (edges : List (ℕ × ℕ)) → AreFunctions functions.entry m steps
-            → HasFolded functions.entry m steps edges self.old → HasFolded functions.entry m steps (edges ++ row source destinations.now) self.new) }
+        ensures { OnOk result ((m : StateValue) (steps : List StepsTree) (edges : List (ℕ × ℕ)) → IsContextOf context.entry m steps
+            → HasFolded context.entry m steps edges self.old → HasFolded context.entry m steps (edges ++ row source destinations.now) self.new) }
     {
         let room = self.pairs.room();
         if destinations.len() <= room {
@@ -90,15 +89,15 @@ impl Scratch {
         }
         let (first, rest) = destinations.split_at(room);
         self.pairs.add(source, first);
-        self.flush(alloc, functions)?;
+        self.flush(alloc, context)?;
         self.pairs.add(source, rest);
         Ok(())
     }
 
     /// Lets the kernels run over the pairs that wait. The only error is out of memory.
-    pub fn flush(&mut self, alloc: Global, functions: Functions<'_>) -> Result<(), AllocError>
-        ensures folded { OnOk result ((m : StateValue) (steps : List StepsTree) (edges : List (ℕ × ℕ)) → AreFunctions functions.entry m steps
-            → HasFolded functions.entry m steps edges self.old → HasFolded functions.entry m steps edges self.new) }
+    pub fn flush(&mut self, alloc: Global, context: ApplyContext<'_>) -> Result<(), AllocError>
+        ensures folded { OnOk result ((m : StateValue) (steps : List StepsTree) (edges : List (ℕ × ℕ)) → IsContextOf context.entry m steps
+            → HasFolded context.entry m steps edges self.old → HasFolded context.entry m steps edges self.new) }
         ensures none { OnOk result (self.new.pairs.count ≡ 0) }
     {
         let pairs = &self.pairs;
@@ -106,7 +105,7 @@ impl Scratch {
         let destinations = &pairs.destinations[..pairs.count];
         run_functions(
             alloc,
-            functions,
+            context,
             sources,
             destinations,
             &mut self.block,

@@ -4,17 +4,17 @@ ghost use Rattle.edge_fold.specs.Gathered.{IsGatheredBy, gathered_for, numbers_o
 ghost use Rattle.edge_fold.specs.Given.{IsBy, each_given, given_from};
 ghost use Rattle.edge_fold.specs.Held.{held_with};
 ghost use Rattle.edge_fold.specs.VectorAccumulators.{HaveJoined, active, held_in_with, place_in, reduction_in};
-ghost use Rattle.kernels.specs.Gifts.{gift_at};
+ghost use Rattle.kernels.specs.ContributionColumns.{contribution_at};
 ghost use Rattle.kernels.specs.Kernels.{HasCells, given_at};
 ghost use Rattle.apply_options.specs.declared.reduction.Reduction.{Reduction};
 
 use crate::accumulator::Accumulator;
-use crate::functions::{Functions, Sent};
+use crate::apply_context::{ApplyContext, SourceContribution};
 use crate::gathered::GatheredIn;
 use crate::joins::gives_some;
 use crate::vector_accumulator::{VectorAccumulator, VectorAccumulators};
 use apply_options::Reduction;
-use kernels::{Block, EdgeKernel, Gift};
+use kernels::{Block, ContributionColumn, EdgeKernel};
 use std::alloc::{AllocError, Global};
 
 impl VectorAccumulators {
@@ -114,25 +114,30 @@ impl VectorAccumulators {
 
     /// Reduces the entries at the destinations of pairs with a column of what is given to them. A column that gives
     /// nothing changes nothing. The only error is out of memory, after which a part was done.
-    fn join_gift(
+    fn join_contribution(
         &mut self,
         alloc: Global,
-        functions: Functions<'_>,
-        gift: Gift<'_>,
+        context: ApplyContext<'_>,
+        contribution: ContributionColumn<'_>,
         destinations: &[u32],
     ) -> Result<(), AllocError>
-        requires { length destinations.now ≤ length gift.numbers.now }
-        ensures { OnOk result ((x : ℕ) (r : Reduction) → ((i : ℕ) → i < length destinations.now → IsBy r x (gift_at gift.entry i))
-            → HaveJoined functions.entry x r self.old self.new (given_from x (gift_at gift.entry) 0 destinations.now)) }
+        requires { length destinations.now ≤ length contribution.numbers.now }
+        ensures { OnOk result ((x : ℕ) (r : Reduction) → ((i : ℕ) → i < length destinations.now → IsBy r x (contribution_at contribution.entry i))
+            → HaveJoined context.entry x r self.old self.new (given_from x (contribution_at contribution.entry) 0 destinations.now)) }
     {
-        if !gives_some(gift, destinations.len()) {
+        if !gives_some(contribution, destinations.len()) {
             return Ok(());
         }
-        let place = self.place(alloc, gift.vector, gift.reduction, functions.vertices)?;
-        let opening = functions.opening(gift.vector);
+        let place = self.place(
+            alloc,
+            contribution.vector,
+            contribution.reduction,
+            context.vertices,
+        )?;
+        let opening = context.opening(contribution.vector);
         self.slots[place]
             .entries
-            .join_column(opening, gift, destinations)?;
+            .join_column(opening, contribution, destinations)?;
         Ok(())
     }
 
@@ -141,15 +146,15 @@ impl VectorAccumulators {
     pub(crate) fn join_number(
         &mut self,
         alloc: Global,
-        functions: Functions<'_>,
-        sent: Sent,
+        context: ApplyContext<'_>,
+        sent: SourceContribution,
         destinations: &[u32],
     ) -> Result<(), AllocError>
         ensures { OnOk result ((x : ℕ) (r : Reduction) → (sent.vector ≡ x → sent.reduction ≡ r)
-            → HaveJoined functions.entry x r self.old self.new (if sent.vector == x then each_given sent.number destinations.now else [])) }
+            → HaveJoined context.entry x r self.old self.new (if sent.vector == x then each_given sent.number destinations.now else [])) }
     {
-        let place = self.place(alloc, sent.vector, sent.reduction, functions.vertices)?;
-        let opening = functions.opening(sent.vector);
+        let place = self.place(alloc, sent.vector, sent.reduction, context.vertices)?;
+        let opening = context.opening(sent.vector);
         let entries = &mut self.slots[place].entries;
         entries.join_number(sent.reduction, opening, sent.number, destinations)?;
         Ok(())
@@ -160,13 +165,13 @@ impl VectorAccumulators {
     pub(crate) fn join_gathered(
         &mut self,
         alloc: Global,
-        functions: Functions<'_>,
+        context: ApplyContext<'_>,
         gathered: &[GatheredIn],
     ) -> Result<(), AllocError>
-        ensures { OnOk result ((x : ℕ) (r : Reduction) → IsGatheredBy r x gathered.now → HaveJoined functions.entry x r self.old self.new (gathered_for x gathered.now)) }
+        ensures { OnOk result ((x : ℕ) (r : Reduction) → IsGatheredBy r x gathered.now → HaveJoined context.entry x r self.old self.new (gathered_for x gathered.now)) }
     {
         'vectors: for of_vector in gathered {
-            self.join_numbers(alloc, functions, of_vector)?;
+            self.join_numbers(alloc, context, of_vector)?;
         }
         Ok(())
     }
@@ -175,16 +180,16 @@ impl VectorAccumulators {
     fn join_numbers(
         &mut self,
         alloc: Global,
-        functions: Functions<'_>,
+        context: ApplyContext<'_>,
         of_vector: &GatheredIn,
     ) -> Result<(), AllocError>
         ensures { OnOk result ((x : ℕ) (r : Reduction) → (of_vector.now.vector ≡ x → of_vector.now.reduction ≡ r)
-            → HaveJoined functions.entry x r self.old self.new (if of_vector.now.vector == x then numbers_of of_vector.now.numbers.items else [])) }
+            → HaveJoined context.entry x r self.old self.new (if of_vector.now.vector == x then numbers_of of_vector.now.numbers.items else [])) }
     {
         let vector = of_vector.vector;
         let reduction = of_vector.reduction;
-        let place = self.place(alloc, vector, reduction, functions.vertices)?;
-        let opening = functions.opening(vector);
+        let place = self.place(alloc, vector, reduction, context.vertices)?;
+        let opening = context.opening(vector);
         let entries = &mut self.slots[place].entries;
         entries.join_changes(reduction, opening, &of_vector.numbers)?;
         Ok(())
@@ -195,7 +200,7 @@ impl VectorAccumulators {
     pub(crate) fn join_block(
         &mut self,
         alloc: Global,
-        functions: Functions<'_>,
+        context: ApplyContext<'_>,
         kernel: &EdgeKernel,
         block: &Block,
         destinations: &[u32],
@@ -203,10 +208,15 @@ impl VectorAccumulators {
         requires few { length destinations.now ≤ 128 }
         requires cells { HasCells block.now kernel.now.room }
         ensures { OnOk result ((x : ℕ) (r : Reduction) → ((i : ℕ) → i < length destinations.now → IsBy r x (given_at kernel.now block.now i))
-            → HaveJoined functions.entry x r self.old self.new (given_from x (given_at kernel.now block.now) 0 destinations.now)) }
+            → HaveJoined context.entry x r self.old self.new (given_from x (given_at kernel.now block.now) 0 destinations.now)) }
     {
-        'gifts: for place in 0..kernel.gifts() {
-            self.join_gift(alloc, functions, kernel.gift(place, block), destinations)?;
+        'contributions: for place in 0..kernel.contributions() {
+            self.join_contribution(
+                alloc,
+                context,
+                kernel.contribution(place, block),
+                destinations,
+            )?;
         }
         Ok(())
     }

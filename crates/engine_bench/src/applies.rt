@@ -196,7 +196,7 @@ fn vectors(alloc: Global, vertices: u32) -> Result<Vectors, AllocError> {
     Vectors::new(alloc, arrays)
 }
 
-// The kernels of the functions of a program, and what the slow run shows behind it.
+// The kernels of the functions of a program, and what the slow run shows after it.
 struct Tried {
     edge: EdgeKernel,
     filter: FilterKernel,

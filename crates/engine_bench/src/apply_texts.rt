@@ -73,7 +73,7 @@ const HEAD: &str = "element Vertex end\nelement Edge end\n\
     func some(v : Vertex) -> o : bool o = x[v] % 3 != 0; end\n\
     func f(s : Vertex, d : Vertex) ";
 
-// What stands behind it, and before the members of the set.
+// What stands after it, and before the members of the set.
 const MAIN: &str = " end\nfunc main()\n  all.apply(first);\n\
     var s : vertexset{Vertex} = new vertexset{Vertex}(0);\n";
 

@@ -3,7 +3,7 @@
 use crate::kernels_of::edge_kernel;
 use crate::pair_loops::{add_to_each, join, max_sources, min_entries, min_of_less};
 use apply_options::Reduction;
-use kernels::{Around, Block, EdgeKernel, Shape};
+use kernels::{Block, BlockInput, EdgeKernel, Shape};
 use measuring::{Benchmark, Random, Turns, print_head, print_row, rmat_edge};
 use std::alloc::{AllocError, Global};
 use std::io;
@@ -297,7 +297,7 @@ fn run_block(
         return Ok(());
     }
     block.make_room(kernel.room())?;
-    let around = Around {
+    let around = BlockInput {
         vectors,
         sizes: &[],
         vertices: 1 << SCALE,
@@ -305,8 +305,8 @@ fn run_block(
         destinations,
     };
     kernel.run(around, block);
-    for place in 0..kernel.gifts() {
-        join(kernel.gift(place, block), destinations, new);
+    for place in 0..kernel.contributions() {
+        join(kernel.contribution(place, block), destinations, new);
     }
     Ok(())
 }

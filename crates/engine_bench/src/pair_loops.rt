@@ -2,7 +2,7 @@
 
 use algorithm_meaning::reduce;
 use apply_options::Reduction;
-use kernels::Gift;
+use kernels::ContributionColumn;
 
 fn entry(numbers: &[i64], vertex: u32) -> i64 {
     numbers.get(vertex as usize).copied().unwrap_or(0)
@@ -55,12 +55,23 @@ pub fn min_of_less(
 }
 
 /// Joins what a kernel gives to the destinations.
-pub fn join(gift: Gift<'_>, destinations: &[u32], new: &mut [i64]) {
-    match (gift.when, gift.reduction) {
-        (Some(when), reduction) => join_some(reduction, gift.numbers, when, destinations, new),
-        (None, Reduction::Min) => join_all(Reduction::Min, gift.numbers, destinations, new),
-        (None, Reduction::Max) => join_all(Reduction::Max, gift.numbers, destinations, new),
-        (None, Reduction::Plus) => join_all(Reduction::Plus, gift.numbers, destinations, new),
+pub fn join(contribution: ContributionColumn<'_>, destinations: &[u32], new: &mut [i64]) {
+    match (contribution.when, contribution.reduction) {
+        (Some(when), reduction) => join_some(
+            reduction,
+            contribution.numbers,
+            when,
+            destinations,
+            new,
+        ),
+        (None, Reduction::Min) => join_all(Reduction::Min, contribution.numbers, destinations, new),
+        (None, Reduction::Max) => join_all(Reduction::Max, contribution.numbers, destinations, new),
+        (None, Reduction::Plus) => join_all(
+            Reduction::Plus,
+            contribution.numbers,
+            destinations,
+            new,
+        ),
     }
 }
 

@@ -64,7 +64,7 @@ fn stand_after(alloc: Global, text: &[u8], turns: u64, steps: usize) -> Result<S
 #[test]
 fn a_job_ends_at_its_last_step(rt: HostRuntime) -> Result<(), Fail> {
     let ended = Stand::Ended(End::Finished);
-    // The step behind the end changes nothing.
+    // The step after the end changes nothing.
     for (steps, wanted) in &[(25, Stand::Going), (26, ended), (27, ended)] {
         let stand = stand_after(rt.alloc(), LOOP, 3, *steps)?;
         assert_eq!(rt; stand, *wanted);
@@ -76,7 +76,7 @@ fn a_job_ends_at_its_last_step(rt: HostRuntime) -> Result<(), Fail> {
     Ok(())
 }
 
-// Whether the first level is found, and nothing behind it.
+// Whether the first level is found, and nothing after it.
 fn has_one_level(outcome: &Outcome) -> bool {
     let entries = first_entries(outcome) == Some([0, 0, 0, -1, -1, -1].as_slice());
     entries && first_members(outcome) == Some([1, 2].as_slice())

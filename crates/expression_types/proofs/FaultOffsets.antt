@@ -128,7 +128,7 @@ entry_stands P inside.Filter at (Some vector) v here = function_entry_stands P a
 pub index_stands : (P : ℕ → Type 0) (scope : ScopeTree) (index : ExpressionTree) (value : WithFaults ValueTree) → FaultsStand P value → FaultsStand P (index_as scope index value)
 index_stands P scope index value stand = if_stand P (index_lacks_value scope.inside scope index) (sure no_vertex) value tt stand
 
--- before and behind an operator
+-- before and after an operator
 before : (P : ℕ → Type 0) (xs : List Terminal) (w : Terminal) (ys : List Terminal) → StandWhere P (xs ++ w ∷ ys) → StandWhere P xs
 before P xs w ys all = all_left (StandsWhere P) xs (w ∷ ys) all
 

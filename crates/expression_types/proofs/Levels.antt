@@ -31,7 +31,7 @@ summands_row scope at left o first (m ∷ more) =
     (summands_row scope at (beside_integer (added o) left (first_integer v)) m.0 (term_of m.1) more
     ∙ row_first (term_value scope at (term_of m.1)) (λ w. beside_integer (added m.0) (beside_integer (added o) left (first_integer v)) (first_integer w)) (sum_step scope at) more) i
 
--- a level with operators goes on behind its first operand
+-- a level with operators goes on after its first operand
 pub sum_begins : (scope : ScopeTree) (at : ℕ) (first : TermTree) (more : List (Addition × Term)) (old new : Option Fault) (v : ValueTree)
     → (length more == 0) ≡ false → outcome old (term_value scope at first) ≡ (v, new)
     → outcome old (sum_value scope at (sum_from first (map (λ m. (m.0, term_of m.1)) more)))
@@ -55,7 +55,7 @@ factors_row scope at left o first (m ∷ more) =
     (factors_row scope at (beside_integer (multiplied o) left (first_integer v)) m.0 (unary_of m.1) more
     ∙ row_first (unary_value scope at (unary_of m.1)) (λ w. beside_integer (multiplied m.0) (beside_integer (multiplied o) left (first_integer v)) (first_integer w)) (term_step scope at) more) i
 
--- a level with operators goes on behind its first operand
+-- a level with operators goes on after its first operand
 pub term_begins : (scope : ScopeTree) (at : ℕ) (first : UnaryTree) (more : List (Multiplication × Unary)) (old new : Option Fault) (v : ValueTree)
     → (length more == 0) ≡ false → outcome old (unary_value scope at first) ≡ (v, new)
     → outcome old (term_value scope at (term_from first (map (λ m. (m.0, unary_of m.1)) more)))

@@ -33,7 +33,7 @@ pub several_conjunctions : (first : ConjunctionTree) (more : List Conjunction) �
 several_conjunctions first [] some = absurd (omega (arith, some))
 several_conjunctions first (m ∷ more) some = refl
 
--- behind signs nothing is a bare name
+-- after signs nothing is a bare name
 pub signed_name : (signs : List Prefix) (p : PrimaryTree) → 0 < length signs → None ≡ unary_name (behind signs (Bare p))
 signed_name [] p some = absurd (omega (arith, some))
 signed_name (s ∷ signs) p some = refl

@@ -56,7 +56,7 @@ not_minuses at [] e some = absurd (true≢false some)
 not_minuses at (prefix.Minus ∷ signs) e some = ap (signed at prefix.Minus) (not_minuses at signs e some)
 not_minuses at (prefix.Not ∷ signs) e some = not_on_integer at signs e (all_minus signs) refl (λ is. not_minuses at signs e is)
 
--- behind a sign a vertex reads as its number
+-- after a sign a vertex reads as its number
 as_number : (at : ℕ) (sign : Prefix) (signs : List Prefix) (p : Endpoint)
     → signs_value at (sign ∷ signs) (Vertex p) ≡ signs_value at (sign ∷ signs) (Integer (Parameter p))
 as_number at prefix.Minus [] p = refl

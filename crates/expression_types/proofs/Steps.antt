@@ -18,7 +18,7 @@ least_of-append : (fs gs : List Fault) (first : Option Fault) → least_of first
 least_of-append [] gs first = refl
 least_of-append (f ∷ fs) gs first = least_of-append fs gs (Some (earlier first f))
 
--- what is noted behind a step is noted before the next
+-- what is noted after a step is noted before the next
 pub outcome_then : {A B : Type 0} (old new : Option Fault) (m : WithFaults A) (x : A) (next : A → WithFaults B) → outcome old m ≡ (x, new)
     → outcome old (m >>= next) ≡ outcome new (next x)
 outcome_then old new m x next is =
@@ -45,13 +45,13 @@ pub row_first : {S L V : Type 0} (m : WithFaults V) (make : V → S) (step : S �
     → (m >>= λ v. row step (make v) items) ≡ ((m >>= λ v. sure (make v)) >>= λ s. row step s items)
 row_first m make step items = sym (bind-bind m (λ v. sure (make v)) (λ s. row step s items))
 
--- an answer that was noted behind a step
+-- an answer that was noted after a step
 pub reports_then : {T A B : Type 0} (view : T → B) (old between new : Option Fault) (m : WithFaults A) (x : A) (next : A → WithFaults B) (answer : Result T AllocError)
     → outcome old m ≡ (x, between) → ReportsFaults view between new answer (next x) → ReportsFaults view old new answer (m >>= next)
 reports_then view old between new m x next (Ok y) is notes = outcome_then old between m x next is ∙ notes
 reports_then view old between new m x next (Err e) is notes = tt
 
--- the answer behind the last item of a row
+-- the answer after the last item of a row
 pub row_ends : {S L T A : Type 0} (view : T → A) (old between new : Option Fault) (m : WithFaults A) (step : S → L → WithFaults S) (s : S) (items : List L) (i : ℕ) (next : S → WithFaults A)
     (answer : Result T AllocError) → length items ≤ i → outcome old m ≡ outcome between (row step s (drop i items) >>= next) → ReportsFaults view between new answer (next s)
     → ReportsFaults view old new answer m

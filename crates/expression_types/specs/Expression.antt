@@ -85,7 +85,7 @@ abbrev mutual
   value_of scope at (ConjunctionThen c others) =
       conjunction_value scope at c >>= λ v. disjuncts scope at (first_condition v) others >>= grouped_conditions at
 
-  -- the conjunctions behind the first `or`, behind what stands on its left
+  -- the conjunctions after the first `or`, after what stands on its left
   pub disjuncts : ScopeTree → ℕ → ConditionsTree → ExpressionTree → WithFaults ConditionsTree
   disjuncts scope at left (LastConjunction c) =
       conjunction_value scope at c >>= λ v. sure (beside_condition connective.Or left (first_condition v))
@@ -113,7 +113,7 @@ abbrev mutual
   sum_value scope at (TermThen t o others) =
       term_value scope at t >>= λ v. summands scope at (first_integer v) o others >>= grouped_integers at
 
-  -- the terms behind the first operator, behind what stands on its left
+  -- the terms after the first operator, after what stands on its left
   pub summands : ScopeTree → ℕ → IntegersTree → Addition → SumTree → WithFaults IntegersTree
   summands scope at left o (LastTerm t) =
       term_value scope at t >>= λ v. sure (beside_integer (added o) left (first_integer v))

@@ -23,7 +23,7 @@ pub record ScopeTree : Type 0 where
 abbrev pub empty_scope : ℕ → ScopeTree
 empty_scope sets = record { visible = []; inside = inside.Main; integers = 0; conditions = 0; sets = sets }
 
--- how many places of integers it takes; a `for` has its bound behind its name
+-- how many places of integers it takes; a `for` has its bound after its name
 abbrev pub integers_of : Entity → ℕ
 integers_of entity.Edges = 0
 integers_of (entity.Vector place) = 0

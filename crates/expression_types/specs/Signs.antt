@@ -7,7 +7,7 @@ use Rattle.expression_types.specs.WithFaults.{WithFaults, sure, ◌>>=◌}
 use Rattle.expression_types.specs.Operators.{given, signed_value}
 use Rattle.expression_types.specs.ValueTree.{ValueTree}
 
--- behind signs, of which the last is the closest
+-- after signs, of which the last is the closest
 abbrev pub signs_value : ℕ → List Prefix → ValueTree → WithFaults ValueTree
 signs_value at [] value = sure value
 signs_value at (sign ∷ signs) value = signs_value at signs value >>= λ v. given at rule.WrongType (signed_value sign v)

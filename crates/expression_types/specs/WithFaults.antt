@@ -26,7 +26,7 @@ m >>= next = record { faults = m.faults ++ (next m.value).faults; value = (next 
 abbrev pub outcome : {A : Type 0} → Option Fault → WithFaults A → A × Option Fault
 outcome first m = (m.value, least_of first m.faults)
 
--- The answer, as view sees it, and the fault that is noted behind it, where old was noted before, are those that are wanted;
+-- The answer, as view sees it, and the fault that is noted after it, where old was noted before, are those that are wanted;
 -- nothing is said where memory runs out.
 abbrev pub ReportsFaults : {T A : Type 0} → (T → A) → Option Fault → Option Fault → Result T AllocError → WithFaults A → Type 0
 ReportsFaults view old new (Ok x) wanted = outcome old wanted ≡ (view x, new)

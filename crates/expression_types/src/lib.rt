@@ -8,7 +8,7 @@
 //!
 //! `specs/Expression.antt` says which value an expression has and which faults, with one equation for each rule
 //! of the grammar. Each definition gives a `WithFaults`, which is a value with the list of the faults on the way to
-//! it, and `>>=` goes on behind a fault. An expression with a faulty part has no further fault of its own. Each
+//! it, and `>>=` goes on after a fault. An expression with a faulty part has no further fault of its own. Each
 //! call answers with the value of its definition, and keeps of all faults so far the one with the least offset,
 //! of several there the one with the least number (`specs/Faults.antt`, [`note`]). `least_fault_is_told` is the law
 //! that this is the least of them; it does nothing when called.

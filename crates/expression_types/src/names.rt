@@ -52,7 +52,7 @@ impl<T: Copy> Names<T> {
         self.entries.len()
     }
 
-    /// Puts a name behind the others, a copy of which it keeps. After out of memory nothing is changed.
+    /// Puts a name after the others, a copy of which it keeps. After out of memory nothing is changed.
     pub fn push(&mut self, alloc: Global, name: &[u8], item: T) -> Result<(), AllocError>
         requires { found name.now self.old ≡ None }
         ensures err { OnErr result (self.new ≡ self.old) }

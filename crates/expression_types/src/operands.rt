@@ -15,7 +15,7 @@ use typed_tree::{BoolExpression, Connective, IntExpression, Operand, Operator};
 
 /// The operands so far of operators that take integers.
 pub(crate) enum Integers {
-    /// The first and those behind it, each with its operator.
+    /// The first and those after it, each with its operator.
     Typed(IntExpression, Vec<Operand>),
     /// One is no integer.
     Mixed,
@@ -25,7 +25,7 @@ pub(crate) enum Integers {
 
 /// The operands so far of an operator that takes conditions.
 pub(crate) enum Conditions {
-    /// The first and those behind it.
+    /// The first and those after it.
     Typed(BoolExpression, Vec<BoolExpression>),
     /// One is no condition.
     Mixed,
@@ -65,7 +65,7 @@ impl Integers {
         }
     }
 
-    /// With one more operand behind its operator.
+    /// With one more operand after its operator.
     #[tactic(auto, using(typed_tree::proofs::Chains::operands_tree_push))]
     pub(crate) fn beside(self, operator: Operator, value: Value) -> Result<Integers, AllocError>
         ensures { IfOk result (λ all. integers_of all ≡ beside_integer operator (integers_of self) (first_integer (value_tree value))) }

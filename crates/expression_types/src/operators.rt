@@ -129,7 +129,7 @@ fn relation(
     }
 }
 
-/// A value behind signs, of which the last is the closest. The fault is noted where they do not take it.
+/// A value after signs, of which the last is the closest. The fault is noted where they do not take it.
 pub(crate) fn behind_signs(
     alloc: Global,
     signs: &[Prefix],
@@ -158,7 +158,7 @@ pub(crate) fn behind_signs(
     Ok(Value::Integer(IntExpression::Negative(signs.len(), e)))
 }
 
-/// A condition behind signs.
+/// A condition after signs.
 fn turned(
     alloc: Global,
     signs: &[Prefix],

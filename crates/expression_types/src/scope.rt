@@ -105,7 +105,7 @@ pub struct Mark {
 }
 
 impl Entity {
-    /// How many places of integers it takes; a `for` has its bound behind its name.
+    /// How many places of integers it takes; a `for` has its bound after its name.
     fn integers(self) -> usize
         ensures places { result ≡ integers_of self }
         ensures few { result ≤ 2 }

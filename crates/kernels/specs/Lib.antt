@@ -1,6 +1,6 @@
 pub mod VertexBlocks
 pub mod Kernels
-pub mod Gifts
+pub mod ContributionColumns
 pub mod Expressions
 pub mod Columns
 pub mod Shapes

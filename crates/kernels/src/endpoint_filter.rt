@@ -1,4 +1,4 @@
-//! The ends of edge applies.
+//! Endpoint filters: which vertices an end of an edge apply lets through.
 use crate::kernel::FilterKernel;
 use vertex_sets::VertexSet;
 

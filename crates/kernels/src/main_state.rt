@@ -1,4 +1,4 @@
-//! What expressions of `main` read.
+//! State of `main`: what its expressions read.
 use vectors::Vectors;
 
 /// What an expression of `main` reads: the vectors, the sizes of the vertex sets by their places, how many vertices

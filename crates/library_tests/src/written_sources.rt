@@ -8,7 +8,7 @@ const HEAD: &[u8] = b"element Vertex end element Edge end ";
 
 const HEAD_LINES: &[u8] = b"element Vertex end\nelement Edge end\n";
 
-// What stands behind the head, and what is written of it.
+// What stands after the head, and what is written of it.
 const RESTS: [(&[u8], &[u8]); 5] = [
     (b"", b""),
     (b"schedule:", b"schedule : "),
@@ -31,7 +31,7 @@ fn statements_stand_on_lines(rt: HostRuntime) -> Result<(), Fail> {
     Ok(())
 }
 
-// Whether this is written of the rest, behind the lines of the head.
+// Whether this is written of the rest, after the lines of the head.
 fn is_written(alloc: Global, rest: &[u8], want: &[u8]) -> Result<bool, Fail> {
     let mut text = Vec::from_slice(alloc, HEAD)?;
     text.extend_from_slice(rest)?;

@@ -73,7 +73,7 @@ line_written p place i t old a b d e new written number space words target ends 
     ends old (decimal place ∷ (operation_words p t.choice t.operation ++ target_words t.operation)) (absurd_cons _ _)
     (words_of_line p place i t old a b d e written number space words target)
 
--- behind a beginning of a text there are the lines of the instructions before a place; with those of the others it is the whole
+-- after a beginning of a text there are the lines of the instructions before a place; with those of the others it is the whole
 pub record Writes (p : ProgramTree) (instructions : List Instruction) (place : ℕ) (text whole : List ℕ) : Type 0 where
   pub left : List InstructionTree
   pub are : AreWritten p (drop place instructions) left

@@ -1,4 +1,4 @@
--- Laws of what is put behind instructions.
+-- Laws of what is put after instructions.
 use Rattle.std.proofs.Common.{◌≡◌, ℕ, suc, ◌+◌, List, [], ◌∷◌, ◌++◌, length, slice_set, refl, sym, ap, ◌∙◌, subst, append_assoc, length-append}
 use Rattle.std.proofs.lemmas.List.{append-nil}
 use Rattle.typed_tree.specs.ProgramTree.{ProgramTree}

@@ -8,7 +8,7 @@ use Rattle.typed_tree.specs.ProgramTree.{ProgramTree}
 use Rattle.apply_options.specs.ScheduleTree.{ScheduleTree}
 use Rattle.algorithm_meaning.specs.declared.state.Depth.{Depth}
 use Rattle.plans.specs.Instruction.{InstructionTree, Do, Unless, Enter, UnlessBelow, Advance, Turn, Jump, End}
-use Rattle.plans.specs.Fusing.{company_of, takes_next}
+use Rattle.plans.specs.Fusing.{fusion_role_of, takes_next}
 use Rattle.plans.specs.Plan.{behind, behind_all, in_loop, main_depth, plan_of, with_integer, plain, loop_step, plan_in, size_in, size, size_all, plan, plan_all}
 use Rattle.plans.proofs.Places.{length_in, length-plan, length-plan_all}
 use Rattle.plans.specs.declared.instruction.Instruction.{Instruction}
@@ -18,7 +18,7 @@ use Rattle.lowering.specs.Text.{AreWritten, IsWritten}
 use Rattle.lowering.proofs.Putting.{place_length, puts_both, puts_filled, puts_length, puts_nothing}
 
 module _ (p : ProgramTree) (s : ScheduleTree) where
-  -- of instructions to be put, these are put, and those of the statements that are left come behind them
+  -- of instructions to be put, these are put, and those of the statements that are left come after them
   pub record HasPut (whole : List InstructionTree) (a b : List Instruction) (d : Depth) (is_done : Bool) (left : BlockTree) : Type 0 where
     pub done : List InstructionTree
     pub puts : Puts p a b done
@@ -26,10 +26,10 @@ module _ (p : ProgramTree) (s : ScheduleTree) where
 
   pub has_put_next : (whole : List InstructionTree) (a b c : List Instruction) (d : Depth) (is_done : Bool) (number : ℕ) (label : Option ℕ) (action : ActionTree) (rest : BlockTree)
       → HasPut whole a b d is_done (Then number label action rest)
-      → Puts p b c (plan_in (company_of p s d is_done label action rest) s number label d (plan p s (length b) d number label action))
-      → HasPut whole a c (behind action d) (takes_next (company_of p s d is_done label action rest)) rest
+      → Puts p b c (plan_in (fusion_role_of p s d is_done label action rest) s number label d (plan p s (length b) d number label action))
+      → HasPut whole a c (behind action d) (takes_next (fusion_role_of p s d is_done label action rest)) rest
   has_put_next whole a b c d is_done number label action rest before puts =
-      let company = company_of p s d is_done label action rest in
+      let company = fusion_role_of p s d is_done label action rest in
       let own = plan_in company s number label d (plan p s (length b) d number label action) in
       let size_of : length own ≡ size_in company (size p s d action) = length_in company s number label d (plan p s (length b) d number label action) (size p s d action) (length-plan p s action (length b) d number label) in
       let to : length c ≡ length b + size_in company (size p s d action) = puts_length p b c own puts ∙ ap (λ n. length b + n) size_of in

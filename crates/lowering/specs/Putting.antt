@@ -1,4 +1,4 @@
--- What lowering puts behind the instructions that are there.
+-- What lowering puts after the instructions that are there.
 use Rattle.std.specs.Prelude.{◌≡◌, ℕ, List, [], ◌∷◌, ◌++◌, length, slice_set}
 use Rattle.typed_tree.specs.ProgramTree.{ProgramTree}
 use Rattle.plans.specs.Instruction.{InstructionTree}
@@ -23,7 +23,7 @@ pub record Fills (p : ProgramTree) (old new : List Instruction) (place : ℕ) (t
   pub is : new ≡ slice_set old place instruction
   pub written : IsWritten p instruction tree
 
--- a loop has begun: a place is kept for its test, and its turn stands behind that
+-- a loop has begun: a place is kept for its test, and its turn stands after that
 pub record BeginsLoop (p : ProgramTree) (old new : List Instruction) (place : ℕ) (turn : InstructionTree) : Type 0 where
   pub test : List Instruction
   pub keeps : KeepsPlace old test place

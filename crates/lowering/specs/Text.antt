@@ -70,7 +70,7 @@ group_lines p (group ∷ groups) = line_of (group_words p group) ++ group_lines 
 abbrev pub text_of : ProgramTree → ScheduleTree → List ℕ
 text_of p s = group_lines p s.groups ++ instruction_lines p 0 (plan_of p s)
 
--- an instruction that keeps its words, with a space behind each
+-- an instruction that keeps its words, with a space after each
 pub record IsWritten (p : ProgramTree) (i : Instruction) (t : InstructionTree) : Type 0 where
   pub instruction : IsInstruction i t
   pub words : i.words.items ≡ spaced (operation_words p t.choice t.operation)

@@ -4,7 +4,7 @@ ghost use Rattle.typed_tree.specs.BlockTree.{For, If, IfElse, While, action_tree
 ghost use Rattle.typed_tree.specs.ConditionTree.{condition_tree};
 ghost use Rattle.typed_tree.specs.IntegerTree.{integer_tree};
 ghost use Rattle.typed_tree.specs.ProgramTree.{program_tree};
-ghost use Rattle.plans.specs.Fusing.{company_of, takes_next};
+ghost use Rattle.plans.specs.Fusing.{fusion_role_of, takes_next};
 ghost use Rattle.plans.specs.Plan.{behind, behind_all, plan, plan_all, plan_in};
 ghost use Rattle.lowering.specs.Putting.{Puts};
 ghost use Rattle.lowering.specs.Visible.{depth_of};
@@ -25,7 +25,7 @@ pub(crate) struct Lowering<'a> {
 }
 
 impl Lowering<'_> {
-    /// Puts the instructions of a block behind the others.
+    /// Puts the instructions of a block after the others.
     #[cycle(lower)]
     pub(crate) fn put_all(
         self,
@@ -56,9 +56,9 @@ impl Lowering<'_> {
         visible: &mut Visible,
         code: &mut Vec<Instruction>,
     ) -> Result<bool, AllocError>
-        ensures next { IfOk result (λ next. next ≡ takes_next (company_of (program_tree self.entry.program.now) self.entry.schedule.now (depth_of visible.old) is_done statement.now.label (action_tree statement.now.action) (block_tree rest.now))) }
+        ensures next { IfOk result (λ next. next ≡ takes_next (fusion_role_of (program_tree self.entry.program.now) self.entry.schedule.now (depth_of visible.old) is_done statement.now.label (action_tree statement.now.action) (block_tree rest.now))) }
         ensures code { OnOk result (Puts (program_tree self.entry.program.now) code.old.items code.new.items
-            (plan_in (company_of (program_tree self.entry.program.now) self.entry.schedule.now (depth_of visible.old) is_done statement.now.label (action_tree statement.now.action) (block_tree rest.now))
+            (plan_in (fusion_role_of (program_tree self.entry.program.now) self.entry.schedule.now (depth_of visible.old) is_done statement.now.label (action_tree statement.now.action) (block_tree rest.now))
             self.entry.schedule.now statement.now.number statement.now.label (depth_of visible.old)
             (plan (program_tree self.entry.program.now) self.entry.schedule.now (length code.old.items) (depth_of visible.old) statement.now.number statement.now.label (action_tree statement.now.action)))) }
         ensures visible { OnOk result (depth_of visible.new ≡ behind (action_tree statement.now.action) (depth_of visible.old)) }
@@ -114,7 +114,7 @@ impl Lowering<'_> {
         }
     }
 
-    /// `if`: a test, the body, and behind it the place that the test goes to.
+    /// `if`: a test, the body, and after it the place that the test goes to.
     #[cycle(lower)]
     fn put_if(
         self,
@@ -133,7 +133,7 @@ impl Lowering<'_> {
         self.fill_unless(number, depth, c, code.len(), test, code)
     }
 
-    /// `if` and `else`: between the two blocks stands a jump behind the second.
+    /// `if` and `else`: between the two blocks stands a jump after the second.
     #[cycle(lower)]
     fn put_choice(
         self,
@@ -202,7 +202,7 @@ impl Lowering<'_> {
         Ok(())
     }
 
-    /// Puts the instructions of a block inside a statement, behind which nothing of it is visible.
+    /// Puts the instructions of a block inside a statement, after which nothing of it is visible.
     #[cycle(lower)]
     fn put_inside(
         self,

@@ -1,4 +1,4 @@
-//! Single instructions.
+//! Statements without blocks: one instruction each.
 ghost use Rattle.std.specs.Prelude.{◌≡◌, ◌++◌, ◌∷◌, [], IfOk, OnOk, length, slice_set, vec_len};
 ghost use Rattle.typed_tree.specs.BlockTree.{DeclareInteger, action_tree};
 ghost use Rattle.typed_tree.specs.ConditionTree.{condition_tree};
@@ -236,7 +236,7 @@ impl Lowering<'_> {
         })
     }
 
-    /// Keeps a place for an instruction that is known when the block behind it stands. Answers the place.
+    /// Keeps a place for an instruction that is known when the block after it stands. Answers the place.
     pub(crate) fn keep_place(
         self,
         number: u64,
@@ -313,7 +313,7 @@ impl Lowering<'_> {
         Ok(())
     }
 
-    /// Puts the test of a `for`, which goes behind the code, into the place that was kept for it.
+    /// Puts the test of a `for`, which goes after the code, into the place that was kept for it.
     pub(crate) fn fill_unless_below(
         self,
         number: u64,
@@ -330,7 +330,7 @@ impl Lowering<'_> {
         Ok(())
     }
 
-    /// Puts a jump behind the code into the place that was kept for it.
+    /// Puts a jump after the code into the place that was kept for it.
     pub(crate) fn fill_jump(
         self,
         number: u64,
@@ -345,7 +345,7 @@ impl Lowering<'_> {
         Ok(())
     }
 
-    /// Puts that a `for`'s name and bound get their values; behind them both are visible.
+    /// Puts that a `for`'s name and bound get their values; after them both are visible.
     pub(crate) fn put_bounds(
         self,
         number: u64,

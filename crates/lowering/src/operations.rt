@@ -1,4 +1,4 @@
-//! What statements without a block do.
+//! Operations of statements without blocks, with the kernels of their expressions.
 ghost use Rattle.std.specs.Prelude.{◌≡◌, IfOk, MatchOption, Some};
 ghost use Rattle.typed_tree.specs.BlockTree.{action_tree};
 ghost use Rattle.typed_tree.specs.ConditionTree.{condition_tree};

@@ -1,4 +1,4 @@
-//! What is visible at a statement.
+//! Visible variables: how many of each kind a statement sees.
 ghost use Rattle.std.specs.Prelude.{◌≡◌, IfOk, OnOk, length};
 ghost use Rattle.typed_tree.specs.BlockTree.{action_tree};
 ghost use Rattle.plans.specs.Plan.{IsWithin, behind, with_integer};
@@ -41,7 +41,7 @@ impl Visible {
         }
     }
 
-    /// With what a statement declares behind it.
+    /// With what a statement declares after it.
     pub(crate) fn declare(&mut self, action: &StatementKind) -> Result<(), AllocError>
         ensures { OnOk result (depth_of self.new ≡ behind (action_tree action.now) (depth_of self.old)) }
     {

@@ -12,13 +12,13 @@ use Rattle.algorithm_meaning.specs.Stand.{Stand, Live, then_do}
 use Rattle.algorithm_meaning.specs.Meaning.{after, after_all}
 use Rattle.plain_run.specs.Seen.{stand}
 
--- what is left of a block is a statement, and those behind it
+-- what is left of a block is a statement, and those after it
 one_statement : (p : ProgramTree) (g : GraphValue) (statements : List MainStatement) (place : ℕ) (x none : MainStatement) (s : StateValue) → place < length statements → x ≡ get_or statements place none
     → after_all p g (block_tree (drop place statements)) s ≡ then_do (after p g x.number (action_tree x.action) s) (after_all p g (block_tree (drop (place + 1) statements)))
 one_statement p g statements place x none s within here =
     ap (λ (xs : List MainStatement). after_all p g (block_tree xs) s) (drop_more statements place none within ∙ ap (λ (y : MainStatement). y ∷ drop (place + 1) statements) (sym here))
 
--- after a statement behind which the run goes on
+-- after a statement after which the run goes on
 pub goes_on : (p : ProgramTree) (g : GraphValue) (statements : List MainStatement) (place : ℕ) (x none : MainStatement) (s t : StateValue) (end : Option End) (whole : Stand)
     → place < length statements → x ≡ get_or statements place none → stand end t ≡ after p g x.number (action_tree x.action) s → is_some end ≡ false
     → after_all p g (block_tree (drop place statements)) s ≡ whole → after_all p g (block_tree (drop (place + 1) statements)) t ≡ whole
@@ -34,7 +34,7 @@ ends_in p g statements place x none s t None whole within here ran ends before =
 ends_in p g statements place x none s t (Some e) whole within here ran ends before =
     ap (λ (o : Stand). then_do o (after_all p g (block_tree (drop (place + 1) statements)))) ran ∙ sym (one_statement p g statements place x none s within here) ∙ before
 
--- behind the last statement
+-- after the last statement
 pub all_done : (p : ProgramTree) (g : GraphValue) (statements : List MainStatement) (place : ℕ) (s : StateValue) (whole : Stand)
     → length statements ≤ place → after_all p g (block_tree (drop place statements)) s ≡ whole → Live s ≡ whole
 all_done p g statements place s whole past before = sym (ap (λ (xs : List MainStatement). after_all p g (block_tree xs) s) (drop_all place statements past)) ∙ before

@@ -9,8 +9,8 @@ ghost use Rattle.plain_run.specs.Seen.{stand, state_of};
 ghost use Rattle.algorithm_meaning.specs.Value.{reduce_at, with_entry};
 
 use crate::evaluate::entry_of;
-use crate::read::{fault, number_of, vertex_of};
 use crate::state::InterpreterState;
+use crate::values::{fault, number_of, vertex_of};
 use algorithm_meaning::{Contribution, End, reduce};
 use apply_options::Reduction;
 use std::alloc::{AllocError, Global};

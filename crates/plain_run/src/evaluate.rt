@@ -94,7 +94,7 @@ fn negated(total: Total) -> Total
     }
 }
 
-/// What the operators in a list come to, behind what stands on the left.
+/// What the operators in a list come to, after what stands on the left.
 #[cycle(totals)]
 fn before_operands(
     operands: &[Operand],
@@ -160,7 +160,7 @@ fn turned(turns: usize, b: bool) -> bool
     now
 }
 
-/// What the conditions in a list come to, behind what stands on the left.
+/// What the conditions in a list come to, after what stands on the left.
 #[cycle(truths)]
 fn before_conditions(
     conditions: &[BoolExpression],

@@ -11,13 +11,13 @@ mod entries;
 mod evaluate;
 mod filter;
 mod function;
-mod opening;
+mod initial_state;
+mod outcome;
 mod print;
-mod read;
 mod run;
 mod sets;
-mod show;
 mod state;
+mod values;
 mod variables;
 mod vertex_apply;
 

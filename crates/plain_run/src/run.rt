@@ -13,12 +13,12 @@ ghost use Rattle.algorithm_meaning.specs.Stand.{Live};
 
 use crate::edge_apply::apply_edges;
 use crate::entries::{reduce_entry, set_entry_in};
-use crate::opening::open;
+use crate::initial_state::open;
+use crate::outcome::show;
 use crate::print::{print_condition_in, print_integer_in};
-use crate::read::{counter_of, decide, depth, fault, forget, go_on, is_below, push_counter};
 use crate::sets::{add_vertex, assign_set, declare_set};
-use crate::show::show;
 use crate::state::{EdgeList, InterpreterState};
+use crate::values::{counter_of, decide, depth, fault, forget, go_on, is_below, push_counter};
 use crate::variables::{
     declare_condition, declare_integer, reduce_integer, set_condition, set_integer,
 };

@@ -13,9 +13,9 @@ ghost use Rattle.algorithm_meaning.specs.VertexSets.{after_add_vertex, after_ass
 use crate::edge_apply::{apply_edges, modified_vertices};
 use crate::evaluate::members_at;
 use crate::filter::filter_members;
-use crate::opening::vertices_below;
-use crate::read::{fault, vertex_of};
+use crate::initial_state::vertices_below;
 use crate::state::{EdgeList, InterpreterState};
+use crate::values::{fault, vertex_of};
 use algorithm_meaning::{End, SetBinding};
 use std::alloc::{AllocError, Global};
 use typed_tree::{ApplyEnds, Function, IntExpression, Sequence, SetValue, Typed};

@@ -1,4 +1,4 @@
-//! What a run works on, and what it keeps.
+//! State of a run, and the graph that it works on.
 use algorithm_meaning::SetBinding;
 use typed_tree::Sequence;
 

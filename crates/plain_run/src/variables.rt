@@ -9,8 +9,8 @@ ghost use Rattle.plain_run.specs.Seen.{stand, state_of};
 ghost use Rattle.algorithm_meaning.specs.Variables.{after_declare_condition, after_declare_integer, after_reduce_integer, after_set_condition, after_set_integer};
 
 use crate::evaluate::integer_at;
-use crate::read::{decide, fault, number_of};
 use crate::state::InterpreterState;
+use crate::values::{decide, fault, number_of};
 use algorithm_meaning::{End, reduce};
 use apply_options::Reduction;
 use std::alloc::AllocError;

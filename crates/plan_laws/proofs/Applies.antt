@@ -24,7 +24,7 @@ use Rattle.type_laws.specs.EachStatement.{SetNames, names_behind}
 use Rattle.type_laws.specs.VisibleSets.{EndIsVisible, EndsAreVisible, IsVisible, SetsAreVisible, ValueIsVisible}
 use Rattle.type_laws.proofs.ResolvedScopes.{get_before, get_last}
 
--- what is visible stays so behind a statement
+-- what is visible stays so after a statement
 pub stays_visible : (a : ActionTree) (names : SetNames) (k : ℕ) (x : Option ℕ) → slice_get names k ≡ Some x → slice_get (names_behind a names) k ≡ Some x
 stays_visible (DeclareSet name value) names k x is = get_before names (Some name ∷ []) k x is
 stays_visible _ names k x is = is
@@ -39,13 +39,13 @@ value_stays a names (set.Filter slot place) visible = stays_visible a names slot
 value_stays a names (set.Modified ends function vector) visible = (end_stays a names ends.from visible.0, end_stays a names ends.to visible.1)
 value_stays a names _ visible = tt
 
--- what a statement speaks of is visible behind it too
+-- what a statement speaks of is visible after it too
 pub sets_stay : (p : ProgramTree) (a : ActionTree) (names : SetNames) → SetsAreVisible p names a → SetsAreVisible p (names_behind a names) a
 sets_stay p (DeclareSet name value) names visible = value_stays (DeclareSet name value) names value visible
 sets_stay p _ names visible = visible
 
 module _ (p : ProgramTree) where
-  -- the set that gets what an apply changed stands at its place behind the statement, and is a variable
+  -- the set that gets what an apply changed stands at its place after the statement, and is a variable
   abbrev pub ResultStands : VisibleTree → Depth → ResultTree → Type 0
   ResultStands behind d Dropped = Unit {0}
   ResultStands behind d (Declared name vector) = (slice_get behind.sets d.sets ≡ Some name) × (length p.sets ≤ d.sets)

@@ -6,7 +6,7 @@ use Rattle.typed_tree.specs.ProgramTree.{ProgramTree}
 use Rattle.apply_options.specs.ScheduleTree.{ScheduleTree}
 use Rattle.plans.specs.declared.depth.Depth.{Depth}
 use Rattle.plans.specs.Instruction.{InstructionTree, Advance, Jump}
-use Rattle.plans.specs.Fusing.{Company, Alone, WithNext, WithPrevious, company_of, takes_next}
+use Rattle.plans.specs.Fusing.{FusionRole, Alone, WithNext, WithPrevious, fusion_role_of, takes_next}
 use Rattle.plans.specs.Plan.{behind, in_loop, loop_step, plain, plan, plan_all, plan_in, size, size_all, size_in}
 use Rattle.type_laws.specs.Numbers.{InOrder, inner_numbers, numbers}
 use Rattle.plan_laws.specs.Neighbours.{AreNeighbours, AreNeighboursInside, BeginsWith, StatementTree}
@@ -32,7 +32,7 @@ pub two_between : (low high : ℕ) (xs ys : List InstructionTree) → AreBetween
 two_between low high xs ys = all_two (IsBetween low high) xs ys
 
 module _ (p : ProgramTree) (s : ScheduleTree) (low high : ℕ) where
-  pub company_between : (company : Company) (number : ℕ) (label : Option ℕ) (d : Depth) (is : List InstructionTree) → (low ≤ number) × (number < high) → AreBetween low high is
+  pub company_between : (company : FusionRole) (number : ℕ) (label : Option ℕ) (d : Depth) (is : List InstructionTree) → (low ≤ number) × (number < high) → AreBetween low high is
       → AreBetween low high (plan_in company s number label d is)
   company_between Alone number label d is own all = all
   company_between (WithNext operation) number label d is own all = (own, tt)
@@ -91,7 +91,7 @@ module _ (p : ProgramTree) (s : ScheduleTree) (low high : ℕ) where
         → AreBetween low high (plan_all p s place d is_done b)
     block_between Empty place d is_done n order from to = tt
     block_between (Then number label action rest) place d is_done n order from to =
-        let company = company_of p s d is_done label action rest in
+        let company = fusion_role_of p s d is_done label action rest in
         let own = plan p s place d number label action in
         let inner = inner_numbers action in
         let two = in_two (suc n) inner (numbers rest) order.1 in

@@ -107,7 +107,7 @@ module _ (p : ProgramTree) (all : IsResolved p) where
     second_apart (Declared name vector) written = one_apart vector (function_writes p.edge_functions f) (written_not vector written)
     second_apart (Assigned slot vector) written = one_apart vector (function_writes p.edge_functions f) (written_not vector written)
 
-  -- a statement that has what is known of the first, and one behind it
+  -- a statement that has what is known of the first, and one after it
   module _ (v : VisibleTree) (names : SetNames) (d : Depth) (deep : d.sets ≡ length v.sets) (low : length p.sets ≤ d.sets) (apart : AreApart p names) (a b : ActionTree) (one other : StatementApply) where
     edges_fit_together : (x : IsEdgeApply p v names a one) (y : IsEdgeApply p (behind_action a v) names b other) → have_same_sets p.names (apply_tree x.apply) (apply_tree y.apply) ≡ true
         → IsIndependent p (apply_tree x.apply) (apply_tree y.apply) → edges_fit p d x.apply y.apply ≡ true

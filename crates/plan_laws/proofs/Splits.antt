@@ -14,7 +14,7 @@ use Rattle.apply_options.specs.ScheduleTree.{ScheduleTree, choice_at, choice_of}
 use Rattle.schedule.specs.Laws.{FusesInPairs}
 use Rattle.plans.specs.declared.depth.Depth.{Depth}
 use Rattle.plans.specs.Instruction.{OperationTree, InstructionTree, Unless, Jump, Turn, Do, Enter, UnlessBelow, Advance}
-use Rattle.plans.specs.Fusing.{Company, Alone, WithNext, WithPrevious, EdgeApplyTree, VertexApplyTree, company_of, edge_apply_of, edges_together, either, is_with, takes_next, together, vertex_apply_of, vertices_together, with_next}
+use Rattle.plans.specs.Fusing.{FusionRole, Alone, WithNext, WithPrevious, EdgeApplyTree, VertexApplyTree, fusion_role_of, edge_apply_of, edges_together, either, is_with, takes_next, together, vertex_apply_of, vertices_together, with_next}
 use Rattle.plans.specs.Plan.{behind, chosen, in_loop, loop_step, plain, plan, plan_all, plan_in, size, size_all, size_in, with_integer}
 use Rattle.type_laws.specs.Numbers.{InOrder, inner_numbers, numbers}
 use Rattle.plan_laws.specs.Neighbours.{AreNeighbours, AreNeighboursInside, BeginsWith, StatementTree}
@@ -23,7 +23,7 @@ use Rattle.plan_laws.proofs.Counted.{AreAscending, AreBetween, action_between, b
 use Rattle.plan_laws.proofs.Pairs.{OneDoes}
 use Rattle.plan_laws.proofs.Sizes.{all_two}
 
--- the instruction of two statements, with those before it and behind it, which are of neither
+-- the instruction of two statements, with those before it and after it, which are of neither
 pub record Split (s : ScheduleTree) (one other : StatementTree) (is : List InstructionTree) : Type 0 where
   pub before : List InstructionTree
   pub instruction : InstructionTree
@@ -35,7 +35,7 @@ pub record Split (s : ScheduleTree) (one other : StatementTree) (is : List Instr
   pub others_before : AllByRecursion (IsOfNeither one other) before
   pub others_behind : AllByRecursion (IsOfNeither one other) rest
 
--- behind others, and before others
+-- after others, and before others
 pub split_behind : (s : ScheduleTree) (one other : StatementTree) (xs is : List InstructionTree) → AllByRecursion (IsOfNeither one other) xs → Split s one other is → Split s one other (xs ++ is)
 split_behind s one other xs is others x = record {
   before = xs ++ x.before;
@@ -120,7 +120,7 @@ module _ (p : ProgramTree) (s : ScheduleTree) (pairs : FusesInPairs s) where
   next_done d label other number a b rest true None is does = tt
   next_done d label other number a b rest true (Some o) is does = (second_is_plain d a b o does, second_fused label other is)
 
-  rest_done : (d : Depth) (is_done : Bool) (label : Option ℕ) (a : ActionTree) (rest : BlockTree) → IsDone s (takes_next (company_of p s d is_done label a rest)) rest
+  rest_done : (d : Depth) (is_done : Bool) (label : Option ℕ) (a : ActionTree) (rest : BlockTree) → IsDone s (takes_next (fusion_role_of p s d is_done label a rest)) rest
   rest_done d true label a rest = tt
   rest_done d false label a Empty = tt
   rest_done d false label a (Then number other b rest) = next_done d label other number a b rest (is_with (choice_at label s).fused other) (together p d a b) refl refl
@@ -130,7 +130,7 @@ module _ (p : ProgramTree) (s : ScheduleTree) (pairs : FusesInPairs s) where
   none_taken true = refl
   none_taken false = refl
 
-  is_alone : (d : Depth) (label : Option ℕ) (a : ActionTree) (rest : BlockTree) → edge_apply_of a ≡ None → vertex_apply_of a ≡ None → company_of p s d false label a rest ≡ Alone
+  is_alone : (d : Depth) (label : Option ℕ) (a : ActionTree) (rest : BlockTree) → edge_apply_of a ≡ None → vertex_apply_of a ≡ None → fusion_role_of p s d false label a rest ≡ Alone
   is_alone d label a Empty no_edges no_vertices = refl
   is_alone d label a (Then number other b rest) no_edges no_vertices =
       let test = is_with (choice_at label s).fused other in
@@ -139,12 +139,12 @@ module _ (p : ProgramTree) (s : ScheduleTree) (pairs : FusesInPairs s) where
       ∙ none_taken test
 
   block_alone : (d : Depth) (is_done : Bool) (number : ℕ) (label : Option ℕ) (a : ActionTree) (rest : BlockTree) → (IsPlain a → ⊥) → edge_apply_of a ≡ None → vertex_apply_of a ≡ None
-      → IsDone s is_done (Then number label a rest) → company_of p s d is_done label a rest ≡ Alone
+      → IsDone s is_done (Then number label a rest) → fusion_role_of p s d is_done label a rest ≡ Alone
   block_alone d true number label a rest not_plain no_edges no_vertices done = absurd (not_plain done.0)
   block_alone d false number label a rest not_plain no_edges no_vertices done = is_alone d label a rest no_edges no_vertices
 
   inside_alone : (one other : StatementTree) (d : Depth) (is_done : Bool) (number : ℕ) (label : Option ℕ) (a : ActionTree) (rest : BlockTree) → AreNeighboursInside one other a
-      → IsDone s is_done (Then number label a rest) → company_of p s d is_done label a rest ≡ Alone
+      → IsDone s is_done (Then number label a rest) → fusion_role_of p s d is_done label a rest ≡ Alone
   inside_alone one other d is_done number label (If c body) rest are done = block_alone d is_done number label (If c body) rest (λ plain. plain) refl refl done
   inside_alone one other d is_done number label (IfElse c body others) rest are done = block_alone d is_done number label (IfElse c body others) rest (λ plain. plain) refl refl done
   inside_alone one other d is_done number label (While c body) rest are done = block_alone d is_done number label (While c body) rest (λ plain. plain) refl refl done
@@ -166,7 +166,7 @@ module _ (p : ProgramTree) (s : ScheduleTree) (pairs : FusesInPairs s) where
   taken false o is = cc
 
   takes : (d : Depth) (number other_number : ℕ) (label other : Option ℕ) (a b : ActionTree) (rest : BlockTree) (second : ℕ) (o : OperationTree) → (choice_at label s).fused ≡ Some (With second)
-      → other ≡ Some second → together p d a b ≡ Some o → company_of p s d false label a (Then other_number other b rest) ≡ WithNext o
+      → other ≡ Some second → together p d a b ≡ Some o → fusion_role_of p s d false label a (Then other_number other b rest) ≡ WithNext o
   takes d number other_number label other a b rest second o fused has does =
       ap (λ t. if is_with (choice_at label s).fused other then with_next t else Alone) does
       ∙ ap (λ f. if is_with f other then with_next (Some o) else Alone) fused
@@ -192,7 +192,7 @@ module _ (p : ProgramTree) (s : ScheduleTree) (pairs : FusesInPairs s) where
     abbrev others : BlockTree
     others = Then other_number other_label b rest
 
-    abbrev whole : Company → List InstructionTree
+    abbrev whole : FusionRole → List InstructionTree
     whole company =
         plan_in company s number label d (plan p s place d number label a) ++ plan_all p s (place + size_in company (size p s d a)) (behind a d) (takes_next company) others
 
@@ -228,7 +228,7 @@ module _ (p : ProgramTree) (s : ScheduleTree) (pairs : FusesInPairs s) where
         let less : number < other_number = omega arith in
         let above : other_number < m = omega arith in
         let neither = neither_above m (length (numbers rest) + m) first_statement second_statement remaining
-            (block_between p s m (length (numbers rest) + m) rest (place + 1 + 0) (behind b (behind a d)) false m three.1 (omega arith) (omega arith)) less above in
+        (block_between p s m (length (numbers rest) + m) rest (place + 1 + 0) (behind b (behind a d)) false m three.1 (omega arith) (omega arith)) less above in
         subst (λ t. Split s first_statement second_statement (plan_all p s place d t (Then number label a others))) (sym (not_second is_done number label a others pair.second fused done))
         (subst (λ company. Split s first_statement second_statement (whole company))
         (sym (takes d number other_number label other_label a b rest pair.second does.operation fused pair.second_has does.is))
@@ -274,9 +274,10 @@ module _ (p : ProgramTree) (s : ScheduleTree) (pairs : FusesInPairs s) where
           let below : other.number < m = up.to in
           one_before _ _ first up.two
           (split_before s one other (plan_all p s (place + 1) d false body) (plain number d (Jump (to + size_all p s d false others)) ∷ last)
-          (split_block body (place + 1) d v false n are deep low known.1 two.0 tt)
-          (neither_of (plain number d (Jump (to + size_all p s d false others))) first up.two,
-          neither_above m (length (numbers others) + m) one other last (block_between p s m (length (numbers others) + m) others to d false m two.1 (omega arith) (omega arith)) up.two below))
+          (split_block body (place + 1) d v false n are deep low known.1 two.0 tt) (
+            neither_of (plain number d (Jump (to + size_all p s d false others))) first up.two,
+            neither_above m (length (numbers others) + m) one other last (block_between p s m (length (numbers others) + m) others to d false m two.1 (omega arith) (omega arith)) up.two below,
+          ))
       split_inside (IfElse c body others) place d v number label n (inr are) deep low known above order =
           let two = in_two n (numbers body) (numbers others) order in
           let m = length (numbers body) + n in
@@ -314,7 +315,7 @@ module _ (p : ProgramTree) (s : ScheduleTree) (pairs : FusesInPairs s) where
           let two = in_two (suc n) (inner_numbers a) (numbers rest) order.1 in
           let m = length (inner_numbers a) + suc n in
           let is : number ≡ n = order.0 in
-          let company = company_of p s d is_done label a rest in
+          let company = fusion_role_of p s d is_done label a rest in
           let place_behind = place + size_in company (size p s d a) in
           let last = plan_all p s place_behind (behind a d) (takes_next company) rest in
           let up = inside_ascend a one other (suc n) two.0 are in
@@ -328,7 +329,7 @@ module _ (p : ProgramTree) (s : ScheduleTree) (pairs : FusesInPairs s) where
           let two = in_two (suc n) (inner_numbers a) (numbers rest) order.1 in
           let m = length (inner_numbers a) + suc n in
           let is : number ≡ n = order.0 in
-          let company = company_of p s d is_done label a rest in
+          let company = fusion_role_of p s d is_done label a rest in
           let own = plan p s place d number label a in
           let place_behind = place + size_in company (size p s d a) in
           let up = neighbours_ascend rest one other m two.1 are in

@@ -76,10 +76,10 @@ module _ (p : ProgramTree) (s : ScheduleTree) (all : IsResolved p) (named : Name
         second_has = both.second_has;
         fused = fused;
         fit = λ v d deep low one other.
-        fused_do p all v names d deep low sets.second.0 both.one.action both.other.action well.one well.other
-        (statement_apply p v names both.one.action well.one both.first_applies one (sets_stay p both.one.action sets.names sets.first.1) vectors.first)
-        (statement_apply p (behind_action both.one.action v) names both.other.action well.other both.second_applies other sets.second.1 vectors.second)
-        well.same_sets well.independent;
+            fused_do p all v names d deep low sets.second.0 both.one.action both.other.action well.one well.other
+            (statement_apply p v names both.one.action well.one both.first_applies one (sets_stay p both.one.action sets.names sets.first.1) vectors.first)
+            (statement_apply p (behind_action both.one.action v) names both.other.action well.other both.second_applies other sets.second.1 vectors.second)
+            well.same_sets well.independent;
       }
 
   is_one : InOrder 1 (numbers p.main) → Split s both.one both.other (plan_all p s 0 (main_depth p) false p.main) → IsOneInstruction p s first second

@@ -1,4 +1,4 @@
--- Two statements of main, the second right behind the first in a block.
+-- Two statements of main, the second right after the first in a block.
 use Rattle.std.specs.Prelude.{◌≡◌, ◌⊎◌, ℕ, Option}
 use Rattle.typed_tree.specs.BlockTree.{ActionTree, DeclareInteger, DeclareCondition, SetInteger, SetCondition, ReduceInteger, SetEntry, ReduceEntry, DeclareSet, AssignSet, AddVertex, PrintInteger, PrintCondition, ApplyVertex, ApplyEdges, If, IfElse, While, For, BlockTree, Empty, Then}
 
@@ -14,7 +14,7 @@ BeginsWith s Empty = ⊥
 BeginsWith s (Then number label action others) = record { number = number; label = label; action = action } ≡ s
 
 abbrev mutual
-  -- the second statement stands right behind the first in a block of the statement
+  -- the second statement stands right after the first in a block of the statement
   pub AreNeighboursInside : (first second : StatementTree) → ActionTree → Type 0
   AreNeighboursInside first second (DeclareInteger name e) = ⊥
   AreNeighboursInside first second (DeclareCondition name c) = ⊥
@@ -35,7 +35,7 @@ abbrev mutual
   AreNeighboursInside first second (While c body) = AreNeighbours first second body
   AreNeighboursInside first second (For name start end body) = AreNeighbours first second body
 
-  -- so they stand in the block: as its first two statements, inside the first, or behind it
+  -- so they stand in the block: as its first two statements, inside the first, or after it
   pub AreNeighbours : (first second : StatementTree) → BlockTree → Type 0
   AreNeighbours first second Empty = ⊥
   AreNeighbours first second (Then number label action others) =

@@ -32,9 +32,9 @@ AreTogether first second operation = AreEdgesTogether first second operation ⊎
 abbrev pub IsOfNeither : (first second : StatementTree) → InstructionTree → Type 0
 IsOfNeither first second i = (i.number ≢ first.number) × (i.number ≢ second.number)
 
--- Two statements stand right behind each other in a block of main and have these labels. The plan has one instruction for both: it has the
+-- Two statements stand right after each other in a block of main and have these labels. The plan has one instruction for both: it has the
 -- number of the first, goes by what the schedule says of the first label, and does the two applies together. Each other instruction, before
--- it and behind it, has another number than theirs.
+-- it and after it, has another number than theirs.
 pub record IsOneInstruction (p : ProgramTree) (s : ScheduleTree) (first_label second_label : ℕ) : Type 0 where
   pub first : StatementTree
   pub second : StatementTree

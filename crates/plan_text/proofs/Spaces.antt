@@ -10,7 +10,7 @@ spaced_append [] ws = refl
 spaced_append (v ∷ vs) ws =
     ap (λ t. v ++ 32 ∷ t) (spaced_append vs ws) ∙ sym (append_assoc v (32 ∷ spaced vs) (spaced ws))
 
--- words have a space behind the last one
+-- words have a space after the last one
 pub spaced_joined : (w : List ℕ) (ws : List (List ℕ)) → spaced (w ∷ ws) ≡ joined (w ∷ ws) ++ 32 ∷ []
 spaced_joined w [] = refl
 spaced_joined w (v ∷ ws) =
@@ -44,7 +44,7 @@ pub behind_some : {A : Type 0} (xs : List A) (y : A) (ys : List A) → xs ++ y �
 behind_some [] y ys none = absurd_cons y ys none
 behind_some (x ∷ xs) y ys none = absurd_cons x (xs ++ y ∷ ys) none
 
--- words behind words that are there
+-- words after words that are there
 pub put_behind : (old middle new : List ℕ) (vs ws : List (List ℕ)) → middle ≡ old ++ spaced vs → new ≡ middle ++ spaced ws → new ≡ old ++ spaced (vs ++ ws)
 put_behind old middle new vs ws first second =
     second ∙ ap (λ t. t ++ spaced ws) first ∙ append_assoc old (spaced vs) (spaced ws) ∙ ap (λ t. old ++ t) (sym (spaced_append vs ws))
@@ -61,7 +61,7 @@ popped xs y size old new all is pops =
     let count : size - 1 ≡ length xs = ap (λ n. n - 1) (all ∙ ap length is ∙ longer) ∙ omega arith in
     pops ∙ ap (λ n. take n old) count ∙ ap (λ l. take (length xs) l) is ∙ take-append_seam xs (y ∷ [])
 
--- what is left to put behind words that were put
+-- what is left to put after words that were put
 pub still_left : (old middle new whole : List ℕ) (vs ws rest : List (List ℕ)) → middle ≡ old ++ spaced vs → new ≡ middle ++ spaced ws
     → old ++ spaced (vs ++ (ws ++ rest)) ≡ whole → new ++ spaced rest ≡ whole
 still_left old middle new whole vs ws rest first second left =

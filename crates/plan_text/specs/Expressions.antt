@@ -50,7 +50,7 @@ abbrev pub truth_word : Bool → List ℕ
 truth_word true = codes "true"
 truth_word false = codes "false"
 
--- the entry of a vector, behind its index; the size of a set
+-- the entry of a vector, after its index; the size of a set
 abbrev pub entry_word : ProgramTree → (vector : ℕ) → List ℕ
 entry_word p vector = vector_at p vector ++ codes "@"
 

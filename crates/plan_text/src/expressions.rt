@@ -47,7 +47,7 @@ pub(crate) fn put_integer(
     }
 }
 
-/// Puts operands, each with its operator behind it.
+/// Puts operands, each with its operator after it.
 #[cycle(integers)]
 fn put_operands(out: &mut Vec<u8>, lines: Lines<'_>, operands: &[Operand]) -> Result<(), AllocError>
     ensures { OnOk result (out.new.items ≡ out.old.items ++ spaced (operand_words (program_tree lines.entry.program.now) operands.now)) }
@@ -88,7 +88,7 @@ pub(crate) fn put_condition(
     }
 }
 
-/// Puts conditions, each with the connective behind it.
+/// Puts conditions, each with the connective after it.
 #[cycle(conditions)]
 fn put_connected(
     out: &mut Vec<u8>,

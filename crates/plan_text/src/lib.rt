@@ -2,7 +2,7 @@
 //!
 //! A line of a plan's text is words with a space between. An expression is one word: its words in brackets, operands
 //! first. `specs/Lines.antt` says what words each instruction has, in the names of the program. [`Lines`] puts them at the
-//! end of a text, each with a space behind it, and [`end_line`] makes a line of them.
+//! end of a text, each with a space after it, and [`end_line`] makes a line of them.
 //!
 //! Plans stand on it, and keep the words of each instruction.
 #![tactic(auto)]

@@ -5,7 +5,7 @@ ghost use Rattle.plan_text.specs.Words.{joined, spaced};
 
 use std::alloc::AllocError;
 
-/// Puts a word, and a space behind it.
+/// Puts a word, and a space after it.
 pub(crate) fn put_word(out: &mut Vec<u8>, word: &[u8]) -> Result<(), AllocError>
     ensures { OnOk result (out.new.items ≡ out.old.items ++ spaced (word.now ∷ [])) }
 {
@@ -40,7 +40,7 @@ pub(crate) fn open_bracket(out: &mut Vec<u8>) -> Result<(), AllocError>
     Ok(())
 }
 
-/// Ends them behind the last word, in place of the space there, and puts a space.
+/// Ends them after the last word, in place of the space there, and puts a space.
 pub(crate) fn close_bracket(out: &mut Vec<u8>) -> Result<(), AllocError>
     ensures { OnOk result ((before : List ℕ) (ws : List (List ℕ)) → ws ≢ [] → out.old.items ≡ before ++ spaced ws
         → out.new.items ≡ before ++ (joined ws ++ spaced ((93 ∷ []) ∷ []))) }

@@ -39,7 +39,7 @@ module _ (f g : StepsTree) (apart : are_apart (steps_write g) (steps_write f) �
       (λ vector h. gives_for (λ x. not (x == vector)) f sets before e (each_differs vector (steps_write f) h))
       (gives_for (λ v. is_none_of v (steps_write f)) g sets before e' apart)
 
-  -- where the second gives the same behind the first, both are as one
+  -- where the second gives the same after the first, both are as one
   pub one_behind_other : (a b : List SetBinding) (xs ys : List (List ℤ)) (edges : List (ℕ × ℕ)) → ((e : ℕ × ℕ) → gives g b ys e ≡ gives g a xs e) → ys ≡ after_edges (f ∷ []) a xs edges xs
       → after_edges (g ∷ []) b ys edges ys ≡ after_edges (f ∷ g ∷ []) a xs edges xs
   one_behind_other a b xs ys edges same is_after =

@@ -73,7 +73,7 @@ module _ (p : ProgramTree) (g : GraphValue) (d : Depth) (x y : EdgeApplyTree) (s
   abbrev edges : List (ℕ × ℕ)
   edges = matching p.filters g s x.ends
 
-  -- behind the first, behind the second, and behind both together
+  -- after the first, after the second, and after both together
   abbrev between : StateValue
   between = after_part p g x s
 
@@ -133,7 +133,7 @@ module _ (p : ProgramTree) (g : GraphValue) (d : Depth) (x y : EdgeApplyTree) (s
       (result_agrees g.vertices (steps_write second) s.vectors behind_first s.vectors behind_both x.part.result (with_vectors s behind_both)
       (second_writes (result_vectors x.part.result) fit.first_result) (λ vector h. refl) (second_leaves first second writes_apart s.sets s.vectors edges))
 
--- the second behind the first, or both at once
+-- the second after the first, or both at once
 pub edges_at_once : (p : ProgramTree) (g : GraphValue) (d : Depth) (x y : EdgeApplyTree) (s : StateValue) → edges_fit p d x y ≡ true → length s.sets ≡ d.sets
     → after_parts p g x.ends (x.part ∷ y.part ∷ []) s ≡ after_part p g y (after_part p g x s)
 edges_at_once p g d x y s fit deep = sym (one_after_other p g d x y s (fit_together p d x y fit) deep)

@@ -7,7 +7,7 @@ use Rattle.apply_options.specs.ScheduleTree.{ScheduleTree, choice_at}
 use Rattle.std.proofs.lemmas.Bool.{and_parts}
 use Rattle.algorithm_meaning.specs.declared.state.Depth.{Depth}
 use Rattle.plans.specs.Instruction.{OperationTree, ApplyEdgesTogether, ApplyVerticesTogether, Advance, Jump, End, InstructionTree}
-use Rattle.plans.specs.Fusing.{EdgeApplyTree, VertexApplyTree, edge_apply_of, vertex_apply_of, function_is_local, edges_fit, vertices_fit, edges_together, vertices_together, either, together, is_with, Company, Alone, WithNext, WithPrevious, with_next, company_of, takes_next}
+use Rattle.plans.specs.Fusing.{EdgeApplyTree, VertexApplyTree, edge_apply_of, vertex_apply_of, function_is_local, edges_fit, vertices_fit, edges_together, vertices_together, either, together, is_with, FusionRole, Alone, WithNext, WithPrevious, with_next, fusion_role_of, takes_next}
 use Rattle.plans.specs.Plan.{behind, behind_all, in_loop, main_depth, plain, loop_step, size_in, plan_in, size, size_all, plan, plan_all, plan_of}
 use Rattle.plans.specs.Fused.{FitTogether, FusedFit}
 use Rattle.plans.proofs.Ascending.{ascends_increasing}
@@ -21,7 +21,7 @@ module _ (p : ProgramTree) where
   FitsIf None = Unit {0}
   FitsIf (Some operation) = FitTogether p operation
 
-  abbrev CompanyFits : Company → Type 0
+  abbrev CompanyFits : FusionRole → Type 0
   CompanyFits Alone = Unit {0}
   CompanyFits (WithNext operation) = FitTogether p operation
   CompanyFits WithPrevious = Unit {0}
@@ -61,7 +61,7 @@ module _ (p : ProgramTree) where
   fused_fits true (Some operation) h = h
   fused_fits false o h = tt
 
-  company_fits : (s : ScheduleTree) (d : Depth) (is_done : Bool) (label : Option ℕ) (a : ActionTree) (rest : BlockTree) → CompanyFits (company_of p s d is_done label a rest)
+  company_fits : (s : ScheduleTree) (d : Depth) (is_done : Bool) (label : Option ℕ) (a : ActionTree) (rest : BlockTree) → CompanyFits (fusion_role_of p s d is_done label a rest)
   company_fits s d true label a rest = tt
   company_fits s d false label a Empty = tt
   company_fits s d false label a (Then number other b rest) =
@@ -73,7 +73,7 @@ module _ (p : ProgramTree) (s : ScheduleTree) where
   abbrev Fits : InstructionTree → Type 0
   Fits i = FitTogether p i.operation
 
-  in_company : (company : Company) (number : ℕ) (label : Option ℕ) (d : Depth) (is : List InstructionTree) → CompanyFits p company → AllOf Fits is
+  in_company : (company : FusionRole) (number : ℕ) (label : Option ℕ) (d : Depth) (is : List InstructionTree) → CompanyFits p company → AllOf Fits is
       → AllOf Fits (plan_in company s number label d is)
   in_company Alone number label d is fits own = own
   in_company (WithNext operation) number label d is fits own = (fits, tt)
@@ -126,7 +126,7 @@ module _ (p : ProgramTree) (s : ScheduleTree) where
     block_fits : (b : BlockTree) (is_done : Bool) (place : ℕ) (d : Depth) → AllOf Fits (plan_all p s place d is_done b)
     block_fits Empty is_done place d = tt
     block_fits (Then number label action rest) is_done place d =
-        let company = company_of p s d is_done label action rest in
+        let company = fusion_role_of p s d is_done label action rest in
         let own = plan p s place d number label action in
         let n = size_in company (size p s d action) in
         all_append Fits (plan_in company s number label d own) (plan_all p s (place + n) (behind action d) (takes_next company) rest)

@@ -41,7 +41,7 @@ differs a b h = grind (arith, nat_tests)
 numbers_swap : (u v : ℕ) (c d : Contribution) (xs : List (List ℤ)) → (c.vector == d.vector) ≡ false → after_number v d (after_number u c xs) ≡ after_number u c (after_number v d xs)
 numbers_swap u v c d xs h = rows_change xs c.vector d.vector (row_after u c) (row_after v d) h
 
--- a number goes behind others that are for vectors other than its own
+-- a number goes after others that are for vectors other than its own
 goes_behind : (u v : ℕ) (d : Contribution) (cs : List Contribution) (xs : List (List ℤ)) → AreFor (λ x. not (x == d.vector)) cs
     → with_given u cs (after_number v d xs) ≡ after_number v d (with_given u cs xs)
 goes_behind u v d [] xs h = refl
@@ -79,7 +79,7 @@ module _ (F G : ℕ × ℕ → List Contribution) (apart : (e e' : ℕ × ℕ) �
   edge_goes_behind (e ∷ edges) edge xs =
       ap (given_along F edges) (all_go_behind e.1 edge.1 (F e) (G edge) xs (apart e edge)) ∙ edge_goes_behind edges edge (with_given e.1 (F e) xs)
 
-  -- both along each edge, or one behind the other
+  -- both along each edge, or one after the other
   pub both_along : (edges : List (ℕ × ℕ)) (xs : List (List ℤ)) → given_along (λ e. F e ++ G e) edges xs ≡ given_along G edges (given_along F edges xs)
   both_along [] xs = refl
   both_along (e ∷ edges) xs =

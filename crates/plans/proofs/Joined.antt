@@ -8,7 +8,7 @@ use Rattle.algorithm_meaning.specs.Meaning.{after}
 use Rattle.algorithm_meaning.specs.declared.state.LoopCounter.{LoopCounter}
 use Rattle.algorithm_meaning.specs.declared.state.Depth.{Depth}
 use Rattle.plans.specs.Instruction.{OperationTree}
-use Rattle.plans.specs.Fusing.{Company, Alone, WithNext, WithPrevious}
+use Rattle.plans.specs.Fusing.{FusionRole, Alone, WithNext, WithPrevious}
 use Rattle.plans.specs.Plan.{behind}
 use Rattle.plans.specs.Machine.{At, act}
 use Rattle.plans.proofs.Proper.{IsProper, HasNoBlock, Leaves, alone-leaves}
@@ -29,7 +29,7 @@ module _ (p : ProgramTree) (g : GraphValue) where
         → act p g operation number shown place loops s ≡ At (place + 1) loops (second (first s))
 
   -- what holds of a statement in such company
-  abbrev pub IsGoodCompany : Company → Depth → ActionTree → BlockTree → Type 0
+  abbrev pub IsGoodCompany : FusionRole → Depth → ActionTree → BlockTree → Type 0
   IsGoodCompany Alone d a rest = Unit {0}
   IsGoodCompany WithPrevious d a rest = ⊥
   IsGoodCompany (WithNext operation) d a Empty = ⊥

@@ -5,7 +5,7 @@ use Rattle.typed_tree.specs.ProgramTree.{ProgramTree}
 use Rattle.apply_options.specs.ScheduleTree.{ScheduleTree, choice_at}
 use Rattle.algorithm_meaning.specs.declared.state.Depth.{Depth}
 use Rattle.plans.specs.Instruction.{OperationTree, ApplyEdgesTogether, ApplyVerticesTogether, Advance, Jump, End, InstructionTree}
-use Rattle.plans.specs.Fusing.{EdgeApplyTree, VertexApplyTree, edge_apply_of, vertex_apply_of, edges_fit, vertices_fit, edges_together, vertices_together, either, together, is_with, Company, Alone, WithNext, WithPrevious, with_next, company_of, takes_next}
+use Rattle.plans.specs.Fusing.{EdgeApplyTree, VertexApplyTree, edge_apply_of, vertex_apply_of, edges_fit, vertices_fit, edges_together, vertices_together, either, together, is_with, FusionRole, Alone, WithNext, WithPrevious, with_next, fusion_role_of, takes_next}
 use Rattle.plans.specs.Plan.{behind, behind_all, in_loop, main_depth, plain, loop_step, chosen, size_in, plan_in, size, size_all, plan, plan_all, plan_of}
 use Rattle.plans.specs.Choices.{StandsIn, StandsInside, first_apply, ComesFrom, GoBySchedule}
 
@@ -27,7 +27,7 @@ abbrev BeginsIf : Option EdgeApplyTree → Option OperationTree → Type 0
 BeginsIf a None = Unit {0}
 BeginsIf a (Some operation) = (x : EdgeApplyTree) → first_apply operation ≡ Some x → a ≡ Some x
 
-abbrev Begins : Option EdgeApplyTree → Company → Type 0
+abbrev Begins : Option EdgeApplyTree → FusionRole → Type 0
 Begins a Alone = Unit {0}
 Begins a (WithNext operation) = (x : EdgeApplyTree) → first_apply operation ≡ Some x → a ≡ Some x
 Begins a WithPrevious = Unit {0}
@@ -59,7 +59,7 @@ fused_begins c true None h = tt
 fused_begins c true (Some operation) h = h
 fused_begins c false o h = tt
 
-company_begins : (p : ProgramTree) (schedule : ScheduleTree) (d : Depth) (is_done : Bool) (label : Option ℕ) (a : ActionTree) (rest : BlockTree) → Begins (edge_apply_of a) (company_of p schedule d is_done label a rest)
+company_begins : (p : ProgramTree) (schedule : ScheduleTree) (d : Depth) (is_done : Bool) (label : Option ℕ) (a : ActionTree) (rest : BlockTree) → Begins (edge_apply_of a) (fusion_role_of p schedule d is_done label a rest)
 company_begins p schedule d true label a rest = tt
 company_begins p schedule d false label a Empty = tt
 company_begins p schedule d false label a (Then number other b rest) =
@@ -73,7 +73,7 @@ module _ (p : ProgramTree) (schedule : ScheduleTree) (P : InstructionTree → Ty
   HoldsFor number label action =
       (i : InstructionTree) → i.number ≡ number → ((x : EdgeApplyTree) → first_apply i.operation ≡ Some x → (edge_apply_of action ≡ Some x) × (i.choice ≡ choice_at label schedule)) → P i
 
-  in_company : (company : Company) (number : ℕ) (label : Option ℕ) (d : Depth) (action : ActionTree) (is : List InstructionTree) → Begins (edge_apply_of action) company → HoldsFor number label action
+  in_company : (company : FusionRole) (number : ℕ) (label : Option ℕ) (d : Depth) (action : ActionTree) (is : List InstructionTree) → Begins (edge_apply_of action) company → HoldsFor number label action
       → AllOf P is → AllOf P (plan_in company schedule number label d is)
   in_company Alone number label d action is begins holds own = own
   in_company (WithNext operation) number label d action is begins holds own = (holds (chosen schedule number label d operation) refl (λ x e. (begins x e, refl)), tt)
@@ -137,7 +137,7 @@ module _ (p : ProgramTree) (schedule : ScheduleTree) (P : InstructionTree → Ty
     block_comes : (b : BlockTree) (is_done : Bool) (place : ℕ) (d : Depth) → ((n : ℕ) (l : Option ℕ) (c : ActionTree) → StandsIn b n l c → HoldsFor n l c) → AllOf P (plan_all p schedule place d is_done b)
     block_comes Empty is_done place d holds = tt
     block_comes (Then number label action rest) is_done place d holds =
-        let company = company_of p schedule d is_done label action rest in
+        let company = fusion_role_of p schedule d is_done label action rest in
         let own = plan p schedule place d number label action in
         let n = size_in company (size p schedule d action) in
         all_append P (plan_in company schedule number label d own) (plan_all p schedule (place + n) (behind action d) (takes_next company) rest)

@@ -14,7 +14,7 @@ use Rattle.apply_options.specs.ScheduleTree.{ScheduleTree, choice_at}
 use Rattle.std.proofs.lemmas.Bool.{and_parts}
 use Rattle.algorithm_meaning.specs.declared.state.Depth.{Depth}
 use Rattle.plans.specs.Instruction.{OperationTree, ApplyEdgesTogether, ApplyVerticesTogether}
-use Rattle.plans.specs.Fusing.{EdgeApplyTree, VertexApplyTree, edge_apply_of, vertex_apply_of, steps_are_local, steps_are_local_where, function_is_local, edges_fit, vertices_fit, edges_together, vertices_together, either, together, is_with, Alone, with_next, company_of}
+use Rattle.plans.specs.Fusing.{EdgeApplyTree, VertexApplyTree, edge_apply_of, vertex_apply_of, steps_are_local, steps_are_local_where, function_is_local, edges_fit, vertices_fit, edges_together, vertices_together, either, together, is_with, Alone, with_next, fusion_role_of}
 use Rattle.plans.specs.Machine.{At, after_apply_both}
 use Rattle.plans.proofs.Proper.{IsProper}
 use Rattle.plans.proofs.Joined.{IsFaultless, DoesBoth, IsGoodCompany}
@@ -118,7 +118,7 @@ module _ (p : ProgramTree) (g : GraphValue) where
   good_if_fused false o d a b number label rest h = tt
 
   -- each statement is in good company
-  pub company_is_good : (schedule : ScheduleTree) (d : Depth) (label : Option ℕ) (a : ActionTree) (rest : BlockTree) → IsGoodCompany p g (company_of p schedule d false label a rest) d a rest
+  pub company_is_good : (schedule : ScheduleTree) (d : Depth) (label : Option ℕ) (a : ActionTree) (rest : BlockTree) → IsGoodCompany p g (fusion_role_of p schedule d false label a rest) d a rest
   company_is_good schedule d label a Empty = tt
   company_is_good schedule d label a (Then number other b rest) =
       good_if_fused (is_with (choice_at label schedule).fused other) (together p d a b) d a b number other rest (together_does_both d a b)

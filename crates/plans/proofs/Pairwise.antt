@@ -13,7 +13,7 @@ pairwise_snoc R [] (b ∷ ys) x y all one = absurd all
 pairwise_snoc R (a ∷ xs) [] x y all one = absurd all
 pairwise_snoc R (a ∷ xs) (b ∷ ys) x y all one = (all.0, pairwise_snoc R xs ys x y all.1 one)
 
--- one list behind the other on either side
+-- one list after the other on either side
 pub pairwise_append : {A B : Type 0} (R : A → B → Type 0) (xs : List A) (ys : List B) (vs : List A) (ws : List B) → ArePairwise R xs ys → ArePairwise R vs ws → ArePairwise R (xs ++ vs) (ys ++ ws)
 pairwise_append R [] [] vs ws all more = more
 pairwise_append R [] (b ∷ ys) vs ws all more = absurd all

@@ -7,7 +7,7 @@ use Rattle.typed_tree.specs.ProgramTree.{ProgramTree}
 use Rattle.apply_options.specs.ScheduleTree.{ScheduleTree}
 use Rattle.algorithm_meaning.specs.declared.state.Depth.{Depth}
 use Rattle.plans.specs.Instruction.{InstructionTree, Jump, Advance}
-use Rattle.plans.specs.Fusing.{Company, Alone, WithNext, WithPrevious, company_of, takes_next}
+use Rattle.plans.specs.Fusing.{FusionRole, Alone, WithNext, WithPrevious, fusion_role_of, takes_next}
 use Rattle.plans.specs.Plan.{behind, in_loop, plain, loop_step, size_in, plan_in, size, size_all, plan, plan_all}
 
 -- the instructions stand in the code at this place
@@ -25,7 +25,7 @@ has_back code place (i ∷ a) b h =
     let e : place + 1 + length a ≡ place + length (i ∷ a) = omega arith in
     subst (λ n. HasAt code n b) e (has_back code (place + 1) a b h.1)
 
--- behind instructions of which the number is known
+-- after instructions of which the number is known
 pub has_behind : (code : List InstructionTree) (place n to : ℕ) (a b : List InstructionTree) → length a ≡ n → place + n ≡ to → HasAt code place (a ++ b) → HasAt code to b
 has_behind code place n to a b e k h = subst (λ m. HasAt code m b) (ap (λ m. place + m) e ∙ k) (has_back code place a b h)
 
@@ -39,7 +39,7 @@ has_all (i ∷ is) pre =
     let rest' = subst (λ l. HasAt l (length (pre ++ i ∷ [])) is) (append_assoc pre (i ∷ []) is) rest in
     (here, subst (λ m. HasAt (pre ++ i ∷ is) m is) n rest')
 
-pub length_in : (company : Company) (s : ScheduleTree) (number : ℕ) (label : Option ℕ) (d : Depth) (is : List InstructionTree) (n : ℕ) → length is ≡ n
+pub length_in : (company : FusionRole) (s : ScheduleTree) (number : ℕ) (label : Option ℕ) (d : Depth) (is : List InstructionTree) (n : ℕ) → length is ≡ n
     → length (plan_in company s number label d is) ≡ size_in company n
 length_in Alone s number label d is n e = e
 length_in (WithNext operation) s number label d is n e = refl
@@ -84,7 +84,7 @@ module _ (p : ProgramTree) (s : ScheduleTree) where
     pub length-plan_all : (b : BlockTree) (place : ℕ) (d : Depth) (is_done : Bool) → length (plan_all p s place d is_done b) ≡ size_all p s d is_done b
     length-plan_all Empty place d is_done = refl
     length-plan_all (Then number label action rest) place d is_done =
-        let company = company_of p s d is_done label action rest in
+        let company = fusion_role_of p s d is_done label action rest in
         let first = plan_in company s number label d (plan p s place d number label action) in
         let n = size_in company (size p s d action) in
         let e : length first ≡ n = length_in company s number label d (plan p s place d number label action) (size p s d action) (length-plan action place d number label) in

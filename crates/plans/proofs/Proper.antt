@@ -1,4 +1,4 @@
--- Statements without blocks: what is visible behind them, and that vertex sets stay ascending.
+-- Statements without blocks: what is visible after them, and that vertex sets stay ascending.
 use Rattle.std.proofs.Common.{◌≡◌, ℕ, zero, suc, ◌+◌, ◌≤◌, ℤ, pos, List, [], ◌∷◌, ◌++◌, length, take, Option, Some, None, slice_get, slice_index_or, ap, ◌∙◌, refl, arith}
 use Rattle.std.proofs.lemmas.List.{length-append, length-set}
 use Rattle.typed_tree.specs.declared.statement.SetValue.{SetValue}

@@ -112,7 +112,7 @@ module _ (p : ProgramTree) (g : GraphValue) (code : List InstructionTree) where
   }
   leaving (Over t end) to loops d e turns s c deep within f = f
 
-  -- a jump behind it
+  -- a jump after it
   pub jumps : (st : Stand) (at to : ℕ) (loops : List LoopCounter) (d shown : Depth) (turns number : ℕ) (c : Configuration) → slice_get code at ≡ Some (loop_step number d shown (Jump to))
       → Follows at loops d turns st c → Follows to loops d turns st c
   jumps (Live s) at to loops d shown turns number c h f = record {

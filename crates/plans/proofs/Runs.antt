@@ -11,7 +11,7 @@ use Rattle.apply_options.specs.ScheduleTree.{ScheduleTree, choice_at}
 use Rattle.algorithm_meaning.specs.declared.state.LoopCounter.{LoopCounter}
 use Rattle.algorithm_meaning.specs.declared.state.Depth.{Depth}
 use Rattle.plans.specs.Instruction.{OperationTree, Do, Unless, UnlessBelow, Turn, Jump, Advance, InstructionTree}
-use Rattle.plans.specs.Fusing.{Company, Alone, WithNext, WithPrevious, company_of, takes_next}
+use Rattle.plans.specs.Fusing.{FusionRole, Alone, WithNext, WithPrevious, fusion_role_of, takes_next}
 use Rattle.plans.specs.Plan.{behind, behind_all, in_loop, plain, loop_step, chosen, size_in, plan_in, size, size_all, plan, plan_all}
 use Rattle.plans.specs.Machine.{Configuration, At}
 use Rattle.plans.proofs.Depths.{within_loop, within_behind_all, within_both, forgotten-all}
@@ -107,7 +107,7 @@ module _ (p : ProgramTree) (g : GraphValue) (schedule : ScheduleTree) (code : Li
       → Follows p g code (place + 1) loops (behind a d) turns (after p g number a s) (At place loops m)
   single a alone place number label d turns loops m s at same q = alone_runs p g code a alone place number (choice_at label schedule) d turns loops m s at.0 same q
 
-  -- the instructions of a block behind others
+  -- the instructions of a block after others
   abbrev HasBlock : (place : ℕ) → Depth → (is_done : Bool) → BlockTree → List InstructionTree → Type 0
   HasBlock place d is_done b rest = HasAt code place (plan_all p schedule place d is_done b ++ rest)
 
@@ -115,8 +115,8 @@ module _ (p : ProgramTree) (g : GraphValue) (schedule : ScheduleTree) (code : Li
   behind_block place to d b rest e at =
       has_behind code place (size_all p schedule d false b) to (plan_all p schedule place d false b) rest (length-plan_all p schedule b place d false) e at
 
-  -- a statement in such company, and what stands behind it
-  joined_runs : (company : Company) (action : ActionTree) (rest : BlockTree) (place number : ℕ) (label : Option ℕ) (d : Depth) (turns : ℕ) (loops : List LoopCounter) (m s : StateValue) → IsGoodCompany p g company d action rest
+  -- a statement in such company, and what stands after it
+  joined_runs : (company : FusionRole) (action : ActionTree) (rest : BlockTree) (place number : ℕ) (label : Option ℕ) (d : Depth) (turns : ℕ) (loops : List LoopCounter) (m s : StateValue) → IsGoodCompany p g company d action rest
       → HasAt code place (plan_in company schedule number label d (plan p schedule place d number label action)
       ++ plan_all p schedule (place + size_in company (size p schedule d action)) (behind action d) (takes_next company) rest)
       → forget_beyond d m ≡ s → IsProper d turns s
@@ -158,7 +158,7 @@ module _ (p : ProgramTree) (g : GraphValue) (schedule : ScheduleTree) (code : Li
       let e : place ≡ place + 0 = omega arith in
       subst (λ (x : ℕ). Lands p g code x loops d turns s (At place loops m)) e (record { there = m; reaches = here; same = same; proper = q })
 
-  module _ (good : (d : Depth) (label : Option ℕ) (a : ActionTree) (rest : BlockTree) → IsGoodCompany p g (company_of p schedule d false label a rest) d a rest) where
+  module _ (good : (d : Depth) (label : Option ℕ) (a : ActionTree) (rest : BlockTree) → IsGoodCompany p g (fusion_role_of p schedule d false label a rest) d a rest) where
     mutual
       pub action_runs : (a : ActionTree) (place number : ℕ) (label : Option ℕ) (d : Depth) (turns : ℕ) (loops : List LoopCounter) (m s : StateValue)
           → HasAt code place (plan p schedule place d number label a) → forget_beyond d m ≡ s → IsProper d turns s
@@ -231,6 +231,6 @@ module _ (p : ProgramTree) (g : GraphValue) (schedule : ScheduleTree) (code : Li
           lands_at p g code (after_all p g rest s) (place + size_all p schedule (behind action d) false rest) (place + size_all p schedule d true (Then number label action rest)) loops (behind_all rest (behind action d)) turns (At place loops m) (omega arith)
           (block_runs rest false place (behind action d) turns loops m s (subst (λ (x : ℕ). HasAt code place (plan_all p schedule x (behind action d) false rest)) e at) same q)
       block_runs (Then number label action rest) false place d turns loops m s at same q =
-          joined_runs (company_of p schedule d false label action rest) action rest place number label d turns loops m s (good d label action rest) at same q
+          joined_runs (fusion_role_of p schedule d false label action rest) action rest place number label d turns loops m s (good d label action rest) at same q
           (λ own. action_runs action place number label d turns loops m s own same q)
           (λ is_done from m t others kept proper. block_runs rest is_done from (behind action d) turns loops m t others kept proper)

@@ -5,7 +5,7 @@ use Rattle.typed_tree.specs.ProgramTree.{ProgramTree}
 use Rattle.apply_options.specs.ScheduleTree.{ScheduleTree}
 use Rattle.algorithm_meaning.specs.declared.state.Depth.{Depth}
 use Rattle.plans.specs.Instruction.{Advance, InstructionTree, Jump}
-use Rattle.plans.specs.Fusing.{Company, Alone, WithNext, WithPrevious, company_of, takes_next}
+use Rattle.plans.specs.Fusing.{FusionRole, Alone, WithNext, WithPrevious, fusion_role_of, takes_next}
 use Rattle.plans.specs.Plan.{IsWithin, behind, behind_all, in_loop, loop_step, main_depth, plain, plan, plan_all, plan_in, plan_of, size, size_all, size_in, with_integer}
 use Rattle.plans.proofs.Depths.{within_itself, within_loop}
 use Rattle.plans.proofs.Origins.{AllOf, all_append, all_at}
@@ -17,7 +17,7 @@ ShowsWithin i = IsWithin i.shown i.keep
 one_deeper : (d : Depth) → IsWithin d (with_integer d)
 one_deeper d = record { integers = omega arith; conditions = omega arith; sets = omega arith }
 
-in_company : (company : Company) (s : ScheduleTree) (number : ℕ) (label : Option ℕ) (d : Depth) (is : List InstructionTree) → AllOf ShowsWithin is → AllOf ShowsWithin (plan_in company s number label d is)
+in_company : (company : FusionRole) (s : ScheduleTree) (number : ℕ) (label : Option ℕ) (d : Depth) (is : List InstructionTree) → AllOf ShowsWithin is → AllOf ShowsWithin (plan_in company s number label d is)
 in_company Alone s number label d is own = own
 in_company (WithNext operation) s number label d is own = (within_itself d, tt)
 in_company WithPrevious s number label d is own = tt
@@ -72,7 +72,7 @@ module _ (p : ProgramTree) (s : ScheduleTree) where
     block_shows : (b : BlockTree) (is_done : Bool) (place : ℕ) (d : Depth) → AllOf ShowsWithin (plan_all p s place d is_done b)
     block_shows Empty is_done place d = tt
     block_shows (Then number label action rest) is_done place d =
-        let company = company_of p s d is_done label action rest in
+        let company = fusion_role_of p s d is_done label action rest in
         let own = plan p s place d number label action in
         let n = size_in company (size p s d action) in
         all_append ShowsWithin (plan_in company s number label d own) (plan_all p s (place + n) (behind action d) (takes_next company) rest)

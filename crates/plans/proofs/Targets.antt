@@ -5,7 +5,7 @@ use Rattle.typed_tree.specs.ProgramTree.{ProgramTree}
 use Rattle.apply_options.specs.ScheduleTree.{ScheduleTree, choice_at}
 use Rattle.algorithm_meaning.specs.declared.state.Depth.{Depth}
 use Rattle.plans.specs.Instruction.{OperationTree, Do, ApplyEdgesTogether, ApplyVerticesTogether, Unless, UnlessBelow, Advance, Turn, Jump, End, InstructionTree}
-use Rattle.plans.specs.Fusing.{EdgeApplyTree, VertexApplyTree, edge_apply_of, vertex_apply_of, edges_fit, vertices_fit, edges_together, vertices_together, either, together, is_with, Company, Alone, WithNext, WithPrevious, with_next, company_of, takes_next}
+use Rattle.plans.specs.Fusing.{EdgeApplyTree, VertexApplyTree, edge_apply_of, vertex_apply_of, edges_fit, vertices_fit, edges_together, vertices_together, either, together, is_with, FusionRole, Alone, WithNext, WithPrevious, with_next, fusion_role_of, takes_next}
 use Rattle.plans.specs.Plan.{behind, behind_all, in_loop, main_depth, plan_of, plain, loop_step, size_in, plan_in, size, size_all, plan, plan_all}
 use Rattle.plans.specs.Bound.{is_turn}
 use Rattle.plans.proofs.Proper.{HasNoBlock}
@@ -17,7 +17,7 @@ leaving_place (Unless c to) = Some to
 leaving_place (UnlessBelow name to) = Some to
 leaving_place _ = None
 
--- a loop has its head at a place, and what stands behind it at another
+-- a loop has its head at a place, and what stands after it at another
 pub record IsHead (code : List InstructionTree) (head to : ℕ) : Type 0 where
   pub instruction : InstructionTree
   pub stands : slice_get code head ≡ Some instruction
@@ -54,7 +54,7 @@ abbrev IsForTwoIf : Option OperationTree → Type 0
 IsForTwoIf None = Unit {0}
 IsForTwoIf (Some operation) = IsForTwo operation
 
-abbrev IsCompanyOfTwo : Company → Type 0
+abbrev IsCompanyOfTwo : FusionRole → Type 0
 IsCompanyOfTwo Alone = Unit {0}
 IsCompanyOfTwo (WithNext operation) = IsForTwo operation
 IsCompanyOfTwo WithPrevious = Unit {0}
@@ -86,7 +86,7 @@ fused_for_two true None h = tt
 fused_for_two true (Some operation) h = h
 fused_for_two false o h = tt
 
-company_of_two : (p : ProgramTree) (schedule : ScheduleTree) (d : Depth) (is_done : Bool) (label : Option ℕ) (a : ActionTree) (rest : BlockTree) → IsCompanyOfTwo (company_of p schedule d is_done label a rest)
+company_of_two : (p : ProgramTree) (schedule : ScheduleTree) (d : Depth) (is_done : Bool) (label : Option ℕ) (a : ActionTree) (rest : BlockTree) → IsCompanyOfTwo (fusion_role_of p schedule d is_done label a rest)
 company_of_two p schedule d true label a rest = tt
 company_of_two p schedule d false label a Empty = tt
 company_of_two p schedule d false label a (Then number other b rest) =
@@ -95,7 +95,7 @@ company_of_two p schedule d false label a (Then number other b rest) =
     (edges_for_two p d (edge_apply_of a) (edge_apply_of b)) (vertices_for_two p (vertex_apply_of a) (vertex_apply_of b)))
 
 module _ (p : ProgramTree) (schedule : ScheduleTree) (code : List InstructionTree) where
-  company_leads : (company : Company) (place number : ℕ) (label : Option ℕ) (d : Depth) (is : List InstructionTree) → IsCompanyOfTwo company
+  company_leads : (company : FusionRole) (place number : ℕ) (label : Option ℕ) (d : Depth) (is : List InstructionTree) → IsCompanyOfTwo company
       → HasAt code place (plan_in company schedule number label d is) → (HasAt code place is → AllLeadWell code place is) → AllLeadWell code place (plan_in company schedule number label d is)
   company_leads Alone place number label d is for_two at own = own at
   company_leads (WithNext (ApplyEdgesTogether ends a b)) place number label d is for_two at own = (tt, tt)
@@ -179,7 +179,7 @@ module _ (p : ProgramTree) (schedule : ScheduleTree) (code : List InstructionTre
     block_leads : (b : BlockTree) (is_done : Bool) (place : ℕ) (d : Depth) → HasAt code place (plan_all p schedule place d is_done b) → AllLeadWell code place (plan_all p schedule place d is_done b)
     block_leads Empty is_done place d at = tt
     block_leads (Then number label action rest) is_done place d at =
-        let company = company_of p schedule d is_done label action rest in
+        let company = fusion_role_of p schedule d is_done label action rest in
         let own = plan p schedule place d number label action in
         let n = size_in company (size p schedule d action) in
         let first = plan_in company schedule number label d own in

@@ -12,9 +12,9 @@ abbrev pub is_turn : Option InstructionTree → Bool
 is_turn None = false
 is_turn (Some i) = uses_turn i.operation
 
--- The rank of a place in a plan of so many instructions, by what stands there and whether `turn` stands behind it: each step but a turn leads
+-- The rank of a place in a plan of so many instructions, by what stands there and whether `turn` stands after it: each step but a turn leads
 -- to a lower rank. A place has a lower rank than those before it. The head of a loop, to which the loop's last instruction jumps, has a
--- rank between this instruction and what stands behind the loop.
+-- rank between this instruction and what stands after the loop.
 abbrev pub rank_by : (count place : ℕ) → OperationTree → (before_turn : Bool) → ℕ
 rank_by count place (Unless c to) true = 2 * (count - to) + 1
 rank_by count place (UnlessBelow name to) true = 2 * (count - to) + 1

@@ -48,7 +48,7 @@ HasPlanOfSearch p s frontier ends visit parent =
     ∷ End
     ∷ []
 
--- a loop over i with a choice in it, and a choice without `else` behind it
+-- a loop over i with a choice in it, and a choice without `else` after it
 abbrev pub loop_with_choice : (i : ℕ) → (first end : IntegerTree) → ConditionTree → (e f : IntegerTree) → BlockTree
 loop_with_choice i first end c e f =
     Then 1 None (For i first end

@@ -119,7 +119,7 @@ is_same_end (Some (end.Function f)) (Some (end.Function g)) = nat_eq f g
 abbrev pub apply_tree : EdgeApplyTree → StatementApply
 apply_tree x = Edges x.ends x.part.function (result_name x.part.result)
 
--- The second of two edge applies gives the same behind the first as beside it: the ends are the same, the two are independent, the second
+-- The second of two edge applies gives the same after the first as beside it: the ends are the same, the two are independent, the second
 -- depends on no set that the first changes, and neither is asked for a vector that the other writes.
 abbrev pub edges_fit : ProgramTree → Depth → EdgeApplyTree → EdgeApplyTree → Bool
 edges_fit p d x y =
@@ -188,24 +188,24 @@ is_with (Some (With second)) None = false
 is_with (Some (With second)) (Some label) = nat_eq second label
 
 -- how a statement of a block is done: alone, together with the next, or with the one before it
-pub data Company : Type 0 where
-  Alone : Company
-  WithNext : OperationTree → Company
-  WithPrevious : Company
+pub data FusionRole : Type 0 where
+  Alone : FusionRole
+  WithNext : OperationTree → FusionRole
+  WithPrevious : FusionRole
 
-abbrev pub with_next : Option OperationTree → Company
+abbrev pub with_next : Option OperationTree → FusionRole
 with_next None = Alone
 with_next (Some o) = WithNext o
 
 -- the first statement of a block that is not done already, where so much is visible
-abbrev pub company_of : ProgramTree → ScheduleTree → Depth → (is_done : Bool) → (label : Option ℕ) → ActionTree → BlockTree → Company
-company_of p s d true label action rest = WithPrevious
-company_of p s d false label action Empty = Alone
-company_of p s d false label action (Then number other next rest) =
+abbrev pub fusion_role_of : ProgramTree → ScheduleTree → Depth → (is_done : Bool) → (label : Option ℕ) → ActionTree → BlockTree → FusionRole
+fusion_role_of p s d true label action rest = WithPrevious
+fusion_role_of p s d false label action Empty = Alone
+fusion_role_of p s d false label action (Then number other next rest) =
     if is_with (choice_at label s).fused other then with_next (together p d action next) else Alone
 
 -- the next statement is done with it
-abbrev pub takes_next : Company → Bool
+abbrev pub takes_next : FusionRole → Bool
 takes_next Alone = false
 takes_next (WithNext o) = true
 takes_next WithPrevious = false

@@ -28,7 +28,7 @@ pub data OperationTree : Type 0 where
   ApplyVerticesTogether : (set : VarRef) → (first second : ℕ) → OperationTree
   -- goes on at the place unless the condition holds
   Unless : ConditionTree → (to : ℕ) → OperationTree
-  -- `for` whose name, the last variable, has its first value: the second bound, which stands behind the name
+  -- `for` whose name, the last variable, has its first value: the second bound, which stands after the name
   Enter : (name : ℕ) → (end : IntegerTree) → OperationTree
   -- leaves the loop for the place unless the name is below the bound
   UnlessBelow : (name to : ℕ) → OperationTree

@@ -28,6 +28,6 @@ pub record RunsAs (p : ProgramTree) (g : GraphValue) (turns : ℕ) (plan : List 
   pub means : Shows p turns (steps p g plan count (first_configuration (opening p g turns))) (meaning p g turns)
   pub goes_on : (k : ℕ) → k < count → GoesOn plan (steps p g plan k (first_configuration (opening p g turns)))
 
--- from wherever a run goes on, it has fewer steps left behind the next one
+-- from wherever a run goes on, it has fewer steps left after the next one
 abbrev pub StepsLowerTheBound : ProgramTree → GraphValue → List InstructionTree → Type 0
 StepsLowerTheBound p g plan = (c : Configuration) → GoesOn plan c → most_steps plan (step p g plan c) < most_steps plan c

@@ -35,7 +35,7 @@ abbrev pub with_results : (vertices : ℕ) → (before after : List (List ℤ)) 
 with_results vertices before after [] s = s
 with_results vertices before after (part ∷ parts) s = with_results vertices before after parts (with_result vertices before after part.result s)
 
--- edge functions between the same ends: all read the vectors before the apply, and what they changed is known behind it
+-- edge functions between the same ends: all read the vectors before the apply, and what they changed is known after it
 abbrev pub after_parts : ProgramTree → GraphValue → ApplyEnds → List EdgePartTree → StateValue → StateValue
 after_parts p g ends parts s =
     let vectors = after_edge_apply p.filters p.edge_functions g ends (map (λ part. part.function) parts) s in
@@ -100,7 +100,7 @@ act p g Turn number shown place loops s = after_turn s.turns (place + 1) loops s
 act p g (Jump to) number shown place loops s = At to loops s
 act p g End number shown place loops s = Ended (forget_beyond shown s) Finished
 
--- the instruction at a place; behind the last one the run has come to the end
+-- the instruction at a place; after the last one the run has come to the end
 abbrev pub act_at : ProgramTree → GraphValue → Option InstructionTree → (place : ℕ) → List LoopCounter → StateValue → Configuration
 act_at p g None place loops s = Ended s Finished
 act_at p g (Some i) place loops s = act p g i.operation i.number i.shown place loops (forget_beyond i.keep s)

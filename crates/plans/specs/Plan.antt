@@ -5,7 +5,7 @@ use Rattle.typed_tree.specs.ProgramTree.{ProgramTree}
 use Rattle.algorithm_meaning.specs.declared.state.Depth.{Depth}
 use Rattle.apply_options.specs.ScheduleTree.{ScheduleTree, choice_at, no_choice}
 use Rattle.plans.specs.Instruction.{OperationTree, Do, Unless, Enter, UnlessBelow, Advance, Turn, Jump, End, InstructionTree}
-use Rattle.plans.specs.Fusing.{Company, Alone, WithNext, WithPrevious, company_of, takes_next}
+use Rattle.plans.specs.Fusing.{FusionRole, Alone, WithNext, WithPrevious, fusion_role_of, takes_next}
 
 -- one more of each kind
 abbrev pub with_integer : Depth → Depth
@@ -23,7 +23,7 @@ pub record IsWithin (d e : Depth) : Type 0 where
   pub conditions : d.conditions ≤ e.conditions
   pub sets : d.sets ≤ e.sets
 
--- in the body of `for`: the name, and the bound behind it
+-- in the body of `for`: the name, and the bound after it
 abbrev pub in_loop : Depth → Depth
 in_loop d = with_integer (with_integer d)
 
@@ -31,7 +31,7 @@ in_loop d = with_integer (with_integer d)
 abbrev pub main_depth : ProgramTree → Depth
 main_depth p = record { integers = 0; conditions = 0; sets = length p.sets }
 
--- behind a statement of main, and behind all of a block
+-- after a statement of main, and after all of a block
 abbrev pub behind : ActionTree → Depth → Depth
 behind (DeclareInteger name e) d = with_integer d
 behind (DeclareCondition name c) d = with_condition d
@@ -55,12 +55,12 @@ abbrev pub chosen : ScheduleTree → (number : ℕ) → Option ℕ → Depth →
 chosen s number label d operation = record { number = number; keep = d; shown = d; choice = choice_at label s; operation = operation }
 
 -- of a statement in such company: how many instructions there are, and which
-abbrev pub size_in : Company → ℕ → ℕ
+abbrev pub size_in : FusionRole → ℕ → ℕ
 size_in Alone n = n
 size_in (WithNext operation) n = 1
 size_in WithPrevious n = 0
 
-abbrev pub plan_in : Company → ScheduleTree → (number : ℕ) → Option ℕ → Depth → List InstructionTree → List InstructionTree
+abbrev pub plan_in : FusionRole → ScheduleTree → (number : ℕ) → Option ℕ → Depth → List InstructionTree → List InstructionTree
 plan_in Alone s number label d is = is
 plan_in (WithNext operation) s number label d is = chosen s number label d operation ∷ []
 plan_in WithPrevious s number label d is = []
@@ -78,8 +78,8 @@ abbrev mutual
   pub size_all : ProgramTree → ScheduleTree → Depth → (is_done : Bool) → BlockTree → ℕ
   size_all p s d is_done Empty = 0
   size_all p s d is_done (Then number label action rest) =
-      size_in (company_of p s d is_done label action rest) (size p s d action)
-      + size_all p s (behind action d) (takes_next (company_of p s d is_done label action rest)) rest
+      size_in (fusion_role_of p s d is_done label action rest) (size p s d action)
+      + size_all p s (behind action d) (takes_next (fusion_role_of p s d is_done label action rest)) rest
 
 abbrev mutual
   -- the instructions of a statement, of which the first stands at this place
@@ -111,8 +111,8 @@ abbrev mutual
   pub plan_all : ProgramTree → ScheduleTree → (place : ℕ) → Depth → (is_done : Bool) → BlockTree → List InstructionTree
   plan_all p s place d is_done Empty = []
   plan_all p s place d is_done (Then number label action rest) =
-      plan_in (company_of p s d is_done label action rest) s number label d (plan p s place d number label action)
-      ++ plan_all p s (place + size_in (company_of p s d is_done label action rest) (size p s d action)) (behind action d) (takes_next (company_of p s d is_done label action rest)) rest
+      plan_in (fusion_role_of p s d is_done label action rest) s number label d (plan p s place d number label action)
+      ++ plan_all p s (place + size_in (fusion_role_of p s d is_done label action rest) (size p s d action)) (behind action d) (takes_next (fusion_role_of p s d is_done label action rest)) rest
 
 -- the instructions of main, and the end
 abbrev pub plan_of : ProgramTree → ScheduleTree → List InstructionTree

@@ -1,9 +1,9 @@
-//! The kernels of a program's functions.
+//! Function kernels: the kernels of a program's functions.
 ghost use Rattle.std.specs.Prelude.{◌≡◌, ℕ, IfOk, map, slice_get};
 ghost use Rattle.algorithm_meaning.specs.Function.{steps_of};
 ghost use Rattle.typed_tree.specs.ProgramTree.{program_tree};
 ghost use Rattle.typed_tree.specs.StepTree.{function_tree};
-ghost use Rattle.plans.specs.Functions.{AreFunctions};
+ghost use Rattle.plans.specs.Functions.{AreFunctionKernels};
 
 use crate::kernels_at::Kernels;
 use kernels::{EdgeKernel, FilterKernel, VertexKernel};
@@ -30,7 +30,7 @@ impl Drop for FunctionKernels {
 impl FunctionKernels {
     /// Those of a program. The only error is out of memory.
     pub fn of(alloc: Global, program: &Typed) -> Result<FunctionKernels, AllocError>
-        ensures { IfOk result (λ f. AreFunctions f (program_tree program.now)) }
+        ensures { IfOk result (λ f. AreFunctionKernels f (program_tree program.now)) }
     {
         let edge = Kernels::of(alloc, &program.edge_functions)?;
         let vertex = Kernels::of(alloc, &program.vertex_functions)?;

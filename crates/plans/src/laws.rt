@@ -39,7 +39,7 @@ pub fn fused_applies_fit()
     ensures { (p : ProgramTree) (s : ScheduleTree) → FusedFit p (plan_of p s) }
 {}
 
-/// Plans of examples, instruction by instruction: a breadth-first search, a loop with a choice in it and another behind
+/// Plans of examples, instruction by instruction: a breadth-first search, a loop with a choice in it and another after
 /// it, pairs of vertex applies, of edge applies and of edge applies with results that the schedule fuses, and two edge
 /// applies that cannot be done together.
 pub fn examples_have_their_plans()

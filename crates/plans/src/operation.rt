@@ -1,4 +1,4 @@
-//! What instructions do.
+//! Operations: what an instruction does, with the kernels of its expressions.
 use crate::part::EdgePart;
 use crate::set_expression::SetExpression;
 use apply_options::Reduction;

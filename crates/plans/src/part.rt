@@ -1,4 +1,4 @@
-//! Applies, and what is done with what they change.
+//! Apply parts: the function of an apply, and the set that gets what it changed.
 use typed_tree::{ApplyEnds, VarRef};
 
 /// The edge function at this place, and what is done with the vertices at which it changes a vector.

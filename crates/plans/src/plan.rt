@@ -1,4 +1,4 @@
-//! Plans.
+//! The plan of a program: all that a run needs.
 ghost use Rattle.typed_tree.specs.ProgramTree.{program_tree};
 ghost use Rattle.plans.specs.Lowered.{AreLowered};
 

@@ -1,4 +1,4 @@
-//! What a vertex set gets.
+//! Set expressions: the members that a vertex set gets.
 use typed_tree::VarRef;
 
 /// What a set gets that gets no vertices of an edge apply.

@@ -10,7 +10,7 @@ use Rattle.algorithm_meaning.specs.EdgeApply.{is_member}
 use Rattle.algorithm_meaning.specs.State.{StateValue}
 use Rattle.edge_fold.specs.declared.scratch.Scratch.{Scratch}
 use Rattle.edge_fold.specs.Between.{edges_between}
-use Rattle.edge_fold.specs.declared.functions.Functions.{Functions}
+use Rattle.edge_fold.specs.declared.apply_context.ApplyContext.{ApplyContext}
 use Rattle.edge_fold.specs.Folded.{HasFolded}
 use Rattle.edge_fold.specs.Given.{column, given_on, reduced_at}
 use Rattle.edge_fold.proofs.Meaning.{filtered_edges}
@@ -113,7 +113,7 @@ columns_are_edges r x v n g from to us es up agree =
     (into_columns v from es 0 us up ∙ agree_at from v (sources_of v es) (is_member v us) (to v) (agree v) ∙ sym (into_between v from to es))
     ∙ only_into r x v n g (edges_between from to es)
 
-pub folded_columns : (f : Functions) (m : StateValue) (steps : List StepsTree) (from to : ℕ → Bool) (us : List ℕ) (es : List (ℕ × ℕ)) (s : Scratch) → Rises 0 us
+pub folded_columns : (f : ApplyContext) (m : StateValue) (steps : List StepsTree) (from to : ℕ → Bool) (us : List ℕ) (es : List (ℕ × ℕ)) (s : Scratch) → Rises 0 us
     → ((u : ℕ) → 0 < length (sources_of u es) → is_member u us ≡ to u)
     → HasFolded f m steps (columns from es us) s → HasFolded f m steps (edges_between from to es) s
 folded_columns f m steps from to us es s up agree has = λ x r by.

@@ -5,8 +5,8 @@ use Rattle.std.specs.List.Sorted.{IsPermutation}
 use Rattle.typed_tree.specs.StepTree.{StepsTree}
 use Rattle.algorithm_meaning.specs.State.{StateValue}
 use Rattle.register_code.specs.Cells.{HasSizes}
-use Rattle.crew.specs.declared.found.Found.{Found}
-use Rattle.edge_fold.specs.declared.functions.Functions.{Functions}
+use Rattle.crew.specs.declared.piece_results.Found.{Found}
+use Rattle.edge_fold.specs.declared.apply_context.ApplyContext.{ApplyContext}
 use Rattle.edge_fold.specs.declared.gathered.Gathered.{Gathered}
 use Rattle.edge_fold.specs.declared.scratch.Scratch.{Scratch}
 use Rattle.edge_fold.specs.Between.{edges_between}
@@ -52,7 +52,7 @@ columns_of_all from edges part [] = refl
 columns_of_all from edges part (k ∷ ks) =
     ap (λ (es : List (ℕ × ℕ)). columns from edges (part k) ++ es) (columns_of_all from edges part ks) ∙ sym (columns-append from edges (part k) (flat_map part ks))
 
-pub merged : (f : Functions) (m : StateValue) (steps : List StepsTree) (edges : List (ℕ × ℕ)) (from to : ℕ → Bool) (ends us ks : List ℕ) (s : Scratch) → AreEnds 0 (length us) ends → AreDestinations edges to us
+pub merged : (f : ApplyContext) (m : StateValue) (steps : List StepsTree) (edges : List (ℕ × ℕ)) (from to : ℕ → Bool) (ends us ks : List ℕ) (s : Scratch) → AreEnds 0 (length us) ends → AreDestinations edges to us
     → IsPermutation ks (range_with_len 1 (length ends))
     → HasFolded f m steps (flat_map (λ k. columns from edges (piece_of ends us k)) ks) s → HasFolded f m steps (edges_between from to edges) s
 merged f m steps edges from to ends us ks s whole are same has =

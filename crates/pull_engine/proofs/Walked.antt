@@ -6,11 +6,11 @@ use Rattle.typed_tree.specs.StepTree.{StepsTree}
 use Rattle.algorithm_meaning.specs.EdgeApply.{is_member}
 use Rattle.algorithm_meaning.specs.State.{StateValue}
 use Rattle.kernels.specs.declared.endpoint_filter.EndpointFilter.{EndpointFilter}
-use Rattle.edge_fold.specs.declared.functions.Functions.{Functions}
+use Rattle.edge_fold.specs.declared.apply_context.ApplyContext.{ApplyContext}
 use Rattle.edge_fold.specs.declared.scratch.Scratch.{Scratch}
 use Rattle.edge_fold.specs.Between.{edges_between, firsts}
 use Rattle.edge_fold.specs.Ends.{IsTest}
-use Rattle.edge_fold.specs.Folded.{AreFunctions, HasFolded}
+use Rattle.edge_fold.specs.Folded.{IsContextOf, HasFolded}
 use Rattle.edge_fold.specs.Given.{column}
 use Rattle.edge_fold.proofs.Walks.{FoldsMore, HasPassed, HasWalked, folded_along, pass_done, walk_done}
 use Rattle.flat_snapshot.specs.Neighbours.{AreDegreesOf}
@@ -21,7 +21,7 @@ use Rattle.pull_engine.specs.Columns.{columns}
 use Rattle.pull_engine.proofs.ColumnFolds.{columns-append, folded_columns}
 
 -- the edges into one destination
-pub one_destination : (f : Functions) (from : ℕ → Bool) (edges : List (ℕ × ℕ)) (v : ℕ) (s t : Scratch) → FoldsMore f (column v (filter from (sources_of v edges))) s t → FoldsMore f (columns from edges (v ∷ [])) s t
+pub one_destination : (f : ApplyContext) (from : ℕ → Bool) (edges : List (ℕ × ℕ)) (v : ℕ) (s t : Scratch) → FoldsMore f (column v (filter from (sources_of v edges))) s t → FoldsMore f (columns from edges (v ∷ [])) s t
 one_destination f from edges v s t more m steps es are has =
     let here = column v (filter from (sources_of v edges)) in
     folded_along f m steps (es ++ here) (es ++ columns from edges (v ∷ [])) t (ap (λ ks. es ++ ks) (sym (append-nil here))) (more m steps es are has)
@@ -36,18 +36,18 @@ columns_next from edges es us i l =
     ∙ ap (λ ks. es ++ ks) (ap (λ ks. columns from edges (take i us) ++ ks) (sym (append-nil here)) ∙ sym (columns-append from edges (take i us) (u ∷ [])) ∙ ap (columns from edges) (sym (take_more us i 0 l)))
 
 -- the edges into all destinations that pass
-pub walked_all : (f : Functions) (from to : ℕ → Bool) (edges : List (ℕ × ℕ)) (all left : List ℕ) (start s : Scratch) → left ≡ [] → Rises 0 all → ((u : ℕ) → 0 < length (sources_of u edges) → is_member u all ≡ to u)
+pub walked_all : (f : ApplyContext) (from to : ℕ → Bool) (edges : List (ℕ × ℕ)) (all left : List ℕ) (start s : Scratch) → left ≡ [] → Rises 0 all → ((u : ℕ) → 0 < length (sources_of u edges) → is_member u all ≡ to u)
     → HasWalked f (columns from edges) all left start s
-    → (m : StateValue) (steps : List StepsTree) → AreFunctions f m steps → HasFolded f m steps [] start → HasFolded f m steps (edges_between from to edges) s
+    → (m : StateValue) (steps : List StepsTree) → IsContextOf f m steps → HasFolded f m steps [] start → HasFolded f m steps (edges_between from to edges) s
 walked_all f from to edges all left start s none up agree w m steps are has =
     folded_columns f m steps from to all edges s up agree (walk_done f (columns from edges) all left start s none w m steps [] are has)
 
 pub destinations_agree : (edges ds : List (ℕ × ℕ)) (to : ℕ → Bool) → AreDegreesOf (λ u. sources_of u edges) ds → ((v : ℕ) → to v ≡ true) → (u : ℕ) → 0 < length (sources_of u edges) → is_member u (firsts ds) ≡ to u
 destinations_agree edges ds to are all u l = degree_listed (λ u. sources_of u edges) ds u are l ∙ sym (all u)
 
-pub passed_all : (to : EndpointFilter) (f : Functions) (from : ℕ → Bool) (edges ds : List (ℕ × ℕ)) (left : List ℕ) (start s : Scratch) → left ≡ [] → AreDegreesOf (λ u. sources_of u edges) ds
+pub passed_all : (to : EndpointFilter) (f : ApplyContext) (from : ℕ → Bool) (edges ds : List (ℕ × ℕ)) (left : List ℕ) (start s : Scratch) → left ≡ [] → AreDegreesOf (λ u. sources_of u edges) ds
     → HasPassed to f (columns from edges) (firsts ds) left start s
-    → (m : StateValue) (steps : List StepsTree) (test : ℕ → Bool) → AreFunctions f m steps → IsTest to m test → HasFolded f m steps [] start → HasFolded f m steps (edges_between from test edges) s
+    → (m : StateValue) (steps : List StepsTree) (test : ℕ → Bool) → IsContextOf f m steps → IsTest to m test → HasFolded f m steps [] start → HasFolded f m steps (edges_between from test edges) s
 passed_all to f from edges ds left start s none degrees w m steps test are is has =
     let neighbours = λ (u : ℕ). sources_of u edges in
     let us = filter test (firsts ds) in

@@ -1,4 +1,4 @@
-//! A whole apply, into the destinations.
+//! Whole applies by pull: into the destinations.
 ghost use Rattle.std.specs.Prelude.{◌≡◌, ℕ, Bool, List, IfOk};
 ghost use Rattle.typed_tree.specs.StepTree.{StepsTree};
 ghost use Rattle.algorithm_meaning.specs.EdgeApply.{is_member};
@@ -6,13 +6,13 @@ ghost use Rattle.algorithm_meaning.specs.State.{StateValue};
 ghost use Rattle.edge_fold.specs.Between.{edges_between};
 ghost use Rattle.edge_fold.specs.Changed.{AreApart};
 ghost use Rattle.edge_fold.specs.Ends.{IsEndTest};
-ghost use Rattle.edge_fold.specs.declared.functions.Start.TheVariants.{OldEntry};
-ghost use Rattle.edge_fold.specs.Folded.{AreFunctions};
+ghost use Rattle.edge_fold.specs.declared.apply_context.FoldStart.TheVariants.{OldEntry};
+ghost use Rattle.edge_fold.specs.Folded.{IsContextOf};
 ghost use Rattle.push_engine.specs.Applied.{AreChangesOf, AreChangesOn};
 ghost use Rattle.push_engine.specs.Words.{passes_words};
 
 use crate::destinations::fold_to;
-use edge_fold::{Functions, Scratch, Start};
+use edge_fold::{ApplyContext, FoldStart, Scratch};
 use flat_snapshot::Flat;
 use kernels::EndpointFilter;
 use push_engine::{Apply, passing_set};
@@ -42,24 +42,22 @@ pub fn pull(
     ensures once { IfOk result (λ c. AreApart c.vectors.items) }
     ensures changes { IfOk result (λ c. AreChangesOf apply.now flat.now vectors.now.vectors sizes.now c.vectors.items) }
 {
-    let functions = Functions {
+    let context = ApplyContext {
         first: apply.first,
         second: apply.second,
         vectors,
         sizes,
         vertices: flat.vertices(),
-        start: Start::OldEntry,
+        start: FoldStart::OldEntry,
     };
     let Some(end) = apply.from else {
-        return pull_from(alloc, flat, functions, None, apply.to, scratch);
+        return pull_from(alloc, flat, context, None, apply.to, scratch);
     };
     match end {
-        EndpointFilter::Members(set) => pull_members(
-            alloc, flat, functions, set, apply.to, scratch,
-        ),
+        EndpointFilter::Members(set) => pull_members(alloc, flat, context, set, apply.to, scratch),
         EndpointFilter::Filter(_) => {
-            let passing = passing_set(alloc, functions, end, scratch)?;
-            pull_members(alloc, flat, functions, &passing, apply.to, scratch)
+            let passing = passing_set(alloc, context, end, scratch)?;
+            pull_members(alloc, flat, context, &passing, apply.to, scratch)
         }
     }
 }
@@ -68,40 +66,40 @@ pub fn pull(
 fn pull_members(
     alloc: Global,
     flat: &Flat,
-    functions: Functions<'_>,
+    context: ApplyContext<'_>,
     set: &VertexSet,
     to: Option<EndpointFilter<'_>>,
     scratch: &mut Scratch,
 ) -> Result<Changes, AllocError>
     ensures once { IfOk result (λ c. AreApart c.vectors.items) }
-    ensures changes { IfOk result (λ c. (m : StateValue) (steps : List StepsTree) (from test : ℕ → Bool) → AreFunctions functions.entry m steps → functions.entry.vertices ≡ flat.now.vertices → functions.entry.start ≡ OldEntry
+    ensures changes { IfOk result (λ c. (m : StateValue) (steps : List StepsTree) (from test : ℕ → Bool) → IsContextOf context.entry m steps → context.entry.vertices ≡ flat.now.vertices → context.entry.start ≡ OldEntry
         → ((v : ℕ) → from v ≡ is_member v set.now.members) → IsEndTest to.entry m test → AreChangesOn flat.now.vertices (edges_between from test flat.now.edges) m steps c.vectors.items) }
 {
     if let Some(words) = set.words() {
-        return pull_from(alloc, flat, functions, Some(words), to, scratch);
+        return pull_from(alloc, flat, context, Some(words), to, scratch);
     }
     let bits = set.to_form(alloc, Form::Bits)?;
     let Some(words) = bits.words() else {
         unreachable!();
     };
-    pull_from(alloc, flat, functions, Some(words), to, scratch)
+    pull_from(alloc, flat, context, Some(words), to, scratch)
 }
 
 /// The same from the sources whose bits are set, or from all.
 fn pull_from(
     alloc: Global,
     flat: &Flat,
-    functions: Functions<'_>,
+    context: ApplyContext<'_>,
     from: Option<&[u64]>,
     to: Option<EndpointFilter<'_>>,
     scratch: &mut Scratch,
 ) -> Result<Changes, AllocError>
     ensures once { IfOk result (λ c. AreApart c.vectors.items) }
-    ensures changes { IfOk result (λ c. (m : StateValue) (steps : List StepsTree) (test : ℕ → Bool) → AreFunctions functions.entry m steps → functions.entry.vertices ≡ flat.now.vertices → functions.entry.start ≡ OldEntry → IsEndTest to.entry m test
+    ensures changes { IfOk result (λ c. (m : StateValue) (steps : List StepsTree) (test : ℕ → Bool) → IsContextOf context.entry m steps → context.entry.vertices ≡ flat.now.vertices → context.entry.start ≡ OldEntry → IsEndTest to.entry m test
         → AreChangesOn flat.now.vertices (edges_between (passes_words from.entry) test flat.now.edges) m steps c.vectors.items) }
 {
     scratch.begin();
-    fold_to(alloc, flat, functions, from, to, scratch)?;
-    let changes = scratch.changes(alloc, functions, None)?;
+    fold_to(alloc, flat, context, from, to, scratch)?;
+    let changes = scratch.changes(alloc, context, None)?;
     Ok(changes)
 }

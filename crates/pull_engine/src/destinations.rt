@@ -6,13 +6,13 @@ ghost use Rattle.algorithm_meaning.specs.EdgeApply.{is_member};
 ghost use Rattle.algorithm_meaning.specs.State.{StateValue};
 ghost use Rattle.edge_fold.specs.Between.{edges_between};
 ghost use Rattle.edge_fold.specs.Ends.{IsEndTest, IsTest};
-ghost use Rattle.edge_fold.specs.Folded.{AreFunctions, HasFolded};
+ghost use Rattle.edge_fold.specs.Folded.{IsContextOf, HasFolded};
 ghost use Rattle.edge_fold.specs.Given.{column};
 ghost use Rattle.tree_batch.specs.Neighbours.{sources_of};
 ghost use Rattle.pull_engine.specs.Columns.{columns};
 ghost use Rattle.push_engine.specs.Words.{passes_words};
 
-use edge_fold::{Functions, Scratch};
+use edge_fold::{ApplyContext, Scratch};
 use flat_snapshot::Flat;
 use kernels::EndpointFilter;
 use push_engine::{keep_members, take_part};
@@ -24,26 +24,26 @@ use vertex_sets::VertexSet;
 pub(crate) fn fold_to(
     alloc: Global,
     flat: &Flat,
-    functions: Functions<'_>,
+    context: ApplyContext<'_>,
     from: Option<&[u64]>,
     to: Option<EndpointFilter<'_>>,
     scratch: &mut Scratch,
 ) -> Result<(), AllocError>
-    ensures { OnOk result ((m : StateValue) (steps : List StepsTree) (test : ℕ → Bool) → AreFunctions functions.entry m steps → IsEndTest to.entry m test
-        → HasFolded functions.entry m steps [] scratch.old → HasFolded functions.entry m steps (edges_between (passes_words from.entry) test flat.now.edges) scratch.new) }
+    ensures { OnOk result ((m : StateValue) (steps : List StepsTree) (test : ℕ → Bool) → IsContextOf context.entry m steps → IsEndTest to.entry m test
+        → HasFolded context.entry m steps [] scratch.old → HasFolded context.entry m steps (edges_between (passes_words from.entry) test flat.now.edges) scratch.new) }
 {
     let mut block = [0u32; 128];
     let Some(end) = to else {
-        fold_all(alloc, flat, functions, from, &mut block, scratch)?;
+        fold_all(alloc, flat, context, from, &mut block, scratch)?;
         return Ok(());
     };
     match end {
         EndpointFilter::Members(set) => {
-            fold_members(alloc, flat, functions, from, set, &mut block, scratch)?;
+            fold_members(alloc, flat, context, from, set, &mut block, scratch)?;
             Ok(())
         }
         EndpointFilter::Filter(_) => {
-            fold_passing(alloc, flat, functions, from, end, &mut block, scratch)?;
+            fold_passing(alloc, flat, context, from, end, &mut block, scratch)?;
             Ok(())
         }
     }
@@ -53,17 +53,17 @@ pub(crate) fn fold_to(
 fn fold_all(
     alloc: Global,
     flat: &Flat,
-    functions: Functions<'_>,
+    context: ApplyContext<'_>,
     from: Option<&[u64]>,
     block: &mut [u32],
     scratch: &mut Scratch,
 ) -> Result<(), AllocError>
     requires { length block.old ≡ 128 }
-    ensures { OnOk result ((m : StateValue) (steps : List StepsTree) (to : ℕ → Bool) → AreFunctions functions.entry m steps → ((v : ℕ) → to v ≡ true)
-        → HasFolded functions.entry m steps [] scratch.old → HasFolded functions.entry m steps (edges_between (passes_words from.entry) to flat.now.edges) scratch.new) }
+    ensures { OnOk result ((m : StateValue) (steps : List StepsTree) (to : ℕ → Bool) → IsContextOf context.entry m steps → ((v : ℕ) → to v ≡ true)
+        → HasFolded context.entry m steps [] scratch.old → HasFolded context.entry m steps (edges_between (passes_words from.entry) to flat.now.edges) scratch.new) }
 {
     'destinations: for (destination, _) in flat.destinations() {
-        fold_column(alloc, flat, functions, from, destination, block, scratch)?;
+        fold_column(alloc, flat, context, from, destination, block, scratch)?;
     }
     Ok(())
 }
@@ -72,18 +72,18 @@ fn fold_all(
 fn fold_members(
     alloc: Global,
     flat: &Flat,
-    functions: Functions<'_>,
+    context: ApplyContext<'_>,
     from: Option<&[u64]>,
     set: &VertexSet,
     block: &mut [u32],
     scratch: &mut Scratch,
 ) -> Result<(), AllocError>
     requires { length block.old ≡ 128 }
-    ensures { OnOk result ((m : StateValue) (steps : List StepsTree) (to : ℕ → Bool) → AreFunctions functions.entry m steps → ((v : ℕ) → to v ≡ is_member v set.now.members)
-        → HasFolded functions.entry m steps [] scratch.old → HasFolded functions.entry m steps (edges_between (passes_words from.entry) to flat.now.edges) scratch.new) }
+    ensures { OnOk result ((m : StateValue) (steps : List StepsTree) (to : ℕ → Bool) → IsContextOf context.entry m steps → ((v : ℕ) → to v ≡ is_member v set.now.members)
+        → HasFolded context.entry m steps [] scratch.old → HasFolded context.entry m steps (edges_between (passes_words from.entry) to flat.now.edges) scratch.new) }
 {
     'destinations: for destination in set.iter() {
-        fold_column(alloc, flat, functions, from, destination, block, scratch)?;
+        fold_column(alloc, flat, context, from, destination, block, scratch)?;
     }
     Ok(())
 }
@@ -92,15 +92,15 @@ fn fold_members(
 fn fold_passing(
     alloc: Global,
     flat: &Flat,
-    functions: Functions<'_>,
+    context: ApplyContext<'_>,
     from: Option<&[u64]>,
     to: EndpointFilter<'_>,
     block: &mut [u32],
     scratch: &mut Scratch,
 ) -> Result<(), AllocError>
     requires { length block.old ≡ 128 }
-    ensures { OnOk result ((m : StateValue) (steps : List StepsTree) (test : ℕ → Bool) → AreFunctions functions.entry m steps → IsTest to.entry m test
-        → HasFolded functions.entry m steps [] scratch.old → HasFolded functions.entry m steps (edges_between (passes_words from.entry) test flat.now.edges) scratch.new) }
+    ensures { OnOk result ((m : StateValue) (steps : List StepsTree) (test : ℕ → Bool) → IsContextOf context.entry m steps → IsTest to.entry m test
+        → HasFolded context.entry m steps [] scratch.old → HasFolded context.entry m steps (edges_between (passes_words from.entry) test flat.now.edges) scratch.new) }
 {
     let mut destinations = flat.destinations();
     let mut part = Vec::new(alloc);
@@ -111,8 +111,8 @@ fn fold_passing(
             return Ok(());
         }
         kept.clear();
-        scratch.keep_passing(functions, to, &part, &mut kept)?;
-        fold_columns(alloc, flat, functions, from, &kept, block, scratch)?;
+        scratch.keep_passing(context, to, &part, &mut kept)?;
+        fold_columns(alloc, flat, context, from, &kept, block, scratch)?;
     }
 }
 
@@ -120,18 +120,18 @@ fn fold_passing(
 pub(crate) fn fold_columns(
     alloc: Global,
     flat: &Flat,
-    functions: Functions<'_>,
+    context: ApplyContext<'_>,
     from: Option<&[u64]>,
     destinations: &[u32],
     block: &mut [u32],
     scratch: &mut Scratch,
 ) -> Result<(), AllocError>
     requires { length block.old ≡ 128 }
-    ensures { OnOk result ((m : StateValue) (steps : List StepsTree) (edges : List (ℕ × ℕ)) → AreFunctions functions.entry m steps
-        → HasFolded functions.entry m steps edges scratch.old → HasFolded functions.entry m steps (edges ++ columns (passes_words from.entry) flat.now.edges destinations.now) scratch.new) }
+    ensures { OnOk result ((m : StateValue) (steps : List StepsTree) (edges : List (ℕ × ℕ)) → IsContextOf context.entry m steps
+        → HasFolded context.entry m steps edges scratch.old → HasFolded context.entry m steps (edges ++ columns (passes_words from.entry) flat.now.edges destinations.now) scratch.new) }
 {
     'destinations: for destination in destinations {
-        fold_column(alloc, flat, functions, from, *destination, block, scratch)?;
+        fold_column(alloc, flat, context, from, *destination, block, scratch)?;
     }
     Ok(())
 }
@@ -141,21 +141,21 @@ pub(crate) fn fold_columns(
 fn fold_column(
     alloc: Global,
     flat: &Flat,
-    functions: Functions<'_>,
+    context: ApplyContext<'_>,
     from: Option<&[u64]>,
     destination: u32,
     block: &mut [u32],
     scratch: &mut Scratch,
 ) -> Result<(), AllocError>
     requires { length block.old ≡ 128 }
-    ensures { OnOk result ((m : StateValue) (steps : List StepsTree) (edges : List (ℕ × ℕ)) → AreFunctions functions.entry m steps
-        → HasFolded functions.entry m steps edges scratch.old → HasFolded functions.entry m steps (edges ++ column destination (filter (passes_words from.entry) (sources_of destination flat.now.edges))) scratch.new) }
+    ensures { OnOk result ((m : StateValue) (steps : List StepsTree) (edges : List (ℕ × ℕ)) → IsContextOf context.entry m steps
+        → HasFolded context.entry m steps edges scratch.old → HasFolded context.entry m steps (edges ++ column destination (filter (passes_words from.entry) (sources_of destination flat.now.edges))) scratch.new) }
 {
     let mut neighbours = flat.in_(destination);
     'rounds: while !neighbours.is_empty() {
         let count = neighbours.fill(block);
         let kept = keep_members(from, block, count);
-        scratch.fold_into(alloc, functions, &block[..kept], destination)?;
+        scratch.fold_into(alloc, context, &block[..kept], destination)?;
     }
     Ok(())
 }

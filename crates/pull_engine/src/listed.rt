@@ -15,7 +15,7 @@ ghost use Rattle.push_engine.specs.Words.{passes_words};
 
 use apply_options::Parallelization;
 use crew::Partition;
-use edge_fold::{Functions, Scratch};
+use edge_fold::{ApplyContext, Scratch};
 use flat_snapshot::Flat;
 use kernels::EndpointFilter;
 use push_engine::{members_of, passing_set};
@@ -28,10 +28,10 @@ pub(crate) fn list_destinations(
     alloc: Global,
     to: Option<EndpointFilter<'_>>,
     flat: &Flat,
-    functions: Functions<'_>,
+    context: ApplyContext<'_>,
     scratch: &mut Scratch,
 ) -> Result<Vec<u32>, AllocError>
-    ensures { IfOk result (λ vs. (m : StateValue) (test : ℕ → Bool) → functions.entry.vectors.now.vectors ≡ m.vectors → HasSizes functions.entry.sizes.now m → IsEndTest to.entry m test
+    ensures { IfOk result (λ vs. (m : StateValue) (test : ℕ → Bool) → context.entry.vectors.now.vectors ≡ m.vectors → HasSizes context.entry.sizes.now m → IsEndTest to.entry m test
         → AreDestinations flat.now.edges test vs.items) }
 {
     match to {
@@ -40,7 +40,7 @@ pub(crate) fn list_destinations(
             Ok(all)
         }
         Some(end) => {
-            let passing = passing_destinations(alloc, end, flat, functions, scratch)?;
+            let passing = passing_destinations(alloc, end, flat, context, scratch)?;
             Ok(passing)
         }
     }
@@ -51,10 +51,10 @@ fn passing_destinations(
     alloc: Global,
     to: EndpointFilter<'_>,
     flat: &Flat,
-    functions: Functions<'_>,
+    context: ApplyContext<'_>,
     scratch: &mut Scratch,
 ) -> Result<Vec<u32>, AllocError>
-    ensures { IfOk result (λ vs. (m : StateValue) (test : ℕ → Bool) → functions.entry.vectors.now.vectors ≡ m.vectors → HasSizes functions.entry.sizes.now m → IsTest to.entry m test
+    ensures { IfOk result (λ vs. (m : StateValue) (test : ℕ → Bool) → context.entry.vectors.now.vectors ≡ m.vectors → HasSizes context.entry.sizes.now m → IsTest to.entry m test
         → AreDestinations flat.now.edges test vs.items) }
 {
     match to {
@@ -65,7 +65,7 @@ fn passing_destinations(
         EndpointFilter::Filter(_) => {
             let all = all_destinations(alloc, flat)?;
             let mut kept = Vec::new(alloc);
-            scratch.keep_passing(functions, to, &all, &mut kept)?;
+            scratch.keep_passing(context, to, &all, &mut kept)?;
             Ok(kept)
         }
     }
@@ -135,12 +135,12 @@ fn degrees_of(alloc: Global, flat: &Flat, destinations: &[u32]) -> Result<Vec<u3
 pub(crate) fn source_bits(
     alloc: Global,
     from: Option<EndpointFilter<'_>>,
-    functions: Functions<'_>,
+    context: ApplyContext<'_>,
     scratch: &mut Scratch,
 ) -> Result<Option<VertexSet>, AllocError>
     ensures form { IfOk result (λ b. IfSome b (λ s. s.form ≡ Form.Bits)) }
-    ensures passing { IfOk result (λ b. (m : StateValue) (test : ℕ → Bool) → functions.entry.vectors.now.vectors ≡ m.vectors → HasSizes functions.entry.sizes.now m → IsEndTest from.entry m test
-        → (v : ℕ) → v < functions.entry.vertices → passes_set b v ≡ test v) }
+    ensures passing { IfOk result (λ b. (m : StateValue) (test : ℕ → Bool) → context.entry.vectors.now.vectors ≡ m.vectors → HasSizes context.entry.sizes.now m → IsEndTest from.entry m test
+        → (v : ℕ) → v < context.entry.vertices → passes_set b v ≡ test v) }
 {
     match from {
         None => Ok(None),
@@ -149,7 +149,7 @@ pub(crate) fn source_bits(
             Ok(Some(bits))
         }
         Some(end) => {
-            let bits = passing_set(alloc, functions, end, scratch)?;
+            let bits = passing_set(alloc, context, end, scratch)?;
             Ok(Some(bits))
         }
     }

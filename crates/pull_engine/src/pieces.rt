@@ -1,4 +1,4 @@
-//! The pieces of an apply, and their merge.
+//! Pieces of an apply by pull, and their merge.
 ghost use Rattle.std.specs.Prelude.{◌≡◌, ℕ, List, [], length, IfOk};
 ghost use Rattle.std.specs.List.{range_with_len};
 ghost use Rattle.std.specs.List.Sorted.{IsPermutation};
@@ -11,7 +11,7 @@ use crate::destinations::fold_columns;
 use crate::listed::words_of;
 use crate::work::PullWork;
 use crew::{Found, Work};
-use edge_fold::{Functions, Gathered, Scratch, Start};
+use edge_fold::{ApplyContext, FoldStart, Gathered, Scratch};
 use push_engine::{join_all, part_between};
 use std::alloc::{AllocError, Global};
 use vectors::Changes;
@@ -39,17 +39,17 @@ impl PullWork<'_> {
         ensures changes { IfOk result (λ c. AreAnswers self.now found.now → IsPermutation (pieces_of found.now) (range_with_len 1 (length self.now.cuts))
             → AreChangesOf self.now.apply self.now.flat.now self.now.vectors.now.vectors self.now.sizes.now c.vectors.items) }
     {
-        let functions = Functions {
+        let context = ApplyContext {
             first: self.apply.first,
             second: self.apply.second,
             vectors: self.vectors,
             sizes: self.sizes,
             vertices: self.flat.vertices(),
-            start: Start::OldEntry,
+            start: FoldStart::OldEntry,
         };
         scratch.begin();
-        join_all(alloc, functions, found, scratch)?;
-        let changes = scratch.changes(alloc, functions, None)?;
+        join_all(alloc, context, found, scratch)?;
+        let changes = scratch.changes(alloc, context, None)?;
         Ok(changes)
     }
 }
@@ -75,23 +75,21 @@ impl<'a> Work for PullWork<'a> {
         scratch: &mut Scratch,
         piece: usize,
     ) -> Result<Gathered, AllocError> {
-        let functions = Functions {
+        let context = ApplyContext {
             first: self.apply.first,
             second: self.apply.second,
             vectors: self.vectors,
             sizes: self.sizes,
             vertices: self.flat.vertices(),
-            start: Start::Unit,
+            start: FoldStart::Unit,
         };
         let places = self.cuts.piece(piece);
         let part = part_between(&self.destinations, places.start, places.end);
         let words = words_of(&self.bits);
         let mut block = [0u32; 128];
         scratch.begin();
-        fold_columns(
-            alloc, self.flat, functions, words, part, &mut block, scratch,
-        )?;
-        let gathered = scratch.gathered(alloc, functions, None)?;
+        fold_columns(alloc, self.flat, context, words, part, &mut block, scratch)?;
+        let gathered = scratch.gathered(alloc, context, None)?;
         Ok(gathered)
     }
 }

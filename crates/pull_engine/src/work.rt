@@ -1,4 +1,4 @@
-//! An apply in pieces.
+//! Work of an apply by pull, in pieces.
 ghost use Rattle.std.specs.Prelude.{◌≡◌, ℕ, ◌<◌, Bool, Err, length, map, vec_len, IfOk, IfSome};
 ghost use Rattle.std.proofs.Props.{props};
 ghost use Rattle.algorithm_meaning.specs.State.{StateValue};
@@ -15,7 +15,7 @@ ghost use Rattle.pull_engine.specs.Destinations.{AreDestinations, passes_set};
 
 use crate::listed::{cut_destinations, list_destinations, source_bits};
 use crew::{CrewError, Partition};
-use edge_fold::{Functions, Scratch, Start};
+use edge_fold::{ApplyContext, FoldStart, Scratch};
 use flat_snapshot::Flat;
 use push_engine::Apply;
 use std::alloc::Global;
@@ -82,16 +82,16 @@ impl<'a> PullWork<'a> {
         if workers < 1 || 64 < workers {
             return Err(CrewError::BadWorkers);
         }
-        let functions = Functions {
+        let context = ApplyContext {
             first: apply.first,
             second: apply.second,
             vectors,
             sizes,
             vertices: flat.vertices(),
-            start: Start::Unit,
+            start: FoldStart::Unit,
         };
-        let destinations = list_destinations(alloc, apply.to, flat, functions, scratch)?;
-        let bits = source_bits(alloc, apply.from, functions, scratch)?;
+        let destinations = list_destinations(alloc, apply.to, flat, context, scratch)?;
+        let bits = source_bits(alloc, apply.from, context, scratch)?;
         let cuts = cut_destinations(alloc, apply.parallelization, workers, flat, &destinations)?;
         Ok(PullWork {
             apply: *apply,

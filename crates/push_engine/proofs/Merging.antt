@@ -7,8 +7,8 @@ use Rattle.std.specs.List.Sorted.{IsPermutation}
 use Rattle.apply_options.specs.declared.reduction.Reduction.{Reduction}
 use Rattle.typed_tree.specs.StepTree.{StepsTree}
 use Rattle.algorithm_meaning.specs.State.{StateValue}
-use Rattle.crew.specs.declared.found.Found.{Found}
-use Rattle.edge_fold.specs.declared.functions.Functions.{Functions}
+use Rattle.crew.specs.declared.piece_results.Found.{Found}
+use Rattle.edge_fold.specs.declared.apply_context.ApplyContext.{ApplyContext}
 use Rattle.edge_fold.specs.declared.gathered.Gathered.{Gathered}
 use Rattle.edge_fold.specs.declared.scratch.Scratch.{Scratch}
 use Rattle.edge_fold.specs.Between.{edges_between}
@@ -79,7 +79,7 @@ all_alike r x v g edges tested from to us are n =
     let ks = passing_in tested from us in
     rows_to_are_edges r x v g from to ks (rises_passing tested from us (rising 0 us are.ascending)) edges (agree_on_rows from ks edges are.passing) n
 
-pub merged : (f : Functions) (m : StateValue) (steps : List StepsTree) (edges : List (ℕ × ℕ)) (tested : Bool) (from to : ℕ → Bool) (ends us ks : List ℕ) (s : Scratch) → AreEnds 0 (length us) ends → AreSources edges from tested us
+pub merged : (f : ApplyContext) (m : StateValue) (steps : List StepsTree) (edges : List (ℕ × ℕ)) (tested : Bool) (from to : ℕ → Bool) (ends us ks : List ℕ) (s : Scratch) → AreEnds 0 (length us) ends → AreSources edges from tested us
     → IsPermutation ks (range_with_len 1 (length ends))
     → HasFolded f m steps (flat_map (λ k. edges_in edges tested from to (piece_of ends us k)) ks) s → HasFolded f m steps (edges_between from to edges) s
 merged f m steps edges tested from to ends us ks s whole are same has =

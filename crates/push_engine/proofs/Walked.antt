@@ -8,10 +8,10 @@ use Rattle.typed_tree.specs.StepTree.{StepsTree}
 use Rattle.algorithm_meaning.specs.EdgeApply.{is_member}
 use Rattle.algorithm_meaning.specs.State.{StateValue}
 use Rattle.kernels.specs.declared.endpoint_filter.EndpointFilter.{EndpointFilter}
-use Rattle.edge_fold.specs.declared.functions.Functions.{Functions}
+use Rattle.edge_fold.specs.declared.apply_context.ApplyContext.{ApplyContext}
 use Rattle.edge_fold.specs.declared.scratch.Scratch.{Scratch}
 use Rattle.edge_fold.specs.Ends.{IsTest}
-use Rattle.edge_fold.specs.Folded.{AreFunctions, HasFolded}
+use Rattle.edge_fold.specs.Folded.{IsContextOf, HasFolded}
 use Rattle.edge_fold.specs.Given.{row}
 use Rattle.edge_fold.proofs.Walks.{FoldsMore, HasPassed, HasWalked, InRow, folded_along, pass_done, walk_done}
 use Rattle.flat_snapshot.specs.Neighbours.{AreDegreesOf}
@@ -32,19 +32,19 @@ row_in_row to source us vs = ap (row source) (filter-append to us vs) ∙ map-ap
 one_row : (to : ℕ → Bool) (edges : List (ℕ × ℕ)) (u : ℕ) → rows_to to edges (u ∷ []) ≡ row_to to u (destinations_of u edges)
 one_row to edges u = ap (filter (λ (e : ℕ × ℕ). to e.1)) (append-nil (row u (destinations_of u edges))) ∙ filter_row to u (destinations_of u edges)
 
-pub one_source : (f : Functions) (to : ℕ → Bool) (edges : List (ℕ × ℕ)) (u : ℕ) (s t : Scratch) → FoldsMore f (row_to to u (destinations_of u edges)) s t → FoldsMore f (rows_to to edges (u ∷ [])) s t
+pub one_source : (f : ApplyContext) (to : ℕ → Bool) (edges : List (ℕ × ℕ)) (u : ℕ) (s t : Scratch) → FoldsMore f (row_to to u (destinations_of u edges)) s t → FoldsMore f (rows_to to edges (u ∷ [])) s t
 one_source f to edges u s t more m steps es are has =
     folded_along f m steps (es ++ row_to to u (destinations_of u edges)) (es ++ rows_to to edges (u ∷ [])) t (ap (λ ks. es ++ ks) (sym (one_row to edges u))) (more m steps es are has)
 
 -- the edges between the ends
-folded_edges : (f : Functions) (m : StateValue) (steps : List StepsTree) (from to : ℕ → Bool) (us : List ℕ) (es : List (ℕ × ℕ)) (s : Scratch) → Rises 0 us → Agree from us es
+folded_edges : (f : ApplyContext) (m : StateValue) (steps : List StepsTree) (from to : ℕ → Bool) (us : List ℕ) (es : List (ℕ × ℕ)) (s : Scratch) → Rises 0 us → Agree from us es
     → HasFolded f m steps (rows_to to es us) s → HasFolded f m steps (edges_between from to es) s
 folded_edges f m steps from to us es s up agree has = λ x r by.
     let was = has x r by in
     record { entries = λ v h l. was.entries v h l ∙ rows_to_are_edges r x v _ from to us up es agree _; reduction = was.reduction }
 
-pub walked_all : (f : Functions) (edges : List (ℕ × ℕ)) (all left : List ℕ) (start s : Scratch) (from to : ℕ → Bool) → left ≡ [] → Rises 0 all → Agree from all edges → HasWalked f (rows_to to edges) all left start s
-    → (m : StateValue) (steps : List StepsTree) → AreFunctions f m steps → HasFolded f m steps [] start → HasFolded f m steps (edges_between from to edges) s
+pub walked_all : (f : ApplyContext) (edges : List (ℕ × ℕ)) (all left : List ℕ) (start s : Scratch) (from to : ℕ → Bool) → left ≡ [] → Rises 0 all → Agree from all edges → HasWalked f (rows_to to edges) all left start s
+    → (m : StateValue) (steps : List StepsTree) → IsContextOf f m steps → HasFolded f m steps [] start → HasFolded f m steps (edges_between from to edges) s
 walked_all f edges all left start s from to none up agree w m steps are has =
     folded_edges f m steps from to all edges s up agree (walk_done f (rows_to to edges) all left start s none w m steps [] are has)
 
@@ -99,8 +99,8 @@ pub rises_filtered : (test : ℕ → Bool) (low : ℕ) (us : List ℕ) → Rises
 rises_filtered test low [] up = tt
 rises_filtered test low (x ∷ us) up = rises_filtered_at test low x us (test x) up.0 (rises_filtered test (x + 1) us up.1)
 
-pub passed_all : (from : EndpointFilter) (f : Functions) (to : ℕ → Bool) (edges ds : List (ℕ × ℕ)) (left : List ℕ) (start s : Scratch) → left ≡ [] → AreDegreesOf (λ u. destinations_of u edges) ds → HasPassed from f (rows_to to edges) (firsts ds) left start s
-    → (m : StateValue) (steps : List StepsTree) (test : ℕ → Bool) → AreFunctions f m steps → IsTest from m test → HasFolded f m steps [] start → HasFolded f m steps (edges_between test to edges) s
+pub passed_all : (from : EndpointFilter) (f : ApplyContext) (to : ℕ → Bool) (edges ds : List (ℕ × ℕ)) (left : List ℕ) (start s : Scratch) → left ≡ [] → AreDegreesOf (λ u. destinations_of u edges) ds → HasPassed from f (rows_to to edges) (firsts ds) left start s
+    → (m : StateValue) (steps : List StepsTree) (test : ℕ → Bool) → IsContextOf f m steps → IsTest from m test → HasFolded f m steps [] start → HasFolded f m steps (edges_between test to edges) s
 passed_all from f to edges ds left start s none degrees w m steps test are is has =
     let neighbours = λ (u : ℕ). destinations_of u edges in
     let us = filter test (firsts ds) in

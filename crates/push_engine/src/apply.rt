@@ -1,4 +1,4 @@
-//! A whole apply.
+//! Whole applies by push.
 ghost use Rattle.std.specs.Prelude.{◌≡◌, ◌<◌, ◌^◌, ◌&&◌, ℕ, Bool, List, [], length, nat_lt, IfOk, OnOk};
 ghost use Rattle.typed_tree.specs.StepTree.{StepsTree};
 ghost use Rattle.algorithm_meaning.specs.EdgeApply.{is_member};
@@ -6,8 +6,8 @@ ghost use Rattle.algorithm_meaning.specs.State.{StateValue};
 ghost use Rattle.edge_fold.specs.Between.{edges_between};
 ghost use Rattle.edge_fold.specs.Changed.{AreApart};
 ghost use Rattle.edge_fold.specs.Ends.{IsEndTest, IsTest};
-ghost use Rattle.edge_fold.specs.declared.functions.Start.TheVariants.{OldEntry};
-ghost use Rattle.edge_fold.specs.Folded.{AreFunctions, HasFolded};
+ghost use Rattle.edge_fold.specs.declared.apply_context.FoldStart.TheVariants.{OldEntry};
+ghost use Rattle.edge_fold.specs.Folded.{IsContextOf, HasFolded};
 ghost use Rattle.tree_batch.specs.Digraph.{IsDigraph};
 ghost use Rattle.push_engine.specs.Applied.{AreChangesOf, AreChangesOn};
 ghost use Rattle.push_engine.specs.Words.{passes_words};
@@ -17,7 +17,7 @@ use crate::edge_apply::Apply;
 use crate::passing::passing_set;
 use crate::sources::{fold_all, fold_members, fold_passing};
 use apply_options::Direction;
-use edge_fold::{Functions, Scratch, Start};
+use edge_fold::{ApplyContext, FoldStart, Scratch};
 use flat_snapshot::Flat;
 use kernels::EndpointFilter;
 use std::alloc::{AllocError, Global};
@@ -46,21 +46,21 @@ pub fn push(
     ensures once { IfOk result (λ c. AreApart c.vectors.items) }
     ensures changes { IfOk result (λ c. AreChangesOf apply.now flat.now vectors.now.vectors sizes.now c.vectors.items) }
 {
-    let functions = Functions {
+    let context = ApplyContext {
         first: apply.first,
         second: apply.second,
         vectors,
         sizes,
         vertices: flat.vertices(),
-        start: Start::OldEntry,
+        start: FoldStart::OldEntry,
     };
     let Some(end) = apply.to else {
-        return push_to(alloc, apply, flat, functions, None, None, scratch);
+        return push_to(alloc, apply, flat, context, None, None, scratch);
     };
     if is_tested_first(flat, apply.from, end) {
-        return push_tested(alloc, apply, flat, functions, end, scratch);
+        return push_tested(alloc, apply, flat, context, end, scratch);
     }
-    push_to(alloc, apply, flat, functions, None, apply.to, scratch)
+    push_to(alloc, apply, flat, context, None, apply.to, scratch)
 }
 
 /// Whether destinations are tested as they come, and not at the end.
@@ -98,22 +98,20 @@ fn push_tested(
     alloc: Global,
     apply: &Apply<'_>,
     flat: &Flat,
-    functions: Functions<'_>,
+    context: ApplyContext<'_>,
     to: EndpointFilter<'_>,
     scratch: &mut Scratch,
 ) -> Result<Changes, AllocError>
     requires { IsDigraph flat.now }
     ensures once { IfOk result (λ c. AreApart c.vectors.items) }
-    ensures changes { IfOk result (λ c. (m : StateValue) (steps : List StepsTree) (from test : ℕ → Bool) → AreFunctions functions.entry m steps → functions.entry.vertices ≡ flat.now.vertices → functions.entry.start ≡ OldEntry
+    ensures changes { IfOk result (λ c. (m : StateValue) (steps : List StepsTree) (from test : ℕ → Bool) → IsContextOf context.entry m steps → context.entry.vertices ≡ flat.now.vertices → context.entry.start ≡ OldEntry
         → IsEndTest apply.now.from m from → IsTest to.entry m test → AreChangesOn flat.now.vertices (edges_between from test flat.now.edges) m steps c.vectors.items) }
 {
     match to {
-        EndpointFilter::Members(set) => push_to_members(
-            alloc, apply, flat, functions, set, scratch,
-        ),
+        EndpointFilter::Members(set) => push_to_members(alloc, apply, flat, context, set, scratch),
         EndpointFilter::Filter(_) => {
-            let passing = passing_set(alloc, functions, to, scratch)?;
-            push_to_members(alloc, apply, flat, functions, &passing, scratch)
+            let passing = passing_set(alloc, context, to, scratch)?;
+            push_to_members(alloc, apply, flat, context, &passing, scratch)
         }
     }
 }
@@ -123,22 +121,22 @@ fn push_to_members(
     alloc: Global,
     apply: &Apply<'_>,
     flat: &Flat,
-    functions: Functions<'_>,
+    context: ApplyContext<'_>,
     set: &VertexSet,
     scratch: &mut Scratch,
 ) -> Result<Changes, AllocError>
     ensures once { IfOk result (λ c. AreApart c.vectors.items) }
-    ensures changes { IfOk result (λ c. (m : StateValue) (steps : List StepsTree) (from to : ℕ → Bool) → AreFunctions functions.entry m steps → functions.entry.vertices ≡ flat.now.vertices → functions.entry.start ≡ OldEntry
+    ensures changes { IfOk result (λ c. (m : StateValue) (steps : List StepsTree) (from to : ℕ → Bool) → IsContextOf context.entry m steps → context.entry.vertices ≡ flat.now.vertices → context.entry.start ≡ OldEntry
         → IsEndTest apply.now.from m from → ((v : ℕ) → to v ≡ is_member v set.now.members) → AreChangesOn flat.now.vertices (edges_between from to flat.now.edges) m steps c.vectors.items) }
 {
     if let Some(words) = set.words() {
-        return push_to(alloc, apply, flat, functions, Some(words), None, scratch);
+        return push_to(alloc, apply, flat, context, Some(words), None, scratch);
     }
     let bits = set.to_form(alloc, Form::Bits)?;
     let Some(words) = bits.words() else {
         unreachable!();
     };
-    push_to(alloc, apply, flat, functions, Some(words), None, scratch)
+    push_to(alloc, apply, flat, context, Some(words), None, scratch)
 }
 
 /// What an apply changes at the destinations whose bits are set and that an end lets through; words or an end that are
@@ -147,19 +145,19 @@ fn push_to(
     alloc: Global,
     apply: &Apply<'_>,
     flat: &Flat,
-    functions: Functions<'_>,
+    context: ApplyContext<'_>,
     words: Option<&[u64]>,
     to: Option<EndpointFilter<'_>>,
     scratch: &mut Scratch,
 ) -> Result<Changes, AllocError>
     ensures once { IfOk result (λ c. AreApart c.vectors.items) }
-    ensures changes { IfOk result (λ c. (m : StateValue) (steps : List StepsTree) (from test : ℕ → Bool) → AreFunctions functions.entry m steps → functions.entry.vertices ≡ flat.now.vertices → functions.entry.start ≡ OldEntry
+    ensures changes { IfOk result (λ c. (m : StateValue) (steps : List StepsTree) (from test : ℕ → Bool) → IsContextOf context.entry m steps → context.entry.vertices ≡ flat.now.vertices → context.entry.start ≡ OldEntry
         → IsEndTest apply.now.from m from → IsEndTest to.entry m test
         → AreChangesOn flat.now.vertices (edges_between from (λ v. passes_words words.entry v && test v) flat.now.edges) m steps c.vectors.items) }
 {
     scratch.begin();
-    fold_from(alloc, apply, flat, functions, words, scratch)?;
-    let changes = scratch.changes(alloc, functions, to)?;
+    fold_from(alloc, apply, flat, context, words, scratch)?;
+    let changes = scratch.changes(alloc, context, to)?;
     Ok(changes)
 }
 
@@ -169,17 +167,17 @@ fn fold_from(
     alloc: Global,
     apply: &Apply<'_>,
     flat: &Flat,
-    functions: Functions<'_>,
+    context: ApplyContext<'_>,
     to: Option<&[u64]>,
     scratch: &mut Scratch,
 ) -> Result<(), AllocError>
-    ensures { OnOk result ((m : StateValue) (steps : List StepsTree) (from : ℕ → Bool) → AreFunctions functions.entry m steps → IsEndTest apply.now.from m from
-        → HasFolded functions.entry m steps [] scratch.old → HasFolded functions.entry m steps (edges_between from (passes_words to.entry) flat.now.edges) scratch.new) }
+    ensures { OnOk result ((m : StateValue) (steps : List StepsTree) (from : ℕ → Bool) → IsContextOf context.entry m steps → IsEndTest apply.now.from m from
+        → HasFolded context.entry m steps [] scratch.old → HasFolded context.entry m steps (edges_between from (passes_words to.entry) flat.now.edges) scratch.new) }
 {
     let mut block = [0u32; 128];
     match apply.from {
         None => {
-            fold_all(alloc, flat, functions, to, &mut block, scratch)?;
+            fold_all(alloc, flat, context, to, &mut block, scratch)?;
             Ok(())
         }
         Some(end) => {
@@ -188,7 +186,7 @@ fn fold_from(
                 apply.direction,
                 end,
                 flat,
-                functions,
+                context,
                 to,
                 &mut block,
                 scratch,
@@ -204,21 +202,21 @@ fn fold_from_end(
     direction: Direction,
     from: EndpointFilter<'_>,
     flat: &Flat,
-    functions: Functions<'_>,
+    context: ApplyContext<'_>,
     to: Option<&[u64]>,
     block: &mut [u32],
     scratch: &mut Scratch,
 ) -> Result<(), AllocError>
     requires { length block.old ≡ 128 }
-    ensures { OnOk result ((m : StateValue) (steps : List StepsTree) (test : ℕ → Bool) → AreFunctions functions.entry m steps → IsTest from.entry m test
-        → HasFolded functions.entry m steps [] scratch.old → HasFolded functions.entry m steps (edges_between test (passes_words to.entry) flat.now.edges) scratch.new) }
+    ensures { OnOk result ((m : StateValue) (steps : List StepsTree) (test : ℕ → Bool) → IsContextOf context.entry m steps → IsTest from.entry m test
+        → HasFolded context.entry m steps [] scratch.old → HasFolded context.entry m steps (edges_between test (passes_words to.entry) flat.now.edges) scratch.new) }
 {
     if let EndpointFilter::Members(set) = from {
         if direction != Direction::DensePush {
-            fold_members(alloc, flat, functions, set, to, block, scratch)?;
+            fold_members(alloc, flat, context, set, to, block, scratch)?;
             return Ok(());
         }
     }
-    fold_passing(alloc, flat, functions, from, to, block, scratch)?;
+    fold_passing(alloc, flat, context, from, to, block, scratch)?;
     Ok(())
 }

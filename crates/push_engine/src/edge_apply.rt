@@ -1,4 +1,4 @@
-//! Applies of edge functions.
+//! Edge applies: what an apply of edge functions is given.
 use apply_options::{DenseVertexSet, Direction, Parallelization};
 use kernels::{EdgeKernel, EndpointFilter};
 

@@ -14,7 +14,7 @@ ghost use Rattle.push_engine.specs.Sources.{AreSources, AscendsFrom};
 use crate::edge_apply::Apply;
 use apply_options::{Direction, Parallelization};
 use crew::Partition;
-use edge_fold::{Functions, Scratch};
+use edge_fold::{ApplyContext, Scratch};
 use flat_snapshot::Flat;
 use kernels::EndpointFilter;
 use std::alloc::{AllocError, Global};
@@ -33,10 +33,10 @@ pub(crate) fn list_sources(
     alloc: Global,
     apply: &Apply<'_>,
     flat: &Flat,
-    functions: Functions<'_>,
+    context: ApplyContext<'_>,
     scratch: &mut Scratch,
 ) -> Result<Listed, AllocError>
-    ensures { IfOk result (λ l. (m : StateValue) (from : ℕ → Bool) → functions.entry.vectors.now.vectors ≡ m.vectors → HasSizes functions.entry.sizes.now m → IsEndTest apply.now.from m from
+    ensures { IfOk result (λ l. (m : StateValue) (from : ℕ → Bool) → context.entry.vectors.now.vectors ≡ m.vectors → HasSizes context.entry.sizes.now m → IsEndTest apply.now.from m from
         → AreSources flat.now.edges from l.tested l.sources.items) }
 {
     match apply.from {
@@ -48,7 +48,7 @@ pub(crate) fn list_sources(
             })
         }
         Some(end) => {
-            let listed = list_from(alloc, apply.direction, end, flat, functions, scratch)?;
+            let listed = list_from(alloc, apply.direction, end, flat, context, scratch)?;
             Ok(listed)
         }
     }
@@ -60,10 +60,10 @@ fn list_from(
     direction: Direction,
     from: EndpointFilter<'_>,
     flat: &Flat,
-    functions: Functions<'_>,
+    context: ApplyContext<'_>,
     scratch: &mut Scratch,
 ) -> Result<Listed, AllocError>
-    ensures { IfOk result (λ l. (m : StateValue) (test : ℕ → Bool) → functions.entry.vectors.now.vectors ≡ m.vectors → HasSizes functions.entry.sizes.now m → IsTest from.entry m test
+    ensures { IfOk result (λ l. (m : StateValue) (test : ℕ → Bool) → context.entry.vectors.now.vectors ≡ m.vectors → HasSizes context.entry.sizes.now m → IsTest from.entry m test
         → AreSources flat.now.edges test l.tested l.sources.items) }
 {
     if direction == Direction::DensePush {
@@ -73,7 +73,7 @@ fn list_from(
             tested: true,
         });
     }
-    let sources = passing_sources(alloc, from, flat, functions, scratch)?;
+    let sources = passing_sources(alloc, from, flat, context, scratch)?;
     Ok(Listed {
         sources,
         tested: false,
@@ -85,10 +85,10 @@ fn passing_sources(
     alloc: Global,
     from: EndpointFilter<'_>,
     flat: &Flat,
-    functions: Functions<'_>,
+    context: ApplyContext<'_>,
     scratch: &mut Scratch,
 ) -> Result<Vec<u32>, AllocError>
-    ensures { IfOk result (λ us. (m : StateValue) (test : ℕ → Bool) → functions.entry.vectors.now.vectors ≡ m.vectors → HasSizes functions.entry.sizes.now m → IsTest from.entry m test
+    ensures { IfOk result (λ us. (m : StateValue) (test : ℕ → Bool) → context.entry.vectors.now.vectors ≡ m.vectors → HasSizes context.entry.sizes.now m → IsTest from.entry m test
         → AreSources flat.now.edges test false us.items) }
 {
     match from {
@@ -99,7 +99,7 @@ fn passing_sources(
         EndpointFilter::Filter(_) => {
             let all = all_sources(alloc, flat)?;
             let mut kept = Vec::new(alloc);
-            scratch.keep_passing(functions, from, &all, &mut kept)?;
+            scratch.keep_passing(context, from, &all, &mut kept)?;
             Ok(kept)
         }
     }

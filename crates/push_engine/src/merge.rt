@@ -1,4 +1,4 @@
-//! The pieces of an apply, and their merge.
+//! Merge: the pieces of an apply, and their results put together.
 ghost use Rattle.std.specs.Prelude.{◌≡◌, ℕ, ◌≤◌, Bool, List, [], length, slice_range, IfOk, OnOk};
 ghost use Rattle.std.specs.List.{filter, flat_map, range_with_len};
 ghost use Rattle.std.specs.List.Sorted.{IsPermutation};
@@ -6,7 +6,7 @@ ghost use Rattle.typed_tree.specs.StepTree.{StepsTree};
 ghost use Rattle.algorithm_meaning.specs.State.{StateValue};
 ghost use Rattle.edge_fold.specs.Changed.{AreApart};
 ghost use Rattle.edge_fold.specs.Ends.{IsEndTest};
-ghost use Rattle.edge_fold.specs.Folded.{AreFunctions, HasFolded};
+ghost use Rattle.edge_fold.specs.Folded.{IsContextOf, HasFolded};
 ghost use Rattle.push_engine.specs.Applied.{AreChangesOf};
 ghost use Rattle.push_engine.specs.Pieces.{Answers, AreAnswers, EachGathered, pieces_of};
 ghost use Rattle.push_engine.specs.Rows.{rows};
@@ -15,7 +15,7 @@ ghost use Rattle.push_engine.specs.Sources.{passing_in};
 use crate::sources::fold_rows;
 use crate::work::PushWork;
 use crew::{Found, Work};
-use edge_fold::{Functions, Gathered, Scratch, Start};
+use edge_fold::{ApplyContext, FoldStart, Gathered, Scratch};
 use flat_snapshot::Flat;
 use kernels::EndpointFilter;
 use std::alloc::{AllocError, Global};
@@ -44,17 +44,17 @@ impl PushWork<'_> {
         ensures changes { IfOk result (λ c. AreAnswers self.now found.now → IsPermutation (pieces_of found.now) (range_with_len 1 (length self.now.cuts))
             → AreChangesOf self.now.apply self.now.flat.now self.now.vectors.now.vectors self.now.sizes.now c.vectors.items) }
     {
-        let functions = Functions {
+        let context = ApplyContext {
             first: self.apply.first,
             second: self.apply.second,
             vectors: self.vectors,
             sizes: self.sizes,
             vertices: self.flat.vertices(),
-            start: Start::OldEntry,
+            start: FoldStart::OldEntry,
         };
         scratch.begin();
-        join_all(alloc, functions, found, scratch)?;
-        let changes = scratch.changes(alloc, functions, None)?;
+        join_all(alloc, context, found, scratch)?;
+        let changes = scratch.changes(alloc, context, None)?;
         Ok(changes)
     }
 
@@ -62,19 +62,19 @@ impl PushWork<'_> {
     fn fold_part(
         &self,
         alloc: Global,
-        functions: Functions<'_>,
+        context: ApplyContext<'_>,
         part: &[u32],
         scratch: &mut Scratch,
     ) -> Result<(), AllocError>
-        ensures { OnOk result ((m : StateValue) (steps : List StepsTree) (from : ℕ → Bool) → AreFunctions functions.entry m steps → IsEndTest self.now.apply.from m from
-            → HasFolded functions.entry m steps [] scratch.old → HasFolded functions.entry m steps (rows self.now.flat.now.edges (passing_in self.now.tested from part.now)) scratch.new) }
+        ensures { OnOk result ((m : StateValue) (steps : List StepsTree) (from : ℕ → Bool) → IsContextOf context.entry m steps → IsEndTest self.now.apply.from m from
+            → HasFolded context.entry m steps [] scratch.old → HasFolded context.entry m steps (rows self.now.flat.now.edges (passing_in self.now.tested from part.now)) scratch.new) }
     {
         if self.tested {
-            fold_passing_part(alloc, self.apply.from, self.flat, functions, part, scratch)?;
+            fold_passing_part(alloc, self.apply.from, self.flat, context, part, scratch)?;
             return Ok(());
         }
         let mut block = [0u32; 128];
-        fold_rows(alloc, self.flat, functions, part, None, &mut block, scratch)?;
+        fold_rows(alloc, self.flat, context, part, None, &mut block, scratch)?;
         Ok(())
     }
 }
@@ -100,19 +100,19 @@ impl<'a> Work for PushWork<'a> {
         state: &mut Scratch,
         piece: usize,
     ) -> Result<Gathered, AllocError> {
-        let functions = Functions {
+        let context = ApplyContext {
             first: self.apply.first,
             second: self.apply.second,
             vectors: self.vectors,
             sizes: self.sizes,
             vertices: self.flat.vertices(),
-            start: Start::Unit,
+            start: FoldStart::Unit,
         };
         let places = self.cuts.piece(piece);
         let part = part_between(&self.sources, places.start, places.end);
         state.begin();
-        self.fold_part(alloc, functions, part, state)?;
-        let gathered = state.gathered(alloc, functions, self.apply.to)?;
+        self.fold_part(alloc, context, part, state)?;
+        let gathered = state.gathered(alloc, context, self.apply.to)?;
         Ok(gathered)
     }
 }
@@ -131,23 +131,23 @@ fn fold_passing_part(
     alloc: Global,
     from: Option<EndpointFilter<'_>>,
     flat: &Flat,
-    functions: Functions<'_>,
+    context: ApplyContext<'_>,
     part: &[u32],
     scratch: &mut Scratch,
 ) -> Result<(), AllocError>
-    ensures { OnOk result ((m : StateValue) (steps : List StepsTree) (test : ℕ → Bool) → AreFunctions functions.entry m steps → IsEndTest from.entry m test
-        → HasFolded functions.entry m steps [] scratch.old → HasFolded functions.entry m steps (rows flat.now.edges (filter test part.now)) scratch.new) }
+    ensures { OnOk result ((m : StateValue) (steps : List StepsTree) (test : ℕ → Bool) → IsContextOf context.entry m steps → IsEndTest from.entry m test
+        → HasFolded context.entry m steps [] scratch.old → HasFolded context.entry m steps (rows flat.now.edges (filter test part.now)) scratch.new) }
 {
     let mut block = [0u32; 128];
     match from {
         None => {
-            fold_rows(alloc, flat, functions, part, None, &mut block, scratch)?;
+            fold_rows(alloc, flat, context, part, None, &mut block, scratch)?;
             Ok(())
         }
         Some(end) => {
             let mut kept = Vec::new(alloc);
-            scratch.keep_passing(functions, end, part, &mut kept)?;
-            fold_rows(alloc, flat, functions, &kept, None, &mut block, scratch)?;
+            scratch.keep_passing(context, end, part, &mut kept)?;
+            fold_rows(alloc, flat, context, &kept, None, &mut block, scratch)?;
             Ok(())
         }
     }
@@ -156,15 +156,15 @@ fn fold_passing_part(
 /// Folds the edges of which pieces have gathered what they give. The only error is out of memory.
 pub fn join_all(
     alloc: Global,
-    functions: Functions<'_>,
+    context: ApplyContext<'_>,
     found: &[Found<Gathered>],
     scratch: &mut Scratch,
 ) -> Result<(), AllocError>
-    ensures { OnOk result ((m : StateValue) (steps : List StepsTree) (edges_of : ℕ → List (ℕ × ℕ)) → EachGathered functions.entry.vertices m steps edges_of found.now
-        → HasFolded functions.entry m steps [] scratch.old → HasFolded functions.entry m steps (flat_map edges_of (pieces_of found.now)) scratch.new) }
+    ensures { OnOk result ((m : StateValue) (steps : List StepsTree) (edges_of : ℕ → List (ℕ × ℕ)) → EachGathered context.entry.vertices m steps edges_of found.now
+        → HasFolded context.entry m steps [] scratch.old → HasFolded context.entry m steps (flat_map edges_of (pieces_of found.now)) scratch.new) }
 {
     'found: for one in found {
-        scratch.join_gathered(alloc, functions, &one.out)?;
+        scratch.join_gathered(alloc, context, &one.out)?;
     }
     Ok(())
 }

@@ -6,7 +6,7 @@ ghost use Rattle.algorithm_meaning.specs.State.{StateValue};
 ghost use Rattle.register_code.specs.Cells.{HasSizes};
 ghost use Rattle.edge_fold.specs.Ends.{IsTest};
 
-use edge_fold::{Functions, Scratch};
+use edge_fold::{ApplyContext, Scratch};
 use kernels::EndpointFilter;
 use std::alloc::{AllocError, Global};
 use vertex_sets::{Form, VertexSet};
@@ -14,15 +14,15 @@ use vertex_sets::{Form, VertexSet};
 /// The vertices that an end lets through, as bits. Each vertex is tested once. The only error is out of memory.
 pub fn passing_set(
     alloc: Global,
-    functions: Functions<'_>,
+    context: ApplyContext<'_>,
     end: EndpointFilter<'_>,
     scratch: &mut Scratch,
 ) -> Result<VertexSet, AllocError>
     ensures form { IfOk result (λ s. s.form ≡ Form.Bits) }
-    ensures members { IfOk result (λ s. (m : StateValue) (test : ℕ → Bool) → functions.entry.vectors.now.vectors ≡ m.vectors → HasSizes functions.entry.sizes.now m → IsTest end.entry m test
-        → (v : ℕ) → v < functions.entry.vertices → is_member v s.members ≡ test v) }
+    ensures members { IfOk result (λ s. (m : StateValue) (test : ℕ → Bool) → context.entry.vectors.now.vectors ≡ m.vectors → HasSizes context.entry.sizes.now m → IsTest end.entry m test
+        → (v : ℕ) → v < context.entry.vertices → is_member v s.members ≡ test v) }
 {
-    let vertices = functions.vertices;
+    let vertices = context.vertices;
     let mut set = VertexSet::empty(alloc, vertices, Form::Bits)?;
     let mut part = Vec::new(alloc);
     let mut kept = Vec::new(alloc);
@@ -31,7 +31,7 @@ pub fn passing_set(
         let stop = next + (vertices - next).min(128);
         number_between(next, stop, &mut part)?;
         kept.clear();
-        scratch.keep_passing(functions, end, &part, &mut kept)?;
+        scratch.keep_passing(context, end, &part, &mut kept)?;
         insert_all(&kept, &mut set)?;
         next = stop;
     }

@@ -6,7 +6,7 @@ ghost use Rattle.algorithm_meaning.specs.EdgeApply.{is_member};
 ghost use Rattle.algorithm_meaning.specs.State.{StateValue};
 ghost use Rattle.edge_fold.specs.Between.{edges_between};
 ghost use Rattle.edge_fold.specs.Ends.{IsTest};
-ghost use Rattle.edge_fold.specs.Folded.{AreFunctions, HasFolded};
+ghost use Rattle.edge_fold.specs.Folded.{IsContextOf, HasFolded};
 ghost use Rattle.edge_fold.specs.Given.{row};
 ghost use Rattle.tree_batch.specs.Neighbours.{destinations_of};
 ghost use Rattle.push_engine.specs.Rows.{rows_to};
@@ -14,7 +14,7 @@ ghost use Rattle.push_engine.specs.Words.{passes_words};
 
 use crate::members::keep_members;
 use crate::parts::take_part;
-use edge_fold::{Functions, Scratch};
+use edge_fold::{ApplyContext, Scratch};
 use flat_snapshot::Flat;
 use kernels::EndpointFilter;
 use std::alloc::{AllocError, Global};
@@ -24,17 +24,17 @@ use vertex_sets::VertexSet;
 pub(crate) fn fold_all(
     alloc: Global,
     flat: &Flat,
-    functions: Functions<'_>,
+    context: ApplyContext<'_>,
     to: Option<&[u64]>,
     block: &mut [u32],
     scratch: &mut Scratch,
 ) -> Result<(), AllocError>
     requires { length block.old ≡ 128 }
-    ensures { OnOk result ((m : StateValue) (steps : List StepsTree) (from : ℕ → Bool) → AreFunctions functions.entry m steps → ((v : ℕ) → from v ≡ true)
-        → HasFolded functions.entry m steps [] scratch.old → HasFolded functions.entry m steps (edges_between from (passes_words to.entry) flat.now.edges) scratch.new) }
+    ensures { OnOk result ((m : StateValue) (steps : List StepsTree) (from : ℕ → Bool) → IsContextOf context.entry m steps → ((v : ℕ) → from v ≡ true)
+        → HasFolded context.entry m steps [] scratch.old → HasFolded context.entry m steps (edges_between from (passes_words to.entry) flat.now.edges) scratch.new) }
 {
     'sources: for (source, _) in flat.sources() {
-        fold_row(alloc, flat, functions, source, to, block, scratch)?;
+        fold_row(alloc, flat, context, source, to, block, scratch)?;
     }
     Ok(())
 }
@@ -43,18 +43,18 @@ pub(crate) fn fold_all(
 pub(crate) fn fold_members(
     alloc: Global,
     flat: &Flat,
-    functions: Functions<'_>,
+    context: ApplyContext<'_>,
     set: &VertexSet,
     to: Option<&[u64]>,
     block: &mut [u32],
     scratch: &mut Scratch,
 ) -> Result<(), AllocError>
     requires { length block.old ≡ 128 }
-    ensures { OnOk result ((m : StateValue) (steps : List StepsTree) (from : ℕ → Bool) → AreFunctions functions.entry m steps → ((v : ℕ) → from v ≡ is_member v set.now.members)
-        → HasFolded functions.entry m steps [] scratch.old → HasFolded functions.entry m steps (edges_between from (passes_words to.entry) flat.now.edges) scratch.new) }
+    ensures { OnOk result ((m : StateValue) (steps : List StepsTree) (from : ℕ → Bool) → IsContextOf context.entry m steps → ((v : ℕ) → from v ≡ is_member v set.now.members)
+        → HasFolded context.entry m steps [] scratch.old → HasFolded context.entry m steps (edges_between from (passes_words to.entry) flat.now.edges) scratch.new) }
 {
     'sources: for source in set.iter() {
-        fold_row(alloc, flat, functions, source, to, block, scratch)?;
+        fold_row(alloc, flat, context, source, to, block, scratch)?;
     }
     Ok(())
 }
@@ -63,15 +63,15 @@ pub(crate) fn fold_members(
 pub(crate) fn fold_passing(
     alloc: Global,
     flat: &Flat,
-    functions: Functions<'_>,
+    context: ApplyContext<'_>,
     from: EndpointFilter<'_>,
     to: Option<&[u64]>,
     block: &mut [u32],
     scratch: &mut Scratch,
 ) -> Result<(), AllocError>
     requires { length block.old ≡ 128 }
-    ensures { OnOk result ((m : StateValue) (steps : List StepsTree) (test : ℕ → Bool) → AreFunctions functions.entry m steps → IsTest from.entry m test
-        → HasFolded functions.entry m steps [] scratch.old → HasFolded functions.entry m steps (edges_between test (passes_words to.entry) flat.now.edges) scratch.new) }
+    ensures { OnOk result ((m : StateValue) (steps : List StepsTree) (test : ℕ → Bool) → IsContextOf context.entry m steps → IsTest from.entry m test
+        → HasFolded context.entry m steps [] scratch.old → HasFolded context.entry m steps (edges_between test (passes_words to.entry) flat.now.edges) scratch.new) }
 {
     let mut sources = flat.sources();
     let mut part = Vec::new(alloc);
@@ -82,8 +82,8 @@ pub(crate) fn fold_passing(
             return Ok(());
         }
         kept.clear();
-        scratch.keep_passing(functions, from, &part, &mut kept)?;
-        fold_rows(alloc, flat, functions, &kept, to, block, scratch)?;
+        scratch.keep_passing(context, from, &part, &mut kept)?;
+        fold_rows(alloc, flat, context, &kept, to, block, scratch)?;
     }
 }
 
@@ -91,18 +91,18 @@ pub(crate) fn fold_passing(
 pub(crate) fn fold_rows(
     alloc: Global,
     flat: &Flat,
-    functions: Functions<'_>,
+    context: ApplyContext<'_>,
     sources: &[u32],
     to: Option<&[u64]>,
     block: &mut [u32],
     scratch: &mut Scratch,
 ) -> Result<(), AllocError>
     requires { length block.old ≡ 128 }
-    ensures { OnOk result ((m : StateValue) (steps : List StepsTree) (edges : List (ℕ × ℕ)) → AreFunctions functions.entry m steps
-        → HasFolded functions.entry m steps edges scratch.old → HasFolded functions.entry m steps (edges ++ rows_to (passes_words to.entry) flat.now.edges sources.now) scratch.new) }
+    ensures { OnOk result ((m : StateValue) (steps : List StepsTree) (edges : List (ℕ × ℕ)) → IsContextOf context.entry m steps
+        → HasFolded context.entry m steps edges scratch.old → HasFolded context.entry m steps (edges ++ rows_to (passes_words to.entry) flat.now.edges sources.now) scratch.new) }
 {
     'sources: for source in sources {
-        fold_row(alloc, flat, functions, *source, to, block, scratch)?;
+        fold_row(alloc, flat, context, *source, to, block, scratch)?;
     }
     Ok(())
 }
@@ -112,21 +112,21 @@ pub(crate) fn fold_rows(
 fn fold_row(
     alloc: Global,
     flat: &Flat,
-    functions: Functions<'_>,
+    context: ApplyContext<'_>,
     source: u32,
     to: Option<&[u64]>,
     block: &mut [u32],
     scratch: &mut Scratch,
 ) -> Result<(), AllocError>
     requires { length block.old ≡ 128 }
-    ensures { OnOk result ((m : StateValue) (steps : List StepsTree) (edges : List (ℕ × ℕ)) → AreFunctions functions.entry m steps
-        → HasFolded functions.entry m steps edges scratch.old → HasFolded functions.entry m steps (edges ++ row source (filter (passes_words to.entry) (destinations_of source flat.now.edges))) scratch.new) }
+    ensures { OnOk result ((m : StateValue) (steps : List StepsTree) (edges : List (ℕ × ℕ)) → IsContextOf context.entry m steps
+        → HasFolded context.entry m steps edges scratch.old → HasFolded context.entry m steps (edges ++ row source (filter (passes_words to.entry) (destinations_of source flat.now.edges))) scratch.new) }
 {
     let mut neighbours = flat.out(source);
     'rounds: while !neighbours.is_empty() {
         let count = neighbours.fill(block);
         let kept = keep_members(to, block, count);
-        scratch.fold(alloc, functions, source, &block[..kept])?;
+        scratch.fold(alloc, context, source, &block[..kept])?;
     }
     Ok(())
 }

@@ -1,4 +1,4 @@
-//! An apply in pieces.
+//! Work of an apply by push, in pieces.
 ghost use Rattle.std.specs.Prelude.{◌≡◌, ℕ, Bool, Err, length, map, vec_len, IfOk};
 ghost use Rattle.algorithm_meaning.specs.State.{StateValue};
 ghost use Rattle.register_code.specs.Cells.{HasSizes};
@@ -15,7 +15,7 @@ ghost use Rattle.push_engine.specs.Sources.{AreSources};
 use crate::edge_apply::Apply;
 use crate::listed::{cut_sources, list_sources};
 use crew::{CrewError, Partition};
-use edge_fold::{Functions, Scratch, Start};
+use edge_fold::{ApplyContext, FoldStart, Scratch};
 use flat_snapshot::Flat;
 use std::alloc::Global;
 use vectors::Vectors;
@@ -77,15 +77,15 @@ impl<'a> PushWork<'a> {
         if workers < 1 || 64 < workers {
             return Err(CrewError::BadWorkers);
         }
-        let functions = Functions {
+        let context = ApplyContext {
             first: apply.first,
             second: apply.second,
             vectors,
             sizes,
             vertices: flat.vertices(),
-            start: Start::Unit,
+            start: FoldStart::Unit,
         };
-        let listed = list_sources(alloc, apply, flat, functions, scratch)?;
+        let listed = list_sources(alloc, apply, flat, context, scratch)?;
         let cuts = cut_sources(alloc, apply.parallelization, workers, flat, &listed.sources)?;
         Ok(PushWork {
             apply: *apply,

@@ -1,4 +1,4 @@
-//! Stack code: user functions and expressions of `main` as flat code, made once from the checked tree.
+//! Register code: user functions and expressions of `main` as flat code, made once from the checked tree.
 //!
 //! An [`RegisterInstruction`] works on cells. A cell is a place of the stack, known by its number when the code is made, so that
 //! no instruction pushes or pops. No name is in code: vectors, vertex sets and variables go by their places. What stands
@@ -29,6 +29,6 @@ mod register_counts;
 pub use compile::{Frame, code_of_condition, code_of_integer};
 pub use compile_function::{FunctionCode, code_of_edge_function, code_of_filter};
 pub use compile_vertex::{code_of_vertex_function, reads_elsewhere};
-pub use instruction::{Give, RegisterInstruction};
+pub use instruction::{ContributionCode, RegisterInstruction};
 pub use needs::{room_of, with_gives};
 pub use register_counts::RegisterCounts;

@@ -13,7 +13,7 @@ abbrev pub is_fault : End → Bool
 is_fault (Fault number statement) = true
 is_fault _ = false
 
--- a number behind what it is
+-- a number after what it is
 abbrev pub labelled : List ℕ → ℕ → List ℕ
 labelled label number = label ++ decimal number
 
@@ -31,11 +31,11 @@ end_text (Fault number statement) = fault_text number statement
 abbrev pub end_line : End → ℕ → List ℕ
 end_line end turns = codes "end " ++ (end_text end ++ (labelled (codes " turns ") turns ++ 10 ∷ []))
 
--- a name, and numbers behind a space each
+-- a name, and numbers after a space each
 abbrev pub integers_line : List ℕ → List ℤ → List ℕ
 integers_line name entries = name ++ (58 ∷ (flat_map (λ n. 32 ∷ signed_decimal n) entries ++ 10 ∷ []))
 
--- a name, and members behind a space each
+-- a name, and members after a space each
 abbrev pub members_line : List ℕ → List ℕ → List ℕ
 members_line name members = name ++ (58 ∷ (flat_map (λ n. 32 ∷ decimal n) members ++ 10 ∷ []))
 

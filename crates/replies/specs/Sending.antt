@@ -14,7 +14,7 @@ pub record Output : Type 0 where
 abbrev pub output : ℕ → List ℕ → List ℕ → ℕ → Output
 output writer taken kept failures = record { writer = writer; taken = taken; kept = kept; failures = failures }
 
--- of the text, behind what was kept, the same writer took a beginning, and the rest is left
+-- of the text, after what was kept, the same writer took a beginning, and the rest is left
 pub record TakesFirst (old new : Output) (text rest : List ℕ) : Type 0 where
   pub same : new.writer ≡ old.writer
   pub sent : List ℕ
@@ -26,7 +26,7 @@ pub record Sends (old new : Output) (text : List ℕ) : Type 0 where
   pub takes : TakesFirst old new text new.kept
   pub failures : new.failures ≡ old.failures
 
--- the writer took a beginning of the text, behind what was kept
+-- the writer took a beginning of the text, after what was kept
 abbrev pub SendsPart : Output → Output → List ℕ → Type 0
 SendsPart old new text = (rest : List ℕ) × TakesFirst old new text rest
 

@@ -14,8 +14,8 @@ use Rattle.algorithm_meaning.specs.Meaning.{opening_entries, out_degree}
 use Rattle.algorithm_meaning.specs.VertexApply.{after_vertex, after_vertices}
 use Rattle.register_code.specs.declared.instruction.RegisterInstruction.{RegisterInstruction}
 use Rattle.register_code.specs.declared.instruction.RegisterInstruction.TheVariants.{SetEntry}
-use Rattle.register_code.specs.Cells.{Cells, HasSizes, Surroundings, after, is_active, step, written}
-use Rattle.register_code.specs.Meaning.{IsVertexCode, around_vertex}
+use Rattle.register_code.specs.Cells.{Cells, HasSizes, CodeInput, after, is_active, step, written}
+use Rattle.register_code.specs.Meaning.{IsVertexCode, vertex_input}
 use Rattle.vectors.specs.declared.changes.EntryChange.{EntryChange}
 use Rattle.vectors.specs.declared.changes.VectorChanges.{VectorChanges}
 use Rattle.vectors.specs.Changes.{with_all_changes, with_changes}
@@ -41,12 +41,12 @@ either : (b : Bool) (xs ys : List (List ℤ)) → lengths xs ≡ lengths ys → 
 either true xs ys h = h
 either false xs ys h = refl
 
-lengths_written : (s : Surroundings) (i : RegisterInstruction) (c : Cells) → lengths (written s i c) ≡ lengths s.vectors
+lengths_written : (s : CodeInput) (i : RegisterInstruction) (c : Cells) → lengths (written s i c) ≡ lengths s.vectors
 lengths_written s (SetEntry vector from when) c =
     either (is_active c.numbers when) (with_entry s.vectors vector s.source (c.numbers from)) s.vectors (lengths_after_entry s.vectors vector s.source (c.numbers from))
 lengths_written s i c = refl
 
-lengths_after_code : (s : Surroundings) (is : List RegisterInstruction) (c : Cells) → lengths (after s is c).0.vectors ≡ lengths s.vectors
+lengths_after_code : (s : CodeInput) (is : List RegisterInstruction) (c : Cells) → lengths (after s is c).0.vectors ≡ lengths s.vectors
 lengths_after_code s [] c = refl
 lengths_after_code s (i ∷ is) c = lengths_after_code (record s { vectors = written s i c }) is (step s i c) ∙ lengths_written s i c
 
@@ -60,7 +60,7 @@ lengths_after_vertices m sizes is steps has code [] vectors = refl
 lengths_after_vertices m sizes is steps has code (v ∷ vs) vectors =
     lengths_after_vertices m sizes is steps has code vs (after_vertex steps m.sets v vectors)
     ∙ ap lengths (sym (code (record m { vectors = vectors }) sizes 0 v no_cells has))
-    ∙ lengths_after_code (around_vertex vectors sizes 0 v) is no_cells
+    ∙ lengths_after_code (vertex_input vectors sizes 0 v) is no_cells
 
 pub after_entry : (count n : ℕ) (vectors : List (List ℤ)) (x v : ℕ) (z : ℤ) → HaveLength count n vectors → HaveLength count n (with_entry vectors x v z)
 after_entry count n vectors x v z are = lengths_after_entry vectors x v z ∙ are

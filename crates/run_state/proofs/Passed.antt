@@ -72,7 +72,7 @@ passed_ascend block n low i [] rest up = up
 passed_ascend block n low i (v ∷ vs) rest up =
     either_first (passes_at block i) n low v (passing block (i + 1) vs) rest up.0 up.1 (passed_ascend block n (v + 1) (i + 1) vs rest up.2)
 
--- some of the next numbers behind those that were kept
+-- some of the next numbers after those that were kept
 pub kept_ascend : (block : Block) (n low : ℕ) (kept part rest : List ℕ) → Ascends n low (kept ++ (part ++ rest)) → Ascends n low (kept ++ (passing block 0 part ++ rest))
 kept_ascend block n low [] part rest up = passed_ascend block n low 0 part rest up
 kept_ascend block n low (x ∷ xs) part rest up = (up.0, up.1, kept_ascend block n (x + 1) xs part rest up.2)
@@ -92,7 +92,7 @@ in_front : (b : Bool) (v : ℕ) (xs : List ℕ) → cond b (v ∷ []) [] ++ xs �
 in_front true v xs = refl
 in_front false v xs = refl
 
--- the next number, where it passes, comes before those behind it
+-- the next number, where it passes, comes before those after it
 pub next_passing : (block : Block) (place i : ℕ) (part : List ℕ) (b : Bool) → b ≡ passes_at block place → i < length part
     → cond b (get_or part i 0 ∷ []) [] ++ passing block (place + 1) (drop (i + 1) part) ≡ passing block place (drop i part)
 next_passing block place i [] b same h = absurd (omega (arith, h))

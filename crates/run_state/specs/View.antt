@@ -3,7 +3,7 @@ use Rattle.std.specs.Prelude.{◌≡◌, ℕ, ◌<◌, ◌≤◌, ℤ, List, [],
 use Rattle.typed_tree.specs.ProgramTree.{ProgramTree}
 use Rattle.algorithm_meaning.specs.State.{GraphValue, StateValue}
 use Rattle.algorithm_meaning.specs.Value.{members_of}
-use Rattle.plans.specs.Functions.{AreFunctions}
+use Rattle.plans.specs.Functions.{AreFunctionKernels}
 use Rattle.register_code.specs.Cells.{HasSizes}
 use Rattle.vertex_sets.specs.VertexSet.{VertexSubset}
 use Rattle.run_state.specs.declared.run_view.RunView.{RunView}
@@ -23,7 +23,7 @@ HasEntryForEach vertices vectors = (x : ℕ) → x < length vectors → vertices
 
 -- it has the functions of a program, the vertex sets and the vectors of a state, and a graph
 pub record IsViewOf (run : RunView) (p : ProgramTree) (m : StateValue) (g : GraphValue) : Type 0 where
-  pub functions : AreFunctions run.functions.now p
+  pub functions : AreFunctionKernels run.functions.now p
   pub sets : HasSets run m
   pub sizes : HasSizes run.sizes.now m
   pub vectors : run.vectors.now.vectors ≡ m.vectors

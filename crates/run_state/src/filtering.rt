@@ -9,7 +9,7 @@ ghost use Rattle.kernels.specs.Kernels.{IsFilterKernel, passes_at};
 ghost use Rattle.run_state.specs.Passing.{passing};
 
 use crate::vertices::take_part;
-use kernels::{Around, Block, FilterKernel};
+use kernels::{Block, BlockInput, FilterKernel};
 use std::alloc::{AllocError, Global};
 use vectors::Vectors;
 use vertex_sets::{Form, VertexSet};
@@ -36,7 +36,7 @@ pub(crate) fn filtered(
         if count == 0 {
             return VertexSet::from_ascending(alloc, set.vertices(), &kept, Form::List);
         }
-        let around = Around {
+        let around = BlockInput {
             vectors,
             sizes,
             vertices: 0,

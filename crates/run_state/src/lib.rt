@@ -13,13 +13,13 @@
 #![tactic(auto)]
 
 mod filtering;
+mod initial_vectors;
 mod named_sets;
-mod opening;
+mod outcome;
+mod printed_text;
 mod run_view;
 mod set_update;
-mod show;
 mod state;
-mod text;
 mod vertices;
 
 pub use run_view::RunView;

@@ -11,8 +11,8 @@ ghost use Rattle.vertex_sets.specs.VertexSet.{IsVertexSet};
 ghost use Rattle.run_state.specs.NamedSets.{AreNamed, named, size_of as size};
 ghost use Rattle.run_state.specs.SetUpdate.{IsUpdateOf, with_update};
 
+use crate::outcome::{first, name_sets};
 use crate::set_update::SetUpdate;
-use crate::show::{first, name_sets};
 use algorithm_meaning::NamedSet;
 use std::alloc::{AllocError, Global};
 use std::marker::Model;

@@ -1,4 +1,4 @@
-//! What a run lends to an edge apply.
+//! Run view: what a run lends to an edge apply.
 use flat_snapshot::Flat;
 use plans::FunctionKernels;
 use vectors::Vectors;

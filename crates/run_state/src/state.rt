@@ -1,4 +1,4 @@
-//! The state of a run, and its calls.
+//! Run state: the variables, sets and vectors of a run, and the calls on them.
 ghost use Rattle.std.specs.Prelude.{◌≡◌, ℕ, pos, ◌+◌, ◌<◌, ◌≤◌, Bool, length, slice_get, slice_index_or, IfOk, IfSome, IsSomeAnd, IsTrue, MatchBool, OnErr, OnOk, None, option_and_then};
 ghost use Rattle.std.specs.Option.{ForSome};
 ghost use Rattle.typed_tree.specs.IntegerTree.{IntegerTree};
@@ -20,7 +20,7 @@ ghost use Rattle.kernels.specs.Kernels.{HasCells, IsFilterKernel};
 ghost use Rattle.register_code.specs.declared.register_counts.RegisterCounts.{RegisterCounts};
 ghost use Rattle.algorithm_meaning.specs.Loop.{forget_beyond};
 ghost use Rattle.vectors.specs.Changes.{with_all_changes};
-ghost use Rattle.plans.specs.Functions.{AreFunctions};
+ghost use Rattle.plans.specs.Functions.{AreFunctionKernels};
 ghost use Rattle.plans.specs.SetExpression.{set_value};
 ghost use Rattle.plans.specs.Operation.{IsFor};
 ghost use Rattle.run_state.specs.View.{HasEntryForEach, IsViewOf};
@@ -29,12 +29,12 @@ ghost use Rattle.run_state.specs.SetUpdate.{IsUpdateOf, with_update};
 ghost use Rattle.run_state.specs.VertexKernels.{IsVertexKernel};
 
 use crate::filtering::filtered;
+use crate::initial_vectors::open_vectors;
 use crate::named_sets::NamedSets;
-use crate::opening::open_vectors;
+use crate::outcome::{first, name_vectors};
+use crate::printed_text::{push_condition_line, push_integer_line};
 use crate::run_view::RunView;
 use crate::set_update::SetUpdate;
-use crate::show::{first, name_vectors};
-use crate::text::{push_condition_line, push_integer_line};
 use crate::vertices::run_for_all;
 use algorithm_meaning::{Depth, End, Outcome, reduce};
 use apply_options::Reduction;
@@ -167,7 +167,7 @@ impl State {
 
     /// The value of an expression of type `int` where so much is visible, or `None` where an index in it is no vertex. The
     /// only error is out of memory.
-    pub fn number(
+    pub fn eval_int(
         &self,
         kernel: &ExpressionKernel,
         depth: Depth,
@@ -177,11 +177,11 @@ impl State {
         ensures { IfOk result (λ n. (e : IntegerTree) → IsIntegerKernel kernel.now e
             → n ≡ number_in self.now.vertices e (forget_beyond depth self.now.state)) }
     {
-        kernel.number(self.main_state(depth), registers)
+        kernel.eval_int(self.main_state(depth), registers)
     }
 
     /// The value of an expression of type `bool`, in the same way.
-    pub fn choice(
+    pub fn eval_bool(
         &self,
         kernel: &ExpressionKernel,
         depth: Depth,
@@ -191,7 +191,7 @@ impl State {
         ensures { IfOk result (λ b. (c : ConditionTree) → IsConditionKernel kernel.now c
             → b ≡ choice_in self.now.vertices c (forget_beyond depth self.now.state)) }
     {
-        kernel.choice(self.main_state(depth), registers)
+        kernel.eval_bool(self.main_state(depth), registers)
     }
 
     /// The vertex that an expression of type `int` is, or `None` where it or an index in it is no vertex. The only error
@@ -207,7 +207,7 @@ impl State {
             → v ≡ vertex_in self.now.vertices e (forget_beyond depth self.now.state)) }
         ensures below { IfOk result (λ v. IfSome v (λ v. v < self.now.vertices)) }
     {
-        let number = self.number(kernel, depth, registers)?;
+        let number = self.eval_int(kernel, depth, registers)?;
         Ok(vertex_below(number, self.sets.vertices()))
     }
 
@@ -340,7 +340,7 @@ impl State {
         functions: &FunctionKernels,
         block: &mut Block,
     ) -> Result<(), AllocError>
-        ensures ok { OnOk result ((p : ProgramTree) (g : GraphValue) → AreFunctions functions.now p → g.vertices ≡ self.old.vertices
+        ensures ok { OnOk result ((p : ProgramTree) (g : GraphValue) → AreFunctionKernels functions.now p → g.vertices ≡ self.old.vertices
             → self.new ≡ with_state self.old (after_declare_set p g name (set_value members) self.old.state)) }
         ensures turns { self.new.state.turns ≡ self.old.state.turns }
         ensures vertices { self.new.vertices ≡ self.old.vertices }
@@ -360,7 +360,7 @@ impl State {
         functions: &FunctionKernels,
         block: &mut Block,
     ) -> Result<(), AllocError>
-        ensures ok { OnOk result ((p : ProgramTree) (g : GraphValue) → AreFunctions functions.now p → g.vertices ≡ self.old.vertices
+        ensures ok { OnOk result ((p : ProgramTree) (g : GraphValue) → AreFunctionKernels functions.now p → g.vertices ≡ self.old.vertices
             → self.new ≡ with_state self.old (after_assign_set p g place (set_value members) self.old.state)) }
         ensures turns { self.new.state.turns ≡ self.old.state.turns }
         ensures vertices { self.new.vertices ≡ self.old.vertices }
@@ -380,7 +380,7 @@ impl State {
         block: &mut Block,
     ) -> Result<VertexSet, AllocError>
         ensures vertices { IfOk result (λ s. s.vertices ≡ self.now.vertices) }
-        ensures members { IfOk result (λ s. (p : ProgramTree) (g : GraphValue) → AreFunctions functions.now p → g.vertices ≡ self.now.vertices
+        ensures members { IfOk result (λ s. (p : ProgramTree) (g : GraphValue) → AreFunctionKernels functions.now p → g.vertices ≡ self.now.vertices
             → s.members ≡ members_for p g (set_value members) self.now.state) }
     {
         let vertices = self.sets.vertices();
@@ -475,7 +475,7 @@ impl State {
 
     /// Lends what an edge apply reads, beside the functions and the graph.
     pub fn view<'a>(&'a self, functions: &'a FunctionKernels, graph: &'a Flat) -> RunView<'a>
-        ensures seen { (p : ProgramTree) (g : GraphValue) → AreFunctions functions.now p → graph.now.vertices ≡ g.vertices → graph.now.edges ≡ g.edges
+        ensures seen { (p : ProgramTree) (g : GraphValue) → AreFunctionKernels functions.now p → graph.now.vertices ≡ g.vertices → graph.now.edges ≡ g.edges
             → IsViewOf result p self.now.state g }
         ensures entries { HasEntryForEach self.now.vertices self.now.state.vectors }
         ensures valid { IsRunState self.now }

@@ -11,10 +11,10 @@ ghost use Rattle.register_code.specs.declared.register_counts.RegisterCounts.{Re
 
 use kernels::{Block, VertexKernel};
 use vectors::Vectors;
-use vertex_sets::Iter;
+use vertex_sets::VertexIter;
 
 /// Takes as many of the next vertices as the part has room for, and says how many they are.
-pub(crate) fn take_part(vertices: &mut Iter<'_>, part: &mut [u32]) -> usize
+pub(crate) fn take_part(vertices: &mut VertexIter<'_>, part: &mut [u32]) -> usize
     ensures count { result ≡ min (length part.old) (length vertices.old) }
     ensures taken { take result part.new ≡ take result vertices.old }
     ensures rest { vertices.new ≡ drop result vertices.old }
@@ -32,7 +32,7 @@ pub(crate) fn take_part(vertices: &mut Iter<'_>, part: &mut [u32]) -> usize
 /// Runs a vertex function for ascending vertices, each alone and in order.
 pub(crate) fn run_for_all(
     kernel: &VertexKernel,
-    vertices: Iter<'_>,
+    vertices: VertexIter<'_>,
     sizes: &[i64],
     vectors: &mut Vectors,
     block: &mut Block,

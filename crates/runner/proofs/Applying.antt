@@ -69,7 +69,7 @@ none_modified n vector before after cs each past are =
     let behind : length after ≤ vector = omega (arith, past, many) in
     sym (unmodified vector before after past behind (range_with_len 0 n))
 
--- to write changes behind what was taken is to take it behind the changes
+-- to write changes after what was taken is to take it after the changes
 pub written_behind : (n : ℕ) (first second : PartResult) (s : StateValue) (a b : SetUpdate) (cs : List VectorChanges) (after : List (List ℤ))
     → IsUpdateFor n s.vectors after (result_tree first) a → IsUpdateFor n s.vectors after (result_tree second) b → with_all_changes cs s.vectors ≡ after
     → with_vectors (with_update (with_update s a) b) (with_all_changes cs (with_update (with_update s a) b).vectors) ≡ with_both n first second after s

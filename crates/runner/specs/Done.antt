@@ -11,7 +11,7 @@ use Rattle.plans.specs.declared.instruction.Instruction.{Instruction}
 use Rattle.plans.specs.declared.functions.FunctionKernels.{FunctionKernels}
 use Rattle.plans.specs.declared.operation.PlanOperation.{PlanOperation}
 use Rattle.plans.specs.declared.operation.PlanOperation.TheVariants as op
-use Rattle.plans.specs.Functions.{AreFunctions}
+use Rattle.plans.specs.Functions.{AreFunctionKernels}
 use Rattle.plans.specs.Operation.{IsFor}
 use Rattle.runner.specs.declared.flow.Flow.{Flow}
 use Rattle.runner.specs.declared.flow.Flow.TheVariants as flow
@@ -22,7 +22,7 @@ use Rattle.runner.specs.Position.{loops_of}
 abbrev pub IsKept : Depth → StateValue → Type 0
 IsKept d s = forget_beyond d s ≡ s
 
--- where a run stands behind an instruction at a place
+-- where a run stands after an instruction at a place
 abbrev pub after_flow : Flow → (number : ℕ) → (shown : Depth) → (place : ℕ) → List LoopCounter → StateValue → Configuration
 after_flow flow.Next number shown place loops s = At (place + 1) loops s
 after_flow (flow.Goto to) number shown place loops s = At to loops s
@@ -81,7 +81,7 @@ TakesValues other = ⊥
 -- they are the kernels of some program's functions
 pub record HaveTrees (f : FunctionKernels) : Type 0 where
   pub program : ProgramTree
-  pub are : AreFunctions f program
+  pub are : AreFunctionKernels f program
 
 -- an operation is done, and the run goes on so, wherever the instruction stands
 abbrev pub HasDone : Instruction → Flow → (old new : Memory) → ProgramTree → GraphValue → OperationTree → Type 0

@@ -1,4 +1,4 @@
-//! Applies.
+//! Applies: the instructions that run functions of the user.
 ghost use Rattle.std.specs.Prelude.{◌≡◌, ℕ, ℤ, List, None, Some, IfOk, OnOk, OnErr, IsSomeAnd, slice_get};
 ghost use Rattle.typed_tree.specs.ProgramTree.{ProgramTree};
 ghost use Rattle.algorithm_meaning.specs.EdgeApply.{modified as modified_in};
@@ -8,7 +8,7 @@ ghost use Rattle.plans.specs.Parts.{result_tree};
 ghost use Rattle.plans.specs.Fused.{FitTogether};
 ghost use Rattle.plans.specs.Instruction.{OperationTree};
 ghost use Rattle.plans.specs.Reducing.{OperationReduces};
-ghost use Rattle.plans.specs.Functions.{AreFunctions};
+ghost use Rattle.plans.specs.Functions.{AreFunctionKernels};
 ghost use Rattle.plans.specs.declared.operation.PlanOperation.TheVariants as op;
 ghost use Rattle.plans.specs.Operation.{ApplyEdgesOf, IsOperation};
 ghost use Rattle.run_state.specs.State.{graph_value, with_state};
@@ -47,7 +47,7 @@ impl Memory {
         second: Option<usize>,
     ) -> Result<(), AllocError>
         requires known { ∥ HaveTrees functions.now ∥₁ }
-        ensures done { OnOk result ((p : ProgramTree) (g : GraphValue) (t : OperationTree) → AreFunctions functions.now p
+        ensures done { OnOk result ((p : ProgramTree) (g : GraphValue) (t : OperationTree) → AreFunctionKernels functions.now p
             → IsOperation instruction.now.keep instruction.now.shown (op.ApplyVertices set first second) t → FitTogether p t → HasDone instruction.now Flow.Next self.old self.new p g t) }
         ensures turns { OnOk result (self.new.state.state.turns ≡ self.old.state.state.turns) }
         ensures vertices { self.new.state.vertices ≡ self.old.state.vertices }
@@ -76,7 +76,7 @@ impl Memory {
         requires applier { E.is_ready by.old }
         ensures applier { E.is_ready by.new }
         ensures done { OnOk result ((p : ProgramTree) (g : GraphValue) (t : OperationTree) → g ≡ graph_value graph.now → IsOn g self.old
-            → AreFunctions functions.now p → ApplyEdgesOf apply.ends apply.part second t → OperationReduces p t → HasDone instruction.now Flow.Next self.old self.new p g t) }
+            → AreFunctionKernels functions.now p → ApplyEdgesOf apply.ends apply.part second t → OperationReduces p t → HasDone instruction.now Flow.Next self.old self.new p g t) }
         ensures turns { OnOk result (self.new.state.state.turns ≡ self.old.state.state.turns) }
         ensures vertices { self.new.state.vertices ≡ self.old.state.vertices }
         ensures err { OnErr result (IsAsBefore self.old self.new) }
@@ -193,7 +193,7 @@ fn modified(
 /// The kernel of the function at the second place, where there is one.
 fn second_kernel(functions: &FunctionKernels, second: Option<usize>) -> Option<&VertexKernel>
     ensures none { second ≡ None → result ≡ None }
-    ensures some { (p : ProgramTree) (place : ℕ) → AreFunctions functions.now p → second ≡ Some place
+    ensures some { (p : ProgramTree) (place : ℕ) → AreFunctionKernels functions.now p → second ≡ Some place
         → IsSomeAnd result (λ k. IsVertexCode k.now.code.items (steps_of (slice_get p.vertex_functions place))) }
     ensures known { ∥ HaveTrees functions.now ∥₁ → ForSome result (λ k. ∥ IsVertexKernel k.now ∥₁) }
 {

@@ -32,7 +32,7 @@ impl Memory {
     {
         match self
             .state
-            .choice(test, instruction.keep, &mut self.registers)?
+            .eval_bool(test, instruction.keep, &mut self.registers)?
         {
             Some(true) => Ok(Flow::Next),
             Some(false) => Ok(Flow::Goto(to)),
@@ -54,7 +54,7 @@ impl Memory {
     {
         match self
             .state
-            .number(end, instruction.shown, &mut self.registers)?
+            .eval_int(end, instruction.shown, &mut self.registers)?
         {
             Some(end) => {
                 let next = self.state.integer(instruction.shown.integers);

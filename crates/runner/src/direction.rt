@@ -6,7 +6,7 @@ ghost use Rattle.push_engine.specs.Applied.{AreChangesOf};
 ghost use Rattle.push_engine.specs.Work.{work_from};
 
 use apply_options::Direction;
-use edge_fold::{Functions, Scratch, Start};
+use edge_fold::{ApplyContext, FoldStart, Scratch};
 use flat_snapshot::Flat;
 use kernels::EndpointFilter;
 use pull_engine::pull;
@@ -66,15 +66,15 @@ fn hybrid(
             alloc, apply, flat, vectors, sizes, set, scratch,
         ),
         EndpointFilter::Filter(_) => {
-            let functions = Functions {
+            let context = ApplyContext {
                 first: apply.first,
                 second: apply.second,
                 vectors,
                 sizes,
                 vertices: flat.vertices(),
-                start: Start::OldEntry,
+                start: FoldStart::OldEntry,
             };
-            let passing = passing_set(alloc, functions, end, scratch)?;
+            let passing = passing_set(alloc, context, end, scratch)?;
             let among = Apply {
                 from: Some(EndpointFilter::Members(&passing)),
                 ..*apply

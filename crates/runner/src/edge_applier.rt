@@ -1,4 +1,4 @@
-//! Who does the edge applies of a run.
+//! The edge applier: who does the edge applies of a run.
 ghost use Rattle.std.specs.Prelude.{IfOk};
 ghost use Rattle.runner.specs.EdgeMap.{AreChangesOfApply};
 

@@ -5,7 +5,7 @@ ghost use Rattle.algorithm_meaning.specs.Function.{steps_of};
 ghost use Rattle.edge_fold.specs.Folded.{AreKernels};
 ghost use Rattle.kernels.specs.Kernels.{IsEdgeKernel};
 ghost use Rattle.kernels.specs.declared.kernel.EdgeKernel.{EdgeKernel};
-ghost use Rattle.plans.specs.Functions.{AreFunctions};
+ghost use Rattle.plans.specs.Functions.{AreFunctionKernels};
 ghost use Rattle.plans.specs.Reducing.{places_of, steps_at};
 ghost use Rattle.runner.specs.EdgeMap.{AreChangesOfApply};
 
@@ -65,7 +65,7 @@ pub fn edge_map(
 
 /// The kernel of the function at the second place, where there is one.
 fn second_kernel<'a>(run: RunView<'a>, second: Option<usize>) -> Option<&'a EdgeKernel>
-    ensures { (p : ProgramTree) (kernel : EdgeKernel) (first : ℕ) → AreFunctions run.entry.functions.now p
+    ensures { (p : ProgramTree) (kernel : EdgeKernel) (first : ℕ) → AreFunctionKernels run.entry.functions.now p
         → IsEdgeKernel kernel (steps_of (slice_get p.edge_functions first))
         → AreKernels kernel result (steps_at p.edge_functions (places_of first second)) }
 {

@@ -1,10 +1,10 @@
-//! The ends of an apply.
+//! Endpoint filters: the ends of an apply, as its instruction has them.
 ghost use Rattle.std.specs.Prelude.{◌≡◌, []};
 ghost use Rattle.typed_tree.specs.ProgramTree.{ProgramTree};
 ghost use Rattle.algorithm_meaning.specs.EdgeApply.{passes};
 ghost use Rattle.algorithm_meaning.specs.State.{StateValue};
 ghost use Rattle.edge_fold.specs.Ends.{IsEndTest};
-ghost use Rattle.plans.specs.Functions.{AreFunctions};
+ghost use Rattle.plans.specs.Functions.{AreFunctionKernels};
 ghost use Rattle.run_state.specs.View.{HasSets};
 
 use kernels::EndpointFilter;
@@ -20,7 +20,7 @@ pub(crate) fn end_of<'a>(
     no_members: &'a VertexSet,
 ) -> Option<EndpointFilter<'a>>
     requires { no_members.now.members ≡ [] }
-    ensures { (p : ProgramTree) (m : StateValue) → AreFunctions run.entry.functions.now p → HasSets run.entry m → IsEndTest result m (passes p.filters m end) }
+    ensures { (p : ProgramTree) (m : StateValue) → AreFunctionKernels run.entry.functions.now p → HasSets run.entry m → IsEndTest result m (passes p.filters m end) }
 {
     match end {
         None => None,

@@ -38,7 +38,7 @@ impl Memory {
             .vertex(index, instruction.keep, &mut self.registers)?;
         let number = self
             .state
-            .number(value, instruction.keep, &mut self.registers)?;
+            .eval_int(value, instruction.keep, &mut self.registers)?;
         match (vertex, number) {
             (Some(vertex), Some(number)) => {
                 self.state.set_entry(vector, vertex, number);
@@ -70,7 +70,7 @@ impl Memory {
             .vertex(index, instruction.keep, &mut self.registers)?;
         let number = self
             .state
-            .number(value, instruction.keep, &mut self.registers)?;
+            .eval_int(value, instruction.keep, &mut self.registers)?;
         match (vertex, number) {
             (Some(vertex), Some(number)) => {
                 self.state.reduce_entry(vector, vertex, reduction, number);

@@ -1,10 +1,10 @@
-//! Where a run goes on after an instruction.
+//! Control flow: where a run goes on after an instruction.
 use algorithm_meaning::End;
 
 /// Where a run goes on after an instruction, or how it ends there.
 #[derive(Clone, Copy)]
 pub(crate) enum Flow {
-    /// At the instruction behind it.
+    /// At the instruction after it.
     Next,
     /// At the instruction at this place.
     Goto(usize),

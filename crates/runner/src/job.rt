@@ -1,4 +1,4 @@
-//! Runs that go one instruction at a time.
+//! Jobs: runs that go one instruction at a time.
 ghost use Rattle.std.specs.Prelude.{◌≡◌, IfOk, OnOk, OnErr};
 ghost use Rattle.std.specs.Arc.{arc_value};
 ghost use Rattle.typed_tree.specs.ProgramTree.{ProgramTree};

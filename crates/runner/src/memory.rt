@@ -1,4 +1,4 @@
-//! What the instructions of a run work on.
+//! Run memory: what the instructions of a run work on.
 ghost use Rattle.std.specs.Prelude.{◌≡◌};
 
 use algorithm_meaning::LoopCounter;

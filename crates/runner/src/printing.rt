@@ -1,4 +1,4 @@
-//! `print`.
+//! Print statements: the text that a run writes.
 ghost use Rattle.std.specs.Prelude.{◌≡◌, ℕ, IfOk, OnErr};
 ghost use Rattle.typed_tree.specs.BlockTree.{PrintCondition, PrintInteger};
 ghost use Rattle.typed_tree.specs.ProgramTree.{ProgramTree};
@@ -30,7 +30,7 @@ impl Memory {
     {
         match self
             .state
-            .number(value, instruction.keep, &mut self.registers)?
+            .eval_int(value, instruction.keep, &mut self.registers)?
         {
             Some(n) => {
                 self.state.print_integer(n)?;
@@ -55,7 +55,7 @@ impl Memory {
     {
         match self
             .state
-            .choice(value, instruction.keep, &mut self.registers)?
+            .eval_bool(value, instruction.keep, &mut self.registers)?
         {
             Some(b) => {
                 self.state.print_condition(b)?;

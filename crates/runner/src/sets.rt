@@ -4,7 +4,7 @@ ghost use Rattle.typed_tree.specs.BlockTree.{AssignSet, DeclareSet};
 ghost use Rattle.typed_tree.specs.ProgramTree.{ProgramTree};
 ghost use Rattle.algorithm_meaning.specs.State.{GraphValue};
 ghost use Rattle.plans.specs.Instruction.{Do};
-ghost use Rattle.plans.specs.Functions.{AreFunctions};
+ghost use Rattle.plans.specs.Functions.{AreFunctionKernels};
 ghost use Rattle.plans.specs.SetExpression.{set_value};
 ghost use Rattle.runner.specs.Done.{HasDone, IsAsBefore};
 ghost use Rattle.runner.specs.Position.{IsOn};
@@ -25,7 +25,7 @@ impl Memory {
         name: usize,
         members: SetExpression,
     ) -> Result<(), AllocError>
-        ensures done { OnOk result ((p : ProgramTree) (g : GraphValue) → IsOn g self.old → AreFunctions functions.now p
+        ensures done { OnOk result ((p : ProgramTree) (g : GraphValue) → IsOn g self.old → AreFunctionKernels functions.now p
             → HasDone instruction.now Flow.Next self.old self.new p g (Do (DeclareSet name (set_value members)))) }
         ensures turns { OnOk result (self.new.state.state.turns ≡ self.old.state.state.turns) }
         ensures vertices { self.new.state.vertices ≡ self.old.state.vertices }
@@ -45,7 +45,7 @@ impl Memory {
         slot: VarRef,
         members: SetExpression,
     ) -> Result<(), AllocError>
-        ensures done { OnOk result ((p : ProgramTree) (g : GraphValue) → IsOn g self.old → AreFunctions functions.now p
+        ensures done { OnOk result ((p : ProgramTree) (g : GraphValue) → IsOn g self.old → AreFunctionKernels functions.now p
             → HasDone instruction.now Flow.Next self.old self.new p g (Do (AssignSet slot (set_value members)))) }
         ensures turns { OnOk result (self.new.state.state.turns ≡ self.old.state.state.turns) }
         ensures vertices { self.new.state.vertices ≡ self.old.state.vertices }

@@ -1,4 +1,4 @@
-//! The steps of a run.
+//! Steps: the instructions of a run, one at a time.
 ghost use Rattle.std.specs.Prelude.{◌≡◌, ◌<◌, None, IfOk, OnOk, OnErr};
 ghost use Rattle.typed_tree.specs.ProgramTree.{ProgramTree};
 ghost use Rattle.apply_options.specs.ScheduleTree.{ScheduleTree};
@@ -8,7 +8,7 @@ ghost use Rattle.plans.specs.Fused.{FitTogether};
 ghost use Rattle.plans.specs.Machine.{step};
 ghost use Rattle.plans.specs.Plan.{plan_of};
 ghost use Rattle.plans.specs.Reducing.{AppliesReduce, OperationReduces};
-ghost use Rattle.plans.specs.Functions.{AreFunctions};
+ghost use Rattle.plans.specs.Functions.{AreFunctionKernels};
 ghost use Rattle.plans.specs.Operation.{IsInstruction, IsOperation};
 ghost use Rattle.plans.specs.PlanOf.{IsPlan};
 ghost use Rattle.run_state.specs.State.{graph_value};
@@ -78,7 +78,7 @@ impl Memory {
         requires graph { self.old.state.vertices ≡ graph.now.vertices }
         requires applier { E.is_ready by.old }
         ensures applier { E.is_ready by.new }
-        ensures done { IfOk result (λ flow. (p : ProgramTree) (t : InstructionTree) → AreFunctions plan.now.functions p → IsInstruction i.now t
+        ensures done { IfOk result (λ flow. (p : ProgramTree) (t : InstructionTree) → AreFunctionKernels plan.now.functions p → IsInstruction i.now t
             → FitTogether p t.operation → OperationReduces p t.operation → HasDone i.now flow self.old self.new p (graph_value graph.now) t.operation) }
         ensures level { IfOk result (λ flow. (p : ProgramTree) (t : InstructionTree) → IsInstruction i.now t
             → IsLevel i.now flow self.old self.new p (graph_value graph.now) t.operation) }

@@ -32,7 +32,7 @@ impl Memory {
     {
         match self
             .state
-            .number(value, instruction.keep, &mut self.registers)?
+            .eval_int(value, instruction.keep, &mut self.registers)?
         {
             Some(n) => {
                 self.state.declare_integer(n)?;
@@ -57,7 +57,7 @@ impl Memory {
     {
         match self
             .state
-            .choice(value, instruction.keep, &mut self.registers)?
+            .eval_bool(value, instruction.keep, &mut self.registers)?
         {
             Some(b) => {
                 self.state.declare_condition(b)?;
@@ -83,7 +83,7 @@ impl Memory {
     {
         match self
             .state
-            .number(value, instruction.keep, &mut self.registers)?
+            .eval_int(value, instruction.keep, &mut self.registers)?
         {
             Some(n) => {
                 self.state.set_integer(slot.place, n);
@@ -109,7 +109,7 @@ impl Memory {
     {
         match self
             .state
-            .choice(value, instruction.keep, &mut self.registers)?
+            .eval_bool(value, instruction.keep, &mut self.registers)?
         {
             Some(b) => {
                 self.state.set_condition(slot.place, b);
@@ -136,7 +136,7 @@ impl Memory {
     {
         match self
             .state
-            .number(value, instruction.keep, &mut self.registers)?
+            .eval_int(value, instruction.keep, &mut self.registers)?
         {
             Some(n) => {
                 self.state.reduce_integer(slot.place, reduction, n);

@@ -1,4 +1,4 @@
-//! Whole runs.
+//! Whole runs: a plan from its first instruction to its end.
 ghost use Rattle.std.specs.Prelude.{◌≡◌, IfOk};
 ghost use Rattle.typed_tree.specs.ProgramTree.{ProgramTree};
 ghost use Rattle.algorithm_meaning.specs.Shown.{meaning};

@@ -256,7 +256,7 @@ adjacent_least p s first second a b x y on once rule.DifferentSets breaks = lit�
 adjacent_least p s first second a b x y on once rule.NotIndependent breaks = lit≤ tt
 adjacent_least p s first second a b x y on once rule.BadFields breaks = lit≤ tt
 
--- what two fused applies keep: they are fused once, and stand behind each other
+-- what two fused applies keep: they are fused once, and stand after each other
 record Neighbours (p : ProgramTree) (s : ScheduleTree) (first second : List ℕ) (a b : ℕ) (x y : StatementApply) : Type 0 where
   on : OnBoth p first second a b x y
   once : IsFusedTwice s a b → ⊥

@@ -17,7 +17,7 @@ use Rattle.schedule.proofs.Places.{concat_last}
 some_is : (o : Option (List ℕ)) (a b : List ℕ) → o ≡ Some a → o ≡ Some b → a ≡ b
 some_is o a b is e = cc
 
--- a group that grows behind what is taken stays distinct from it
+-- a group that grows after what is taken stays distinct from it
 grown_is_distinct : (p : ProgramTree) (taken group end : List ℕ) (names : List (List ℕ))
     → IsDistinct nat_eq (taken ++ group) → grown p taken group names ≡ Some end → IsDistinct nat_eq (taken ++ end)
 grown_is_distinct p taken group end [] distinct e = subst (λ (g : List ℕ). IsDistinct nat_eq (taken ++ g)) (some_is _ _ _ refl e) distinct

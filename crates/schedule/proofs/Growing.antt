@@ -23,7 +23,7 @@ module _ (p : ProgramTree) (taken group : List ℕ) (names : List (List ℕ)) (i
   grown_taken v named there =
       grown_next (Some v) named ∙ ap (λ b. if b then None else grown p taken (group ++ v ∷ []) (drop (suc i) names)) there
 
-  -- any other is behind the group
+  -- any other is after the group
   pub grown_on : (v : ℕ) → vector_place p name ≡ Some v → list_any (nat_eq v) (taken ++ group) ≡ false
       → grown p taken group (drop i names) ≡ grown p taken (group ++ v ∷ []) (drop (i + 1) names)
   grown_on v named new =

@@ -1,4 +1,4 @@
--- Broken rules of schedules: which rules a call breaks behind the calls that made a schedule so far, one case for each rule.
+-- Broken rules of schedules: which rules a call breaks after the calls that made a schedule so far, one case for each rule.
 use Rattle.std.specs.Prelude.{◌≡◌, ◌⊎◌, ◌<◌, ◌≤◌, ℕ, false, IsTrue, List, [], ◌∷◌, length, Option, Some, None, Ok, IsSome}
 use Rattle.std.specs.List.{concat, Contains}
 use Rattle.apply_options.specs.declared.apply_schedule.ApplySchedule.{ApplySchedule}
@@ -139,7 +139,7 @@ pub record IsLeastBroken (Breaks : ScheduleRule → Type 0) (r : ScheduleRule) :
   pub broken : Breaks r
   pub least : (other : ScheduleRule) → Breaks other → number_of_rule r ≤ number_of_rule other
 
--- each call breaks no rule, behind those before it
+-- each call breaks no rule, after those before it
 abbrev pub BreakNoRule : ProgramTree → ScheduleTree → List ScheduleCallTree → Type 0
 BreakNoRule p s [] = Unit {0}
 BreakNoRule p s (call ∷ calls) = BreaksNone p s call × ((new : ScheduleTree) → with_call p call s ≡ Ok new → BreakNoRule p new calls)

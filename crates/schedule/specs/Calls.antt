@@ -75,7 +75,7 @@ value_of_two p setting None s = Err rule.BadArgument
 abbrev pub with_value : ProgramTree → Setting → List (List ℕ) → ScheduleTree → Result ScheduleTree ScheduleRule
 with_value p setting arguments s = value_of_two p setting (two_of arguments) s
 
--- the statement right behind that with the first label, in its block, has the second
+-- the statement right after that with the first label, in its block, has the second
 abbrev pub is_label : Option ℕ → ℕ → Bool
 is_label None label = false
 is_label (Some l) label = nat_eq l label
@@ -116,7 +116,7 @@ fusing_of_two p None s = Err rule.BadArgument
 abbrev pub with_fusing : ProgramTree → List (List ℕ) → ScheduleTree → Result ScheduleTree ScheduleRule
 with_fusing p arguments s = fusing_of_two p (two_of arguments) s
 
--- the vectors of these names behind those of the group so far, where each is in no group
+-- the vectors of these names after those of the group so far, where each is in no group
 abbrev pub grown_by : (taken group : List ℕ) → Option ℕ → (List ℕ → Option (List ℕ)) → Option (List ℕ)
 grown_by taken group None rest = None
 grown_by taken group (Some v) rest = if list_any (nat_eq v) (taken ++ group) then None else rest (group ++ v ∷ [])

@@ -32,7 +32,7 @@ abbrev pub IsIndependent : ProgramTree → StatementApply → StatementApply →
 IsIndependent p (Edges a f r) (Edges b g s) = SharesNoVector p f r b g
 IsIndependent p _ _ = Unit {0}
 
--- the second of two fused statements stands right behind the first in one block; both apply to vertices or both to
+-- the second of two fused statements stands right after the first in one block; both apply to vertices or both to
 -- edges, of the same sets and filters; and edge applies are independent
 pub record IsFusedWell (p : ProgramTree) (first second : ℕ) : Type 0 where
   pub one : StatementApply
@@ -110,7 +110,7 @@ IsConfig setting.DenseVertexSet = Unit {0}
 IsConfig setting.FuseFunctions = ⊥
 IsConfig setting.FuseFields = ⊥
 
--- behind a `config` call on a label no other of its kind is on that label
+-- after a `config` call on a label no other of its kind is on that label
 abbrev pub AreOnceOnLabels : ProgramTree → List ScheduleCallTree → Type 0
 AreOnceOnLabels p [] = Unit {0}
 AreOnceOnLabels p (call ∷ calls) =

@@ -228,7 +228,7 @@ impl Tables<'_> {
         Ok(None)
     }
 
-    /// Whether the statement right behind that with the first label, in its block, has the second.
+    /// Whether the statement right after that with the first label, in its block, has the second.
     fn is_followed_by(&self, first: usize, second: usize) -> bool
         ensures { result ≡ has_behind (program_tree self.now.program.now) first second }
     {

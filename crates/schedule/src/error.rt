@@ -18,7 +18,7 @@ pub enum ScheduleRule {
     BadArgument,
     /// A `config` call of one kind names a label once, and a label is in one fusing, and once.
     GivenTwice,
-    /// Of two fused statements the second stands right behind the first in one block.
+    /// Of two fused statements the second stands right after the first in one block.
     NotAdjacent,
     /// Two fused applies are both vertex applies or both edge applies, of the same sets and filters.
     DifferentSets,

@@ -15,7 +15,7 @@ use typed_tree::{MainStatement, SetValue, StatementApply, StatementKind};
 pub struct Site {
     /// What its statement applies, if it does.
     pub apply: Option<StatementApply>,
-    /// The label of the statement right behind it in its block, where there is one with a label.
+    /// The label of the statement right after it in its block, where there is one with a label.
     pub next: Option<usize>,
 }
 
@@ -62,7 +62,7 @@ impl Sites {
         self.entries.get(&label).copied()
     }
 
-    /// Puts a label behind the others, if it is not there already.
+    /// Puts a label after the others, if it is not there already.
     fn put(&mut self, label: usize, site: Site) -> Result<(), AllocError>
         ensures { OnOk result (PutsSite self.old label site self.new) }
     {
@@ -76,7 +76,7 @@ impl Sites {
     }
 }
 
-/// Puts the labels of the statements, and of those in their blocks, behind the others, in the order of the text.
+/// Puts the labels of the statements, and of those in their blocks, after the others, in the order of the text.
 #[cycle(sites)]
 fn push_sites(
     statements: &[MainStatement],

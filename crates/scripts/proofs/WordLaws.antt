@@ -55,7 +55,7 @@ pieces-append c [] rest none = sym (onto_front-nil (pieces c rest) (pieces-ArePa
 pieces-append c (b ∷ front) rest none =
     pieces_other c b (front ++ rest) none.0 ∙ ap (onto_first b) (pieces-append c front rest none.1) ∙ onto_first-onto_front b front (pieces c rest)
 
--- no number where the first word begins with digits for the limit or more, or has another byte behind them
+-- no number where the first word begins with digits for the limit or more, or has another byte after them
 front_large : (limit : ℕ) (front : List ℕ) (parts : List (List ℕ)) → limit ≤ value_of front → first_number limit (onto_front front parts) ≡ None
 front_large limit front [] large = ap (option_map (λ n. (n, []))) (number_of-large limit front large)
 front_large limit front (part ∷ parts) large =

@@ -1,4 +1,4 @@
-//! What ends a script before its end.
+//! Script errors: what ends a script before its end.
 ghost use Rattle.std.specs.Prelude.{◌≡◌};
 ghost use Rattle.scripts.specs.declared.error.ScriptError.TheVariants.{NoMemory};
 ghost use Rattle.scripts.specs.Refusal.{number_of, error_of_send};

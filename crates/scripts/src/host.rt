@@ -1,4 +1,4 @@
-//! What the commands of a script take from where it runs.
+//! Script host: where memory is taken from, and the programs that a script may run.
 
 use crate::programs::Programs;
 use std::alloc::Global;

@@ -29,7 +29,7 @@ mod pieces;
 mod programs;
 mod script_state;
 mod scripts;
-mod text;
+mod whole_text;
 mod words;
 
 pub use commands::{Command, DEFAULT_CHUNK_SIZE};
@@ -39,4 +39,4 @@ pub use pieces::{first_piece, joined_pieces, last_line, split_line};
 pub use programs::Programs;
 pub use script_state::ScriptState;
 pub use scripts::script;
-pub use text::run_text;
+pub use whole_text::run_text;

@@ -206,7 +206,7 @@ impl OpenGraph {
     }
 
     /// Runs the program at a place on the newest version, or on the one that a ticket holds, and writes what
-    /// the run shows: no reply is kept behind it.
+    /// the run shows: no reply is kept after it.
     fn run<P: Programs, W: Drain>(
         &mut self,
         host: &Host<'_, P>,

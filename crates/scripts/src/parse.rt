@@ -1,4 +1,4 @@
-//! The command of a line.
+//! Command parser: the command of a line.
 ghost use Rattle.std.specs.Prelude.{◌≡◌, ◌∷◌};
 ghost use Rattle.std.specs.Option.{option_map};
 ghost use Rattle.scripts.specs.declared.commands.Command.TheVariants.{Add, Remove, Commit, Release};
@@ -90,7 +90,7 @@ fn commit(words: Words<'_>) -> Option<Command>
     words.is_empty().then_some(Command::Commit)
 }
 
-/// The version to hold: the newest, or the one behind the word `at`.
+/// The version to hold: the newest, or the one after the word `at`.
 fn hold(mut words: Words<'_>) -> Option<Command>
     ensures { result ≡ hold_of words.entry }
 {

@@ -39,7 +39,7 @@ pub fn first_piece()
 {}
 
 /// The law that the lines of a text are those that a line feed has ended and one more, which stands
-/// behind the last line feed. The call does nothing.
+/// after the last line feed. The call does nothing.
 pub fn last_line()
     ensures { (text : List ℕ) → HasLastLine text }
 {}

@@ -1,4 +1,4 @@
--- The terminals of a level of expressions: its first operand, and then each other behind its operator.
+-- The terminals of a level of expressions: its first operand, and then each other after its operator.
 use Rattle.std.proofs.Common.{◌≡◌, List, [], ◌∷◌, ◌++◌, map, refl, ◌∙◌, ap, append_assoc}
 use Rattle.lexer.specs.declared.keyword.Keyword.TheVariants as keyword
 use Rattle.syntax.specs.declared.operators.Addition.{Addition}

@@ -8,7 +8,7 @@ use Rattle.syntax.specs.SourceViews.{action_tree, block_tree}
 use Rattle.source_text.specs.Text.{terminal_bytes, gap_behind, text_of}
 use Rattle.source_text.specs.Written.{Completes, Puts, PutsUpTo}
 
--- the bytes of a terminal and what stands behind it
+-- the bytes of a terminal and what stands after it
 pub put_terminal : (w : Terminal) (bytes : List ℕ) (gap : ℕ) (old new : List ℕ) → bytes ≡ terminal_bytes w → gap ≡ gap_behind w → new ≡ old ++ (bytes ++ gap ∷ [])
     → Puts (λ rest. w ∷ rest) old new
 unfolding Completes

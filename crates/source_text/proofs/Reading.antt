@@ -14,7 +14,7 @@ use Rattle.syntax.specs.Terminals.{Terminal, Name, Number, Label, Text, Opening,
 use Rattle.source_text.specs.Text.{terminal_bytes, keyword_gap, symbol_gap, gap_behind, text_of, IsSpelled, AreSpelled, bare, AreAlike, HasTerminals}
 use Rattle.source_text.proofs.Longest.{kind_of, terminal_before, first_not_white}
 
--- what stands behind a terminal is white
+-- what stands after a terminal is white
 white_keyword : (k : Keyword) → is_white (keyword_gap k) ≡ true
 white_keyword keyword.End = refl
 white_keyword _ = refl

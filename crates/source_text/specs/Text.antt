@@ -22,7 +22,7 @@ terminal_bytes (Opening terminal at) = keyword_spelling terminal
 terminal_bytes (OfKeyword terminal) = keyword_spelling terminal
 terminal_bytes (OfSymbol symbol) = symbol_spelling symbol
 
--- the white byte behind a terminal: a line feed where a statement or a block ends, else a space
+-- the white byte after a terminal: a line feed where a statement or a block ends, else a space
 abbrev pub keyword_gap : Keyword → ℕ
 keyword_gap keyword.End = 10
 keyword_gap _ = 32
@@ -37,7 +37,7 @@ gap_behind (OfKeyword terminal) = keyword_gap terminal
 gap_behind (OfSymbol symbol) = symbol_gap symbol
 gap_behind _ = 32
 
--- each terminal, and a white byte behind it
+-- each terminal, and a white byte after it
 abbrev pub text_of : List Terminal → List ℕ
 text_of [] = []
 text_of (terminal ∷ terminals) = terminal_bytes terminal ++ gap_behind terminal ∷ text_of terminals

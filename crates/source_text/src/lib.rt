@@ -1,8 +1,8 @@
 //! Sources as text that the parser reads back to the same source.
 //!
 //! [`write`] gives the text of a source. In the contracts that text is the source's terminals, as the grammar
-//! spells them, each with a white byte behind it (`specs/Text.antt`): a line feed behind `;` and `end`, a
-//! space behind the others. Comments, and the white bytes of a text that the source came from, are not kept,
+//! spells them, each with a white byte after it (`specs/Text.antt`): a line feed after `;` and `end`, a
+//! space after the others. Comments, and the white bytes of a text that the source came from, are not kept,
 //! and numbers lose leading zeros.
 //!
 //! A source is writable where its terminals are tokens and nest within the limit (`specs/ReadBack.antt`). What is

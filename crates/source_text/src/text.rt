@@ -61,7 +61,7 @@ pub(crate) fn put_symbol(out: &mut Vec<u8>, symbol: Symbol) -> Result<(), AllocE
     put(out, spelling(symbol), gap_behind_symbol(symbol))
 }
 
-/// Puts the bytes of a terminal down, and a byte behind them.
+/// Puts the bytes of a terminal down, and a byte after them.
 fn put(out: &mut Vec<u8>, bytes: &[u8], gap: u8) -> Result<(), AllocError>
     ensures { OnOk result (out.new.items ≡ out.old.items ++ (bytes.now ++ gap ∷ [])) }
 {
@@ -70,7 +70,7 @@ fn put(out: &mut Vec<u8>, bytes: &[u8], gap: u8) -> Result<(), AllocError>
     Ok(())
 }
 
-/// What stands behind a keyword: the end of a line behind `end`.
+/// What stands after a keyword: the end of a line after `end`.
 fn gap_behind_keyword(keyword: Keyword) -> u8
     ensures { result ≡ keyword_gap keyword }
 {
@@ -80,7 +80,7 @@ fn gap_behind_keyword(keyword: Keyword) -> u8
     }
 }
 
-/// What stands behind a symbol: the end of a line behind `;`.
+/// What stands after a symbol: the end of a line after `;`.
 fn gap_behind_symbol(symbol: Symbol) -> u8
     ensures { result ≡ symbol_gap symbol }
 {

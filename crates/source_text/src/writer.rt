@@ -15,7 +15,7 @@ use lexer::Keyword;
 use std::alloc::{AllocError, Global};
 use syntax::Source;
 
-/// The text of a source: one statement a line, a space behind each other terminal. `parse` reads it back to the
+/// The text of a source: one statement a line, a space after each other terminal. `parse` reads it back to the
 /// same source, but for the offsets, where the source is one that a text can have; each that `parse` answers
 /// with is. A source that is built by hand may hold what no text has, such as a keyword for a name: it is
 /// written as it is.

@@ -11,8 +11,8 @@ use Rattle.shared_tree.proofs.Order.{rises_to, rises_joined, lookup_here}
 use Rattle.tree_batch.specs.declared.batch.Entry.{Entry}
 use Rattle.tree_batch.specs.declared.batch.Entry.TheVariants.{Add, Remove}
 use Rattle.tree_batch.specs.declared.decision.Decision.{Decision}
-use Rattle.tree_batch.specs.declared.decision.Direction.{Direction}
-use Rattle.tree_batch.specs.declared.decision.Direction.TheVariants.{Out, In}
+use Rattle.tree_batch.specs.declared.decision.EdgeDirection.{EdgeDirection}
+use Rattle.tree_batch.specs.declared.decision.EdgeDirection.TheVariants.{Out, In}
 use Rattle.tree_batch.specs.Edge.{Edge, edge_eq}
 use Rattle.tree_batch.specs.Entry.{entry_decision, decision}
 use Rattle.tree_batch.specs.Decision.{turned, decision_of, ends_of, one_decided, decided, IsNotAfter, FollowInOrder, AreInOrder}
@@ -27,7 +27,7 @@ and_swap false true = refl
 and_swap false false = refl
 
 -- a decision says what its entry says
-one_says : (way : Direction) (x : Entry) (e : Edge) → one_decided (decision_of way x) e ≡ entry_decision x (turned way e)
+one_says : (way : EdgeDirection) (x : Entry) (e : Edge) → one_decided (decision_of way x) e ≡ entry_decision x (turned way e)
 one_says Out (Add u v) e = refl
 one_says Out (Remove u v) e = refl
 one_says In (Add u v) e = rw (and_swap (v == e.0) (u == e.1))
@@ -40,7 +40,7 @@ decided_pushed (x ∷ xs) d e =
     ap (λ o. option_or o (one_decided x e)) (decided_pushed xs d e) ∙ option_or-assoc (one_decided d e) (decided xs e) (one_decided x e)
 
 -- decisions of the first entries, and of one more
-pub decided_more : (way : Direction) (xs : List Entry) (i : ℕ) (d0 : Entry) (ds : List Decision) (d : Decision) → i < length xs → d ≡ decision_of way (get_or xs i d0) → ((e : Edge) → decided ds e ≡ decision (take i xs) (turned way e)) → (e : Edge) → decided (ds ++ d ∷ []) e ≡ decision (take (i + 1) xs) (turned way e)
+pub decided_more : (way : EdgeDirection) (xs : List Entry) (i : ℕ) (d0 : Entry) (ds : List Decision) (d : Decision) → i < length xs → d ≡ decision_of way (get_or xs i d0) → ((e : Edge) → decided ds e ≡ decision (take i xs) (turned way e)) → (e : Edge) → decided (ds ++ d ∷ []) e ≡ decision (take (i + 1) xs) (turned way e)
 decided_more way xs i d0 ds d lt made same e =
     let x = get_or xs i d0 in
     let more : take (i + 1) xs ≡ take i xs ++ x ∷ [] = take_more xs i d0 lt in

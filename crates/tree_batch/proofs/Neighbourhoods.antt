@@ -12,7 +12,7 @@ use Rattle.shared_tree.specs.ChangedMaps.{MadeAt, IsChangedMap, total_weight, Gr
 use Rattle.c_tree.specs.Chunks.{ChunkedSet}
 use Rattle.tree_batch.specs.declared.batch.Entry.{Entry}
 use Rattle.tree_batch.specs.declared.decision.Decision.{Decision}
-use Rattle.tree_batch.specs.declared.decision.Direction.TheVariants.{Out, In}
+use Rattle.tree_batch.specs.declared.decision.EdgeDirection.TheVariants.{Out, In}
 use Rattle.tree_batch.specs.Edge.{Edge, all_edges}
 use Rattle.tree_batch.specs.Entry.{decision, is_edge_after, names_outside, AreEdgesAfter}
 use Rattle.tree_batch.specs.Digraph.{Digraph, digraph, graph_after, is_chunk_size}

@@ -3,18 +3,18 @@ use Rattle.std.specs.Prelude.{◌≡◌, ◌≤◌, Bool, Option, Some, None, if
 use Rattle.std.specs.Option.{option_or}
 use Rattle.tree_batch.specs.declared.batch.Entry.{Entry}
 use Rattle.tree_batch.specs.declared.decision.Decision.{Decision}
-use Rattle.tree_batch.specs.declared.decision.Direction.{Direction}
-use Rattle.tree_batch.specs.declared.decision.Direction.TheVariants.{Out, In}
+use Rattle.tree_batch.specs.declared.decision.EdgeDirection.{EdgeDirection}
+use Rattle.tree_batch.specs.declared.decision.EdgeDirection.TheVariants.{Out, In}
 use Rattle.tree_batch.specs.Edge.{Edge, edge_eq}
 use Rattle.tree_batch.specs.Entry.{edge_of, is_add}
 
 -- a vertex and its neighbour of the edge in a direction, and the other way round
-abbrev pub turned : Direction → Edge → Edge
+abbrev pub turned : EdgeDirection → Edge → Edge
 turned Out e = e
 turned In e = (e.1, e.0)
 
 -- what an entry says of the vertex and the neighbour that it names in a direction
-abbrev pub decision_of : Direction → Entry → Decision
+abbrev pub decision_of : EdgeDirection → Entry → Decision
 decision_of way x = record { vertex = (turned way (edge_of x)).0; neighbour = (turned way (edge_of x)).1; is_neighbour = is_add x }
 
 -- the vertex and the neighbour

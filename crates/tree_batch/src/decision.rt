@@ -12,7 +12,7 @@ use std::thread::Threads;
 
 /// The direction in which a vertex has its neighbours: along its edges, or against them.
 #[derive(Clone, Copy, Debug)]
-pub(crate) enum Direction {
+pub(crate) enum EdgeDirection {
     Out,
     In,
 }
@@ -43,15 +43,15 @@ impl Decision {
     }
 }
 
-impl Direction {
+impl EdgeDirection {
     /// What an entry says in this direction.
     fn decision(self, entry: Entry) -> Decision
         ensures { result ≡ decision_of self entry }
     {
         let (source, destination) = entry.edge();
         let (vertex, neighbour) = match self {
-            Direction::Out => (source, destination),
-            Direction::In => (destination, source),
+            EdgeDirection::Out => (source, destination),
+            EdgeDirection::In => (destination, source),
         };
         Decision {
             vertex,
@@ -65,7 +65,7 @@ impl Direction {
 pub(crate) fn decisions(
     alloc: Global,
     entries: &[Entry],
-    direction: Direction,
+    direction: EdgeDirection,
 ) -> Result<Vec<Decision>, AllocError>
     ensures order { IfOk result (λ v. AreInOrder v.items) }
     ensures same { IfOk result (λ v. (e : Edge)
@@ -81,7 +81,7 @@ pub(crate) fn decisions_forked<R: Threads + Sync>(
     rt: &R,
     alloc: Global,
     entries: &[Entry],
-    direction: Direction,
+    direction: EdgeDirection,
 ) -> Result<Vec<Decision>, AllocError>
     ensures order { IfOk result (λ v. AreInOrder v.items) }
     ensures same { IfOk result (λ v. (e : Edge)
@@ -96,7 +96,7 @@ pub(crate) fn decisions_forked<R: Threads + Sync>(
 fn unsorted(
     alloc: Global,
     entries: &[Entry],
-    direction: Direction,
+    direction: EdgeDirection,
 ) -> Result<Vec<Decision>, AllocError>
     ensures { IfOk result (λ v. (e : Edge)
         → decided v.items e ≡ decision entries.now (turned direction e)) }

@@ -8,7 +8,7 @@ ghost use Rattle.tree_batch.specs.VertexSets.{AreSetsOf};
 ghost use Rattle.tree_batch.specs.Outcome.{Opens, Applies};
 
 use crate::batch::Batch;
-use crate::decision::Direction;
+use crate::decision::EdgeDirection;
 use crate::edges::EdgeIter;
 use crate::error::GraphError;
 use crate::neighbours::{neighbours_after, neighbours_after_forked};
@@ -101,8 +101,8 @@ impl Graph {
             return Err(GraphError::VertexRange);
         }
         let (entries, size) = (batch.entries(), self.chunk_size);
-        let out = neighbours_after(alloc, &self.outgoing, entries, Direction::Out, size)?;
-        let into = neighbours_after(alloc, &self.incoming, entries, Direction::In, size)?;
+        let out = neighbours_after(alloc, &self.outgoing, entries, EdgeDirection::Out, size)?;
+        let into = neighbours_after(alloc, &self.incoming, entries, EdgeDirection::In, size)?;
         Ok(Graph {
             vertices: self.vertices,
             chunk_size: self.chunk_size,
@@ -137,9 +137,9 @@ impl Graph {
             return Err(GraphError::VertexRange);
         }
         let (entries, size, most) = (batch.entries(), self.chunk_size, forks.min(MOST_FORKS));
-        let (way, tree) = (Direction::Out, &self.outgoing);
+        let (way, tree) = (EdgeDirection::Out, &self.outgoing);
         let outs = neighbours_after_forked(rt, alloc, tree, entries, way, size, most, fork)?;
-        let (way, tree) = (Direction::In, &self.incoming);
+        let (way, tree) = (EdgeDirection::In, &self.incoming);
         let ins = neighbours_after_forked(rt, alloc, tree, entries, way, size, most, fork)?;
         Ok(Graph {
             vertices: self.vertices,

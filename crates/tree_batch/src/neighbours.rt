@@ -8,7 +8,7 @@ ghost use Rattle.tree_batch.specs.Decision.{turned};
 ghost use Rattle.tree_batch.specs.Neighbours.{AreNeighbours, has_neighbour, edges_of};
 
 use crate::batch::Entry;
-use crate::decision::{Direction, decisions, decisions_forked};
+use crate::decision::{EdgeDirection, decisions, decisions_forked};
 use crate::forked::change_forked;
 use crate::runs::runs;
 use c_tree::{CTree, ChunkSize};
@@ -22,7 +22,7 @@ pub(crate) fn neighbours_after(
     alloc: Global,
     tree: &Tree<CTree>,
     entries: &[Entry],
-    direction: Direction,
+    direction: EdgeDirection,
     chunk_size: ChunkSize,
 ) -> Result<Changed<CTree>, AllocError>
     requires { AreNeighbours chunk_size tree.now.entries }
@@ -44,7 +44,7 @@ pub(crate) fn neighbours_after_forked<R: Threads + Sync, F: Fork + Sync>(
     alloc: Global,
     tree: &Tree<CTree>,
     entries: &[Entry],
-    direction: Direction,
+    direction: EdgeDirection,
     chunk_size: ChunkSize,
     forks: u32,
     fork: &F,

@@ -9,7 +9,7 @@ use Rattle.syntax.specs.SourceTrees.{ParameterTree, DeclarationTree}
 use Rattle.types.specs.Declaration.{DeclaredTree, FunctionKindTree, MainKind, EdgeKind, VertexKind, FilterKind, NoKind, declaration_typed, declarations_typed, declare_function, is_bool, is_vertex, kind_of, main_bytes, main_declared, steps_declared, takes_nothing}
 use Rattle.type_laws.proofs.Faultless.{no_left, no_right}
 
--- what holds of each declaration, where something is known before it and behind it
+-- what holds of each declaration, where something is known before it and after it
 pub each_declaration : (Known : DeclaredTree → Type 0) (P : DeclarationTree → Type 0)
     → ((d : DeclaredTree) (x : DeclarationTree) → Known d → (declaration_typed d x).faults ≡ [] → P x × Known (declaration_typed d x).value)
     → (d : DeclaredTree) (xs : List DeclarationTree) → Known d → (declarations_typed d xs).faults ≡ [] → AllByRecursion P xs

@@ -114,7 +114,7 @@ behind_writes NoStep step vector (inl (k, within, is)) = absurd (omega (arith, w
 behind_writes NoStep step vector (inr is) = Contains-append_left (step_writes step) [] vector is
 behind_writes (StepThen s others) step vector (inl is) =
     elim (Contains-append_cases (step_writes s) (steps_write others) vector is) [
-      inl first ↦ Contains-append_left (step_writes s) (steps_write (step_behind others step)) vector first
+      | inl first ↦ Contains-append_left (step_writes s) (steps_write (step_behind others step)) vector first
       | inr second ↦ Contains-append_right (step_writes s) (steps_write (step_behind others step)) vector (behind_writes others step vector (inl second))
     ]
 behind_writes (StepThen s others) step vector (inr is) = Contains-append_right (step_writes s) (steps_write (step_behind others step)) vector (behind_writes others step vector (inr is))
@@ -156,9 +156,9 @@ module _ {At : Vertices} {Read Write : ExpressionTree → Type 0} (body : Body A
         let second = steps_add d.writes d NoStep otherwise known (no_left o.faults [] (no_right b.faults (o.faults ++ []) both)) (adds_none d.writes) in
         λ vector is.
         elim (second vector is) [
-          inl old ↦
+          | inl old ↦
               elim (first vector old) [
-                inl older ↦ inl older
+                | inl older ↦ inl older
                 | inr new ↦ inr (Contains-append_left (steps_write b.value.0) (steps_write o.value.0) vector new)
               ]
           | inr new ↦ inr (Contains-append_right (steps_write b.value.0) (steps_write o.value.0) vector new)
@@ -183,13 +183,13 @@ module _ {At : Vertices} {Read Write : ExpressionTree → Type 0} (body : Body A
         let clear = no_left s.faults rest.faults both in
         let one = step_adds l.value.1 action here clear in
         let all : Adds start s.value.1.writes (steps_write (step_behind so_far s.value.0)) =
-            (λ vector is.
-            elim (one vector is) [
-              inl old ↦
-                  elim (adds vector (subst (λ writes. is_written writes vector ≡ true) (labelled_writes c label) old)) [
-                    inl older ↦ inl older
-                    | inr has ↦ inr (behind_writes so_far s.value.0 vector (inl has))
-                  ]
-              | inr new ↦ inr (behind_writes so_far s.value.0 vector (inr new))
-            ]) in
+        (λ vector is.
+        elim (one vector is) [
+          | inl old ↦
+              elim (adds vector (subst (λ writes. is_written writes vector ≡ true) (labelled_writes c label) old)) [
+                | inl older ↦ inl older
+                | inr has ↦ inr (behind_writes so_far s.value.0 vector (inl has))
+              ]
+          | inr new ↦ inr (behind_writes so_far s.value.0 vector (inr new))
+        ]) in
         steps_add start s.value.1 (step_behind so_far s.value.0) others (step_known At inside.EdgeFunction l.value.1 action here clear) (no_right s.faults rest.faults both) all

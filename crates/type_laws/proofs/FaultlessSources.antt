@@ -282,7 +282,7 @@ parameter_is_new i c k s v p none = declares_new i c k s v.name (parameter p v.d
 begun_sees : (c : CheckerTree) (k : Known) (i : Inside) → CheckerAgrees c k → AreSome k.names → Sees i (begun c i) (known_in_main k)
 begun_sees c k i a some = record { matches = begun_matches c k i a; some = some }
 
--- the name of a function is new behind what is in it
+-- the name of a function is new after what is in it
 function_is_new : (i : Inside) (d : DeclaredTree) (k : Declarations) → SeesAll d k → (c : CheckerTree) (after : Known) → Sees i c after → (name : Identifier) (e : Entity)
     → (declared_in (with_scope c d.checker.scope) name e).faults ≡ [] → IsNew k.known name
 function_is_new i d k s c after inner name e none =
@@ -433,7 +433,7 @@ declaration_keeps : (d : DeclaredTree) (k : Declarations) → SeesAll d k → (x
 declaration_keeps d k s (source.Constant at p initial) takes none = constant_keeps d k s at p initial p.declared none
 declaration_keeps d k s (source.Function at name parameters result body) takes none = function_keeps d k s at name parameters result body (bytes_eq name.bytes main_bytes) refl takes none
 
--- behind a declaration all names mean something
+-- after a declaration all names mean something
 constant_some : (k : Declarations) (type : DeclaredType) (initial : InitialTree) → ConstantKeeps k type initial → means_something.IsSome (constant_meaning k.vectors type)
 constant_some k declared.Int initial keeps = tt
 constant_some k declared.Bool initial keeps = tt

@@ -662,7 +662,7 @@ label_keeps i c k m (Some label) none = subst (λ ls. Contains ls label.bytes �
     at_found None is none there = contained_nowhere label.bytes c.labels is there
     at_found (Some place) is none there = not_empty _ _ none
 
--- what is known behind a statement that keeps the rules means something
+-- what is known after a statement that keeps the rules means something
 variable_some : (i : Inside) (k : Known) (type : DeclaredType) (initial : InitialTree) → VariableFits i k type initial → IsSome (variable_meaning type)
 variable_some i k declared.Int initial fits = tt
 variable_some i k declared.Bool initial fits = tt

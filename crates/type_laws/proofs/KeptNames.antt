@@ -197,6 +197,6 @@ labelled_kept i c k m (Some label) new =
 pub counted_kept : (i : Inside) (c : CheckerTree) (k : Known) → Matches i c k → Matches i (counted c) k
 counted_kept i c k m = record { names = m.names; labels = m.labels; reduced = m.reduced; written = m.written; inside = m.inside }
 
--- behind a block the old names stand again
+-- after a block the old names stand again
 pub closed_kept : (i j : Inside) (c d : CheckerTree) (k inner : Known) → Matches i c k → Matches j d inner → Matches i (with_scope d c.scope) (closed_known k inner)
 closed_kept i j c d k inner m further = record { names = m.names; labels = further.labels; reduced = further.reduced; written = further.written; inside = m.inside }

@@ -37,7 +37,7 @@ label_written : (k : Known) (label : Option Identifier) → (labelled_known k la
 label_written k None = refl
 label_written k (Some label) = refl
 
--- what edge functions before it do stands behind a statement as it was
+-- what edge functions before it do stands after a statement as it was
 mutual
   behind_written : (i : Inside) (k : Known) (action : source.ActionTree) → (known_behind i k action).written ≡ k.written
   behind_written i k (source.Declare at p initial) = refl
@@ -68,7 +68,7 @@ begun c i = with_writes (with_scope c (entered i c.scope)) []
 pub begun_matches : (c : CheckerTree) (k : Known) (i : Inside) → CheckerAgrees c k → Matches i (begun c i) (known_in_main k)
 begun_matches c k i a = record { names = a.names; labels = a.labels; reduced = refl; written = a.written; inside = refl }
 
--- behind a function the scope before it stands again
+-- after a function the scope before it stands again
 pub left_agrees : (i : Inside) (c d : CheckerTree) (k after : Known) → CheckerAgrees c k → Matches i d after → CheckerAgrees (with_scope d c.scope) (closed_known k after)
 left_agrees i c d k after a m = record { names = a.names; labels = m.labels; written = m.written; inside = a.inside }
 
@@ -111,7 +111,7 @@ edge_opens c k a src dst is also new further =
     let two = parameter_opens inside.EdgeFunction d.value (known_at_vertex k src) one.1 endpoint.Destination dst also further in
     (both_none (d.faults ++ (e.faults ++ [])) [] (both_none d.faults _ one.0 (both_none e.faults [] two.0 refl)) refl, two.1)
 
--- the name of a function, behind what is in it
+-- the name of a function, after what is in it
 name_declared : (d : DeclaredTree) (k : Known) → CheckerAgrees d.checker k → (name : Identifier) (e : Entity) (n : meaning.Meaning) → meaning_of e ≡ n → IsNew k name
     → ((declare_name d name e).faults ≡ []) × CheckerAgrees (declare_name d name e).value.checker (with_name k name n)
 name_declared d k a name e n is new = let c = checker_declared d.checker k a name e n is new in (both_none (declared_in d.checker name e).faults [] c.0 refl, c.1)

@@ -1,4 +1,4 @@
--- A statement of main that keeps the rules has no fault, and behind it is known what its checker knows.
+-- A statement of main that keeps the rules has no fault, and after it is known what its checker knows.
 use Rattle.std.proofs.Common.{◌≡◌, ◌⊎◌, inl, inr, refl, sym, subst, ap, ℕ, suc, ℤ, pos, Bool, true, false, ◌||◌, if◌then◌else◌, nat_eq, [], ◌++◌, length, Option, Some, None}
 use Rattle.std.specs.Prelude.{is_some, slice_index_or}
 use Rattle.std.specs.Map.{lookup}

@@ -1,4 +1,4 @@
--- A statement of a function that keeps the rules has no fault, and behind it is known what its checker knows.
+-- A statement of a function that keeps the rules has no fault, and after it is known what its checker knows.
 use Rattle.std.proofs.Common.{◌≡◌, refl, sym, subst, ℕ, Bool, true, nat_eq, List, [], ◌++◌, length, Option, Some, None}
 use Rattle.std.specs.Map.{lookup}
 use Rattle.syntax.specs.Terminals.{Identifier}

@@ -1,4 +1,4 @@
--- What names stand for behind a declaration, and at the first statement of a function, in a source without a fault.
+-- What names stand for after a declaration, and at the first statement of a function, in a source without a fault.
 use Rattle.std.proofs.Common.{◌≡◌, refl, ℕ, pos, Bool, true, false, if◌then◌else◌, List, [], ◌∷◌, ◌++◌, length, Option, Some, None}
 use Rattle.syntax.specs.Terminals.{Identifier}
 use Rattle.syntax.specs.declared.declaration.DeclaredType.{DeclaredType}

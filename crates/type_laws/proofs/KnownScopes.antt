@@ -101,7 +101,7 @@ pub labelled_scope : (c : CheckerTree) (label : Option Identifier) → (labelled
 labelled_scope c None = refl
 labelled_scope c (Some label) = new_label_scope c label (found label.bytes c.labels)
 
--- behind a statement of a function
+-- after a statement of a function
 declare_step_known : (At : Vertices) (i : Inside) (c : CheckerTree) (at : ℕ) (name : Identifier) (initializer : InitializerTree) (type : DeclaredType) → IsKnown At i c.scope
     → (declare_step_as c at name initializer type).faults ≡ [] → IsKnown At i (declare_step_as c at name initializer type).value.1.scope
 declare_step_known At i c at name initializer declared.Int known none =
@@ -131,7 +131,7 @@ step_known At i c (source.ReduceEntry vector index by e) known none = known
 step_known At i c (source.AddVertex set e) known none = known
 step_known At i c (source.Apply target ends function) known none = known
 
--- behind a statement of main
+-- after a statement of main
 declare_known : (At : Vertices) (i : Inside) (c : CheckerTree) (at : ℕ) (name : Identifier) (initializer : InitializerTree) (type : DeclaredType) → IsKnown At i c.scope
     → (declare_as c at name initializer type).faults ≡ [] → IsKnown At i (declare_as c at name initializer type).value.1.scope
 declare_known At i c at name initializer declared.Int known none =

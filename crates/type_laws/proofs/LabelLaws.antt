@@ -118,7 +118,7 @@ declare_meets c at name initializer declared.VertexSet = meets_nothing c _ refl 
 declare_meets c at name initializer declared.Vector = meets_nothing c _ refl refl
 declare_meets c at name initializer declared.EdgeSet = meets_nothing c _ refl refl
 
--- behind a block
+-- after a block
 meets_inside : (c d : CheckerTree) (xs : List (List ℕ)) → Meets c d xs → Meets c (with_scope d c.scope) xs
 meets_inside c d xs all = meets_like c d c (with_scope d c.scope) xs refl refl refl refl all
 

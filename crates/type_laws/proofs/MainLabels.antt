@@ -116,7 +116,7 @@ applied_plain at t a b ends f =
     (if_plain (is_wrong a || is_wrong b) _ _ refl (edges_plain at a b (names_error f) (edge_function f)))
     (set_applied_plain at ends f (named_set t)))
 
--- what a statement is, and the checker behind it
+-- what a statement is, and the checker after it
 abbrev met : CheckerTree → ℕ
 met c = length c.labels
 

@@ -352,7 +352,7 @@ module _ (p : ProgramTree) where
       let left = no_left (declared_in d.checker name entity.Edges).faults [] (no_left (declare_name d name entity.Edges).faults [] named) in
       as_declared _ (no_set d.sets (length d.edge_functions) d.checker name entity.Edges left within.names tt refl (checker_of d fits)) known fits.main
 
-  -- functions, behind their statements
+  -- functions, after their statements
   function_fits : (d : DeclaredTree) (kind : FunctionKindTree) (name : Identifier) (steps : StepsTree) → (function_declared d kind name steps).faults ≡ []
       → IsWithin (function_declared d kind name steps).value → AllKnown (function_declared d kind name steps).value → CheckerFits d.sets (length d.edge_functions) d.checker → MainHolds d.main
       → (kind ≡ EdgeKind → Adds [] d.checker.writes (steps_write steps)) → DeclaredFits (function_declared d kind name steps).value
@@ -373,7 +373,7 @@ module _ (p : ProgramTree) where
           omega (arith, same, length-append d.checker.written (d.checker.writes ∷ []), length-append d.edge_functions (f ∷ [])),
           λ function vector is.
               elim (index_cases d.checker.written d.checker.writes [] function) [
-                inl old ↦ all.written.1 function vector (subst (λ writes. is_some (lookup (nat_eq vector) writes) ≡ true) old is)
+                | inl old ↦ all.written.1 function vector (subst (λ writes. is_some (lookup (nat_eq vector) writes) ≡ true) old is)
                 | inr new ↦ own_writes function vector f there (new.0 ∙ same) (steps_write_of steps vector (adds refl) (subst (λ writes. is_some (lookup (nat_eq vector) writes) ≡ true) new.1 is))
               ],
         );

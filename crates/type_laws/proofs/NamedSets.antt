@@ -122,7 +122,7 @@ module _ (p : ProgramTree) where
     new_named : (place own : ℕ) → W place own → IsAmong (name_at p.names own) (map (λ x. x.0) c.scope.visible ++ name.bytes ∷ [])
     new_named place own is =
         elim (less place own is) [
-          inl old ↦ among_left (name_at p.names own) (map (λ x. x.0) c.scope.visible) (name.bytes ∷ []) (fits.named place own old)
+          | inl old ↦ among_left (name_at p.names own) (map (λ x. x.0) c.scope.visible) (name.bytes ∷ []) (fits.named place own old)
           | inr new ↦ among_last (name_at p.names own) name.bytes (map (λ x. x.0) c.scope.visible) (is_own own new.1)
         ]
 
@@ -136,14 +136,14 @@ module _ (p : ProgramTree) where
     new_apart : (i j a b : ℕ) → W i a → W j b → are_same p.names a b ≡ true → i ≡ j
     new_apart i j a b first second same =
         elim (less i a first) [
-          inl old ↦
+          | inl old ↦
               elim (less j b second) [
-                inl other ↦ fits.apart i j a b old other same
+                | inl other ↦ fits.apart i j a b old other same
                 | inr new ↦ absurd (differ i a b old new.1 (equal_bytes a b same))
               ]
           | inr new ↦
               elim (less j b second) [
-                inl other ↦ absurd (differ j b a other new.1 (sym (equal_bytes a b same)))
+                | inl other ↦ absurd (differ j b a other new.1 (sym (equal_bytes a b same)))
                 | inr own ↦ new.0 ∙ sym own.0
               ]
         ]
@@ -194,7 +194,7 @@ module _ (p : ProgramTree) where
   abbrev pub Holds : SetNames → ActionTree → Type 0
   Holds names a = NamesSets p names a × AsksForWritten p a
 
-  -- what is visible behind statements
+  -- what is visible after statements
   abbrev all_behind : BlockTree → SetNames → SetNames
   all_behind Empty names = names
   all_behind (Then number label action others) names = all_behind others (names_behind action names)
@@ -459,7 +459,7 @@ module _ (p : ProgramTree) where
           written = subst (WrittenFits functions) (sym (labelled_written c label)) fits.written;
         }
 
-    -- behind a block
+    -- after a block
     left_again : (names others : SetNames) (c d : CheckerTree) → MainFits functions names c → MainFits functions others d → MainFits functions names (closed c d)
     left_again names others c d fits inner = record { sets = fits.sets; count = fits.count; low = fits.low; written = inner.written }
 

@@ -214,7 +214,7 @@ opened_new c kind parameters result none =
     let rest_new = result_new d.value kind result (no_right d.faults r.faults none) in
     (first.0, subst (λ visible. ResultIsNew visible result) first.1 rest_new.0, rest_new.1 ∙ ap (λ visible. with_result visible result) first.1)
 
--- what is declared, and the names behind it
+-- what is declared, and the names after it
 abbrev New : DeclaredTree → Identifier → DeclaredTree → Type 0
 New d name e = IsNew (names d.checker) name × (names e.checker ≡ with_new (names d.checker) name)
 

@@ -26,7 +26,7 @@ use Rattle.types.specs.Program.{main_of, opening, program_of, set_count}
 use Rattle.types.specs.Statement.{added, applied, assigned, declare_as, edges_applied, entry_reduced, entry_set, has_ends, printed, reduced, set_applied, vertices_applied}
 use Rattle.types.specs.Wanted.{as_index, integer_in}
 
--- numbers that go on behind so many
+-- numbers that go on after so many
 record Counts (from : ℕ) (ns : List ℕ) (to : ℕ) : Type 0 where
   pub ordered : InOrder (suc from) ns
   pub count : to ≡ length ns + from
@@ -119,7 +119,7 @@ applied_plain at t a b ends f =
     (if_plain (is_wrong a || is_wrong b) _ _ refl (edges_plain at a b (names_error f) (edge_function f)))
     (set_applied_plain at ends f (named_set t)))
 
--- what a statement is, and the checker behind it
+-- what a statement is, and the checker after it
 abbrev ActionCounts : ℕ → ActionTree × CheckerTree → Type 0
 ActionCounts n r = Counts n (inner_numbers r.0) r.1.statements
 

@@ -316,7 +316,7 @@ StepsFitKind p VertexKind steps = StepsAreResolved p (in_vertex_function p) step
 StepsFitKind p FilterKind steps = (result : ℕ) × IsName p result × StepsAreResolved p (in_filter p result) steps
 StepsFitKind p NoKind steps = Unit {0}
 
--- functions, behind their statements
+-- functions, after their statements
 function_before : (p : ProgramTree) (d : DeclaredTree) (kind : FunctionKindTree) (name : Identifier) (steps : StepsTree)
     → WithinProgram p (function_declared d kind name steps).value → WithinProgram p d
 function_before p d (MainKind fits) name steps within =
@@ -397,7 +397,7 @@ function_fits p d NoKind name steps none within all resolved =
     let left = no_left (declared_in d.checker name entity.Error).faults [] none in
     (placeless p (in_main p) d.checker name entity.Error left all.0 tt refl refl refl, all.1, all.2, all.3, all.4, all.5, all.6, all.7)
 
--- behind the statements of a function the scope around it stands again
+-- after the statements of a function the scope around it stands again
 abbrev around : DeclaredTree → CheckerTree → DeclaredTree
 around d c = record d { checker = with_scope c d.checker.scope }
 

@@ -137,6 +137,6 @@ pub labelled_fits : (p : ProgramTree) (v : VisibleTree) (c : CheckerTree) (label
 labelled_fits p v c None none fits within = (fits, tt)
 labelled_fits p v c (Some label) none fits within = new_label_fits p v c label (found label.bytes c.labels) none fits within
 
--- behind a block
+-- after a block
 pub left_fits : (p : ProgramTree) (v w : VisibleTree) (c d : CheckerTree) → CheckerFits p v c → CheckerFits p w d → CheckerFits p v (with_scope d c.scope)
 left_fits p v w c d fits inner = (fits.0, inner.1)

@@ -45,7 +45,7 @@ set_declared p v c name none within fits =
     declared_fits p v (with_set (length c.names) v) c name e none fits (set_grows (length c.names) v) refl (place, declared_name p c name e within)
     (omega arith) (omega arith) (length-append v.sets (length c.names ∷ []))
 
--- a loop's name, with its bound behind it
+-- a loop's name, with its bound after it
 loop_grows : (name : ℕ) (v : VisibleTree) → Grows v (in_loop name v)
 loop_grows name v = record {
   integers = λ k x is. get_before v.integers (Some name ∷ None ∷ []) k x is;
@@ -99,7 +99,7 @@ mutual
       labelled_before p c label
       (action_before p (counted l.1) action (statements_before p a.1 (behind so_far (suc l.1.statements) l.0 a.0) others within))
 
--- what is visible behind statements
+-- what is visible after statements
 abbrev pub behind_block : BlockTree → VisibleTree → VisibleTree
 behind_block Empty v = v
 behind_block (Then number label action others) v = behind_block others (behind_action action v)
@@ -186,7 +186,7 @@ applied_plain p v at t a b ends f target from to is =
     (edges_plain p v at a b (names_error f) (edge_function f) from to (edge_function_resolved p v f is)))
     (set_applied_plain p v at ends f (named_set t) is (named_set_resolved p v t target)))
 
--- a statement, and what is known behind it
+-- a statement, and what is known after it
 abbrev ActionFits : ProgramTree → VisibleTree → ActionTree × CheckerTree → Type 0
 ActionFits p v r = ActionIsResolved p v r.0 × CheckerFits p (behind_action r.0 v) r.1
 

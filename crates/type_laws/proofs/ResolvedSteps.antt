@@ -92,7 +92,7 @@ mutual
       let s = (step_typed l.1 action).value in
       labelled_before p c label (step_before p l.1 action (steps_before p s.1 (step_behind so_far s.0) others within))
 
--- what is visible behind statements
+-- what is visible after statements
 abbrev pub behind_steps : StepsTree → VisibleTree → VisibleTree
 behind_steps NoStep v = v
 behind_steps (StepThen step others) v = behind_steps others (behind_step step v)
@@ -135,7 +135,7 @@ reduction_plain p v false own (Some vector) by e is value = ((tt, tt), refl)
 reduction_plain p v true false (Some vector) by e is value = ((tt, tt), refl)
 reduction_plain p v true true (Some vector) by e is value = ((is, value), refl)
 
--- a statement, and what is known behind it
+-- a statement, and what is known after it
 abbrev StepFits : ProgramTree → VisibleTree → StepTree × CheckerTree → Type 0
 StepFits p v r = StepIsResolved p v r.0 × CheckerFits p (behind_step r.0 v) r.1
 

@@ -48,7 +48,7 @@ variable_fits c at name initializer declared.VertexSet none = absurd (not_empty 
 variable_fits c at name initializer declared.Vector none = absurd (not_empty _ _ none)
 variable_fits c at name initializer declared.EdgeSet none = absurd (not_empty _ _ none)
 
--- behind a statement the checker is in the same function
+-- after a statement the checker is in the same function
 variable_inside : (c : CheckerTree) (at : ℕ) (name : Identifier) (initializer : InitializerTree) (type : DeclaredType) → (declare_step_as c at name initializer type).value.1.scope.inside ≡ c.scope.inside
 variable_inside c at name initializer declared.Int = (declared_goes c name (entity.IntegerVariable (integer_slot c))).0
 variable_inside c at name initializer declared.Bool = (declared_goes c name (entity.ConditionVariable (condition_slot c))).0

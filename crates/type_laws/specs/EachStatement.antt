@@ -6,13 +6,13 @@ use Rattle.typed_tree.specs.BlockTree.{ActionTree, DeclareInteger, DeclareCondit
 abbrev pub SetNames : Type 0
 SetNames = List (Option ℕ)
 
--- Of the constant sets so many stand before main in the text, and are visible there. Those behind it have their places too.
+-- Of the constant sets so many stand before main in the text, and are visible there. Those after it have their places too.
 abbrev pub names_before : (count : ℕ) → (sets : List ℕ) → SetNames
 names_before count [] = []
 names_before zero (name ∷ sets) = None ∷ names_before zero sets
 names_before (suc count) (name ∷ sets) = Some name ∷ names_before count sets
 
--- behind a statement: a declared set is visible to the end of its block
+-- after a statement: a declared set is visible to the end of its block
 abbrev pub names_behind : ActionTree → SetNames → SetNames
 names_behind (DeclareInteger name e) names = names
 names_behind (DeclareCondition name c) names = names

@@ -159,7 +159,7 @@ abbrev mutual
   BlockKeeps i k (source.Then label action others) =
       LabelIsNew k label × ActionKeeps i (labelled_known k label) action × BlockKeeps i (known_behind i (labelled_known k label) action) others
 
--- what is known behind declarations: the names and labels, how many vectors there are, and whether the edges and main were declared
+-- what is known after declarations: the names and labels, how many vectors there are, and whether the edges and main were declared
 pub record Declarations : Type 0 where
   pub known : Known
   pub vectors : ℕ
@@ -231,7 +231,7 @@ FunctionKeeps k (a ∷ b ∷ c ∷ others) result body = ⊥
 abbrev pub MainKeeps : Known → List ParameterTree → Option ParameterTree → BlockTree → Type 0
 MainKeeps k parameters result body = (parameters ≡ []) × (result ≡ None) × BlockKeeps inside.Main (known_in_main k) body
 
--- behind a function its name is visible, and those in it are forgotten
+-- after a function its name is visible, and those in it are forgotten
 abbrev pub behind_main : Declarations → Identifier → BlockTree → Declarations
 behind_main d name body =
     record d { known = with_name (meaning.closed_known d.known (known_after inside.Main (known_in_main d.known) body)) name meaning.Main; main = true }
@@ -263,7 +263,7 @@ behind_declaration d (source.Constant at p initial) = behind_constant d p
 behind_declaration d (source.Function at name parameters result body) =
     if bytes_eq name.bytes main_bytes then behind_main d name body else behind_function d name parameters result body
 
--- each declaration, behind those before it; and one is main
+-- each declaration, after those before it; and one is main
 abbrev pub DeclarationsKeep : Declarations → List DeclarationTree → Type 0
 DeclarationsKeep d [] = d.main ≡ true
 DeclarationsKeep d (x ∷ others) = DeclarationKeeps d x × DeclarationsKeep (behind_declaration d x) others

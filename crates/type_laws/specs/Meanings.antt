@@ -61,7 +61,7 @@ abbrev pub labelled_known : Known → Option Identifier → Known
 labelled_known k None = k
 labelled_known k (Some label) = record k { labels = k.labels ++ label.bytes ∷ [] }
 
--- behind a block the names that became visible in it are forgotten
+-- after a block the names that became visible in it are forgotten
 abbrev pub closed_known : Known → Known → Known
 closed_known k inner = record inner { names = k.names }
 
@@ -90,7 +90,7 @@ reduced_in inside.VertexFunction k vector by = k
 reduced_in inside.Filter k vector by = k
 
 abbrev mutual
-  -- what is known behind a statement
+  -- what is known after a statement
   pub known_behind : Inside → Known → ActionTree → Known
   known_behind i k (source.Declare at p initial) = with_name k p.name (variable_meaning p.declared)
   known_behind i k (source.While at test body) = closed_known k (known_after i k body)
@@ -105,7 +105,7 @@ abbrev mutual
   known_behind i k (source.AddVertex set e) = k
   known_behind i k (source.Apply target ends function) = k
 
-  -- what is known behind a block, with the names in it
+  -- what is known after a block, with the names in it
   pub known_after : Inside → Known → BlockTree → Known
   known_after i k source.Empty = k
   known_after i k (source.Then label action others) = known_after i (known_behind i (labelled_known k label) action) others

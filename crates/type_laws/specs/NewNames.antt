@@ -14,7 +14,7 @@ with_new visible name = visible ++ name.bytes ∷ []
 abbrev pub IsNew : List (List ℕ) → Identifier → Type 0
 IsNew visible name = AllByRecursion (λ other. name.bytes ≢ other) visible
 
--- what is visible behind a statement: a declared variable, to the end of its block
+-- what is visible after a statement: a declared variable, to the end of its block
 abbrev pub names_behind : List (List ℕ) → ActionTree → List (List ℕ)
 names_behind visible (Declare at variable initial) = with_new visible variable.name
 names_behind visible (While at test body) = visible
@@ -74,7 +74,7 @@ abbrev pub FunctionDeclaresNew : List (List ℕ) → List ParameterTree → Opti
 FunctionDeclaresNew visible parameters result body =
     ParametersAreNew visible parameters × ResultIsNew (with_parameters visible parameters) result × BlockDeclaresNew (names_inside visible parameters result) body
 
--- The name of a function is visible behind its end.
+-- The name of a function is visible after its end.
 abbrev pub DeclarationDeclaresNew : List (List ℕ) → DeclarationTree → Type 0
 DeclarationDeclaresNew visible (Constant at p initial) = IsNew visible p.name
 DeclarationDeclaresNew visible (Function at name parameters result body) = FunctionDeclaresNew visible parameters result body × IsNew visible name

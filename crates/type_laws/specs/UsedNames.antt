@@ -83,12 +83,12 @@ abbrev mutual
   ActionUsesVisible visible (source.AddVertex set e) = IsVisible visible set × ExpressionUsesVisible visible e
   ActionUsesVisible visible (source.Apply target ends function) = IsVisible visible target × EndsAreVisible visible ends × IsVisible visible function
 
-  -- each statement, at what is visible behind those before it
+  -- each statement, at what is visible after those before it
   pub BlockUsesVisible : List (List ℕ) → BlockTree → Type 0
   BlockUsesVisible visible source.Empty = Unit {0}
   BlockUsesVisible visible (source.Then label action others) = ActionUsesVisible visible action × BlockUsesVisible (names_behind visible action) others
 
--- The name of a declaration is visible behind its end.
+-- The name of a declaration is visible after its end.
 abbrev pub DeclarationUsesVisible : List (List ℕ) → DeclarationTree → Type 0
 DeclarationUsesVisible visible (source.Constant at p initial) = InitialUsesVisible visible initial
 DeclarationUsesVisible visible (source.Function at name parameters result body) = BlockUsesVisible (names_inside visible parameters result) body

@@ -68,7 +68,7 @@ pub fn checked_programs_are_resolved()
 /// statement changes, filters, applies a vertex function to or has as an end of an edge apply is visible by its name: so two
 /// references by the same name are to one set. A set that is changed is a variable.
 ///
-/// Of the constant sets those that stand before `main` are visible. One behind it may have the name of a variable in it.
+/// Of the constant sets those that stand before `main` are visible. One after it may have the name of a variable in it.
 pub fn checked_programs_name_visible_sets_apart()
     ensures { (source : SourceTree) (length : ℕ) (program : ProgramTree) → Checks source length (Ok program) → NamesSetsApart program }
 {}

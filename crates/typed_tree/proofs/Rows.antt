@@ -1,4 +1,4 @@
--- Whether the accesses behind signs, and of operands and conditions in a row, pass.
+-- Whether the accesses after signs, and of operands and conditions in a row, pass.
 use Rattle.std.proofs.Common.{◌≡◌, refl, ◌∙◌, ℕ, zero, suc, true, false, Bool, ◌&&◌, List, [], ◌∷◌}
 use Rattle.typed_tree.specs.declared.accesses.Access.{Access}
 use Rattle.typed_tree.specs.declared.expression.Operand.{Operand}

@@ -30,7 +30,7 @@ abbrev mutual
   condition_tree (rust.Compare comparison left right) = Compare comparison (integer_tree left) (integer_tree right)
   condition_tree (rust.Connect' connective p first shape conditions) = conditions_row connective (condition_tree first) conditions
 
-  -- the conditions in a list inside an expression, behind what stands on the left
+  -- the conditions in a list inside an expression, after what stands on the left
   pub conditions_row : {n : _} → Connective → ConditionTree → Row_of-BoolExpression n → ConditionTree
   conditions_row connective left end_of-BoolExpression = left
   conditions_row connective left (more_of-BoolExpression c rest) = conditions_row connective (Connect connective left (condition_tree c)) rest

@@ -18,7 +18,7 @@ pub data IntegerTree : Type 0 where
   Negative : IntegerTree → IntegerTree
   Arithmetic : Operator → (left right : IntegerTree) → IntegerTree
 
--- the tree behind so many signs
+-- the tree after so many signs
 abbrev pub negated : ℕ → IntegerTree → IntegerTree
 negated zero e = e
 negated (suc n) e = Negative (negated n e)
@@ -36,7 +36,7 @@ abbrev mutual
   integer_tree (rust.Negative' signs p e) = negated signs (integer_tree e)
   integer_tree (rust.Arithmetic' p first shape operands) = operands_row (integer_tree first) operands
 
-  -- the operators in a list inside an expression, behind what stands on the left
+  -- the operators in a list inside an expression, after what stands on the left
   pub operands_row : {n : _} → IntegerTree → Row_of-Operand n → IntegerTree
   operands_row left end_of-Operand = left
   operands_row left (more_of-Operand operator e rest) = operands_row (Arithmetic operator left (integer_tree e)) rest

@@ -22,7 +22,7 @@ use Rattle.typed_tree.specs.ProgramTree.{ProgramTree}
 
 -- What is visible at a point of a program, at its place: the names of the integers, of the conditions and of the vertex sets, of which
 -- the constant ones come first; how many vertices the function around the point works on; and whether entries of vectors are read at an
--- index, as in main, where the index is tested. The bound of a `for` has a place behind its name, and no name.
+-- index, as in main, where the index is tested. The bound of a `for` has a place after its name, and no name.
 pub record VisibleTree : Type 0 where
   pub integers : List (Option ℕ)
   pub conditions : List ℕ
@@ -129,7 +129,7 @@ SetIsResolved p v (set.Copy slot) = IsSet p v slot
 SetIsResolved p v (set.Filter slot place) = IsSet p v slot × IsFilter p place
 SetIsResolved p v (set.Modified ends function vector) = EndsAreResolved p v ends × IsEdgeFunction p function × IsVector p vector
 
--- behind a statement of a function
+-- after a statement of a function
 abbrev pub behind_step : StepTree → VisibleTree → VisibleTree
 behind_step (step.DeclareInteger name e) v = with_integer name v
 behind_step (step.DeclareCondition name c) v = with_condition name v
@@ -153,12 +153,12 @@ abbrev mutual
   StepIsResolved p v (step.If c body) = ConditionIsResolved p v c × StepsAreResolved p v body
   StepIsResolved p v (step.IfElse c body other) = ConditionIsResolved p v c × StepsAreResolved p v body × StepsAreResolved p v other
 
-  -- each statement, at what is visible behind those before it
+  -- each statement, at what is visible after those before it
   pub StepsAreResolved : ProgramTree → VisibleTree → StepsTree → Type 0
   StepsAreResolved p v step.NoStep = Unit {0}
   StepsAreResolved p v (step.StepThen first others) = StepIsResolved p v first × StepsAreResolved p (behind_step first v) others
 
--- behind a statement of main
+-- after a statement of main
 abbrev pub behind_action : ActionTree → VisibleTree → VisibleTree
 behind_action (action.DeclareInteger name e) v = with_integer name v
 behind_action (action.DeclareCondition name c) v = with_condition name v
@@ -201,7 +201,7 @@ abbrev mutual
   ActionIsResolved p v (action.For name first end body) =
       IsName p name × IntegerIsResolved p v first × IntegerIsResolved p v end × BlockIsResolved p (in_loop name v) body
 
-  -- each statement, at what is visible behind those before it
+  -- each statement, at what is visible after those before it
   pub BlockIsResolved : ProgramTree → VisibleTree → BlockTree → Type 0
   BlockIsResolved p v action.Empty = Unit {0}
   BlockIsResolved p v (action.Then number label first others) =

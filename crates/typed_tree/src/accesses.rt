@@ -157,7 +157,7 @@ pub fn end_passes<T: AccessTest>(filters: &[Function], end: Option<VertexFilter>
     }
 }
 
-/// Puts the vectors that the function at this place writes behind the others, in the order of the text, a vector as often
+/// Puts the vectors that the function at this place writes after the others, in the order of the text, a vector as often
 /// as it is written. One that is not there writes none. The only error is out of memory.
 pub fn push_written(
     functions: &[Function],

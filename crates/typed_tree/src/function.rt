@@ -3,7 +3,7 @@
 use crate::expression::{BoolExpression, IntExpression, VarRef};
 use apply_options::Reduction;
 
-/// A statement of a function. A variable that is declared in a block is gone behind it.
+/// A statement of a function. A variable that is declared in a block is gone after it.
 #[cycle(steps)]
 pub enum FunctionStatement {
     /// Declares an int variable, whose name is at this place, with its first value.

@@ -19,7 +19,7 @@ use Rattle.types.specs.Checker.{CheckerTree, counted, labelled}
 use Rattle.types.specs.Wanted.{condition_in}
 use Rattle.types.proofs.Sources.{action_tree-While, action_tree-If, action_tree-IfElse}
 
--- what goes on behind a block
+-- what goes on after a block
 inner_then : {A : Type 0} (c d : CheckerTree) (body : source.BlockTree) (b : BlockTree) (old new : Option Fault) (next : BlockTree × CheckerTree → WithFaults A)
     → outcome old (block_typed c body) ≡ ((b, d), new)
     → outcome old (statements_typed c Empty body >>= λ x. next (x.0, closed c x.1)) ≡ outcome new (next (b, d))

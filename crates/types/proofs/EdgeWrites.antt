@@ -80,7 +80,7 @@ agree_behind : (writes : Writes) (steps : StepsTree) (step : StepTree) → Steps
 agree_behind writes NoStep step agree agrees = (agrees, tt)
 agree_behind writes (StepThen s others) step agree agrees = (agree.0, agree_behind writes others step agree.1 agrees)
 
--- a checker behind a statement: in the same function, where what was written stays so
+-- a checker after a statement: in the same function, where what was written stays so
 abbrev pub GoesOn : CheckerTree → CheckerTree → Type 0
 GoesOn c d = (d.scope.inside ≡ c.scope.inside) × Extends c.writes d.writes
 
@@ -105,7 +105,7 @@ labelled_goes : (c : CheckerTree) (label : Option Identifier) → GoesOn c (labe
 labelled_goes c None = stays c
 labelled_goes c (Some label) = new_label_goes c label (found label.bytes c.labels)
 
--- what a statement is, and the checker behind it
+-- what a statement is, and the checker after it
 abbrev pub Fits : CheckerTree → StepTree × CheckerTree → Type 0
 Fits c r = GoesOn c r.1 × StepAgrees r.1.writes r.0
 
@@ -205,11 +205,11 @@ reduce_fits c at name index by e is =
     let all = entry_reduced at c.writes (vector_place c.scope at name).value by (integer_in c.scope at e).value own c.scope.inside is in
     ((refl, all.0), all.1)
 
--- statements, and the checker behind them
+-- statements, and the checker after them
 abbrev pub AllFit : CheckerTree → StepsTree × CheckerTree → Type 0
 AllFit c r = GoesOn c r.1 × StepsAgree r.1.writes r.0
 
--- behind a block the old scope stands again
+-- after a block the old scope stands again
 block_goes : (c d : CheckerTree) → GoesOn c d → GoesOn c (steps_behind c d)
 block_goes c d goes = (refl, goes.1)
 

@@ -5,7 +5,7 @@ use Rattle.std.proofs.Math.Seq.{take-length}
 use Rattle.expression_types.specs.declared.scope.Entity.{Entity}
 use Rattle.expression_types.specs.ScopeTree.{ScopeTree, Keeps, left, mark_of}
 
--- behind a block the scope is what it was before
+-- after a block the scope is what it was before
 pub left_again : (old new : ScopeTree) → Keeps old new → left (mark_of old) new ≡ old
 left_again old new kept =
     let f : List (List ℕ × Entity) → ScopeTree = λ visible. record { visible = visible; inside = old.inside; integers = old.integers; conditions = old.conditions; sets = old.sets } in

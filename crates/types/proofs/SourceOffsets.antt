@@ -51,7 +51,7 @@ only_edges_stands : (P : ℕ → Type 0) (name : Identifier) (place : ℕ) (o : 
 only_edges_stands P name place None there = tt
 only_edges_stands P name place (Some old) there = (there, tt)
 
--- a name that is declared, and no fault behind it
+-- a name that is declared, and no fault after it
 name_last_stands : (P : ℕ → Type 0) (d : DeclaredTree) (name : Identifier) (e : Entity) → P name.at → AllByRecursion (λ f. P f.at) ((declare_name d name e).faults ++ [])
 name_last_stands P d name e there = let n = declare_name d name e in both_stand P n.faults [] (declare_name_stands P d name e there) tt
 

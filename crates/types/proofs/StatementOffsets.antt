@@ -159,7 +159,7 @@ apply_stands P scope target ends function rest there named all =
     (both_stand P f.faults _ (used_stands P scope function named)
     (applied_stands P target.at t.value a.value b.value (has_ends ends) f.value there))))
 
--- what stands in front of a terminal, and what behind it
+-- what stands in front of a terminal, and what after it
 pub in_front : (P : ℕ → Type 0) (e : ExpressionTree) (rest : List Terminal) → StandWhere P (expression_terminals e ++ rest) → StandWhere P (expression_terminals e)
 in_front P e rest all = all_left (StandsWhere P) (expression_terminals e) rest all
 

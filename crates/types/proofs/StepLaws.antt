@@ -21,7 +21,7 @@ use Rattle.types.specs.Step.{labelled_step, no_step, step_behind, step_typed, st
 use Rattle.types.specs.Wanted.{condition_in}
 use Rattle.types.proofs.Sources.{action_tree-While, action_tree-If, action_tree-IfElse}
 
--- what goes on behind a block
+-- what goes on after a block
 inner_then : {A : Type 0} (c d : CheckerTree) (body : source.BlockTree) (b : StepsTree) (old new : Option Fault) (next : StepsTree × CheckerTree → WithFaults A)
     → outcome old (steps_inside c body) ≡ ((b, d), new)
     → outcome old (steps_typed c NoStep body >>= λ x. next (x.0, steps_behind c x.1)) ≡ outcome new (next (b, d))

@@ -17,7 +17,7 @@ use Rattle.types.specs.Statement.{declare_as}
 use Rattle.types.specs.Step.{declare_step_as}
 use Rattle.types.specs.Variables.{variable_as, step_variable_as}
 
--- the name becomes visible behind what the variable is
+-- the name becomes visible after what the variable is
 abbrev visible_then : {A : Type 0} → CheckerTree → Identifier → Entity × A → WithFaults (A × CheckerTree)
 visible_then c name v = declared_in c name v.0 >>= λ d. sure (v.1, d)
 

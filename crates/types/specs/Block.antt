@@ -25,12 +25,12 @@ pub record StatementTree : Type 0 where
 abbrev pub statement_tree : MainStatement → StatementTree
 statement_tree s = record { number = s.number; label = s.label; action = action_tree s.action }
 
--- the statements so far, with one more behind them
+-- the statements so far, with one more after them
 abbrev pub behind : BlockTree → (number : ℕ) → (label : Option ℕ) → ActionTree → BlockTree
 behind Empty number label action = Then number label action Empty
 behind (Then n l a others) number label action = Then n l a (behind others number label action)
 
--- behind a block the names that became visible in it are forgotten
+-- after a block the names that became visible in it are forgotten
 abbrev pub closed : CheckerTree → CheckerTree → CheckerTree
 closed c d = with_scope d c.scope
 
@@ -61,7 +61,7 @@ abbrev mutual
   action_typed c (source.AddVertex set e) = in_place c (add_vertex c.scope set.at set e)
   action_typed c (source.Apply target ends function) = in_place c (apply c.scope target.at target ends function)
 
-  -- Statements behind those so far. Each is labelled and numbered before what it does is looked at, so a block comes before its body; the
+  -- Statements after those so far. Each is labelled and numbered before what it does is looked at, so a block comes before its body; the
   -- first number is 1.
   pub statements_typed : CheckerTree → BlockTree → source.BlockTree → WithFaults (BlockTree × CheckerTree)
   statements_typed c so_far source.Empty = sure (so_far, c)

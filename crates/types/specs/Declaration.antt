@@ -172,7 +172,7 @@ inside_of VertexKind = inside.VertexFunction
 inside_of FilterKind = inside.Filter
 inside_of NoKind = inside.VertexFunction
 
--- Parameters are vertices: the source, and any behind the first the destination. One of another type has no clear meaning.
+-- Parameters are vertices: the source, and any after the first the destination. One of another type has no clear meaning.
 abbrev pub parameter : Endpoint → DeclaredType → Entity
 parameter p type = if is_vertex type then entity.Parameter p else entity.Error
 

@@ -12,7 +12,7 @@ abbrev pub negated : ℤ → Option ℤ
 negated (pos n) = Some (neg_ℤ (pos n))
 negated (negsuc n) = None
 
--- a literal of type int is a number, behind one `-` or none
+-- a literal of type int is a number, after one `-` or none
 abbrev pub primary_number : PrimaryTree → Option ℤ
 primary_number (tree.Literal n) = Some n
 primary_number (tree.Truth b) = None

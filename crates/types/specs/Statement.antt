@@ -24,7 +24,7 @@ use Rattle.types.specs.Wanted.{some_integer, as_integer, as_index, integer_in}
 abbrev pub no_action : ActionTree
 no_action = PrintInteger some_integer
 
--- A declaration of a variable, and what is known behind it. The name is not visible in its first value.
+-- A declaration of a variable, and what is known after it. The name is not visible in its first value.
 abbrev pub declare_as : CheckerTree → ℕ → Identifier → InitializerTree → DeclaredType → WithFaults (ActionTree × CheckerTree)
 declare_as c at name initializer declared.Int =
     initializer_integer at initializer >>= λ e. declared_in c name (entity.IntegerVariable (integer_slot c)) >>= λ d. sure (DeclareInteger (length c.names) e, d)

@@ -31,7 +31,7 @@ use Rattle.types.specs.Wanted.{as_integer, integer_in, condition_in}
 abbrev pub no_step : StepTree
 no_step = If (Literal false) NoStep
 
--- a declaration of a variable, and what is known behind it
+-- a declaration of a variable, and what is known after it
 abbrev pub declare_step_as : CheckerTree → ℕ → Identifier → InitializerTree → DeclaredType → WithFaults (StepTree × CheckerTree)
 declare_step_as c at name initializer declared.Int =
     initializer_integer at initializer >>= λ e. declared_in c name (entity.IntegerVariable (integer_slot c)) >>= λ d. sure (DeclareInteger (length c.names) e, d)
@@ -189,12 +189,12 @@ no_apply scope at target ends function =
 abbrev pub step_in_place : CheckerTree → WithFaults StepTree → WithFaults (StepTree × CheckerTree)
 step_in_place c step = step >>= λ s. sure (s, c)
 
--- the statements so far, with one more behind them
+-- the statements so far, with one more after them
 abbrev pub step_behind : StepsTree → StepTree → StepsTree
 step_behind NoStep step = StepThen step NoStep
 step_behind (StepThen s others) step = StepThen s (step_behind others step)
 
--- behind a block the names that became visible in it are forgotten
+-- after a block the names that became visible in it are forgotten
 abbrev pub steps_behind : CheckerTree → CheckerTree → CheckerTree
 steps_behind c d = with_scope d c.scope
 
@@ -228,7 +228,7 @@ abbrev mutual
   step_typed c (source.AddVertex set e) = step_in_place c (no_add c.scope set.at set e)
   step_typed c (source.Apply target ends function) = step_in_place c (no_apply c.scope target.at target ends function)
 
-  -- statements behind those so far
+  -- statements after those so far
   pub steps_typed : CheckerTree → StepsTree → source.BlockTree → WithFaults (StepsTree × CheckerTree)
   steps_typed c so_far source.Empty = sure (so_far, c)
   steps_typed c so_far (source.Then label action others) =

@@ -1,4 +1,4 @@
-//! Blocks of `main`: typing of its statements, one behind the other.
+//! Blocks of `main`: typing of its statements, one after the other.
 ghost use Rattle.std.specs.Prelude.{◌≡◌, OnOk};
 ghost use Rattle.syntax.specs.SourceViews.{action_tree as source_action, block_tree as source_block};
 ghost use Rattle.typed_tree.specs.BlockTree.{Empty, action_tree, block_tree};
@@ -18,7 +18,7 @@ use std::alloc::{AllocError, Global};
 use syntax::{Action as Written, Expression, Name};
 use typed_tree::{MainStatement, StatementKind};
 
-/// Statements in order. What they declare stays visible behind them.
+/// Statements in order. What they declare stays visible after them.
 #[cycle(statements)]
 pub(crate) fn statements(
     alloc: Global,
@@ -58,7 +58,7 @@ fn one(
     })
 }
 
-/// A block of its own, behind which the names that it declares are forgotten.
+/// A block of its own, after which the names that it declares are forgotten.
 #[cycle(statements)]
 fn inner(
     alloc: Global,

@@ -676,7 +676,7 @@ fn want_kind(at: usize, kind: FunctionKind, first_fault: &mut Option<Fault>)
     }
 }
 
-/// Makes a function visible behind its statements.
+/// Makes a function visible after its statements.
 fn function_is(
     alloc: Global,
     kind: FunctionKind,

@@ -2,7 +2,7 @@
 //!
 //! [`check`] resolves all names and gives each expression its type. `specs/Program.antt` says which program a
 //! source is and which faults it has: each definition gives a value and the list of the faults on the way to it
-//! (`WithFaults` of `expression_types`), and goes on behind a fault, with something harmless in the place of what is
+//! (`WithFaults` of `expression_types`), and goes on after a fault, with something harmless in the place of what is
 //! faulty. `check` answers with the program exactly where the list is empty, and else with the least fault of it:
 //! that with the least offset, and of several there that with the least number. The code keeps one fault, the
 //! least so far.

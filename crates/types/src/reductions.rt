@@ -40,7 +40,7 @@ impl Reductions {
         self.entries.get(&vector).copied()
     }
 
-    /// Puts a vector behind the others. After out of memory nothing is changed.
+    /// Puts a vector after the others. After out of memory nothing is changed.
     pub(crate) fn push(&mut self, vector: usize, reduction: Reduction) -> Result<(), AllocError>
         requires { lookup (nat_eq vector) self.old ≡ None }
         ensures err { OnErr result (self.new ≡ self.old) }

@@ -19,7 +19,7 @@ use std::alloc::{AllocError, Global};
 use syntax::{Action as Written, Expression, Name, Statement};
 use typed_tree::FunctionStatement;
 
-/// Statements in order. What they declare stays visible behind them.
+/// Statements in order. What they declare stays visible after them.
 #[cycle(steps)]
 pub(crate) fn steps(
     alloc: Global,
@@ -53,7 +53,7 @@ fn one(
     step(alloc, &statement.action, checker, first_fault)
 }
 
-/// A block of its own, behind which the names that it declares are forgotten.
+/// A block of its own, after which the names that it declares are forgotten.
 #[cycle(steps)]
 fn inner(
     alloc: Global,

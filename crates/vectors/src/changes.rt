@@ -1,4 +1,4 @@
-//! What an apply changes.
+//! Changes: what an apply changes in vectors.
 
 /// The new entry of a vector at a vertex.
 #[derive(Clone, Copy, Debug, PartialEq, Eq)]

@@ -1,4 +1,4 @@
-//! Why vectors are not put in groups.
+//! Grouping errors: why vectors are not put in groups.
 ghost use Rattle.std.specs.Prelude.{◌≡◌};
 ghost use Rattle.vectors.specs.declared.error.GroupError.TheVariants.{NoMemory};
 

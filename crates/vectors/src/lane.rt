@@ -1,4 +1,4 @@
-//! One vector, lent to be read.
+//! Lane: one vector, lent to be read.
 ghost use Rattle.std.specs.Prelude.{◌≡◌, ◌*◌, ◌<◌, ◌≤◌, ℕ, pos, IfSome, IsSome, length, slice_index_or};
 
 /// One vector, lent to be read. The entry of vertex v stands at place `v * stride + first`.
@@ -28,7 +28,7 @@ impl<'a> Lane<'a> {
         }
     }
 
-    /// The entries by their vertices, where they stand one behind the other: those of a vector that stands alone do.
+    /// The entries by their vertices, where they stand one after the other: those of a vector that stands alone do.
     #[inline(always)]
     pub fn entries(self) -> Option<&'a [i64]>
         ensures entries { IfSome result (λ numbers. (v : ℕ) → slice_index_or numbers.now v (pos 0) ≡ lane_entry self.entry v) }

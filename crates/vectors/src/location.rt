@@ -1,4 +1,4 @@
-//! Where vectors stand.
+//! Vector locations: the group and the column of each vector.
 ghost use Rattle.std.specs.Prelude.{◌≡◌, ◌+◌, ◌*◌, ◌^◌, ◌<◌, ◌≢◌, ℕ, pos, [], IfOk, OnOk, if◌then◌else◌, length, nat_lt, slice_index_or, slice_set, vec_len};
 ghost use Rattle.vectors.specs.Lanes.{lane_entry};
 ghost use Rattle.vectors.specs.Layout.{StandsIn, location_at, number_at, own_location, vector_at, vectors_at};

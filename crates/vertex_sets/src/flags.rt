@@ -4,7 +4,7 @@ ghost use Rattle.std.specs.Prelude.{◌≡◌, ◌↔◌, ℕ, ◌<◌, ◌⊎�
 ghost use Rattle.vertex_sets.specs.VertexSet.{IsAscendingBelow, IsAnswer, all_vertices};
 ghost use Rattle.vertex_sets.specs.Words.{flag_members};
 
-use crate::iter::Iter;
+use crate::iter::VertexIter;
 use std::alloc::{AllocError, Global};
 
 /// A flag for each vertex, true for a member, and the number of members.
@@ -41,7 +41,7 @@ impl FlagSet {
     pub(crate) fn from_members(
         alloc: Global,
         vertices: u32,
-        members: Iter<'_>,
+        members: VertexIter<'_>,
     ) -> Result<FlagSet, AllocError>
         requires { IsAscendingBelow vertices members }
         ensures vertices { IfOk result (λ s. length s.flags.items ≡ vertices) }

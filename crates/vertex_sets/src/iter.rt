@@ -8,7 +8,7 @@ use std::marker::Model;
 
 /// The members of a set that are still to come, ascending.
 #[derive(Drop)]
-pub struct Iter<'a> {
+pub struct VertexIter<'a> {
     members: Rest<'a>,
 }
 
@@ -20,7 +20,7 @@ pub(crate) enum Rest<'a> {
     Worded(WordIter<'a>),
 }
 
-impl<'a> Model for Iter<'a> {
+impl<'a> Model for VertexIter<'a> {
     ghost use Rattle.std.specs.Prelude.{ℕ, List};
     ghost use Rattle.vertex_sets.specs.Remaining.{members_left};
 
@@ -29,41 +29,41 @@ impl<'a> Model for Iter<'a> {
     ghost view = { λ i. members_left i.members };
 }
 
-impl<'a> Iter<'a> {
+impl<'a> VertexIter<'a> {
     /// The elements of a list.
     #[inline]
-    pub(crate) fn of_list(list: &'a [u32]) -> Iter<'a>
+    pub(crate) fn of_list(list: &'a [u32]) -> VertexIter<'a>
         ensures { result ≡ list.now }
     {
-        Iter {
+        VertexIter {
             members: Rest::Listed(list),
         }
     }
 
     /// The vertices whose flags are true.
     #[inline]
-    pub(crate) fn of_flags(flags: &'a [bool]) -> Iter<'a>
+    pub(crate) fn of_flags(flags: &'a [bool]) -> VertexIter<'a>
         requires { length flags.now < 2 ^ 32 }
         ensures { result ≡ flag_members 0 flags.now }
     {
-        Iter {
+        VertexIter {
             members: Rest::Flagged(FlagIter::new(flags)),
         }
     }
 
     /// The vertices whose bits are set.
     #[inline]
-    pub(crate) fn of_words(words: &'a [u64]) -> Iter<'a>
+    pub(crate) fn of_words(words: &'a [u64]) -> VertexIter<'a>
         requires { 64 * length words.now ≤ 2 ^ 32 }
         ensures { result ≡ word_members 0 words.now }
     {
-        Iter {
+        VertexIter {
             members: Rest::Worded(WordIter::new(words)),
         }
     }
 }
 
-impl<'a> Iterator for Iter<'a> {
+impl<'a> Iterator for VertexIter<'a> {
     type Item = u32;
 
     ghost next_gives = { YieldsFirst (λ i. i) };

@@ -6,7 +6,7 @@ ghost use Rattle.vertex_sets.specs.Stored.{members_of, form_of, IsStored};
 
 use crate::flags::FlagSet;
 use crate::form::Form;
-use crate::iter::Iter;
+use crate::iter::VertexIter;
 use crate::list;
 use crate::words::WordSet;
 use std::alloc::{AllocError, Global};
@@ -109,7 +109,7 @@ impl VertexSet {
                 Ok(VertexSet::of(vertices, Members::Listed(list)))
             }
             Form::Flags | Form::Bits => {
-                VertexSet::from_members(alloc, vertices, Iter::of_list(members), form)
+                VertexSet::from_members(alloc, vertices, VertexIter::of_list(members), form)
             }
         }
     }
@@ -118,7 +118,7 @@ impl VertexSet {
     fn from_members(
         alloc: Global,
         vertices: u32,
-        members: Iter<'_>,
+        members: VertexIter<'_>,
         form: Form,
     ) -> Result<VertexSet, AllocError>
         requires { IsAscendingBelow vertices members }
@@ -267,16 +267,16 @@ impl VertexSet {
     /// The members, ascending. To go over them takes `O(k)` for k members as a list, `O(n)` for n
     /// vertices as flags, and `O(k + n / 64)` as bits. It takes no memory.
     #[inline]
-    pub fn iter(&self) -> Iter<'_>
+    pub fn iter(&self) -> VertexIter<'_>
         ensures members { result ≡ self.now.members }
         ensures valid { IsVertexSet self.now }
     {
         // A proof knows the range of a number that is read.
         let _vertices = self.vertices;
         match &self.members {
-            Members::Listed(members) => Iter::of_list(members),
-            Members::Flagged(set) => Iter::of_flags(&set.flags),
-            Members::Worded(set) => Iter::of_words(&set.words),
+            Members::Listed(members) => VertexIter::of_list(members),
+            Members::Flagged(set) => VertexIter::of_flags(&set.flags),
+            Members::Worded(set) => VertexIter::of_words(&set.words),
         }
     }
 

@@ -5,7 +5,7 @@ ghost use Rattle.std.specs.Int.{bit_at};
 ghost use Rattle.vertex_sets.specs.VertexSet.{IsAscendingBelow, IsAnswer, all_vertices, word_count};
 ghost use Rattle.vertex_sets.specs.Words.{word_members};
 
-use crate::iter::Iter;
+use crate::iter::VertexIter;
 use std::alloc::{AllocError, Global};
 
 /// A bit for each vertex, set for a member, and the number of members. Vertex v has bit v % 64 of word
@@ -54,7 +54,7 @@ impl WordSet {
     pub(crate) fn from_members(
         alloc: Global,
         vertices: u32,
-        members: Iter<'_>,
+        members: VertexIter<'_>,
     ) -> Result<WordSet, AllocError>
         requires { IsAscendingBelow vertices members }
         ensures vertices { IfOk result (λ s. length s.words.items ≡ word_count vertices) }

@@ -14,7 +14,7 @@ use schedule::are_independent;
 use std::alloc::{AllocError, Global};
 use typed_tree::{Function, StatementApply, Typed, VertexFilter, push_written};
 
-/// Whether the second of two edge applies gives the same behind the first as beside it: they have the same ends, they
+/// Whether the second of two edge applies gives the same after the first as beside it: they have the same ends, they
 /// are independent, the second depends on no set that the first changes, and neither is asked for a vector that the
 /// other writes. The only error is out of memory.
 pub(crate) fn edges_fit(

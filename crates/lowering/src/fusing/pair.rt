@@ -3,7 +3,7 @@ ghost use Rattle.std.specs.Prelude.{◌≡◌, false, IfOk};
 ghost use Rattle.std.specs.Option.{option_map};
 ghost use Rattle.typed_tree.specs.BlockTree.{action_tree, block_tree};
 ghost use Rattle.typed_tree.specs.ProgramTree.{program_tree};
-ghost use Rattle.plans.specs.Fusing.{company_of, edges_together as edges_done, is_with as does_fuse, together as done_together, vertices_together as vertices_done, with_next};
+ghost use Rattle.plans.specs.Fusing.{fusion_role_of, edges_together as edges_done, is_with as does_fuse, together as done_together, vertices_together as vertices_done, with_next};
 ghost use Rattle.plans.specs.Parts.{edge_apply_tree, together_tree, vertex_apply_tree};
 
 use crate::fusing::applies::{edge_apply_of, vertex_apply_of};
@@ -15,7 +15,7 @@ use schedule::Schedule;
 use std::alloc::{AllocError, Global};
 use typed_tree::{MainStatement, StatementKind, Typed};
 
-/// The two applies that are done together at a statement, where so much is visible and the statements `rest` stand behind
+/// The two applies that are done together at a statement, where so much is visible and the statements `rest` stand after
 /// it: it and the next, if the schedule fuses it with that one and they may be done together. Else it is done alone, and
 /// the answer is `None`. The only error is out of memory.
 pub(crate) fn pair_at(
@@ -26,7 +26,7 @@ pub(crate) fn pair_at(
     statement: &MainStatement,
     rest: &[MainStatement],
 ) -> Result<Option<FusedPair>, AllocError>
-    ensures { IfOk result (λ both. company_of (program_tree program.now) schedule.now depth false statement.now.label (action_tree statement.now.action) (block_tree rest.now) ≡ with_next (option_map together_tree both)) }
+    ensures { IfOk result (λ both. fusion_role_of (program_tree program.now) schedule.now depth false statement.now.label (action_tree statement.now.action) (block_tree rest.now) ≡ with_next (option_map together_tree both)) }
 {
     match rest.first() {
         Some(next) => {
@@ -49,7 +49,7 @@ fn is_with(fused: Option<Fused>, label: Option<usize>) -> bool
     }
 }
 
-/// Two statements that stand one behind the other, where so much is visible at the first, as one operation: two edge
+/// Two statements that stand one after the other, where so much is visible at the first, as one operation: two edge
 /// applies, or two vertex applies, that may be done together. Of all others the answer is `None`. The only error is out
 /// of memory.
 pub(crate) fn together(

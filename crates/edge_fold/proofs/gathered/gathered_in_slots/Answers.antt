@@ -1,11 +1,11 @@
 use Rattle.std.proofs.Common.{rules, ◌≡◌, ◌<◌, ◌≤◌, ◌++◌, ◌∷◌, [], ℤ, List, if◌then◌else◌, length, take, refl, sym, ap, ◌∙◌, subst, arith}
 use Rattle.std.proofs.lemmas.List.{length-take-le, take_more}
-use Rattle.edge_fold.specs.declared.functions.Start.TheVariants as start
+use Rattle.edge_fold.specs.declared.apply_context.FoldStart.TheVariants as start
 use Rattle.edge_fold.specs.declared.gathered.GatheredIn.{GatheredIn}
 use Rattle.edge_fold.specs.declared.vector_accumulator.VectorAccumulator.{VectorAccumulator}
 use Rattle.edge_fold.specs.Gathered.{IsGatheredBy, gathered_for}
 use Rattle.edge_fold.specs.Given.{reduced_at}
-use Rattle.edge_fold.specs.Seeds.{combined}
+use Rattle.edge_fold.specs.FoldStarts.{combined}
 use Rattle.edge_fold.specs.VectorAccumulators.{held_in_with, place_in, reduction_in}
 use Rattle.edge_fold.proofs.Gathering.{gathered_by_more, gathered_more, hidden_slot, onto}
 use Rattle.edge_fold.proofs.gathered.gathered_in_slots.Goals as goal

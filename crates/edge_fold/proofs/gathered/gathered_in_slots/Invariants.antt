@@ -2,11 +2,11 @@ use Rattle.std.proofs.Common.{◌≡◌, ℕ, ◌<◌, ℤ, Bool, if◌then◌el
 use Rattle.apply_options.specs.declared.reduction.Reduction.{Reduction}
 use Rattle.algorithm_meaning.specs.State.{StateValue}
 use Rattle.register_code.specs.Cells.{HasSizes}
-use Rattle.edge_fold.specs.declared.functions.Start.TheVariants as start
+use Rattle.edge_fold.specs.declared.apply_context.FoldStart.TheVariants as start
 use Rattle.edge_fold.specs.Ends.{IsEndTest}
 use Rattle.edge_fold.specs.Gathered.{IsGatheredBy, gathered_for}
 use Rattle.edge_fold.specs.Given.{reduced_at}
-use Rattle.edge_fold.specs.Seeds.{combined}
+use Rattle.edge_fold.specs.FoldStarts.{combined}
 use Rattle.edge_fold.specs.VectorAccumulators.{held_in_with, reduction_in}
 use Rattle.edge_fold.proofs.gathered.gathered_in_slots.Given as goal
 
@@ -14,7 +14,7 @@ use Rattle.edge_fold.proofs.gathered.gathered_in_slots.Given as goal
 abbrev pub invariant-slots : goal.invariant-slots
 invariant-slots l = record {
   reduction : (x : ℕ) (r : Reduction) → reduction_in (take l.place l.slots.slots.items) x r ≡ r → IsGatheredBy r x l.vectors.items;
-  numbers : (m : StateValue) (test : ℕ → Bool) → l.functions.vectors.now.vectors ≡ m.vectors → HasSizes l.functions.sizes.now m → IsEndTest l.to m test
-      → (x v : ℕ) (r : Reduction) (h : ℤ) → v < l.functions.vertices
+  numbers : (m : StateValue) (test : ℕ → Bool) → l.context.vectors.now.vectors ≡ m.vectors → HasSizes l.context.sizes.now m → IsEndTest l.to m test
+      → (x v : ℕ) (r : Reduction) (h : ℤ) → v < l.context.vertices
       → reduced_at r v h (gathered_for x l.vectors.items) ≡ (if test v then held_in_with (combined start.Unit r) (take l.place l.slots.slots.items) x v h else h);
 }

@@ -3,9 +3,9 @@ use Rattle.std.proofs.lemmas.List.Kept.{IsNonDecreasingBy-filter}
 use Rattle.std.specs.List.{filter}
 use Rattle.std.specs.List.Sorted.{IsNonDecreasing}
 use Rattle.kernels.specs.declared.endpoint_filter.EndpointFilter.{EndpointFilter}
-use Rattle.edge_fold.specs.declared.functions.Start.TheVariants as start
+use Rattle.edge_fold.specs.declared.apply_context.FoldStart.TheVariants as start
 use Rattle.edge_fold.specs.Ends.{IsEndTest}
-use Rattle.edge_fold.specs.Seeds.{combined}
+use Rattle.edge_fold.specs.FoldStarts.{combined}
 use Rattle.edge_fold.proofs.Findings.{kept_passes, not_kept}
 use Rattle.edge_fold.proofs.Gathering.{onto}
 use Rattle.edge_fold.proofs.gathered.numbers_in_slot.Goals as goal

@@ -7,7 +7,7 @@ use Rattle.edge_fold.proofs.passing.keep_filtered.Given as goal
 
 -- those that are kept, with those that pass among the rest, are all that pass
 abbrev pub invariant-parts : goal.invariant-parts
-invariant-parts l = (m : StateValue) (test : ℕ → Bool) → l.functions.vectors.now.vectors ≡ m.vectors → HasSizes l.functions.sizes.now m → IsFilterTest l.kernel m test
+invariant-parts l = (m : StateValue) (test : ℕ → Bool) → l.context.vectors.now.vectors ≡ m.vectors → HasSizes l.context.sizes.now m → IsFilterTest l.kernel m test
     → l.kept.items ++ filter test l.rest ≡ l.fn.kept.items ++ filter test l.vertices
 
 abbrev pub decreases-parts : goal.decreases-parts

@@ -1,5 +1,5 @@
 use Rattle.std.proofs.Common.{◌≡◌, drop}
-use Rattle.edge_fold.specs.Together.{reduced_with}
+use Rattle.edge_fold.specs.ReducedContributions.{reduced_with}
 use Rattle.edge_fold.proofs.source_numbers.reduce_each.Given as goal
 
 -- the numbers of the sources that are left, with the number so far, come to the whole

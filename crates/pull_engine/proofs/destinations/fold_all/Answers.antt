@@ -19,7 +19,7 @@ destinations-init c =
       walked = (
         ds,
         c.destinations-destination-items.ensures.degrees,
-        subst (λ (is : List (ℕ × ℕ)). HasWalked a.functions lines (firsts ds) (firsts is) a.scratch.now a.scratch.now) (sym c.into_iter-destination-iterator.ensures.into_iter_gives) (walk_begun a.functions lines (firsts ds) a.scratch.now refl),
+        subst (λ (is : List (ℕ × ℕ)). HasWalked a.context lines (firsts ds) (firsts is) a.scratch.now a.scratch.now) (sym c.into_iter-destination-iterator.ensures.into_iter_gives) (walk_begun a.context lines (firsts ds) a.scratch.now refl),
       );
     }
 
@@ -36,8 +36,8 @@ destinations-preserved c =
       walked = (
         w.0,
         w.1,
-        walk_more a.functions (columns from edges) (firsts w.0) (firsts c.destinations.destination-iterator) (v ∷ []) (firsts c.next.new.self) a.scratch.now c.destinations.scratch then
-            (columns-append from edges) (sym (ap firsts c.in-Some.ensures.steps)) (one_destination a.functions from edges v c.destinations.scratch then c.in_ok-fold_column.ensures) w.2,
+        walk_more a.context (columns from edges) (firsts w.0) (firsts c.destinations.destination-iterator) (v ∷ []) (firsts c.next.new.self) a.scratch.now c.destinations.scratch then
+            (columns-append from edges) (sym (ap firsts c.in-Some.ensures.steps)) (one_destination a.context from edges v c.destinations.scratch then c.in_ok-fold_column.ensures) w.2,
       );
     }
 
@@ -46,5 +46,5 @@ returns c m steps to are is =
     let a = c.args in
     let edges = a.flat.now.edges in
     let w = c.destinations.invariant.walked in
-    walked_all a.functions (passes_words a.from) to edges (firsts w.0) (firsts c.destinations.destination-iterator) a.scratch.now c.destinations.scratch (ap firsts c.in-None.ensures.steps.0)
+    walked_all a.context (passes_words a.from) to edges (firsts w.0) (firsts c.destinations.destination-iterator) a.scratch.now c.destinations.scratch (ap firsts c.in-None.ensures.steps.0)
     (degrees_rise (λ u. sources_of u edges) w.0 w.1) (destinations_agree edges w.0 to w.1 is) w.2 m steps are

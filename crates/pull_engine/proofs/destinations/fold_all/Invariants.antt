@@ -12,5 +12,5 @@ abbrev pub invariant-destinations : goal.invariant-destinations
 invariant-destinations l = record {
   room : length l.block ≡ 128;
   walked : (ds : List (ℕ × ℕ)) × AreDegreesOf (λ u. sources_of u l.flat.edges) ds
-      × HasWalked l.functions (columns (passes_words l.from) l.flat.edges) (firsts ds) (firsts l.destination-iterator) l.fn.scratch l.scratch;
+      × HasWalked l.context (columns (passes_words l.from) l.flat.edges) (firsts ds) (firsts l.destination-iterator) l.fn.scratch l.scratch;
 }

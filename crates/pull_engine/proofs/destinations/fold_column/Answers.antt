@@ -18,9 +18,9 @@ rounds-preserved c =
     let then = c.fold_into.new.self in
     record {
       room = search rules;
-      walked = walk_more a.functions (column_from from d) (sources_of d a.flat.now.edges) c.rounds.neighbours part rest a.scratch.now c.rounds.scratch then
+      walked = walk_more a.context (column_from from d) (sources_of d a.flat.now.edges) c.rounds.neighbours part rest a.scratch.now c.rounds.scratch then
           (column_in_row from d) (parts_of n c.rounds.neighbours part rest c.fill-count.ensures.filled c.fill-count.ensures.rest)
-          (λ m steps es are has. folded_along a.functions m steps (es ++ column d kept) (es ++ column_from from d part) then (ap (λ ks. es ++ column d ks) c.keep_members-kept.ensures.kept) (c.in_ok-fold_into.ensures m steps es are has))
+          (λ m steps es are has. folded_along a.context m steps (es ++ column d kept) (es ++ column_from from d part) then (ap (λ ks. es ++ column d ks) c.keep_members-kept.ensures.kept) (c.in_ok-fold_into.ensures m steps es are has))
           c.rounds.invariant.walked;
     }
 
@@ -28,7 +28,7 @@ pub returns : goal.returns
 returns c =
     let a = c.args in
     let none : c.rounds.neighbours ≡ [] = search rules in
-    walk_done a.functions (column_from (passes_words a.from) a.destination) (sources_of a.destination a.flat.now.edges) c.rounds.neighbours a.scratch.now c.rounds.scratch none c.rounds.invariant.walked
+    walk_done a.context (column_from (passes_words a.from) a.destination) (sources_of a.destination a.flat.now.edges) c.rounds.neighbours a.scratch.now c.rounds.scratch none c.rounds.invariant.walked
 
 pub rounds-init : goal.rounds-init
 rounds-init c =
@@ -37,5 +37,5 @@ rounds-init c =
     let column_of = column_from (passes_words a.from) a.destination in
     record {
       room = search rules;
-      walked = subst (λ (left : List ℕ). HasWalked a.functions column_of all left a.scratch.now a.scratch.now) (sym c.in_-neighbours.ensures) (walk_begun a.functions column_of all a.scratch.now refl);
+      walked = subst (λ (left : List ℕ). HasWalked a.context column_of all left a.scratch.now a.scratch.now) (sym c.in_-neighbours.ensures) (walk_begun a.context column_of all a.scratch.now refl);
     }

@@ -9,7 +9,7 @@ use Rattle.pull_engine.proofs.destinations.fold_column.Given as goal
 abbrev pub invariant-rounds : goal.invariant-rounds
 invariant-rounds l = record {
   room : length l.block ≡ 128;
-  walked : HasWalked l.functions (column_from (passes_words l.from) l.destination) (sources_of l.destination l.flat.edges) l.neighbours l.fn.scratch l.scratch;
+  walked : HasWalked l.context (column_from (passes_words l.from) l.destination) (sources_of l.destination l.flat.edges) l.neighbours l.fn.scratch l.scratch;
 }
 
 abbrev pub decreases-rounds : goal.decreases-rounds

@@ -15,7 +15,7 @@ destinations-preserved c =
     let inside : i < length us = c.destinations-test.true in
     record {
       room = search rules;
-      folded = λ m steps es are has. folded_along c.args.functions m steps _ (es ++ columns from edges (take (i + 1) us)) c.fold_column.new.scratch (columns_next from edges es us i inside)
+      folded = λ m steps es are has. folded_along c.args.context m steps _ (es ++ columns from edges (take (i + 1) us)) c.fold_column.new.scratch (columns_next from edges es us i inside)
           (c.in_ok-fold_column.ensures m steps (es ++ columns from edges (take i us)) are (c.destinations.invariant.folded m steps es are has));
     }
 
@@ -26,4 +26,4 @@ returns c m steps es are has =
     let from = passes_words c.args.from in
     let edges = c.args.flat.now.edges in
     let all : length us ≤ i = c.destinations-test.false in
-    folded_along c.args.functions m steps (es ++ columns from edges (take i us)) (es ++ columns from edges us) c.destinations.scratch (ap (λ ks. es ++ columns from edges ks) (take_all i us all)) (c.destinations.invariant.folded m steps es are has)
+    folded_along c.args.context m steps (es ++ columns from edges (take i us)) (es ++ columns from edges us) c.destinations.scratch (ap (λ ks. es ++ columns from edges ks) (take_all i us all)) (c.destinations.invariant.folded m steps es are has)

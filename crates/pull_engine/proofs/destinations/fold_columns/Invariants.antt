@@ -1,7 +1,7 @@
 use Rattle.std.proofs.Common.{◌≡◌, ℕ, ◌++◌, List, length, take}
 use Rattle.typed_tree.specs.StepTree.{StepsTree}
 use Rattle.algorithm_meaning.specs.State.{StateValue}
-use Rattle.edge_fold.specs.Folded.{AreFunctions, HasFolded}
+use Rattle.edge_fold.specs.Folded.{IsContextOf, HasFolded}
 use Rattle.pull_engine.specs.Columns.{columns}
 use Rattle.push_engine.specs.Words.{passes_words}
 use Rattle.pull_engine.proofs.destinations.fold_columns.Given as goal
@@ -10,6 +10,6 @@ use Rattle.pull_engine.proofs.destinations.fold_columns.Given as goal
 abbrev pub invariant-destinations : goal.invariant-destinations
 invariant-destinations l = record {
   room : length l.block ≡ 128;
-  folded : (m : StateValue) (steps : List StepsTree) (edges : List (ℕ × ℕ)) → AreFunctions l.functions m steps
-      → HasFolded l.functions m steps edges l.fn.scratch → HasFolded l.functions m steps (edges ++ columns (passes_words l.from) l.flat.edges (take l.destination-index l.destinations)) l.scratch;
+  folded : (m : StateValue) (steps : List StepsTree) (edges : List (ℕ × ℕ)) → IsContextOf l.context m steps
+      → HasFolded l.context m steps edges l.fn.scratch → HasFolded l.context m steps (edges ++ columns (passes_words l.from) l.flat.edges (take l.destination-index l.destinations)) l.scratch;
 }

@@ -16,15 +16,15 @@ destinations-preserved c =
     let then = c.fold_column.new.scratch in
     record {
       room = search rules;
-      walked = walk_more a.functions (columns from edges) a.set.now.members c.destinations.destination-iterator (v ∷ []) c.next.new.self a.scratch.now c.destinations.scratch then
-          (columns-append from edges) (sym c.in-Some.ensures.steps) (one_destination a.functions from edges v c.destinations.scratch then c.in_ok-fold_column.ensures) c.destinations.invariant.walked;
+      walked = walk_more a.context (columns from edges) a.set.now.members c.destinations.destination-iterator (v ∷ []) c.next.new.self a.scratch.now c.destinations.scratch then
+          (columns-append from edges) (sym c.in-Some.ensures.steps) (one_destination a.context from edges v c.destinations.scratch then c.in_ok-fold_column.ensures) c.destinations.invariant.walked;
     }
 
 pub returns : goal.returns
 returns c m steps to are is =
     let a = c.args in
     let members = a.set.now.members in
-    walked_all a.functions (passes_words a.from) to a.flat.now.edges members c.destinations.destination-iterator a.scratch.now c.destinations.scratch c.in-None.ensures.steps.0
+    walked_all a.context (passes_words a.from) to a.flat.now.edges members c.destinations.destination-iterator a.scratch.now c.destinations.scratch c.in-None.ensures.steps.0
     (rises a.set.now.vertices members c.iter-destination-items.ensures.valid) (λ u l. sym (is u)) c.destinations.invariant.walked m steps are
 
 pub destinations-init : goal.destinations-init
@@ -33,5 +33,5 @@ destinations-init c =
     let columns_of = columns (passes_words a.from) a.flat.now.edges in
     record {
       room = search rules;
-      walked = subst (λ (left : List ℕ). HasWalked a.functions columns_of a.set.now.members left a.scratch.now a.scratch.now) (sym (c.into_iter-destination-iterator.ensures.into_iter_gives ∙ c.iter-destination-items.ensures.members)) (walk_begun a.functions columns_of a.set.now.members a.scratch.now refl);
+      walked = subst (λ (left : List ℕ). HasWalked a.context columns_of a.set.now.members left a.scratch.now a.scratch.now) (sym (c.into_iter-destination-iterator.ensures.into_iter_gives ∙ c.iter-destination-items.ensures.members)) (walk_begun a.context columns_of a.set.now.members a.scratch.now refl);
     }

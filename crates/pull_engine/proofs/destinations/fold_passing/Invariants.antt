@@ -12,7 +12,7 @@ abbrev pub invariant-parts : goal.invariant-parts
 invariant-parts l = record {
   room : length l.block ≡ 128;
   walked : (ds : List (ℕ × ℕ)) × AreDegreesOf (λ u. sources_of u l.flat.edges) ds
-      × HasPassed l.to l.functions (columns (passes_words l.from) l.flat.edges) (firsts ds) (firsts l.destinations) l.fn.scratch l.scratch;
+      × HasPassed l.to l.context (columns (passes_words l.from) l.flat.edges) (firsts ds) (firsts l.destinations) l.fn.scratch l.scratch;
 }
 
 abbrev pub decreases-parts : goal.decreases-parts

@@ -8,7 +8,7 @@ use Rattle.push_engine.proofs.merge.join_all.Goals as goal
 
 pub found-preserved : goal.found-preserved
 found-preserved c m steps edges_of each has =
-    let f = c.args.functions in
+    let f = c.args.context in
     let fs = c.args.found.now in
     let i = c.found.one-index in
     let one = c.one-item.result in
@@ -23,4 +23,4 @@ returns c m steps edges_of each has =
     let fs = c.args.found.now in
     let i = c.found.one-index in
     let all : length fs ≤ i = c.found-test.false in
-    folded_along c.args.functions m steps _ (flat_map edges_of (pieces_of fs)) c.found.scratch (ap (λ gs. flat_map edges_of (pieces_of gs)) (take_all i fs all)) (c.found.invariant m steps edges_of each has)
+    folded_along c.args.context m steps _ (flat_map edges_of (pieces_of fs)) c.found.scratch (ap (λ gs. flat_map edges_of (pieces_of gs)) (take_all i fs all)) (c.found.invariant m steps edges_of each has)

@@ -8,5 +8,5 @@ use Rattle.push_engine.proofs.merge.join_all.Given as goal
 
 -- the edges of the pieces that have come are folded
 abbrev pub invariant-found : goal.invariant-found
-invariant-found l = (m : StateValue) (steps : List StepsTree) (edges_of : ℕ → List (ℕ × ℕ)) → EachGathered l.functions.vertices m steps edges_of l.found
-    → HasFolded l.functions m steps [] l.fn.scratch → HasFolded l.functions m steps (flat_map edges_of (pieces_of (take l.one-index l.found))) l.scratch
+invariant-found l = (m : StateValue) (steps : List StepsTree) (edges_of : ℕ → List (ℕ × ℕ)) → EachGathered l.context.vertices m steps edges_of l.found
+    → HasFolded l.context m steps [] l.fn.scratch → HasFolded l.context m steps (flat_map edges_of (pieces_of (take l.one-index l.found))) l.scratch

@@ -9,12 +9,12 @@ use Rattle.push_engine.proofs.passing.passing_set.Given as goal
 -- those that pass among the numbers below the next are members
 abbrev pub invariant-parts : goal.invariant-parts
 invariant-parts l = record {
-  vertices : l.set.vertices ≡ l.functions.vertices;
+  vertices : l.set.vertices ≡ l.context.vertices;
   form : l.set.form ≡ form.Bits;
-  below : l.next ≤ l.functions.vertices;
-  members : (m : StateValue) (test : ℕ → Bool) → l.functions.vectors.now.vectors ≡ m.vectors → HasSizes l.functions.sizes.now m → IsTest l.end m test
-      → (v : ℕ) → v < l.functions.vertices → is_member v l.set.members ≡ test v && nat_lt v l.next;
+  below : l.next ≤ l.context.vertices;
+  members : (m : StateValue) (test : ℕ → Bool) → l.context.vectors.now.vectors ≡ m.vectors → HasSizes l.context.sizes.now m → IsTest l.end m test
+      → (v : ℕ) → v < l.context.vertices → is_member v l.set.members ≡ test v && nat_lt v l.next;
 }
 
 abbrev pub decreases-parts : goal.decreases-parts
-decreases-parts l = l.functions.vertices - l.next
+decreases-parts l = l.context.vertices - l.next

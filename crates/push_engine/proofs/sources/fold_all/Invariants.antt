@@ -11,5 +11,5 @@ use Rattle.push_engine.proofs.sources.fold_all.Given as goal
 abbrev pub invariant-sources : goal.invariant-sources
 invariant-sources l = record {
   room : length l.block ≡ 128;
-  walked : (ds : List (ℕ × ℕ)) × AreDegreesOf (λ u. destinations_of u l.flat.edges) ds × HasWalked l.functions (rows_to (passes_words l.to) l.flat.edges) (firsts ds) (firsts l.source-iterator) l.fn.scratch l.scratch;
+  walked : (ds : List (ℕ × ℕ)) × AreDegreesOf (λ u. destinations_of u l.flat.edges) ds × HasWalked l.context (rows_to (passes_words l.to) l.flat.edges) (firsts ds) (firsts l.source-iterator) l.fn.scratch l.scratch;
 }

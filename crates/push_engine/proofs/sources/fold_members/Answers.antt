@@ -16,15 +16,15 @@ sources-preserved c =
     let then = c.fold_row.new.scratch in
     record {
       room = search rules;
-      walked = walk_more a.functions (rows_to to edges) a.set.now.members c.sources.source-iterator (u ∷ []) c.next.new.self a.scratch.now c.sources.scratch then
-          (rows_to-append to edges) (sym c.in-Some.ensures.steps) (one_source a.functions to edges u c.sources.scratch then c.in_ok-fold_row.ensures) c.sources.invariant.walked;
+      walked = walk_more a.context (rows_to to edges) a.set.now.members c.sources.source-iterator (u ∷ []) c.next.new.self a.scratch.now c.sources.scratch then
+          (rows_to-append to edges) (sym c.in-Some.ensures.steps) (one_source a.context to edges u c.sources.scratch then c.in_ok-fold_row.ensures) c.sources.invariant.walked;
     }
 
 pub returns : goal.returns
 returns c m steps from are is =
     let a = c.args in
     let members = a.set.now.members in
-    walked_all a.functions a.flat.now.edges members c.sources.source-iterator a.scratch.now c.sources.scratch from (passes_words a.to) c.in-None.ensures.steps.0
+    walked_all a.context a.flat.now.edges members c.sources.source-iterator a.scratch.now c.sources.scratch from (passes_words a.to) c.in-None.ensures.steps.0
     (rises a.set.now.vertices members c.iter-source-items.ensures.valid) (agree_on_rows from members a.flat.now.edges (λ u l. sym (is u))) c.sources.invariant.walked m steps are
 
 pub sources-init : goal.sources-init
@@ -33,5 +33,5 @@ sources-init c =
     let rows_of = rows_to (passes_words a.to) a.flat.now.edges in
     record {
       room = search rules;
-      walked = subst (λ (left : List ℕ). HasWalked a.functions rows_of a.set.now.members left a.scratch.now a.scratch.now) (sym (c.into_iter-source-iterator.ensures.into_iter_gives ∙ c.iter-source-items.ensures.members)) (walk_begun a.functions rows_of a.set.now.members a.scratch.now refl);
+      walked = subst (λ (left : List ℕ). HasWalked a.context rows_of a.set.now.members left a.scratch.now a.scratch.now) (sym (c.into_iter-source-iterator.ensures.into_iter_gives ∙ c.iter-source-items.ensures.members)) (walk_begun a.context rows_of a.set.now.members a.scratch.now refl);
     }

@@ -8,5 +8,5 @@ use Rattle.push_engine.proofs.sources.fold_members.Given as goal
 abbrev pub invariant-sources : goal.invariant-sources
 invariant-sources l = record {
   room : length l.block ≡ 128;
-  walked : HasWalked l.functions (rows_to (passes_words l.to) l.flat.edges) l.set.members l.source-iterator l.fn.scratch l.scratch;
+  walked : HasWalked l.context (rows_to (passes_words l.to) l.flat.edges) l.set.members l.source-iterator l.fn.scratch l.scratch;
 }

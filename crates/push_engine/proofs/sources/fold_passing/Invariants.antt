@@ -11,7 +11,7 @@ use Rattle.push_engine.proofs.sources.fold_passing.Given as goal
 abbrev pub invariant-parts : goal.invariant-parts
 invariant-parts l = record {
   room : length l.block ≡ 128;
-  walked : (ds : List (ℕ × ℕ)) × AreDegreesOf (λ u. destinations_of u l.flat.edges) ds × HasPassed l.from l.functions (rows_to (passes_words l.to) l.flat.edges) (firsts ds) (firsts l.sources) l.fn.scratch l.scratch;
+  walked : (ds : List (ℕ × ℕ)) × AreDegreesOf (λ u. destinations_of u l.flat.edges) ds × HasPassed l.from l.context (rows_to (passes_words l.to) l.flat.edges) (firsts ds) (firsts l.sources) l.fn.scratch l.scratch;
 }
 
 abbrev pub decreases-parts : goal.decreases-parts

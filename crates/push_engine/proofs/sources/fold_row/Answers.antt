@@ -18,9 +18,9 @@ rounds-preserved c =
     let then = c.fold.new.self in
     record {
       room = search rules;
-      walked = walk_more a.functions (row_to to u) (destinations_of u a.flat.now.edges) c.rounds.neighbours part rest a.scratch.now c.rounds.scratch then
+      walked = walk_more a.context (row_to to u) (destinations_of u a.flat.now.edges) c.rounds.neighbours part rest a.scratch.now c.rounds.scratch then
           (row_in_row to u) (parts_of n c.rounds.neighbours part rest c.fill-count.ensures.filled c.fill-count.ensures.rest)
-          (λ m steps es are has. folded_along a.functions m steps (es ++ row u kept) (es ++ row_to to u part) then (ap (λ ks. es ++ row u ks) c.keep_members-kept.ensures.kept) (c.in_ok-fold.ensures m steps es are has))
+          (λ m steps es are has. folded_along a.context m steps (es ++ row u kept) (es ++ row_to to u part) then (ap (λ ks. es ++ row u ks) c.keep_members-kept.ensures.kept) (c.in_ok-fold.ensures m steps es are has))
           c.rounds.invariant.walked;
     }
 
@@ -28,7 +28,7 @@ pub returns : goal.returns
 returns c =
     let a = c.args in
     let none : c.rounds.neighbours ≡ [] = search rules in
-    walk_done a.functions (row_to (passes_words a.to) a.source) (destinations_of a.source a.flat.now.edges) c.rounds.neighbours a.scratch.now c.rounds.scratch none c.rounds.invariant.walked
+    walk_done a.context (row_to (passes_words a.to) a.source) (destinations_of a.source a.flat.now.edges) c.rounds.neighbours a.scratch.now c.rounds.scratch none c.rounds.invariant.walked
 
 pub rounds-init : goal.rounds-init
 rounds-init c =
@@ -37,5 +37,5 @@ rounds-init c =
     let row_of = row_to (passes_words a.to) a.source in
     record {
       room = search rules;
-      walked = subst (λ (left : List ℕ). HasWalked a.functions row_of all left a.scratch.now a.scratch.now) (sym c.out-neighbours.ensures) (walk_begun a.functions row_of all a.scratch.now refl);
+      walked = subst (λ (left : List ℕ). HasWalked a.context row_of all left a.scratch.now a.scratch.now) (sym c.out-neighbours.ensures) (walk_begun a.context row_of all a.scratch.now refl);
     }

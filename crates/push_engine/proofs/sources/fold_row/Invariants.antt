@@ -9,7 +9,7 @@ use Rattle.push_engine.proofs.sources.fold_row.Given as goal
 abbrev pub invariant-rounds : goal.invariant-rounds
 invariant-rounds l = record {
   room : length l.block ≡ 128;
-  walked : HasWalked l.functions (row_to (passes_words l.to) l.source) (destinations_of l.source l.flat.edges) l.neighbours l.fn.scratch l.scratch;
+  walked : HasWalked l.context (row_to (passes_words l.to) l.source) (destinations_of l.source l.flat.edges) l.neighbours l.fn.scratch l.scratch;
 }
 
 abbrev pub decreases-rounds : goal.decreases-rounds

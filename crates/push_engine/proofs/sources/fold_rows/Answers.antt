@@ -15,7 +15,7 @@ sources-preserved c =
     let inside : i < length us = c.sources-test.true in
     record {
       room = search rules;
-      folded = λ m steps es are has. folded_along c.args.functions m steps _ (es ++ rows_to to edges (take (i + 1) us)) c.fold_row.new.scratch (rows_next to edges es us i inside)
+      folded = λ m steps es are has. folded_along c.args.context m steps _ (es ++ rows_to to edges (take (i + 1) us)) c.fold_row.new.scratch (rows_next to edges es us i inside)
           (c.in_ok-fold_row.ensures m steps (es ++ rows_to to edges (take i us)) are (c.sources.invariant.folded m steps es are has));
     }
 
@@ -26,4 +26,4 @@ returns c m steps es are has =
     let to = passes_words c.args.to in
     let edges = c.args.flat.now.edges in
     let all : length us ≤ i = c.sources-test.false in
-    folded_along c.args.functions m steps (es ++ rows_to to edges (take i us)) (es ++ rows_to to edges us) c.sources.scratch (ap (λ ks. es ++ rows_to to edges ks) (take_all i us all)) (c.sources.invariant.folded m steps es are has)
+    folded_along c.args.context m steps (es ++ rows_to to edges (take i us)) (es ++ rows_to to edges us) c.sources.scratch (ap (λ ks. es ++ rows_to to edges ks) (take_all i us all)) (c.sources.invariant.folded m steps es are has)

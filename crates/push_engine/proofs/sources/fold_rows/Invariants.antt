@@ -1,7 +1,7 @@
 use Rattle.std.proofs.Common.{◌≡◌, ℕ, ◌++◌, List, length, take}
 use Rattle.typed_tree.specs.StepTree.{StepsTree}
 use Rattle.algorithm_meaning.specs.State.{StateValue}
-use Rattle.edge_fold.specs.Folded.{AreFunctions, HasFolded}
+use Rattle.edge_fold.specs.Folded.{IsContextOf, HasFolded}
 use Rattle.push_engine.specs.Rows.{rows_to}
 use Rattle.push_engine.specs.Words.{passes_words}
 use Rattle.push_engine.proofs.sources.fold_rows.Given as goal
@@ -10,6 +10,6 @@ use Rattle.push_engine.proofs.sources.fold_rows.Given as goal
 abbrev pub invariant-sources : goal.invariant-sources
 invariant-sources l = record {
   room : length l.block ≡ 128;
-  folded : (m : StateValue) (steps : List StepsTree) (edges : List (ℕ × ℕ)) → AreFunctions l.functions m steps
-      → HasFolded l.functions m steps edges l.fn.scratch → HasFolded l.functions m steps (edges ++ rows_to (passes_words l.to) l.flat.edges (take l.source-index l.sources)) l.scratch;
+  folded : (m : StateValue) (steps : List StepsTree) (edges : List (ℕ × ℕ)) → IsContextOf l.context m steps
+      → HasFolded l.context m steps edges l.fn.scratch → HasFolded l.context m steps (edges ++ rows_to (passes_words l.to) l.flat.edges (take l.source-index l.sources)) l.scratch;
 }

@@ -3,7 +3,7 @@ use Rattle.typed_tree.specs.BlockTree.{block_tree}
 use Rattle.schedule.specs.Sites.{sites_of}
 use Rattle.schedule.proofs.site.+sites.Given as goal
 
--- the labels so far were put behind, and those of the others are to come
+-- the labels so far were put after, and those of the others are to come
 abbrev pub invariant-push_sites-statements : goal.invariant-push_sites-statements
 invariant-push_sites-statements l = record {
   place : l.behind ≡ l.statement-index;

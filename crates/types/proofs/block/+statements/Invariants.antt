@@ -7,7 +7,7 @@ use Rattle.types.specs.Block.{statements_typed}
 use Rattle.types.specs.Checker.{checker_of}
 use Rattle.types.proofs.block.+statements.Given as goal
 
--- what the statements that are left give behind those so far is what all give
+-- what the statements that are left give after those so far is what all give
 abbrev pub invariant-statements-statements : goal.invariant-statements-statements
 invariant-statements-statements l =
     (outcome l.fn.first_fault (statements_typed (checker_of l.fn.checker) Empty (source_block l.block))

@@ -7,7 +7,7 @@ use Rattle.types.specs.Step.{steps_typed}
 use Rattle.types.specs.Checker.{checker_of}
 use Rattle.types.proofs.step.+steps.Given as goal
 
--- what the statements that are left give behind those so far is what all give
+-- what the statements that are left give after those so far is what all give
 abbrev pub invariant-steps-statements : goal.invariant-steps-statements
 invariant-steps-statements l =
     (outcome l.fn.first_fault (steps_typed (checker_of l.fn.checker) NoStep (source_block l.block))

@@ -1,8 +1,8 @@
 use Rattle.std.proofs.Common.{◌<◌, ◌+◌, ℤ, length, drop, ap, ◌∙◌}
-use Rattle.kernels.specs.Gifts.{gift_at}
+use Rattle.kernels.specs.ContributionColumns.{contribution_at}
 use Rattle.edge_fold.specs.Given.{given_from, reduced_at}
 use Rattle.edge_fold.specs.Held.{held_with}
-use Rattle.edge_fold.specs.Seeds.{combined, opening_seed, start_of}
+use Rattle.edge_fold.specs.FoldStarts.{combined, opening_seed, start_of}
 use Rattle.edge_fold.proofs.Folds.{one_pair_more}
 use Rattle.edge_fold.proofs.accumulator.Accumulator.join_all.Goals as goal
 
@@ -10,9 +10,9 @@ pub pairs-preserved : goal.pairs-preserved
 pairs-preserved c = λ v h.
     let a = c.args in
     let k = c.pairs.k in
-    let row = gift_at a.gift in
+    let row = contribution_at a.contribution in
     let ds = a.destinations.now in
     let inside : k < length ds = c.pairs-test.true in
-    ap (λ (n : ℤ). reduced_at a.reduction v n (given_from a.gift.vector row (k + 1) (drop (k + 1) ds))) (c.in_ok-join_pair.ensures v h)
-    ∙ one_pair_more a.reduction v a.gift.vector (held_with (combined (start_of a.opening) a.reduction) c.pairs.self v (opening_seed a.opening v h)) row k ds inside
+    ap (λ (n : ℤ). reduced_at a.reduction v n (given_from a.contribution.vector row (k + 1) (drop (k + 1) ds))) (c.in_ok-join_pair.ensures v h)
+    ∙ one_pair_more a.reduction v a.contribution.vector (held_with (combined (start_of a.opening) a.reduction) c.pairs.self v (opening_seed a.opening v h)) row k ds inside
     ∙ c.pairs.invariant v h

@@ -2,7 +2,7 @@ use Rattle.std.proofs.Common.{rules, ◌≡◌, ℕ, ◌<◌, ◌++◌, ◌∷�
 use Rattle.std.proofs.lemmas.Int.{to_z-of_z}
 use Rattle.std.proofs.lemmas.List.{get_or_default}
 use Rattle.algorithm_meaning.specs.Arithmetic.{reduced}
-use Rattle.edge_fold.specs.Seeds.{combined, opening_seed, start_of}
+use Rattle.edge_fold.specs.FoldStarts.{combined, opening_seed, start_of}
 use Rattle.edge_fold.proofs.Entries.{joined_again, joined_new, stays_most, still_listed, unequal}
 use Rattle.edge_fold.proofs.JoinedSlots.{combined_more}
 use Rattle.edge_fold.proofs.accumulator.Accumulator.join_inside.Goals as goal

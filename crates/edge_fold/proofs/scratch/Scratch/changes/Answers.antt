@@ -13,7 +13,7 @@ use Rattle.edge_fold.proofs.scratch.Scratch.changes.Goals as goal
 pub returns-clause-changes : goal.returns-clause-changes
 returns-clause-changes c m steps edges test are is has old x r by long =
     let flushed = c.flush.new.self in
-    let f = c.args.functions in
+    let f = c.args.context in
     let n = f.vertices in
     let o = entry m.vectors x in
     let g = all_given m steps in

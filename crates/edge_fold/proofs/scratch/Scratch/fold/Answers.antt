@@ -8,7 +8,7 @@ use Rattle.edge_fold.proofs.scratch.Scratch.fold.Goals as goal
 pub returns-in-Some : goal.returns-in-Some
 returns-in-Some c m steps edges are has x r by =
     let now = c.args.self.now in
-    let f = c.args.functions in
+    let f = c.args.context in
     let ds = c.args.destinations.now in
     let source = c.args.source in
     let sent = c.in-Some.sent in

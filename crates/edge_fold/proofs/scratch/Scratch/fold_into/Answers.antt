@@ -8,7 +8,7 @@ use Rattle.edge_fold.proofs.scratch.Scratch.fold_into.Goals as goal
 pub returns-in-Some : goal.returns-in-Some
 returns-in-Some c m steps edges are has x r by =
     let now = c.args.self.now in
-    let f = c.args.functions in
+    let f = c.args.context in
     let d = c.args.destination in
     let ss = c.args.sources.now in
     let sent = c.in-Some.sent in

@@ -8,13 +8,13 @@ use Rattle.edge_fold.proofs.scratch.Scratch.gather.Goals as goal
 
 pub returns-then-destinations-room : goal.returns-then-destinations-room
 returns-then-destinations-room c m steps edges are has x r by =
-    folded_later c.args.functions m steps edges (row c.args.source c.args.destinations.now) c.args.self.now _ x r refl c.add.ensures.waiting (has x r by)
+    folded_later c.args.context m steps edges (row c.args.source c.args.destinations.now) c.args.self.now _ x r refl c.add.ensures.waiting (has x r by)
 
 pub returns : goal.returns
 returns c m steps edges are has =
     let now = c.args.self.now in
     let then = c.flush.new.self in
-    let f = c.args.functions in
+    let f = c.args.context in
     let s = c.args.source in
     let ds = c.args.destinations.now in
     let k = c.room-room.result in

@@ -8,13 +8,13 @@ use Rattle.edge_fold.proofs.scratch.Scratch.gather_into.Goals as goal
 
 pub returns-then-sources-room : goal.returns-then-sources-room
 returns-then-sources-room c m steps edges are has x r by =
-    folded_later c.args.functions m steps edges (column c.args.destination c.args.sources.now) c.args.self.now _ x r refl c.add_into.ensures.waiting (has x r by)
+    folded_later c.args.context m steps edges (column c.args.destination c.args.sources.now) c.args.self.now _ x r refl c.add_into.ensures.waiting (has x r by)
 
 pub returns : goal.returns
 returns c m steps edges are has =
     let now = c.args.self.now in
     let then = c.flush.new.self in
-    let f = c.args.functions in
+    let f = c.args.context in
     let d = c.args.destination in
     let ss = c.args.sources.now in
     let k = c.room-room.result in

@@ -1,8 +1,8 @@
 use Rattle.std.proofs.Common.{ℕ, ◌<◌, ℤ, if◌then◌else◌, List, take, sym, ap, ◌∙◌}
-use Rattle.edge_fold.specs.declared.functions.Start.TheVariants as start
+use Rattle.edge_fold.specs.declared.apply_context.FoldStart.TheVariants as start
 use Rattle.edge_fold.specs.Folded.{waiting}
 use Rattle.edge_fold.specs.Given.{all_given, given_on, pairs, reduced_at}
-use Rattle.edge_fold.specs.Seeds.{combined}
+use Rattle.edge_fold.specs.FoldStarts.{combined}
 use Rattle.edge_fold.specs.VectorAccumulators.{active, held_in_with}
 use Rattle.edge_fold.proofs.JoinedSlots.{unit_entries}
 use Rattle.edge_fold.proofs.Meaning.{filtered_edges}
@@ -11,7 +11,7 @@ use Rattle.edge_fold.proofs.scratch.Scratch.gathered.Goals as goal
 pub returns : goal.returns
 returns c m steps edges test are is has unit x r by =
     let flushed = c.flush.new.self in
-    let f = c.args.functions in
+    let f = c.args.context in
     let g = all_given m steps in
     let ss = active flushed.slots in
     let none = ap (λ (k : ℕ). pairs (take k flushed.pairs.sources) (take k flushed.pairs.destinations)) c.in_ok-flush.ensures.none in

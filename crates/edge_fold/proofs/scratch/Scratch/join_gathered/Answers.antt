@@ -7,7 +7,7 @@ use Rattle.edge_fold.proofs.scratch.Scratch.join_gathered.Goals as goal
 
 pub returns : goal.returns
 returns c m steps edges more has are x r by =
-    let f = c.args.functions in
+    let f = c.args.context in
     let gs = c.args.gathered.now.vectors.items in
     let is = are x r by in
     let value = c.deref.ensures.value in

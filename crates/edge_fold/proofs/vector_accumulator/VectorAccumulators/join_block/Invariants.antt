@@ -6,7 +6,7 @@ use Rattle.edge_fold.specs.Given.{IsBy, given_from}
 use Rattle.edge_fold.specs.VectorAccumulators.{HaveJoined}
 use Rattle.edge_fold.proofs.vector_accumulator.VectorAccumulators.join_block.Given as goal
 
--- what the first gifts came to
-abbrev pub invariant-gifts : goal.invariant-gifts
-invariant-gifts l = (x : ℕ) (r : Reduction) → ((i : ℕ) → i < length l.destinations → IsBy r x (given_by l.kernel.gives.items (cells_at l.block.numbers.items i)))
-    → HaveJoined l.functions x r l.fn.self l.self (given_from x (λ i. given_by (take l.place l.kernel.gives.items) (cells_at l.block.numbers.items i)) 0 l.destinations)
+-- what the first contributions came to
+abbrev pub invariant-contributions : goal.invariant-contributions
+invariant-contributions l = (x : ℕ) (r : Reduction) → ((i : ℕ) → i < length l.destinations → IsBy r x (given_by l.kernel.gives.items (cells_at l.block.numbers.items i)))
+    → HaveJoined l.context x r l.fn.self l.self (given_from x (λ i. given_by (take l.place l.kernel.gives.items) (cells_at l.block.numbers.items i)) 0 l.destinations)

@@ -8,7 +8,7 @@ use Rattle.edge_fold.proofs.vector_accumulator.VectorAccumulators.join_gathered.
 
 pub vectors-preserved : goal.vectors-preserved
 vectors-preserved c = λ x r by.
-    let f = c.args.functions in
+    let f = c.args.context in
     let gs = c.args.gathered.now in
     let i = c.vectors.of_vector-index in
     let g = c.of_vector-item.result in
@@ -26,4 +26,4 @@ returns c x r by =
     let gs = c.args.gathered.now in
     let i = c.vectors.of_vector-index in
     let all : length gs ≤ i = c.vectors-test.false in
-    joined_alike c.args.functions x r c.args.self.now c.vectors.self _ _ (λ v n. ap (λ hs. reduced_at r v n (gathered_for x hs)) (take_all i gs all)) (c.vectors.invariant x r by)
+    joined_alike c.args.context x r c.args.self.now c.vectors.self _ _ (λ v n. ap (λ hs. reduced_at r v n (gathered_for x hs)) (take_all i gs all)) (c.vectors.invariant x r by)

@@ -6,4 +6,4 @@ use Rattle.edge_fold.proofs.vector_accumulator.VectorAccumulators.join_gathered.
 
 -- what was gathered for the first vectors is joined
 abbrev pub invariant-vectors : goal.invariant-vectors
-invariant-vectors l = (x : ℕ) (r : Reduction) → IsGatheredBy r x l.gathered → HaveJoined l.functions x r l.fn.self l.self (gathered_for x (take l.of_vector-index l.gathered))
+invariant-vectors l = (x : ℕ) (r : Reduction) → IsGatheredBy r x l.gathered → HaveJoined l.context x r l.fn.self l.self (gathered_for x (take l.of_vector-index l.gathered))

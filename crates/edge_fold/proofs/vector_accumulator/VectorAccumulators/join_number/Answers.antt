@@ -3,7 +3,7 @@ use Rattle.std.proofs.lemmas.Int.{to_z-of_z}
 use Rattle.edge_fold.specs.declared.vector_accumulator.VectorAccumulator.{VectorAccumulator}
 use Rattle.edge_fold.specs.Given.{each_given, reduced_at}
 use Rattle.edge_fold.specs.Held.{held_with}
-use Rattle.edge_fold.specs.Seeds.{combined, first_entry, opening_seed, start_of}
+use Rattle.edge_fold.specs.FoldStarts.{combined, first_entry, opening_seed, start_of}
 use Rattle.edge_fold.proofs.JoinedSlots.{along, equal, joined_slot}
 use Rattle.edge_fold.proofs.vector_accumulator.VectorAccumulators.join_number.Goals as goal
 
@@ -13,7 +13,7 @@ returns c x r own =
     let sent = c.args.sent in
     let p = c.in_ok-place.place in
     let ds = c.args.destinations.now in
-    let f = c.args.functions in
+    let f = c.args.context in
     let number = sent.number in
     let fits : FitsSigned w64 number = search rules in
     let was : VectorAccumulator = c.index_mut.result.now in

@@ -4,7 +4,7 @@ use Rattle.edge_fold.specs.declared.vector_accumulator.VectorAccumulator.{Vector
 use Rattle.edge_fold.specs.Gathered.{numbers_of}
 use Rattle.edge_fold.specs.Given.{reduced_at}
 use Rattle.edge_fold.specs.Held.{held_with}
-use Rattle.edge_fold.specs.Seeds.{combined, first_entry, opening_seed, start_of}
+use Rattle.edge_fold.specs.FoldStarts.{combined, first_entry, opening_seed, start_of}
 use Rattle.edge_fold.proofs.JoinedSlots.{along, equal, joined_slot}
 use Rattle.edge_fold.proofs.vector_accumulator.VectorAccumulators.join_numbers.Goals as goal
 
@@ -13,7 +13,7 @@ returns c x r own =
     let now = c.place.new.self in
     let of = c.args.of_vector.now in
     let p = c.in_ok-place.place in
-    let f = c.args.functions in
+    let f = c.args.context in
     let was : VectorAccumulator = c.index_mut.result.now in
     let few : now.used ≤ length now.slots.items = search rules in
     let at = c.in_ok-place.ensures.place in

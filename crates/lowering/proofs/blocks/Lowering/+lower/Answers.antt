@@ -6,7 +6,7 @@ use Rattle.typed_tree.specs.declared.statement.MainStatement.{MainStatement}
 use Rattle.typed_tree.specs.BlockTree.{If, IfElse, While, action_tree, block_tree}
 use Rattle.typed_tree.specs.ProgramTree.{program_tree}
 use Rattle.typed_tree.proofs.Blocks.{action_tree-If, action_tree-IfElse, action_tree-While, action_tree-For}
-use Rattle.plans.specs.Fusing.{company_of}
+use Rattle.plans.specs.Fusing.{fusion_role_of}
 use Rattle.plans.specs.Instruction.{UnlessBelow, Jump, Turn, Advance}
 use Rattle.plans.specs.Plan.{IsWithin, behind, behind_all, in_loop, loop_step, plain, plan, plan_all}
 use Rattle.plans.proofs.Depths.{within_behind_all}
@@ -28,7 +28,7 @@ put_all-statements-preserved t c =
     let whole = plan_all p s (length a) (depth_of c.args.visible.now) false (block_tree c.args.statements.now) in
     let here : MainStatement = c.in-Some.statement.now in
     let rest = block_tree c.in-Some.rest.now in
-    let company = company_of p s d c.statements.is_done here.label (action_tree here.action) rest in
+    let company = fusion_role_of p s d c.statements.is_done here.label (action_tree here.action) rest in
     let left : c.statements.left.now ≡ here ∷ c.in-Some.rest.now = search rules in
     let before = subst (λ (ls : List MainStatement). HasPut p s whole a b d c.statements.is_done (block_tree ls)) left c.statements.invariant.put in
     let put = has_put_next p s whole a b k d c.statements.is_done here.number here.label (action_tree here.action) rest before c.in_ok-is_done.ensures.code in

@@ -10,7 +10,7 @@ use Rattle.register_code.specs.Cells.{HasSizes}
 use Rattle.kernels.specs.declared.kernel.FilterKernel.{FilterKernel}
 use Rattle.kernels.specs.Kernels.{IsFilterKernel}
 use Rattle.plans.specs.declared.set_expression.SetExpression.{SetExpression}
-use Rattle.plans.specs.Functions.{AreFunctions}
+use Rattle.plans.specs.Functions.{AreFunctionKernels}
 use Rattle.plans.specs.SetExpression.{set_value}
 use Rattle.vertex_sets.specs.VertexSet.{VertexSubset}
 use Rattle.run_state.specs.State.{RunState}
@@ -26,7 +26,7 @@ returns-in-Some-get-clause-members c =
     let m : StateValue = record s.sets.state { vectors = s.vectors.vectors } in
     let has : HasSizes c.sizes.result.now m = subst (λ (zs : List ℤ). HasSizes zs m) (sym c.sizes.ensures) (has_sizes m) in
     if_ok_more c.filtered.result _ _
-    (λ (set : VertexSubset) given (p : ProgramTree) (g : GraphValue) (are : AreFunctions c.args.functions.now p) many.
+    (λ (set : VertexSubset) given (p : ProgramTree) (g : GraphValue) (are : AreFunctionKernels c.args.functions.now p) many.
     let steps = steps_of (slice_get p.filters function) in
     let is : IsFilterKernel c.get-filter.result.now steps = subst (λ (k : FilterKernel). IsFilterKernel k steps) (sym c.get-filter.ensures) (are.filter function) in
     given steps m is refl has

@@ -1,0 +1,45 @@
+//! Whole texts: scripts that are at hand from their first byte to their last.
+ghost use Rattle.std.specs.Prelude.{◌≡◌};
+ghost use Rattle.scripts.specs.Script.{taken_by};
+ghost use Rattle.scripts.specs.Text.{RunsText};
+
+use crate::error::ScriptError;
+use crate::programs::Programs;
+use crate::script_state::ScriptState;
+use crate::scripts::script;
+use devices::{Drain, Text, TextFeed};
+use std::alloc::Global;
+use std::marker::Brand;
+
+/// Runs the script that a text is, as [`script`] does.
+///
+/// Errors: `WriteFailed` where the writer failed in this call, or `NoMemory`; never `ReadFailed`. What was
+/// written is then a beginning of the replies to the text.
+pub fn run_text<P: Programs, W: Drain>(
+    alloc: Global,
+    programs: &P,
+    text: &[u8],
+    writer: &mut W,
+) -> (Result<bool, ScriptError>, ScriptState)
+    ensures { RunsText (P.trees programs.now) text.now
+        (taken_by (W.taken writer.old) (W.failures writer.old))
+        (taken_by (W.taken writer.new) (W.failures writer.new)) result.0 }
+{
+    run_known::<Brand, P, W>(alloc, programs, text, writer)
+}
+
+/// Runs the script that a text is, which contracts know by a type.
+fn run_known<T: Text, P: Programs, W: Drain>(
+    alloc: Global,
+    programs: &P,
+    text: &[u8],
+    writer: &mut W,
+) -> (Result<bool, ScriptError>, ScriptState)
+    requires { text.now ≡ T.text }
+    ensures { RunsText (P.trees programs.now) text.now
+        (taken_by (W.taken writer.old) (W.failures writer.old))
+        (taken_by (W.taken writer.new) (W.failures writer.new)) result.0 }
+{
+    let mut reader: TextFeed<'_, T> = TextFeed::new(text);
+    script(alloc, programs, &mut reader, writer)
+}
