@@ -1,5 +1,6 @@
 -- A program for tests of scripts.
 use Rattle.std.specs.Prelude.{[], None}
+use Rattle.typed_tree.specs.BlockTree.{Empty}
 use Rattle.typed_tree.specs.ProgramTree.{ProgramTree}
 
 -- the program that declares nothing and does nothing
@@ -13,6 +14,6 @@ empty_program = record {
   edge_functions = [];
   vertex_functions = [];
   filters = [];
-  main = [];
+  main = Empty;
   schedule = [];
 }

@@ -197,5 +197,7 @@ fn replies_before_it_reads_on(rt: HostRuntime) {
 #[test]
 fn ends_where_a_run_lacks_memory(rt: HostRuntime) {
     let (result, written) = run(rt.alloc(), b"vertices 4\nrun 1 9 1\nedges\n", usize::MAX);
-    assert!(rt; result == Err(ScriptError::NoMemory) && written.as_slice() == b"open 4\n");
+    assert!(rt;
+        result == Err(ScriptError::NoMemory) && written.as_slice() == b"open 4\n".as_slice()
+    );
 }
