@@ -1,6 +1,6 @@
 use Rattle.std.proofs.Common.{◌≡◌, ◌++◌, map}
 use Rattle.algorithm_meaning.specs.Shown.{named_set}
-use Rattle.plain_run.proofs.show.name_sets.Given as goal
+use Rattle.plain_run.proofs.outcome.name_sets.Given as goal
 
 -- what is named, and what is still to be, are all
 abbrev pub invariant-sets : goal.invariant-sets

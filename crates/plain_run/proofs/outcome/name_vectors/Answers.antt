@@ -1,7 +1,7 @@
 use Rattle.std.proofs.Common.{◌≡◌, length, List, ◌++◌, ap, sym, ◌∙◌, rules, append-nil, drop}
 use Rattle.algorithm_meaning.specs.declared.outcome.NamedVector.{NamedVector}
 use Rattle.algorithm_meaning.proofs.Lists.{nothing_is_named}
-use Rattle.plain_run.proofs.show.name_vectors.Goals as goal
+use Rattle.plain_run.proofs.outcome.name_vectors.Goals as goal
 
 pub returns-in_default : goal.returns-in_default
 returns-in_default c =

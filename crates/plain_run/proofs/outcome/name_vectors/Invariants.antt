@@ -1,6 +1,6 @@
 use Rattle.std.proofs.Common.{◌≡◌, ◌++◌, drop}
 use Rattle.algorithm_meaning.specs.Shown.{named_vectors}
-use Rattle.plain_run.proofs.show.name_vectors.Given as goal
+use Rattle.plain_run.proofs.outcome.name_vectors.Given as goal
 
 -- what is named, and what is still to be, are all
 abbrev pub invariant-vectors : goal.invariant-vectors

@@ -5,7 +5,7 @@ use Rattle.std.proofs.lemmas.List.FromFn.{map-range_with_len_more}
 use Rattle.algorithm_meaning.specs.Arithmetic.{wrapped}
 use Rattle.algorithm_meaning.specs.Meaning.{out_degree}
 use Rattle.run_state.proofs.Degrees.{degree}
-use Rattle.run_state.proofs.opening.out_degrees.Goals as goal
+use Rattle.run_state.proofs.initial_vectors.out_degrees.Goals as goal
 
 pub vertices-preserved : goal.vertices-preserved
 vertices-preserved c =

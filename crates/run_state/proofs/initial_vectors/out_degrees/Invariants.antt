@@ -2,7 +2,7 @@ use Rattle.std.proofs.Common.{◌≡◌, map, pos}
 use Rattle.std.specs.List.{range_with_len}
 use Rattle.algorithm_meaning.specs.Arithmetic.{wrapped}
 use Rattle.algorithm_meaning.specs.Meaning.{out_degree}
-use Rattle.run_state.proofs.opening.out_degrees.Given as goal
+use Rattle.run_state.proofs.initial_vectors.out_degrees.Given as goal
 
 -- the degrees of the vertices so far
 abbrev pub invariant-vertices : goal.invariant-vertices

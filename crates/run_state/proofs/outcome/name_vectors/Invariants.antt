@@ -1,6 +1,6 @@
 use Rattle.std.proofs.Common.{◌≡◌, ◌++◌, drop}
 use Rattle.algorithm_meaning.specs.Shown.{named_vectors}
-use Rattle.run_state.proofs.show.name_vectors.Given as goal
+use Rattle.run_state.proofs.outcome.name_vectors.Given as goal
 
 -- what is named, and what is still to be, are all
 abbrev pub invariant-vectors : goal.invariant-vectors
