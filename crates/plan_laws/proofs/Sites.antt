@@ -1,5 +1,5 @@
 -- Where the two statements of a fusing stand.
-use Rattle.std.proofs.Common.{◌≡◌, refl, ap, sym, subst, ◌∙◌, inl, inr, ◌⊎◌, ℕ, suc, ◌+◌, ◌≤◌, nat_eq, cond, Bool, true, false, List, [], ◌∷◌, ◌++◌, length, map, arith, Option, Some, None}
+use Rattle.std.proofs.Common.{◌≡◌, refl, ap, sym, subst, ◌∙◌, inl, inr, ◌⊎◌, ℕ, suc, ◌≤◌, nat_eq, cond, Bool, true, false, List, [], ◌∷◌, ◌++◌, map, arith, Option, Some, None}
 use Rattle.std.specs.Map.{lookup}
 use Rattle.std.proofs.lemmas.Bool.{eqb-true, eqb-false}
 use Rattle.std.proofs.lemmas.List.{map-append}
@@ -8,7 +8,7 @@ use Rattle.typed_tree.specs.declared.apply.StatementApply.{StatementApply}
 use Rattle.typed_tree.specs.BlockTree.{ActionTree, If, IfElse, While, For, BlockTree, Empty, Then}
 use Rattle.typed_tree.specs.ProgramTree.{ProgramTree}
 use Rattle.schedule.specs.declared.site.Site.{Site}
-use Rattle.schedule.specs.Calls.{apply_at, apply_in, is_label, is_next}
+use Rattle.schedule.specs.Calls.{apply_in, is_label, is_next}
 use Rattle.schedule.specs.Laws.{IsFusedWell}
 use Rattle.schedule.specs.Sites.{apply_of, label_of, site_at, site_of, sites_in, sites_of}
 use Rattle.type_laws.specs.LabelPlaces.{inner_places, label_places, own_place}
@@ -100,12 +100,12 @@ module _ (first second : ℕ) where
     located_inside (If c body) site is next = located body site is next
     located_inside (IfElse c body other) site is next =
         elim (found_in_two (sites_of body) (sites_of other) first site is) [
-          inl h ↦
+          | inl h ↦
               wider (λ s t. AreNeighbours s t body) (λ s t. AreNeighboursInside s t (IfElse c body other)) (sites_of body) (sites_of body ++ sites_of other) first second site.apply (λ s t n. inl n)
-                  (λ a has. has_left (sites_of body) (sites_of other) second a has) (located body site h next)
+              (λ a has. has_left (sites_of body) (sites_of other) second a has) (located body site h next)
           | inr h ↦
               wider (λ s t. AreNeighbours s t other) (λ s t. AreNeighboursInside s t (IfElse c body other)) (sites_of other) (sites_of body ++ sites_of other) first second site.apply (λ s t n. inr n)
-                  (λ a has. has_right (sites_of body) (sites_of other) second a has) (located other site h next)
+              (λ a has. has_right (sites_of body) (sites_of other) second a has) (located other site h next)
         ]
     located_inside (While c body) site is next = located body site is next
     located_inside (For name start end body) site is next = located body site is next
@@ -118,15 +118,15 @@ module _ (first second : ℕ) where
         let own = site_at label action rest in
         let inner = sites_in action in
         elim (found_in_two own (inner ++ sites_of rest) first site is) [
-          inl h ↦ located_here number label action rest site h next
+          | inl h ↦ located_here number label action rest site h next
           | inr h ↦
               elim (found_in_two inner (sites_of rest) first site h) [
-                inl k ↦
+                | inl k ↦
                     wider (λ s t. AreNeighboursInside s t action) (λ s t. AreNeighbours s t b) inner (sites_of b) first second site.apply (λ s t n. inr (inl n))
-                        (λ a has. has_right own (inner ++ sites_of rest) second a (has_left inner (sites_of rest) second a has)) (located_inside action site k next)
+                    (λ a has. has_right own (inner ++ sites_of rest) second a (has_left inner (sites_of rest) second a has)) (located_inside action site k next)
                 | inr k ↦
                     wider (λ s t. AreNeighbours s t rest) (λ s t. AreNeighbours s t b) (sites_of rest) (sites_of b) first second site.apply (λ s t n. inr (inr n))
-                        (λ a has. has_right own (inner ++ sites_of rest) second a (has_right inner (sites_of rest) second a has)) (located rest site k next)
+                    (λ a has. has_right own (inner ++ sites_of rest) second a (has_right inner (sites_of rest) second a has)) (located rest site k next)
               ]
         ]
 

@@ -1,5 +1,5 @@
 -- A plan around the instruction of two fused statements.
-use Rattle.std.proofs.Common.{◌≡◌, refl, ap, sym, subst, ◌∙◌, inl, inr, ◌⊎◌, ℕ, suc, ◌+◌, ◌<◌, ◌≤◌, nat_eq, Bool, true, false, if◌then◌else◌, List, [], ◌∷◌, ◌++◌, length, length-append, arith, Option, Some, None}
+use Rattle.std.proofs.Common.{◌≡◌, refl, ap, sym, subst, ◌∙◌, inl, inr, ℕ, suc, ◌+◌, ◌<◌, ◌≤◌, nat_eq, Bool, true, false, if◌then◌else◌, List, [], ◌∷◌, ◌++◌, length, length-append, arith, Option, Some, None}
 use Rattle.std.specs.List.{AllByRecursion}
 use Rattle.std.proofs.lemmas.Bool.{eq-eqb, eqb-true}
 use Rattle.std.proofs.lemmas.List.{append_assoc}
@@ -13,13 +13,13 @@ use Rattle.apply_options.specs.declared.apply_schedule.Fused.TheVariants.{With, 
 use Rattle.apply_options.specs.ScheduleTree.{ScheduleTree, choice_at, choice_of}
 use Rattle.schedule.specs.Laws.{FusesInPairs}
 use Rattle.plans.specs.declared.depth.Depth.{Depth}
-use Rattle.plans.specs.Instruction.{OperationTree, InstructionTree, Unless, Jump, Turn, Do, Enter, UnlessBelow, Advance}
-use Rattle.plans.specs.Fusing.{Company, Alone, WithNext, WithPrevious, EdgeApplyTree, VertexApplyTree, company_of, edge_apply_of, edges_together, either, is_with, takes_next, together, vertex_apply_of, vertices_together, with_next}
-use Rattle.plans.specs.Plan.{behind, chosen, in_loop, loop_step, plain, plan, plan_all, plan_in, size, size_all, size_in, with_integer}
+use Rattle.plans.specs.Instruction.{OperationTree, InstructionTree, Jump, Advance}
+use Rattle.plans.specs.Fusing.{Company, Alone, WithNext, EdgeApplyTree, VertexApplyTree, company_of, edge_apply_of, edges_together, either, is_with, takes_next, together, vertex_apply_of, vertices_together, with_next}
+use Rattle.plans.specs.Plan.{behind, chosen, in_loop, loop_step, plain, plan, plan_all, plan_in, size, size_all, size_in}
 use Rattle.type_laws.specs.Numbers.{InOrder, inner_numbers, numbers}
 use Rattle.plan_laws.specs.Neighbours.{AreNeighbours, AreNeighboursInside, BeginsWith, StatementTree}
 use Rattle.plan_laws.specs.OneInstruction.{AreTogether, IsOfNeither}
-use Rattle.plan_laws.proofs.Counted.{AreAscending, AreBetween, action_between, block_between, company_between, in_two, inside_ascend, neighbours_ascend, neither_above, neither_below}
+use Rattle.plan_laws.proofs.Counted.{action_between, block_between, company_between, in_two, inside_ascend, neighbours_ascend, neither_above, neither_below}
 use Rattle.plan_laws.proofs.Pairs.{OneDoes}
 use Rattle.plan_laws.proofs.Sizes.{all_two}
 
@@ -228,7 +228,7 @@ module _ (p : ProgramTree) (s : ScheduleTree) (pairs : FusesInPairs s) where
         let less : number < other_number = omega arith in
         let above : other_number < m = omega arith in
         let neither = neither_above m (length (numbers rest) + m) first_statement second_statement remaining
-            (block_between p s m (length (numbers rest) + m) rest (place + 1 + 0) (behind b (behind a d)) false m three.1 (omega arith) (omega arith)) less above in
+        (block_between p s m (length (numbers rest) + m) rest (place + 1 + 0) (behind b (behind a d)) false m three.1 (omega arith) (omega arith)) less above in
         subst (λ t. Split s first_statement second_statement (plan_all p s place d t (Then number label a others))) (sym (not_second is_done number label a others pair.second fused done))
         (subst (λ company. Split s first_statement second_statement (whole company))
         (sym (takes d number other_number label other_label a b rest pair.second does.operation fused pair.second_has does.is))
@@ -274,9 +274,10 @@ module _ (p : ProgramTree) (s : ScheduleTree) (pairs : FusesInPairs s) where
           let below : other.number < m = up.to in
           one_before _ _ first up.two
           (split_before s one other (plan_all p s (place + 1) d false body) (plain number d (Jump (to + size_all p s d false others)) ∷ last)
-          (split_block body (place + 1) d v false n are deep low known.1 two.0 tt)
-          (neither_of (plain number d (Jump (to + size_all p s d false others))) first up.two,
-          neither_above m (length (numbers others) + m) one other last (block_between p s m (length (numbers others) + m) others to d false m two.1 (omega arith) (omega arith)) up.two below))
+          (split_block body (place + 1) d v false n are deep low known.1 two.0 tt) (
+            neither_of (plain number d (Jump (to + size_all p s d false others))) first up.two,
+            neither_above m (length (numbers others) + m) one other last (block_between p s m (length (numbers others) + m) others to d false m two.1 (omega arith) (omega arith)) up.two below,
+          ))
       split_inside (IfElse c body others) place d v number label n (inr are) deep low known above order =
           let two = in_two n (numbers body) (numbers others) order in
           let m = length (numbers body) + n in

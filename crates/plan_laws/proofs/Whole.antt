@@ -1,9 +1,6 @@
 -- Two fused statements of a checked program are one instruction of its plan.
-use Rattle.std.proofs.Common.{◌≡◌, refl, ap, sym, subst, ◌∙◌, inl, inr, ◌⊎◌, ℕ, suc, ◌+◌, ◌<◌, ◌≤◌, Bool, true, false, List, [], ◌∷◌, ◌++◌, length, arith, Option, Some, None}
-use Rattle.std.specs.Prelude.{Ok, ◌≢◌}
-use Rattle.std.specs.List.{AllByRecursion}
-use Rattle.std.proofs.lemmas.List.{append_assoc}
-use Rattle.syntax.specs.SourceTrees.{SourceTree}
+use Rattle.std.proofs.Common.{◌≡◌, refl, ap, subst, ◌∙◌, inl, inr, ℕ, ◌<◌, ◌≤◌, false, [], ◌∷◌, arith, Option, Some}
+use Rattle.std.specs.Prelude.{Ok}
 use Rattle.typed_tree.specs.BlockTree.{ActionTree, If, IfElse, While, For, BlockTree, Empty, Then}
 use Rattle.typed_tree.specs.ProgramTree.{ProgramTree}
 use Rattle.typed_tree.specs.Resolved.{IsResolved, behind_action, in_main}
@@ -13,18 +10,17 @@ use Rattle.schedule.specs.Calls.{schedule_of}
 use Rattle.schedule.specs.Laws.{IsFusedWell}
 use Rattle.schedule.proofs.FusedOnce.{accepted_fuses_in_pairs}
 use Rattle.schedule.proofs.FusedPairs.{accepted_fuses_well}
-use Rattle.types.specs.Program.{Checks, program_of}
-use Rattle.plans.specs.Instruction.{InstructionTree, End}
-use Rattle.plans.specs.Plan.{behind_all, main_depth, plain, plan_all, plan_of}
+use Rattle.plans.specs.Instruction.{End}
+use Rattle.plans.specs.Plan.{behind_all, main_depth, plain, plan_all}
 use Rattle.type_laws.specs.AskedVectors.{AskForWritten, AsksForWritten}
 use Rattle.type_laws.specs.EachStatement.{HoldsInside, HoldsOfEach, SetNames, names_before, names_behind}
 use Rattle.type_laws.specs.LabelPlaces.{LabelsAreInOrder}
 use Rattle.type_laws.specs.Numbers.{InOrder, numbers}
 use Rattle.type_laws.specs.VisibleSets.{NamesSets, NamesSetsApart}
 use Rattle.plan_laws.specs.Neighbours.{AreNeighbours, AreNeighboursInside, BeginsWith, StatementTree}
-use Rattle.plan_laws.specs.OneInstruction.{IsOfNeither, IsOneInstruction}
+use Rattle.plan_laws.specs.OneInstruction.{IsOneInstruction}
 use Rattle.plan_laws.proofs.Applies.{sets_stay, statement_apply}
-use Rattle.plan_laws.proofs.Counted.{AreAscending, neighbours_ascend}
+use Rattle.plan_laws.proofs.Counted.{neighbours_ascend}
 use Rattle.plan_laws.proofs.Pairs.{fused_do}
 use Rattle.plan_laws.proofs.Sites.{AreFused, fused_stand}
 use Rattle.plan_laws.proofs.Splits.{IsPair, Split, split_before, split_block}
@@ -76,10 +72,10 @@ module _ (p : ProgramTree) (s : ScheduleTree) (all : IsResolved p) (named : Name
         second_has = both.second_has;
         fused = fused;
         fit = λ v d deep low one other.
-        fused_do p all v names d deep low sets.second.0 both.one.action both.other.action well.one well.other
-        (statement_apply p v names both.one.action well.one both.first_applies one (sets_stay p both.one.action sets.names sets.first.1) vectors.first)
-        (statement_apply p (behind_action both.one.action v) names both.other.action well.other both.second_applies other sets.second.1 vectors.second)
-        well.same_sets well.independent;
+            fused_do p all v names d deep low sets.second.0 both.one.action both.other.action well.one well.other
+            (statement_apply p v names both.one.action well.one both.first_applies one (sets_stay p both.one.action sets.names sets.first.1) vectors.first)
+            (statement_apply p (behind_action both.one.action v) names both.other.action well.other both.second_applies other sets.second.1 vectors.second)
+            well.same_sets well.independent;
       }
 
   is_one : InOrder 1 (numbers p.main) → Split s both.one both.other (plan_all p s 0 (main_depth p) false p.main) → IsOneInstruction p s first second

@@ -1,5 +1,5 @@
 -- What an edge function is known to write, its statements write.
-use Rattle.std.proofs.Common.{◌≡◌, refl, ap, sym, subst, ◌∙◌, inl, inr, ◌⊎◌, ℕ, ◌&&◌, nat_eq, cond, Bool, true, false, List, [], ◌∷◌, ◌++◌, arith, Option, Some, None}
+use Rattle.std.proofs.Common.{◌≡◌, refl, sym, subst, inl, inr, ◌⊎◌, ℕ, nat_eq, cond, Bool, true, false, List, [], ◌∷◌, ◌++◌, arith, Option, Some, None}
 use Rattle.std.specs.Prelude.{is_some}
 use Rattle.std.specs.List.{Contains}
 use Rattle.std.specs.Map.{lookup}
@@ -12,16 +12,13 @@ use Rattle.syntax.specs.declared.declaration.DeclaredType.TheVariants as declare
 use Rattle.apply_options.specs.declared.reduction.Reduction.{Reduction}
 use Rattle.syntax.specs.SourceTrees as source
 use Rattle.typed_tree.specs.declared.expression.Endpoint.{Endpoint}
-use Rattle.typed_tree.specs.declared.expression.Endpoint.TheVariants as endpoint
 use Rattle.typed_tree.specs.Access.{step_writes, steps_write}
 use Rattle.typed_tree.specs.IntegerTree.{IntegerTree}
 use Rattle.typed_tree.specs.StepTree.{StepTree, StepsTree, NoStep, StepThen}
-use Rattle.expression_types.specs.declared.scope.Inside.{Inside}
 use Rattle.expression_types.specs.declared.scope.Inside.TheVariants as inside
-use Rattle.expression_types.specs.Expression.{index_value, used, value_of, vector_place}
+use Rattle.expression_types.specs.Expression.{index_value, value_of, vector_place}
 use Rattle.expression_types.specs.Names.{found}
 use Rattle.expression_types.specs.ValueTree.{ValueTree, Integer, Condition, Vertex, Set, ErrorValue}
-use Rattle.expression_types.specs.WithFaults.{WithFaults}
 use Rattle.types.specs.Checker.{CheckerTree, labelled, new_label}
 use Rattle.types.specs.Initial.{InitializerTree, initializer_of}
 use Rattle.types.specs.Step.{at_own, declare_step_as, may_reduce, one_reduction, own_vertex, reduce_entry_step, reduced_as, reduction_step, same_endpoint, same_reduction, step_behind, step_typed, steps_behind, steps_typed, written_at, written_with}
@@ -114,7 +111,7 @@ behind_writes NoStep step vector (inl (k, within, is)) = absurd (omega (arith, w
 behind_writes NoStep step vector (inr is) = Contains-append_left (step_writes step) [] vector is
 behind_writes (StepThen s others) step vector (inl is) =
     elim (Contains-append_cases (step_writes s) (steps_write others) vector is) [
-      inl first ↦ Contains-append_left (step_writes s) (steps_write (step_behind others step)) vector first
+      | inl first ↦ Contains-append_left (step_writes s) (steps_write (step_behind others step)) vector first
       | inr second ↦ Contains-append_right (step_writes s) (steps_write (step_behind others step)) vector (behind_writes others step vector (inl second))
     ]
 behind_writes (StepThen s others) step vector (inr is) = Contains-append_right (step_writes s) (steps_write (step_behind others step)) vector (behind_writes others step vector (inr is))
@@ -156,9 +153,9 @@ module _ {At : Vertices} {Read Write : ExpressionTree → Type 0} (body : Body A
         let second = steps_add d.writes d NoStep otherwise known (no_left o.faults [] (no_right b.faults (o.faults ++ []) both)) (adds_none d.writes) in
         λ vector is.
         elim (second vector is) [
-          inl old ↦
+          | inl old ↦
               elim (first vector old) [
-                inl older ↦ inl older
+                | inl older ↦ inl older
                 | inr new ↦ inr (Contains-append_left (steps_write b.value.0) (steps_write o.value.0) vector new)
               ]
           | inr new ↦ inr (Contains-append_right (steps_write b.value.0) (steps_write o.value.0) vector new)
@@ -183,13 +180,13 @@ module _ {At : Vertices} {Read Write : ExpressionTree → Type 0} (body : Body A
         let clear = no_left s.faults rest.faults both in
         let one = step_adds l.value.1 action here clear in
         let all : Adds start s.value.1.writes (steps_write (step_behind so_far s.value.0)) =
-            (λ vector is.
-            elim (one vector is) [
-              inl old ↦
-                  elim (adds vector (subst (λ writes. is_written writes vector ≡ true) (labelled_writes c label) old)) [
-                    inl older ↦ inl older
-                    | inr has ↦ inr (behind_writes so_far s.value.0 vector (inl has))
-                  ]
-              | inr new ↦ inr (behind_writes so_far s.value.0 vector (inr new))
-            ]) in
+        (λ vector is.
+        elim (one vector is) [
+          | inl old ↦
+              elim (adds vector (subst (λ writes. is_written writes vector ≡ true) (labelled_writes c label) old)) [
+                | inl older ↦ inl older
+                | inr has ↦ inr (behind_writes so_far s.value.0 vector (inl has))
+              ]
+          | inr new ↦ inr (behind_writes so_far s.value.0 vector (inr new))
+        ]) in
         steps_add start s.value.1 (step_behind so_far s.value.0) others (step_known At inside.EdgeFunction l.value.1 action here clear) (no_right s.faults rest.faults both) all

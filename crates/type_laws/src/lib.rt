@@ -31,11 +31,12 @@
 mod laws;
 
 pub use laws::{
-    checked_programs_are_resolved, checked_programs_ask_for_written_vectors, checked_programs_name_visible_sets_apart, checked_sources_access_own_entries,
+    checked_programs_are_resolved, checked_programs_ask_for_written_vectors,
+    checked_programs_name_visible_sets_apart, checked_sources_access_own_entries,
     checked_sources_are_well_typed, checked_sources_declare_main,
     checked_sources_declare_new_names, checked_sources_have_distinct_labels,
     checked_sources_print_in_main_alone, checked_sources_use_visible_names,
-    expressions_have_types_where_they_have_no_fault, labels_of_main_are_in_order, sources_have_a_program_or_a_fault,
-    sources_have_a_program_where_they_keep_the_rules, statements_are_numbered_in_order,
-    told_faults_are_the_least,
+    expressions_have_types_where_they_have_no_fault, labels_of_main_are_in_order,
+    sources_have_a_program_or_a_fault, sources_have_a_program_where_they_keep_the_rules,
+    statements_are_numbered_in_order, told_faults_are_the_least,
 };
