@@ -1,6 +1,6 @@
 -- Lists that have no number in common.
-use Rattle.std.proofs.Common.{◌≡◌, ◌≢◌, refl, ap, sym, subst, ◌∙◌, ℕ, ◌==◌, ◌&&◌, ◌||◌, not, Bool, true, false, List, [], ◌∷◌, ◌++◌, arith, Option, Some, None}
-use Rattle.std.specs.List.{AllByRecursion, Contains, list_all, list_any}
+use Rattle.std.proofs.Common.{◌≡◌, ◌≢◌, refl, sym, ℕ, ◌==◌, ◌||◌, not, Bool, true, false, List, [], ◌∷◌, arith, Option, Some, None}
+use Rattle.std.specs.List.{AllByRecursion, Contains, list_any}
 use Rattle.std.proofs.lemmas.Bool.{and_from, ne_eqb, not_from_false, or_from}
 use Rattle.std.proofs.lemmas.List.Elements.{Contains-append_right}
 use Rattle.typed_tree.specs.StepTree.{FunctionTree}

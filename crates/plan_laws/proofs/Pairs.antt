@@ -1,30 +1,28 @@
 -- Two statements that an accepted schedule fuses fit.
-use Rattle.std.proofs.Common.{◌≡◌, ◌≢◌, refl, ap, sym, subst, ◌∙◌, inl, inr, ◌⊎◌, ℕ, ◌<◌, ◌≤◌, nat_eq, ◌&&◌, Bool, true, false, if◌then◌else◌, List, [], ◌∷◌, ◌++◌, length, arith, Option, Some, None}
+use Rattle.std.proofs.Common.{◌≡◌, ◌≢◌, refl, ap, sym, subst, ◌∙◌, inl, inr, ℕ, ◌<◌, ◌≤◌, nat_eq, Bool, true, false, if◌then◌else◌, List, [], ◌∷◌, ◌++◌, length, arith, Option, Some, None}
 use Rattle.std.specs.Prelude.{slice_get}
 use Rattle.std.specs.List.{AllByRecursion, Contains}
-use Rattle.std.specs.Str.{bytes_eq}
-use Rattle.std.proofs.lemmas.Bool.{and_from, and_parts, both_ways, eq-eqb}
+use Rattle.std.proofs.lemmas.Bool.{and_from, and_parts, both_ways, eq-eqb, eqb-true}
 use Rattle.std.proofs.lemmas.Option.{same_Some}
 use Rattle.std.proofs.lemmas.Slice.Eq.{bytes_eq-Decides}
 use Rattle.typed_tree.specs.declared.expression.VarRef.{VarRef}
-use Rattle.typed_tree.specs.declared.statement.ApplyEnds.{ApplyEnds}
 use Rattle.typed_tree.specs.declared.statement.VertexFilter.{VertexFilter}
 use Rattle.typed_tree.specs.declared.statement.VertexFilter.TheVariants as filter
 use Rattle.typed_tree.specs.declared.apply.StatementApply.{StatementApply}
-use Rattle.typed_tree.specs.declared.apply.StatementApply.TheVariants.{Vertices, Edges}
+use Rattle.typed_tree.specs.declared.apply.StatementApply.TheVariants.{Vertices}
 use Rattle.typed_tree.specs.Access.{are_apart, function_uses, function_writes}
 use Rattle.typed_tree.specs.BlockTree.{ActionTree}
-use Rattle.typed_tree.specs.Independence.{are_independent, are_same, are_same_ends, have_same_sets, is_end, name_at}
+use Rattle.typed_tree.specs.Independence.{are_same, are_same_ends, have_same_sets, is_end, name_at}
 use Rattle.typed_tree.specs.ProgramTree.{ProgramTree}
 use Rattle.typed_tree.specs.Resolved.{VisibleTree, EndIsResolved, EndsAreResolved, IsResolved, behind_action}
-use Rattle.schedule.specs.Laws.{IsIndependent, SharesNoVector}
+use Rattle.schedule.specs.Laws.{IsIndependent}
 use Rattle.schedule.proofs.Uses.{nothing_in_common}
-use Rattle.plans.specs.declared.depth.Depth.{Depth}
+use Rattle.algorithm_meaning.specs.declared.state.Depth.{Depth}
 use Rattle.plans.specs.Instruction.{OperationTree, ApplyEdgesTogether, ApplyVerticesTogether, ResultTree, Dropped, Declared, Assigned}
-use Rattle.plans.specs.Fusing.{EdgeApplyTree, VertexApplyTree, apply_tree, edge_apply_of, edges_fit, edges_together, either, end_sets, function_is_local, function_sizes, is_same_end, result_name, result_places, result_vectors, sets_read, together, vertex_apply_of, vertices_fit, vertices_together}
+use Rattle.plans.specs.Fusing.{EdgeApplyTree, VertexApplyTree, apply_tree, edge_apply_of, edges_fit, edges_together, either, end_sets, function_sizes, is_same_end, result_name, result_places, result_vectors, sets_read, together, vertex_apply_of, vertices_fit, vertices_together}
 use Rattle.type_laws.specs.EachStatement.{SetNames}
-use Rattle.type_laws.specs.VisibleSets.{AreApart, EndIsVisible, EndsAreVisible, IsVisible}
-use Rattle.plan_laws.specs.OneInstruction.{AreEdgesTogether, AreTogether, AreVerticesTogether}
+use Rattle.type_laws.specs.VisibleSets.{AreApart, EndIsVisible, IsVisible}
+use Rattle.plan_laws.specs.OneInstruction.{AreTogether}
 use Rattle.plan_laws.proofs.Apart.{apart_from, apart_from_none, apart_from_one, independent, one_apart, writes_apart}
 use Rattle.plan_laws.proofs.Applies.{IsApply, IsEdgeApply, IsVertexApply, ResultIsWritten, ResultStands}
 use Rattle.plan_laws.proofs.Sizes.{AreConstant, all_two, edge_function_constant, filter_constant, vertex_function_local}
@@ -143,7 +141,15 @@ module _ (p : ProgramTree) (all : IsResolved p) where
           is = ap (λ e. either (edges_together p d e (edge_apply_of b)) (vertices_together p (vertex_apply_of a) (vertex_apply_of b))) is_x
               ∙ ap (λ e. either (edges_together p d (Some x) e) (vertices_together p (vertex_apply_of a) (vertex_apply_of b))) is_y
               ∙ edges_if (edges_fit p d x y) o (vertices_together p (vertex_apply_of a) (vertex_apply_of b)) fit;
-          does = inl (record { one = x; other = y; first_applies = is_x; second_applies = is_y; does = refl });
+          does = inl (record {
+            one = x;
+            other = y;
+            first_applies = is_x;
+            second_applies = is_y;
+            same_sources = (and_parts _ _ (and_parts _ _ fit).0).0;
+            same_destinations = (and_parts _ _ (and_parts _ _ fit).0).1;
+            does = refl;
+          });
         }
 
     vertices_do : (x y : VertexApplyTree) → edge_apply_of a ≡ None → vertex_apply_of a ≡ Some x → vertex_apply_of b ≡ Some y → vertices_fit p x y ≡ true → OneDoes p d a b
@@ -153,7 +159,14 @@ module _ (p : ProgramTree) (all : IsResolved p) where
           operation = o;
           is = ap (λ e. either (edges_together p d e (edge_apply_of b)) (vertices_together p (vertex_apply_of a) (vertex_apply_of b))) none
               ∙ ap (λ e. vertices_together p e (vertex_apply_of b)) is_x ∙ ap (λ e. vertices_together p (Some x) e) is_y ∙ vertices_if (vertices_fit p x y) o fit;
-          does = inr (record { one = x; other = y; first_applies = is_x; second_applies = is_y; does = refl });
+          does = inr (record {
+            one = x;
+            other = y;
+            first_applies = is_x;
+            second_applies = is_y;
+            same_set = eqb-true x.set.place y.set.place (and_parts _ _ fit).0;
+            does = refl;
+          });
         }
 
     pub fused_do : IsApply p v names a one → IsApply p (behind_action a v) names b other → have_same_sets p.names one other ≡ true → IsIndependent p one other → OneDoes p d a b

@@ -1,5 +1,5 @@
 -- Where the two statements of a fusing stand.
-use Rattle.std.proofs.Common.{◌≡◌, refl, ap, sym, subst, ◌∙◌, inl, inr, ◌⊎◌, ℕ, suc, ◌+◌, ◌≤◌, nat_eq, cond, Bool, true, false, List, [], ◌∷◌, ◌++◌, length, map, arith, Option, Some, None}
+use Rattle.std.proofs.Common.{◌≡◌, refl, ap, sym, subst, ◌∙◌, inl, inr, ◌⊎◌, ℕ, suc, ◌≤◌, nat_eq, cond, Bool, true, false, List, [], ◌∷◌, ◌++◌, map, arith, Option, Some, None}
 use Rattle.std.specs.Map.{lookup}
 use Rattle.std.proofs.lemmas.Bool.{eqb-true, eqb-false}
 use Rattle.std.proofs.lemmas.List.{map-append}
@@ -8,7 +8,7 @@ use Rattle.typed_tree.specs.declared.apply.StatementApply.{StatementApply}
 use Rattle.typed_tree.specs.BlockTree.{ActionTree, If, IfElse, While, For, BlockTree, Empty, Then}
 use Rattle.typed_tree.specs.ProgramTree.{ProgramTree}
 use Rattle.schedule.specs.declared.site.Site.{Site}
-use Rattle.schedule.specs.Calls.{apply_at, apply_in, is_label, is_next}
+use Rattle.schedule.specs.Calls.{apply_in, is_label, is_next}
 use Rattle.schedule.specs.Laws.{IsFusedWell}
 use Rattle.schedule.specs.Sites.{apply_of, label_of, site_at, site_of, sites_in, sites_of}
 use Rattle.type_laws.specs.LabelPlaces.{inner_places, label_places, own_place}

@@ -1,5 +1,5 @@
 -- A plan around the instruction of two fused statements.
-use Rattle.std.proofs.Common.{◌≡◌, refl, ap, sym, subst, ◌∙◌, inl, inr, ◌⊎◌, ℕ, suc, ◌+◌, ◌<◌, ◌≤◌, nat_eq, Bool, true, false, if◌then◌else◌, List, [], ◌∷◌, ◌++◌, length, length-append, arith, Option, Some, None}
+use Rattle.std.proofs.Common.{◌≡◌, refl, ap, sym, subst, ◌∙◌, inl, inr, ℕ, suc, ◌+◌, ◌<◌, ◌≤◌, nat_eq, Bool, true, false, if◌then◌else◌, List, [], ◌∷◌, ◌++◌, length, length-append, arith, Option, Some, None}
 use Rattle.std.specs.List.{AllByRecursion}
 use Rattle.std.proofs.lemmas.Bool.{eq-eqb, eqb-true}
 use Rattle.std.proofs.lemmas.List.{append_assoc}
@@ -12,14 +12,14 @@ use Rattle.apply_options.specs.declared.apply_schedule.Fused.{Fused}
 use Rattle.apply_options.specs.declared.apply_schedule.Fused.TheVariants.{With, Into}
 use Rattle.apply_options.specs.ScheduleTree.{ScheduleTree, choice_at, choice_of}
 use Rattle.schedule.specs.Laws.{FusesInPairs}
-use Rattle.plans.specs.declared.depth.Depth.{Depth}
-use Rattle.plans.specs.Instruction.{OperationTree, InstructionTree, Unless, Jump, Turn, Do, Enter, UnlessBelow, Advance}
-use Rattle.plans.specs.Fusing.{FusionRole, Alone, WithNext, WithPrevious, EdgeApplyTree, VertexApplyTree, fusion_role_of, edge_apply_of, edges_together, either, is_with, takes_next, together, vertex_apply_of, vertices_together, with_next}
-use Rattle.plans.specs.Plan.{behind, chosen, in_loop, loop_step, plain, plan, plan_all, plan_in, size, size_all, size_in, with_integer}
+use Rattle.algorithm_meaning.specs.declared.state.Depth.{Depth}
+use Rattle.plans.specs.Instruction.{OperationTree, InstructionTree, Jump, Advance}
+use Rattle.plans.specs.Fusing.{FusionRole, Alone, WithNext, EdgeApplyTree, VertexApplyTree, fusion_role_of, edge_apply_of, edges_together, either, is_with, takes_next, together, vertex_apply_of, vertices_together, with_next}
+use Rattle.plans.specs.Plan.{behind, chosen, in_loop, loop_step, plain, plan, plan_all, plan_in, size, size_all, size_in}
 use Rattle.type_laws.specs.Numbers.{InOrder, inner_numbers, numbers}
 use Rattle.plan_laws.specs.Neighbours.{AreNeighbours, AreNeighboursInside, BeginsWith, StatementTree}
 use Rattle.plan_laws.specs.OneInstruction.{AreTogether, IsOfNeither}
-use Rattle.plan_laws.proofs.Counted.{AreAscending, AreBetween, action_between, block_between, company_between, in_two, inside_ascend, neighbours_ascend, neither_above, neither_below}
+use Rattle.plan_laws.proofs.Counted.{action_between, block_between, company_between, in_two, inside_ascend, neighbours_ascend, neither_above, neither_below}
 use Rattle.plan_laws.proofs.Pairs.{OneDoes}
 use Rattle.plan_laws.proofs.Sizes.{all_two}
 

@@ -1,9 +1,6 @@
 -- Two fused statements of a checked program are one instruction of its plan.
-use Rattle.std.proofs.Common.{◌≡◌, refl, ap, sym, subst, ◌∙◌, inl, inr, ◌⊎◌, ℕ, suc, ◌+◌, ◌<◌, ◌≤◌, Bool, true, false, List, [], ◌∷◌, ◌++◌, length, arith, Option, Some, None}
-use Rattle.std.specs.Prelude.{Ok, ◌≢◌}
-use Rattle.std.specs.List.{AllByRecursion}
-use Rattle.std.proofs.lemmas.List.{append_assoc}
-use Rattle.syntax.specs.SourceTrees.{SourceTree}
+use Rattle.std.proofs.Common.{◌≡◌, refl, ap, subst, ◌∙◌, inl, inr, ℕ, ◌<◌, ◌≤◌, false, [], ◌∷◌, arith, Option, Some}
+use Rattle.std.specs.Prelude.{Ok}
 use Rattle.typed_tree.specs.BlockTree.{ActionTree, If, IfElse, While, For, BlockTree, Empty, Then}
 use Rattle.typed_tree.specs.ProgramTree.{ProgramTree}
 use Rattle.typed_tree.specs.Resolved.{IsResolved, behind_action, in_main}
@@ -13,18 +10,17 @@ use Rattle.schedule.specs.Calls.{schedule_of}
 use Rattle.schedule.specs.Laws.{IsFusedWell}
 use Rattle.schedule.proofs.FusedOnce.{accepted_fuses_in_pairs}
 use Rattle.schedule.proofs.FusedPairs.{accepted_fuses_well}
-use Rattle.types.specs.Program.{Checks, program_of}
-use Rattle.plans.specs.Instruction.{InstructionTree, End}
-use Rattle.plans.specs.Plan.{behind_all, main_depth, plain, plan_all, plan_of}
+use Rattle.plans.specs.Instruction.{End}
+use Rattle.plans.specs.Plan.{behind_all, main_depth, plain, plan_all}
 use Rattle.type_laws.specs.AskedVectors.{AskForWritten, AsksForWritten}
 use Rattle.type_laws.specs.EachStatement.{HoldsInside, HoldsOfEach, SetNames, names_before, names_behind}
 use Rattle.type_laws.specs.LabelPlaces.{LabelsAreInOrder}
 use Rattle.type_laws.specs.Numbers.{InOrder, numbers}
 use Rattle.type_laws.specs.VisibleSets.{NamesSets, NamesSetsApart}
 use Rattle.plan_laws.specs.Neighbours.{AreNeighbours, AreNeighboursInside, BeginsWith, StatementTree}
-use Rattle.plan_laws.specs.OneInstruction.{IsOfNeither, IsOneInstruction}
+use Rattle.plan_laws.specs.OneInstruction.{IsOneInstruction}
 use Rattle.plan_laws.proofs.Applies.{sets_stay, statement_apply}
-use Rattle.plan_laws.proofs.Counted.{AreAscending, neighbours_ascend}
+use Rattle.plan_laws.proofs.Counted.{neighbours_ascend}
 use Rattle.plan_laws.proofs.Pairs.{fused_do}
 use Rattle.plan_laws.proofs.Sites.{AreFused, fused_stand}
 use Rattle.plan_laws.proofs.Splits.{IsPair, Split, split_before, split_block}

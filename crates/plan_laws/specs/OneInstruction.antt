@@ -1,28 +1,31 @@
 -- Two fused statements as one instruction of a plan.
-use Rattle.std.specs.Prelude.{◌≡◌, ◌≢◌, ◌⊎◌, ℕ, List, ◌∷◌, ◌++◌, Some}
+use Rattle.std.specs.Prelude.{◌≡◌, ◌≢◌, ◌⊎◌, ℕ, true, List, ◌∷◌, ◌++◌, Some}
 use Rattle.std.specs.List.{AllByRecursion}
 use Rattle.typed_tree.specs.BlockTree.{ActionTree}
 use Rattle.typed_tree.specs.ProgramTree.{ProgramTree}
 use Rattle.apply_options.specs.ScheduleTree.{ScheduleTree, choice_of}
 use Rattle.plans.specs.Instruction.{OperationTree, ApplyEdgesTogether, ApplyVerticesTogether, InstructionTree}
-use Rattle.plans.specs.Fusing.{EdgeApplyTree, VertexApplyTree, edge_apply_of, vertex_apply_of}
+use Rattle.plans.specs.Fusing.{EdgeApplyTree, VertexApplyTree, edge_apply_of, is_same_end, vertex_apply_of}
 use Rattle.plans.specs.Plan.{plan_of}
 use Rattle.plan_laws.specs.Neighbours.{StatementTree, AreNeighbours}
 
--- both statements are edge applies, and the operation does the two together, between the ends of the first
+-- both statements are edge applies between the same ends, and the operation does the two together
 pub record AreEdgesTogether (first second : ActionTree) (operation : OperationTree) : Type 0 where
   pub one : EdgeApplyTree
   pub other : EdgeApplyTree
   pub first_applies : edge_apply_of first ≡ Some one
   pub second_applies : edge_apply_of second ≡ Some other
+  pub same_sources : is_same_end one.ends.from other.ends.from ≡ true
+  pub same_destinations : is_same_end one.ends.to other.ends.to ≡ true
   pub does : operation ≡ ApplyEdgesTogether one.ends one.part other.part
 
--- both statements are vertex applies, and the operation does the two together, to the set of the first
+-- both statements are vertex applies to the same set, and the operation does the two together
 pub record AreVerticesTogether (first second : ActionTree) (operation : OperationTree) : Type 0 where
   pub one : VertexApplyTree
   pub other : VertexApplyTree
   pub first_applies : vertex_apply_of first ≡ Some one
   pub second_applies : vertex_apply_of second ≡ Some other
+  pub same_set : one.set.place ≡ other.set.place
   pub does : operation ≡ ApplyVerticesTogether one.set one.function other.function
 
 abbrev pub AreTogether : (first second : ActionTree) → OperationTree → Type 0

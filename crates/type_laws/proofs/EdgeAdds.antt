@@ -1,5 +1,5 @@
 -- What an edge function is known to write, its statements write.
-use Rattle.std.proofs.Common.{◌≡◌, refl, ap, sym, subst, ◌∙◌, inl, inr, ◌⊎◌, ℕ, ◌&&◌, nat_eq, cond, Bool, true, false, List, [], ◌∷◌, ◌++◌, arith, Option, Some, None}
+use Rattle.std.proofs.Common.{◌≡◌, refl, sym, subst, inl, inr, ◌⊎◌, ℕ, nat_eq, cond, Bool, true, false, List, [], ◌∷◌, ◌++◌, arith, Option, Some, None}
 use Rattle.std.specs.Prelude.{is_some}
 use Rattle.std.specs.List.{Contains}
 use Rattle.std.specs.Map.{lookup}
@@ -12,16 +12,13 @@ use Rattle.syntax.specs.declared.declaration.DeclaredType.TheVariants as declare
 use Rattle.apply_options.specs.declared.reduction.Reduction.{Reduction}
 use Rattle.syntax.specs.SourceTrees as source
 use Rattle.typed_tree.specs.declared.expression.Endpoint.{Endpoint}
-use Rattle.typed_tree.specs.declared.expression.Endpoint.TheVariants as endpoint
 use Rattle.typed_tree.specs.Access.{step_writes, steps_write}
 use Rattle.typed_tree.specs.IntegerTree.{IntegerTree}
 use Rattle.typed_tree.specs.StepTree.{StepTree, StepsTree, NoStep, StepThen}
-use Rattle.expression_types.specs.declared.scope.Inside.{Inside}
 use Rattle.expression_types.specs.declared.scope.Inside.TheVariants as inside
-use Rattle.expression_types.specs.Expression.{index_value, used, value_of, vector_place}
+use Rattle.expression_types.specs.Expression.{index_value, value_of, vector_place}
 use Rattle.expression_types.specs.Names.{found}
 use Rattle.expression_types.specs.ValueTree.{ValueTree, Integer, Condition, Vertex, Set, ErrorValue}
-use Rattle.expression_types.specs.WithFaults.{WithFaults}
 use Rattle.types.specs.Checker.{CheckerTree, labelled, new_label}
 use Rattle.types.specs.Initial.{InitializerTree, initializer_of}
 use Rattle.types.specs.Step.{at_own, declare_step_as, may_reduce, one_reduction, own_vertex, reduce_entry_step, reduced_as, reduction_step, same_endpoint, same_reduction, step_behind, step_typed, steps_behind, steps_typed, written_at, written_with}

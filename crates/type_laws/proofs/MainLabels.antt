@@ -19,7 +19,7 @@ use Rattle.expression_types.specs.ValueTree as value
 use Rattle.expression_types.specs.ValueTree.{ValueTree, named_set}
 use Rattle.types.specs.Block.{action_typed, behind, closed, statements_typed}
 use Rattle.types.specs.Checker.{CheckerTree, counted, declared_in, integer_slot, labelled, new_label, restarted, with_scope}
-use Rattle.types.specs.Declaration.{DeclaredTree, FunctionKindTree, MainKind, EdgeKind, VertexKind, FilterKind, NoKind, declaration_typed, declarations_typed, declare_constant_as, declare_function, declare_name, kind, main_declared, opened, with_main}
+use Rattle.types.specs.Declaration.{DeclaredTree, FunctionKindTree, MainKind, EdgeKind, VertexKind, FilterKind, NoKind, declaration_typed, declarations_typed, declare_constant_as, declare_function, declare_name, kind, opened, with_main}
 use Rattle.types.specs.Initial.{ApplyEndTree, InitializerTree, edge_function, end_of, initializer_of, is_edges, names_error, is_error_end, is_wrong, vertex_function}
 use Rattle.types.specs.Program.{main_of, opening, program_of, set_count}
 use Rattle.types.specs.Statement.{add_vertex, added, applied, apply, assign, assigned, declare_as, edges_applied, entry_reduced, entry_set, has_ends, print, printed, reduce, reduce_entry, reduced, set_applied, set_entry, vertices_applied}
@@ -27,17 +27,12 @@ use Rattle.types.specs.Wanted.{as_index, condition_in, integer_in}
 use Rattle.type_laws.specs.LabelPlaces.{LabelsAreInOrder, inner_places, label_places, own_place}
 use Rattle.type_laws.specs.Numbers.{InOrder}
 use Rattle.type_laws.proofs.Faultless.{no_left, no_right, not_empty}
+use Rattle.type_laws.proofs.Numbers.{order-append}
 
 -- labels that follow those so far
 record Follow (from : ℕ) (labels : List ℕ) (to : ℕ) : Type 0 where
   pub ordered : InOrder from labels
   pub count : to ≡ length labels + from
-
-order-append : (n : ℕ) (xs ys : List ℕ) → InOrder n xs → InOrder (length xs + n) ys → InOrder n (xs ++ ys)
-order-append n [] ys first second = let e : 0 + n ≡ n = omega arith in subst (λ m. InOrder m ys) e second
-order-append n (x ∷ xs) ys first second =
-    let e : suc (length xs) + n ≡ length xs + suc n = omega arith in
-    (first.0, order-append (suc n) xs ys first.1 (subst (λ m. InOrder m ys) e second))
 
 no_labels : (n : ℕ) → Follow n [] n
 no_labels n = record { ordered = tt; count = omega arith }

@@ -1,15 +1,14 @@
 -- A program without a fault names visible vertex sets apart, and asks for written vectors.
-use Rattle.std.proofs.Common.{◌≡◌, ◌≢◌, refl, ap, sym, subst, ◌∙◌, inl, inr, ◌⊎◌, ℕ, zero, suc, ◌+◌, ◌<◌, ◌≤◌, pos, Bool, true, false, ◌&&◌, if◌then◌else◌, List, [], ◌∷◌, ◌++◌, length, length-append, map, arith, nat_eq, Option, Some, None}
+use Rattle.std.proofs.Common.{◌≡◌, refl, ap, sym, subst, ◌∙◌, inl, inr, ◌⊎◌, ℕ, zero, suc, ◌+◌, ◌<◌, pos, Bool, true, false, ◌&&◌, if◌then◌else◌, List, [], ◌∷◌, ◌++◌, length, length-append, arith, nat_eq, Option, Some, None}
 use Rattle.std.specs.Prelude.{slice_get, slice_index_or, is_some}
 use Rattle.std.specs.Str.{bytes_eq}
-use Rattle.std.specs.List.{AllByRecursion, Contains}
+use Rattle.std.specs.List.{Contains}
 use Rattle.std.specs.Map.{lookup}
 use Rattle.std.proofs.lemmas.Bool.{and_parts}
-use Rattle.std.proofs.lemmas.Option.{none-some, same_Some}
+use Rattle.std.proofs.lemmas.Option.{none-some, same_Some, slice_get_within}
 use Rattle.syntax.specs.Terminals.{Identifier}
 use Rattle.syntax.specs.declared.declaration.DeclaredType.{DeclaredType}
 use Rattle.syntax.specs.declared.declaration.DeclaredType.TheVariants as declared
-use Rattle.apply_options.specs.declared.reduction.Reduction.{Reduction}
 use Rattle.syntax.specs.SourceTrees as source
 use Rattle.syntax.specs.SourceTrees.{ParameterTree, InitialTree, DeclarationTree, SourceTree}
 use Rattle.typed_tree.specs.declared.expression.Endpoint.{Endpoint}
@@ -21,11 +20,10 @@ use Rattle.typed_tree.specs.ProgramTree.{ProgramTree}
 use Rattle.expression_types.specs.declared.scope.Entity.{Entity}
 use Rattle.expression_types.specs.declared.scope.Entity.TheVariants as entity
 use Rattle.expression_types.specs.declared.scope.Inside.TheVariants as inside
-use Rattle.expression_types.specs.Names.{found}
-use Rattle.expression_types.specs.ScopeTree.{ScopeTree, entered, sets_of}
+use Rattle.expression_types.specs.ScopeTree.{entered, sets_of}
 use Rattle.types.specs.Block.{statements_typed}
-use Rattle.types.specs.Checker.{CheckerTree, condition_slot, declared_in, integer_slot, labelled, new_label, restarted, with_scope}
-use Rattle.types.specs.Declaration.{DeclaredTree, FunctionKindTree, MainKind, EdgeKind, VertexKind, FilterKind, NoKind, begins, declaration_typed, declarations_typed, declare_constant_as, declare_function, declare_name, function_declared, function_of, has_all, inside_of, is_bool, is_vertex, kind, kind_fits, kind_of, literal_or_fault, loads, main_bytes, main_declared, next_name, only_edges, opened, parameter, parameters_declared, result_declared, result_entity, steps_declared, takes_nothing, with_main}
+use Rattle.types.specs.Checker.{CheckerTree, declared_in, integer_slot, labelled, restarted, with_scope}
+use Rattle.types.specs.Declaration.{DeclaredTree, FunctionKindTree, MainKind, EdgeKind, VertexKind, FilterKind, NoKind, begins, declaration_typed, declarations_typed, declare_constant_as, declare_function, declare_name, function_declared, function_of, has_all, inside_of, is_bool, is_vertex, kind, kind_fits, kind_of, literal_or_fault, loads, main_bytes, main_declared, next_name, only_edges, opened, parameter, parameters_declared, result_declared, steps_declared, takes_nothing, with_main}
 use Rattle.types.specs.Initial.{InitializerTree, initializer_of, is_sound, writes_vector}
 use Rattle.types.specs.Literal.{literal_condition, literal_integer}
 use Rattle.types.specs.Program.{main_of, opening, program_of, set_count}
@@ -33,24 +31,16 @@ use Rattle.types.specs.Step.{declare_step_as, step_behind, step_typed, steps_beh
 use Rattle.type_laws.specs.AskedVectors.{AskForWritten, AsksForWritten}
 use Rattle.type_laws.specs.EachStatement.{HoldsInside, HoldsOfEach, SetNames, names_before, names_behind}
 use Rattle.type_laws.specs.VisibleSets.{NamesSets, NamesSetsApart}
-use Rattle.type_laws.proofs.EdgeAdds.{Adds, Writes, adds_none, is_written, steps_add}
+use Rattle.type_laws.proofs.EdgeAdds.{Adds, adds_none, is_written, steps_add}
 use Rattle.type_laws.proofs.EntryAccess.{edge_body, named}
 use Rattle.type_laws.proofs.Faultless.{no_left, no_right, not_empty}
 use Rattle.type_laws.proofs.KnownDeclarations.{AllKnown, declaration_known, opened_known}
-use Rattle.type_laws.proofs.NamedSets.{AreWritten, EntityStands, Holds, InNames, MainFits, SetsFit, Visible, WrittenFits, all_stand, declared_count, declared_sets, get_cases, other_declared, statements_fit}
+use Rattle.type_laws.proofs.NamedSets.{EntityStands, Holds, InNames, MainFits, SetsFit, Visible, WrittenFits, all_stand, declared_count, declared_sets, get_cases, labelled_written, other_declared, statements_fit}
 use Rattle.type_laws.proofs.NamesGrow.{Begins, declared_grow, opened_grow, statements_grow, steps_grow}
 use Rattle.type_laws.proofs.ResolvedPrograms.{sets_counted}
 use Rattle.type_laws.proofs.ResolvedScopes.{get_before, get_last}
 
 -- the statements of a function change nothing that edge functions before it write
-new_label_written : (c : CheckerTree) (label : Identifier) (place : Option ℕ) → (new_label c label place).value.1.written ≡ c.written
-new_label_written c label None = refl
-new_label_written c label (Some place) = refl
-
-labelled_written : (c : CheckerTree) (label : Option Identifier) → (labelled c label).value.1.written ≡ c.written
-labelled_written c None = refl
-labelled_written c (Some label) = new_label_written c label (found label.bytes c.labels)
-
 declare_written : (c : CheckerTree) (at : ℕ) (name : Identifier) (initializer : InitializerTree) (type : DeclaredType) → (declare_step_as c at name initializer type).value.1.written ≡ c.written
 declare_written c at name initializer declared.Int = refl
 declare_written c at name initializer declared.Bool = refl
@@ -164,11 +154,6 @@ within_list : {A : Type 0} (xs : List A) (k : ℕ) → k < length xs → (x : A)
 within_list [] k below = absurd (omega (arith, below))
 within_list (x ∷ xs) zero below = (x, refl)
 within_list (x ∷ xs) (suc k) below = within_list xs k (omega (arith, below))
-
-get_within : {A : Type 0} (xs : List A) (k : ℕ) (x : A) → slice_get xs k ≡ Some x → k < length xs
-get_within [] k x is = absurd (none-some x is)
-get_within (y ∷ xs) zero x is = omega arith
-get_within (y ∷ xs) (suc k) x is = let below : k < length xs = get_within xs k x is in omega arith
 
 abbrev InSets : List ℕ → Visible
 InSets sets place name = slice_get sets place ≡ Some name
@@ -478,7 +463,7 @@ module _ (p : ProgramTree) where
       let names = names_before (length d.sets) p.sets in
       let V = InSets d.sets in
       let W = InNames names in
-      let more = λ (k a : ℕ) (is : V k a). before_name (length d.sets) p.sets k a (get_within d.sets k a is) (within.sets k a is) in
+      let more = λ (k a : ℕ) (is : V k a). before_name (length d.sets) p.sets k a (slice_get_within d.sets k a is) (within.sets k a is) in
       let size : length names ≡ length p.sets = names_length (length d.sets) p.sets in
       record {
         sets = record {

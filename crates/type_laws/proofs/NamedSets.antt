@@ -35,11 +35,10 @@ use Rattle.types.specs.Statement.{add_vertex, added, applied, apply, assign, ass
 use Rattle.types.specs.Wanted.{as_index, as_members, condition_in, integer_in}
 use Rattle.type_laws.specs.AskedVectors.{AsksForWritten, ValueAsksForWritten}
 use Rattle.type_laws.specs.EachStatement.{HoldsInside, HoldsOfEach, SetNames, names_behind}
-use Rattle.type_laws.specs.NewNames.{IsNew}
-use Rattle.type_laws.specs.VisibleSets.{AreApart, EndIsVisible, EndsAreVisible, IsVisible, NamesSets, SetsAreVisible, ValueIsVisible}
+use Rattle.type_laws.specs.VisibleSets.{EndIsVisible, EndsAreVisible, IsVisible, NamesSets, SetsAreVisible, ValueIsVisible}
 use Rattle.type_laws.proofs.Faultless.{no_left, no_right, not_empty}
 use Rattle.type_laws.proofs.KnownScopes.{labelled_scope}
-use Rattle.type_laws.proofs.NamesGrow.{Begins, action_grow, statements_grow}
+use Rattle.type_laws.proofs.NamesGrow.{Begins, statements_grow}
 use Rattle.type_laws.proofs.NewNames.{declared_new}
 use Rattle.type_laws.proofs.ResolvedScopes.{all_then, declared_over_is, get_before, get_last}
 
@@ -68,6 +67,15 @@ get_cases [] y (suc k) x is = absurd (none-some x is)
 get_cases (z ∷ xs) y zero x is = inl is
 get_cases (z ∷ xs) y (suc k) x is =
     elim (get_cases xs y k x is) [ inl h ↦ inl h | inr h ↦ (let same : k ≡ length xs = h.0 in inr (omega (arith, same), h.1)) ]
+
+-- a label changes nothing that edge functions write
+new_label_written : (c : CheckerTree) (label : Identifier) (place : Option ℕ) → (new_label c label place).value.1.written ≡ c.written
+new_label_written c label None = refl
+new_label_written c label (Some place) = refl
+
+pub labelled_written : (c : CheckerTree) (label : Option Identifier) → (labelled c label).value.1.written ≡ c.written
+labelled_written c None = refl
+labelled_written c (Some label) = new_label_written c label (found label.bytes c.labels)
 
 -- at which places vertex sets are visible, and by which names
 abbrev pub Visible : Type 1
@@ -440,14 +448,6 @@ module _ (p : ProgramTree) where
         (((fits.sets.apart, members.0), members.1), tt, set_declared names c name left begins fits)
     declare_fits names c at name initializer declared.Vector none begins fits value = absurd (not_empty _ _ none)
     declare_fits names c at name initializer declared.EdgeSet none begins fits value = absurd (not_empty _ _ none)
-
-    new_label_written : (c : CheckerTree) (label : Identifier) (place : Option ℕ) → (new_label c label place).value.1.written ≡ c.written
-    new_label_written c label None = refl
-    new_label_written c label (Some place) = refl
-
-    labelled_written : (c : CheckerTree) (label : Option Identifier) → (labelled c label).value.1.written ≡ c.written
-    labelled_written c None = refl
-    labelled_written c (Some label) = new_label_written c label (found label.bytes c.labels)
 
     labelled_fits : (names : SetNames) (c : CheckerTree) (label : Option Identifier) → MainFits functions names c → MainFits functions names (labelled c label).value.1
     labelled_fits names c label fits =

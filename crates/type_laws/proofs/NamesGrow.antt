@@ -1,5 +1,5 @@
 -- Names that were declared stay, in the order of the text.
-use Rattle.std.proofs.Common.{◌≡◌, ℕ, suc, Bool, true, false, List, [], ◌∷◌, ◌++◌, length, Option, Some, None}
+use Rattle.std.proofs.Common.{◌≡◌, ℕ, suc, List, [], ◌∷◌, Option, Some, None}
 use Rattle.std.specs.Prelude.{slice_get}
 use Rattle.syntax.specs.Terminals.{Identifier}
 use Rattle.syntax.specs.declared.declaration.DeclaredType.{DeclaredType}
@@ -15,8 +15,8 @@ use Rattle.expression_types.specs.declared.scope.Entity.TheVariants as entity
 use Rattle.expression_types.specs.Names.{found}
 use Rattle.expression_types.specs.ScopeTree.{entered}
 use Rattle.types.specs.Block.{action_typed, behind, closed, statements_typed}
-use Rattle.types.specs.Checker.{CheckerTree, counted, declared_in, integer_slot, labelled, new_label, restarted, with_scope}
-use Rattle.types.specs.Declaration.{DeclaredTree, FunctionKindTree, MainKind, EdgeKind, VertexKind, FilterKind, NoKind, declare_name, inside_of, opened, parameter, parameters_declared, result_declared, result_entity}
+use Rattle.types.specs.Checker.{CheckerTree, counted, declared_in, integer_slot, labelled, new_label, with_scope}
+use Rattle.types.specs.Declaration.{FunctionKindTree, inside_of, opened, parameter, parameters_declared, result_declared, result_entity}
 use Rattle.types.specs.Initial.{InitializerTree, initializer_of}
 use Rattle.types.specs.Statement.{declare_as}
 use Rattle.types.specs.Step.{declare_step_as, step_behind, step_typed, steps_behind, steps_typed, with_writes}

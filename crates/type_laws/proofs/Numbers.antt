@@ -31,7 +31,7 @@ record Counts (from : ℕ) (ns : List ℕ) (to : ℕ) : Type 0 where
   pub ordered : InOrder (suc from) ns
   pub count : to ≡ length ns + from
 
-order-append : (n : ℕ) (xs ys : List ℕ) → InOrder n xs → InOrder (length xs + n) ys → InOrder n (xs ++ ys)
+pub order-append : (n : ℕ) (xs ys : List ℕ) → InOrder n xs → InOrder (length xs + n) ys → InOrder n (xs ++ ys)
 order-append n [] ys first second = let e : 0 + n ≡ n = omega arith in subst (λ m. InOrder m ys) e second
 order-append n (x ∷ xs) ys first second =
     let e : suc (length xs) + n ≡ length xs + suc n = omega arith in

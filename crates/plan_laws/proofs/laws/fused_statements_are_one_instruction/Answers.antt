@@ -1,7 +1,6 @@
 use Rattle.std.proofs.Common.{subst}
 use Rattle.typed_tree.specs.ProgramTree.{ProgramTree}
 use Rattle.typed_tree.specs.Resolved.{IsResolved}
-use Rattle.types.specs.Program.{program_of}
 use Rattle.type_laws.specs.AskedVectors.{AskForWritten}
 use Rattle.type_laws.specs.LabelPlaces.{LabelsAreInOrder}
 use Rattle.type_laws.specs.Numbers.{InOrder, numbers}
