@@ -14,3 +14,5 @@ pub mod Laws
 pub mod Loop
 pub mod Meaning
 pub mod Shown
+pub use Rattle.typed_tree.specs.BlockTree
+pub use Rattle.typed_tree.specs.ProgramTree

@@ -3,7 +3,7 @@ use Rattle.std.proofs.Common.{◌≡◌, ap, subst, ℕ, ◌≤◌, List, [], �
 use Rattle.std.specs.List.{AllByRecursion}
 use Rattle.std.proofs.Math.Nat.{le_refl}
 use Rattle.std.proofs.lemmas.List.Elements.{All-contains, All-from_recursion}
-use Rattle.typed_tree.specs.ProgramTree.{ProgramTree, ScheduleCallTree}
+use Rattle.schedule.specs.ProgramTree.{ProgramTree, ScheduleCallTree}
 use Rattle.parser.specs.declared.error.ParseError.TheVariants as parser
 use Rattle.parser.proofs.Offsets.{source_within, stands_in as parser_stands_in}
 use Rattle.expression_types.specs.declared.fault.Fault.{Fault}
@@ -11,7 +11,7 @@ use Rattle.expression_types.proofs.LeastLaws.{told_is_least}
 use Rattle.types.specs.Program.{program_of}
 use Rattle.types.proofs.SourceOffsets.{faults_stand, schedule_calls_stand}
 use Rattle.schedule.specs.Calls.{after_call, with_call, with_calls}
-use Rattle.apply_options.specs.ScheduleTree.{ScheduleTree}
+use Rattle.schedule.specs.ScheduleTree.{ScheduleTree}
 use Rattle.schedule.specs.Schedule.{empty_schedule}
 use Rattle.schedule.specs.declared.error.ScheduleRule.{ScheduleRule}
 use Rattle.compiler.specs.declared.error.CompileError.{CompileError}

@@ -4,28 +4,28 @@ use Rattle.std.proofs.lemmas.Bool.{false≢true}
 use Rattle.std.proofs.lemmas.Bool.Decides.{nat_tests}
 use Rattle.std.proofs.lemmas.List.Elements.{All-nil, All-cons}
 use Rattle.std.specs.List.{All, AllByRecursion, list_all}
-use Rattle.apply_options.specs.declared.reduction.Reduction.{Reduction}
-use Rattle.apply_options.specs.declared.reduction.Reduction.TheVariants.{Min}
-use Rattle.typed_tree.specs.StepTree.{FunctionTree, StepTree, DeclareInteger, DeclareCondition, SetInteger, SetCondition, ReduceInteger, SetEntry, ReduceEntry, If, IfElse, StepsTree, NoStep, StepThen}
-use Rattle.typed_tree.specs.ProgramTree.{ProgramTree}
+use Rattle.schedule.specs.Reduction.{Reduction}
+use Rattle.schedule.specs.Reduction.TheVariants.{Min}
+use Rattle.schedule.specs.StepTree.{FunctionTree, StepTree, DeclareInteger, DeclareCondition, SetInteger, SetCondition, ReduceInteger, SetEntry, ReduceEntry, If, IfElse, StepsTree, NoStep, StepThen}
+use Rattle.schedule.specs.ProgramTree.{ProgramTree}
 use Rattle.types.specs.EdgeWrites.{StepReduces, StepsReduce, ReducesInOneWay, SetsNoEntry}
-use Rattle.syntax.specs.SourceTrees.{SourceTree}
+use Rattle.parser.specs.SourceTrees.{SourceTree}
 use Rattle.types.specs.Program.{Checks, program_of}
 use Rattle.types.proofs.EdgeWrites.{edge_functions_write_well}
-use Rattle.algorithm_meaning.specs.State.{StateValue, edge_scope}
-use Rattle.algorithm_meaning.specs.Value.{value, truth}
-use Rattle.algorithm_meaning.specs.Function.{WorkValue, first_work, after_set, after_reduce, after_step, after_steps, after_block, steps_of}
-use Rattle.algorithm_meaning.specs.EdgeApply.{gives}
-use Rattle.algorithm_meaning.specs.Laws.{for_vector}
-use Rattle.typed_tree.specs.Access.{is_none_of, are_apart, step_writes, steps_write}
-use Rattle.apply_options.specs.ScheduleTree.{ScheduleTree}
+use Rattle.plans.specs.State.{StateValue, edge_scope}
+use Rattle.plans.specs.Value.{value, truth}
+use Rattle.plans.specs.Function.{WorkValue, first_work, after_set, after_reduce, after_step, after_steps, after_block, steps_of}
+use Rattle.plans.specs.EdgeApply.{gives}
+use Rattle.plans.specs.Laws.{for_vector}
+use Rattle.schedule.specs.Access.{is_none_of, are_apart, step_writes, steps_write}
+use Rattle.schedule.specs.ScheduleTree.{ScheduleTree}
 use Rattle.std.proofs.lemmas.Bool.{and_parts}
 use Rattle.plans.specs.Instruction.{OperationTree, Do, ApplyEdgesTogether, ApplyVerticesTogether, Unless, Enter, UnlessBelow, Advance, Turn, Jump, End}
 use Rattle.plans.specs.Plan.{plan_of}
 use Rattle.plans.specs.Fused.{FitTogether}
 use Rattle.plans.specs.Reducing.{AreReduced, OperationReduces, AppliesReduce}
-use Rattle.algorithm_meaning.specs.declared.state.SetBinding.{SetBinding}
-use Rattle.algorithm_meaning.specs.declared.contribution.Contribution.{Contribution}
+use Rattle.plans.specs.SetBinding.{SetBinding}
+use Rattle.plans.specs.Contribution.{Contribution}
 use Rattle.plans.proofs.Beside.{both_parts}
 use Rattle.plans.proofs.GivenVectors.{each_differs}
 use Rattle.plans.proofs.Matching.{writes_of}

@@ -1,13 +1,13 @@
 -- Texts whose schedule is refused, and texts that have a plan.
 use Rattle.std.proofs.Common.{◌≡◌, subst, ℕ, List, length, Ok, Err}
-use Rattle.typed_tree.specs.ProgramTree.{ProgramTree}
+use Rattle.schedule.specs.ProgramTree.{ProgramTree}
 use Rattle.parser.specs.Outcome.{IsSource}
-use Rattle.syntax.specs.SourceTrees.{SourceTree}
+use Rattle.parser.specs.SourceTrees.{SourceTree}
 use Rattle.types.specs.Program.{Checks}
 use Rattle.schedule.specs.Calls.{Accepts}
 use Rattle.schedule.specs.declared.error.ScheduleError.{ScheduleError}
 use Rattle.schedule.specs.declared.error.ScheduleError.TheVariants.{Faulty, NoMemory}
-use Rattle.apply_options.specs.ScheduleTree.{ScheduleTree}
+use Rattle.schedule.specs.ScheduleTree.{ScheduleTree}
 use Rattle.plans.specs.declared.plan.Plan.{Plan}
 use Rattle.plans.specs.Plan.{plan_of}
 use Rattle.plans.specs.PlanOf.{IsPlan, program_of}

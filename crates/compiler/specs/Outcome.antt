@@ -1,13 +1,13 @@
 -- What compiling a text answers.
 use Rattle.std.specs.Prelude.{◌≡◌, ℕ, ◌≤◌, List, length, Result, Ok, Err, IfSome}
-use Rattle.syntax.specs.SourceTrees.{SourceTree}
-use Rattle.typed_tree.specs.ProgramTree.{ProgramTree}
+use Rattle.parser.specs.SourceTrees.{SourceTree}
+use Rattle.schedule.specs.ProgramTree.{ProgramTree}
 use Rattle.parser.specs.declared.error.ParseError.TheVariants as parser
 use Rattle.parser.specs.Outcome.{Answers, IsSource}
 use Rattle.expression_types.specs.declared.fault.Fault.{Fault}
 use Rattle.types.specs.Program.{Checks}
 use Rattle.schedule.specs.Calls.{schedule_of}
-use Rattle.apply_options.specs.ScheduleTree.{ScheduleTree}
+use Rattle.schedule.specs.ScheduleTree.{ScheduleTree}
 use Rattle.schedule.specs.declared.error.ScheduleRule.{ScheduleRule}
 use Rattle.plans.specs.declared.plan.Plan.{Plan}
 use Rattle.plans.specs.Plan.{plan_of}

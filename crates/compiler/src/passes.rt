@@ -1,9 +1,9 @@
 //! From a text to a plan: the passes, and laws of what they give.
 ghost use Rattle.std.specs.Prelude.{ℕ, List, Ok, Err};
-ghost use Rattle.syntax.specs.SourceTrees.{SourceTree};
-ghost use Rattle.typed_tree.specs.ProgramTree.{ProgramTree};
+ghost use Rattle.parser.specs.SourceTrees.{SourceTree};
+ghost use Rattle.schedule.specs.ProgramTree.{ProgramTree};
 ghost use Rattle.types.specs.Program.{Checks};
-ghost use Rattle.apply_options.specs.ScheduleTree.{ScheduleTree};
+ghost use Rattle.schedule.specs.ScheduleTree.{ScheduleTree};
 ghost use Rattle.plans.specs.Plan.{plan_of};
 ghost use Rattle.plans.specs.Reducing.{AppliesReduce};
 ghost use Rattle.compiler.specs.declared.error.CompileError as error;

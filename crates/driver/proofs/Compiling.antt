@@ -2,7 +2,7 @@
 use Rattle.std.proofs.Common.{◌≡◌, refl, ℕ, ◌+◌, ◌<◌, List, [], ◌∷◌, ◌++◌, length, map, drop, get_or, Bor, inl, inr, sym, ap, ◌∙◌, subst, append-nil, append_assoc}
 use Rattle.std.proofs.lemmas.List.{map-append, drop_more}
 use Rattle.std.specs.declared.io.Error.{Error}
-use Rattle.typed_tree.specs.ProgramTree.{ProgramTree}
+use Rattle.algorithm_meaning.specs.ProgramTree.{ProgramTree}
 use Rattle.driver.specs.declared.compiled_plan.CompiledPlan.{CompiledPlan}
 use Rattle.driver.specs.Programs.{tree_of}
 use Rattle.plans.specs.declared.plan.Plan.{Plan}

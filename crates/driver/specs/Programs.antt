@@ -1,5 +1,5 @@
 -- The programs that a script runs.
-use Rattle.typed_tree.specs.ProgramTree.{ProgramTree}
+use Rattle.algorithm_meaning.specs.ProgramTree.{ProgramTree}
 use Rattle.plans.specs.PlanOf.{program_of}
 use Rattle.driver.specs.declared.compiled_plan.CompiledPlan.{CompiledPlan}
 

@@ -6,7 +6,7 @@ use Rattle.compiler.specs.declared.error.CompileError.{CompileError}
 use Rattle.compiler.specs.declared.error.CompileError.TheVariants as compiler
 use Rattle.compiler.specs.Outcome.{Compiles, IsPlanOfText, IsProgram}
 use Rattle.plans.specs.declared.plan.Plan.{Plan}
-use Rattle.typed_tree.specs.ProgramTree.{ProgramTree}
+use Rattle.algorithm_meaning.specs.ProgramTree.{ProgramTree}
 use Rattle.driver.specs.Endings.{of_read}
 use Rattle.driver.specs.declared.error.ServeError.{ServeError}
 use Rattle.driver.specs.declared.compiled_plan.CompiledPlan.{CompiledPlan}

@@ -5,7 +5,7 @@ use Rattle.devices.specs.Drain.{TakesPart}
 use Rattle.plans.specs.declared.plan.Plan.{Plan}
 use Rattle.plans.specs.PlanOf.{program_of}
 use Rattle.lowering.specs.Text.{text_of}
-use Rattle.typed_tree.specs.ProgramTree.{ProgramTree}
+use Rattle.algorithm_meaning.specs.ProgramTree.{ProgramTree}
 use Rattle.scripts.specs.declared.error.ScriptError.{ScriptError}
 use Rattle.scripts.specs.Script.{Input, Taken, RunsScript}
 use Rattle.scripts.specs.Text.{RunsText}

@@ -4,7 +4,7 @@ use Rattle.apply_options.specs.declared.reduction.Reduction.{Reduction}
 use Rattle.typed_tree.specs.StepTree.{StepsTree}
 use Rattle.algorithm_meaning.specs.Arithmetic.{reduced}
 use Rattle.algorithm_meaning.specs.State.{StateValue}
-use Rattle.register_code.specs.Meaning.{given_in}
+use Rattle.kernels.specs.Meaning.{given_in}
 
 -- a number reduced with all that is given to a vertex; what is given is a vertex and a number each
 abbrev pub reduced_at : Reduction → (v : ℕ) → ℤ → List (ℕ × ℤ) → ℤ

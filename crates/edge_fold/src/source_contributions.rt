@@ -2,9 +2,9 @@
 ghost use Rattle.std.specs.Prelude.{◌≡◌, ℕ, ◌∷◌, [], List, IfSome};
 ghost use Rattle.typed_tree.specs.StepTree.{StepsTree};
 ghost use Rattle.algorithm_meaning.specs.State.{StateValue};
-ghost use Rattle.register_code.specs.Cells.{HasSizes};
+ghost use Rattle.kernels.specs.Cells.{HasSizes};
 ghost use Rattle.kernels.specs.Kernels.{IsEdgeKernel};
-ghost use Rattle.register_code.specs.Meaning.{given_in};
+ghost use Rattle.kernels.specs.Meaning.{given_in};
 ghost use Rattle.edge_fold.specs.Folded.{IsContextOf};
 ghost use Rattle.edge_fold.specs.Given.{all_given};
 

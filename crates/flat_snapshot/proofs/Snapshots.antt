@@ -10,7 +10,7 @@ use Rattle.tree_batch.specs.Run.{elements_at}
 use Rattle.tree_batch.specs.Neighbours.{destinations_of, sources_of, edges_of, HaveNeighbours}
 use Rattle.tree_batch.specs.VertexSets.{AreSetsOf}
 use Rattle.flat_snapshot.specs.Lists.{neighbours_of, degrees_of, element_lists}
-use Rattle.flat_snapshot.specs.Neighbours.{AreDegreesOf, edges_in, IsFlat}
+use Rattle.flat_snapshot.specs.FlatEdges.{AreDegreesOf, edges_in, IsFlat}
 
 -- the vertices stay in order
 pub rises_lists : (a h : ℕ) (es : List (ℕ × ChunkedSet)) → Rises a h es → Rises a h (element_lists es)

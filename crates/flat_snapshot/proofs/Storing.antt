@@ -7,7 +7,7 @@ use Rattle.tail_codec.specs.Decoding.{elements_over}
 use Rattle.tail_codec.proofs.Lists.{elements_from-SpellsFrom}
 use Rattle.flat_snapshot.specs.declared.lists.Entry.{Entry}
 use Rattle.flat_snapshot.specs.Lists.{neighbours_at, degrees_of, IsPushed}
-use Rattle.flat_snapshot.specs.Entries.{start_of, bytes_between, list_between, lists_in, IsListed, AreListed, IsStored}
+use Rattle.flat_snapshot.specs.ListBytes.{start_of, bytes_between, list_between, lists_in, IsListed, AreListed, IsStored}
 use Rattle.flat_snapshot.specs.Degrees.{degrees_in}
 
 -- the bytes that came last

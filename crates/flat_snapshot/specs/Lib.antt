@@ -1,5 +1,9 @@
 pub mod Lists
-pub mod Entries
+pub mod ListBytes
 pub mod Degrees
 pub mod Index
-pub mod Neighbours
+pub mod FlatEdges
+pub use Rattle.shared_tree.specs.Entries
+pub use Rattle.tree_batch.specs.Digraph
+pub use Rattle.tree_batch.specs.Edge
+pub use Rattle.tree_batch.specs.Neighbours

@@ -3,7 +3,7 @@
 ghost use Rattle.std.specs.Prelude.{◌≡◌, ◌^◌, ◌≤◌, length, IfOk};
 ghost use Rattle.tree_batch.specs.Digraph.{IsDigraph};
 ghost use Rattle.tree_batch.specs.Neighbours.{destinations_of, sources_of};
-ghost use Rattle.flat_snapshot.specs.Neighbours.{AreDegreesOf};
+ghost use Rattle.flat_snapshot.specs.FlatEdges.{AreDegreesOf};
 
 use crate::adjacency::Adjacency;
 use crate::degrees::Degrees;
@@ -34,7 +34,7 @@ impl Drop for Flat {
 
 impl Model for Flat {
     ghost use Rattle.tree_batch.specs.Digraph.{Digraph, digraph};
-    ghost use Rattle.flat_snapshot.specs.Neighbours.{edges_in, IsFlat};
+    ghost use Rattle.flat_snapshot.specs.FlatEdges.{edges_in, IsFlat};
 
     ghost Value = { Digraph };
 

@@ -1,7 +1,7 @@
 //! Vertices with the lists of their neighbours, one after another.
 
 ghost use Rattle.std.specs.Prelude.{◌≡◌, ◌+◌, ◌^◌, ◌<◌, [], length, drop};
-ghost use Rattle.flat_snapshot.specs.Entries.{start_of, list_between, IsListed, IsStored};
+ghost use Rattle.flat_snapshot.specs.ListBytes.{start_of, list_between, IsListed, IsStored};
 ghost use Rattle.flat_snapshot.specs.Lists.{neighbours_at, degrees_of, IsPushed};
 
 use crate::degrees::Degrees;
@@ -43,7 +43,7 @@ impl Model for Lists {
 
     ghost Value = { List (ℕ × List ℕ) };
 
-    ghost use Rattle.flat_snapshot.specs.Entries.{lists_in, AreListed};
+    ghost use Rattle.flat_snapshot.specs.ListBytes.{lists_in, AreListed};
 
     ghost view = { λ a. lists_in a.bytes.items a.entries.items };
 

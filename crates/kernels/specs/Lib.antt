@@ -5,3 +5,15 @@ pub mod Expressions
 pub mod Columns
 pub mod Shapes
 pub mod MainCells
+pub use Rattle.algorithm_meaning.specs.Arithmetic
+pub use Rattle.algorithm_meaning.specs.EdgeApply
+pub use Rattle.algorithm_meaning.specs.Laws
+pub use Rattle.algorithm_meaning.specs.State
+pub use Rattle.algorithm_meaning.specs.Value
+pub use Rattle.register_code.specs.Cells
+pub use Rattle.register_code.specs.FunctionCode
+pub use Rattle.register_code.specs.Meaning
+pub use Rattle.register_code.specs.declared.instruction.ContributionCode
+pub use Rattle.register_code.specs.declared.instruction.RegisterInstruction
+pub use Rattle.register_code.specs.declared.register_counts.RegisterCounts
+pub use Rattle.typed_tree.specs.StepTree

@@ -1,7 +1,7 @@
 -- A program for tests of scripts.
 use Rattle.std.specs.Prelude.{[], None}
-use Rattle.typed_tree.specs.BlockTree.{Empty}
-use Rattle.typed_tree.specs.ProgramTree.{ProgramTree}
+use Rattle.algorithm_meaning.specs.BlockTree.{Empty}
+use Rattle.algorithm_meaning.specs.ProgramTree.{ProgramTree}
 
 -- the program that declares nothing and does nothing
 pub empty_program : ProgramTree

@@ -7,3 +7,5 @@ pub mod Plain
 pub mod Readers
 pub mod Refusal
 pub mod Views
+pub use Rattle.syntax.specs.SourceTrees
+pub use Rattle.syntax.specs.SourceViews

@@ -4,7 +4,7 @@ use Rattle.typed_tree.specs.ProgramTree.{ProgramTree}
 use Rattle.algorithm_meaning.specs.State.{GraphValue}
 use Rattle.plans.specs.Instruction.{InstructionTree}
 use Rattle.plans.specs.Machine.{Configuration, step, steps}
-use Rattle.plans.specs.Laws.{GoesOn, StepsLowerTheBound}
+use Rattle.plans.specs.RunLaws.{GoesOn, StepsLowerTheBound}
 use Rattle.plans.specs.Bound.{most_steps}
 use Rattle.plans.proofs.Reaching.{Reaches, here, next}
 

@@ -10,7 +10,7 @@ use Rattle.algorithm_meaning.specs.declared.state.Depth.{Depth}
 use Rattle.plans.specs.Instruction.{ResultTree, Dropped, Declared, Assigned, EdgePartTree, OperationTree, Do, ApplyEdgesTogether, ApplyVerticesTogether, Unless, Enter, UnlessBelow, Advance, Turn, Jump, End, InstructionTree}
 use Rattle.algorithm_meaning.specs.Loop.{forget_beyond}
 use Rattle.plans.specs.Machine.{Configuration, At, Ended, with_result, with_results, after_parts, go_on, after_unless, after_enter, after_unless_below, after_advance, after_turn, act, act_at, step}
-use Rattle.plans.specs.Laws.{GoesOn}
+use Rattle.plans.specs.RunLaws.{GoesOn}
 use Rattle.plans.specs.Bound.{rank, most_steps}
 use Rattle.plans.proofs.Proper.{HasNoBlock}
 use Rattle.plans.proofs.Targets.{AllLeadWell}

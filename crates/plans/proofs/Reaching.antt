@@ -15,7 +15,7 @@ use Rattle.algorithm_meaning.specs.declared.state.Depth.{Depth}
 use Rattle.plans.specs.Instruction.{Do, Jump, InstructionTree}
 use Rattle.plans.specs.Plan.{IsWithin, behind, loop_step}
 use Rattle.plans.specs.Machine.{Configuration, At, Ended, go_on, act, act_at, step}
-use Rattle.plans.specs.Laws.{GoesOn}
+use Rattle.plans.specs.RunLaws.{GoesOn}
 use Rattle.plans.proofs.Depths.{forgotten-all, forgotten-less}
 use Rattle.plans.proofs.Proper.{IsProper, HasNoBlock, Leaves, alone-leaves, proper-forgotten}
 

@@ -12,7 +12,7 @@ use Rattle.algorithm_meaning.specs.declared.state.Depth.{Depth}
 use Rattle.plans.specs.Instruction.{End, InstructionTree}
 use Rattle.plans.specs.Plan.{behind_all, main_depth, plain, size_all, plan_all, plan_of}
 use Rattle.plans.specs.Machine.{Configuration, At, Ended, first_configuration, finish}
-use Rattle.plans.specs.Laws.{Shows, RunsAs, StepsLowerTheBound}
+use Rattle.plans.specs.RunLaws.{Shows, RunsAs, StepsLowerTheBound}
 use Rattle.plans.proofs.Depths.{forgotten-all}
 use Rattle.plans.proofs.Ascending.{AscendsFrom, ascends_range}
 use Rattle.plans.proofs.Proper.{IsProper}

@@ -2,7 +2,7 @@
 use Rattle.std.specs.Prelude.{ℕ, slice_get}
 use Rattle.typed_tree.specs.ProgramTree.{ProgramTree}
 use Rattle.algorithm_meaning.specs.Function.{steps_of}
-use Rattle.register_code.specs.Meaning.{IsVertexCode}
+use Rattle.kernels.specs.Meaning.{IsVertexCode}
 use Rattle.kernels.specs.Kernels.{IsEdgeKernel, IsFilterKernel}
 use Rattle.plans.specs.declared.functions.FunctionKernels.{FunctionKernels}
 use Rattle.plans.specs.Kernels.{kernel_at}

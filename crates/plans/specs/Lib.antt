@@ -2,7 +2,7 @@ pub mod Instruction
 pub mod Plan
 pub mod Fusing
 pub mod Machine
-pub mod Laws
+pub mod RunLaws
 pub mod Bound
 pub mod Choices
 pub mod Fused
@@ -16,3 +16,10 @@ pub mod Operation
 pub mod Lowered
 pub mod Outline
 pub mod PlanOf
+pub use Rattle.algorithm_meaning.specs.EdgeApply
+pub use Rattle.algorithm_meaning.specs.Function
+pub use Rattle.algorithm_meaning.specs.Laws
+pub use Rattle.algorithm_meaning.specs.State
+pub use Rattle.algorithm_meaning.specs.Value
+pub use Rattle.algorithm_meaning.specs.declared.contribution.Contribution
+pub use Rattle.algorithm_meaning.specs.declared.state.SetBinding

@@ -2,7 +2,7 @@
 ghost use Rattle.std.specs.Prelude.{◌≡◌, ℕ, IfOk, map, slice_get};
 ghost use Rattle.algorithm_meaning.specs.Function.{steps_of};
 ghost use Rattle.typed_tree.specs.StepTree.{StepsTree, function_tree};
-ghost use Rattle.register_code.specs.Meaning.{IsVertexCode};
+ghost use Rattle.kernels.specs.Meaning.{IsVertexCode};
 ghost use Rattle.kernels.specs.Kernels.{IsEdgeKernel, IsFilterKernel};
 ghost use Rattle.plans.specs.Kernels.{ArePairwise, kernel_at};
 

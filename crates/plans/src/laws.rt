@@ -10,7 +10,7 @@ ghost use Rattle.apply_options.specs.ScheduleTree.{ScheduleTree};
 ghost use Rattle.plans.specs.Choices.{GoBySchedule};
 ghost use Rattle.plans.specs.Examples.{HasPlanOfApartEdges, HasPlanOfEdgePair, HasPlanOfLoop, HasPlanOfModifyingPair, HasPlanOfSearch, HasPlanOfVertexPair};
 ghost use Rattle.plans.specs.Fused.{FusedFit};
-ghost use Rattle.plans.specs.Laws.{RunsAs, StepsLowerTheBound};
+ghost use Rattle.plans.specs.RunLaws.{RunsAs, StepsLowerTheBound};
 ghost use Rattle.plans.specs.Plan.{plan_of};
 
 /// For every program, schedule, graph and bound of turns the plan does what the program does: run from the opening

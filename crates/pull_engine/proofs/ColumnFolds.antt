@@ -5,9 +5,9 @@ use Rattle.std.proofs.lemmas.List.{append-nil, map-append}
 use Rattle.std.proofs.lemmas.List.Elements.{filter-append}
 use Rattle.std.specs.List.{filter}
 use Rattle.apply_options.specs.declared.reduction.Reduction.{Reduction}
-use Rattle.typed_tree.specs.StepTree.{StepsTree}
-use Rattle.algorithm_meaning.specs.EdgeApply.{is_member}
-use Rattle.algorithm_meaning.specs.State.{StateValue}
+use Rattle.kernels.specs.StepTree.{StepsTree}
+use Rattle.kernels.specs.EdgeApply.{is_member}
+use Rattle.kernels.specs.State.{StateValue}
 use Rattle.edge_fold.specs.declared.scratch.Scratch.{Scratch}
 use Rattle.edge_fold.specs.Between.{edges_between}
 use Rattle.edge_fold.specs.declared.apply_context.ApplyContext.{ApplyContext}
@@ -15,7 +15,7 @@ use Rattle.edge_fold.specs.Folded.{HasFolded}
 use Rattle.edge_fold.specs.Given.{column, given_on, reduced_at}
 use Rattle.edge_fold.proofs.Meaning.{filtered_edges}
 use Rattle.edge_fold.proofs.Walks.{InRow}
-use Rattle.tree_batch.specs.Neighbours.{sources_of}
+use Rattle.flat_snapshot.specs.Neighbours.{sources_of}
 use Rattle.vertex_sets.proofs.Ascending.{Rises}
 use Rattle.push_engine.proofs.RowFolds.{below_all}
 use Rattle.pull_engine.specs.Columns.{columns}

@@ -2,9 +2,9 @@
 use Rattle.std.proofs.Common.{◌≡◌, ℕ, ◌<◌, ◌==◌, Bool, true, false, cond, List, [], ◌∷◌, ◌++◌, length, refl, sym, ap, ◌∙◌}
 use Rattle.std.specs.List.{filter, flat_map, range_with_len}
 use Rattle.std.specs.List.Sorted.{IsPermutation}
-use Rattle.typed_tree.specs.StepTree.{StepsTree}
-use Rattle.algorithm_meaning.specs.State.{StateValue}
-use Rattle.register_code.specs.Cells.{HasSizes}
+use Rattle.kernels.specs.StepTree.{StepsTree}
+use Rattle.kernels.specs.State.{StateValue}
+use Rattle.kernels.specs.Cells.{HasSizes}
 use Rattle.crew.specs.declared.piece_results.Found.{Found}
 use Rattle.edge_fold.specs.declared.apply_context.ApplyContext.{ApplyContext}
 use Rattle.edge_fold.specs.declared.gathered.Gathered.{Gathered}
@@ -17,9 +17,9 @@ use Rattle.edge_fold.proofs.Orders.{folded_in_any_order}
 use Rattle.edge_fold.proofs.Walks.{folded_along}
 use Rattle.crew.specs.Partition.{AreEnds, piece_of}
 use Rattle.crew.proofs.PieceLists.{pieces_are_the_list}
-use Rattle.tree_batch.specs.Digraph.{Digraph, IsDigraph}
-use Rattle.tree_batch.specs.Edge.{edge_eq, has_edge}
-use Rattle.tree_batch.specs.Neighbours.{sources_of}
+use Rattle.flat_snapshot.specs.Digraph.{Digraph, IsDigraph}
+use Rattle.flat_snapshot.specs.Edge.{edge_eq, has_edge}
+use Rattle.flat_snapshot.specs.Neighbours.{sources_of}
 use Rattle.push_engine.specs.Pieces.{EachGathered}
 use Rattle.push_engine.proofs.SourceLists.{rising}
 use Rattle.pull_engine.specs.declared.work.PullWork.{PullWork}

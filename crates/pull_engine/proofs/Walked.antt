@@ -2,9 +2,9 @@
 use Rattle.std.proofs.Common.{◌≡◌, ℕ, ◌+◌, ◌<◌, Bool, true, ◌&&◌, List, [], ◌∷◌, ◌++◌, length, take, get_or, sym, ap, ◌∙◌, append_assoc}
 use Rattle.std.proofs.lemmas.List.{append-nil, take_more}
 use Rattle.std.specs.List.{filter}
-use Rattle.typed_tree.specs.StepTree.{StepsTree}
-use Rattle.algorithm_meaning.specs.EdgeApply.{is_member}
-use Rattle.algorithm_meaning.specs.State.{StateValue}
+use Rattle.kernels.specs.StepTree.{StepsTree}
+use Rattle.kernels.specs.EdgeApply.{is_member}
+use Rattle.kernels.specs.State.{StateValue}
 use Rattle.kernels.specs.declared.endpoint_filter.EndpointFilter.{EndpointFilter}
 use Rattle.edge_fold.specs.declared.apply_context.ApplyContext.{ApplyContext}
 use Rattle.edge_fold.specs.declared.scratch.Scratch.{Scratch}
@@ -13,8 +13,8 @@ use Rattle.edge_fold.specs.Ends.{IsTest}
 use Rattle.edge_fold.specs.Folded.{IsContextOf, HasFolded}
 use Rattle.edge_fold.specs.Given.{column}
 use Rattle.edge_fold.proofs.Walks.{FoldsMore, HasPassed, HasWalked, folded_along, pass_done, walk_done}
-use Rattle.flat_snapshot.specs.Neighbours.{AreDegreesOf}
-use Rattle.tree_batch.specs.Neighbours.{sources_of}
+use Rattle.flat_snapshot.specs.FlatEdges.{AreDegreesOf}
+use Rattle.flat_snapshot.specs.Neighbours.{sources_of}
 use Rattle.vertex_sets.proofs.Ascending.{Rises}
 use Rattle.push_engine.proofs.Walked.{degree_listed, degrees_rise, member_filtered, rises_filtered}
 use Rattle.pull_engine.specs.Columns.{columns}

@@ -2,7 +2,7 @@
 use Rattle.std.specs.Prelude.{ℕ, Bool, List, [], ◌∷◌, ◌++◌}
 use Rattle.std.specs.List.{filter}
 use Rattle.edge_fold.specs.Given.{column}
-use Rattle.tree_batch.specs.Neighbours.{sources_of}
+use Rattle.flat_snapshot.specs.Neighbours.{sources_of}
 
 -- those of a graph with these edges, from the sources that pass
 abbrev pub columns : (from : ℕ → Bool) → List (ℕ × ℕ) → (destinations : List ℕ) → List (ℕ × ℕ)

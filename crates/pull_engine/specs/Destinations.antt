@@ -1,7 +1,7 @@
 -- The destinations of an apply in pieces, and the sources that pass.
 use Rattle.std.specs.Prelude.{◌≡◌, ℕ, ◌<◌, length, Bool, true, Option, Some, None, List}
-use Rattle.algorithm_meaning.specs.EdgeApply.{is_member}
-use Rattle.tree_batch.specs.Neighbours.{sources_of}
+use Rattle.kernels.specs.EdgeApply.{is_member}
+use Rattle.flat_snapshot.specs.Neighbours.{sources_of}
 use Rattle.vertex_sets.specs.VertexSet.{VertexSubset}
 use Rattle.push_engine.specs.Sources.{AscendsFrom}
 

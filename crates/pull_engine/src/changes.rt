@@ -1,8 +1,8 @@
 //! Whole applies by pull: into the destinations.
 ghost use Rattle.std.specs.Prelude.{◌≡◌, ℕ, Bool, List, IfOk};
-ghost use Rattle.typed_tree.specs.StepTree.{StepsTree};
-ghost use Rattle.algorithm_meaning.specs.EdgeApply.{is_member};
-ghost use Rattle.algorithm_meaning.specs.State.{StateValue};
+ghost use Rattle.kernels.specs.StepTree.{StepsTree};
+ghost use Rattle.kernels.specs.EdgeApply.{is_member};
+ghost use Rattle.kernels.specs.State.{StateValue};
 ghost use Rattle.edge_fold.specs.Between.{edges_between};
 ghost use Rattle.edge_fold.specs.Changed.{AreApart};
 ghost use Rattle.edge_fold.specs.Ends.{IsEndTest};

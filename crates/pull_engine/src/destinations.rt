@@ -1,14 +1,14 @@
 //! Going over the destinations of an apply.
 ghost use Rattle.std.specs.Prelude.{◌≡◌, ℕ, ◌++◌, Bool, true, List, [], length, OnOk};
 ghost use Rattle.std.specs.List.{filter};
-ghost use Rattle.typed_tree.specs.StepTree.{StepsTree};
-ghost use Rattle.algorithm_meaning.specs.EdgeApply.{is_member};
-ghost use Rattle.algorithm_meaning.specs.State.{StateValue};
+ghost use Rattle.kernels.specs.StepTree.{StepsTree};
+ghost use Rattle.kernels.specs.EdgeApply.{is_member};
+ghost use Rattle.kernels.specs.State.{StateValue};
 ghost use Rattle.edge_fold.specs.Between.{edges_between};
 ghost use Rattle.edge_fold.specs.Ends.{IsEndTest, IsTest};
 ghost use Rattle.edge_fold.specs.Folded.{IsContextOf, HasFolded};
 ghost use Rattle.edge_fold.specs.Given.{column};
-ghost use Rattle.tree_batch.specs.Neighbours.{sources_of};
+ghost use Rattle.flat_snapshot.specs.Neighbours.{sources_of};
 ghost use Rattle.pull_engine.specs.Columns.{columns};
 ghost use Rattle.push_engine.specs.Words.{passes_words};
 

@@ -1,14 +1,14 @@
 //! The destinations of an apply, listed, and its sources as bits.
 ghost use Rattle.std.specs.Prelude.{◌≡◌, ℕ, ◌<◌, Bool, true, List, length, map, IfOk, IfSome};
-ghost use Rattle.algorithm_meaning.specs.EdgeApply.{is_member};
-ghost use Rattle.algorithm_meaning.specs.State.{StateValue};
+ghost use Rattle.kernels.specs.EdgeApply.{is_member};
+ghost use Rattle.kernels.specs.State.{StateValue};
 ghost use Rattle.apply_options.specs.declared.apply_schedule.Parallelization.TheVariants.{EdgeAwareDynamicVertex};
-ghost use Rattle.register_code.specs.Cells.{HasSizes};
+ghost use Rattle.kernels.specs.Cells.{HasSizes};
 ghost use Rattle.crew.specs.Outcome.{AreWorkers};
 ghost use Rattle.edge_fold.specs.Ends.{IsEndTest, IsTest};
 ghost use Rattle.crew.specs.Boundaries.{boundaries};
 ghost use Rattle.crew.specs.Partition.{AreEnds};
-ghost use Rattle.tree_batch.specs.Neighbours.{sources_of};
+ghost use Rattle.flat_snapshot.specs.Neighbours.{sources_of};
 ghost use Rattle.push_engine.specs.Sources.{AscendsFrom};
 ghost use Rattle.pull_engine.specs.Destinations.{AreDestinations, passes_set};
 ghost use Rattle.push_engine.specs.Words.{passes_words};

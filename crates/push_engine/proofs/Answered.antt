@@ -1,8 +1,8 @@
 -- What the pieces of an apply answer, for one state.
 use Rattle.std.proofs.Common.{◌≡◌, ℕ, Bool, List, [], ◌∷◌}
-use Rattle.typed_tree.specs.StepTree.{StepsTree}
-use Rattle.algorithm_meaning.specs.State.{StateValue}
-use Rattle.register_code.specs.Cells.{HasSizes}
+use Rattle.kernels.specs.StepTree.{StepsTree}
+use Rattle.kernels.specs.State.{StateValue}
+use Rattle.kernels.specs.Cells.{HasSizes}
 use Rattle.crew.specs.declared.piece_results.Found.{Found}
 use Rattle.edge_fold.specs.declared.gathered.Gathered.{Gathered}
 use Rattle.edge_fold.specs.Ends.{IsEndTest}

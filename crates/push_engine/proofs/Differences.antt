@@ -2,7 +2,7 @@
 use Rattle.std.proofs.Common.{◌≡◌, ℕ, zero, suc, ◌+◌, ◌<◌, ◌≤◌, ℤ, Bool, true, false, cond, not, List, [], ◌∷◌, ◌++◌, refl, sym, ap, ◌∙◌, subst, arith, append_assoc}
 use Rattle.std.proofs.lemmas.List.{append-nil}
 use Rattle.std.specs.List.{filter, range_with_len}
-use Rattle.algorithm_meaning.specs.Arithmetic.{int_equal}
+use Rattle.kernels.specs.Arithmetic.{int_equal}
 use Rattle.vectors.specs.declared.changes.EntryChange.{EntryChange}
 use Rattle.edge_fold.specs.Changed.{changed_from}
 

@@ -2,10 +2,10 @@
 use Rattle.std.proofs.Common.{◌≡◌, ℕ, ◌<◌, ◌==◌, Bool, true, false, cond, ◌||◌, ◌&&◌, List, [], ◌∷◌, refl, sym, ap, ◌∙◌, subst}
 use Rattle.std.proofs.lemmas.Bool.Decides.{Decides-eqb}
 use Rattle.std.specs.List.{filter}
-use Rattle.typed_tree.specs.StepTree.{StepsTree}
-use Rattle.algorithm_meaning.specs.State.{StateValue}
-use Rattle.tree_batch.specs.Edge.{edge_eq, has_edge}
-use Rattle.tree_batch.specs.Digraph.{Digraph, IsDigraph}
+use Rattle.kernels.specs.StepTree.{StepsTree}
+use Rattle.kernels.specs.State.{StateValue}
+use Rattle.flat_snapshot.specs.Edge.{edge_eq, has_edge}
+use Rattle.flat_snapshot.specs.Digraph.{Digraph, IsDigraph}
 use Rattle.vectors.specs.declared.changes.VectorChanges.{VectorChanges}
 use Rattle.edge_fold.specs.Between.{edges_between}
 use Rattle.push_engine.specs.Applied.{AreChangesOn}

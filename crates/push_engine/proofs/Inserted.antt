@@ -4,7 +4,7 @@ use Rattle.std.proofs.lemmas.Bool.{ne_eqb}
 use Rattle.std.proofs.lemmas.Bool.Decides.{Decides-eqb}
 use Rattle.std.proofs.lemmas.List.{take_more}
 use Rattle.std.proofs.lemmas.List.Folds.{Any-from_list_any, list_any-append, list_any_at}
-use Rattle.algorithm_meaning.specs.EdgeApply.{is_member}
+use Rattle.kernels.specs.EdgeApply.{is_member}
 use Rattle.vertex_sets.proofs.Ascending.{contains_first, contains_later, first_or_later}
 use Rattle.vertex_sets.specs.VertexSet.{Adds, VertexSubset}
 use Rattle.edge_fold.proofs.Findings.{member_is}

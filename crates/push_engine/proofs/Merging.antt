@@ -5,8 +5,8 @@ use Rattle.std.proofs.lemmas.List.Elements.{filter-append}
 use Rattle.std.specs.List.{filter, flat_map, range_with_len}
 use Rattle.std.specs.List.Sorted.{IsPermutation}
 use Rattle.apply_options.specs.declared.reduction.Reduction.{Reduction}
-use Rattle.typed_tree.specs.StepTree.{StepsTree}
-use Rattle.algorithm_meaning.specs.State.{StateValue}
+use Rattle.kernels.specs.StepTree.{StepsTree}
+use Rattle.kernels.specs.State.{StateValue}
 use Rattle.crew.specs.declared.piece_results.Found.{Found}
 use Rattle.edge_fold.specs.declared.apply_context.ApplyContext.{ApplyContext}
 use Rattle.edge_fold.specs.declared.gathered.Gathered.{Gathered}

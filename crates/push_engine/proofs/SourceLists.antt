@@ -2,12 +2,12 @@
 use Rattle.std.proofs.Common.{◌≡◌, append_assoc, ℕ, zero, suc, ◌+◌, ◌-◌, ◌<◌, ◌≤◌, Bool, true, cond, ◌&&◌, List, [], ◌∷◌, ◌++◌, length, get_or, refl, sym, ap, ◌∙◌, arith}
 use Rattle.std.proofs.lemmas.List.{append-nil}
 use Rattle.std.specs.List.{filter}
-use Rattle.algorithm_meaning.specs.EdgeApply.{is_member}
+use Rattle.kernels.specs.EdgeApply.{is_member}
 use Rattle.apply_options.specs.declared.apply_schedule.Parallelization.{Parallelization}
 use Rattle.apply_options.specs.declared.apply_schedule.Parallelization.TheVariants.{Serial, StaticVertex, DynamicVertex, EdgeAwareDynamicVertex}
 use Rattle.crew.specs.Boundaries.{edge_aware_ends, boundaries}
 use Rattle.crew.specs.Partition.{AreEnds, end_of}
-use Rattle.tree_batch.specs.Neighbours.{destinations_of}
+use Rattle.flat_snapshot.specs.Neighbours.{destinations_of}
 use Rattle.vertex_sets.proofs.Ascending.{Rises}
 use Rattle.push_engine.specs.Sources.{AscendsFrom}
 use Rattle.push_engine.proofs.Walked.{member_filtered, rises_filtered}

@@ -4,9 +4,9 @@ use Rattle.std.proofs.lemmas.Bool.Decides.{nat_tests}
 use Rattle.std.proofs.lemmas.List.{append-nil, map-append, take_more}
 use Rattle.std.proofs.lemmas.List.Elements.{filter-append}
 use Rattle.std.specs.List.{filter}
-use Rattle.typed_tree.specs.StepTree.{StepsTree}
-use Rattle.algorithm_meaning.specs.EdgeApply.{is_member}
-use Rattle.algorithm_meaning.specs.State.{StateValue}
+use Rattle.kernels.specs.StepTree.{StepsTree}
+use Rattle.kernels.specs.EdgeApply.{is_member}
+use Rattle.kernels.specs.State.{StateValue}
 use Rattle.kernels.specs.declared.endpoint_filter.EndpointFilter.{EndpointFilter}
 use Rattle.edge_fold.specs.declared.apply_context.ApplyContext.{ApplyContext}
 use Rattle.edge_fold.specs.declared.scratch.Scratch.{Scratch}
@@ -14,9 +14,9 @@ use Rattle.edge_fold.specs.Ends.{IsTest}
 use Rattle.edge_fold.specs.Folded.{IsContextOf, HasFolded}
 use Rattle.edge_fold.specs.Given.{row}
 use Rattle.edge_fold.proofs.Walks.{FoldsMore, HasPassed, HasWalked, InRow, folded_along, pass_done, walk_done}
-use Rattle.flat_snapshot.specs.Neighbours.{AreDegreesOf}
-use Rattle.shared_tree.specs.Entries.{lookup, Rises as Climbs}
-use Rattle.tree_batch.specs.Neighbours.{destinations_of}
+use Rattle.flat_snapshot.specs.FlatEdges.{AreDegreesOf}
+use Rattle.flat_snapshot.specs.Entries.{lookup, Rises as Climbs}
+use Rattle.flat_snapshot.specs.Neighbours.{destinations_of}
 use Rattle.vertex_sets.proofs.Ascending.{Rises, rises_from_lower}
 use Rattle.edge_fold.specs.Between.{edges_between, firsts}
 use Rattle.push_engine.specs.Rows.{rows_to}

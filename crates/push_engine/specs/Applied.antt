@@ -1,13 +1,13 @@
 -- What an apply of edge functions changes.
 use Rattle.std.specs.Prelude.{◌≡◌, ℕ, ◌≤◌, ℤ, Bool, List, [], length, slice_index_or}
 use Rattle.apply_options.specs.declared.reduction.Reduction.{Reduction}
-use Rattle.typed_tree.specs.StepTree.{StepsTree}
-use Rattle.algorithm_meaning.specs.EdgeApply.{after_edges}
-use Rattle.algorithm_meaning.specs.Laws.{IsGivenBy}
-use Rattle.algorithm_meaning.specs.State.{StateValue}
-use Rattle.algorithm_meaning.specs.Value.{entry}
-use Rattle.register_code.specs.Cells.{HasSizes}
-use Rattle.tree_batch.specs.Digraph.{Digraph}
+use Rattle.kernels.specs.StepTree.{StepsTree}
+use Rattle.kernels.specs.EdgeApply.{after_edges}
+use Rattle.kernels.specs.Laws.{IsGivenBy}
+use Rattle.kernels.specs.State.{StateValue}
+use Rattle.kernels.specs.Value.{entry}
+use Rattle.kernels.specs.Cells.{HasSizes}
+use Rattle.flat_snapshot.specs.Digraph.{Digraph}
 use Rattle.vectors.specs.declared.changes.VectorChanges.{VectorChanges}
 use Rattle.edge_fold.specs.Between.{edges_between}
 use Rattle.edge_fold.specs.Changed.{changed, changes_of}

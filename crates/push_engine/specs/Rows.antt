@@ -2,7 +2,7 @@
 use Rattle.std.specs.Prelude.{ℕ, Bool, List, [], ◌∷◌, ◌++◌}
 use Rattle.std.specs.List.{filter}
 use Rattle.edge_fold.specs.Given.{row}
-use Rattle.tree_batch.specs.Neighbours.{destinations_of}
+use Rattle.flat_snapshot.specs.Neighbours.{destinations_of}
 
 -- those of a graph with these edges
 abbrev pub rows : List (ℕ × ℕ) → (sources : List ℕ) → List (ℕ × ℕ)

@@ -1,8 +1,8 @@
 -- The sources of an apply in pieces.
 use Rattle.std.specs.Prelude.{◌≡◌, ℕ, ◌+◌, ◌<◌, ◌≤◌, length, Bool, if◌then◌else◌, List, [], ◌∷◌}
 use Rattle.std.specs.List.{filter}
-use Rattle.algorithm_meaning.specs.EdgeApply.{is_member}
-use Rattle.tree_batch.specs.Neighbours.{destinations_of}
+use Rattle.kernels.specs.EdgeApply.{is_member}
+use Rattle.flat_snapshot.specs.Neighbours.{destinations_of}
 
 -- each is above the one before it, and the first is not below this
 abbrev pub AscendsFrom : ℕ → List ℕ → Type 0

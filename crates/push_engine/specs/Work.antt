@@ -1,6 +1,6 @@
 -- What going over the edges from some vertices costs.
 use Rattle.std.specs.Prelude.{ℕ, ◌+◌, List, [], ◌∷◌, length}
-use Rattle.tree_batch.specs.Neighbours.{destinations_of}
+use Rattle.flat_snapshot.specs.Neighbours.{destinations_of}
 
 -- one for each vertex, and one for each edge from it
 abbrev pub work_from : (edges : List (ℕ × ℕ)) → (sources : List ℕ) → ℕ

@@ -1,14 +1,14 @@
 //! Whole applies by push.
 ghost use Rattle.std.specs.Prelude.{◌≡◌, ◌<◌, ◌^◌, ◌&&◌, ℕ, Bool, List, [], length, nat_lt, IfOk, OnOk};
-ghost use Rattle.typed_tree.specs.StepTree.{StepsTree};
-ghost use Rattle.algorithm_meaning.specs.EdgeApply.{is_member};
-ghost use Rattle.algorithm_meaning.specs.State.{StateValue};
+ghost use Rattle.kernels.specs.StepTree.{StepsTree};
+ghost use Rattle.kernels.specs.EdgeApply.{is_member};
+ghost use Rattle.kernels.specs.State.{StateValue};
 ghost use Rattle.edge_fold.specs.Between.{edges_between};
 ghost use Rattle.edge_fold.specs.Changed.{AreApart};
 ghost use Rattle.edge_fold.specs.Ends.{IsEndTest, IsTest};
 ghost use Rattle.edge_fold.specs.declared.apply_context.FoldStart.TheVariants.{OldEntry};
 ghost use Rattle.edge_fold.specs.Folded.{IsContextOf, HasFolded};
-ghost use Rattle.tree_batch.specs.Digraph.{IsDigraph};
+ghost use Rattle.flat_snapshot.specs.Digraph.{IsDigraph};
 ghost use Rattle.push_engine.specs.Applied.{AreChangesOf, AreChangesOn};
 ghost use Rattle.push_engine.specs.Words.{passes_words};
 ghost use Rattle.push_engine.specs.Work.{work_from};

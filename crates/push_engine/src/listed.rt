@@ -1,14 +1,14 @@
 //! The sources of an apply, listed.
 ghost use Rattle.std.specs.Prelude.{◌≡◌, ℕ, ◌<◌, Bool, true, false, List, length, map, IfOk};
-ghost use Rattle.algorithm_meaning.specs.EdgeApply.{is_member};
-ghost use Rattle.algorithm_meaning.specs.State.{StateValue};
+ghost use Rattle.kernels.specs.EdgeApply.{is_member};
+ghost use Rattle.kernels.specs.State.{StateValue};
 ghost use Rattle.apply_options.specs.declared.apply_schedule.Parallelization.TheVariants.{EdgeAwareDynamicVertex};
-ghost use Rattle.register_code.specs.Cells.{HasSizes};
+ghost use Rattle.kernels.specs.Cells.{HasSizes};
 ghost use Rattle.crew.specs.Outcome.{AreWorkers};
 ghost use Rattle.edge_fold.specs.Ends.{IsEndTest, IsTest};
 ghost use Rattle.crew.specs.Boundaries.{boundaries};
 ghost use Rattle.crew.specs.Partition.{AreEnds};
-ghost use Rattle.tree_batch.specs.Neighbours.{destinations_of};
+ghost use Rattle.flat_snapshot.specs.Neighbours.{destinations_of};
 ghost use Rattle.push_engine.specs.Sources.{AreSources, AscendsFrom};
 
 use crate::edge_apply::Apply;

@@ -1,7 +1,7 @@
 //! The vertices that an apply has changed.
 ghost use Rattle.std.specs.Prelude.{◌≡◌, ℕ, ℤ, List, length, IfOk};
-ghost use Rattle.algorithm_meaning.specs.EdgeApply.{modified};
-ghost use Rattle.algorithm_meaning.specs.Value.{entry};
+ghost use Rattle.kernels.specs.EdgeApply.{modified};
+ghost use Rattle.kernels.specs.Value.{entry};
 ghost use Rattle.edge_fold.specs.Changed.{changed, changes_of};
 ghost use Rattle.vertex_sets.specs.VertexSet.{IsAscendingBelow};
 

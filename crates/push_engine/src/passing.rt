@@ -1,9 +1,9 @@
 //! The vertices that an end lets through, in bits.
 ghost use Rattle.std.specs.Prelude.{◌≡◌, ◌-◌, ◌<◌, ◌≤◌, ◌||◌, ℕ, Bool, IfOk, OnOk};
 ghost use Rattle.std.specs.List.{range_with_len};
-ghost use Rattle.algorithm_meaning.specs.EdgeApply.{is_member};
-ghost use Rattle.algorithm_meaning.specs.State.{StateValue};
-ghost use Rattle.register_code.specs.Cells.{HasSizes};
+ghost use Rattle.kernels.specs.EdgeApply.{is_member};
+ghost use Rattle.kernels.specs.State.{StateValue};
+ghost use Rattle.kernels.specs.Cells.{HasSizes};
 ghost use Rattle.edge_fold.specs.Ends.{IsTest};
 
 use edge_fold::{ApplyContext, Scratch};

@@ -1,13 +1,13 @@
 //! Work of an apply by push, in pieces.
 ghost use Rattle.std.specs.Prelude.{◌≡◌, ℕ, Bool, Err, length, map, vec_len, IfOk};
-ghost use Rattle.algorithm_meaning.specs.State.{StateValue};
-ghost use Rattle.register_code.specs.Cells.{HasSizes};
+ghost use Rattle.kernels.specs.State.{StateValue};
+ghost use Rattle.kernels.specs.Cells.{HasSizes};
 ghost use Rattle.crew.specs.declared.error.CrewError.TheVariants.{BadWorkers, NoMemory};
 ghost use Rattle.crew.specs.Outcome.{AreWorkers};
 ghost use Rattle.edge_fold.specs.Ends.{IsEndTest};
 ghost use Rattle.crew.specs.Boundaries.{boundaries};
 ghost use Rattle.crew.specs.Partition.{AreEnds};
-ghost use Rattle.tree_batch.specs.Neighbours.{destinations_of};
+ghost use Rattle.flat_snapshot.specs.Neighbours.{destinations_of};
 ghost use Rattle.std.proofs.Props.{props};
 ghost use Rattle.push_engine.specs.Propositions.{AreEnds-prop, AscendsFrom-prop};
 ghost use Rattle.push_engine.specs.Sources.{AreSources};

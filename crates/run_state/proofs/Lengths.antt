@@ -12,10 +12,10 @@ use Rattle.algorithm_meaning.specs.State.{GraphValue, StateValue}
 use Rattle.algorithm_meaning.specs.Value.{with_entry}
 use Rattle.algorithm_meaning.specs.Meaning.{opening_entries, out_degree}
 use Rattle.algorithm_meaning.specs.VertexApply.{after_vertex, after_vertices}
-use Rattle.register_code.specs.declared.instruction.RegisterInstruction.{RegisterInstruction}
-use Rattle.register_code.specs.declared.instruction.RegisterInstruction.TheVariants.{SetEntry}
-use Rattle.register_code.specs.Cells.{Cells, HasSizes, CodeInput, after, is_active, step, written}
-use Rattle.register_code.specs.Meaning.{IsVertexCode, vertex_input}
+use Rattle.kernels.specs.RegisterInstruction.{RegisterInstruction}
+use Rattle.kernels.specs.RegisterInstruction.TheVariants.{SetEntry}
+use Rattle.kernels.specs.Cells.{Cells, HasSizes, CodeInput, after, is_active, step, written}
+use Rattle.kernels.specs.Meaning.{IsVertexCode, vertex_input}
 use Rattle.vectors.specs.declared.changes.EntryChange.{EntryChange}
 use Rattle.vectors.specs.declared.changes.VectorChanges.{VectorChanges}
 use Rattle.vectors.specs.Changes.{with_all_changes, with_changes}

@@ -4,7 +4,7 @@ use Rattle.typed_tree.specs.declared.program.Vector.{Vector}
 use Rattle.algorithm_meaning.specs.State.{GraphValue, StateValue, main_scope}
 use Rattle.algorithm_meaning.specs.Value.{members_of}
 use Rattle.algorithm_meaning.specs.Meaning.{all_vertices, opening_entries}
-use Rattle.tree_batch.specs.Digraph.{Digraph}
+use Rattle.flat_snapshot.specs.Digraph.{Digraph}
 use Rattle.vertex_sets.specs.VertexSet.{IsAscendingBelow}
 
 -- what a run keeps: how many vertices there are, and the state of main

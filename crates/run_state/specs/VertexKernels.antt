@@ -1,6 +1,6 @@
 -- Kernels of vertex functions.
 use Rattle.typed_tree.specs.StepTree.{StepsTree}
-use Rattle.register_code.specs.Meaning.{IsVertexCode}
+use Rattle.kernels.specs.Meaning.{IsVertexCode}
 use Rattle.kernels.specs.declared.vertex_kernel.VertexKernel.{VertexKernel}
 
 -- the kernel is that of some vertex function

@@ -14,10 +14,10 @@ ghost use Rattle.algorithm_meaning.specs.Value.{members_of, reduce_at, with_entr
 ghost use Rattle.algorithm_meaning.specs.Variables.{new_condition, reduce_integer, set_condition, set_integer, with_new_integer, with_scope};
 ghost use Rattle.algorithm_meaning.specs.VertexApply.{after_vertices};
 ghost use Rattle.algorithm_meaning.specs.VertexSets.{after_assign_set, after_declare_set, inserted, members_for, with_members, with_new_set};
-ghost use Rattle.register_code.specs.Meaning.{IsVertexCode};
+ghost use Rattle.kernels.specs.Meaning.{IsVertexCode};
 ghost use Rattle.kernels.specs.Expressions.{IsConditionKernel, IsIntegerKernel, IsMainState};
 ghost use Rattle.kernels.specs.Kernels.{HasCells, IsFilterKernel};
-ghost use Rattle.register_code.specs.declared.register_counts.RegisterCounts.{RegisterCounts};
+ghost use Rattle.kernels.specs.RegisterCounts.{RegisterCounts};
 ghost use Rattle.algorithm_meaning.specs.Loop.{forget_beyond};
 ghost use Rattle.vectors.specs.Changes.{with_all_changes};
 ghost use Rattle.plans.specs.Functions.{AreFunctionKernels};

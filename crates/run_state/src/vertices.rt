@@ -4,10 +4,10 @@ ghost use Rattle.std.specs.List.Sorted.{IsStrictlyIncreasing};
 ghost use Rattle.typed_tree.specs.StepTree.{StepsTree};
 ghost use Rattle.algorithm_meaning.specs.State.{StateValue};
 ghost use Rattle.algorithm_meaning.specs.VertexApply.{after_vertices};
-ghost use Rattle.register_code.specs.Cells.{HasSizes};
-ghost use Rattle.register_code.specs.Meaning.{IsVertexCode};
+ghost use Rattle.kernels.specs.Cells.{HasSizes};
+ghost use Rattle.kernels.specs.Meaning.{IsVertexCode};
 ghost use Rattle.kernels.specs.Kernels.{HasCells};
-ghost use Rattle.register_code.specs.declared.register_counts.RegisterCounts.{RegisterCounts};
+ghost use Rattle.kernels.specs.RegisterCounts.{RegisterCounts};
 
 use kernels::{Block, VertexKernel};
 use vectors::Vectors;

@@ -11,7 +11,7 @@ use Rattle.algorithm_meaning.specs.EdgeApply.{after_edges, all_give, is_end, mat
 use Rattle.algorithm_meaning.specs.State.{GraphValue, StateValue}
 use Rattle.algorithm_meaning.specs.Value.{entry, reduce_at}
 use Rattle.algorithm_meaning.proofs.WrittenEntries.{entry_elsewhere, length_stays}
-use Rattle.tree_batch.specs.Edge.{edge_eq, has_edge, IsWithin}
+use Rattle.flat_snapshot.specs.Edge.{edge_eq, has_edge, IsWithin}
 use Rattle.edge_fold.specs.Between.{edges_between}
 use Rattle.push_engine.proofs.Filtered.{has_first, has_later}
 use Rattle.runner.proofs.WrittenChanges.{count_after_entry}

@@ -5,8 +5,8 @@ use Rattle.typed_tree.specs.ProgramTree.{ProgramTree}
 use Rattle.algorithm_meaning.specs.EdgeApply.{after_edge_apply, after_edges, matching, passes}
 use Rattle.algorithm_meaning.specs.State.{GraphValue, StateValue}
 use Rattle.algorithm_meaning.specs.Value.{entry}
-use Rattle.tree_batch.specs.Digraph.{Digraph, IsDigraph}
-use Rattle.tree_batch.specs.Edge.{has_edge, IsWithin}
+use Rattle.flat_snapshot.specs.Digraph.{Digraph, IsDigraph}
+use Rattle.flat_snapshot.specs.Edge.{has_edge, IsWithin}
 use Rattle.edge_fold.specs.Between.{edges_between}
 use Rattle.edge_fold.specs.Changed.{AreApart, changed, changes_of}
 use Rattle.push_engine.specs.Applied.{AreChangesOn}

@@ -5,7 +5,7 @@ use Rattle.std.proofs.Math.Nat.{ℕ_set}
 use Rattle.algorithm_meaning.specs.Function.{steps_of}
 use Rattle.kernels.specs.declared.expression.ExpressionKernel.{ExpressionKernel}
 use Rattle.kernels.specs.declared.vertex_kernel.VertexKernel.{VertexKernel}
-use Rattle.register_code.specs.Meaning.{IsVertexCode}
+use Rattle.kernels.specs.Meaning.{IsVertexCode}
 use Rattle.algorithm_meaning.specs.declared.state.Depth.{Depth}
 use Rattle.plans.specs.Instruction.{OperationTree}
 use Rattle.plans.specs.Plan.{plan_of}

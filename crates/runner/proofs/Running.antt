@@ -2,7 +2,7 @@
 use Rattle.std.proofs.Common.{◌≡◌, ℕ, zero, suc, ◌+◌, ◌-◌, ◌<◌, ◌≤◌, ◌⊎◌, true, false, List, [], Option, Some, None, refl, sym, ap, ◌∙◌, subst, arith, inl, inr}
 use Rattle.std.specs.Option.{is_some}
 use Rattle.std.proofs.lemmas.Bool.{cases_lt}
-use Rattle.tree_batch.specs.Digraph.{Digraph}
+use Rattle.flat_snapshot.specs.Digraph.{Digraph}
 use Rattle.typed_tree.specs.declared.program.Vector.{Vector}
 use Rattle.typed_tree.specs.ProgramTree.{ProgramTree}
 use Rattle.algorithm_meaning.specs.declared.outcome.End.{End as Ending}
@@ -14,7 +14,7 @@ use Rattle.apply_options.specs.ScheduleTree.{ScheduleTree}
 use Rattle.plans.specs.Instruction.{InstructionTree}
 use Rattle.plans.specs.Machine.{Configuration, At, Ended, step, steps, first_configuration}
 use Rattle.plans.specs.Plan.{plan_of}
-use Rattle.plans.specs.Laws.{GoesOn, Shows, RunsAs}
+use Rattle.plans.specs.RunLaws.{GoesOn, Shows, RunsAs}
 use Rattle.plans.proofs.Whole.{runs_as}
 use Rattle.algorithm_meaning.specs.declared.state.LoopCounter.{LoopCounter}
 use Rattle.run_state.specs.State.{graph_value, opened}

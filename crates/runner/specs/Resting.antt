@@ -6,7 +6,7 @@ use Rattle.plans.specs.declared.instruction.Instruction.{Instruction}
 use Rattle.plans.specs.declared.plan.Plan.{Plan}
 use Rattle.algorithm_meaning.specs.Loop.{forget_beyond}
 use Rattle.plans.specs.Machine.{Configuration, At, Ended}
-use Rattle.tree_batch.specs.Digraph.{Digraph}
+use Rattle.flat_snapshot.specs.Digraph.{Digraph}
 
 -- a run before an instruction, without what that does not see
 abbrev pub kept_at : Option Instruction → (place : ℕ) → List LoopCounter → StateValue → Configuration

@@ -16,7 +16,7 @@ ghost use Rattle.run_state.specs.SetUpdate.{IsUpdateOf};
 ghost use Rattle.run_state.specs.VertexKernels.{IsVertexKernel};
 ghost use Rattle.std.specs.Option.{ForSome, option_map};
 ghost use Rattle.algorithm_meaning.specs.Function.{steps_of};
-ghost use Rattle.register_code.specs.Meaning.{IsVertexCode};
+ghost use Rattle.kernels.specs.Meaning.{IsVertexCode};
 ghost use Rattle.runner.specs.Done.{HasDone, HaveTrees, IsAsBefore};
 ghost use Rattle.runner.specs.Position.{IsOn};
 ghost use Rattle.runner.specs.Results.{IsUpdateFor, result_of_second, with_both};

@@ -1,7 +1,7 @@
 -- The program of a number.
 use Rattle.std.proofs.Common.{◌≡◌, ℕ, zero, suc, ◌<◌, length, List, [], ◌∷◌, refl, Some, arith}
 use Rattle.std.specs.List.{slice_get}
-use Rattle.typed_tree.specs.ProgramTree.{ProgramTree}
+use Rattle.algorithm_meaning.specs.ProgramTree.{ProgramTree}
 
 -- at each place within is a program
 pub is_at : (programs : List ProgramTree) (place : ℕ) → place < length programs → (program : ProgramTree) × (slice_get programs place ≡ Some program)

@@ -1,6 +1,6 @@
 -- The lines of a script that comes in pieces.
 use Rattle.std.proofs.Common.{◌≡◌, ℕ, ◌<◌, length, Option, None, List, [], ◌∷◌, ◌++◌, refl, sym, ap, ◌∙◌, subst, arith, append_assoc, append-nil}
-use Rattle.typed_tree.specs.ProgramTree.{ProgramTree}
+use Rattle.algorithm_meaning.specs.ProgramTree.{ProgramTree}
 use Rattle.replies.specs.declared.send_error.SendError.{SendError}
 use Rattle.scripts.specs.Commands.{command_of}
 use Rattle.scripts.specs.Pieces.{HasNone, ended_lines, unended_line}

@@ -2,7 +2,7 @@
 use Rattle.std.proofs.Common.{◌≡◌, ℕ, ◌<◌, ◌≤◌, ◌⊎◌, ◌||◌, Bool, true, false, Option, Some, None, Result, Ok, Err, sym, ap, ◌∙◌, if◌then◌else◌, arith}
 use Rattle.std.specs.Result.{OnOk}
 use Rattle.tree_batch.specs.Digraph.{Digraph}
-use Rattle.typed_tree.specs.ProgramTree.{ProgramTree}
+use Rattle.algorithm_meaning.specs.ProgramTree.{ProgramTree}
 use Rattle.scripts.specs.Replies.{OpenState, is_worker_count, meaning_on, ran, refused, running}
 
 -- the version is not there

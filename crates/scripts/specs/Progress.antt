@@ -1,6 +1,6 @@
 -- For proofs only: how far a script has been read.
 use Rattle.std.specs.Prelude.{ℕ, Option, None, List, [], ◌++◌}
-use Rattle.typed_tree.specs.ProgramTree.{ProgramTree}
+use Rattle.algorithm_meaning.specs.ProgramTree.{ProgramTree}
 use Rattle.scripts.specs.Pieces.{ended_lines, unended_line}
 use Rattle.scripts.specs.Replies.{OpenState, replies_to_lines, state_after_lines}
 

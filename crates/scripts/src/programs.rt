@@ -1,7 +1,7 @@
 //! Programs that a script may run.
 ghost use Rattle.std.specs.Prelude.{◌≡◌, ◌<◌, List, Bool, true, Some, IfOk, length};
 ghost use Rattle.std.specs.List.{slice_get};
-ghost use Rattle.typed_tree.specs.ProgramTree.{ProgramTree};
+ghost use Rattle.algorithm_meaning.specs.ProgramTree.{ProgramTree};
 ghost use Rattle.scripts.specs.Replies.{is_worker_count, meaning_on};
 
 use algorithm_meaning::Outcome;

@@ -1,6 +1,6 @@
 use Rattle.std.proofs.lemmas.Result.{err_from_is_err_and}
-use Rattle.syntax.specs.SourceViews.{source_tree}
-use Rattle.typed_tree.specs.ProgramTree.{program_tree}
+use Rattle.parser.specs.SourceViews.{source_tree}
+use Rattle.schedule.specs.ProgramTree.{program_tree}
 use Rattle.compiler.specs.Outcome.{IsTyped}
 use Rattle.compiler.proofs.Reduced.{applies_reduce}
 use Rattle.compiler.proofs.Refused.{is_typed, planned, refused}

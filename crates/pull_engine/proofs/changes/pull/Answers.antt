@@ -1,6 +1,6 @@
 use Rattle.std.proofs.Common.{ℕ, true, Option, refl, sym, subst, arith}
 use Rattle.std.proofs.lemmas.Result.{IfOk-weaker}
-use Rattle.algorithm_meaning.specs.EdgeApply.{is_member}
+use Rattle.kernels.specs.EdgeApply.{is_member}
 use Rattle.kernels.specs.declared.endpoint_filter.EndpointFilter.{EndpointFilter}
 use Rattle.edge_fold.specs.Ends.{IsEndTest, IsTest}
 use Rattle.push_engine.proofs.Filtered.{between_agree, between_same, changes_along}

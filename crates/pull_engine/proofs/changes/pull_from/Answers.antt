@@ -1,7 +1,7 @@
 use Rattle.std.proofs.Common.{ℕ, true, List, refl, ap, ◌∙◌, arith}
 use Rattle.std.specs.List.{filter}
-use Rattle.algorithm_meaning.specs.EdgeApply.{after_edges}
-use Rattle.algorithm_meaning.specs.Value.{entry}
+use Rattle.kernels.specs.EdgeApply.{after_edges}
+use Rattle.kernels.specs.Value.{entry}
 use Rattle.edge_fold.specs.Between.{edges_between}
 use Rattle.edge_fold.specs.Changed.{changed}
 use Rattle.push_engine.specs.Words.{passes_words}

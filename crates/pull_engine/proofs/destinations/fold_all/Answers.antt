@@ -2,7 +2,7 @@ use Rattle.std.proofs.Common.{rules, ℕ, List, [], ◌∷◌, ap, refl, subst, 
 use Rattle.edge_fold.specs.Between.{firsts}
 use Rattle.edge_fold.proofs.Walks.{HasWalked, walk_begun, walk_more}
 use Rattle.push_engine.proofs.Walked.{degrees_rise}
-use Rattle.tree_batch.specs.Neighbours.{sources_of}
+use Rattle.flat_snapshot.specs.Neighbours.{sources_of}
 use Rattle.pull_engine.specs.Columns.{columns}
 use Rattle.push_engine.specs.Words.{passes_words}
 use Rattle.pull_engine.proofs.ColumnFolds.{columns-append}

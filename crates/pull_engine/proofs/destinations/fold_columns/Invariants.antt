@@ -1,6 +1,6 @@
 use Rattle.std.proofs.Common.{◌≡◌, ℕ, ◌++◌, List, length, take}
-use Rattle.typed_tree.specs.StepTree.{StepsTree}
-use Rattle.algorithm_meaning.specs.State.{StateValue}
+use Rattle.kernels.specs.StepTree.{StepsTree}
+use Rattle.kernels.specs.State.{StateValue}
 use Rattle.edge_fold.specs.Folded.{IsContextOf, HasFolded}
 use Rattle.pull_engine.specs.Columns.{columns}
 use Rattle.push_engine.specs.Words.{passes_words}

@@ -1,8 +1,8 @@
 use Rattle.std.proofs.Common.{◌≡◌, ℕ, List, length}
 use Rattle.edge_fold.specs.Between.{firsts}
 use Rattle.edge_fold.proofs.Walks.{HasPassed}
-use Rattle.flat_snapshot.specs.Neighbours.{AreDegreesOf}
-use Rattle.tree_batch.specs.Neighbours.{sources_of}
+use Rattle.flat_snapshot.specs.FlatEdges.{AreDegreesOf}
+use Rattle.flat_snapshot.specs.Neighbours.{sources_of}
 use Rattle.pull_engine.specs.Columns.{columns}
 use Rattle.push_engine.specs.Words.{passes_words}
 use Rattle.pull_engine.proofs.destinations.fold_passing.Given as goal

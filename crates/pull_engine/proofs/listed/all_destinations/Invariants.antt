@@ -1,6 +1,6 @@
 use Rattle.std.proofs.Common.{◌≡◌, ◌++◌, ℕ, List}
-use Rattle.flat_snapshot.specs.Neighbours.{AreDegreesOf}
-use Rattle.tree_batch.specs.Neighbours.{sources_of}
+use Rattle.flat_snapshot.specs.FlatEdges.{AreDegreesOf}
+use Rattle.flat_snapshot.specs.Neighbours.{sources_of}
 use Rattle.edge_fold.specs.Between.{firsts}
 use Rattle.pull_engine.proofs.listed.all_destinations.Given as goal
 

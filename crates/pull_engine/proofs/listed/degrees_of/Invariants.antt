@@ -1,5 +1,5 @@
 use Rattle.std.proofs.Common.{◌≡◌, length, map, take}
-use Rattle.tree_batch.specs.Neighbours.{sources_of}
+use Rattle.flat_snapshot.specs.Neighbours.{sources_of}
 use Rattle.pull_engine.proofs.listed.degrees_of.Given as goal
 
 -- the degrees of the destinations that have come

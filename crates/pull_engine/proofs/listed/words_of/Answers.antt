@@ -1,7 +1,7 @@
 use Rattle.std.proofs.Common.{◌≡◌, ℕ, List, Option, Some, None, IsSome, IfSome, ap, sym, ◌∙◌, subst}
 use Rattle.std.proofs.lemmas.Bool.{false≢true}
 use Rattle.std.specs.Borrow.{Bor}
-use Rattle.algorithm_meaning.specs.EdgeApply.{is_member}
+use Rattle.kernels.specs.EdgeApply.{is_member}
 use Rattle.vertex_sets.specs.declared.form.Form.TheVariants as Form
 use Rattle.vertex_sets.specs.VertexSet.{AreWordsOf, VertexSubset}
 use Rattle.pull_engine.specs.Destinations.{passes_set}

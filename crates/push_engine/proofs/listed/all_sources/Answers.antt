@@ -1,7 +1,7 @@
 use Rattle.std.proofs.Common.{◌++◌, ℕ, List, ap, ◌∙◌, sym, subst}
-use Rattle.algorithm_meaning.specs.EdgeApply.{is_member}
+use Rattle.kernels.specs.EdgeApply.{is_member}
 use Rattle.edge_fold.specs.Between.{firsts}
-use Rattle.tree_batch.specs.Neighbours.{destinations_of}
+use Rattle.flat_snapshot.specs.Neighbours.{destinations_of}
 use Rattle.push_engine.specs.Sources.{AscendsFrom}
 use Rattle.push_engine.proofs.SourceLists.{all_found, ascends, one_more_found}
 use Rattle.push_engine.proofs.Walked.{degree_listed, degrees_rise}

@@ -1,5 +1,5 @@
 use Rattle.std.proofs.Common.{◌≡◌, length, map, take}
-use Rattle.tree_batch.specs.Neighbours.{destinations_of}
+use Rattle.flat_snapshot.specs.Neighbours.{destinations_of}
 use Rattle.push_engine.proofs.listed.degrees_of.Given as goal
 
 -- the degrees of the sources that have come

@@ -1,6 +1,6 @@
 use Rattle.std.proofs.Common.{◌++◌, ℕ, List, ap, ◌∙◌, sym, subst}
 use Rattle.std.specs.List.{filter}
-use Rattle.algorithm_meaning.specs.EdgeApply.{is_member}
+use Rattle.kernels.specs.EdgeApply.{is_member}
 use Rattle.push_engine.specs.Sources.{AscendsFrom}
 use Rattle.push_engine.proofs.SourceLists.{filter_ascends, filtered_sources}
 use Rattle.push_engine.proofs.listed.passing_sources.Goals as goal

@@ -1,7 +1,7 @@
 use Rattle.std.proofs.Common.{ℕ, List, [], take}
 use Rattle.std.specs.List.{flat_map}
-use Rattle.typed_tree.specs.StepTree.{StepsTree}
-use Rattle.algorithm_meaning.specs.State.{StateValue}
+use Rattle.kernels.specs.StepTree.{StepsTree}
+use Rattle.kernels.specs.State.{StateValue}
 use Rattle.edge_fold.specs.Folded.{HasFolded}
 use Rattle.push_engine.specs.Pieces.{EachGathered, pieces_of}
 use Rattle.push_engine.proofs.merge.join_all.Given as goal

@@ -1,6 +1,6 @@
 use Rattle.std.proofs.Common.{ℕ, ◌<◌, ◌≤◌, ◌+◌, pos, List, length, drop, get_or, sym, subst, arith}
 use Rattle.std.proofs.lemmas.List.{drop_all, drop_more}
-use Rattle.algorithm_meaning.specs.Value.{entry}
+use Rattle.kernels.specs.Value.{entry}
 use Rattle.vectors.specs.declared.changes.EntryChange.{EntryChange}
 use Rattle.vertex_sets.specs.VertexSet.{IsAscendingBelow}
 use Rattle.vertex_sets.proofs.Ascending.{ascending_end, ascending_weaker}

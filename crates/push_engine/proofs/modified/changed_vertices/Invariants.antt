@@ -1,5 +1,5 @@
 use Rattle.std.proofs.Common.{◌≡◌, ℕ, ◌≤◌, ℤ, List, drop}
-use Rattle.algorithm_meaning.specs.Value.{entry}
+use Rattle.kernels.specs.Value.{entry}
 use Rattle.edge_fold.specs.Changed.{changed}
 use Rattle.vertex_sets.specs.VertexSet.{IsAscendingBelow}
 use Rattle.push_engine.proofs.Differences.{HasFound}

@@ -1,5 +1,5 @@
 use Rattle.std.proofs.Common.{◌<◌, length, get_or, ap, ◌∙◌, arith}
-use Rattle.algorithm_meaning.specs.EdgeApply.{is_member}
+use Rattle.kernels.specs.EdgeApply.{is_member}
 use Rattle.vertex_sets.specs.VertexSet.{VertexSubset}
 use Rattle.push_engine.proofs.Inserted.{member_added, member_inserted, member_left_out}
 use Rattle.push_engine.proofs.passing.insert_all.Goals as goal

@@ -1,5 +1,5 @@
 use Rattle.std.proofs.Common.{◌≡◌, ℕ, ◌<◌, ◌||◌, take}
-use Rattle.algorithm_meaning.specs.EdgeApply.{is_member}
+use Rattle.kernels.specs.EdgeApply.{is_member}
 use Rattle.push_engine.proofs.passing.insert_all.Given as goal
 
 -- the vertices that have come are members

@@ -1,7 +1,7 @@
 use Rattle.std.proofs.Common.{rules, ◌≡◌, ℕ, ◌+◌, ◌<◌, Bool, true, false, ◌||◌, ◌&&◌, nat_lt, List, ◌++◌, ap, ◌∙◌, arith}
 use Rattle.std.proofs.lemmas.Bool.Decides.{nat_tests}
 use Rattle.std.specs.List.{filter}
-use Rattle.algorithm_meaning.specs.EdgeApply.{is_member}
+use Rattle.kernels.specs.EdgeApply.{is_member}
 use Rattle.push_engine.proofs.Bits.{passing_more}
 use Rattle.push_engine.proofs.passing.passing_set.Goals as goal
 

@@ -1,8 +1,8 @@
 use Rattle.std.proofs.Common.{◌≡◌, ℕ, ◌-◌, ◌<◌, ◌≤◌, ◌&&◌, nat_lt, Bool}
-use Rattle.algorithm_meaning.specs.EdgeApply.{is_member}
-use Rattle.algorithm_meaning.specs.State.{StateValue}
+use Rattle.kernels.specs.EdgeApply.{is_member}
+use Rattle.kernels.specs.State.{StateValue}
 use Rattle.edge_fold.specs.Ends.{IsTest}
-use Rattle.register_code.specs.Cells.{HasSizes}
+use Rattle.kernels.specs.Cells.{HasSizes}
 use Rattle.vertex_sets.specs.declared.form.Form.TheVariants as form
 use Rattle.push_engine.proofs.passing.passing_set.Given as goal
 

@@ -1,7 +1,7 @@
 use Rattle.std.proofs.Common.{rules, ℕ, List, [], ◌∷◌, ap, refl, subst, sym}
 use Rattle.edge_fold.specs.Between.{firsts}
 use Rattle.edge_fold.proofs.Walks.{HasWalked, walk_begun, walk_more}
-use Rattle.tree_batch.specs.Neighbours.{destinations_of}
+use Rattle.flat_snapshot.specs.Neighbours.{destinations_of}
 use Rattle.push_engine.specs.Rows.{rows_to}
 use Rattle.push_engine.specs.Words.{passes_words}
 use Rattle.push_engine.proofs.RowFolds.{rows_to-append}

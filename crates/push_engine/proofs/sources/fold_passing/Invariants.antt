@@ -1,6 +1,6 @@
 use Rattle.std.proofs.Common.{◌≡◌, ℕ, List, length}
-use Rattle.flat_snapshot.specs.Neighbours.{AreDegreesOf}
-use Rattle.tree_batch.specs.Neighbours.{destinations_of}
+use Rattle.flat_snapshot.specs.FlatEdges.{AreDegreesOf}
+use Rattle.flat_snapshot.specs.Neighbours.{destinations_of}
 use Rattle.edge_fold.specs.Between.{firsts}
 use Rattle.edge_fold.proofs.Walks.{HasPassed}
 use Rattle.push_engine.specs.Rows.{rows_to}

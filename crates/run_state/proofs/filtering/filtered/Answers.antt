@@ -3,7 +3,7 @@ use Rattle.std.specs.List.{filter}
 use Rattle.std.proofs.lemmas.List.Elements.{filter-append}
 use Rattle.algorithm_meaning.specs.Filter.{result_of}
 use Rattle.kernels.specs.Kernels.{HasCells, passes_at}
-use Rattle.register_code.specs.declared.register_counts.RegisterCounts.{RegisterCounts}
+use Rattle.kernels.specs.RegisterCounts.{RegisterCounts}
 use Rattle.vertex_sets.specs.VertexSet.{IsAscendingBelow}
 use Rattle.run_state.specs.Passing.{passing}
 use Rattle.run_state.proofs.Passed.{Ascends, ascending_of, ascends, kept_ascend, none_left, parts_of, passing_is}

@@ -3,7 +3,7 @@ use Rattle.std.specs.List.{filter}
 use Rattle.typed_tree.specs.StepTree.{StepsTree}
 use Rattle.algorithm_meaning.specs.Filter.{result_of}
 use Rattle.algorithm_meaning.specs.State.{StateValue}
-use Rattle.register_code.specs.Cells.{HasSizes}
+use Rattle.kernels.specs.Cells.{HasSizes}
 use Rattle.kernels.specs.Kernels.{HasCells, IsFilterKernel}
 use Rattle.run_state.proofs.Passed.{Ascends}
 use Rattle.run_state.proofs.filtering.filtered.Given as goal

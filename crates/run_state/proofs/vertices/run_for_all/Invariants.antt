@@ -2,9 +2,9 @@ use Rattle.std.proofs.Common.{◌≡◌, length}
 use Rattle.typed_tree.specs.StepTree.{StepsTree}
 use Rattle.algorithm_meaning.specs.State.{StateValue}
 use Rattle.algorithm_meaning.specs.VertexApply.{after_vertices}
-use Rattle.register_code.specs.Cells.{HasSizes}
-use Rattle.register_code.specs.Meaning.{IsVertexCode}
-use Rattle.register_code.specs.declared.register_counts.RegisterCounts.{RegisterCounts}
+use Rattle.kernels.specs.Cells.{HasSizes}
+use Rattle.kernels.specs.Meaning.{IsVertexCode}
+use Rattle.kernels.specs.RegisterCounts.{RegisterCounts}
 use Rattle.kernels.specs.Kernels.{HasCells}
 use Rattle.vertex_sets.proofs.Ascending.{Rises}
 use Rattle.run_state.proofs.vertices.run_for_all.Given as goal

@@ -1,6 +1,6 @@
 use Rattle.std.proofs.Common.{rules, ℕ, ◌<◌, ◌++◌, [], length, take, ap, sym, ◌∙◌, subst}
 use Rattle.kernels.specs.Columns.{cells_at}
-use Rattle.register_code.specs.FunctionCode.{given_by}
+use Rattle.kernels.specs.FunctionCode.{given_by}
 use Rattle.kernels.specs.ContributionColumns.{contribution_at}
 use Rattle.edge_fold.specs.Given.{IsBy, given_from, reduced_at}
 use Rattle.edge_fold.proofs.Folds.{given_in_rounds, given_same, nothing_given, reduced_at-append}

@@ -1,6 +1,6 @@
 use Rattle.std.proofs.Common.{◌≡◌, ◌∙◌, ap}
 use Rattle.tree_batch.specs.Digraph.{digraph}
-use Rattle.flat_snapshot.specs.Neighbours.{edges_in}
+use Rattle.flat_snapshot.specs.FlatEdges.{edges_in}
 use Rattle.flat_snapshot.proofs.Snapshots.{edges_same, flat_made, digraph_is}
 use Rattle.flat_snapshot.proofs.flat.Flat.of.Goals as goal
 

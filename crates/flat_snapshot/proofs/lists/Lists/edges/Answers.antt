@@ -1,5 +1,5 @@
 use Rattle.std.proofs.Common.{◌≡◌, ◌<◌, length, add-one, sym, arith}
-use Rattle.flat_snapshot.specs.Entries.{lists_in}
+use Rattle.flat_snapshot.specs.ListBytes.{lists_in}
 use Rattle.flat_snapshot.proofs.Storing.{lists_length, listed_at}
 use Rattle.flat_snapshot.proofs.lists.Lists.edges.Goals as goal
 

@@ -3,7 +3,7 @@ use Rattle.algorithm_meaning.specs.Entries.{with_vectors}
 use Rattle.algorithm_meaning.specs.Function.{steps_of}
 use Rattle.algorithm_meaning.specs.Value.{members_of}
 use Rattle.kernels.specs.declared.vertex_kernel.VertexKernel.{VertexKernel}
-use Rattle.register_code.specs.Meaning.{IsVertexCode}
+use Rattle.kernels.specs.Meaning.{IsVertexCode}
 use Rattle.plans.specs.Machine.{At}
 use Rattle.runner.specs.declared.memory.Memory.{Memory}
 use Rattle.runner.specs.Position.{loops_of}

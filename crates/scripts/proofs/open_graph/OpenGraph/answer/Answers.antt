@@ -1,5 +1,5 @@
 use Rattle.std.proofs.Common.{Option, sym, ap, ◌∙◌}
-use Rattle.typed_tree.specs.ProgramTree.{ProgramTree}
+use Rattle.algorithm_meaning.specs.ProgramTree.{ProgramTree}
 use Rattle.scripts.specs.declared.commands.Command.{Command}
 use Rattle.scripts.specs.Replies.{on_open, running, graph_of}
 use Rattle.replies.proofs.SendingLaws.{emits_as, emits_none, emits_nothing}
