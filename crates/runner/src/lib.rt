@@ -24,6 +24,7 @@ mod control;
 mod direction;
 mod edge_applier;
 mod edge_maps;
+mod employment;
 mod ends;
 mod entries;
 mod flow;
@@ -37,7 +38,6 @@ mod steps;
 mod team;
 mod variables;
 mod whole_run;
-mod worth;
 
 pub use direction::{pick_direction, push_or_pull};
 pub use edge_applier::{Alone, Crew, EdgeApplier};

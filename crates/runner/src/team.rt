@@ -8,10 +8,10 @@ ghost use Rattle.runner.specs.declared.run_error.RunError.TheVariants.{BadWorker
 
 use crate::direction::pick_direction;
 use crate::edge_maps::{EdgeMap, apply_of};
+use crate::employment::{edges_from, edges_into, employed};
 use crate::run_error::RunError;
-use crate::worth::{edges_from, edges_into};
-use apply_options::{Direction, Parallelization};
-use crew::{Gate, edges_for, is_crew, workers_for};
+use apply_options::Direction;
+use crew::{Gate, edges_for, is_crew};
 use edge_fold::{ApplyContext, FoldStart, Scratch};
 use flat_snapshot::Flat;
 use kernels::EndpointFilter;
@@ -186,7 +186,7 @@ impl<R: Threads + Sync, G: Gate + Sync> Team<'_, R, G> {
         ensures changes { IfOk result (λ c. AreChangesOf apply.now flat.now vectors.now.vectors sizes.now c.vectors.items) }
     {
         let edges = edges_from(flat, apply.from, edges_for(self.workers));
-        let Some(workers) = self.employed(apply.parallelization, edges) else {
+        let Some(workers) = self.employed(apply, edges) else {
             return push(alloc, apply, flat, vectors, sizes, scratch);
         };
         let (rt, gate) = (self.rt, self.gate);
@@ -213,7 +213,7 @@ impl<R: Threads + Sync, G: Gate + Sync> Team<'_, R, G> {
         ensures changes { IfOk result (λ c. AreChangesOf apply.now flat.now vectors.now.vectors sizes.now c.vectors.items) }
     {
         let edges = edges_into(flat, apply.to, edges_for(self.workers));
-        let Some(workers) = self.employed(apply.parallelization, edges) else {
+        let Some(workers) = self.employed(apply, edges) else {
             return pull(alloc, apply, flat, vectors, sizes, scratch);
         };
         let (rt, gate) = (self.rt, self.gate);
@@ -225,20 +225,15 @@ impl<R: Threads + Sync, G: Gate + Sync> Team<'_, R, G> {
         }
     }
 
-    /// How many workers do an apply in pieces, or none where the caller does it as a whole: where nobody watches, and it is
-    /// to be in one piece or not worth a second worker.
-    fn employed(&self, parallelization: Parallelization, edges: usize) -> Option<usize>
+    /// How many workers do an apply in pieces, or none where the caller does it as a whole.
+    fn employed(&self, apply: &Apply<'_>, edges: usize) -> Option<usize>
         ensures { IfSome result AreWorkers }
     {
-        if self.gate.watches() {
-            return Some(self.workers);
-        }
-        if parallelization == Parallelization::Serial {
-            return None;
-        }
-        match workers_for(edges, self.workers) {
-            Ok(workers) if workers > 1 => Some(workers),
-            _ => None,
-        }
+        employed(
+            self.gate.watches(),
+            self.workers,
+            apply.parallelization,
+            edges,
+        )
     }
 }
