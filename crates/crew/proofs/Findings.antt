@@ -1,5 +1,5 @@
 -- What was found grows piece by piece.
-use Rattle.std.proofs.Common.{◌≡◌, ℕ, zero, suc, ◌+◌, ◌<◌, ◌≤◌, Bool, true, false, cond, eqb, ltb, Option, Some, option_to_list, List, [], ◌∷◌, ◌++◌, length, length-append, sym, refl, ap, ◌∙◌, subst, arith, slice_get, slice_index_or, Result, Ok, Err, IfOk, IfSome, Vec, Global, vec_len}
+use Rattle.std.proofs.Common.{◌≡◌, ℕ, zero, suc, ◌+◌, ◌<◌, ◌≤◌, Bool, true, false, cond, eqb, ltb, Option, Some, option_to_list, List, [], ◌∷◌, ◌++◌, length, length-append, sym, refl, ap, ◌∙◌, subst, arith, slice_get, slice_index_or, Result, Ok, Err, IfOk, IfSome, Vec, Global, vec_len, MatchOption, None, ◌-◌}
 use Rattle.std.specs.List.{All}
 use Rattle.std.proofs.lemmas.List.{map-append}
 use Rattle.std.proofs.lemmas.List.Elements.{All-push, All-append, All-pop}
@@ -11,8 +11,8 @@ use native.Mathlib.Decide.{dec_lt}
 use Rattle.crew.specs.declared.piece_results.Found.{Found}
 use Rattle.crew.specs.ClaimWord.{times}
 use Rattle.crew.specs.Claims.{pieces_at}
-use Rattle.crew.specs.Finding.{pieces_of, IsAnswered, HasAdded}
-use Rattle.crew.specs.Pieces.{IsFoundAt, AreFound}
+use Rattle.crew.specs.Finding.{IsAnswered, HasAdded}
+use Rattle.crew.specs.Pieces.{IsFoundAt, AreFound, pieces_of}
 
 cond-append : (b : Bool) (y : ℕ) (r a c : List ℕ) → r ≡ a ++ c → cond b (y ∷ r) r ≡ cond b (y ∷ a) a ++ c
 cond-append true y r a c e = ap (λ (l : List ℕ). y ∷ l) e
@@ -50,6 +50,11 @@ module _ {X : Type 0} where
   pub length_popped : (old new : List X) (r : Option X) (x : X) → old ≡ new ++ option_to_list r → r ≡ Some x → length old ≡ length new + 1
   length_popped old new r x is some =
       length_pushed (length new) new old x (is ∙ ap (λ (o : Option X). new ++ option_to_list o) some) refl
+
+  -- how many are left after a pop
+  pub popped_rest : (old new : Vec X Global) (r : Option X) → MatchOption r ((vec_len old ≡ 0) × (vec_len new ≡ 0)) (λ _. vec_len new + 1 ≡ vec_len old) → length new.items ≡ length old.items - 1
+  popped_rest old new None is = let many = old.ok.0 in let left = new.ok.0 in let none = is.0 in let empty = is.1 in omega arith
+  popped_rest old new (Some x) is = let many = old.ok.0 in let left = new.ok.0 in omega arith
 
   -- what was popped and is no error is as all of them are
   pub done_popped : {E : Type 0} (P : X → Type 0) (old new : List (Result X E)) (popped : Option (Result X E)) (r : Result X E) (x : X) → old ≡ new ++ option_to_list popped

@@ -7,3 +7,4 @@ pub mod Runs
 pub mod Reaching
 pub mod PieceLists
 pub mod AllPartitions
+pub mod FoundPieces

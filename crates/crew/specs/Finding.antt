@@ -1,13 +1,10 @@
 -- For proofs only: what workers found, before it is put in order.
-use Rattle.std.specs.Prelude.{◌≡◌, ℕ, ◌+◌, ◌-◌, ◌<◌, ◌≤◌, Option, Some, List, [], ◌∷◌, ◌++◌, map, slice_set}
+use Rattle.std.specs.Prelude.{◌≡◌, ℕ, ◌+◌, ◌-◌, ◌<◌, ◌≤◌, Option, Some, List, [], ◌∷◌, ◌++◌, slice_set}
 use Rattle.crew.specs.declared.piece_results.Found.{Found}
 use Rattle.crew.specs.ClaimWord.{times}
+use Rattle.crew.specs.Pieces.{pieces_of}
 
 module _ {T : Type 0} where
-  -- the numbers of the pieces
-  abbrev pub pieces_of : List (Found T) → List ℕ
-  pieces_of found = map (λ f. f.piece) found
-
   -- it is one of the pieces, with an answer for it
   abbrev pub IsAnswered : (ℕ → T → Type 0) → ℕ → Found T → Type 0
   IsAnswered answers pieces f = (0 < f.piece) × (f.piece ≤ pieces) × answers f.piece f.out

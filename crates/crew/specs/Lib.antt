@@ -9,3 +9,4 @@ pub mod Workers
 pub mod Boundaries
 pub mod Limits
 pub mod Partition
+pub mod Assignment

@@ -8,7 +8,8 @@ use Rattle.crew.specs.declared.worker.FinishedWorker.{FinishedWorker}
 use Rattle.crew.specs.declared.claim_word.ClaimView.{ClaimView}
 use Rattle.crew.specs.ClaimWord.{claim_view, times}
 use Rattle.crew.specs.Claims.{IsClaimAt, view_of, worker_rights, pieces_at}
-use Rattle.crew.specs.Finding.{pieces_of, IsAnswered}
+use Rattle.crew.specs.Finding.{IsAnswered}
+use Rattle.crew.specs.Pieces.{pieces_of}
 
 module _ {S : Type 0} (keeps : S → Type 0) where
   -- a worker that has claimed nothing, whose state, if it has one, is as it is to be

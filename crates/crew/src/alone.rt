@@ -1,6 +1,6 @@
 //! A run of one worker, the caller.
 
-ghost use Rattle.std.specs.Prelude.{◌≤◌, IfOk};
+ghost use Rattle.std.specs.Prelude.{◌≡◌, ◌≤◌, length, max, min, IfOk};
 ghost use Rattle.std.specs.List.{All};
 ghost use Rattle.crew.specs.Pieces.{AreFound};
 
@@ -22,6 +22,7 @@ pub(crate) fn run_alone<G: Gate, W: Work>(
     requires states { All (W.keeps work.now) states.old.items }
     ensures found { IfOk result (λ found. AreFound (W.answers work.now) pieces found.items) }
     ensures states { All (W.keeps work.now) states.new.items }
+    ensures back { IfOk result (λ _. length states.new.items ≡ max (length states.old.items) (min 1 pieces)) }
 {
     if pieces == 0 {
         return Ok(Vec::new(alloc));

@@ -1,6 +1,6 @@
 //! Runs in which workers claim their pieces.
 
-ghost use Rattle.std.specs.Prelude.{◌≡◌, ◌-◌, ◌*◌, ◌^◌, ◌<◌, ◌≤◌, [], length, IfOk};
+ghost use Rattle.std.specs.Prelude.{◌≡◌, ◌+◌, ◌-◌, ◌*◌, ◌^◌, ◌<◌, ◌≤◌, [], length, max, IfOk};
 ghost use Rattle.std.specs.List.{All};
 ghost use Rattle.crew.specs.ClaimWord.{claim_view, all_rights};
 ghost use Rattle.crew.specs.Claims.{IsClaimAt, view_of, worker_rights};
@@ -32,6 +32,7 @@ pub(crate) fn find_claimed<R: Threads + Sync, G: Gate + Sync, W: Work + Sync>(
     ensures found { IfOk result (λ found. All (IsAnswered (W.answers work.now) pieces) found.items
         × AreAll pieces found.items) }
     ensures states { All (W.keeps work.now) states.new.items }
+    ensures back { IfOk result (λ _. length states.new.items ≡ max (length states.old.items) workers) }
 {
     let (table, mut own) = open_word(alloc)?;
     let word = &table.shared;
@@ -88,6 +89,7 @@ fn hire_all<W: Work>(
     ensures jobs { IfOk result (λ jobs. (length jobs.items ≡ workers)
         × All (IsHired (W.keeps work.now) word.now.table_id) jobs.items) }
     ensures states { All (W.keeps work.now) states.new.items }
+    ensures rest { IfOk result (λ _. length states.new.items ≡ length states.old.items - workers) }
 {
     let mut jobs = Vec::with_capacity(alloc, workers)?;
     for others in 0..workers {
@@ -148,6 +150,7 @@ fn gather<W: Work>(
     ensures found { IfOk result (λ found. All (IsAnswered (W.answers work.now) pieces) found.items
         × AreAll pieces found.items) }
     ensures states { All (W.keeps work.now) states.new.items }
+    ensures back { IfOk result (λ _. length states.new.items ≡ length states.old.items + length workers.items) }
 {
     let mut found = Vec::new(alloc);
     while let Some(worker) = workers.pop() {

@@ -1,6 +1,6 @@
 //! Runs in which each worker has its pieces from the start.
 
-ghost use Rattle.std.specs.Prelude.{◌≡◌, ◌^◌, ◌<◌, ◌≤◌, length, IfOk};
+ghost use Rattle.std.specs.Prelude.{◌≡◌, ◌+◌, ◌-◌, ◌^◌, ◌<◌, ◌≤◌, length, max, IfOk};
 ghost use Rattle.std.specs.List.{All};
 ghost use Rattle.crew.specs.Finding.{AreAll, IsAnswered};
 ghost use Rattle.crew.specs.Workers.{AreNumbered, IsNumbered, HasEvery, HaveEvery};
@@ -29,6 +29,7 @@ pub(crate) fn find_fixed<R: Threads + Sync, G: Gate + Sync, W: Work + Sync>(
     ensures found { IfOk result (λ found. All (IsAnswered (W.answers work.now) pieces) found.items
         × AreAll pieces found.items) }
     ensures states { All (W.keeps work.now) states.new.items }
+    ensures back { IfOk result (λ _. length states.new.items ≡ max (length states.old.items) workers) }
 {
     let jobs = number_all(alloc, work, workers, states)?;
     let done = thread::map_vec(
@@ -59,6 +60,7 @@ fn number_all<W: Work>(
     ensures jobs { IfOk result (λ jobs. (length jobs.items ≡ workers)
         × AreNumbered (W.keeps work.now) workers jobs.items) }
     ensures states { All (W.keeps work.now) states.new.items }
+    ensures rest { IfOk result (λ _. length states.new.items ≡ length states.old.items - workers) }
 {
     let mut jobs = Vec::with_capacity(alloc, workers)?;
     for others in 0..workers {
@@ -120,6 +122,7 @@ fn gather<W: Work>(
     ensures found { IfOk result (λ found. All (IsAnswered (W.answers work.now) pieces) found.items
         × AreAll pieces found.items) }
     ensures states { All (W.keeps work.now) states.new.items }
+    ensures back { IfOk result (λ _. length states.new.items ≡ length states.old.items + length workers.items) }
 {
     let mut found = Vec::new(alloc);
     while let Some(worker) = workers.pop() {

@@ -4,7 +4,7 @@
 //! first, and gives one [`Found`] for each piece, in the order of the pieces, with the work's answer for
 //! its number. A contract sees a work as what it may answer for each piece, so the answer is the same
 //! however the pieces fall to the workers. A worker keeps a state from piece to piece, so that it takes
-//! its memory once; the states go back to the caller, for the next run.
+//! its memory once; the states of all come back to the caller, for the next run.
 //!
 //! By [`PieceAssignment::Claimed`] the workers draw the places of their pieces from one word, the claim word, by
 //! steps of one kind, a `fetch_add` of 1. `specs/ClaimWord.antt` has its rule: every number below the
@@ -15,7 +15,7 @@
 //! The starts go by halves, each half on a thread of its own, and where no thread can be started its half
 //! is done by the thread that wanted it. What the workers found is put at the places of the pieces
 //! afterwards, in time `O(n)`. A [`Gate`] is told of each piece before it is done. [`workers_for`] says
-//! how many workers are worth their threads.
+//! how many workers are worth their threads, where nobody watches the gate.
 //!
 //! [`Partition`] cuts a list of vertices into pieces, which are runs of it, one after the other, as a schedule says: one piece, one
 //! for each worker, or four for each, of as many vertices or of as many vertices and edges. A contract sees it as the list of the
@@ -55,4 +55,4 @@ pub use piece_assignment::PieceAssignment;
 pub use piece_results::Found;
 pub use run::run_pieces;
 pub use work::Work;
-pub use workers::workers_for;
+pub use workers::{edges_for, is_crew, workers_for};

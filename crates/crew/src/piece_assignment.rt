@@ -1,4 +1,9 @@
-//! How pieces come to workers.
+//! Piece assignment: how pieces come to workers.
+
+ghost use Rattle.std.specs.Prelude.{◌≡◌};
+ghost use Rattle.crew.specs.Assignment.{assignment_of};
+
+use apply_options::Parallelization;
 
 /// How pieces come to workers.
 #[derive(Clone, Copy, Debug, PartialEq, Eq)]
@@ -7,4 +12,18 @@ pub enum PieceAssignment {
     Claimed,
     /// Worker (k - 1) mod workers + 1 does piece k.
     Fixed,
+}
+
+impl PieceAssignment {
+    /// How the pieces of an apply come to workers by its schedule: static ones are fixed, and others are claimed.
+    pub fn of(parallelization: Parallelization) -> PieceAssignment
+        ensures { result ≡ assignment_of parallelization }
+    {
+        match parallelization {
+            Parallelization::StaticVertex => PieceAssignment::Fixed,
+            Parallelization::Serial
+            | Parallelization::DynamicVertex
+            | Parallelization::EdgeAwareDynamicVertex => PieceAssignment::Claimed,
+        }
+    }
 }

@@ -1,6 +1,6 @@
 //! Runs of pieces.
 
-ghost use Rattle.std.specs.Prelude.{◌^◌, ◌<◌, ◌≤◌, IfOk};
+ghost use Rattle.std.specs.Prelude.{◌≡◌, ◌^◌, ◌<◌, ◌≤◌, length, max, min, IfOk};
 ghost use Rattle.std.specs.List.{All};
 ghost use Rattle.crew.specs.Outcome.{Finds};
 ghost use Rattle.crew.specs.Pieces.{AreFound};
@@ -23,8 +23,8 @@ use std::thread::Threads;
 /// fall to the workers. `gate` is told of each piece before it is done.
 ///
 /// A worker takes its state from the end of `states`, or asks the work for a new one where there is
-/// none left; after the run the states of all workers are in `states`, so that the next run needs no
-/// new ones. After an error some are lost.
+/// none left; after the run the states of all workers are in `states`, behind those that were not
+/// taken, so that the next run needs no new ones. After an error some are lost.
 ///
 /// One worker, or one piece, starts no thread; else as many threads are started as there are workers
 /// beside the caller, but no more than there are pieces beside one. Where a thread cannot be started,
@@ -46,6 +46,7 @@ pub fn run_pieces<R: Threads + Sync, G: Gate + Sync, W: Work + Sync>(
     requires states { All (W.keeps work.now) states.old.items }
     ensures found { Finds (W.answers work.now) pieces workers result }
     ensures states { All (W.keeps work.now) states.new.items }
+    ensures back { IfOk result (λ _. length states.new.items ≡ max (length states.old.items) (min workers pieces)) }
 {
     if !is_crew(workers) {
         return Err(CrewError::BadWorkers);
@@ -73,6 +74,7 @@ fn run_together<R: Threads + Sync, G: Gate + Sync, W: Work + Sync>(
     requires states { All (W.keeps work.now) states.old.items }
     ensures found { IfOk result (λ found. AreFound (W.answers work.now) pieces found.items) }
     ensures states { All (W.keeps work.now) states.new.items }
+    ensures back { IfOk result (λ _. length states.new.items ≡ max (length states.old.items) workers) }
 {
     let found = match share {
         PieceAssignment::Claimed => find_claimed(rt, alloc, gate, work, pieces, workers, states)?,

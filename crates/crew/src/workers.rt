@@ -1,14 +1,14 @@
 //! How many workers a run may have, and how many it is worth.
 
-ghost use Rattle.std.specs.Prelude.{IsTrue, ◌↔◌};
-ghost use Rattle.crew.specs.Outcome.{AreWorkers, Employs};
+ghost use Rattle.std.specs.Prelude.{IsTrue, ◌↔◌, ◌≡◌, ◌*◌, ◌≤◌};
+ghost use Rattle.crew.specs.Outcome.{AreWorkers, Employs, edges_of_a_worker};
 
 use crate::error::CrewError;
 
 const MOST_WORKERS: usize = 64;
 
 /// Whether a run may have so many workers: 1 to 64.
-pub(crate) fn is_crew(workers: usize) -> bool
+pub fn is_crew(workers: usize) -> bool
     ensures { IsTrue result ↔ AreWorkers workers }
 {
     1 <= workers && workers <= MOST_WORKERS
@@ -33,4 +33,12 @@ pub fn workers_for(edges: usize, workers: usize) -> Result<usize, CrewError>
         return Err(CrewError::BadWorkers);
     }
     Ok((edges / EDGES_OF_A_WORKER).min(workers).max(1))
+}
+
+/// The number of edges from which an apply is worth all of so many workers.
+pub fn edges_for(workers: usize) -> usize
+    requires { workers ≤ 64 }
+    ensures { result ≡ workers * edges_of_a_worker }
+{
+    workers * EDGES_OF_A_WORKER
 }

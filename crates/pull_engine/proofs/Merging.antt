@@ -6,6 +6,7 @@ use Rattle.kernels.specs.StepTree.{StepsTree}
 use Rattle.kernels.specs.State.{StateValue}
 use Rattle.kernels.specs.Cells.{HasSizes}
 use Rattle.crew.specs.declared.piece_results.Found.{Found}
+use Rattle.crew.specs.Pieces.{AreAnswers}
 use Rattle.edge_fold.specs.declared.apply_context.ApplyContext.{ApplyContext}
 use Rattle.edge_fold.specs.declared.gathered.Gathered.{Gathered}
 use Rattle.edge_fold.specs.declared.scratch.Scratch.{Scratch}
@@ -25,7 +26,7 @@ use Rattle.push_engine.proofs.SourceLists.{rising}
 use Rattle.pull_engine.specs.declared.work.PullWork.{PullWork}
 use Rattle.pull_engine.specs.Columns.{columns}
 use Rattle.pull_engine.specs.Destinations.{AreDestinations}
-use Rattle.pull_engine.specs.Pieces.{AreAnswers, edges_into_piece}
+use Rattle.pull_engine.specs.Pieces.{Answers, edges_into_piece}
 use Rattle.pull_engine.proofs.ColumnFolds.{columns-append, folded_columns}
 use Rattle.push_engine.proofs.Filtered.{has_first, has_later}
 
@@ -64,7 +65,7 @@ merged f m steps edges from to ends us ks s whole are same has =
     (folded_in_any_order f m steps edges_of ks (range_with_len 1 (length ends)) s same has))
 
 -- what the pieces answer, for one state
-pub each_gathered : (w : PullWork) (fs : List (Found Gathered)) (m : StateValue) (steps : List StepsTree) (from to : ℕ → Bool) → AreAnswers w fs
+pub each_gathered : (w : PullWork) (fs : List (Found Gathered)) (m : StateValue) (steps : List StepsTree) (from to : ℕ → Bool) → AreAnswers (Answers w) fs
     → w.vectors.now.vectors ≡ m.vectors → HasSizes w.sizes.now m → AreKernels w.apply.first.now w.apply.second steps → IsEndTest w.apply.from m from → IsEndTest w.apply.to m to
     → EachGathered w.flat.now.vertices m steps (edges_into_piece w from) fs
 each_gathered w [] m steps from to answers vectors sizes kernels is_from is_to = tt

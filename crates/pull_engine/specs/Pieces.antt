@@ -1,9 +1,8 @@
 -- What the pieces of an apply answer.
-use Rattle.std.specs.Prelude.{◌≡◌, ℕ, Bool, List, [], ◌∷◌}
+use Rattle.std.specs.Prelude.{◌≡◌, ℕ, Bool, List}
 use Rattle.kernels.specs.StepTree.{StepsTree}
 use Rattle.kernels.specs.State.{StateValue}
 use Rattle.kernels.specs.Cells.{HasSizes}
-use Rattle.crew.specs.declared.piece_results.Found.{Found}
 use Rattle.edge_fold.specs.declared.gathered.Gathered.{Gathered}
 use Rattle.edge_fold.specs.Ends.{IsEndTest}
 use Rattle.edge_fold.specs.Folded.{AreKernels}
@@ -21,8 +20,3 @@ abbrev pub Answers : PullWork → (piece : ℕ) → Gathered → Type 0
 Answers w k g = (m : StateValue) (steps : List StepsTree) (from to : ℕ → Bool) → w.vectors.now.vectors ≡ m.vectors → HasSizes w.sizes.now m
     → AreKernels w.apply.first.now w.apply.second steps → IsEndTest w.apply.from m from → IsEndTest w.apply.to m to
     → AreGathered w.flat.now.vertices m steps (edges_into_piece w from k) g
-
--- so each of these does
-abbrev pub AreAnswers : PullWork → List (Found Gathered) → Type 0
-AreAnswers w [] = Unit {0}
-AreAnswers w (f ∷ fs) = Answers w f.piece f.out × AreAnswers w fs

@@ -10,16 +10,19 @@
 //!
 //! [`PullWork`] is an apply in pieces, which workers may do side by side: the destinations are cut as the schedule says
 //! (`crew::Partition`), a piece answers what the edges into its destinations give, and [`PullWork::merge`] makes the changes of
-//! the whole of all answers, in whatever order they come. Its promise is that of [`pull`].
+//! the whole of all answers, in whatever order they come. [`pull_crew`] has the pieces done by 1 to 64 workers. The promise of
+//! both is that of [`pull`].
 //!
 //! Push and pull are those of Ligra's edge map (Shun, Blelloch, PPoPP 2013).
 #![tactic(auto)]
 
 mod changes;
+mod crew_apply;
 mod destinations;
 mod listed;
 mod pieces;
 mod work;
 
 pub use changes::pull;
+pub use crew_apply::pull_crew;
 pub use work::PullWork;

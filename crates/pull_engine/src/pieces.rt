@@ -2,10 +2,10 @@
 ghost use Rattle.std.specs.Prelude.{◌≡◌, ℕ, List, [], length, IfOk};
 ghost use Rattle.std.specs.List.{range_with_len};
 ghost use Rattle.std.specs.List.Sorted.{IsPermutation};
+ghost use Rattle.crew.specs.Pieces.{AreAnswers, pieces_of};
 ghost use Rattle.edge_fold.specs.Changed.{AreApart};
-ghost use Rattle.push_engine.specs.Pieces.{pieces_of};
 ghost use Rattle.push_engine.specs.Applied.{AreChangesOf};
-ghost use Rattle.pull_engine.specs.Pieces.{Answers, AreAnswers};
+ghost use Rattle.pull_engine.specs.Pieces.{Answers};
 
 use crate::destinations::fold_columns;
 use crate::listed::words_of;
@@ -36,7 +36,7 @@ impl PullWork<'_> {
         scratch: &mut Scratch,
     ) -> Result<Changes, AllocError>
         ensures once { IfOk result (λ c. AreApart c.vectors.items) }
-        ensures changes { IfOk result (λ c. AreAnswers self.now found.now → IsPermutation (pieces_of found.now) (range_with_len 1 (length self.now.cuts))
+        ensures changes { IfOk result (λ c. AreAnswers (Answers self.now) found.now → IsPermutation (pieces_of found.now) (range_with_len 1 (length self.now.cuts))
             → AreChangesOf self.now.apply self.now.flat.now self.now.vectors.now.vectors self.now.sizes.now c.vectors.items) }
     {
         let context = ApplyContext {

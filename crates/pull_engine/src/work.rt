@@ -14,7 +14,7 @@ ghost use Rattle.vertex_sets.specs.declared.form.Form.TheVariants as Form;
 ghost use Rattle.pull_engine.specs.Destinations.{AreDestinations, passes_set};
 
 use crate::listed::{cut_destinations, list_destinations, source_bits};
-use crew::{CrewError, Partition};
+use crew::{CrewError, Partition, is_crew};
 use edge_fold::{ApplyContext, FoldStart, Scratch};
 use flat_snapshot::Flat;
 use push_engine::Apply;
@@ -79,7 +79,7 @@ impl<'a> PullWork<'a> {
         ensures sizes { IfOk result (λ w. w.sizes.now ≡ sizes.now) }
         ensures cuts { IfOk result (λ w. w.cuts ≡ boundaries apply.now.parallelization workers (vec_len w.destinations) (map (λ v. length (sources_of v flat.now.edges)) w.destinations.items)) }
     {
-        if workers < 1 || 64 < workers {
+        if !is_crew(workers) {
             return Err(CrewError::BadWorkers);
         }
         let context = ApplyContext {

@@ -4,13 +4,14 @@ use Rattle.kernels.specs.StepTree.{StepsTree}
 use Rattle.kernels.specs.State.{StateValue}
 use Rattle.kernels.specs.Cells.{HasSizes}
 use Rattle.crew.specs.declared.piece_results.Found.{Found}
+use Rattle.crew.specs.Pieces.{AreAnswers}
 use Rattle.edge_fold.specs.declared.gathered.Gathered.{Gathered}
 use Rattle.edge_fold.specs.Ends.{IsEndTest}
 use Rattle.edge_fold.specs.Folded.{AreKernels}
 use Rattle.push_engine.specs.declared.work.PushWork.{PushWork}
-use Rattle.push_engine.specs.Pieces.{AreAnswers, EachGathered, edges_of_piece}
+use Rattle.push_engine.specs.Pieces.{Answers, EachGathered, edges_of_piece}
 
-pub each_gathered : (w : PushWork) (fs : List (Found Gathered)) (m : StateValue) (steps : List StepsTree) (from to : ℕ → Bool) → AreAnswers w fs
+pub each_gathered : (w : PushWork) (fs : List (Found Gathered)) (m : StateValue) (steps : List StepsTree) (from to : ℕ → Bool) → AreAnswers (Answers w) fs
     → w.vectors.now.vectors ≡ m.vectors → HasSizes w.sizes.now m → AreKernels w.apply.first.now w.apply.second steps → IsEndTest w.apply.from m from → IsEndTest w.apply.to m to
     → EachGathered w.flat.now.vertices m steps (edges_of_piece w from to) fs
 each_gathered w [] m steps from to answers vectors sizes kernels is_from is_to = tt

@@ -19,7 +19,8 @@ use Rattle.edge_fold.proofs.Orders.{folded_alike, folded_in_any_order}
 use Rattle.edge_fold.proofs.Walks.{folded_along}
 use Rattle.crew.specs.Partition.{AreEnds, piece_of}
 use Rattle.crew.proofs.PieceLists.{pieces_are_the_list}
-use Rattle.push_engine.specs.Pieces.{EachGathered, pieces_of}
+use Rattle.crew.specs.Pieces.{pieces_of}
+use Rattle.push_engine.specs.Pieces.{EachGathered}
 use Rattle.push_engine.specs.Rows.{rows}
 use Rattle.push_engine.specs.Sources.{AreSources, passing_in}
 use Rattle.push_engine.proofs.RowFolds.{agree_on_rows, rows-append, rows_to_are_edges}

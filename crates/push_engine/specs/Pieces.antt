@@ -1,5 +1,5 @@
 -- What the pieces of an apply answer.
-use Rattle.std.specs.Prelude.{◌≡◌, ℕ, Bool, List, [], ◌∷◌, map}
+use Rattle.std.specs.Prelude.{◌≡◌, ℕ, Bool, List, [], ◌∷◌}
 use Rattle.std.specs.List.{filter}
 use Rattle.kernels.specs.StepTree.{StepsTree}
 use Rattle.kernels.specs.State.{StateValue}
@@ -23,15 +23,6 @@ abbrev pub Answers : PushWork → (piece : ℕ) → Gathered → Type 0
 Answers w k g = (m : StateValue) (steps : List StepsTree) (from to : ℕ → Bool) → w.vectors.now.vectors ≡ m.vectors → HasSizes w.sizes.now m
     → AreKernels w.apply.first.now w.apply.second steps → IsEndTest w.apply.from m from → IsEndTest w.apply.to m to
     → AreGathered w.flat.now.vertices m steps (edges_of_piece w from to k) g
-
--- so each of these does
-abbrev pub AreAnswers : PushWork → List (Found Gathered) → Type 0
-AreAnswers w [] = Unit {0}
-AreAnswers w (f ∷ fs) = Answers w f.piece f.out × AreAnswers w fs
-
--- the pieces that are found
-abbrev pub pieces_of : List (Found Gathered) → List ℕ
-pieces_of fs = map (λ f. f.piece) fs
 
 -- what is found of pieces is what these edges give
 abbrev pub EachGathered : (vertices : ℕ) → StateValue → List StepsTree → (edges_of : ℕ → List (ℕ × ℕ)) → List (Found Gathered) → Type 0

@@ -11,12 +11,14 @@
 //!
 //! [`PushWork`] is an apply in pieces, for the workers of `crew`: the sources are listed once and cut as the schedule says
 //! (`crew::Partition`), a piece answers what the edges from its sources give, and [`PushWork::merge`] makes the changes of the
-//! whole of all answers, in whatever order they come. Its promise is that of [`push`].
+//! whole of all answers, in whatever order they come. [`push_crew`] has the pieces done by 1 to 64 workers. The promise of
+//! both is that of [`push`].
 //!
 //! Push and pull are those of Ligra's edge map (Shun, Blelloch, PPoPP 2013).
 #![tactic(auto)]
 
 mod apply;
+mod crew_apply;
 mod edge_apply;
 mod listed;
 mod members;
@@ -28,6 +30,7 @@ mod sources;
 mod work;
 
 pub use apply::{is_work_above, push};
+pub use crew_apply::push_crew;
 pub use edge_apply::Apply;
 pub use listed::members_of;
 pub use members::keep_members;

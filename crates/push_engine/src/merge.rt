@@ -2,13 +2,14 @@
 ghost use Rattle.std.specs.Prelude.{◌≡◌, ℕ, ◌≤◌, Bool, List, [], length, slice_range, IfOk, OnOk};
 ghost use Rattle.std.specs.List.{filter, flat_map, range_with_len};
 ghost use Rattle.std.specs.List.Sorted.{IsPermutation};
+ghost use Rattle.crew.specs.Pieces.{AreAnswers, pieces_of};
 ghost use Rattle.kernels.specs.StepTree.{StepsTree};
 ghost use Rattle.kernels.specs.State.{StateValue};
 ghost use Rattle.edge_fold.specs.Changed.{AreApart};
 ghost use Rattle.edge_fold.specs.Ends.{IsEndTest};
 ghost use Rattle.edge_fold.specs.Folded.{IsContextOf, HasFolded};
 ghost use Rattle.push_engine.specs.Applied.{AreChangesOf};
-ghost use Rattle.push_engine.specs.Pieces.{Answers, AreAnswers, EachGathered, pieces_of};
+ghost use Rattle.push_engine.specs.Pieces.{Answers, EachGathered};
 ghost use Rattle.push_engine.specs.Rows.{rows};
 ghost use Rattle.push_engine.specs.Sources.{passing_in};
 
@@ -41,7 +42,7 @@ impl PushWork<'_> {
         scratch: &mut Scratch,
     ) -> Result<Changes, AllocError>
         ensures once { IfOk result (λ c. AreApart c.vectors.items) }
-        ensures changes { IfOk result (λ c. AreAnswers self.now found.now → IsPermutation (pieces_of found.now) (range_with_len 1 (length self.now.cuts))
+        ensures changes { IfOk result (λ c. AreAnswers (Answers self.now) found.now → IsPermutation (pieces_of found.now) (range_with_len 1 (length self.now.cuts))
             → AreChangesOf self.now.apply self.now.flat.now self.now.vectors.now.vectors self.now.sizes.now c.vectors.items) }
     {
         let context = ApplyContext {

@@ -14,7 +14,7 @@ ghost use Rattle.push_engine.specs.Sources.{AreSources};
 
 use crate::edge_apply::Apply;
 use crate::listed::{cut_sources, list_sources};
-use crew::{CrewError, Partition};
+use crew::{CrewError, Partition, is_crew};
 use edge_fold::{ApplyContext, FoldStart, Scratch};
 use flat_snapshot::Flat;
 use std::alloc::Global;
@@ -74,7 +74,7 @@ impl<'a> PushWork<'a> {
         ensures sizes { IfOk result (λ w. w.sizes.now ≡ sizes.now) }
         ensures cuts { IfOk result (λ w. w.cuts ≡ boundaries apply.now.parallelization workers (vec_len w.sources) (map (λ u. length (destinations_of u flat.now.edges)) w.sources.items)) }
     {
-        if workers < 1 || 64 < workers {
+        if !is_crew(workers) {
             return Err(CrewError::BadWorkers);
         }
         let context = ApplyContext {

@@ -1,5 +1,5 @@
 -- What engines change, in the words of the meaning.
-use Rattle.std.proofs.Common.{◌≡◌, ℕ, ◌<◌, List, length, ap, ◌∙◌, subst₂, true}
+use Rattle.std.proofs.Common.{◌≡◌, ℕ, ◌<◌, List, Result, Ok, Err, IfOk, length, ap, ◌∙◌, subst₂, true}
 use Rattle.typed_tree.specs.declared.statement.ApplyEnds.{ApplyEnds}
 use Rattle.typed_tree.specs.ProgramTree.{ProgramTree}
 use Rattle.algorithm_meaning.specs.EdgeApply.{after_edge_apply, after_edges, matching, passes}
@@ -9,10 +9,13 @@ use Rattle.flat_snapshot.specs.Digraph.{Digraph, IsDigraph}
 use Rattle.flat_snapshot.specs.Edge.{has_edge, IsWithin}
 use Rattle.edge_fold.specs.Between.{edges_between}
 use Rattle.edge_fold.specs.Changed.{AreApart, changed, changes_of}
-use Rattle.push_engine.specs.Applied.{AreChangesOn}
+use Rattle.push_engine.specs.Applied.{AreChangesOf, AreChangesOn}
+use Rattle.push_engine.specs.declared.edge_apply.Apply.{Apply}
 use Rattle.vectors.specs.declared.changes.VectorChanges.{VectorChanges}
-use Rattle.plans.specs.Reducing.{AreReduced, steps_at}
-use Rattle.runner.specs.EdgeMap.{AreChangesTo}
+use Rattle.plans.specs.Reducing.{AreReduced, places_of, steps_at}
+use Rattle.run_state.specs.declared.run_view.RunView.{RunView}
+use Rattle.runner.specs.EdgeMap.{AreChangesTo, AreChangesOfApply, IsApplyOf}
+use Rattle.runner.specs.declared.edge_maps.EdgeMap.{EdgeMap}
 use Rattle.run_state.specs.View.{HasEntryForEach}
 use Rattle.runner.proofs.Between.{count_after_edges, entry_past, matching_between, rows_after_edges}
 use Rattle.runner.proofs.WrittenChanges.{changes_make}
@@ -50,3 +53,17 @@ changes_are_meant d p m g ends places cs graph count edges long one apart are =
     let looked_at = ap (λ (es : List (ℕ × ℕ)). edges_between from to es) edges ∙ matching_between p.filters g m ends within in
     changes_on_matching p m g ends places cs long one apart
     (subst₂ (λ (n : ℕ) (es : List (ℕ × ℕ)). AreChangesOn n es m steps cs) count looked_at are)
+
+-- what an engine says of an apply is what a plan's edge apply asks
+pub apply_is_meant : (run : RunView) (asked : EdgeMap) (apply : Apply) (cs : List VectorChanges) → IsDigraph run.graph.now → IsApplyOf run asked apply
+    → AreApart cs → AreChangesOf apply run.graph.now run.vectors.now.vectors run.sizes.now cs → AreChangesOfApply run asked cs
+apply_is_meant run asked apply cs graph is once changes p m g view long one =
+    let places = places_of asked.first asked.second in
+    let parts = is p m view.functions view.sets in
+    changes_are_meant run.graph.now p m g asked.ends places cs graph view.vertices view.edges long one once
+    (changes m (steps_at p.edge_functions places) (passes p.filters m asked.ends.from) (passes p.filters m asked.ends.to) view.vectors view.sizes parts.0 parts.1 parts.2)
+
+-- what follows from two facts of a result
+pub from_both : {A E : Type 0} (P Q R : A → Type 0) (r : Result A E) → ((a : A) → P a → Q a → R a) → IfOk r P → IfOk r Q → IfOk r R
+from_both P Q R (Ok a) f p q = f a p q
+from_both P Q R (Err e) f p q = tt

@@ -1,13 +1,17 @@
 -- What an edge apply changes, as a whole.
-use Rattle.std.specs.Prelude.{◌≡◌, ℕ, ◌<◌, ◌≤◌, ℤ, List, [], length, slice_index_or}
+use Rattle.std.specs.Prelude.{◌≡◌, ℕ, ◌<◌, ℤ, List, length}
 use Rattle.typed_tree.specs.ProgramTree.{ProgramTree}
-use Rattle.algorithm_meaning.specs.EdgeApply.{after_edge_apply}
+use Rattle.algorithm_meaning.specs.EdgeApply.{after_edge_apply, passes}
 use Rattle.algorithm_meaning.specs.State.{GraphValue, StateValue}
 use Rattle.algorithm_meaning.specs.Value.{entry}
 use Rattle.edge_fold.specs.Changed.{changed, changes_of}
+use Rattle.edge_fold.specs.Ends.{IsEndTest}
+use Rattle.edge_fold.specs.Folded.{AreKernels}
+use Rattle.plans.specs.Functions.{AreFunctionKernels}
 use Rattle.plans.specs.Reducing.{AreReduced, places_of, steps_at}
 use Rattle.run_state.specs.declared.run_view.RunView.{RunView}
-use Rattle.run_state.specs.View.{HasEntryForEach, IsViewOf}
+use Rattle.run_state.specs.View.{HasEntryForEach, HasSets, IsViewOf}
+use Rattle.push_engine.specs.declared.edge_apply.Apply.{Apply}
 use Rattle.runner.specs.declared.edge_maps.EdgeMap.{EdgeMap}
 use Rattle.vectors.specs.declared.changes.VectorChanges.{VectorChanges}
 use Rattle.vectors.specs.Changes.{with_all_changes}
@@ -24,3 +28,9 @@ abbrev pub AreChangesOfApply : RunView → EdgeMap → List VectorChanges → Ty
 AreChangesOfApply run asked cs = (p : ProgramTree) (m : StateValue) (g : GraphValue) → IsViewOf run p m g → HasEntryForEach g.vertices m.vectors
     → AreReduced (steps_at p.edge_functions (places_of asked.first asked.second)) m
     → AreChangesTo g.vertices m.vectors (after_edge_apply p.filters p.edge_functions g asked.ends (places_of asked.first asked.second) m) cs
+
+-- an apply of the engines has the functions and the ends of an edge apply, whatever program and state the run shows
+abbrev pub IsApplyOf : RunView → EdgeMap → Apply → Type 0
+IsApplyOf run asked apply = (p : ProgramTree) (m : StateValue) → AreFunctionKernels run.functions.now p → HasSets run m
+    → AreKernels apply.first.now apply.second (steps_at p.edge_functions (places_of asked.first asked.second))
+    × IsEndTest apply.from m (passes p.filters m asked.ends.from) × IsEndTest apply.to m (passes p.filters m asked.ends.to)

@@ -4,3 +4,4 @@ pub mod Resting
 pub mod Done
 pub mod Results
 pub mod Job
+pub mod RunRefusal

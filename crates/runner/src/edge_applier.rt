@@ -1,5 +1,5 @@
 //! The edge applier: who does the edge applies of a run.
-ghost use Rattle.std.specs.Prelude.{IfOk};
+ghost use Rattle.std.specs.Prelude.{◌≡◌, IfOk};
 ghost use Rattle.runner.specs.EdgeMap.{AreChangesOfApply};
 
 use crate::edge_maps::{EdgeMap, edge_map};
@@ -56,5 +56,60 @@ impl EdgeApplier for Alone {
         asked: EdgeMap,
     ) -> Result<Changes, AllocError> {
         edge_map(alloc, run, asked, &mut self.scratch)
+    }
+}
+
+/// Workers that do applies by a closure, and the memory that these use again and again: a scratch for the caller, and one for
+/// each worker of an apply in pieces.
+pub struct Crew<F> {
+    by: F,
+    scratch: Scratch,
+    states: Vec<Scratch>,
+}
+
+impl<F: Drop> Drop for Crew<F> {
+    fn drop(self) {
+        let Crew {
+            by: _,
+            scratch: _,
+            states: _,
+        } = self;
+    }
+}
+
+impl<F> Crew<F> {
+    /// It has taken no memory yet.
+    pub fn new(alloc: Global, by: F) -> Crew<F>
+        ensures { result.by ≡ by }
+    {
+        Crew {
+            by,
+            scratch: Scratch::new(alloc),
+            states: Vec::new(alloc),
+        }
+    }
+}
+
+impl<
+    F: Fn(
+        Global,
+        RunView<'_>,
+        EdgeMap,
+        &mut Scratch,
+        &mut Vec<Scratch>,
+    ) -> Result<Changes, AllocError>,
+> EdgeApplier for Crew<F> {
+    // The closure may be called with anything, and tells what an apply changes.
+    ghost is_ready = { λ s. ((alloc : _) (run : _) (asked : _) (scratch : _) (states : _) → F.pre s.by alloc run asked scratch states)
+        × ((alloc : _) (run : _) (asked : _) (scratch : _) (states : _) (r : _) (scratch_after : _) (states_after : _)
+        → F.post s.by alloc run asked scratch states r scratch_after states_after → IfOk r (λ c. AreChangesOfApply run asked c.vectors.items)) };
+
+    fn edge_map(
+        &mut self,
+        alloc: Global,
+        run: RunView<'_>,
+        asked: EdgeMap,
+    ) -> Result<Changes, AllocError> {
+        (self.by)(alloc, run, asked, &mut self.scratch, &mut self.states)
     }
 }

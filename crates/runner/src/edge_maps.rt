@@ -1,5 +1,5 @@
-//! Edge applies of a plan, by one worker.
-ghost use Rattle.std.specs.Prelude.{ℕ, IfOk, slice_get};
+//! Edge applies of a plan, and how one worker does them.
+ghost use Rattle.std.specs.Prelude.{◌≡◌, ℕ, [], IfOk, slice_get};
 ghost use Rattle.typed_tree.specs.ProgramTree.{ProgramTree};
 ghost use Rattle.algorithm_meaning.specs.Function.{steps_of};
 ghost use Rattle.edge_fold.specs.Folded.{AreKernels};
@@ -7,7 +7,7 @@ ghost use Rattle.kernels.specs.Kernels.{IsEdgeKernel};
 ghost use Rattle.kernels.specs.declared.kernel.EdgeKernel.{EdgeKernel};
 ghost use Rattle.plans.specs.Functions.{AreFunctionKernels};
 ghost use Rattle.plans.specs.Reducing.{places_of, steps_at};
-ghost use Rattle.runner.specs.EdgeMap.{AreChangesOfApply};
+ghost use Rattle.runner.specs.EdgeMap.{AreChangesOfApply, IsApplyOf};
 
 use crate::direction::push_or_pull;
 use crate::ends::end_of;
@@ -47,11 +47,21 @@ pub fn edge_map(
 ) -> Result<Changes, AllocError>
     ensures { IfOk result (λ c. AreChangesOfApply run.entry asked c.vectors.items) }
 {
-    let schedule = asked.schedule;
     let no_members = VertexSet::empty(alloc, run.graph.vertices(), Form::List)?;
-    let apply = Apply {
-        from: end_of(asked.ends.from, run, &no_members),
-        to: end_of(asked.ends.to, run, &no_members),
+    let apply = apply_of(run, asked, &no_members);
+    push_or_pull(alloc, &apply, run.graph, run.vectors, run.sizes, scratch)
+}
+
+/// The apply as the engines take it, a sparse push in one piece where the schedule says nothing. A place without a set has
+/// the members of `no_members`, which has none.
+pub(crate) fn apply_of<'a>(run: RunView<'a>, asked: EdgeMap, no_members: &'a VertexSet) -> Apply<'a>
+    requires { no_members.now.members ≡ [] }
+    ensures { IsApplyOf run.entry asked result }
+{
+    let schedule = asked.schedule;
+    Apply {
+        from: end_of(asked.ends.from, run, no_members),
+        to: end_of(asked.ends.to, run, no_members),
         first: run.functions.edge.get(asked.first),
         second: second_kernel(run, asked.second),
         direction: schedule.direction.unwrap_or(Direction::SparsePush),
@@ -59,8 +69,7 @@ pub fn edge_map(
         dense_vertex_set: schedule
             .dense_vertex_set
             .unwrap_or(DenseVertexSet::BoolArray),
-    };
-    push_or_pull(alloc, &apply, run.graph, run.vectors, run.sizes, scratch)
+    }
 }
 
 /// The kernel of the function at the second place, where there is one.

@@ -5,7 +5,8 @@
 //! of the crate `plans` stands after as many steps. `specs/Position.antt` says where a run stands, and `specs/Resting.antt`
 //! what a job is.
 //!
-//! An [`EdgeApplier`] does the edge applies of a run: [`Alone`] is one worker. [`edge_map`] makes an apply for the engines
+//! An [`EdgeApplier`] does the edge applies of a run: [`Alone`] is one worker, and a [`Crew`] the workers of a [`Team`].
+//! [`run`] runs a plan by 1 to 64 workers; what it shows is the same however the pieces of applies fall to them. [`edge_map`] makes an apply for the engines
 //! of two ends, one or two functions and what the schedule says of them, and tells what it changes: written to the
 //! vectors, they are those after the apply (`after_edge_apply` of `algorithm_meaning`). The promise is for a program whose
 //! functions give each vector numbers by one reduction (`specs/Reducing.antt` of `plans`). [`push_or_pull`] does an apply
@@ -23,6 +24,7 @@ mod control;
 mod direction;
 mod edge_applier;
 mod edge_maps;
+mod employment;
 mod ends;
 mod entries;
 mod flow;
@@ -30,13 +32,17 @@ mod job;
 mod memory;
 mod plan_run;
 mod printing;
+mod run_error;
 mod sets;
 mod steps;
+mod team;
 mod variables;
 mod whole_run;
 
 pub use direction::{pick_direction, push_or_pull};
-pub use edge_applier::{Alone, EdgeApplier};
+pub use edge_applier::{Alone, Crew, EdgeApplier};
 pub use edge_maps::{EdgeMap, edge_map};
 pub use job::{Job, Stand};
-pub use whole_run::{run_alone, run_by};
+pub use run_error::RunError;
+pub use team::Team;
+pub use whole_run::{run, run_alone, run_by};

@@ -1,19 +1,30 @@
 //! Whole runs: a plan from its first instruction to its end.
-ghost use Rattle.std.specs.Prelude.{◌≡◌, IfOk};
+ghost use Rattle.std.specs.Prelude.{◌≡◌, Err, IfOk};
 ghost use Rattle.typed_tree.specs.ProgramTree.{ProgramTree};
 ghost use Rattle.algorithm_meaning.specs.Shown.{meaning};
 ghost use Rattle.apply_options.specs.ScheduleTree.{ScheduleTree};
 ghost use Rattle.plans.specs.Plan.{plan_of};
 ghost use Rattle.plans.specs.Reducing.{AppliesReduce};
 ghost use Rattle.plans.specs.PlanOf.{IsPlan};
+ghost use Rattle.crew.specs.Outcome.{AreWorkers};
 ghost use Rattle.run_state.specs.State.{graph_value};
+ghost use Rattle.runner.specs.EdgeMap.{AreChangesOfApply};
+ghost use Rattle.runner.specs.declared.run_error.RunError.TheVariants.{BadWorkers, NoMemory};
 
-use crate::edge_applier::{Alone, EdgeApplier};
+use crate::edge_applier::{Alone, Crew, EdgeApplier};
+use crate::edge_maps::EdgeMap;
 use crate::plan_run::PlanRun;
+use crate::run_error::RunError;
+use crate::team::Team;
 use algorithm_meaning::Outcome;
+use crew::Gate;
+use edge_fold::Scratch;
 use flat_snapshot::Flat;
 use plans::Plan;
+use run_state::RunView;
 use std::alloc::{AllocError, Global};
+use std::thread::Threads;
+use vectors::Changes;
 
 /// Runs a plan on a snapshot of a graph, for at most so many turns, and tells what the run shows: what the program means
 /// on the graph's edges, under any schedule and whoever does its edge applies. The promise is for a program each of whose
@@ -51,4 +62,39 @@ pub fn run_alone(
 {
     let mut alone = Alone::new(alloc);
     run_by(alloc, plan, graph, turns, &mut alone)
+}
+
+/// The same by so many workers, 1 to 64, of whom the caller is worker 1, in threads of their own for each edge apply: the
+/// outcome does not depend on their number, nor on who does which piece.
+///
+/// `gate` is told of each piece of an apply before it is done. Where it watches, the pieces and the workers are exactly
+/// those of the plan's schedule; else an apply with few edges is done by fewer workers, or as a whole by the caller.
+///
+/// Errors: `BadWorkers` where the number of workers is not 1 to 64, else `NoMemory`.
+pub fn run<R: Threads + Sync, G: Gate + Sync>(
+    rt: &R,
+    alloc: Global,
+    plan: &Plan,
+    graph: &Flat,
+    workers: usize,
+    turns: u64,
+    gate: &G,
+) -> Result<Outcome, RunError>
+    ensures workers { IfOk result (λ _. AreWorkers workers) }
+    ensures refused { result ≡ Err BadWorkers → ¬ AreWorkers workers }
+    ensures memory { result ≡ Err NoMemory → AreWorkers workers }
+    ensures means { IfOk result (λ o. (p : ProgramTree) (s : ScheduleTree) → IsPlan plan.now p s → AppliesReduce p (plan_of p s)
+        → o ≡ meaning p (graph_value graph.now) turns) }
+{
+    let team = Team::new(rt, gate, workers)?;
+    let mut crew = Crew::new(
+        alloc,
+        |alloc: Global, view: RunView<'_>, asked: EdgeMap, scratch: &mut Scratch, states: &mut Vec<
+            Scratch,
+        >| -> Result<Changes, AllocError>
+            ensures { IfOk result (λ c. AreChangesOfApply view.entry asked c.vectors.items) }
+        { team.edge_map(alloc, view, asked, scratch, states) },
+    );
+    let outcome = run_by(alloc, plan, graph, turns, &mut crew)?;
+    Ok(outcome)
 }

@@ -1,5 +1,6 @@
+use Rattle.std.proofs.Common.{refl, arith}
 use Rattle.std.proofs.lemmas.List.Elements.{All-pop}
-use Rattle.crew.proofs.Findings.{all_pushed}
+use Rattle.crew.proofs.Findings.{all_pushed, length_pushed, popped_rest}
 use Rattle.crew.proofs.alone.run_alone.Goals as goal
 
 pub state_or_new-requires-after_bounds : goal.state_or_new-requires-after_bounds
@@ -15,3 +16,9 @@ pub returns-clause-states : goal.returns-clause-states
 returns-clause-states g c =
     let keeps = g.W.Work.keeps c.args.work.now in
     all_pushed keeps _ _ _ c.in_ok-push.ensures.items (All-pop keeps _ _ _ c.pop.ensures.items c.requires.states).0 c.in_ok-found.ensures.state
+
+pub returns-clause-back : goal.returns-clause-back
+returns-clause-back g c =
+    let left = popped_rest c.args.states.now c.pop.new.self c.pop.result c.pop.ensures.cases in
+    let more = length_pushed _ _ _ _ c.in_ok-push.ensures.items refl in
+    omega arith

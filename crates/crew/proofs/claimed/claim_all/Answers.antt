@@ -1,4 +1,4 @@
-use Rattle.std.proofs.Common.{ℕ, ◌<◌, IfOk, length, slice_index_or}
+use Rattle.std.proofs.Common.{IfOk}
 use Rattle.std.proofs.lemmas.Result.{IfOk-weaker}
 use Rattle.crew.specs.Workers.{HasClaimed}
 use Rattle.crew.proofs.Findings.{all_given}

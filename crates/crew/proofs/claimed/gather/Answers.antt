@@ -1,9 +1,10 @@
-use Rattle.std.proofs.Common.{◌≡◌, subst, length, IfOk, arith}
+use Rattle.std.proofs.Common.{◌≡◌, refl, subst, length, IfOk, arith}
 use Rattle.std.proofs.lemmas.List.Elements.{All-pop}
 use Rattle.crew.specs.Claims.{view_of}
-use Rattle.crew.specs.Finding.{pieces_of, IsAnswered}
+use Rattle.crew.specs.Finding.{IsAnswered}
+use Rattle.crew.specs.Pieces.{pieces_of}
 use Rattle.crew.specs.Workers.{HasClaimed}
-use Rattle.crew.proofs.Findings.{all_pushed, all_appended, length_popped, done_popped, pieces_of-appended}
+use Rattle.crew.proofs.Findings.{all_pushed, all_appended, length_popped, length_pushed, done_popped, pieces_of-appended}
 use Rattle.crew.proofs.Gathering.{IsGathered, gathers_more, gathered, none_left}
 use Rattle.crew.proofs.claimed.gather.Goals as goal
 
@@ -30,6 +31,7 @@ loop-worker-preserved g c =
       workers = popped.0;
       answered = all_appended (IsAnswered (g.W.Work.answers c.args.work.now) c.args.pieces) _ _ _ c.in_ok-bring_back.ensures.found c.loop-worker.invariant.answered done.5;
       states = all_pushed (g.W.Work.keeps c.args.work.now) _ _ _ c.in_ok-bring_back.ensures.states c.loop-worker.invariant.states done.4;
+      back = (let more = length_pushed _ _ _ _ c.in_ok-bring_back.ensures.states refl in let before = c.loop-worker.invariant.back in omega arith);
     }
 
 pub returns-clause-found : goal.returns-clause-found
@@ -40,3 +42,9 @@ returns-clause-found g c =
       gathered c.args.pieces c.draw.result (view_of c.loop-worker.own) (view_of c.draw.new.claim) (pieces_of c.loop-worker.found.items)
           (subst (λ n. IsGathered c.args.pieces n (view_of c.loop-worker.own) (pieces_of c.loop-worker.found.items)) none c.loop-worker.invariant.claimed) c.draw.ensures.draws,
     )
+
+pub returns-clause-back : goal.returns-clause-back
+returns-clause-back g c =
+    let empty = none_left c.pop.result c.loop-worker.workers.len c.in_default.not-Some c.pop.ensures.variant in
+    let all = c.loop-worker.invariant.back in
+    omega (arith, c.loop-worker.workers.ok.0)

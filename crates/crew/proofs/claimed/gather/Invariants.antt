@@ -1,7 +1,8 @@
-use Rattle.std.proofs.Common.{IfOk, length}
+use Rattle.std.proofs.Common.{◌≡◌, ◌+◌, IfOk, length}
 use Rattle.std.specs.List.{All}
 use Rattle.crew.specs.Claims.{IsClaimAt, view_of}
-use Rattle.crew.specs.Finding.{pieces_of, IsAnswered}
+use Rattle.crew.specs.Finding.{IsAnswered}
+use Rattle.crew.specs.Pieces.{pieces_of}
 use Rattle.crew.specs.Workers.{HasClaimed}
 use Rattle.crew.proofs.Gathering.{IsGathered}
 use Rattle.crew.proofs.claimed.gather.Given as goal
@@ -13,6 +14,7 @@ invariant-loop-worker g l = record {
   workers : All (λ r. IfOk r (HasClaimed (g.W.Work.keeps l.work) (g.W.Work.answers l.work) l.word.table_id l.pieces)) l.workers.items;
   answered : All (IsAnswered (g.W.Work.answers l.work) l.pieces) l.found.items;
   states : All (g.W.Work.keeps l.work) l.states.items;
+  back : length l.states.items + length l.workers.items ≡ length l.fn.states.items + length l.fn.workers.items;
 }
 
 abbrev pub decreases-loop-worker : goal.decreases-loop-worker

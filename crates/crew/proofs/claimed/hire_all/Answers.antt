@@ -1,7 +1,8 @@
+use Rattle.std.proofs.Common.{arith}
 use Rattle.std.proofs.lemmas.List.Elements.{All-pop}
 use Rattle.crew.specs.Claims.{view_of}
 use Rattle.crew.specs.Workers.{IsHired}
-use Rattle.crew.proofs.Findings.{all_pushed, length_pushed}
+use Rattle.crew.proofs.Findings.{all_pushed, length_pushed, popped_rest}
 use Rattle.crew.proofs.Gathering.{hired_more}
 use Rattle.crew.proofs.claimed.hire_all.Goals as goal
 
@@ -15,4 +16,5 @@ loop-others-preserved g c =
       len = length_pushed _ _ _ _ c.in_ok-push.ensures.items c.loop-others.invariant.len;
       jobs = all_pushed (IsHired keeps c.args.word.now.table_id) _ _ _ c.in_ok-push.ensures.items c.loop-others.invariant.jobs (c.hire.ensures.hired.0, c.hire.ensures.hired.1, popped.1);
       states = popped.0;
+      rest = (let left = popped_rest c.loop-others.states c.pop.new.self c.pop.result c.pop.ensures.cases in let before = c.loop-others.invariant.rest in omega arith);
     }

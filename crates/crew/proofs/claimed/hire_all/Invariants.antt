@@ -12,4 +12,5 @@ invariant-loop-others g l = record {
   len : length l.jobs.items ≡ l.others;
   jobs : All (IsHired (g.W.Work.keeps l.work) l.word.table_id) l.jobs.items;
   states : All (g.W.Work.keeps l.work) l.states.items;
+  rest : length l.states.items ≡ length l.fn.states.items - l.others;
 }

@@ -1,4 +1,4 @@
-use Rattle.crew.specs.Finding.{pieces_of}
+use Rattle.crew.specs.Pieces.{pieces_of}
 use Rattle.crew.proofs.Findings.{answered_more, pieces_of-added}
 use Rattle.crew.proofs.Turns.{next_turn, every_more}
 use Rattle.crew.proofs.fixed.fixed_pieces.Goals as goal

@@ -1,7 +1,8 @@
 use Rattle.std.proofs.Common.{◌≡◌, ◌+◌, ◌-◌, ◌%◌, ◌<◌, ℕ}
 use Rattle.std.specs.List.{All}
 use Rattle.crew.specs.ClaimWord.{times}
-use Rattle.crew.specs.Finding.{pieces_of, IsAnswered}
+use Rattle.crew.specs.Finding.{IsAnswered}
+use Rattle.crew.specs.Pieces.{pieces_of}
 use Rattle.crew.proofs.fixed.fixed_pieces.Given as goal
 
 abbrev pub invariant-loop-place : goal.invariant-loop-place

@@ -1,10 +1,11 @@
-use Rattle.std.proofs.Common.{◌≡◌, ◌+◌, ◌-◌, ◌%◌, ◌<◌, ℕ, subst, length, arith}
+use Rattle.std.proofs.Common.{◌≡◌, refl, ◌+◌, ◌-◌, ◌%◌, ◌<◌, ℕ, subst, length, arith}
 use Rattle.std.proofs.Math.Nat.{mod-lt}
 use Rattle.std.proofs.lemmas.Result.{IfOk-at_ok}
 use Rattle.crew.specs.ClaimWord.{times}
-use Rattle.crew.specs.Finding.{pieces_of, IsAnswered}
+use Rattle.crew.specs.Finding.{IsAnswered}
+use Rattle.crew.specs.Pieces.{pieces_of}
 use Rattle.crew.specs.Workers.{HasEvery, GivesEvery}
-use Rattle.crew.proofs.Findings.{all_pushed, all_appended, length_popped, pieces_of-appended}
+use Rattle.crew.proofs.Findings.{all_pushed, all_appended, length_popped, length_pushed, pieces_of-appended}
 use Rattle.crew.proofs.Gathering.{none_left}
 use Rattle.crew.proofs.Turns.{each_popped, last_popped, every_gathered}
 use Rattle.crew.proofs.fixed.gather.Goals as goal
@@ -33,6 +34,7 @@ loop-worker-preserved g c =
           (subst (λ m. (j : ℕ) → j < c.args.pieces → j % n + m < n → 0 < times (j + 1) (pieces_of c.loop-worker.found.items)) one c.loop-worker.invariant.every)
           (λ worker is. (done worker is).2);
       states = all_pushed keeps _ _ _ c.in_ok-bring_back.ensures.states c.loop-worker.invariant.states some.0;
+      back = (let more = length_pushed _ _ _ _ c.in_ok-bring_back.ensures.states refl in let before = c.loop-worker.invariant.back in omega arith);
     }
 
 pub returns-clause-found : goal.returns-clause-found
@@ -42,3 +44,9 @@ returns-clause-found g c =
       c.loop-worker.invariant.answered,
       λ j below. c.loop-worker.invariant.every j below (omega (arith, none, mod-lt j c.requires.some)),
     )
+
+pub returns-clause-back : goal.returns-clause-back
+returns-clause-back g c =
+    let empty = none_left c.pop.result c.loop-worker.workers.len c.in_default.not-Some c.pop.ensures.variant in
+    let all = c.loop-worker.invariant.back in
+    omega (arith, c.loop-worker.workers.ok.0)

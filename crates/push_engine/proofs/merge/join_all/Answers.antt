@@ -2,7 +2,7 @@ use Rattle.std.proofs.Common.{◌≡◌, ◌<◌, ◌≤◌, ◌+◌, ◌++◌, 
 use Rattle.std.proofs.lemmas.List.{take_all}
 use Rattle.std.specs.List.{flat_map}
 use Rattle.edge_fold.proofs.Walks.{folded_along}
-use Rattle.push_engine.specs.Pieces.{pieces_of}
+use Rattle.crew.specs.Pieces.{pieces_of}
 use Rattle.push_engine.proofs.Merging.{gathered_at, next_piece}
 use Rattle.push_engine.proofs.merge.join_all.Goals as goal
 

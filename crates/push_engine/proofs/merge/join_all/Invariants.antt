@@ -3,7 +3,8 @@ use Rattle.std.specs.List.{flat_map}
 use Rattle.kernels.specs.StepTree.{StepsTree}
 use Rattle.kernels.specs.State.{StateValue}
 use Rattle.edge_fold.specs.Folded.{HasFolded}
-use Rattle.push_engine.specs.Pieces.{EachGathered, pieces_of}
+use Rattle.crew.specs.Pieces.{pieces_of}
+use Rattle.push_engine.specs.Pieces.{EachGathered}
 use Rattle.push_engine.proofs.merge.join_all.Given as goal
 
 -- the edges of the pieces that have come are folded

@@ -4,7 +4,8 @@ use Rattle.kernels.specs.EdgeApply.{after_edges}
 use Rattle.kernels.specs.Value.{entry}
 use Rattle.edge_fold.specs.Between.{edges_between}
 use Rattle.edge_fold.specs.Changed.{changed}
-use Rattle.push_engine.specs.Pieces.{EachGathered, edges_of_piece, pieces_of}
+use Rattle.crew.specs.Pieces.{pieces_of}
+use Rattle.push_engine.specs.Pieces.{EachGathered, edges_of_piece}
 use Rattle.push_engine.proofs.Answered.{each_gathered}
 use Rattle.push_engine.proofs.Merging.{merged}
 use Rattle.push_engine.proofs.SourceLists.{filter_all}

@@ -1,4 +1,4 @@
-use Rattle.std.proofs.Common.{◌≡◌, ◌∙◌, Result, Ok, Err, OnOk, ap, sym, subst}
+use Rattle.std.proofs.Common.{◌∙◌, Result, Ok, Err, OnOk, ap, sym, subst}
 use Rattle.std.specs.Arc.{arc_value}
 use Rattle.plans.specs.declared.plan.Plan.{Plan}
 use Rattle.plans.specs.Machine.{Configuration, step}

@@ -1,4 +1,4 @@
-use Rattle.std.proofs.Common.{◌≡◌, ◌∙◌, ◌+◌, ℤ, List, slice_get, ap, subst, sym}
+use Rattle.std.proofs.Common.{◌∙◌, ◌+◌, ℤ, List, slice_get, ap, subst, sym}
 use Rattle.algorithm_meaning.specs.Entries.{with_vectors}
 use Rattle.algorithm_meaning.specs.Function.{steps_of}
 use Rattle.algorithm_meaning.specs.Value.{members_of}

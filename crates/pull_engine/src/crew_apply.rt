@@ -1,0 +1,55 @@
+//! Applies by pull that workers do side by side.
+ghost use Rattle.std.specs.Prelude.{◌≡◌, Err, IfOk};
+ghost use Rattle.crew.specs.declared.error.CrewError.TheVariants.{BadWorkers, NoMemory};
+ghost use Rattle.crew.specs.Outcome.{AreWorkers};
+ghost use Rattle.edge_fold.specs.Changed.{AreApart};
+ghost use Rattle.push_engine.specs.Applied.{AreChangesOf};
+
+use crate::work::PullWork;
+use crew::{CrewError, Gate, PieceAssignment, run_pieces};
+use edge_fold::Scratch;
+use flat_snapshot::Flat;
+use push_engine::Apply;
+use std::alloc::Global;
+use std::thread::Threads;
+use vectors::{Changes, Vectors};
+
+/// What an apply of edge functions changes, as [`crate::pull`] tells it, done in pieces by so many workers, 1 to 64, of whom
+/// the caller is worker 1: however the pieces fall to them, the changes are the same. The pieces are those of
+/// [`PullWork`]: static ones are fixed to their workers, and others are claimed. `gate` is told of each piece before it is
+/// done.
+///
+/// A worker takes its scratch from `states`, and after the apply the scratches of all workers are there, for the next one.
+/// `scratch` is that of the caller's own work, before and after the pieces, and serves any apply after this one, whatever
+/// became of it.
+///
+/// Errors: `BadWorkers`, of number 411, where the number of workers is not 1 to 64, else `NoMemory`, of number 900.
+pub fn pull_crew<R: Threads + Sync, G: Gate + Sync>(
+    rt: &R,
+    gate: &G,
+    workers: usize,
+    alloc: Global,
+    apply: &Apply<'_>,
+    flat: &Flat,
+    vectors: &Vectors,
+    sizes: &[i64],
+    scratch: &mut Scratch,
+    states: &mut Vec<Scratch>,
+) -> Result<Changes, CrewError>
+    ensures workers { IfOk result (λ _. AreWorkers workers) }
+    ensures refused { result ≡ Err BadWorkers → ¬ AreWorkers workers }
+    ensures memory { result ≡ Err NoMemory → AreWorkers workers }
+    ensures once { IfOk result (λ c. AreApart c.vectors.items) }
+    ensures changes { IfOk result (λ c. AreChangesOf apply.now flat.now vectors.now.vectors sizes.now c.vectors.items) }
+{
+    let work = PullWork::new(alloc, apply, flat, vectors, sizes, workers, scratch)?;
+    let pieces = work.pieces();
+    // A graph has fewer vertices.
+    if pieces > u32::MAX as usize {
+        return Err(CrewError::NoMemory);
+    }
+    let assignment = PieceAssignment::of(apply.parallelization);
+    let found = run_pieces(rt, alloc, pieces, workers, assignment, gate, &work, states)?;
+    let changes = work.merge(alloc, &found, scratch)?;
+    Ok(changes)
+}

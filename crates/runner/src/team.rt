@@ -1,0 +1,239 @@
+//! The team of a run: its workers, as edge applies employ them.
+ghost use Rattle.std.specs.Prelude.{◌≡◌, IfErr, IfOk, IfSome};
+ghost use Rattle.crew.specs.Outcome.{AreWorkers};
+ghost use Rattle.edge_fold.specs.Changed.{AreApart};
+ghost use Rattle.push_engine.specs.Applied.{AreChangesOf};
+ghost use Rattle.runner.specs.EdgeMap.{AreChangesOfApply};
+ghost use Rattle.runner.specs.declared.run_error.RunError.TheVariants.{BadWorkers};
+
+use crate::direction::pick_direction;
+use crate::edge_maps::{EdgeMap, apply_of};
+use crate::employment::{edges_from, edges_into, employed};
+use crate::run_error::RunError;
+use apply_options::Direction;
+use crew::{Gate, edges_for, is_crew};
+use edge_fold::{ApplyContext, FoldStart, Scratch};
+use flat_snapshot::Flat;
+use kernels::EndpointFilter;
+use pull_engine::{pull, pull_crew};
+use push_engine::{Apply, passing_set, push, push_crew};
+use run_state::RunView;
+use std::alloc::{AllocError, Global};
+use std::thread::Threads;
+use vectors::{Changes, Vectors};
+use vertex_sets::{Form, VertexSet};
+
+/// So many workers, 1 to 64, who starts their threads, and who is told of their pieces.
+pub struct Team<'a, R, G> {
+    rt: &'a R,
+    gate: &'a G,
+    workers: usize,
+    ghost few: { AreWorkers workers },
+}
+
+impl<R, G> Drop for Team<'_, R, G> {
+    fn drop(self) {
+        let Team {
+            rt: _,
+            gate: _,
+            workers: _,
+        } = self;
+    }
+}
+
+impl<'a, R, G> Team<'a, R, G> {
+    /// The only error is `BadWorkers`, where the number of workers is not 1 to 64.
+    pub fn new(rt: &'a R, gate: &'a G, workers: usize) -> Result<Team<'a, R, G>, RunError>
+        ensures few { IfOk result (λ _. AreWorkers workers) }
+        ensures err { IfErr result (λ e. (e ≡ BadWorkers) × ¬ AreWorkers workers) }
+    {
+        if !is_crew(workers) {
+            return Err(RunError::BadWorkers);
+        }
+        Ok(Team { rt, gate, workers })
+    }
+}
+
+impl<R: Threads + Sync, G: Gate + Sync> Team<'_, R, G> {
+    /// What an edge apply of a plan changes, as [`crate::edge_map`] tells it.
+    ///
+    /// Where somebody watches the gate, the apply is done in the pieces of its schedule, by as many workers. Else fewer do
+    /// it where it has fewer edges, and one as a whole. The hybrid goes by [`pick_direction`], as for one worker.
+    ///
+    /// The only error is out of memory. `scratch` is the caller's, and `states` has those of workers; both serve any apply
+    /// after this one, whatever became of it.
+    pub fn edge_map(
+        &self,
+        alloc: Global,
+        run: RunView<'_>,
+        asked: EdgeMap,
+        scratch: &mut Scratch,
+        states: &mut Vec<Scratch>,
+    ) -> Result<Changes, AllocError>
+        ensures { IfOk result (λ c. AreChangesOfApply run.entry asked c.vectors.items) }
+    {
+        let no_members = VertexSet::empty(alloc, run.graph.vertices(), Form::List)?;
+        let apply = apply_of(run, asked, &no_members);
+        self.push_or_pull(
+            alloc,
+            &apply,
+            run.graph,
+            run.vectors,
+            run.sizes,
+            scratch,
+            states,
+        )
+    }
+
+    /// The same of an apply of the engines.
+    fn push_or_pull(
+        &self,
+        alloc: Global,
+        apply: &Apply<'_>,
+        flat: &Flat,
+        vectors: &Vectors,
+        sizes: &[i64],
+        scratch: &mut Scratch,
+        states: &mut Vec<Scratch>,
+    ) -> Result<Changes, AllocError>
+        ensures once { IfOk result (λ c. AreApart c.vectors.items) }
+        ensures changes { IfOk result (λ c. AreChangesOf apply.now flat.now vectors.now.vectors sizes.now c.vectors.items) }
+    {
+        match apply.direction {
+            Direction::SparsePush | Direction::DensePush => {
+                self.push(alloc, apply, flat, vectors, sizes, scratch, states)
+            }
+            Direction::DensePull => self.pull(alloc, apply, flat, vectors, sizes, scratch, states),
+            Direction::Hybrid => self.hybrid(alloc, apply, flat, vectors, sizes, scratch, states),
+        }
+    }
+
+    /// The same by the direction that is worth less.
+    fn hybrid(
+        &self,
+        alloc: Global,
+        apply: &Apply<'_>,
+        flat: &Flat,
+        vectors: &Vectors,
+        sizes: &[i64],
+        scratch: &mut Scratch,
+        states: &mut Vec<Scratch>,
+    ) -> Result<Changes, AllocError>
+        ensures once { IfOk result (λ c. AreApart c.vectors.items) }
+        ensures changes { IfOk result (λ c. AreChangesOf apply.now flat.now vectors.now.vectors sizes.now c.vectors.items) }
+    {
+        let Some(end) = apply.from else {
+            return self.pull(alloc, apply, flat, vectors, sizes, scratch, states);
+        };
+        match end {
+            EndpointFilter::Members(set) => {
+                self.hybrid_from(alloc, apply, flat, vectors, sizes, set, scratch, states)
+            }
+            EndpointFilter::Filter(_) => {
+                let context = ApplyContext {
+                    first: apply.first,
+                    second: apply.second,
+                    vectors,
+                    sizes,
+                    vertices: flat.vertices(),
+                    start: FoldStart::OldEntry,
+                };
+                let passing = passing_set(alloc, context, end, scratch)?;
+                let among = Apply {
+                    from: Some(EndpointFilter::Members(&passing)),
+                    ..*apply
+                };
+                self.hybrid_from(
+                    alloc, &among, flat, vectors, sizes, &passing, scratch, states,
+                )
+            }
+        }
+    }
+
+    /// The same where the sources are the members of a set.
+    fn hybrid_from(
+        &self,
+        alloc: Global,
+        apply: &Apply<'_>,
+        flat: &Flat,
+        vectors: &Vectors,
+        sizes: &[i64],
+        sources: &VertexSet,
+        scratch: &mut Scratch,
+        states: &mut Vec<Scratch>,
+    ) -> Result<Changes, AllocError>
+        ensures once { IfOk result (λ c. AreApart c.vectors.items) }
+        ensures changes { IfOk result (λ c. AreChangesOf apply.now flat.now vectors.now.vectors sizes.now c.vectors.items) }
+    {
+        match pick_direction(flat, sources) {
+            Direction::DensePull => self.pull(alloc, apply, flat, vectors, sizes, scratch, states),
+            _ => self.push(alloc, apply, flat, vectors, sizes, scratch, states),
+        }
+    }
+
+    /// The same by push.
+    fn push(
+        &self,
+        alloc: Global,
+        apply: &Apply<'_>,
+        flat: &Flat,
+        vectors: &Vectors,
+        sizes: &[i64],
+        scratch: &mut Scratch,
+        states: &mut Vec<Scratch>,
+    ) -> Result<Changes, AllocError>
+        ensures once { IfOk result (λ c. AreApart c.vectors.items) }
+        ensures changes { IfOk result (λ c. AreChangesOf apply.now flat.now vectors.now.vectors sizes.now c.vectors.items) }
+    {
+        let edges = edges_from(flat, apply.from, edges_for(self.workers));
+        let Some(workers) = self.employed(apply, edges) else {
+            return push(alloc, apply, flat, vectors, sizes, scratch);
+        };
+        let (rt, gate) = (self.rt, self.gate);
+        match push_crew(
+            rt, gate, workers, alloc, apply, flat, vectors, sizes, scratch, states,
+        ) {
+            Ok(changes) => Ok(changes),
+            Err(_) => Err(AllocError),
+        }
+    }
+
+    /// The same by pull.
+    fn pull(
+        &self,
+        alloc: Global,
+        apply: &Apply<'_>,
+        flat: &Flat,
+        vectors: &Vectors,
+        sizes: &[i64],
+        scratch: &mut Scratch,
+        states: &mut Vec<Scratch>,
+    ) -> Result<Changes, AllocError>
+        ensures once { IfOk result (λ c. AreApart c.vectors.items) }
+        ensures changes { IfOk result (λ c. AreChangesOf apply.now flat.now vectors.now.vectors sizes.now c.vectors.items) }
+    {
+        let edges = edges_into(flat, apply.to, edges_for(self.workers));
+        let Some(workers) = self.employed(apply, edges) else {
+            return pull(alloc, apply, flat, vectors, sizes, scratch);
+        };
+        let (rt, gate) = (self.rt, self.gate);
+        match pull_crew(
+            rt, gate, workers, alloc, apply, flat, vectors, sizes, scratch, states,
+        ) {
+            Ok(changes) => Ok(changes),
+            Err(_) => Err(AllocError),
+        }
+    }
+
+    /// How many workers do an apply in pieces, or none where the caller does it as a whole.
+    fn employed(&self, apply: &Apply<'_>, edges: usize) -> Option<usize>
+        ensures { IfSome result AreWorkers }
+    {
+        employed(
+            self.gate.watches(),
+            self.workers,
+            apply.parallelization,
+            edges,
+        )
+    }
+}
