@@ -1,6 +1,7 @@
 -- What decides on an edge when entries are joined, filtered or sorted.
-use Rattle.std.proofs.Common.{◌≡◌, ℕ, Bool, false, Option, Some, None, inl, inr, List, [], ◌∷◌, ◌++◌, refl, sym, ap, ◌∙◌, arith, leb}
-use Rattle.std.proofs.lemmas.Bool.{cases_Bool, leb-false, or_parts}
+use Rattle.std.proofs.Common.{◌≡◌, ℕ, ◌<◌, ◌≤◌, length, get_or, Bool, true, false, Option, Some, None, inl, inr, List, [], ◌∷◌, ◌++◌, refl, sym, ap, ◌∙◌, arith, leb}
+use Rattle.std.proofs.lemmas.Bool.{cases_Bool, leb-false, lt-leb, or_parts, or_from, both_ways, false_from_ne_true}
+use Rattle.std.proofs.lemmas.List.Folds.{list_any_at}
 use Rattle.std.specs.Option.{option_or}
 use Rattle.std.specs.List.{list_any}
 use Rattle.tree_batch.specs.declared.batch.Entry.{Entry}
@@ -56,3 +57,20 @@ none_decides (x ∷ xs) e none =
 pub last_decides : (front : List Entry) (x : Entry) (back : List Entry) → NoneNames (edge_of x) back → decision (front ++ x ∷ back) (edge_of x) ≡ Some (is_add x)
 last_decides [] x back none = rw (none_decides back (edge_of x) none, edge_eq-refl (edge_of x))
 last_decides (y ∷ ys) x back none = rw (last_decides ys x back none)
+
+-- entries that name none outside n vertices name none outside more
+named_outside_fewer : (n m : ℕ) (xs : List Entry) → n ≤ m → names_outside n xs ≡ false → names_outside m xs ≡ false
+named_outside_fewer n m [] le inside = refl
+named_outside_fewer n m (x ∷ xs) le inside =
+    let parts = or_parts (entry_names_outside n x) (list_any (entry_names_outside n) xs) inside in
+    let within = entry_within n x parts.0 in
+    or_from _ _ (or_from _ _ (lt-leb m (edge_of x).0 (omega (arith, within.0))) (lt-leb m (edge_of x).1 (omega (arith, within.1)))) (named_outside_fewer n m xs le parts.1)
+
+-- entries that name no vertex outside a graph name none that no graph has
+pub all_inside : (n : ℕ) (xs : List Entry) → n ≤ 16777216 → false ≡ names_outside n xs → names_outside 16777216 xs ≡ false
+all_inside n xs le inside = named_outside_fewer n 16777216 xs le (sym inside)
+
+-- each entry names an edge within
+pub named_within : (n : ℕ) (xs : List Entry) (i : ℕ) (d : Entry) → i < length xs → names_outside n xs ≡ false → IsWithin n (edge_of (get_or xs i d))
+named_within n xs i d lt inside =
+    entry_within n (get_or xs i d) (false_from_ne_true _ (λ outside. both_ways (names_outside n xs) inside (list_any_at (entry_names_outside n) xs i d lt outside)))

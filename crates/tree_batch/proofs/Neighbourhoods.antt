@@ -1,4 +1,4 @@
--- The neighbours of vertices after the decisions of a batch.
+-- The neighbours of vertices after the updates of a batch.
 use Rattle.std.proofs.Common.{◌≡◌, ◌↔◌, ℕ, zero, suc, ◌+◌, ◌*◌, ◌%◌, ◌^◌, ◌≤◌, ◌==◌, Bool, true, false, IsTrue, inl, inr, Option, Some, None, unwrap_or, List, [], ◌∷◌, length, refl, sym, ap, ◌∙◌, subst, arith}
 use Rattle.std.specs.Borrow.{Bor}
 use Rattle.std.specs.Option.{option_copied}
@@ -11,19 +11,16 @@ use Rattle.shared_tree.specs.Entries.{lookup, IsMap}
 use Rattle.shared_tree.specs.ChangedMaps.{MadeAt, IsChangedMap, total_weight, GrewBy}
 use Rattle.c_tree.specs.Chunks.{ChunkedSet}
 use Rattle.tree_batch.specs.declared.batch.Entry.{Entry}
-use Rattle.tree_batch.specs.declared.decision.Decision.{Decision}
-use Rattle.tree_batch.specs.declared.decision.EdgeDirection.TheVariants.{Out, In}
 use Rattle.tree_batch.specs.Edge.{Edge, all_edges}
 use Rattle.tree_batch.specs.Entry.{decision, is_edge_after, names_outside, AreEdgesAfter}
 use Rattle.tree_batch.specs.Digraph.{Digraph, digraph, graph_after, is_chunk_size}
-use Rattle.tree_batch.specs.Decision.{decided, turned}
 use Rattle.tree_batch.specs.Run.{has_number, elements_at, chunk_size_at, VertexRun, run_decided, IsSetAfter, IsNeighbourSet}
 use Rattle.tree_batch.specs.Neighbours.{edges_of, has_neighbour, sources_of, AreNeighbours, IsGraph, HasNeighbours}
 use Rattle.tree_batch.proofs.AllEdges.{edges_after_are, digraph_after, few_vertices, rises_below, rises_filter}
 use Rattle.tree_batch.proofs.Adjacency.{rises_edges, has_edges, edges_weigh, rises_room}
 use Rattle.tree_batch.proofs.Columns.{has_source, sources_ascend, same_numbers}
 
-module _ (b : ℕ) (ds : List Decision) (runs : List (ℕ × VertexRun)) (es new : List (ℕ × ChunkedSet)) (ok : AreNeighbours b es) (is_map : IsMap runs) (sizes : (u : ℕ) (r : VertexRun) → lookup u runs ≡ Some r → r.chunk_size ≡ b) (same : (e : Edge) → run_decided (lookup e.0 runs) e.1 ≡ decided ds e) (changed : IsChangedMap IsSetAfter runs es new) where
+module _ (b : ℕ) (says : Edge → Option Bool) (runs : List (ℕ × VertexRun)) (es new : List (ℕ × ChunkedSet)) (ok : AreNeighbours b es) (is_map : IsMap runs) (sizes : (u : ℕ) (r : VertexRun) → lookup u runs ≡ Some r → r.chunk_size ≡ b) (same : (e : Edge) → run_decided (lookup e.0 runs) e.1 ≡ says e) (changed : IsChangedMap IsSetAfter runs es new) where
   size_kept : (u : ℕ) (r : VertexRun) (o : Option ChunkedSet) → r.chunk_size ≡ b → lookup u es ≡ o → chunk_size_at r.chunk_size o ≡ b
   size_kept u r None size is = size
   size_kept u r (Some s) size is = (ok.sets u s is).chunk_size
@@ -45,8 +42,8 @@ module _ (b : ℕ) (ds : List Decision) (runs : List (ℕ × VertexRun)) (es new
   member_made e None made = ap (λ o. has_number (elements_at o) e.1) made
   member_made e (Some r) made = made.members e.1
 
-  -- and are as the decisions say
-  pub members_changed : (e : Edge) → has_neighbour new e ≡ unwrap_or (decided ds e) (has_neighbour es e)
+  -- and are as the runs say
+  pub members_changed : (e : Edge) → has_neighbour new e ≡ unwrap_or (says e) (has_neighbour es e)
   members_changed e = member_made e (lookup e.0 runs) (changed.values e.0) ∙ ap (λ o. unwrap_or o (has_neighbour es e)) (same e)
 
 -- the growth in elements is that in edges
@@ -69,15 +66,15 @@ module _ (n b count : ℕ) (out into : List (ℕ × ChunkedSet)) (ok : IsGraph n
       ascends None is = tt
       ascends (Some s) is = (ok.into.sets v s is).valid.ascending
 
-  module _ (batch : List Entry) (inside : names_outside n batch ≡ false) (out' into' : List (ℕ × ChunkedSet)) (g : ℕ)
+  module _ (batch : List Entry) (inside : names_outside n batch ≡ false) (says : Edge → Option Bool) (same : (e : Edge) → says e ≡ decision batch e) (out' into' : List (ℕ × ChunkedSet)) (g : ℕ)
       (out_ok : AreNeighbours b out') (into_ok : AreNeighbours b into')
-      (out_members : (e : Edge) → has_neighbour out' e ≡ unwrap_or (decision batch (turned Out e)) (has_neighbour out e))
-      (into_members : (e : Edge) → has_neighbour into' e ≡ unwrap_or (decision batch (turned In e)) (has_neighbour into e))
+      (out_members : (e : Edge) → has_neighbour out' e ≡ unwrap_or (says e) (has_neighbour out e))
+      (into_members : (e : Edge) → has_neighbour into' e ≡ unwrap_or (says (e.1, e.0)) (has_neighbour into e))
       (grew : GrewBy (length (edges_of out)) g (length (edges_of out'))) where
     edges_after : AreEdgesAfter (edges_of out) batch (edges_of out')
     edges_after = record {
       ascending = rises_edges b 0 (2 ^ 32) out' out_ok.map out_ok.sets;
-      members = λ e. has_edges 0 (2 ^ 32) out' e out_ok.map ∙ out_members e ∙ ap (λ h. unwrap_or (decision batch e) h) (sym (has_edges 0 (2 ^ 32) out e ok.out.map));
+      members = λ e. has_edges 0 (2 ^ 32) out' e out_ok.map ∙ out_members e ∙ ap (λ o. unwrap_or o (has_neighbour out e)) (same e) ∙ ap (λ h. unwrap_or (decision batch e) h) (sym (has_edges 0 (2 ^ 32) out e ok.out.map));
     }
 
     -- the new edges are those after the batch
@@ -97,7 +94,7 @@ module _ (n b count : ℕ) (out into : List (ℕ × ChunkedSet)) (ok : IsGraph n
       graph = digraph_after old batch (edges_of out') ok.graph inside edges_after;
       out = out_ok;
       into = into_ok;
-      converse = λ u v. into_members (v, u) ∙ ap (λ h. unwrap_or (decision batch (u, v)) h) (ok.converse u v) ∙ sym (out_members (u, v));
+      converse = λ u v. into_members (v, u) ∙ ap (λ h. unwrap_or (says (u, v)) h) (ok.converse u v) ∙ sym (out_members (u, v));
       count = omega (arith, is, ok.count, grew, few, few_vertices n ok.graph.count);
     }
 

@@ -1,10 +1,12 @@
--- Decisions on neighbours that are parted into additions and removals.
-use Rattle.std.proofs.Common.{◌≡◌, ◌≢◌, ℕ, ◌+◌, ◌^◌, ◌<◌, ◌≤◌, ◌==◌, Bool, true, false, ◌||◌, Option, Some, None, if◌then◌else◌, inl, inr, List, [], ◌∷◌, ◌++◌, length, refl, sym, ap, ◌∙◌, subst, arith}
+-- Updates of neighbours that are parted into additions and removals.
+use Rattle.std.proofs.Common.{◌≡◌, ◌≢◌, ℕ, ◌+◌, ◌^◌, ◌<◌, ◌≤◌, ◌==◌, Bool, true, false, ◌||◌, Option, Some, None, if◌then◌else◌, inl, inr, List, [], ◌∷◌, ◌++◌, length, get_or, drop, refl, sym, ap, ◌∙◌, subst, arith, length-drop}
 use Rattle.std.specs.Option.{option_or}
 use Rattle.std.proofs.lemmas.Bool.{false≢true, cases_Bool, eqb-true, ne_eqb, eqb-false}
+use Rattle.std.proofs.lemmas.List.{drop_more}
 use Rattle.tail_codec.specs.Spelling.{AscendsFrom}
-use Rattle.tree_batch.specs.declared.decision.Decision.{Decision}
-use Rattle.tree_batch.specs.Run.{has_number, one_neighbour, neighbour_decided, NeighboursClimb, begin_with, NumbersRise, parted, IsParted, ArePartedSoFar}
+use Rattle.edge_updates.specs.declared.edge_update.EdgeUpdate.{EdgeUpdate}
+use Rattle.edge_updates.specs.EdgeUpdate.{neighbour_of, adds}
+use Rattle.tree_batch.specs.Run.{has_number, one_neighbour, neighbour_decided, NeighboursRise, NumbersRise, parted, IsParted, ArePartedSoFar}
 use Rattle.tree_batch.proofs.Deciding.{option_or-none, option_or-assoc}
 use Rattle.tree_batch.proofs.SetMembers.{has_append}
 
@@ -55,96 +57,72 @@ parted_added added removed x v absent = rw (has_append added (x ∷ []) v) (one_
 parted_removed : (added removed : List ℕ) (x v : ℕ) → option_or (if x == v then Some false else None) (parted added removed v) ≡ parted added (removed ++ x ∷ []) v
 parted_removed added removed x v = rw (has_append removed (x ∷ []) v) (one_less (x == v) (has_number added v) (has_number removed v))
 
--- a neighbour that the first decision names is decided
-first_decides : (ds : List Decision) (v : ℕ) (o : Option Bool) → begin_with ds v ≡ true → option_or (neighbour_decided ds v) o ≡ neighbour_decided ds v
-first_decides [] v o h = absurd (false≢true h)
-first_decides (d ∷ ds) v o h = rw h (some_decides (neighbour_decided ds v) d.is_neighbour o)
-  where
-    some_decides : (a : Option Bool) (b : Bool) (o : Option Bool) → option_or (option_or a (Some b)) o ≡ option_or a (Some b)
-    some_decides None b o = refl
-    some_decides (Some c) b o = refl
-
-module _ (all : List Decision) (d : Decision) (ds : List Decision) (added removed : List ℕ) (so_far : ArePartedSoFar all (d ∷ ds) added removed) where
+module _ (all : List EdgeUpdate) (d : EdgeUpdate) (ds : List EdgeUpdate) (added removed : List ℕ) (so_far : ArePartedSoFar all (d ∷ ds) added removed) where
   abbrev x : ℕ
-  x = d.neighbour
+  x = neighbour_of d
 
-  -- what is decided of a neighbour, with the first decision apart from the rest
+  -- what is decided of a neighbour, with the first update apart from the rest
   decided_first : (v : ℕ) → neighbour_decided all v ≡ option_or (neighbour_decided ds v) (option_or (one_neighbour d v) (parted added removed v))
   decided_first v = so_far.same v ∙ option_or-assoc (neighbour_decided ds v) (one_neighbour d v) (parted added removed v)
 
-  -- where the next decision does not name the first one's neighbour, all are above it
-  climbs_above : (ds' : List Decision) → begin_with ds' x ≡ false → NeighboursClimb x ds' → NeighboursClimb (x + 1) ds'
-  climbs_above [] h s = tt
-  climbs_above (e ∷ es) h s =
-      let other = eqb-false e.neighbour x h in
-      (omega (arith, s.0, other), s.1)
-
-  -- the next decision names the same neighbour, and decides
-  pub parted_later : begin_with ds x ≡ true → ArePartedSoFar all ds added removed
-  parted_later h = record {
-    low = so_far.low;
-    climbs = climbs_from ds so_far.climbs.1;
-    added_rise = so_far.added_rise;
-    removed_rise = so_far.removed_rise;
-    small = so_far.small;
-    same = λ v. decided_first v ∙ elim (cases_Bool (x == v)) [
-      | inl is ↦
-          let here : begin_with ds v ≡ true = subst (λ z. begin_with ds z ≡ true) (eqb-true x v is) h in
-          first_decides ds v (option_or (one_neighbour d v) (parted added removed v)) here ∙ sym (first_decides ds v (parted added removed v) here)
-      | inr other ↦ rw other
-    ];
-  }
-    where
-      climbs_from : (es : List Decision) → NeighboursClimb x es → NeighboursClimb so_far.low es
-      climbs_from [] s = tt
-      climbs_from (e ∷ es) s = (omega (arith, s.0, so_far.climbs.0), s.1)
-
-  -- the first decision adds its neighbour
-  pub parted_add : begin_with ds x ≡ false → d.is_neighbour ≡ true → x < 2 ^ 32 → ArePartedSoFar all ds (added ++ x ∷ []) removed
-  parted_add h is small = record {
+  -- the first update adds its neighbour
+  pub parted_add : adds d ≡ true → x < 2 ^ 32 → ArePartedSoFar all ds (added ++ x ∷ []) removed
+  parted_add is small = record {
     low = x + 1;
-    climbs = climbs_above ds h so_far.climbs.1;
-    added_rise = rise_pushed 0 so_far.low added x so_far.added_rise so_far.climbs.0;
-    removed_rise = rise_wider 0 so_far.low (x + 1) removed so_far.removed_rise (omega (arith, so_far.climbs.0));
+    rise = so_far.rise.1;
+    added_rise = rise_pushed 0 so_far.low added x so_far.added_rise so_far.rise.0;
+    removed_rise = rise_wider 0 so_far.low (x + 1) removed so_far.removed_rise (omega (arith, so_far.rise.0));
     small = omega arith;
     same = λ v.
-        let absent = absent_above 0 so_far.low removed x so_far.removed_rise so_far.climbs.0 in
+        let absent = absent_above 0 so_far.low removed x so_far.removed_rise so_far.rise.0 in
         let one = rw is at (decided_first v) in
         one ∙ ap (λ o. option_or (neighbour_decided ds v) o) (parted_added added removed x v absent);
   }
 
-  -- the first decision removes its neighbour
-  pub parted_remove : begin_with ds x ≡ false → d.is_neighbour ≡ false → x < 2 ^ 32 → ArePartedSoFar all ds added (removed ++ x ∷ [])
-  parted_remove h is small = record {
+  -- the first update removes its neighbour
+  pub parted_remove : adds d ≡ false → x < 2 ^ 32 → ArePartedSoFar all ds added (removed ++ x ∷ [])
+  parted_remove is small = record {
     low = x + 1;
-    climbs = climbs_above ds h so_far.climbs.1;
-    added_rise = rise_wider 0 so_far.low (x + 1) added so_far.added_rise (omega (arith, so_far.climbs.0));
-    removed_rise = rise_pushed 0 so_far.low removed x so_far.removed_rise so_far.climbs.0;
+    rise = so_far.rise.1;
+    added_rise = rise_wider 0 so_far.low (x + 1) added so_far.added_rise (omega (arith, so_far.rise.0));
+    removed_rise = rise_pushed 0 so_far.low removed x so_far.removed_rise so_far.rise.0;
     small = omega arith;
     same = λ v.
         let one = rw is at (decided_first v) in
         one ∙ ap (λ o. option_or (neighbour_decided ds v) o) (parted_removed added removed x v);
   }
 
--- no decision has been read
-pub parted_none : (all : List Decision) → NeighboursClimb 0 all → ArePartedSoFar all all [] []
+-- no update has been read
+pub parted_none : (all : List EdgeUpdate) → NeighboursRise 0 all → ArePartedSoFar all all [] []
 parted_none all s = record {
   low = 0;
-  climbs = s;
+  rise = s;
   added_rise = omega arith;
   removed_rise = omega arith;
   small = omega arith;
   same = λ v. sym (option_or-none (neighbour_decided all v));
 }
 
--- all decisions have been read
-pub parted_all : (all rest : List Decision) (added removed : List ℕ) → rest ≡ [] → ArePartedSoFar all rest added removed → IsParted all added removed
-parted_all all rest added removed none so_far = record {
+module _ (all : List EdgeUpdate) (i : ℕ) (d : EdgeUpdate) (added removed : List ℕ) (lt : i < length all) (so_far : ArePartedSoFar all (drop i all) added removed) where
+  at_index : ArePartedSoFar all (get_or all i d ∷ drop (i + 1) all) added removed
+  at_index = subst (λ us. ArePartedSoFar all us added removed) (drop_more all i d lt) so_far
+
+  -- the update at an index adds its neighbour
+  pub parted_add_at : adds (get_or all i d) ≡ true → neighbour_of (get_or all i d) < 2 ^ 32 → ArePartedSoFar all (drop (i + 1) all) (added ++ neighbour_of (get_or all i d) ∷ []) removed
+  parted_add_at = parted_add all (get_or all i d) (drop (i + 1) all) added removed at_index
+
+  -- it removes its neighbour
+  pub parted_remove_at : adds (get_or all i d) ≡ false → neighbour_of (get_or all i d) < 2 ^ 32 → ArePartedSoFar all (drop (i + 1) all) added (removed ++ neighbour_of (get_or all i d) ∷ [])
+  parted_remove_at = parted_remove all (get_or all i d) (drop (i + 1) all) added removed at_index
+
+-- all updates have been read
+pub parted_all : (all : List EdgeUpdate) (i : ℕ) (added removed : List ℕ) → length all ≤ i → ArePartedSoFar all (drop i all) added removed → IsParted all added removed
+parted_all all i added removed end so_far = record {
   added_ascend = rise_ascends 0 so_far.low added so_far.added_rise so_far.small;
   removed_ascend = rise_ascends 0 so_far.low removed so_far.removed_rise so_far.small;
-  same = λ v. so_far.same v ∙ rw none;
+  same = λ v. so_far.same v ∙ rw (none_left (drop i all) (omega (arith, length-drop i all)));
 }
-
-pub none_left : (ds : List Decision) → length ds ≡ 0 → ds ≡ []
-none_left [] e = refl
-none_left (d ∷ ds) e = absurd (omega arith)
+  where
+    none_left : (us : List EdgeUpdate) → length us ≡ 0 → us ≡ []
+    none_left [] e = refl
+    none_left (u ∷ us) e = absurd (omega arith)

@@ -1,7 +1,6 @@
 pub mod Edge
 pub mod Entry
 pub mod Digraph
-pub mod Decision
 pub mod Run
 pub mod Runs
 pub mod Neighbours

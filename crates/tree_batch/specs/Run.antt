@@ -3,31 +3,27 @@ use Rattle.std.specs.Prelude.{◌≡◌, ℕ, ◌+◌, ◌^◌, ◌<◌, ◌≤�
 use Rattle.std.specs.Option.{option_or}
 use Rattle.tail_codec.specs.Spelling.{Ascends}
 use Rattle.c_tree.specs.Chunks.{ChunkedSet, IsChunkedSet}
-use Rattle.tree_batch.specs.declared.decision.Decision.{Decision}
+use Rattle.edge_updates.specs.declared.edge_update.EdgeUpdate.{EdgeUpdate}
+use Rattle.edge_updates.specs.EdgeUpdate.{neighbour_of, adds}
 
 -- whether a number is in the list
 abbrev pub has_number : List ℕ → ℕ → Bool
 has_number [] v = false
 has_number (x ∷ xs) v = (x == v) || has_number xs v
 
--- what one decision says of a neighbour
-abbrev pub one_neighbour : Decision → ℕ → Option Bool
-one_neighbour d v = if d.neighbour == v then Some d.is_neighbour else None
+-- what one update says of a neighbour
+abbrev pub one_neighbour : EdgeUpdate → ℕ → Option Bool
+one_neighbour u v = if neighbour_of u == v then Some (adds u) else None
 
--- what the last decision that names a neighbour says of it; None where none does
-abbrev pub neighbour_decided : List Decision → ℕ → Option Bool
+-- what the last update that names a neighbour says of it; None where none does
+abbrev pub neighbour_decided : List EdgeUpdate → ℕ → Option Bool
 neighbour_decided [] v = None
-neighbour_decided (d ∷ ds) v = option_or (neighbour_decided ds v) (one_neighbour d v)
+neighbour_decided (u ∷ us) v = option_or (neighbour_decided us v) (one_neighbour u v)
 
--- the neighbours do not fall, from low on
-abbrev pub NeighboursClimb : ℕ → List Decision → Type 0
-NeighboursClimb low [] = Unit {0}
-NeighboursClimb low (d ∷ ds) = (low ≤ d.neighbour) × NeighboursClimb d.neighbour ds
-
--- whether the first decision names a neighbour
-abbrev pub begin_with : List Decision → ℕ → Bool
-begin_with [] v = false
-begin_with (d ∷ ds) v = d.neighbour == v
+-- the neighbours rise, from low on
+abbrev pub NeighboursRise : ℕ → List EdgeUpdate → Type 0
+NeighboursRise low [] = Unit {0}
+NeighboursRise low (u ∷ us) = (low ≤ neighbour_of u) × NeighboursRise (neighbour_of u + 1) us
 
 -- the neighbours that a vertex comes to have and those that it loses, and the chunk size of a set that begins
 pub record VertexRun : Type 0 where
@@ -49,21 +45,21 @@ abbrev pub run_decided : Option VertexRun → ℕ → Option Bool
 run_decided None v = None
 run_decided (Some r) v = parted r.added r.removed v
 
--- The run is what decisions come to, at chunk size b.
-pub record IsRunFor (ds : List Decision) (b : ℕ) (r : VertexRun) : Type 0 where
-  pub same : (v : ℕ) → neighbour_decided ds v ≡ parted r.added r.removed v
+-- The run is what updates come to, at chunk size b.
+pub record IsRunFor (us : List EdgeUpdate) (b : ℕ) (r : VertexRun) : Type 0 where
+  pub same : (v : ℕ) → neighbour_decided us v ≡ parted r.added r.removed v
   pub chunk_size : r.chunk_size ≡ b
 
--- The neighbours that decisions add and those that they remove, each list ascending.
-pub record IsParted (ds : List Decision) (added removed : List ℕ) : Type 0 where
+-- The neighbours that updates add and those that they remove, each list ascending.
+pub record IsParted (us : List EdgeUpdate) (added removed : List ℕ) : Type 0 where
   pub added_ascend : Ascends None added
   pub removed_ascend : Ascends None removed
-  pub same : (v : ℕ) → neighbour_decided ds v ≡ parted added removed v
+  pub same : (v : ℕ) → neighbour_decided us v ≡ parted added removed v
 
--- Some of the decisions are parted, and the rest are still to be read.
-pub record ArePartedSoFar (all rest : List Decision) (added removed : List ℕ) : Type 0 where
+-- Some of the updates are parted, and the rest are still to be read.
+pub record ArePartedSoFar (all rest : List EdgeUpdate) (added removed : List ℕ) : Type 0 where
   pub low : ℕ
-  pub climbs : NeighboursClimb low rest
+  pub rise : NeighboursRise low rest
   pub added_rise : NumbersRise 0 low added
   pub removed_rise : NumbersRise 0 low removed
   pub small : low ≤ 2 ^ 32

@@ -18,7 +18,7 @@ use std::alloc::{AllocError, Global};
 use std::thread::{self, Threads};
 
 /// The tree with each of these runs made at its vertex, with halves on two threads at so many
-/// levels, the first of which is `level`. Where one run has more than half of the decisions, its set
+/// levels, the first of which is `level`. Where one run has more than half of the updates, its set
 /// goes by halves.
 #[cycle(forked)]
 pub(crate) fn change_forked<R: Threads + Sync, F: Fork + Sync>(
@@ -46,7 +46,7 @@ pub(crate) fn change_forked<R: Threads + Sync, F: Fork + Sync>(
 }
 
 /// Both sides of a vertex, each on a thread of its own where the vertex has no more than half of the
-/// decisions.
+/// updates.
 #[cycle(forked)]
 fn sides<R: Threads + Sync, F: Fork + Sync>(
     rt: &R,

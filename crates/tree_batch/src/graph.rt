@@ -8,10 +8,12 @@ ghost use Rattle.tree_batch.specs.VertexSets.{AreSetsOf};
 ghost use Rattle.tree_batch.specs.Outcome.{Opens, Applies};
 
 use crate::batch::Batch;
-use crate::decision::EdgeDirection;
 use crate::edges::EdgeIter;
 use crate::error::GraphError;
-use crate::neighbours::{neighbours_after, neighbours_after_forked};
+use crate::neighbours::{
+    destinations_after, destinations_after_forked, sources_after, sources_after_forked,
+};
+use crate::updates::{updates, updates_forked};
 use c_tree::{CTree, ChunkSize};
 use set_ops::Fork;
 use shared_tree::{Share, Tree};
@@ -100,9 +102,10 @@ impl Graph {
         if batch.names_outside(self.vertices) {
             return Err(GraphError::VertexRange);
         }
-        let (entries, size) = (batch.entries(), self.chunk_size);
-        let out = neighbours_after(alloc, &self.outgoing, entries, EdgeDirection::Out, size)?;
-        let into = neighbours_after(alloc, &self.incoming, entries, EdgeDirection::In, size)?;
+        let size = self.chunk_size;
+        let updates = updates(alloc, batch.entries())?;
+        let out = destinations_after(alloc, &self.outgoing, &updates, size)?;
+        let into = sources_after(alloc, &self.incoming, updates, size)?;
         Ok(Graph {
             vertices: self.vertices,
             chunk_size: self.chunk_size,
@@ -136,11 +139,12 @@ impl Graph {
         if batch.names_outside(self.vertices) {
             return Err(GraphError::VertexRange);
         }
-        let (entries, size, most) = (batch.entries(), self.chunk_size, forks.min(MOST_FORKS));
-        let (way, tree) = (EdgeDirection::Out, &self.outgoing);
-        let outs = neighbours_after_forked(rt, alloc, tree, entries, way, size, most, fork)?;
-        let (way, tree) = (EdgeDirection::In, &self.incoming);
-        let ins = neighbours_after_forked(rt, alloc, tree, entries, way, size, most, fork)?;
+        let (size, most) = (self.chunk_size, forks.min(MOST_FORKS));
+        let updates = updates_forked(rt, alloc, batch.entries())?;
+        let tree = &self.outgoing;
+        let outs = destinations_after_forked(rt, alloc, tree, &updates, size, most, fork)?;
+        let tree = &self.incoming;
+        let ins = sources_after_forked(rt, alloc, tree, updates, size, most, fork)?;
         Ok(Graph {
             vertices: self.vertices,
             chunk_size: self.chunk_size,

@@ -6,9 +6,9 @@
 //! it. The two are each other's converse, and a vertex without an edge is in neither.
 //!
 //! `Graph::apply` makes the graph after a batch, in which the last entry that names an edge decides
-//! whether it is there, and leaves the old graph as it is. The entries are sorted by vertex and
-//! neighbour, cut into a run for each vertex, and made in one pass over the tree; then the same the
-//! other way round. `Graph::apply_forked` gives the same graph, with halves of the vertices on two
+//! whether it is there, and leaves the old graph as it is. The entries are sorted by source and
+//! destination, and the last of each edge is kept; these updates are cut into a run for each vertex, and
+//! made in one pass over the tree; then they are turned, sorted and made the other way round. `Graph::apply_forked` gives the same graph, with halves of the vertices on two
 //! threads. What a batch does not reach, the graphs share. Versions of a graph stand on this crate.
 //!
 //! Graphs as trees of C-trees that are updated in batches are those of Dhulipala, Blelloch and Shun
@@ -16,7 +16,6 @@
 #![tactic(auto)]
 
 mod batch;
-mod decision;
 mod edges;
 mod error;
 mod forked;
@@ -26,6 +25,7 @@ mod middle;
 mod neighbours;
 mod run;
 mod runs;
+mod updates;
 
 pub use batch::{Batch, Entry};
 pub use edges::EdgeIter;

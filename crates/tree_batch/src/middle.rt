@@ -1,4 +1,4 @@
-//! Trees and runs cut where half of the decisions are on either side.
+//! Trees and runs cut where half of the updates are on either side.
 
 ghost use Rattle.std.specs.Prelude.{◌≡◌, ◌<◌, ◌≤◌, [], length, IfOk, MatchOption};
 ghost use Rattle.shared_tree.specs.Entries.{IsMap};
@@ -28,7 +28,7 @@ pub(crate) struct Middle<'a> {
     pub(crate) found: Option<CTree>,
     pub(crate) run: &'a Run,
     pub(crate) above: Half<'a>,
-    /// Whether the run has more than half of the decisions.
+    /// Whether the run has more than half of the updates.
     pub(crate) is_heavy: bool,
 }
 
@@ -45,7 +45,7 @@ impl Drop for Middle<'_> {
     }
 }
 
-/// A tree and runs cut at the run in the middle of the decisions, or `None` where there is none.
+/// A tree and runs cut at the run in the middle of the updates, or `None` where there is none.
 pub(crate) fn cut_at_middle<'a>(
     alloc: Global,
     tree: &Tree<CTree>,
@@ -54,7 +54,7 @@ pub(crate) fn cut_at_middle<'a>(
     requires { IsMap runs.now }
     ensures { IfOk result (λ o. MatchOption o (runs.now ≡ []) (AreAround tree.now.entries runs.now)) }
 {
-    let half = decision_count(runs) / 2;
+    let half = update_count(runs) / 2;
     let (runs_below, rest) = runs.split_at(place_of(runs, half));
     let Some((first, runs_above)) = rest.split_first() else {
         return Ok(None);
@@ -76,8 +76,8 @@ pub(crate) fn cut_at_middle<'a>(
     }))
 }
 
-/// How many decisions there are.
-fn decision_count(runs: &[(u32, Run)]) -> usize {
+/// How many updates there are.
+fn update_count(runs: &[(u32, Run)]) -> usize {
     let mut count = 0usize;
     for (_, run) in runs {
         count = count.saturating_add(run.len());
@@ -85,7 +85,7 @@ fn decision_count(runs: &[(u32, Run)]) -> usize {
     count
 }
 
-/// The place of the first run with which there are more than so many decisions, or of the last run.
+/// The place of the first run with which there are more than so many updates, or of the last run.
 fn place_of(runs: &[(u32, Run)], most: usize) -> usize
     ensures bounded { result ≤ length runs.now }
     ensures within { 0 < length runs.now → result < length runs.now }

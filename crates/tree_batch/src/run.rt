@@ -6,10 +6,10 @@ ghost use Rattle.c_tree.specs.Chunks.{IsSetOf};
 ghost use Rattle.tail_codec.specs.Spelling.{Ascends};
 ghost use Rattle.tail_codec.specs.Sets.{union, difference};
 ghost use Rattle.set_ops.specs.declared.error.SetError.TheVariants.{NoMemory};
-ghost use Rattle.tree_batch.specs.Run.{NeighboursClimb, begin_with, elements_at, chunk_size_at, IsParted, IsRunFor, IsSetAfter};
+ghost use Rattle.tree_batch.specs.Run.{NeighboursRise, elements_at, chunk_size_at, IsParted, IsRunFor, IsSetAfter};
 
-use crate::decision::Decision;
 use c_tree::{CTree, CTreeError, ChunkSize};
+use edge_updates::EdgeUpdate;
 use set_ops::{Fork, SetError, difference_forked, insert_all, remove_all, union_forked};
 use shared_tree::{Share, ValueChange};
 use std::alloc::{AllocError, Global};
@@ -51,16 +51,16 @@ impl Model for Run {
 }
 
 impl Run {
-    /// What these decisions come to, whose neighbours do not fall.
+    /// What these updates come to, whose neighbours ascend.
     pub(crate) fn new(
         alloc: Global,
-        decisions: &[Decision],
+        updates: &[EdgeUpdate],
         chunk_size: ChunkSize,
     ) -> Result<Run, AllocError>
-        requires { NeighboursClimb 0 decisions.now }
-        ensures { IfOk result (IsRunFor decisions.now chunk_size) }
+        requires { NeighboursRise 0 updates.now }
+        ensures { IfOk result (IsRunFor updates.now chunk_size) }
     {
-        let (added, removed) = parts(alloc, decisions)?;
+        let (added, removed) = parts(alloc, updates)?;
         Ok(Run {
             added,
             removed,
@@ -74,24 +74,20 @@ impl Run {
     }
 }
 
-/// The neighbours that decisions add and those that they remove, ascending.
-fn parts(alloc: Global, decisions: &[Decision]) -> Result<(Vec<u32>, Vec<u32>), AllocError>
-    requires { NeighboursClimb 0 decisions.now }
-    ensures { IfOk result (λ p. IsParted decisions.now p.0.items p.1.items) }
+/// The neighbours that updates add and those that they remove, ascending.
+fn parts(alloc: Global, updates: &[EdgeUpdate]) -> Result<(Vec<u32>, Vec<u32>), AllocError>
+    requires { NeighboursRise 0 updates.now }
+    ensures { IfOk result (λ p. IsParted updates.now p.0.items p.1.items) }
 {
-    let mut added = Vec::with_capacity(alloc, decisions.len())?;
+    let mut added = Vec::with_capacity(alloc, updates.len())?;
     let mut removed = Vec::new(alloc);
-    let mut rest = decisions;
-    while let Some((first, after)) = rest.split_first() {
-        let neighbour = first.neighbour();
-        if !begin_with(after, neighbour) {
-            if first.is_neighbour {
-                added.push(neighbour)?;
-            } else {
-                removed.push(neighbour)?;
-            }
+    for update in updates {
+        let neighbour = update.neighbour();
+        if update.is_added() {
+            added.push(neighbour)?;
+        } else {
+            removed.push(neighbour)?;
         }
-        rest = after;
     }
     Ok((added, removed))
 }
@@ -162,16 +158,6 @@ fn united(set: Result<CTree, SetError>) -> Result<CTree, AllocError>
         Ok(set) => Ok(set),
         Err(SetError::NoMemory) => Err(AllocError),
         Err(SetError::NotAscending | SetError::ChunkSizesDiffer) => unreachable!(),
-    }
-}
-
-/// Whether the first of the decisions names this neighbour.
-fn begin_with(decisions: &[Decision], neighbour: u32) -> bool
-    ensures { result ≡ begin_with decisions.now neighbour }
-{
-    match decisions.split_first() {
-        Some((first, _)) => first.neighbour == neighbour,
-        None => false,
     }
 }
 

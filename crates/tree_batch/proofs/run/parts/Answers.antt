@@ -1,22 +1,20 @@
-use Rattle.std.proofs.Common.{sym, ◌∙◌, subst, ap, arith}
-use Rattle.tree_batch.specs.Run.{begin_with, ArePartedSoFar}
-use Rattle.tree_batch.proofs.Parting.{parted_add, parted_remove, parted_all, none_left}
+use Rattle.std.proofs.Common.{◌≡◌, ◌+◌, sym, ◌∙◌, arith}
+use Rattle.edge_updates.specs.EdgeUpdate.{neighbour_of, adds}
+use Rattle.tree_batch.proofs.Parting.{parted_add_at, parted_remove_at, parted_all}
 use Rattle.tree_batch.proofs.run.parts.Goals as goal
+use Rattle.tree_batch.proofs.run.parts.Goals.{then-is_added+in_ok-push, else-is_added+in_ok-push-2}
 
-pub loop-first-preserved-in_ok-push : goal.loop-first-preserved-in_ok-push
-loop-first-preserved-in_ok-push c =
-    let so_far = subst (λ ds. ArePartedSoFar c.args.decisions.now ds c.loop-first.added.items c.loop-first.removed.items) c.in-Some.ensures.cases.0 c.loop-first.invariant in
-    let neighbour = c.neighbour-neighbour.ensures in
-    let apart = ap (λ v. begin_with c.in-Some.after.now v) (sym neighbour) ∙ sym c.begin_with.ensures ∙ c.if-not-begin_with.true in
-    rw (c.in_ok-push.ensures.items, neighbour) (parted_add c.args.decisions.now c.in-Some.first.now c.in-Some.after.now c.loop-first.added.items c.loop-first.removed.items so_far apart c.if-first.true (omega (arith, neighbour, c.neighbour-neighbour.type_inv)))
-
-pub loop-first-preserved-in_ok-push-2 : goal.loop-first-preserved-in_ok-push-2
-loop-first-preserved-in_ok-push-2 c =
-    let so_far = subst (λ ds. ArePartedSoFar c.args.decisions.now ds c.loop-first.added.items c.loop-first.removed.items) c.in-Some.ensures.cases.0 c.loop-first.invariant in
-    let neighbour = c.neighbour-neighbour.ensures in
-    let apart = ap (λ v. begin_with c.in-Some.after.now v) (sym neighbour) ∙ sym c.begin_with.ensures ∙ c.if-not-begin_with.true in
-    rw (c.in_ok-push-2.ensures.items, neighbour) (parted_remove c.args.decisions.now c.in-Some.first.now c.in-Some.after.now c.loop-first.added.items c.loop-first.removed.items so_far apart c.if-first.false (omega (arith, neighbour, c.neighbour-neighbour.type_inv)))
+pub loop-update-preserved : goal.loop-update-preserved
+loop-update-preserved c =
+    let all = c.args.updates.now in
+    let i = c.loop-update.update-index in
+    let neighbour = c.neighbour-neighbour.ensures.value in
+    elim c.if-is_added.branch [
+      | then-is_added+in_ok-push w ↦
+          rw (w.added-is, w.removed-is, w.in_ok-push.ensures.items, neighbour) (parted_add_at all i _ c.loop-update.added.items c.loop-update.removed.items c.loop-update-test.true c.loop-update.invariant (sym c.is_added.ensures ∙ w.if-is_added.true) (omega (arith, neighbour, c.neighbour-neighbour.ensures.small)))
+      | else-is_added+in_ok-push-2 w ↦
+          rw (w.added-is, w.removed-is, w.in_ok-push-2.ensures.items, neighbour) (parted_remove_at all i _ c.loop-update.added.items c.loop-update.removed.items c.loop-update-test.true c.loop-update.invariant (sym c.is_added.ensures ∙ w.if-is_added.false) (omega (arith, neighbour, c.neighbour-neighbour.ensures.small)))
+    ]
 
 pub returns : goal.returns
-returns c =
-    parted_all c.args.decisions.now c.loop-first.rest.now c.loop-first.added.items c.loop-first.removed.items (none_left c.loop-first.rest.now c.in_default.ensures.cases) c.loop-first.invariant
+returns c = parted_all c.args.updates.now c.loop-update.update-index c.loop-update.added.items c.loop-update.removed.items c.loop-update-test.false c.loop-update.invariant

@@ -4,9 +4,9 @@ use Rattle.tree_batch.proofs.runs.run_length.Given as goal
 
 abbrev pub invariant-loop-count : goal.invariant-loop-count
 invariant-loop-count l = record {
-  bounded : l.count ≤ length l.decisions;
-  run : IsRunOf l.vertex (take l.count l.decisions);
+  bounded : l.count ≤ length l.updates;
+  run : IsRunOf l.vertex (take l.count l.updates);
 }
 
 abbrev pub decreases-loop-count : goal.decreases-loop-count
-decreases-loop-count l = length l.decisions - l.count
+decreases-loop-count l = length l.updates - l.count

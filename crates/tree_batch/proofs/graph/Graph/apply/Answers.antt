@@ -1,19 +1,25 @@
 use Rattle.std.proofs.Common.{◌≡◌, false, sym, refl}
+use Rattle.edge_updates.specs.Updates.{decided}
 use Rattle.tree_batch.specs.Entry.{names_outside}
+use Rattle.tree_batch.proofs.AllEdges.{few_vertices}
+use Rattle.tree_batch.proofs.Deciding.{all_inside}
 use Rattle.tree_batch.proofs.Neighbourhoods.{graph_made, graph_is_after}
 use Rattle.tree_batch.proofs.graph.Graph.apply.Goals as goal
+
+pub updates-requires : goal.updates-requires
+updates-requires c = rw c.entries.ensures (all_inside c.self.inside.vertices c.args.batch.now (few_vertices c.self.inside.vertices c.self.invariant.graph.count) c.if-names_outside.ensures)
 
 pub invariant_of-result : goal.invariant_of-result
 invariant_of-result c =
     let g = c.self.inside in
     let inside : names_outside g.vertices c.args.batch.now ≡ false = sym c.if-names_outside.ensures in
-    graph_made g.vertices g.chunk_size g.edge_count g.outgoing.entries g.incoming.entries c.self.invariant c.args.batch.now inside c.in_ok-out.out.tree.entries c.in_ok-into.into.tree.entries c.in_ok-out.out.growth
-    c.in_ok-out.ensures.neighbours c.in_ok-into.ensures.neighbours (rw c.entries-entries.ensures at c.in_ok-out.ensures.members) (rw c.entries-entries.ensures at c.in_ok-into.ensures.members) c.in_ok-out.ensures.growth _ refl
+    graph_made g.vertices g.chunk_size g.edge_count g.outgoing.entries g.incoming.entries c.self.invariant c.args.batch.now inside (decided c.in_ok-updates.updates.items) (rw c.entries.ensures at c.in_ok-updates.ensures.same) c.in_ok-out.out.tree.entries c.in_ok-into.into.tree.entries c.in_ok-out.out.growth
+    c.in_ok-out.ensures.neighbours c.in_ok-into.ensures.neighbours (rw c.deref.ensures.value at c.in_ok-out.ensures.members) c.in_ok-into.ensures.members c.in_ok-out.ensures.growth _ refl
 
 pub returns : goal.returns
 returns c =
     let g = c.self.inside in
     let inside : names_outside g.vertices c.args.batch.now ≡ false = sym c.if-names_outside.ensures in
-    let after = graph_is_after g.vertices g.chunk_size g.edge_count g.outgoing.entries g.incoming.entries c.self.invariant c.args.batch.now inside c.in_ok-out.out.tree.entries c.in_ok-into.into.tree.entries c.in_ok-out.out.growth
-    c.in_ok-out.ensures.neighbours c.in_ok-into.ensures.neighbours (rw c.entries-entries.ensures at c.in_ok-out.ensures.members) (rw c.entries-entries.ensures at c.in_ok-into.ensures.members) c.in_ok-out.ensures.growth in
+    let after = graph_is_after g.vertices g.chunk_size g.edge_count g.outgoing.entries g.incoming.entries c.self.invariant c.args.batch.now inside (decided c.in_ok-updates.updates.items) (rw c.entries.ensures at c.in_ok-updates.ensures.same) c.in_ok-out.out.tree.entries c.in_ok-into.into.tree.entries c.in_ok-out.out.growth
+    c.in_ok-out.ensures.neighbours c.in_ok-into.ensures.neighbours (rw c.deref.ensures.value at c.in_ok-out.ensures.members) c.in_ok-into.ensures.members c.in_ok-out.ensures.growth in
     rw (← c.self.view_is) (inside, after)

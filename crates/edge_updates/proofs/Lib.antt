@@ -1,0 +1,4 @@
+pub mod Packing
+pub mod SortedUpdates
+pub mod KeepingLast
+pub mod Turning

@@ -1,0 +1,30 @@
+-- What the number in an update says.
+use Rattle.std.proofs.Common.{◌≡◌, ℕ, ◌+◌, ◌*◌, ◌/◌, ◌%◌, ◌^◌, ◌<◌, ◌≤◌, ap, arith}
+use Rattle.edge_updates.specs.declared.edge_update.EdgeUpdate.{EdgeUpdate}
+use Rattle.edge_updates.specs.EdgeUpdate.{key_of, vertex_of, neighbour_of}
+
+-- the key has the vertex and the neighbour
+pub key_is : (u : EdgeUpdate) → key_of u ≡ vertex_of u * 2 ^ 24 + neighbour_of u
+unfolding vertex_of neighbour_of
+key_is u = omega arith
+
+pub neighbour_small : (u : EdgeUpdate) → neighbour_of u < 2 ^ 24
+unfolding neighbour_of
+neighbour_small u = omega arith
+
+-- an update with a key
+pub at_key : ℕ → EdgeUpdate
+at_key k = record { bits = k * 2 ^ 16 }
+
+pub key_at : (k : ℕ) → key_of (at_key k) ≡ k
+unfolding key_of at_key
+key_at k = omega arith
+
+-- updates with one key name one edge
+pub same_vertex : (a b : EdgeUpdate) → key_of a ≡ key_of b → vertex_of a ≡ vertex_of b
+unfolding vertex_of
+same_vertex a b same = ap (λ k. k / 2 ^ 24) same
+
+pub same_neighbour : (a b : EdgeUpdate) → key_of a ≡ key_of b → neighbour_of a ≡ neighbour_of b
+unfolding neighbour_of
+same_neighbour a b same = ap (λ k. k % 2 ^ 24) same

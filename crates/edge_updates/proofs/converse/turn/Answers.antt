@@ -1,0 +1,23 @@
+use Rattle.std.proofs.Common.{◌≡◌, length, drop, sym, ◌∙◌, arith}
+use Rattle.edge_updates.specs.Updates.{decided}
+use Rattle.edge_updates.proofs.Turning.{AreTurnedSoFar, turned_more, turned_all, decided_turned, once_turned}
+use Rattle.edge_updates.proofs.converse.turn.Goals as goal
+
+pub loop-update-preserved : goal.loop-update-preserved
+loop-update-preserved c =
+    let t = c.turned.ensures in
+    turned_more _ c.loop-update.update-items c.loop-update.update-index _ c.turned.result (omega arith) c.loop-update.invariant (record { vertex = t.vertex; neighbour = t.neighbour; is_added = t.is_added })
+
+pub returns-clause-same : goal.returns-clause-same
+returns-clause-same c u v =
+    let old = c.args.updates.now.items in
+    let len : length c.loop-update.update-items ≡ c.args.updates.now.len = c.loop-update.auto.update-items ∙ c.deref_mut-update-items.ensures.len in
+    let all = turned_all old c.loop-update.update-items (drop (length c.loop-update.update-items) old) c.loop-update.update-index c.args.updates.now.len c.loop-update.invariant (omega arith) len in
+    decided_turned old _ u v all
+
+pub returns-clause-once : goal.returns-clause-once
+returns-clause-once c once =
+    let old = c.args.updates.now.items in
+    let len : length c.loop-update.update-items ≡ c.args.updates.now.len = c.loop-update.auto.update-items ∙ c.deref_mut-update-items.ensures.len in
+    let all = turned_all old c.loop-update.update-items (drop (length c.loop-update.update-items) old) c.loop-update.update-index c.args.updates.now.len c.loop-update.invariant (omega arith) len in
+    once_turned old _ all once

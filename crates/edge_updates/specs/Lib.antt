@@ -1,0 +1,3 @@
+pub mod EdgeUpdate
+pub mod Updates
+pub mod LastUpdates

@@ -1,0 +1,59 @@
+-- What lists of updates decide of edges, and their order.
+use Rattle.std.specs.Prelude.{◌≡◌, ℕ, ◌+◌, ◌<◌, ◌≤◌, ◌==◌, Bool, ◌&&◌, Option, Some, None, if◌then◌else◌, List, [], ◌∷◌}
+use Rattle.std.specs.Option.{option_or}
+use Rattle.edge_updates.specs.declared.edge_update.EdgeUpdate.{EdgeUpdate}
+use Rattle.edge_updates.specs.EdgeUpdate.{vertex_of, neighbour_of, adds}
+
+-- an edge: a vertex and its neighbour
+abbrev pub Edge : Type 0
+Edge = ℕ × ℕ
+
+-- whether an update names an edge
+abbrev pub names : EdgeUpdate → Edge → Bool
+names u e = (vertex_of u == e.0) && (neighbour_of u == e.1)
+
+-- what one update says of an edge
+abbrev pub one_decided : EdgeUpdate → Edge → Option Bool
+one_decided u e = if names u e then Some (adds u) else None
+
+-- what the last update that names an edge says of it: whether it is added; None where none names it
+abbrev pub decided : List EdgeUpdate → Edge → Option Bool
+decided [] e = None
+decided (u ∷ us) e = option_or (decided us e) (one_decided u e)
+
+-- how many updates name an edge
+abbrev pub times : Edge → List EdgeUpdate → ℕ
+times e [] = 0
+times e (u ∷ us) = if names u e then times e us + 1 else times e us
+
+-- no edge is named twice
+abbrev pub NamesOnce : List EdgeUpdate → Type 0
+NamesOnce us = (e : Edge) → times e us ≤ 1
+
+-- the one stands before the other, or at its place
+abbrev pub IsNotAfter : EdgeUpdate → EdgeUpdate → Type 0
+IsNotAfter a b = (vertex_of a ≤ vertex_of b) × (vertex_of a ≡ vertex_of b → neighbour_of a ≤ neighbour_of b)
+
+-- the updates stand in order, after one
+abbrev pub FollowInOrder : EdgeUpdate → List EdgeUpdate → Type 0
+FollowInOrder a [] = Unit {0}
+FollowInOrder a (u ∷ us) = IsNotAfter a u × FollowInOrder u us
+
+-- the updates stand in order of vertex and then of neighbour
+abbrev pub AreInOrder : List EdgeUpdate → Type 0
+AreInOrder [] = Unit {0}
+AreInOrder (u ∷ us) = FollowInOrder u us
+
+-- the one stands before the other
+abbrev pub IsBefore : EdgeUpdate → EdgeUpdate → Type 0
+IsBefore a b = (vertex_of a ≤ vertex_of b) × (vertex_of a ≡ vertex_of b → neighbour_of a < neighbour_of b)
+
+-- the edges ascend, after that of one update
+abbrev pub FollowAscending : EdgeUpdate → List EdgeUpdate → Type 0
+FollowAscending a [] = Unit {0}
+FollowAscending a (u ∷ us) = IsBefore a u × FollowAscending u us
+
+-- the edges ascend by vertex and then by neighbour, each named once
+abbrev pub Ascend : List EdgeUpdate → Type 0
+Ascend [] = Unit {0}
+Ascend (u ∷ us) = FollowAscending u us

@@ -1,0 +1,17 @@
+//! The same edges seen from their neighbours.
+
+ghost use Rattle.std.specs.Prelude.{◌≡◌, ℕ, length, vec_len};
+ghost use Rattle.edge_updates.specs.Updates.{decided, NamesOnce};
+
+use crate::edge_update::EdgeUpdate;
+
+/// Swaps the ends of the edge of each update. It takes linear time and no memory.
+pub fn turn(updates: &mut Vec<EdgeUpdate>)
+    ensures same { (u v : ℕ) → decided updates.new.items (v, u) ≡ decided updates.old.items (u, v) }
+    ensures once { NamesOnce updates.old.items → NamesOnce updates.new.items }
+    ensures len { vec_len updates.new ≡ vec_len updates.old }
+{
+    for update in updates.iter_mut() {
+        *update = update.turned();
+    }
+}
