@@ -1,13 +1,13 @@
 -- The last update of each edge, of updates that stand in order.
-use Rattle.std.proofs.Common.{◌≡◌, ◌≢◌, ℕ, ◌+◌, ◌*◌, ◌^◌, ◌<◌, ◌≤◌, ◌==◌, Bool, true, false, Option, Some, None, inl, inr, List, [], ◌∷◌, ◌++◌, length, get_or, take, drop, refl, sym, ap, ◌∙◌, subst, arith, length-drop, append_assoc}
+use Rattle.std.proofs.Common.{◌≡◌, ◌≢◌, ℕ, ◌+◌, ◌<◌, ◌≤◌, ◌==◌, Bool, true, false, Option, Some, None, inl, inr, List, [], ◌∷◌, ◌++◌, length, get_or, take, drop, refl, sym, ap, ◌∙◌, arith, length-drop, append_assoc}
 use Rattle.std.specs.Option.{option_or}
 use Rattle.std.proofs.Math.ListN.{set}
 use Rattle.std.proofs.Math.Seq.{take-append_seam}
-use Rattle.std.proofs.lemmas.Bool.{false≢true, cases_Bool, eqb-true, eqb-false, eq-eqb, and_from}
+use Rattle.std.proofs.lemmas.Bool.{false≢true, cases_Bool, eqb-true, eqb-false}
 use Rattle.std.proofs.lemmas.List.{drop_more, take_more_set, drop-set-lt}
 use Rattle.edge_updates.specs.declared.edge_update.EdgeUpdate.{EdgeUpdate}
 use Rattle.edge_updates.specs.EdgeUpdate.{key_of, vertex_of, neighbour_of}
-use Rattle.edge_updates.specs.Updates.{Edge, names, one_decided, decided, times, NamesOnce, IsNotAfter, FollowInOrder, AreInOrder, IsBefore, FollowAscending, Ascend}
+use Rattle.edge_updates.specs.Updates.{Edge, names, one_decided, decided, times, NamesOnce, FollowInOrder, AreInOrder, IsBefore, FollowAscending, Ascend}
 use Rattle.edge_updates.specs.LastUpdates.{begin_same, last_updates}
 use Rattle.edge_updates.proofs.Packing.{key_is, same_vertex, same_neighbour}
 use Rattle.edge_updates.proofs.SortedUpdates.{option_or-none, names_parts, names_other}

@@ -7,7 +7,8 @@ use crate::edge_update::EdgeUpdate;
 
 /// Swaps the ends of the edge of each update. It takes linear time and no memory.
 pub fn turn(updates: &mut Vec<EdgeUpdate>)
-    ensures same { (u v : ℕ) → decided updates.new.items (v, u) ≡ decided updates.old.items (u, v) }
+    ensures same { (u v : ℕ)
+        → decided updates.new.items (v, u) ≡ decided updates.old.items (u, v) }
     ensures once { NamesOnce updates.old.items → NamesOnce updates.new.items }
     ensures len { vec_len updates.new ≡ vec_len updates.old }
 {

@@ -1,9 +1,10 @@
 //! Updates of edges, 8 bytes each: what is to be added and removed, sorted by edge.
 //!
-//! A contract sees an [`EdgeUpdate`] as a vertex, a neighbour of it and whether the edge between them is
-//! added, and a list of them as what it decides: the last update that names an edge decides on it.
-//! [`sort`] and [`keep_last`] leave that as it is, and after both the edges ascend, each once. [`turn`]
-//! gives the same edges seen from the neighbour: sorted once more, they are the other direction.
+//! A contract sees an [`EdgeUpdate`] as a vertex, a neighbour of it and whether the edge between them
+//! is added, and a list of them as what it decides: the last update that names an edge decides on it.
+//! [`sort`] and [`keep_last`] leave that as it is, and after both the edges ascend, each once.
+//! [`turn`] gives the same edges seen from the neighbour: sorted once more, they are the other
+//! direction.
 //!
 //! Batches of a graph are sorted by this crate.
 #![tactic(auto)]

@@ -1,12 +1,12 @@
 -- The sets of neighbours of all vertices of a graph.
-use Rattle.std.proofs.Common.{◌≡◌, ℕ, ◌+◌, ◌<◌, ◌≤◌, ◌^◌, true, false, None, Some, inl, inr, List, [], ◌∷◌, length, refl, sym, ◌∙◌, ap, arith}
+use Rattle.std.proofs.Common.{◌≡◌, ℕ, ◌+◌, ◌<◌, ◌≤◌, ◌^◌, true, None, inl, inr, List, [], ◌∷◌, length, refl, sym, ◌∙◌, arith}
 use Rattle.std.proofs.lemmas.Bool.{false≢true, cases_eq, ne_eqb, eq-eqb, or_right}
 use Rattle.tail_codec.specs.Spelling.{AscendsFrom}
 use Rattle.shared_tree.specs.Entries as entries
 use Rattle.shared_tree.specs.Entries.{lookup}
 use Rattle.shared_tree.proofs.Order.{lookup_below}
 use Rattle.c_tree.specs.Chunks.{ChunkedSet}
-use Rattle.tree_batch.specs.Run.{has_number, elements_at}
+use Rattle.tree_batch.specs.Run.{has_number}
 use Rattle.tree_batch.specs.Neighbours.{destinations_of, sources_of, edges_of, has_neighbour, IsGraph}
 use Rattle.tree_batch.specs.VertexSets.{HaveFew, AreSetsOf}
 use Rattle.tree_batch.proofs.AllEdges.{few_vertices}

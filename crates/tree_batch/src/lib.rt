@@ -7,9 +7,10 @@
 //!
 //! `Graph::apply` makes the graph after a batch, in which the last entry that names an edge decides
 //! whether it is there, and leaves the old graph as it is. The entries are sorted by source and
-//! destination, and the last of each edge is kept; these updates are cut into a run for each vertex, and
-//! made in one pass over the tree; then they are turned, sorted and made the other way round. `Graph::apply_forked` gives the same graph, with halves of the vertices on two
-//! threads. What a batch does not reach, the graphs share. Versions of a graph stand on this crate.
+//! destination, and the last of each edge is kept. These updates are cut into a run for each vertex and
+//! made in one pass over the tree; turned and sorted again, they are made the other way round.
+//! `Graph::apply_forked` gives the same graph, with halves of the vertices on two threads. What a batch
+//! does not reach, the graphs share. Versions of a graph stand on this crate.
 //!
 //! Graphs as trees of C-trees that are updated in batches are those of Dhulipala, Blelloch and Shun
 //! (Aspen, PLDI 2019).

@@ -1,6 +1,5 @@
-use Rattle.std.proofs.Common.{◌≡◌, length, drop, sym, ◌∙◌, arith}
-use Rattle.edge_updates.specs.Updates.{decided}
-use Rattle.edge_updates.proofs.Turning.{AreTurnedSoFar, turned_more, turned_all, decided_turned, once_turned}
+use Rattle.std.proofs.Common.{◌≡◌, length, drop, ◌∙◌, arith}
+use Rattle.edge_updates.proofs.Turning.{turned_more, turned_all, decided_turned, once_turned}
 use Rattle.edge_updates.proofs.converse.turn.Goals as goal
 
 pub loop-update-preserved : goal.loop-update-preserved

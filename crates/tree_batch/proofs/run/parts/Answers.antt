@@ -1,5 +1,4 @@
-use Rattle.std.proofs.Common.{◌≡◌, ◌+◌, sym, ◌∙◌, arith}
-use Rattle.edge_updates.specs.EdgeUpdate.{neighbour_of, adds}
+use Rattle.std.proofs.Common.{sym, ◌∙◌, arith}
 use Rattle.tree_batch.proofs.Parting.{parted_add_at, parted_remove_at, parted_all}
 use Rattle.tree_batch.proofs.run.parts.Goals as goal
 use Rattle.tree_batch.proofs.run.parts.Goals.{then-is_added+in_ok-push, else-is_added+in_ok-push-2}
