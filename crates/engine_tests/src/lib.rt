@@ -10,3 +10,5 @@ mod jobs;
 mod kernel_shapes;
 #[cfg(test)]
 mod rows;
+#[cfg(test)]
+mod worker_runs;
