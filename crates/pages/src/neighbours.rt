@@ -1,0 +1,81 @@
+//! The neighbours of a vertex, as they lie packed in a page.
+
+ghost use Rattle.std.specs.Prelude.{◌≡◌, ◌↔◌, ◌+◌, ◌<◌, ◌≤◌, [], length, slice_index, take, drop, reverse, IsTrue};
+ghost use Rattle.pages.specs.Lists.{AscendsFrom, has};
+
+use crate::offsets::offset;
+use std::marker::Model;
+
+/// An ascending list of at most 256 neighbours.
+#[derive(Drop)]
+pub struct Neighbours<'a> {
+    first: u32,
+    width: usize,
+    mask: u32,
+    len: usize,
+    offsets: &'a [u8],
+}
+
+impl<'a> Model for Neighbours<'a> {
+    ghost use Rattle.std.specs.Prelude.{ℕ, List};
+    ghost use Rattle.pages.specs.inside.Packed.{list_of, IsView};
+
+    ghost Value = { List ℕ };
+
+    ghost view = { λ l. list_of l.first l.width l.len l.offsets.now };
+
+    ghost invariant = { λ l. IsView l.first l.width l.mask l.len l.offsets.now };
+}
+
+impl<'a> Neighbours<'a> {
+    /// How many neighbours there are, at most 256. It takes constant time.
+    #[inline]
+    pub fn len(&self) -> usize
+        ensures count { result ≡ length self.now }
+        ensures few { result ≤ 256 }
+        ensures ascending { AscendsFrom 0 self.now }
+    {
+        self.len
+    }
+
+    /// Whether there is no neighbour. It takes constant time.
+    #[inline]
+    pub fn is_empty(&self) -> bool
+        ensures { IsTrue result ↔ (self.now ≡ []) }
+    {
+        self.len() == 0
+    }
+
+    /// The neighbour at an index. It takes constant time.
+    #[inline]
+    pub fn get(&self, index: usize) -> u32
+        requires { index < length self.now }
+        ensures { result ≡ slice_index self.now index }
+    {
+        if index == 0 {
+            return self.first;
+        }
+        self.first + offset(self.offsets, self.width, self.mask, index - 1)
+    }
+
+    /// Whether a vertex is among the neighbours. It takes time `O(log len)`.
+    #[inline]
+    pub fn contains(&self, neighbour: u32) -> bool
+        ensures { result ≡ has neighbour self.now }
+    {
+        let (mut low, mut high) = (0, self.len());
+        while low < high {
+            let middle = low + (high - low) / 2;
+            let found = self.get(middle);
+            if found == neighbour {
+                return true;
+            }
+            if found < neighbour {
+                low = middle + 1;
+            } else {
+                high = middle;
+            }
+        }
+        false
+    }
+}
