@@ -1,3 +1,4 @@
 pub mod Masks
 pub mod Ascent
 pub mod Decoding
+pub mod Filling

@@ -3,6 +3,7 @@
 ghost use Rattle.std.specs.Prelude.{◌≡◌, ◌↔◌, ◌+◌, ◌<◌, ◌≤◌, [], length, slice_index, take, drop, reverse, IsTrue};
 ghost use Rattle.pages.specs.Lists.{AscendsFrom, has};
 
+use crate::blocks::{fill_after, fill_before};
 use crate::offsets::offset;
 use std::marker::Model;
 
@@ -77,5 +78,41 @@ impl<'a> Neighbours<'a> {
             }
         }
         false
+    }
+}
+
+impl<'a> Neighbours<'a> {
+    /// Fills a block with the neighbours from an index on.
+    #[inline]
+    pub(crate) fn fill_from(&self, from: usize, block: &mut [u32])
+        requires { from + length block.old ≤ length self.now }
+        ensures { block.new ≡ take (length block.old) (drop from self.now) }
+    {
+        let (first, width, mask, len) = (self.first, self.width, self.mask, self.len);
+        if from > 0 {
+            return fill_after(first, width, mask, len, self.offsets, from, block);
+        }
+        if !block.is_empty() {
+            block[0] = first;
+            fill_after(first, width, mask, len, self.offsets, 1, &mut block[1..]);
+        }
+    }
+
+    /// Fills a block with the neighbours below an index, downward.
+    #[inline]
+    pub(crate) fn fill_below(&self, end: usize, block: &mut [u32])
+        requires within { end ≤ length self.now }
+        requires room { length block.old ≤ end }
+        ensures { block.new ≡ take (length block.old) (reverse (take end self.now)) }
+    {
+        let (first, width, mask, len) = (self.first, self.width, self.mask, self.len);
+        let count = block.len();
+        if count < end {
+            return fill_before(first, width, mask, len, self.offsets, end, block);
+        }
+        if count > 0 {
+            fill_before(first, width, mask, len, self.offsets, end, &mut block[..count - 1]);
+            block[count - 1] = first;
+        }
     }
 }
