@@ -5,6 +5,7 @@ ghost use Rattle.pages.specs.Lists.{AscendsFrom, has};
 
 use crate::blocks::{fill_after, fill_before};
 use crate::offsets::offset;
+use crate::walks::{Ascending, Descending};
 use std::marker::Model;
 
 /// An ascending list of at most 256 neighbours.
@@ -78,6 +79,22 @@ impl<'a> Neighbours<'a> {
             }
         }
         false
+    }
+
+    /// A walk over the neighbours, upward.
+    #[inline]
+    pub fn ascending(self) -> Ascending<'a>
+        ensures { result ≡ self.entry }
+    {
+        Ascending::new(self)
+    }
+
+    /// A walk over the neighbours, downward.
+    #[inline]
+    pub fn descending(self) -> Descending<'a>
+        ensures { result ≡ reverse self.entry }
+    {
+        Descending::new(self)
     }
 }
 
