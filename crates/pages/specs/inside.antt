@@ -1,3 +1,5 @@
 -- What the code is made of: no public contract cites these definitions.
 pub mod Numbers
 pub mod Packed
+pub mod Entries
+pub mod Index

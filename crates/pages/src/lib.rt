@@ -2,9 +2,13 @@
 #![tactic(auto)]
 
 mod blocks;
+mod entry;
+mod index;
 mod neighbours;
 mod offsets;
+mod page;
 mod walks;
 
 pub use neighbours::Neighbours;
+pub use page::{MAX_PACKED, Page};
 pub use walks::{Ascending, Descending};

@@ -2,6 +2,7 @@
 
 ghost use Rattle.std.specs.Prelude.{◌≡◌, ◌↔◌, ◌+◌, ◌<◌, ◌≤◌, [], length, slice_index, take, drop, reverse, IsTrue};
 ghost use Rattle.pages.specs.Lists.{AscendsFrom, has};
+ghost use Rattle.pages.specs.inside.Packed.{list_of, IsView};
 
 use crate::blocks::{fill_after, fill_before};
 use crate::offsets::offset;
@@ -30,6 +31,35 @@ impl<'a> Model for Neighbours<'a> {
 }
 
 impl<'a> Neighbours<'a> {
+    /// The list of a first neighbour and the offsets of the others.
+    #[inline]
+    pub(crate) fn new(
+        first: u32,
+        width: usize,
+        mask: u32,
+        len: usize,
+        offsets: &'a [u8],
+    ) -> Neighbours<'a>
+        requires { IsView first width mask len offsets.now }
+        ensures { result ≡ list_of first width len offsets.now }
+    {
+        Neighbours {
+            first,
+            width,
+            mask,
+            len,
+            offsets,
+        }
+    }
+
+    /// No neighbour.
+    #[inline]
+    pub(crate) fn none() -> Neighbours<'a>
+        ensures { result ≡ [] }
+    {
+        Neighbours::new(0, 1, 0xff, 0, &[])
+    }
+
     /// How many neighbours there are, at most 256. It takes constant time.
     #[inline]
     pub fn len(&self) -> usize

@@ -1,0 +1,96 @@
+//! The neighbours of 64 vertices.
+
+ghost use Rattle.std.specs.Prelude.{◌≡◌, ◌+◌, ◌<◌, ◌≤◌, ◌↔◌, [], length, IfOk, IsTrue};
+ghost use Rattle.pages.specs.Vertices.{neighbours_of, count_below, IsPage};
+
+use crate::entry::{Entry, list_of};
+use crate::index::{rank, rank_below};
+use crate::neighbours::Neighbours;
+use std::alloc::{AllocError, Global};
+use std::marker::Model;
+
+/// The most neighbours that a list of a page has.
+pub const MAX_PACKED: usize = 256;
+
+/// The neighbours of 64 vertices.
+pub struct Page {
+    present: u64,
+    entries: Vec<Entry>,
+    bytes: Vec<u8>,
+}
+
+// By hand: a derived drop would be written out, and proved again, in each function that lets a page go.
+impl Drop for Page {
+    fn drop(self) {
+        let Page {
+            present: _,
+            entries: _,
+            bytes: _,
+        } = self;
+    }
+}
+
+impl Model for Page {
+    ghost use Rattle.std.specs.Prelude.{ℕ, List};
+    ghost use Rattle.pages.specs.inside.Entries.{lists_in, IsStored};
+
+    ghost Value = { List (ℕ × List ℕ) };
+
+    ghost view = { λ p. lists_in p.bytes.items p.entries.items };
+
+    ghost invariant = { λ p. IsStored p.present p.bytes.items p.entries.items };
+}
+
+impl Page {
+    /// How many vertices are present. It takes constant time.
+    #[inline]
+    pub fn len(&self) -> usize
+        ensures count { result ≡ length self.now }
+        ensures page { IsPage self.now }
+    {
+        self.entries.len()
+    }
+
+    /// Whether no vertex is present. It takes constant time.
+    #[inline]
+    pub fn is_empty(&self) -> bool
+        ensures { IsTrue result ↔ (self.now ≡ []) }
+    {
+        self.len() == 0
+    }
+
+    /// The neighbours of a vertex, none where it is not present. It takes constant time.
+    #[inline]
+    pub fn list(&self, vertex: u32) -> Neighbours<'_>
+        requires { vertex < 64 }
+        ensures { result ≡ neighbours_of vertex self.now }
+    {
+        match rank(self.present, vertex) {
+            Some(index) => list_of(&self.bytes, self.entries[index]),
+            None => Neighbours::none(),
+        }
+    }
+
+    /// How many neighbours a vertex has, none where it is not present. It takes constant time.
+    #[inline]
+    pub fn degree(&self, vertex: u32) -> u32
+        requires { vertex < 64 }
+        ensures { result ≡ length (neighbours_of vertex self.now) }
+    {
+        match rank(self.present, vertex) {
+            Some(index) => u32::from(self.entries[index].degree),
+            None => 0,
+        }
+    }
+
+    /// How many vertices below one are present, which is the index at which it stands or would stand.
+    /// It takes constant time.
+    #[inline]
+    pub fn index(&self, vertex: u32) -> usize
+        requires { vertex ≤ 64 }
+        ensures index { result ≡ count_below vertex self.now }
+        ensures page { IsPage self.now }
+    {
+        rank_below(self.present, vertex)
+    }
+}
