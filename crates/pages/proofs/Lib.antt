@@ -6,3 +6,4 @@ pub mod Order
 pub mod Bits
 pub mod Ranks
 pub mod Storing
+pub mod Encoding

@@ -8,6 +8,7 @@ mod neighbours;
 mod offsets;
 mod page;
 mod walks;
+mod writing;
 
 pub use neighbours::Neighbours;
 pub use page::{MAX_PACKED, Page};

@@ -1,5 +1,5 @@
 -- Lists packed in bytes: a first element, and how far each other one is above it.
-use Rattle.std.specs.Prelude.{◌≡◌, ℕ, zero, suc, ◌+◌, ◌-◌, ◌*◌, ◌^◌, ◌<◌, ◌≤◌, List, [], ◌∷◌, length, take, drop}
+use Rattle.std.specs.Prelude.{◌≡◌, ℕ, zero, suc, ◌+◌, ◌-◌, ◌*◌, ◌^◌, ◌<◌, ◌≤◌, List, [], ◌∷◌, length, slice_index, take, drop}
 use Rattle.pages.specs.Lists.{AscendsFrom}
 use Rattle.pages.specs.inside.Numbers.{number_of}
 
@@ -25,3 +25,7 @@ pub record IsView (first w mask n : ℕ) (bytes : List ℕ) : Type 0 where
   pub few : n ≤ 256
   pub within : 0 < n → w * (n - 1) + 3 ≤ length bytes
   pub ascends : AscendsFrom 0 (list_of first w n bytes)
+
+-- how far the last element is above the first
+abbrev pub span_of : List ℕ → ℕ
+span_of xs = slice_index xs (length xs - 1) - slice_index xs 0
