@@ -92,3 +92,11 @@ element_written w n m x old new xs some width at within ascends wide is front pa
     first_is : (w n : ℕ) (bytes : List ℕ) → 0 < n → number_of (take 4 bytes) ≡ get_or (elements_in w n bytes) 0 0
     first_is w zero bytes some = absurd (omega arith)
     first_is w (suc n) bytes some = refl
+
+-- bytes that stay up to a place stay up to a smaller one, and from a smaller one on
+pub front_stays : (place at : ℕ) (new old : List ℕ) → place ≤ at → take at new ≡ take at old → take place new ≡ take place old
+front_stays place at new old le same = sym (take-take place at new le) ∙ ap (take place) same ∙ take-take place at old le
+
+pub middle_stays : (place m at : ℕ) (new old : List ℕ) → at ≡ place + m → take at new ≡ take at old → take m (drop place new) ≡ take m (drop place old)
+middle_stays place m at new old is same =
+    sym (drop-take place m new) ∙ ap (λ k. drop place (take k new)) (sym is) ∙ ap (drop place) same ∙ ap (λ k. drop place (take k old)) is ∙ drop-take place m old

@@ -7,3 +7,4 @@ pub mod Bits
 pub mod Ranks
 pub mod Storing
 pub mod Encoding
+pub mod Extending

@@ -1,6 +1,7 @@
 //! Pages of neighbours.
 #![tactic(auto)]
 
+mod appending;
 mod blocks;
 mod entry;
 mod index;

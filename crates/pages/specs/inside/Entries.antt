@@ -1,5 +1,5 @@
 -- Entries of vertices, and the bytes of their lists one behind the other.
-use Rattle.std.specs.Prelude.{◌≡◌, ℕ, ◌+◌, ◌-◌, ◌*◌, ◌<◌, ◌≤◌, List, [], ◌∷◌, length, drop}
+use Rattle.std.specs.Prelude.{◌≡◌, ℕ, ◌+◌, ◌-◌, ◌*◌, ◌<◌, ◌≤◌, Result, Ok, Err, List, [], ◌∷◌, ◌++◌, length, drop}
 use Rattle.pages.specs.declared.entry.Entry.{Entry}
 use Rattle.pages.specs.Lists.{AscendsFrom}
 use Rattle.pages.specs.inside.Packed.{elements_in}
@@ -42,3 +42,8 @@ pub record IsStored (bits : ℕ) (bytes : List ℕ) (es : List Entry) : Type 0 w
   pub listed : AreListed 0 bytes es
   pub ends : end_of 0 es + 3 ≡ length bytes
   pub index : IsIndex bits (lists_in bytes es)
+
+-- The lists of more vertices came behind the others, or all stayed as it was.
+abbrev pub IsExtended : {T E : Type 0} → List Entry → List ℕ → List (ℕ × List ℕ) → Result T E → List Entry → List ℕ → Type 0
+IsExtended es bytes more (Ok t) es' bytes' = AreListed 0 bytes' es' × (end_of 0 es' + 3 ≡ length bytes') × (lists_in bytes' es' ≡ lists_in bytes es ++ more)
+IsExtended es bytes more (Err e) es' bytes' = (es' ≡ es) × (bytes' ≡ bytes)
