@@ -1,8 +1,10 @@
 //! The neighbours of 64 vertices.
 
-ghost use Rattle.std.specs.Prelude.{◌≡◌, ◌+◌, ◌<◌, ◌≤◌, ◌↔◌, [], length, IfOk, IsTrue};
-ghost use Rattle.pages.specs.Vertices.{neighbours_of, count_below, IsPage};
+ghost use Rattle.std.specs.Prelude.{◌≡◌, ◌+◌, ◌<◌, ◌≤◌, ◌↔◌, ◌∷◌, ◌++◌, [], length, IfOk, OnOk, OnErr, IsTrue};
+ghost use Rattle.pages.specs.Lists.{AscendsFrom};
+ghost use Rattle.pages.specs.Vertices.{Rises, neighbours_of, count_below, IsPage};
 
+use crate::appending::{PADDING, store};
 use crate::entry::{Entry, list_of};
 use crate::index::{rank, rank_below};
 use crate::neighbours::Neighbours;
@@ -92,5 +94,46 @@ impl Page {
         ensures page { IsPage self.now }
     {
         rank_below(self.present, vertex)
+    }
+
+    /// A page of no vertex.
+    ///
+    /// The only error is out of memory.
+    pub fn new(alloc: Global) -> Result<Page, AllocError>
+        ensures { IfOk result (λ p. p ≡ []) }
+    {
+        Page::with_capacity(alloc, 0, 0)
+    }
+
+    /// A page of no vertex, with room in advance for so many vertices and so many bytes of lists.
+    ///
+    /// The only error is out of memory.
+    pub fn with_capacity(alloc: Global, vertices: usize, size: usize) -> Result<Page, AllocError>
+        ensures { IfOk result (λ p. p ≡ []) }
+    {
+        let entries = Vec::with_capacity(alloc, vertices)?;
+        let mut bytes = Vec::with_capacity(alloc, size.saturating_add(PADDING))?;
+        bytes.resize(PADDING, 0)?;
+        Ok(Page {
+            present: 0,
+            entries,
+            bytes,
+        })
+    }
+
+    /// Adds a vertex that is above all others, with its neighbours. It takes time in proportion to
+    /// them. The only error is out of memory, and then the page is as it was.
+    pub fn push(&mut self, vertex: u32, list: &[u32]) -> Result<(), AllocError>
+        requires vertex { vertex < 64 }
+        requires above { Rises 0 vertex self.old }
+        requires some { 0 < length list.now }
+        requires few { length list.now ≤ MAX_PACKED }
+        requires ascending { AscendsFrom 0 list.now }
+        ensures ok { OnOk result (self.new ≡ self.old ++ (vertex, list.now) ∷ []) }
+        ensures err { OnErr result (self.new ≡ self.old) }
+    {
+        store(&mut self.entries, &mut self.bytes, vertex, list)?;
+        self.present |= 1 << vertex;
+        Ok(())
     }
 }
