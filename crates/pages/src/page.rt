@@ -1,12 +1,12 @@
 //! The neighbours of 64 vertices.
 
-ghost use Rattle.std.specs.Prelude.{◌≡◌, ◌+◌, ◌<◌, ◌≤◌, ◌↔◌, ◌∷◌, ◌++◌, [], length, IfOk, OnOk, OnErr, IsTrue};
+ghost use Rattle.std.specs.Prelude.{◌≡◌, ◌+◌, ◌<◌, ◌≤◌, ◌↔◌, ◌∷◌, ◌++◌, [], length, slice_range, IfOk, OnOk, OnErr, IsTrue};
 ghost use Rattle.pages.specs.Lists.{AscendsFrom};
 ghost use Rattle.pages.specs.Vertices.{Rises, neighbours_of, count_below, IsPage};
 
-use crate::appending::{PADDING, store};
+use crate::appending::{PADDING, copy, start_of, store};
 use crate::entry::{Entry, list_of};
-use crate::index::{rank, rank_below};
+use crate::index::{rank, rank_below, with_marks};
 use crate::neighbours::Neighbours;
 use std::alloc::{AllocError, Global};
 use std::marker::Model;
@@ -134,6 +134,24 @@ impl Page {
     {
         store(&mut self.entries, &mut self.bytes, vertex, list)?;
         self.present |= 1 << vertex;
+        Ok(())
+    }
+
+    /// Adds the vertices of another page from an index up to another, with their neighbours, whose
+    /// bytes are copied whole. All vertices have to ascend. The only error is out of memory, and then
+    /// the page is as it was.
+    pub fn push_run(&mut self, page: &Page, from: usize, to: usize) -> Result<(), AllocError>
+        requires order { from ≤ to }
+        requires within { to ≤ length page.now }
+        requires map { Rises 0 64 (self.old ++ slice_range page.now from to) }
+        ensures ok { OnOk result (self.new ≡ self.old ++ slice_range page.now from to) }
+        ensures err { OnErr result (self.new ≡ self.old) }
+    {
+        let (lists, bytes) = (page.entries.as_slice(), page.bytes.as_slice());
+        let (start, stop) = (start_of(lists, bytes, from), start_of(lists, bytes, to));
+        let run = &lists[from..to];
+        copy(&mut self.entries, &mut self.bytes, run, bytes, start, stop)?;
+        self.present = with_marks(self.present, run);
         Ok(())
     }
 }

@@ -47,3 +47,8 @@ pub record IsStored (bits : ℕ) (bytes : List ℕ) (es : List Entry) : Type 0 w
 abbrev pub IsExtended : {T E : Type 0} → List Entry → List ℕ → List (ℕ × List ℕ) → Result T E → List Entry → List ℕ → Type 0
 IsExtended es bytes more (Ok t) es' bytes' = AreListed 0 bytes' es' × (end_of 0 es' + 3 ≡ length bytes') × (lists_in bytes' es' ≡ lists_in bytes es ++ more)
 IsExtended es bytes more (Err e) es' bytes' = (es' ≡ es) × (bytes' ≡ bytes)
+
+-- entries whose lists are one behind the other from another place on
+abbrev pub placed_at : ℕ → List Entry → List Entry
+placed_at place [] = []
+placed_at place (e ∷ es) = record { start = place; degree = e.degree; width = e.width; vertex = e.vertex } ∷ placed_at (place + size_of e) es
