@@ -20,6 +20,11 @@ pub end_small : (place : ℕ) (bytes : List ℕ) (es : List Entry) → AreListed
 end_small place bytes [] ok = omega arith
 end_small place bytes (e ∷ es) ok = omega (arith, end_small (place + size_of e) bytes es ok.2, size_small bytes e ok.1)
 
+-- from any other place on too
+pub end_room : (place : ℕ) (bytes : List ℕ) (es : List Entry) → AreListed place bytes es → (other : ℕ) → end_of other es ≤ other + 1024 * length es
+end_room place bytes [] ok other = omega arith
+end_room place bytes (e ∷ es) ok other = omega (arith, end_room (place + size_of e) bytes es ok.2 (other + size_of e), size_small bytes e ok.1)
+
 pub end_append : (place : ℕ) (es fs : List Entry) → end_of place (es ++ fs) ≡ end_of (end_of place es) fs
 end_append place [] fs = refl
 end_append place (e ∷ es) fs = end_append (place + size_of e) es fs

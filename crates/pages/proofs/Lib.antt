@@ -8,3 +8,4 @@ pub mod Ranks
 pub mod Storing
 pub mod Encoding
 pub mod Extending
+pub mod Copying

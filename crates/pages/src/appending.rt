@@ -85,11 +85,12 @@ pub(crate) fn copy(
         entries.new.items bytes.new.items }
 {
     let end = bytes.len() - PADDING;
+    let part = &from[start..stop + PADDING];
     entries.reserve(run.len())?;
     bytes.reserve(stop - start)?;
     append(entries, run, end)?;
     bytes.truncate(end);
-    bytes.extend_from_slice(&from[start..stop + PADDING])?;
+    bytes.extend_from_slice(part)?;
     Ok(())
 }
 
@@ -100,8 +101,9 @@ pub(crate) fn start_of(entries: &[Entry], bytes: &[u8], index: usize) -> usize
     requires within { index ≤ length entries.now }
     ensures { result ≡ end_of 0 (take index entries.now) }
 {
-    match entries.get(index) {
-        Some(entry) => entry.start as usize,
-        None => bytes.len() - PADDING,
+    if index < entries.len() {
+        entries[index].start as usize
+    } else {
+        bytes.len() - PADDING
     }
 }
