@@ -27,6 +27,12 @@ rises low (x ∷ xs) s zero (suc j) le lt = omega (arith, low_at (x + 1) xs s.2 
 rises low (x ∷ xs) s (suc i) zero le lt = absurd (omega arith)
 rises low (x ∷ xs) s (suc i) (suc j) le lt = rises (x + 1) xs s.2 i j (omega arith) (omega arith)
 
+pub rises_strictly : (low : ℕ) (xs : List ℕ) → AscendsFrom low xs → (i j : ℕ) → i < j → j < length xs → get_or xs i 0 < get_or xs j 0
+rises_strictly low [] s i j le lt = absurd (omega arith)
+rises_strictly low (x ∷ xs) s i zero le lt = absurd (omega arith)
+rises_strictly low (x ∷ xs) s zero (suc j) le lt = omega (arith, low_at (x + 1) xs s.2 j (omega arith))
+rises_strictly low (x ∷ xs) s (suc i) (suc j) le lt = rises_strictly (x + 1) xs s.2 i j (omega arith) (omega arith)
+
 -- a number is an element where it stands at an index, and only there
 pub has_at : (k i : ℕ) (xs : List ℕ) → i < length xs → get_or xs i 0 ≡ k → has k xs ≡ true
 has_at k i [] lt is = absurd (omega arith)

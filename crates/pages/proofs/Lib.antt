@@ -9,3 +9,5 @@ pub mod Storing
 pub mod Encoding
 pub mod Extending
 pub mod Copying
+pub mod Cuts
+pub mod Merging

@@ -1,3 +1,4 @@
 pub mod Lists
 pub mod Vertices
+pub mod Changes
 pub mod inside

@@ -3,6 +3,7 @@
 
 mod appending;
 mod blocks;
+mod change;
 mod entry;
 mod index;
 mod neighbours;
@@ -11,6 +12,7 @@ mod page;
 mod walks;
 mod writing;
 
+pub use change::{Change, merge};
 pub use neighbours::Neighbours;
 pub use page::{MAX_PACKED, Page};
 pub use walks::{Ascending, Descending};

@@ -1,12 +1,13 @@
 //! The neighbours of a vertex, as they lie packed in a page.
 
-ghost use Rattle.std.specs.Prelude.{◌≡◌, ◌↔◌, ◌+◌, ◌<◌, ◌≤◌, [], length, slice_index, take, drop, reverse, IsTrue};
-ghost use Rattle.pages.specs.Lists.{AscendsFrom, has};
+ghost use Rattle.std.specs.Prelude.{◌≡◌, ◌↔◌, ◌+◌, ◌<◌, ◌≤◌, ◌++◌, [], length, slice_index, slice_range, take, drop, reverse, IfOk, IsTrue};
+ghost use Rattle.pages.specs.Lists.{AscendsFrom, has, below, above};
 ghost use Rattle.pages.specs.inside.Packed.{list_of, IsView};
 
 use crate::blocks::{fill_after, fill_before};
 use crate::offsets::offset;
 use crate::walks::{Ascending, Descending};
+use std::alloc::AllocError;
 use std::marker::Model;
 
 /// An ascending list of at most 256 neighbours.
@@ -161,5 +162,43 @@ impl<'a> Neighbours<'a> {
             fill_before(first, width, mask, len, self.offsets, end, &mut block[..count - 1]);
             block[count - 1] = first;
         }
+    }
+
+    /// The index up to which the neighbours from another on are below a vertex, and the index from
+    /// which they are above it.
+    pub(crate) fn cut(&self, from: usize, neighbour: u32) -> (usize, usize)
+        requires { from ≤ length self.now }
+        ensures order { (from ≤ result.0) × (result.0 ≤ result.1) × (result.1 ≤ length self.now) }
+        ensures below { slice_range self.now from result.0 ≡ below neighbour (drop from self.now) }
+        ensures above { drop result.1 self.now ≡ above neighbour (drop from self.now) }
+    {
+        let (mut low, mut high) = (from, self.len());
+        while low < high {
+            let middle = low + (high - low) / 2;
+            let found = self.get(middle);
+            if found == neighbour {
+                return (middle, middle + 1);
+            }
+            if found < neighbour {
+                low = middle + 1;
+            } else {
+                high = middle;
+            }
+        }
+        (low, low)
+    }
+
+    /// Adds the neighbours from an index up to another behind others. The only error is out of
+    /// memory.
+    pub(crate) fn append_to(&self, from: usize, to: usize, list: &mut Vec<u32>) -> Result<(), AllocError>
+        requires order { from ≤ to }
+        requires within { to ≤ length self.now }
+        ensures { IfOk result (λ _. list.new.items ≡ list.old.items ++ slice_range self.now from to) }
+    {
+        prove!(to <= self.len);
+        let len = list.len();
+        list.resize(len + (to - from), 0)?;
+        self.fill_from(from, &mut list[len..]);
+        Ok(())
     }
 }
