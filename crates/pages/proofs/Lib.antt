@@ -11,3 +11,5 @@ pub mod Extending
 pub mod Copying
 pub mod Cuts
 pub mod Merging
+pub mod Building
+pub mod Changing

@@ -10,10 +10,10 @@ use Rattle.pages.proofs.Order.{rises_to, rises_room, rises_append, rises_back}
 use Rattle.pages.proofs.Bits.{ones_zero, ones_more, mark_is, mark_above, mark_counted, mark_small}
 
 module _ {V : Type 0} where
-  below_here : (u : ℕ) (e : ℕ × V) (es : List (ℕ × V)) → e.0 < u → count_below u (e ∷ es) ≡ count_below u es + 1
+  pub below_here : (u : ℕ) (e : ℕ × V) (es : List (ℕ × V)) → e.0 < u → count_below u (e ∷ es) ≡ count_below u es + 1
   below_here u e es lt = rw (lt-ltb e.0 u lt) (omega arith)
 
-  below_not : (u : ℕ) (e : ℕ × V) (es : List (ℕ × V)) → u ≤ e.0 → count_below u (e ∷ es) ≡ count_below u es
+  pub below_not : (u : ℕ) (e : ℕ × V) (es : List (ℕ × V)) → u ≤ e.0 → count_below u (e ∷ es) ≡ count_below u es
   below_not u e es le = rw (le-ltb e.0 u le) (omega arith)
 
   -- none is below the first, and all are below the end

@@ -3,3 +3,4 @@ pub mod Numbers
 pub mod Packed
 pub mod Entries
 pub mod Index
+pub mod Built

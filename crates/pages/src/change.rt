@@ -1,9 +1,9 @@
 //! Changes of edges, and lists that they change.
 
-ghost use Rattle.std.specs.Prelude.{◌≡◌, ℕ, ◌<◌, ◌≤◌, ◌∷◌, ◌++◌, List, length, take, drop, IfOk};
+ghost use Rattle.std.specs.Prelude.{◌≡◌, ◌≢◌, ℕ, ◌+◌, ◌*◌, ◌^◌, ◌<◌, ◌≤◌, ◌∷◌, ◌++◌, List, length, take, drop, IfOk};
 ghost use Rattle.pages.specs.declared.change.Change.{Change};
 ghost use Rattle.pages.specs.Lists.{AscendsFrom};
-ghost use Rattle.pages.specs.Changes.{changed, ChangesAscend};
+ghost use Rattle.pages.specs.Changes.{changed, changes_of, ChangesAscend, AreChanges};
 
 use crate::neighbours::Neighbours;
 use std::alloc::AllocError;
@@ -59,4 +59,19 @@ fn step(
         return Ok(next);
     }
     Ok(next)
+}
+
+/// How many changes in front are of a vertex, where none is of a smaller one.
+pub(crate) fn run_length(changes: &[Change], vertex: u32) -> usize
+    requires { AreChanges (vertex * 2 ^ 32) changes.now }
+    ensures within { result ≤ length changes.now }
+    ensures run { take result changes.now ≡ changes_of vertex changes.now }
+    ensures rest { AreChanges ((vertex + 1) * 2 ^ 32) (drop result changes.now) }
+    ensures others { (u : ℕ) → u ≢ vertex → changes_of u changes.now ≡ changes_of u (drop result changes.now) }
+{
+    let mut count = 0;
+    while count < changes.len() && changes[count].vertex == vertex {
+        count += 1;
+    }
+    count
 }
