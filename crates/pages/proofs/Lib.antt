@@ -13,3 +13,4 @@ pub mod Cuts
 pub mod Merging
 pub mod Building
 pub mod Changing
+pub mod Steps

@@ -2,6 +2,7 @@
 #![tactic(auto)]
 
 mod appending;
+mod applying;
 mod blocks;
 mod change;
 mod entry;

@@ -121,6 +121,16 @@ impl Page {
         })
     }
 
+    /// A page of no vertex, with room for this one after so many changes.
+    pub(crate) fn with_room(&self, alloc: Global, changes: usize) -> Result<Page, AllocError>
+        ensures empty { IfOk result (λ p. p ≡ []) }
+        ensures page { IsPage self.now }
+    {
+        let vertices = self.entries.len().saturating_add(changes).min(64);
+        let size = changes.saturating_mul(8).saturating_add(self.bytes.len());
+        Page::with_capacity(alloc, vertices, size)
+    }
+
     /// Adds a vertex that is above all others, with its neighbours. It takes time in proportion to
     /// them. The only error is out of memory, and then the page is as it was.
     pub fn push(&mut self, vertex: u32, list: &[u32]) -> Result<(), AllocError>
