@@ -7,6 +7,7 @@ mod blocks;
 mod change;
 mod entry;
 mod index;
+mod iter;
 mod neighbours;
 mod offsets;
 mod page;
@@ -14,6 +15,7 @@ mod walks;
 mod writing;
 
 pub use change::{Change, merge};
+pub use iter::PageIter;
 pub use neighbours::Neighbours;
 pub use page::{MAX_PACKED, Page};
 pub use walks::{Ascending, Descending};

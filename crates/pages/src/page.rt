@@ -7,6 +7,7 @@ ghost use Rattle.pages.specs.Vertices.{Rises, neighbours_of, count_below, IsPage
 use crate::appending::{PADDING, copy, start_of, store};
 use crate::entry::{Entry, list_of};
 use crate::index::{rank, rank_below, with_marks};
+use crate::iter::PageIter;
 use crate::neighbours::Neighbours;
 use std::alloc::{AllocError, Global};
 use std::marker::Model;
@@ -163,5 +164,30 @@ impl Page {
         copy(&mut self.entries, &mut self.bytes, run, bytes, start, stop)?;
         self.present = with_marks(self.present, run);
         Ok(())
+    }
+
+    /// The vertices that are present, ascending, each with its neighbours. A step takes constant
+    /// time.
+    #[inline]
+    pub fn iter(&self) -> PageIter<'_>
+        ensures { result ≡ self.now }
+    {
+        PageIter::new(&self.entries, &self.bytes)
+    }
+}
+
+impl Clone for Page {
+    ghost is_clone = { λ page copy. copy ≡ page };
+
+    /// The same page once more. It takes time in proportion to its bytes.
+    ///
+    /// The only error is out of memory.
+    fn clone(&self) -> Result<Page, AllocError> {
+        let alloc = *self.bytes.allocator();
+        Ok(Page {
+            present: self.present,
+            entries: Vec::from_slice(alloc, &self.entries)?,
+            bytes: Vec::from_slice(alloc, &self.bytes)?,
+        })
     }
 }

@@ -52,3 +52,7 @@ IsExtended es bytes more (Err e) es' bytes' = (es' ≡ es) × (bytes' ≡ bytes)
 abbrev pub placed_at : ℕ → List Entry → List Entry
 placed_at place [] = []
 placed_at place (e ∷ es) = record { start = place; degree = e.degree; width = e.width; vertex = e.vertex } ∷ placed_at (place + size_of e) es
+
+-- the lists of entries are one behind the other from some place on
+abbrev pub AreFrom : List ℕ → List Entry → Type 0
+AreFrom bytes es = (place : ℕ) × AreListed place bytes es
