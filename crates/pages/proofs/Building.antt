@@ -1,11 +1,11 @@
 -- Pages that are built up vertex by vertex.
 use Rattle.std.proofs.Common.{◌≡◌, ◌≢◌, ℕ, zero, suc, ◌+◌, ◌-◌, ◌<◌, ◌≤◌, ◌⊎◌, inl, inr, List, [], ◌∷◌, ◌++◌, length, get_or, take, drop, slice_range, refl, sym, ◌∙◌, ap, subst, arith, add-one, append_assoc, get_or-drop, length-drop}
 use Rattle.std.proofs.lemmas.Bool.{cases_lt, cases_eq, lt-ltb, le-ltb, ne_eqb, eq-eqb}
-use Rattle.std.proofs.lemmas.List.{append-nil, take_more}
+use Rattle.std.proofs.lemmas.List.{append-nil, take_all, take_more}
 use Rattle.pages.specs.Vertices.{Rises, neighbours_of, count_below, IsPacked, ArePacked}
 use Rattle.pages.specs.inside.Built.{entry_of, built}
 use Rattle.pages.proofs.Order.{rises_room, rises_append}
-use Rattle.pages.proofs.Ranks.{none_below, below_here, below_not, below_first}
+use Rattle.pages.proofs.Ranks.{none_below, below_here, below_not, below_first, below_end}
 
 rises_entry : (u : ℕ) (xs : List ℕ) → Rises u (u + 1) (entry_of u xs)
 rises_entry u [] = omega arith
@@ -159,3 +159,20 @@ module _ (es : List (ℕ × List ℕ)) (map : Rises 0 64 es) (packed : ArePacked
     where
       nothing : (n : ℕ) → n - n ≡ 0
       nothing n = omega arith
+
+-- a list of vertices is built up from its look-ups, and so from any function that gives the same
+built_same : (f g : ℕ → List ℕ) (n : ℕ) → ((u : ℕ) → u < n → f u ≡ g u) → built f n ≡ built g n
+built_same f g zero same = refl
+built_same f g (suc u) same = rw (built_same f g u (λ v lt. same v (omega arith)), same u (omega arith)) refl
+
+is_built : (n : ℕ) (es : List (ℕ × List ℕ)) → n ≡ 64 → Rises 0 64 es → ArePacked es → es ≡ built (λ u. neighbours_of u es) n
+is_built n es is map packed =
+    let none : count_below 0 es ≡ 0 = below_first 0 0 64 es map (omega arith) in
+    let all : count_below n es ≡ length es = below_end n 0 64 es map (omega arith) in
+    let whole : length es - 0 ≡ length es = omega arith in
+    let slice : slice_range es (count_below 0 es) (count_below n es) ≡ es = rw (none, all) (ap (λ k. take k es) whole ∙ take_all (length es) es (omega arith)) in
+    sym slice ∙ carried es map packed (λ u. neighbours_of u es) 0 n (omega arith) (λ u ge lt. refl)
+
+pub same_pages : (n : ℕ) (p q : List (ℕ × List ℕ)) → n ≡ 64 → Rises 0 64 p → ArePacked p → Rises 0 64 q → ArePacked q → ((u : ℕ) → u < 64 → neighbours_of u p ≡ neighbours_of u q) → p ≡ q
+same_pages n p q is map packed map' packed' same =
+    is_built n p is map packed ∙ built_same (λ u. neighbours_of u p) (λ u. neighbours_of u q) n (λ u lt. same u (omega arith)) ∙ sym (is_built n q is map' packed')

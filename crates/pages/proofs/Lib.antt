@@ -14,3 +14,4 @@ pub mod Merging
 pub mod Building
 pub mod Changing
 pub mod Steps
+pub mod Deciding

@@ -6,7 +6,7 @@ use Rattle.pages.specs.Lists.{AscendsFrom, below, above}
 use Rattle.pages.specs.Changes.{added, changed, ChangesAscend}
 use Rattle.pages.proofs.Ascent.{ascends_from}
 
-above_ascends : (k low : ℕ) (xs : List ℕ) → AscendsFrom low xs → AscendsFrom low (above k xs)
+pub above_ascends : (k low : ℕ) (xs : List ℕ) → AscendsFrom low xs → AscendsFrom low (above k xs)
 above_ascends k low [] s = tt
 above_ascends k low (x ∷ xs) s =
     elim (cases_lt k x) [
@@ -14,7 +14,7 @@ above_ascends k low (x ∷ xs) s =
       | inr ge ↦ rw (le-ltb k x ge) (ascends_from low (x + 1) (above k xs) (omega (arith, s.0)) (above_ascends k (x + 1) xs s.2))
     ]
 
-above_from : (k low : ℕ) (xs : List ℕ) → AscendsFrom low xs → AscendsFrom (k + 1) (above k xs)
+pub above_from : (k low : ℕ) (xs : List ℕ) → AscendsFrom low xs → AscendsFrom (k + 1) (above k xs)
 above_from k low [] s = tt
 above_from k low (x ∷ xs) s =
     elim (cases_lt k x) [
@@ -30,7 +30,7 @@ below_then k low (x ∷ xs) zs s le t =
       | inr ge ↦ rw (le-ltb x k ge) (below_then k low xs zs (ascends_from low (x + 1) xs (omega (arith, s.0)) s.2) le t)
     ]
 
-added_ascends : (c : Change) (ys : List ℕ) → c.neighbour < 2 ^ 32 → AscendsFrom (c.neighbour + 1) ys → AscendsFrom c.neighbour (added c ys)
+pub added_ascends : (c : Change) (ys : List ℕ) → c.neighbour < 2 ^ 32 → AscendsFrom (c.neighbour + 1) ys → AscendsFrom c.neighbour (added c ys)
 added_ascends c ys small s =
     elim (cases_Bool c.adds) [
       | inl adds ↦ rw adds (omega arith, small, s)

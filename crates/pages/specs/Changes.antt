@@ -26,3 +26,8 @@ ChangesAscend low (c ∷ cs) = (low ≤ c.neighbour) × (c.neighbour < 2 ^ 32) �
 abbrev pub AreChanges : ℕ → List Change → Type 0
 AreChanges low [] = Unit {0}
 AreChanges low (c ∷ cs) = (low ≤ c.vertex * 2 ^ 32 + c.neighbour) × (c.vertex < 64) × (c.neighbour < 2 ^ 32) × AreChanges (c.vertex * 2 ^ 32 + c.neighbour + 1) cs
+
+-- whether a neighbour is there after changes, where b says whether it was: the change of it decides
+abbrev pub decided : ℕ → List Change → Bool → Bool
+decided v [] b = b
+decided v (c ∷ cs) b = if c.neighbour == v then c.adds else decided v cs b
