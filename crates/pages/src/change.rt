@@ -8,11 +8,12 @@ ghost use Rattle.pages.specs.Changes.{changed, changes_of, ChangesAscend, AreCha
 use crate::neighbours::Neighbours;
 use std::alloc::AllocError;
 
-/// An edge from a vertex to a neighbour, which is added or removed.
+/// An edge from a vertex of a page, 0 to 63, to a neighbour, which is added or removed.
 #[derive(Clone, Copy)]
 pub struct Change {
     pub vertex: u32,
     pub neighbour: u32,
+    /// Whether the edge is added.
     pub adds: bool,
 }
 

@@ -10,13 +10,15 @@ use crate::walks::{Ascending, Descending};
 use std::alloc::AllocError;
 use std::marker::Model;
 
-/// An ascending list of at most 256 neighbours.
+/// The neighbours of a vertex, ascending: none, or at most 256. A contract sees the list of them.
 #[derive(Drop)]
 pub struct Neighbours<'a> {
     first: u32,
+    /// How many bytes each offset takes, and the mask that cuts them out of four.
     width: usize,
     mask: u32,
     len: usize,
+    /// The offsets from the first, with three bytes or more behind them.
     offsets: &'a [u8],
 }
 

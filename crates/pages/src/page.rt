@@ -1,4 +1,4 @@
-//! The neighbours of 64 vertices.
+//! Pages of the neighbours of 64 vertices: what stands in one, look-ups, and building one up.
 
 ghost use Rattle.std.specs.Prelude.{◌≡◌, ◌+◌, ◌<◌, ◌≤◌, ◌↔◌, ◌∷◌, ◌++◌, [], length, slice_range, IfOk, OnOk, OnErr, IsTrue};
 ghost use Rattle.pages.specs.Lists.{AscendsFrom};
@@ -12,13 +12,16 @@ use crate::neighbours::Neighbours;
 use std::alloc::{AllocError, Global};
 use std::marker::Model;
 
-/// The most neighbours that a list of a page has.
+/// How many neighbours a vertex has at most in a page.
 pub const MAX_PACKED: usize = 256;
 
-/// The neighbours of 64 vertices.
+/// The neighbours of 64 vertices. A contract sees the vertices that are present, ascending, each with
+/// its neighbours.
 pub struct Page {
+    /// A bit for each vertex that is present.
     present: u64,
     entries: Vec<Entry>,
+    /// The lists, and three bytes of padding.
     bytes: Vec<u8>,
 }
 
@@ -106,7 +109,8 @@ impl Page {
         Page::with_capacity(alloc, 0, 0)
     }
 
-    /// A page of no vertex, with room in advance for so many vertices and so many bytes of lists.
+    /// A page of no vertex, with room in advance for so many vertices and so many bytes of lists: a
+    /// list takes 4 bytes, and 1 to 4 more for each neighbour after its first.
     ///
     /// The only error is out of memory.
     pub fn with_capacity(alloc: Global, vertices: usize, size: usize) -> Result<Page, AllocError>

@@ -1,6 +1,7 @@
 //! Walks over the neighbours of a vertex, upward and downward, by blocks.
 
-ghost use Rattle.std.specs.Prelude.{◌≡◌, length, take, drop, min, reverse};
+ghost use Rattle.std.specs.Prelude.{◌≡◌, ◌↔◌, [], length, take, drop, min, reverse, IsTrue};
+ghost use Rattle.std.specs.Iterator.{YieldsFirst, item_count};
 
 use crate::neighbours::Neighbours;
 use std::marker::Model;
@@ -23,6 +24,7 @@ impl<'a> Model for Ascending<'a> {
 }
 
 impl<'a> Ascending<'a> {
+    /// All neighbours of a list.
     #[inline]
     pub(crate) fn new(list: Neighbours<'a>) -> Ascending<'a>
         ensures { result ≡ list.entry }
@@ -38,6 +40,14 @@ impl<'a> Ascending<'a> {
         self.list.len() - self.at
     }
 
+    /// Whether no neighbour is still to come. It takes constant time.
+    #[inline]
+    pub fn is_empty(&self) -> bool
+        ensures { IsTrue result ↔ (self.now ≡ []) }
+    {
+        self.len() == 0
+    }
+
     /// Reads the next neighbours into the front of a block, as many as fit and are left, and gives
     /// their number. It takes no memory, and the rest of the block stays as it was.
     #[inline]
@@ -51,6 +61,24 @@ impl<'a> Ascending<'a> {
         self.list.fill_from(self.at, &mut block[..count]);
         self.at += count;
         count
+    }
+}
+
+impl<'a> Iterator for Ascending<'a> {
+    type Item = u32;
+
+    ghost next_gives = { YieldsFirst (λ i. i) };
+
+    ghost remaining = { item_count (λ i. i) };
+
+    #[inline]
+    fn next(&mut self) -> Option<u32> {
+        if self.at == self.list.len() {
+            return None;
+        }
+        let neighbour = self.list.get(self.at);
+        self.at += 1;
+        Some(neighbour)
     }
 }
 
@@ -72,6 +100,7 @@ impl<'a> Model for Descending<'a> {
 }
 
 impl<'a> Descending<'a> {
+    /// All neighbours of a list.
     #[inline]
     pub(crate) fn new(list: Neighbours<'a>) -> Descending<'a>
         ensures { result ≡ reverse list.entry }
@@ -88,6 +117,14 @@ impl<'a> Descending<'a> {
         self.left
     }
 
+    /// Whether no neighbour is still to come. It takes constant time.
+    #[inline]
+    pub fn is_empty(&self) -> bool
+        ensures { IsTrue result ↔ (self.now ≡ []) }
+    {
+        self.len() == 0
+    }
+
     /// Reads the next neighbours into the front of a block, as many as fit and are left, and gives
     /// their number. It takes no memory, and the rest of the block stays as it was.
     #[inline]
@@ -101,5 +138,22 @@ impl<'a> Descending<'a> {
         self.list.fill_below(self.left, &mut block[..count]);
         self.left -= count;
         count
+    }
+}
+
+impl<'a> Iterator for Descending<'a> {
+    type Item = u32;
+
+    ghost next_gives = { YieldsFirst (λ i. i) };
+
+    ghost remaining = { item_count (λ i. i) };
+
+    #[inline]
+    fn next(&mut self) -> Option<u32> {
+        if self.left == 0 {
+            return None;
+        }
+        self.left -= 1;
+        Some(self.list.get(self.left))
     }
 }
