@@ -1,12 +1,12 @@
 -- Runs of entries whose bytes are copied behind others.
 use Rattle.std.proofs.Common.{◌≡◌, ℕ, zero, suc, ◌+◌, ◌-◌, ◌*◌, ◌%◌, ◌^◌, ◌<◌, ◌≤◌, bit_or, List, [], ◌∷◌, ◌++◌, length, get_or, take, drop, refl, sym, ◌∙◌, ap, subst, arith, append_assoc, length-append, length-drop}
-use Rattle.std.proofs.lemmas.List.{drop-take, drop-drop, drop_more, take_more, take-take, take-append-drop, take_at, drop_at, take_all, length-take, length-take-le}
+use Rattle.std.proofs.lemmas.List.{drop-take, drop-drop, drop_more, take_more, take-take, take-append-drop, take_at, drop_at, length-take, length-take-le}
 use Rattle.pages.specs.declared.entry.Entry.{Entry}
 use Rattle.pages.specs.Lists.{AscendsFrom}
 use Rattle.pages.specs.Vertices.{Rises}
 use Rattle.pages.specs.inside.Packed.{elements_in}
 use Rattle.pages.specs.inside.Index.{IsIndex}
-use Rattle.pages.specs.inside.Entries.{size_of, list_at, lists_in, IsListed, end_of, AreListed, placed_at}
+use Rattle.pages.specs.inside.Entries.{size_of, list_at, lists_in, end_of, AreListed, placed_at}
 use Rattle.pages.proofs.Encoding.{same_front}
 use Rattle.pages.proofs.Order.{rises_back, rises_left, rises_room}
 use Rattle.pages.proofs.Ranks.{index_push}
@@ -77,13 +77,12 @@ are_placed from to n bytes bytes' (e ∷ es) ok ends same room =
     let at : drop from bytes ≡ drop e.start bytes = ap (λ p. drop p bytes) (sym ok.0) in
     let list : list_at bytes' (record { start = to; degree = e.degree; width = e.width; vertex = e.vertex }) ≡ list_at bytes e = same_front e.width e.degree s (drop to bytes') (drop from bytes) ok.1.some (omega arith) here ∙ ap (λ b. elements_in e.width e.degree b) at in
     let rest : take k (drop (to + s) bytes') ≡ take k (drop (from + s) bytes) =
-        ap (take k) (sym (drop-drop s to bytes')) ∙ sym (drop-take s k (drop to bytes')) ∙ ap (λ j. drop s (take j (drop to bytes'))) up ∙ ap (drop s) same
-        ∙ sym (ap (λ j. drop s (take j (drop from bytes))) up) ∙ drop-take s k (drop from bytes) ∙ ap (take k) (drop-drop s from bytes) in
-    let others = are_placed (from + s) (to + s) k bytes bytes' es ok.2 (omega (arith, ends)) rest (omega arith) in
-    (
+    ap (take k) (sym (drop-drop s to bytes')) ∙ sym (drop-take s k (drop to bytes')) ∙ ap (λ j. drop s (take j (drop to bytes'))) up ∙ ap (drop s) same
+    ∙ sym (ap (λ j. drop s (take j (drop from bytes))) up) ∙ drop-take s k (drop from bytes) ∙ ap (take k) (drop-drop s from bytes) in
+    let others = are_placed (from + s) (to + s) k bytes bytes' es ok.2 (omega (arith, ends)) rest (omega arith) in (
       (refl, record { wide = ok.1.wide; width = ok.1.width; some = ok.1.some; few = ok.1.few; within = omega arith; ascends = subst (AscendsFrom 0) (sym list) ok.1.ascends }, others.0),
       rw (list, others.1) refl,
-      omega (arith, others.2)
+      omega (arith, others.2),
     )
 
 -- bytes up to a place, and the bytes of a run behind them
@@ -100,11 +99,10 @@ module _ (es run : List Entry) (bytes from bytes' : List ℕ) (start stop : ℕ)
       let same : take end bytes' ≡ take end bytes = ap (take end) is ∙ take_at (take end bytes) part end front_long in
       let moved : take n (drop end bytes') ≡ take n (drop start from) = ap (λ b. take n (drop end b)) is ∙ ap (take n) (drop_at (take end bytes) part end front_long) ∙ take-take n (stop + 3 - start) (drop start from) (omega arith) in
       let stay = lists_stay end bytes bytes' same (omega (arith, long)) 0 es listed (omega arith) in
-      let placed = are_placed start end n from bytes' run listed' (omega (arith, order)) moved (omega (arith, long)) in
-      (
+      let placed = are_placed start end n from bytes' run listed' (omega (arith, order)) moved (omega (arith, long)) in (
         listed_append 0 bytes' es (placed_at end run) stay.0 placed.0,
         omega (arith, end_append 0 es (placed_at end run), placed.2, long),
-        lists_append bytes' es (placed_at end run) ∙ rw (stay.1, placed.1) refl
+        lists_append bytes' es (placed_at end run) ∙ rw (stay.1, placed.1) refl,
       )
 
 -- a mark more

@@ -4,8 +4,7 @@ use Rattle.std.proofs.lemmas.Bool.{cases_lt, cases_eq, cases_order, cases_Bool, 
 use Rattle.pages.specs.declared.change.Change.{Change}
 use Rattle.pages.specs.Lists.{AscendsFrom, has, below, above}
 use Rattle.pages.specs.Changes.{added, changed, decided, ChangesAscend}
-use Rattle.pages.proofs.Ascent.{ascends_from}
-use Rattle.pages.proofs.Merging.{above_ascends, above_from, added_ascends, changed_ascends}
+use Rattle.pages.proofs.Merging.{above_from, added_ascends, changed_ascends}
 
 -- an element of two lists one behind the other
 has_right : (v : ℕ) (l r : List ℕ) → has v l ≡ false → has v (l ++ r) ≡ has v r

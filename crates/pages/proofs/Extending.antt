@@ -1,7 +1,7 @@
 -- Entries whose lists come behind others.
-use Rattle.std.proofs.Common.{◌≡◌, ℕ, ◌+◌, ◌-◌, ◌*◌, ◌<◌, ◌≤◌, List, [], ◌∷◌, ◌++◌, length, replicate, take, drop, refl, sym, ◌∙◌, ap, subst, arith, length-append}
+use Rattle.std.proofs.Common.{◌≡◌, ℕ, ◌+◌, ◌-◌, ◌*◌, ◌<◌, ◌≤◌, List, [], ◌∷◌, ◌++◌, length, take, drop, refl, sym, ◌∙◌, ap, subst, arith}
 use Rattle.std.proofs.lemmas.Nat.{mul-le}
-use Rattle.std.proofs.lemmas.List.{drop_all, take_at, take_all, take-take, take-append-le, length-take, length-take-le}
+use Rattle.std.proofs.lemmas.List.{drop_all, take_at, take-take, take-append-le, length-take}
 use Rattle.pages.specs.declared.entry.Entry.{Entry}
 use Rattle.pages.specs.Lists.{AscendsFrom}
 use Rattle.pages.specs.inside.Packed.{elements_in}
@@ -77,9 +77,8 @@ module _ (es : List Entry) (bytes bytes' : List ℕ) (e : Entry) (xs : List ℕ)
   stored start degree width some few ascends long front list =
       let at : list_at bytes' e ≡ xs = ap (λ n. elements_in e.width n (drop e.start bytes')) degree ∙ ap (λ k. elements_in e.width (length xs) (drop k bytes')) start ∙ list in
       let is : IsListed bytes' e = record { wide = width.0; width = width.1; some = omega (arith, degree); few = omega (arith, degree); within = omega (arith, start, ends, long); ascends = subst (AscendsFrom 0) (sym at) ascends } in
-      let stay = lists_stay (end_of 0 es) bytes bytes' front (omega (arith, ends, long)) 0 es listed (omega arith) in
-      (
+      let stay = lists_stay (end_of 0 es) bytes bytes' front (omega (arith, ends, long)) 0 es listed (omega arith) in (
         listed_append 0 bytes' es (e ∷ []) stay.0 (start, is, tt),
         omega (arith, end_append 0 es (e ∷ []), ends, long),
-        lists_append bytes' es (e ∷ []) ∙ rw (stay.1, at) refl
+        lists_append bytes' es (e ∷ []) ∙ rw (stay.1, at) refl,
       )

@@ -1,7 +1,7 @@
 -- Blocks that are filled from a list, upward and downward.
-use Rattle.std.proofs.Common.{◌≡◌, ℕ, ◌+◌, ◌-◌, ◌<◌, ◌≤◌, zero, suc, List, [], ◌∷◌, ◌++◌, reverse, length, get_or, slice_set, take, drop, refl, sym, ◌∙◌, ap, arith, get_or-drop}
+use Rattle.std.proofs.Common.{◌≡◌, ℕ, ◌+◌, ◌-◌, ◌<◌, ◌≤◌, List, [], ◌∷◌, ◌++◌, reverse, length, get_or, slice_set, take, drop, sym, ◌∙◌, ap, arith, get_or-drop}
 use borrow.Rule.Slice.PartMut.{put_mid}
-use Rattle.std.proofs.lemmas.List.{append-nil, drop_all, drop_more, set_at, take_more, take_more_set, get_or-reverse, get_or-take, length-take, length-take-le, length-reverse}
+use Rattle.std.proofs.lemmas.List.{append-nil, drop_all, drop_more, set_at, take_more, take_more_set, get_or-reverse, get_or-take, length-take, length-take-le}
 
 -- one element more of the list is in the block
 pub written : (whole block : List ℕ) (n x : ℕ) → n < length whole → n < length block → x ≡ get_or whole n 0 → take n block ≡ take n whole → take (n + 1) (slice_set block n x) ≡ take (n + 1) whole

@@ -1,8 +1,8 @@
 -- Numbers of a few bytes, cut out of more bytes.
-use Rattle.std.proofs.Common.{◌≡◌, ℕ, zero, suc, ◌+◌, ◌-◌, ◌*◌, ◌/◌, ◌%◌, ◌^◌, ◌<◌, ◌≤◌, List, [], ◌∷◌, get_or, take, refl, sym, ◌∙◌, ap, arith, bit_and}
+use Rattle.std.proofs.Common.{◌≡◌, ℕ, zero, suc, ◌+◌, ◌-◌, ◌*◌, ◌/◌, ◌%◌, ◌^◌, ◌<◌, ◌≤◌, List, [], ◌∷◌, get_or, take, ◌∙◌, ap, arith, bit_and}
 use Rattle.std.proofs.lemmas.Nat.{mod-pow-add, and_mask, pow_pos}
 use native.Mathlib.Nat.{mod-eq_of_lt}
-use Rattle.pages.specs.inside.Numbers.{number_of, number_at}
+use Rattle.pages.specs.inside.Numbers.{number_of}
 
 -- the low bytes of a number make a number below the power of 2 of their bits
 pub number_cut : (w m : ℕ) (bytes : List ℕ) → ((i : ℕ) → get_or bytes i 0 < 256) → w ≤ m → number_of (take m bytes) % 2 ^ (8 * w) ≡ number_of (take w bytes)

@@ -1,5 +1,5 @@
 -- Vertices in order, taken apart and put together.
-use Rattle.std.proofs.Common.{ℕ, ◌+◌, ◌<◌, ◌≤◌, List, [], ◌∷◌, ◌++◌, length, arith}
+use Rattle.std.proofs.Common.{ℕ, ◌+◌, ◌≤◌, List, [], ◌∷◌, ◌++◌, length, arith}
 use Rattle.pages.specs.Vertices.{Rises}
 
 module _ {V : Type 0} where

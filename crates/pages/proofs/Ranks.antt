@@ -1,12 +1,12 @@
 -- Vertices in order, and how many are below a vertex.
-use Rattle.std.proofs.Common.{◌≡◌, ◌≢◌, ℕ, zero, suc, ◌+◌, ◌*◌, ◌/◌, ◌%◌, ◌^◌, ◌<◌, ◌≤◌, bit_or, inl, inr, List, [], ◌∷◌, ◌++◌, length, get_or, refl, sym, ◌∙◌, ap, subst, arith, add-one}
+use Rattle.std.proofs.Common.{◌≡◌, ◌≢◌, ℕ, suc, ◌+◌, ◌*◌, ◌/◌, ◌%◌, ◌^◌, ◌<◌, ◌≤◌, bit_or, inl, inr, List, [], ◌∷◌, ◌++◌, length, get_or, refl, sym, ◌∙◌, ap, arith, add-one}
 use Rattle.std.specs.Int.RustNames.{count_ones}
 use Rattle.std.proofs.lemmas.Bool.{cases_lt, cases_eq, lt-ltb, le-ltb, ne_eqb, eq-eqb}
 use Rattle.std.proofs.lemmas.Nat.{pow_pos}
 use Rattle.std.proofs.Math.Nat.{pow-le-pow_right}
 use Rattle.pages.specs.Vertices.{Rises, neighbours_of, count_below}
 use Rattle.pages.specs.inside.Index.{IsIndex}
-use Rattle.pages.proofs.Order.{rises_to, rises_room, rises_append, rises_back}
+use Rattle.pages.proofs.Order.{rises_room, rises_append, rises_back}
 use Rattle.pages.proofs.Bits.{ones_zero, ones_more, mark_is, mark_above, mark_counted, mark_small}
 
 module _ {V : Type 0} where

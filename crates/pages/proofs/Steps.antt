@@ -1,5 +1,5 @@
 -- Steps of a page that changes make.
-use Rattle.std.proofs.Common.{◌≡◌, ℕ, zero, suc, ◌+◌, ◌*◌, ◌^◌, ◌<◌, ◌≤◌, List, [], ◌∷◌, ◌++◌, slice_range, refl, sym, ◌∙◌, ap, subst, arith, add-one}
+use Rattle.std.proofs.Common.{◌≡◌, ℕ, ◌+◌, ◌*◌, ◌^◌, ◌<◌, ◌≤◌, List, [], ◌∷◌, ◌++◌, slice_range, sym, ◌∙◌, ap, subst, arith, add-one}
 use Rattle.pages.specs.declared.change.Change.{Change}
 use Rattle.pages.specs.Vertices.{Rises, neighbours_of, count_below, IsPage}
 use Rattle.pages.specs.Changes.{changed, changes_of, AreChanges}

@@ -1,5 +1,5 @@
 -- Vertices with the lists of their neighbours.
-use Rattle.std.specs.Prelude.{◌≡◌, ℕ, ◌+◌, ◌<◌, ◌≤◌, ◌==◌, nat_lt, if◌then◌else◌, List, [], ◌∷◌, length}
+use Rattle.std.specs.Prelude.{ℕ, ◌+◌, ◌<◌, ◌≤◌, ◌==◌, nat_lt, if◌then◌else◌, List, [], ◌∷◌, length}
 use Rattle.pages.specs.Lists.{AscendsFrom}
 
 -- the vertices rise from low up to high, each once

@@ -161,7 +161,15 @@ impl<'a> Neighbours<'a> {
             return fill_before(first, width, mask, len, self.offsets, end, block);
         }
         if count > 0 {
-            fill_before(first, width, mask, len, self.offsets, end, &mut block[..count - 1]);
+            fill_before(
+                first,
+                width,
+                mask,
+                len,
+                self.offsets,
+                end,
+                &mut block[..count - 1],
+            );
             block[count - 1] = first;
         }
     }
@@ -192,7 +200,12 @@ impl<'a> Neighbours<'a> {
 
     /// Adds the neighbours from an index up to another behind others. The only error is out of
     /// memory.
-    pub(crate) fn append_to(&self, from: usize, to: usize, list: &mut Vec<u32>) -> Result<(), AllocError>
+    pub(crate) fn append_to(
+        &self,
+        from: usize,
+        to: usize,
+        list: &mut Vec<u32>,
+    ) -> Result<(), AllocError>
         requires order { from ≤ to }
         requires within { to ≤ length self.now }
         ensures { IfOk result (λ _. list.new.items ≡ list.old.items ++ slice_range self.now from to) }

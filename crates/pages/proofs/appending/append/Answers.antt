@@ -1,4 +1,4 @@
-use Rattle.std.proofs.Common.{◌≡◌, ℕ, ◌+◌, ◌-◌, ◌*◌, ◌≤◌, get_or, drop, refl, arith}
+use Rattle.std.proofs.Common.{◌≡◌, ◌-◌, ◌*◌, get_or, drop, refl, arith}
 use Rattle.pages.specs.declared.entry.Entry.{Entry}
 use Rattle.pages.proofs.Extending.{end_from}
 use Rattle.pages.proofs.Copying.{next_fits}

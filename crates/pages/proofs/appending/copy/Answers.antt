@@ -1,4 +1,4 @@
-use Rattle.std.proofs.Common.{◌≡◌, ℕ, ◌+◌, ◌-◌, ◌*◌, ◌<◌, ◌^◌, ◌≤◌, List, ◌++◌, length, take, drop, sym, ◌∙◌, ap, arith}
+use Rattle.std.proofs.Common.{◌≡◌, ◌+◌, ◌-◌, ◌++◌, take, drop, ◌∙◌, ap, arith}
 use Rattle.pages.specs.inside.Entries.{end_of, placed_at}
 use Rattle.pages.proofs.Extending.{end_from, end_small, end_room}
 use Rattle.pages.proofs.Copying.{copied}
@@ -25,6 +25,6 @@ returns c =
     let end : c.len-end.result - 3 ≡ end_of 0 es = omega (arith, c.len-end.ensures, c.requires.ends) in
     let entries : c.append.new.entries.items ≡ es ++ placed_at (end_of 0 es) run = c.append.ensures.items ∙ ap (λ ys. ys ++ placed_at (c.len-end.result - 3) run) c.reserve.ensures.items ∙ ap (λ k. es ++ placed_at k run) end in
     let bytes : c.extend_from_slice.new.self.items ≡ take (end_of 0 es) old ++ take (c.args.stop + 3 - c.args.start) (drop c.args.start c.args.from.now) =
-        c.in_ok-extend_from_slice.ensures.items
-        ∙ ap (λ ys. ys ++ take (c.args.stop + 3 - c.args.start) (drop c.args.start c.args.from.now)) (c.truncate.ensures.items ∙ ap (take (c.len-end.result - 3)) c.reserve-2.ensures.items ∙ ap (λ k. take k old) end) in
+    c.in_ok-extend_from_slice.ensures.items
+    ∙ ap (λ ys. ys ++ take (c.args.stop + 3 - c.args.start) (drop c.args.start c.args.from.now)) (c.truncate.ensures.items ∙ ap (take (c.len-end.result - 3)) c.reserve-2.ensures.items ∙ ap (λ k. take k old) end) in
     rw entries (copied es run old c.args.from.now c.extend_from_slice.new.self.items c.args.start c.args.stop c.requires.listed c.requires.ends c.requires.run c.requires.stop c.requires.within bytes)

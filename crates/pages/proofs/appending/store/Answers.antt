@@ -1,4 +1,4 @@
-use Rattle.std.proofs.Common.{◌≡◌, ℕ, ◌+◌, ◌-◌, ◌*◌, ◌<◌, ◌^◌, ◌≤◌, List, [], ◌∷◌, ◌++◌, replicate, length, take, drop, refl, sym, ◌∙◌, ap, arith, vec_len}
+use Rattle.std.proofs.Common.{◌≡◌, ℕ, ◌+◌, ◌-◌, ◌*◌, [], ◌∷◌, ◌++◌, replicate, length, take, drop, refl, sym, ◌∙◌, ap, arith, vec_len}
 use Rattle.pages.specs.declared.entry.Entry.{Entry}
 use Rattle.pages.specs.inside.Packed.{elements_in}
 use Rattle.pages.specs.inside.Entries.{size_of, end_of}

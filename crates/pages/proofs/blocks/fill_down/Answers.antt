@@ -1,4 +1,4 @@
-use Rattle.std.proofs.Common.{◌≡◌, ℕ, ◌+◌, ◌-◌, ◌<◌, List, refl, ◌∙◌, length, get_or, take, reverse, ap, arith}
+use Rattle.std.proofs.Common.{◌≡◌, ℕ, ◌+◌, ◌-◌, List, refl, ◌∙◌, length, get_or, take, reverse, ap, arith}
 use Rattle.std.proofs.lemmas.List.{length-reverse, length-take-le}
 use Rattle.pages.specs.inside.Packed.{list_of}
 use Rattle.pages.proofs.Decoding.{list_length, room_at, read_at}

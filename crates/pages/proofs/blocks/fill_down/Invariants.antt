@@ -1,4 +1,4 @@
-use Rattle.std.proofs.Common.{◌≡◌, ◌+◌, length, take, reverse}
+use Rattle.std.proofs.Common.{◌≡◌, ◌+◌, take, reverse}
 use Rattle.pages.specs.inside.Packed.{list_of}
 use Rattle.pages.proofs.blocks.fill_down.Given as goal
 

@@ -1,4 +1,4 @@
-use Rattle.std.proofs.Common.{◌≡◌, ◌+◌, length, take, drop}
+use Rattle.std.proofs.Common.{◌≡◌, ◌+◌, take, drop}
 use Rattle.pages.specs.inside.Packed.{list_of}
 use Rattle.pages.proofs.blocks.fill_up.Given as goal
 

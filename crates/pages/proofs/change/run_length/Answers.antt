@@ -1,4 +1,4 @@
-use Rattle.std.proofs.Common.{false, arith}
+use Rattle.std.proofs.Common.{false}
 use Rattle.pages.proofs.Changing.{run_more, run_ends}
 use Rattle.pages.proofs.change.run_length.Goals as goal
 

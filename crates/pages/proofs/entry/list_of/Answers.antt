@@ -1,4 +1,4 @@
-use Rattle.std.proofs.Common.{◌+◌, ◌∙◌}
+use Rattle.std.proofs.Common.{◌+◌}
 use Rattle.std.proofs.lemmas.List.{take_rest}
 use Rattle.pages.proofs.Storing.{list_is, listed_view}
 use Rattle.pages.proofs.entry.list_of.Goals as goal

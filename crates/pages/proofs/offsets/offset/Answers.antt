@@ -1,4 +1,4 @@
-use Rattle.std.proofs.Common.{◌≡◌, ℕ, ◌+◌, ◌*◌, ◌∙◌, drop, ap, arith, bit_and, get_or-drop}
+use Rattle.std.proofs.Common.{ℕ, ◌+◌, ◌*◌, ◌∙◌, drop, ap, arith, bit_and, get_or-drop}
 use Rattle.pages.proofs.Masks.{masked}
 use Rattle.pages.proofs.offsets.offset.Goals as goal
 

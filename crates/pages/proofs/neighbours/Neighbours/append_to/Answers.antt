@@ -1,4 +1,4 @@
-use Rattle.std.proofs.Common.{◌≡◌, ◌≤◌, arith}
+use Rattle.std.proofs.Common.{arith}
 use Rattle.pages.proofs.Decoding.{count}
 use Rattle.pages.proofs.neighbours.Neighbours.append_to.Goals as goal
 

@@ -1,4 +1,4 @@
-use Rattle.std.proofs.Common.{◌≡◌, ℕ, ◌+◌, ◌-◌, ◌/◌, ◌∙◌, sym, arith}
+use Rattle.std.proofs.Common.{ℕ, ◌+◌, ◌-◌, ◌/◌, ◌∙◌, sym, arith}
 use Rattle.pages.proofs.Ascent.{rises, has_at, has_between}
 use Rattle.pages.proofs.neighbours.Neighbours.contains.Goals as goal
 

@@ -1,4 +1,4 @@
-use Rattle.std.proofs.Common.{◌≡◌, ℕ, ◌+◌, ◌-◌, ◌/◌, arith}
+use Rattle.std.proofs.Common.{ℕ, ◌+◌, ◌-◌, ◌/◌, arith}
 use Rattle.pages.proofs.Ascent.{rises, rises_strictly}
 use Rattle.pages.proofs.Cuts.{cut_below, cut_above}
 use Rattle.pages.proofs.neighbours.Neighbours.cut.Goals as goal

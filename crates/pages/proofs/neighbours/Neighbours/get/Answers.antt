@@ -1,5 +1,5 @@
 use Rattle.std.proofs.Common.{◌≡◌, ℕ, ◌+◌, ◌-◌, ◌∙◌, get_or, ap, arith}
-use Rattle.pages.proofs.Decoding.{count, room_at, read_at, read_first}
+use Rattle.pages.proofs.Decoding.{room_at, read_at}
 use Rattle.pages.proofs.neighbours.Neighbours.get.Goals as goal
 
 pub offset-requires-clause-room : goal.offset-requires-clause-room

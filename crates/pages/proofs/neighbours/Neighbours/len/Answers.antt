@@ -1,5 +1,5 @@
-use Rattle.std.proofs.Common.{◌≡◌, sym}
-use Rattle.pages.proofs.Decoding.{count, ascending}
+use Rattle.std.proofs.Common.{sym}
+use Rattle.pages.proofs.Decoding.{count}
 use Rattle.pages.proofs.neighbours.Neighbours.len.Goals as goal
 
 pub returns-clause-count : goal.returns-clause-count

@@ -1,12 +1,11 @@
-use Rattle.std.proofs.Common.{◌≡◌, ◌≢◌, ℕ, ◌+◌, ◌*◌, ◌^◌, ◌<◌, ◌≤◌, List, [], ◌++◌, slice_range, refl, sym, ◌∙◌, ap, subst, arith}
+use Rattle.std.proofs.Common.{◌≡◌, ◌≢◌, ℕ, ◌*◌, ◌^◌, [], ◌++◌, slice_range, sym, ◌∙◌, ap, arith}
 use Rattle.std.proofs.lemmas.List.{nil_from_length}
-use Rattle.pages.specs.declared.change.Change.{Change}
-use Rattle.pages.specs.Vertices.{Rises, neighbours_of, count_below}
-use Rattle.pages.specs.Changes.{changed, changes_of, AreChanges}
-use Rattle.pages.specs.inside.Built.{entry_of, built}
-use Rattle.pages.proofs.Building.{below_up, below_all, neighbours_built}
+use Rattle.pages.specs.Vertices.{neighbours_of, count_below}
+use Rattle.pages.specs.Changes.{changed, changes_of}
+use Rattle.pages.specs.inside.Built.{entry_of}
+use Rattle.pages.proofs.Building.{below_up, below_all}
 use Rattle.pages.proofs.Changing.{run_ascends}
-use Rattle.pages.proofs.Steps.{first_vertex, carried_to, carried_rises, changed_to, all_changed}
+use Rattle.pages.proofs.Steps.{first_vertex, carried_rises, changed_to, all_changed}
 use Rattle.pages.proofs.page.Page.apply.Goals as goal
 
 pub push_changed-requires-clause-map : goal.push_changed-requires-clause-map

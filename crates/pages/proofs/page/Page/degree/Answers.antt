@@ -1,4 +1,4 @@
-use Rattle.std.proofs.Common.{◌≡◌, ◌<◌, List, length, sym, ◌∙◌, ap, arith}
+use Rattle.std.proofs.Common.{◌<◌, length, sym, ◌∙◌, ap, arith}
 use Rattle.pages.specs.inside.Entries.{lists_in}
 use Rattle.pages.proofs.Ranks.{ranked, unmarked}
 use Rattle.pages.proofs.Storing.{lists_length, listed_at, listed_length}

@@ -1,4 +1,4 @@
-use Rattle.std.proofs.Common.{◌≡◌, ◌<◌, List, length, ap, arith}
+use Rattle.std.proofs.Common.{length, ap, arith}
 use Rattle.pages.specs.Vertices.{Rises}
 use Rattle.pages.specs.inside.Entries.{lists_in}
 use Rattle.pages.proofs.Order.{rises_room}

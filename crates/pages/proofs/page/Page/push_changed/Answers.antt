@@ -1,5 +1,5 @@
-use Rattle.std.proofs.Common.{◌≡◌, ◌≤◌, ◌++◌, slice_range, arith}
-use Rattle.pages.specs.Vertices.{Rises, count_below}
+use Rattle.std.proofs.Common.{◌++◌, slice_range, arith}
+use Rattle.pages.specs.Vertices.{count_below}
 use Rattle.pages.proofs.Order.{rises_to}
 use Rattle.pages.proofs.Building.{below_up, below_all}
 use Rattle.pages.proofs.page.Page.push_changed.Goals as goal

@@ -1,11 +1,10 @@
-use Rattle.std.proofs.Common.{◌≡◌, ℕ, ◌+◌, ◌-◌, ◌<◌, ◌≤◌, List, ◌++◌, length, take, drop, slice_range, refl, sym, ◌∙◌, ap, subst, arith, length-append, length-drop}
+use Rattle.std.proofs.Common.{◌≡◌, ℕ, ◌-◌, List, ◌++◌, length, take, drop, slice_range, refl, ◌∙◌, ap, arith, length-append, length-drop}
 use Rattle.std.proofs.lemmas.List.{length-take}
 use Rattle.pages.specs.declared.entry.Entry.{Entry}
 use Rattle.pages.specs.Vertices.{Rises}
-use Rattle.pages.specs.inside.Entries.{lists_in, end_of, AreListed}
+use Rattle.pages.specs.inside.Entries.{lists_in, end_of}
 use Rattle.pages.proofs.Order.{rises_room}
 use Rattle.pages.proofs.Storing.{lists_length}
-use Rattle.pages.proofs.Extending.{end_from, end_append}
 use Rattle.pages.proofs.Copying.{listed_front, listed_behind, lists_take, lists_drop, end_between, end_within}
 use Rattle.pages.proofs.page.Page.push_run.Goals as goal
 

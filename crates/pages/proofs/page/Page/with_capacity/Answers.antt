@@ -1,4 +1,4 @@
-use Rattle.std.proofs.Common.{◌≡◌, arith}
+use Rattle.std.proofs.Common.{arith}
 use Rattle.pages.proofs.Ranks.{index_none}
 use Rattle.pages.proofs.page.Page.with_capacity.Goals as goal
 
