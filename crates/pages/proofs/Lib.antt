@@ -15,3 +15,4 @@ pub mod Building
 pub mod Changing
 pub mod Steps
 pub mod Deciding
+pub mod Loads

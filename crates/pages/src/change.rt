@@ -62,8 +62,9 @@ fn step(
     Ok(next)
 }
 
-/// How many changes in front are of a vertex, where none is of a smaller one.
-pub(crate) fn run_length(changes: &[Change], vertex: u32) -> usize
+/// How many changes in front are of a vertex, where none is of a smaller one. It takes time in
+/// proportion to them.
+pub fn run_length(changes: &[Change], vertex: u32) -> usize
     requires { AreChanges (vertex * 2 ^ 32) changes.now }
     ensures within { result ≤ length changes.now }
     ensures run { take result changes.now ≡ changes_of vertex changes.now }

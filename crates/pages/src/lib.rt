@@ -8,9 +8,11 @@
 //! `list` gives the [`Neighbours`] of a vertex where they lie: one by one by index, as look-ups, or as
 //! walks upward and downward that fill blocks ([`Ascending`], [`Descending`]). `iter` goes over the
 //! vertices. `push` and `push_run` build a page up, vertex by vertex and by runs of another page, whose
-//! bytes are copied whole. `apply` makes a new page of an old one and a list of [`Change`]s; the old one
-//! stays as it is. `specs/Changes.antt` says what changes make of a list, and [`changes_decide`] and
-//! [`pages_are_their_lists`] are laws of it and of pages, and do nothing when called.
+//! bytes are copied whole; `from_keys` builds one from sorted edges (`specs/Keys.antt`). `apply` makes a
+//! new page of an old one and a list of [`Change`]s; the old one stays as it is. [`merge`] makes the new
+//! list of one vertex, and [`run_length`] finds its changes. `specs/Changes.antt` says what changes make
+//! of a list, and [`changes_decide`] and [`pages_are_their_lists`] are laws of it and of pages, and do
+//! nothing when called.
 //!
 //! The layout: a word of 64 bits says which vertices are present. Each of them has an entry of 8 bytes,
 //! which stands at its rank, the number of vertices present below it: where its list starts, how many
@@ -34,13 +36,14 @@ mod entry;
 mod index;
 mod iter;
 mod laws;
+mod loading;
 mod neighbours;
 mod offsets;
 mod page;
 mod walks;
 mod writing;
 
-pub use change::{Change, merge};
+pub use change::{Change, merge, run_length};
 pub use iter::PageIter;
 pub use laws::{changes_decide, pages_are_their_lists};
 pub use neighbours::Neighbours;
