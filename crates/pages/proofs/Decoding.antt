@@ -1,0 +1,65 @@
+-- The elements of a packed list, by their indices.
+use Rattle.std.proofs.Common.{◌≡◌, ℕ, zero, suc, ◌+◌, ◌-◌, ◌*◌, ◌^◌, ◌<◌, ◌≤◌, List, length, get_or, take, drop, refl, sym, ◌∙◌, ap, subst, arith, add-one}
+use Rattle.std.proofs.Math.Nat.{mul-le-mul_left}
+use Rattle.std.proofs.lemmas.List.{drop-drop}
+use Rattle.pages.specs.Lists.{AscendsFrom}
+use Rattle.pages.specs.inside.Numbers.{number_of, number_at}
+use Rattle.pages.specs.inside.Packed.{after_first, list_of, IsView}
+use Rattle.pages.proofs.Ascent.{small_at}
+
+after_length : (first w n : ℕ) (bytes : List ℕ) → length (after_first first w n bytes) ≡ n
+after_length first w zero bytes = refl
+after_length first w (suc n) bytes = omega (arith, after_length first w n (drop w bytes))
+
+-- there are as many elements as are asked for
+pub list_length : (first w n : ℕ) (bytes : List ℕ) → length (list_of first w n bytes) ≡ n
+list_length first w zero bytes = refl
+list_length first w (suc n) bytes = omega (arith, after_length first w n bytes)
+
+after_at : (first w n k : ℕ) (bytes : List ℕ) → k < n → get_or (after_first first w n bytes) k 0 ≡ first + number_at w (w * k) bytes
+after_at first w zero k bytes lt = absurd (omega arith)
+after_at first w (suc n) zero bytes lt =
+    let none : 0 ≡ w * 0 = omega arith in
+    ap (λ place. first + number_at w place bytes) none
+after_at first w (suc n) (suc k) bytes lt =
+    let place : w + w * k ≡ w * suc k = omega arith in
+    after_at first w n k (drop w bytes) (omega arith)
+    ∙ ap (λ ys. first + number_of (take w ys)) (drop-drop (w * k) w bytes ∙ ap (λ p. drop p bytes) place)
+
+-- an element after the first is as far above it as its offset says
+pub list_at_more : (first w n k : ℕ) (bytes : List ℕ) → suc k < n → get_or (list_of first w n bytes) (suc k) 0 ≡ first + number_at w (w * k) bytes
+list_at_more first w zero k bytes lt = absurd (omega arith)
+list_at_more first w (suc n) k bytes lt = after_at first w n k bytes (omega arith)
+
+pub list_at_first : (first w n : ℕ) (bytes : List ℕ) → 0 < n → get_or (list_of first w n bytes) 0 0 ≡ first
+list_at_first first w zero bytes lt = absurd (omega arith)
+list_at_first first w (suc n) bytes lt = refl
+
+-- one element more
+pub times_more : (w k : ℕ) → w * k + w ≡ w * (k + 1)
+times_more w k = omega arith
+
+module _ (first w mask n : ℕ) (bytes xs : List ℕ) (ok : IsView first w mask n bytes) (is : list_of first w n bytes ≡ xs) where
+  pub count : length xs ≡ n
+  count = ap length (sym is) ∙ list_length first w n bytes
+
+  -- an offset may be read as four bytes
+  pub room_at : (k : ℕ) → k + 1 < length xs → w * k + 4 ≤ length bytes
+  room_at k lt =
+      let within : w * (n - 1) + 3 ≤ length bytes = ok.within (omega (arith, count)) in
+      let below : w * (k + 1) ≤ w * (n - 1) = mul-le-mul_left w (omega (arith, count)) in
+      omega (arith, within, below, times_more w k, ok.some)
+
+  -- what it is above the first
+  pub read_at : (k x : ℕ) → k + 1 < length xs → x ≡ number_at w (w * k) bytes → (first + x ≡ get_or xs (k + 1) 0) × (first + x < 2 ^ 32)
+  read_at k x lt at =
+      let element : get_or (list_of first w n bytes) (suc k) 0 ≡ first + number_at w (w * k) bytes = list_at_more first w n k bytes (omega (arith, count)) in
+      let same : first + x ≡ get_or xs (k + 1) 0 = ap (λ v. first + v) at ∙ sym element ∙ ap (λ ys. get_or ys (suc k) 0) is ∙ ap (λ i. get_or xs i 0) (sym (add-one k)) in
+      let ascends : AscendsFrom 0 xs = subst (AscendsFrom 0) is ok.ascends in
+      (same, omega (arith, same, small_at 0 xs ascends (k + 1) lt))
+
+  pub read_first : 0 < length xs → first ≡ get_or xs 0 0
+  read_first lt = sym (list_at_first first w n bytes (omega (arith, count))) ∙ ap (λ ys. get_or ys 0 0) is
+
+  pub ascending : AscendsFrom 0 xs
+  ascending = subst (AscendsFrom 0) is ok.ascends
