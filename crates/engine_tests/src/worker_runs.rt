@@ -119,10 +119,12 @@ fn shown<R: Threads + AllocGlobal + Sync, G: Gate + Sync>(
     gate: &G,
 ) -> Result<Outcome, Fail> {
     let alloc = rt.alloc();
-    let scheduled = format!(in alloc; "{text} schedule: program\
+    let scheduled = format!(in alloc;
+        "{text} schedule: program\
         ->configApplyDirection(\"s1\", \"{way}\")\
         ->configApplyDenseVertexSet(\"s1\", \"{form}\")\
-        ->configApplyParallelization(\"s1\", \"{share}\");")?;
+        ->configApplyParallelization(\"s1\", \"{share}\");"
+    )?;
     let plan = compiler::compile(alloc, scheduled.as_bytes())?;
     Ok(run(rt, alloc, &plan, graph, workers, 100, gate)?)
 }
@@ -167,7 +169,10 @@ fn a_search_finds_the_same_by_any_workers(rt: HostRuntime) -> Result<(), Fail> {
     let graph = graph_of(rt.alloc(), 6, &edges)?;
     for (way, form) in &WAYS {
         for workers in [1, 2, 7] {
-            assert!(rt; searches(&rt, &graph, (*way, *form), workers)?, "{way} {form} by {workers}");
+            assert!(rt;
+                searches(&rt, &graph, (*way, *form), workers)?,
+                "{way} {form} by {workers}"
+            );
         }
     }
     Ok(())
@@ -214,7 +219,8 @@ fn a_run_has_1_to_64_workers(rt: HostRuntime) -> Result<(), Fail> {
     let plan = compiler::compile(rt.alloc(), CANCEL.as_bytes())?;
     for workers in [0, 65] {
         let refused = run(&rt, rt.alloc(), &plan, &graph, workers, 9, &Open);
-        let is_told = refused.is_err_and(|error| error == RunError::BadWorkers && error.number() == 411);
+        let is_told = refused.is_err_and(|error| error == RunError::BadWorkers
+            && error.number() == 411);
         assert!(rt; is_told, "{workers}");
     }
     Ok(())
