@@ -104,6 +104,7 @@ fn outcome_on(folder: &Folder<'_>, words: &[&str], input: &[u8]) -> io::Result<C
     let mut out = Vec::new(alloc);
     let mut err = Vec::new(alloc);
     let (status, _state) = run(
+        folder.rt,
         alloc,
         words,
         folder,

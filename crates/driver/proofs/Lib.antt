@@ -3,3 +3,4 @@ mod FileWords
 mod Flags
 mod Reading
 mod ScriptWords
+mod Workers

@@ -1,27 +1,79 @@
 //! Programs that were compiled, as scripts run them.
-ghost use Rattle.std.specs.Prelude.{map};
-ghost use Rattle.driver.specs.Programs.{tree_of};
+ghost use Rattle.std.specs.Prelude.{◌≡◌, map, IfOk};
+ghost use Rattle.crew.specs.Outcome.{AreWorkers};
+ghost use Rattle.driver.specs.Programs.{tree_of, ShowsMeaning};
 
 use crate::compiled_plan::CompiledPlan;
 use algorithm_meaning::Outcome;
+use crew::Open;
 use flat_snapshot::Flat;
-use runner::run_alone;
+use plans::Plan;
+use runner::{RunError, run};
 use scripts::Programs;
 use std::alloc::{AllocError, Global};
+use std::thread::Threads;
 
-/// The programs of a command line, in its order.
-pub(crate) struct CompiledPrograms {
-    pub(crate) plans: Vec<CompiledPlan>,
+/// The run of a plan on a snapshot of a graph, for at most so many turns, by so many workers.
+#[derive(Clone, Copy)]
+pub(crate) struct RunOrder<'a> {
+    pub(crate) plan: &'a Plan,
+    pub(crate) graph: &'a Flat,
+    pub(crate) turns: u64,
+    pub(crate) workers: usize,
 }
 
-impl Drop for CompiledPrograms {
-    fn drop(self) {
-        let CompiledPrograms { plans: _ } = self;
+/// Does a run that is ordered. The only error is out of memory.
+pub(crate) fn run_by_workers<T: Threads + Sync>(
+    rt: &T,
+    alloc: Global,
+    order: RunOrder<'_>,
+) -> Result<Outcome, AllocError>
+    requires { AreWorkers order.workers }
+    ensures { IfOk result (ShowsMeaning order.entry) }
+{
+    let done = run(
+        rt,
+        alloc,
+        order.plan,
+        order.graph,
+        order.workers,
+        order.turns,
+        &Open,
+    );
+    match done {
+        Ok(outcome) => Ok(outcome),
+        Err(RunError::NoMemory) => Err(AllocError),
+        Err(RunError::BadWorkers) => unreachable!(),
     }
 }
 
-impl Programs for CompiledPrograms {
+/// The programs of a command line, in its order, and the closure that runs them: a method of a trait may start no threads.
+pub(crate) struct CompiledPrograms<F> {
+    plans: Vec<CompiledPlan>,
+    by: F,
+}
+
+impl<F: Drop> Drop for CompiledPrograms<F> {
+    fn drop(self) {
+        let CompiledPrograms { plans: _, by: _ } = self;
+    }
+}
+
+impl<F> CompiledPrograms<F> {
+    pub(crate) fn new(plans: Vec<CompiledPlan>, by: F) -> CompiledPrograms<F>
+        ensures plans { result.plans ≡ plans }
+        ensures by { result.by ≡ by }
+    {
+        CompiledPrograms { plans, by }
+    }
+}
+
+impl<F: Fn(Global, RunOrder<'_>) -> Result<Outcome, AllocError>> Programs for CompiledPrograms<F> {
     ghost trees = { λ p. map tree_of p.plans.items };
+
+    // The closure may be called for 1 to 64 workers, and tells what the plan's program means.
+    ghost are_ready = { λ p. ((alloc : _) (order : _) → AreWorkers order.workers → F.pre p.by alloc order)
+        × ((alloc : _) (order : _) (r : _) → F.post p.by alloc order r → IfOk r (ShowsMeaning order)) };
 
     fn count(&self) -> usize {
         self.plans.len()
@@ -33,8 +85,14 @@ impl Programs for CompiledPrograms {
         place: usize,
         graph: &Flat,
         turns: u64,
-        _workers: u64,
+        workers: u64,
     ) -> Result<Outcome, AllocError> {
-        run_alone(alloc, &self.plans[place].plan, graph, turns)
+        let order = RunOrder {
+            plan: &self.plans[place].plan,
+            graph,
+            turns,
+            workers: workers as usize,
+        };
+        (self.by)(alloc, order)
     }
 }

@@ -13,13 +13,15 @@ use devices::{Drain, Feed};
 use scripts::ScriptState;
 use std::alloc::Global;
 use std::fmt::Write;
+use std::thread::Threads;
 
 /// Reads the words after the program's name, and does what they ask for; the answer is the exit status.
 ///
 /// It is that of `serve` where the words are a request. Where they are none, or ask for help, it is 2, and 4
 /// where memory runs out over them; `err` is then told why, and `out` took nothing. With it comes what a script
 /// opened, as by `serve`.
-pub fn run<F: Files, R: Feed, W: Drain, E: Drain>(
+pub fn run<T: Threads + Sync, F: Files, R: Feed, W: Drain, E: Drain>(
+    rt: &T,
     alloc: Global,
     words: &[&str],
     files: &F,
@@ -34,7 +36,7 @@ pub fn run<F: Files, R: Feed, W: Drain, E: Drain>(
         (taken_by (W.taken out.new) (W.failures out.new)) result.0 }
 {
     match request(alloc, words) {
-        Ok(request) => serve(alloc, &request, files, input, out, err),
+        Ok(request) => serve(rt, alloc, &request, files, input, out, err),
         Err(error) => (refused(&error, err), None),
     }
 }

@@ -1,6 +1,8 @@
 //! What the program does for a request.
 
-ghost use Rattle.std.specs.Prelude.{◌≡◌, ◌++◌, map};
+ghost use Rattle.std.specs.Prelude.{◌≡◌, ◌++◌, map, IfOk};
+ghost use Rattle.crew.specs.Outcome.{AreWorkers};
+ghost use Rattle.driver.specs.Programs.{ShowsMeaning};
 ghost use Rattle.scripts.specs.Script.{input as input_of, taken_by, RunsScript};
 ghost use Rattle.driver.specs.Endings.{status_of_end};
 ghost use Rattle.driver.specs.Reading.{CompilesFile, CompilesFiles};
@@ -9,16 +11,18 @@ ghost use Rattle.driver.specs.Serving.{end_of, ChecksFile, PrintsPlan, RunsFiles
 use crate::compiled_plan::CompiledPlan;
 use crate::error::ServeError;
 use crate::files::Files;
-use crate::programs::CompiledPrograms;
+use crate::programs::{CompiledPrograms, RunOrder, run_by_workers};
 use crate::requests::Request;
 use crate::status;
+use algorithm_meaning::Outcome;
 use compiler::{CompileError, compile};
 use devices::{Drain, Feed, write_all};
 use plans::Plan;
 use scripts::{ScriptError, ScriptState, run_text, script};
-use std::alloc::Global;
+use std::alloc::{AllocError, Global};
 use std::fmt;
 use std::fmt::Write;
+use std::thread::Threads;
 
 // What is told of a program that compiles.
 const OK_LINE: &[u8] = b"ok\n";
@@ -34,7 +38,8 @@ const OK_LINE: &[u8] = b"ok\n";
 /// nothing. It is 4 where memory runs out, and 5 where a file or `input` cannot be read or `out` fails;
 /// `err` is then told `refused` and the number, and `out` took a beginning of that line or text or of the
 /// replies.
-pub fn serve<F: Files, R: Feed, W: Drain, E: Drain>(
+pub fn serve<T: Threads + Sync, F: Files, R: Feed, W: Drain, E: Drain>(
+    rt: &T,
     alloc: Global,
     request: &Request<'_>,
     files: &F,
@@ -50,13 +55,13 @@ pub fn serve<F: Files, R: Feed, W: Drain, E: Drain>(
 {
     match request {
         Request::Input => {
-            let (ended, state) = run_input(alloc, input, out);
+            let (ended, state) = run_input(rt, alloc, input, out);
             (told(ended, err), Some(state))
         }
         Request::Check { file } => (told(check_file(alloc, file, files, out), err), None),
         Request::Plan { file } => (told(print_plan(alloc, file, files, out), err), None),
         Request::Script { script, programs } => {
-            let (ended, state) = run_files(alloc, script, programs, files, out);
+            let (ended, state) = run_files(rt, alloc, script, programs, files, out);
             (told(ended, err), state)
         }
     }
@@ -78,7 +83,8 @@ fn told<E: Drain>(ended: Result<bool, ServeError<'_>>, err: &mut E) -> u8
 }
 
 // Runs the standard input as a script without programs.
-fn run_input<'a, R: Feed, W: Drain>(
+fn run_input<'a, T: Threads + Sync, R: Feed, W: Drain>(
+    rt: &T,
     alloc: Global,
     input: &mut R,
     out: &mut W,
@@ -89,9 +95,13 @@ fn run_input<'a, R: Feed, W: Drain>(
         (taken_by (W.taken out.old) (W.failures out.old))
         (taken_by (W.taken out.new) (W.failures out.new)) result.0 }
 {
-    let programs = CompiledPrograms {
-        plans: Vec::new(alloc),
-    };
+    let programs = CompiledPrograms::new(
+        Vec::new(alloc),
+        |alloc: Global, order: RunOrder<'_>| -> Result<Outcome, AllocError>
+            requires { AreWorkers order.workers }
+            ensures { IfOk result (ShowsMeaning order.entry) }
+        { run_by_workers(rt, alloc, order) },
+    );
     let (ended, state) = script(alloc, &programs, input, out);
     (ended_as(ended), state)
 }
@@ -144,7 +154,8 @@ fn print_plan<'a, F: Files, W: Drain>(
 }
 
 // Compiles the programs in the files of these names, and then runs the script that a file holds.
-fn run_files<'a, F: Files, W: Drain>(
+fn run_files<'a, T: Threads + Sync, F: Files, W: Drain>(
+    rt: &T,
     alloc: Global,
     script: &str,
     programs: &[&'a str],
@@ -163,7 +174,14 @@ fn run_files<'a, F: Files, W: Drain>(
         Ok(text) => text,
         Err(error) => return (Err(ServeError::from(error)), None),
     };
-    let (ended, state) = run_text(alloc, &CompiledPrograms { plans }, &text, out);
+    let programs = CompiledPrograms::new(
+        plans,
+        |alloc: Global, order: RunOrder<'_>| -> Result<Outcome, AllocError>
+            requires { AreWorkers order.workers }
+            ensures { IfOk result (ShowsMeaning order.entry) }
+        { run_by_workers(rt, alloc, order) },
+    );
+    let (ended, state) = run_text(alloc, &programs, &text, out);
     (ended_as(ended), Some(state))
 }
 

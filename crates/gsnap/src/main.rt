@@ -45,5 +45,5 @@ fn serve(rt: &HostRuntime, words: &[String]) -> (u8, Option<ScriptState>) {
     let mut input = Device::new(rt.stdin());
     let mut out = Device::new(rt.stdout());
     let mut err = Device::new(rt.stderr());
-    run(alloc, &words, &Disk(rt), &mut input, &mut out, &mut err)
+    run(rt, alloc, &words, &Disk(rt), &mut input, &mut out, &mut err)
 }

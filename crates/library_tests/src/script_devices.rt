@@ -18,6 +18,8 @@ struct StarvedProgram;
 impl Programs for StarvedProgram {
     ghost trees = { λ _. empty_program ∷ [] };
 
+    ghost are_ready = { λ _. Unit {0} };
+
     fn count(&self) -> usize {
         1
     }

@@ -25,7 +25,7 @@ is_empty-words_left (Some rest) words false left some = (
 )
 
 -- both sides of an && that holds
-and_true : (a b : Bool) → (a && b) ≡ true → (a ≡ true) × (b ≡ true)
+pub and_true : (a b : Bool) → (a && b) ≡ true → (a ≡ true) × (b ≡ true)
 and_true true b both = (refl, both)
 and_true false b both = absurd (false≢true both)
 

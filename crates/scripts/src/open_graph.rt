@@ -93,6 +93,7 @@ impl OpenGraph {
         command: Command,
         replies: &mut ReplyWriter<'_, W>,
     ) -> Result<(), SendError>
+        requires ready { P.are_ready host.now.programs.now }
         ensures emits { Emits replies.old replies.new
             (on_open (P.trees host.now.programs.now) self.old command).text result }
         ensures state { OnOk result
@@ -216,7 +217,8 @@ impl OpenGraph {
         ticket: Option<u64>,
         replies: &mut ReplyWriter<'_, W>,
     ) -> Result<(), SendError>
-        requires { place < length (P.trees host.now.programs.now) }
+        requires ready { P.are_ready host.now.programs.now }
+        requires place { place < length (P.trees host.now.programs.now) }
         ensures emits { Emits replies.old replies.new (running self.old turns workers
             (slice_get (P.trees host.now.programs.now) place) (graph_of self.old.versions ticket)).text result }
         ensures state { OnOk result (self.new ≡ (running self.old turns workers
@@ -237,7 +239,8 @@ impl OpenGraph {
         ticket: Option<u64>,
         replies: &mut ReplyWriter<'_, W>,
     ) -> Result<(), SendError>
-        requires { place < length (P.trees host.now.programs.now) }
+        requires ready { P.are_ready host.now.programs.now }
+        requires place { place < length (P.trees host.now.programs.now) }
         ensures emits { Emits replies.old replies.new (running self.old turns workers
             (slice_get (P.trees host.now.programs.now) place) (graph_of self.old.versions ticket)).text result }
         ensures state { OnOk result (self.new ≡ (running self.old turns workers

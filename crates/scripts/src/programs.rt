@@ -13,11 +13,14 @@ pub trait Programs {
     /// The programs, as trees.
     ghost trees: { Self → List ProgramTree };
 
+    /// Runs go as is promised.
+    ghost are_ready: { Self → Type 0 };
+
     /// How many there are.
     fn count(&self) -> usize
         ensures { result ≡ length (trees self.now) };
 
-    /// What the program at a place, counted from 0, shows on a snapshot of a graph within a bound of turns, by so many workers.
+    /// What the program at a place, counted from 0, shows on a snapshot of a graph within a bound of turns, by so many workers, 1 to 64.
     /// The only error is out of memory.
     fn run(
         &self,
@@ -27,6 +30,7 @@ pub trait Programs {
         turns: u64,
         workers: u64,
     ) -> Result<Outcome, AllocError>
+        requires ready { are_ready self.now }
         requires place { place < length (trees self.now) }
         requires workers { is_worker_count workers ≡ true }
         ensures { IfOk result (λ o. (program : ProgramTree) → slice_get (trees self.now) place ≡ Some program → o ≡ meaning_on graph.now program turns) };

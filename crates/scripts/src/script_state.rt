@@ -73,7 +73,8 @@ impl ScriptState {
         bytes: &[u8],
         replies: &mut ReplyWriter<'_, W>,
     ) -> Result<(), SendError>
-        requires { HasNone 10 self.old.partial }
+        requires ready { P.are_ready host.now.programs.now }
+        requires partial { HasNone 10 self.old.partial }
         ensures emits { Emits replies.old replies.new
             (replies_within (P.trees host.now.programs.now) self.old bytes.now) result }
         ensures reading { OnOk result
@@ -95,6 +96,7 @@ impl ScriptState {
         bytes: &[u8],
         replies: &mut ReplyWriter<'_, W>,
     ) -> Result<(), SendError>
+        requires ready { P.are_ready host.now.programs.now }
         ensures emits { Emits replies.old replies.new (answer (P.trees host.now.programs.now)
             self.old.state (self.old.partial ++ bytes.now)).text result }
         ensures reading { OnOk result (self.new ≡ record {
@@ -118,6 +120,7 @@ impl ScriptState {
         host: &Host<'_, P>,
         replies: &mut ReplyWriter<'_, W>,
     ) -> Result<(), SendError>
+        requires ready { P.are_ready host.now.programs.now }
         ensures emits { Emits replies.old replies.new
             (answer (P.trees host.now.programs.now) self.old.state self.old.partial).text result }
         ensures state { OnOk result (self.new.state ≡
@@ -134,6 +137,7 @@ fn answer_line<P: Programs, W: Drain>(
     line: &[u8],
     replies: &mut ReplyWriter<'_, W>,
 ) -> Result<(), SendError>
+    requires ready { P.are_ready host.now.programs.now }
     ensures emits { Emits replies.old replies.new
         (answer (P.trees host.now.programs.now) graph.old line.now).text result }
     ensures state { OnOk result

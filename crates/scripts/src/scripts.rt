@@ -27,6 +27,7 @@ pub fn script<P: Programs, R: Feed, W: Drain>(
     reader: &mut R,
     writer: &mut W,
 ) -> (Result<bool, ScriptError>, ScriptState)
+    requires ready { P.are_ready programs.now }
     ensures { RunsScript (P.trees programs.now)
         (input (R.given reader.old) (R.ended reader.old) (R.failures reader.old))
         (input (R.given reader.new) (R.ended reader.new) (R.failures reader.new))
@@ -46,7 +47,8 @@ fn run_whole<P: Programs, R: Feed, W: Drain>(
     reader: &mut R,
     writer: &mut W,
 ) -> Result<bool, ScriptError>
-    requires { state.old ≡ at_start }
+    requires ready { P.are_ready host.now.programs.now }
+    requires state { state.old ≡ at_start }
     ensures { RunsScript (P.trees host.now.programs.now)
         (input (R.given reader.old) (R.ended reader.old) (R.failures reader.old))
         (input (R.given reader.new) (R.ended reader.new) (R.failures reader.new))
@@ -75,6 +77,7 @@ fn read_to_end<P: Programs, R: Feed, W: Drain>(
     reader: &mut R,
     replies: &mut ReplyWriter<'_, W>,
 ) -> Result<bool, ScriptError>
+    requires ready { P.are_ready host.now.programs.now }
     requires state { state.old ≡ at_start }
     requires block { 0 < length block.old }
     requires kept { replies.old.kept ≡ [] }

@@ -21,6 +21,7 @@ pub fn run_text<P: Programs, W: Drain>(
     text: &[u8],
     writer: &mut W,
 ) -> (Result<bool, ScriptError>, ScriptState)
+    requires ready { P.are_ready programs.now }
     ensures { RunsText (P.trees programs.now) text.now
         (taken_by (W.taken writer.old) (W.failures writer.old))
         (taken_by (W.taken writer.new) (W.failures writer.new)) result.0 }
@@ -35,7 +36,8 @@ fn run_known<T: Text, P: Programs, W: Drain>(
     text: &[u8],
     writer: &mut W,
 ) -> (Result<bool, ScriptError>, ScriptState)
-    requires { text.now ≡ T.text }
+    requires ready { P.are_ready programs.now }
+    requires text { text.now ≡ T.text }
     ensures { RunsText (P.trees programs.now) text.now
         (taken_by (W.taken writer.old) (W.failures writer.old))
         (taken_by (W.taken writer.new) (W.failures writer.new)) result.0 }

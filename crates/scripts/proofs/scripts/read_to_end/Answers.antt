@@ -15,7 +15,10 @@ pub take-requires : goal.take-requires
 take-requires g c =
     let old = input (g.R.Feed.given c.args.reader.now) (g.R.Feed.ended c.args.reader.now) (g.R.Feed.failures c.args.reader.now) in
     let now = input (g.R.Feed.given c.reads.reader) (g.R.Feed.ended c.reads.reader) (g.R.Feed.failures c.reads.reader) in
-    reading_unended (g.P.Programs.trees c.args.host.now.programs.now) old now c.args.replies.now c.reads.state c.reads.replies c.reads.invariant
+    record {
+      ready = c.requires.ready;
+      partial = reading_unended (g.P.Programs.trees c.args.host.now.programs.now) old now c.args.replies.now c.reads.state c.reads.replies c.reads.invariant;
+    }
 
 pub returns-in_err-take-clause-runs : goal.returns-in_err-take-clause-runs
 returns-in_err-take-clause-runs g c =

@@ -5,7 +5,7 @@ use Rattle.replies.proofs.SendingLaws.{emits_failed}
 use Rattle.scripts.proofs.script_state.ScriptState.take.Goals as goal
 
 pub lines-init : goal.lines-init
-lines-init g c = taking_starts (g.P.Programs.trees c.args.host.now.programs.now) c.args.self.now c.args.bytes.now _ c.requires
+lines-init g c = taking_starts (g.P.Programs.trees c.args.host.now.programs.now) c.args.self.now c.args.bytes.now _ c.requires.partial
 
 pub returns-in_err-end_line-clause-emits : goal.returns-in_err-end_line-clause-emits
 returns-in_err-end_line-clause-emits g c =
