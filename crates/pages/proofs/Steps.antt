@@ -1,5 +1,5 @@
 -- Steps of a page that updates make.
-use Rattle.std.proofs.Common.{◌≡◌, ℕ, ◌+◌, ◌*◌, ◌%◌, ◌^◌, ◌<◌, ◌≤◌, List, [], ◌∷◌, ◌++◌, slice_range, sym, ◌∙◌, ap, subst, arith, add-one}
+use Rattle.std.proofs.Common.{◌≡◌, ℕ, ◌+◌, ◌*◌, ◌^◌, ◌<◌, ◌≤◌, List, [], ◌∷◌, ◌++◌, slice_range, sym, ◌∙◌, ap, subst, arith, add-one}
 use Rattle.edge_updates.specs.declared.edge_update.EdgeUpdate.{EdgeUpdate}
 use Rattle.pages.specs.Vertices.{Rises, neighbours_of, count_below, IsPage}
 use Rattle.pages.specs.Updates.{vertex_in_page, updated, updates_of, EdgesAscend}

@@ -12,10 +12,11 @@ use edge_updates::EdgeUpdate;
 use std::alloc::{AllocError, Global};
 
 impl Page {
-    /// The page that updates make of this one, which stays as it is. The updates are of one block of
-    /// 64 vertices and ascend by edge; a vertex goes by its number in the block, the rest by 64. A
-    /// vertex whose last neighbour is removed is not present, and one that gets its first is. The
-    /// bytes of lists that do not change are copied whole. It takes time in proportion to the page.
+    /// The page that updates make of this one, which stays as it is. They ascend by edge, where a
+    /// vertex goes by its number in the page, its remainder by 64: updates of one block that ascend
+    /// do so ([`blocks_ascend`](crate::blocks_ascend)). A vertex whose last neighbour is removed is not
+    /// present, and one that gets its first is. The bytes of lists that do not change are copied
+    /// whole. It takes time in proportion to the page.
     ///
     /// The only error is out of memory.
     pub fn apply(&self, alloc: Global, updates: &[EdgeUpdate]) -> Result<Page, AllocError>

@@ -18,8 +18,8 @@ pub fn changes_decide()
         → has v (updated xs updates) ≡ decided v updates (has v xs) }
 {}
 
-/// The law of blocks: updates of one block that ascend by edge ascend in its page too, as a page asks
-/// of them. The call does nothing.
+/// The law of blocks: updates of the 64 vertices of one block that ascend by edge, as `edge_updates`
+/// leaves them, ascend as [`Page::apply`](crate::Page::apply) asks. The call does nothing.
 pub fn blocks_ascend()
     ensures { (block : ℕ) (updates : List EdgeUpdate)
         → Ascend updates → AreOfBlock block updates → EdgesAscend 0 updates }
