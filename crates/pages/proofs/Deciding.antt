@@ -1,10 +1,11 @@
--- The elements that changes leave.
+-- The elements that updates leave.
 use Rattle.std.proofs.Common.{◌≡◌, ◌≢◌, ℕ, ◌+◌, ◌<◌, ◌≤◌, Bool, true, false, inl, inr, List, [], ◌∷◌, ◌++◌, refl, sym, ◌∙◌, ap, arith}
 use Rattle.std.proofs.lemmas.Bool.{cases_lt, cases_eq, cases_order, cases_Bool, true≢false, lt-ltb, le-ltb, eq-eqb, ne_eqb}
-use Rattle.pages.specs.declared.change.Change.{Change}
+use Rattle.edge_updates.specs.declared.edge_update.EdgeUpdate.{EdgeUpdate}
+use Rattle.edge_updates.specs.EdgeUpdate.{neighbour_of, adds}
 use Rattle.pages.specs.Lists.{AscendsFrom, has, below, above}
-use Rattle.pages.specs.Changes.{added, changed, decided, ChangesAscend}
-use Rattle.pages.proofs.Merging.{above_from, added_ascends, changed_ascends}
+use Rattle.pages.specs.Updates.{added, updated, decided, NeighboursAscend}
+use Rattle.pages.proofs.Merging.{above_from, added_ascends, updated_ascends}
 
 -- an element of two lists one behind the other
 has_right : (v : ℕ) (l r : List ℕ) → has v l ≡ false → has v (l ++ r) ≡ has v r
@@ -55,41 +56,41 @@ above_has v n (x ∷ xs) lt = elim (cases_eq x v) [
   ]
 ]
 
--- changes of greater neighbours do not decide
-not_decided : (v low : ℕ) (cs : List Change) (b : Bool) → v < low → ChangesAscend low cs → decided v cs b ≡ b
+-- updates of greater neighbours do not decide
+not_decided : (v low : ℕ) (us : List EdgeUpdate) (b : Bool) → v < low → NeighboursAscend low us → decided v us b ≡ b
 not_decided v low [] b lt s = refl
-not_decided v low (c ∷ cs) b lt s = rw (ne_eqb c.neighbour v (omega (arith, s.0))) (not_decided v (c.neighbour + 1) cs b (omega (arith, s.0)) s.2)
+not_decided v low (u ∷ us) b lt s = rw (ne_eqb (neighbour_of u) v (omega (arith, s.0))) (not_decided v (neighbour_of u + 1) us b (omega (arith, s.0)) s.1)
 
-pub changed_has : (low v : ℕ) (xs : List ℕ) (cs : List Change) → AscendsFrom low xs → ChangesAscend low cs → has v (changed xs cs) ≡ decided v cs (has v xs)
-changed_has low v xs [] s t = refl
-changed_has low v xs (c ∷ cs) s t =
-    let n : ℕ = c.neighbour in
-    let rest : List ℕ = changed (above n xs) cs in
-    let up : AscendsFrom (n + 1) rest = changed_ascends (n + 1) (above n xs) cs (above_from n low xs s) t.2 in
+pub updated_has : (low v : ℕ) (xs : List ℕ) (us : List EdgeUpdate) → AscendsFrom low xs → NeighboursAscend low us → has v (updated xs us) ≡ decided v us (has v xs)
+updated_has low v xs [] s t = refl
+updated_has low v xs (u ∷ us) s t =
+    let n : ℕ = neighbour_of u in
+    let rest : List ℕ = updated (above n xs) us in
+    let up : AscendsFrom (n + 1) rest = updated_ascends (n + 1) (above n xs) us (above_from n low xs s) t.1 in
     elim (cases_order v n) [
       | inl at ↦
           let here : n ≡ v = sym at in
-          rw (eq-eqb n v here) (has_right v (below n xs) (added c rest) (not_below v n xs (omega arith)) ∙ at_it n v rest here up)
+          rw (eq-eqb n v here) (has_right v (below n xs) (added u rest) (not_below v n xs (omega arith)) ∙ at_it n v rest here up)
       | inr other ↦ elim other [
         | inl lt ↦
             let different : n ≢ v = omega arith in
-            let none : has v (added c rest) ≡ false = has_low v n (added c rest) lt (added_ascends c rest t.1 up) in
-            rw (ne_eqb n v different) (has_left v (below n xs) (added c rest) none ∙ below_has v n xs lt ∙ sym (not_decided v (n + 1) cs (has v xs) (omega arith) t.2))
+            let none : has v (added u rest) ≡ false = has_low v n (added u rest) lt (added_ascends u rest up) in
+            rw (ne_eqb n v different) (has_left v (below n xs) (added u rest) none ∙ below_has v n xs lt ∙ sym (not_decided v (n + 1) us (has v xs) (omega arith) t.1))
         | inr gt ↦
             let different : n ≢ v = omega arith in
-            rw (ne_eqb n v different) (has_right v (below n xs) (added c rest) (not_below v n xs (omega arith)) ∙ behind n v rest different
-            ∙ changed_has (n + 1) v (above n xs) cs (above_from n low xs s) t.2 ∙ ap (decided v cs) (above_has v n xs gt))
+            rw (ne_eqb n v different) (has_right v (below n xs) (added u rest) (not_below v n xs (omega arith)) ∙ behind n v rest different
+            ∙ updated_has (n + 1) v (above n xs) us (above_from n low xs s) t.1 ∙ ap (decided v us) (above_has v n xs gt))
       ]
     ]
   where
-    at_it : (n v : ℕ) (ys : List ℕ) → c.neighbour ≡ v → AscendsFrom (c.neighbour + 1) ys → has v (added c ys) ≡ c.adds
-    at_it n v ys at up = elim (cases_Bool c.adds) [
-      | inl adds ↦ rw adds (rw (eq-eqb c.neighbour v at) refl)
-      | inr removes ↦ rw removes (has_low v (c.neighbour + 1) ys (omega arith) up)
+    at_it : (n v : ℕ) (ys : List ℕ) → neighbour_of u ≡ v → AscendsFrom (neighbour_of u + 1) ys → has v (added u ys) ≡ adds u
+    at_it n v ys at up = elim (cases_Bool (adds u)) [
+      | inl is ↦ rw is (rw (eq-eqb (neighbour_of u) v at) refl)
+      | inr not ↦ rw not (has_low v (neighbour_of u + 1) ys (omega arith) up)
     ]
 
-    behind : (n v : ℕ) (ys : List ℕ) → c.neighbour ≢ v → has v (added c ys) ≡ has v ys
-    behind n v ys other = elim (cases_Bool c.adds) [
-      | inl adds ↦ rw adds (rw (ne_eqb c.neighbour v other) refl)
-      | inr removes ↦ rw removes refl
+    behind : (n v : ℕ) (ys : List ℕ) → neighbour_of u ≢ v → has v (added u ys) ≡ has v ys
+    behind n v ys other = elim (cases_Bool (adds u)) [
+      | inl is ↦ rw is (rw (ne_eqb (neighbour_of u) v other) refl)
+      | inr not ↦ rw not refl
     ]

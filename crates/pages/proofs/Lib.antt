@@ -12,7 +12,7 @@ pub mod Copying
 pub mod Cuts
 pub mod Merging
 pub mod Building
-pub mod Changing
+pub mod UpdateRuns
 pub mod Steps
 pub mod Deciding
 pub mod Loads

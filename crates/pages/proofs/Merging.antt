@@ -1,9 +1,10 @@
--- What changes make of a list.
+-- What updates make of a list.
 use Rattle.std.proofs.Common.{ℕ, ◌+◌, ◌^◌, ◌<◌, ◌≤◌, inl, inr, List, [], ◌∷◌, ◌++◌, arith}
 use Rattle.std.proofs.lemmas.Bool.{cases_lt, cases_Bool, lt-ltb, le-ltb}
-use Rattle.pages.specs.declared.change.Change.{Change}
+use Rattle.edge_updates.specs.declared.edge_update.EdgeUpdate.{EdgeUpdate}
+use Rattle.edge_updates.specs.EdgeUpdate.{neighbour_of, adds}
 use Rattle.pages.specs.Lists.{AscendsFrom, below, above}
-use Rattle.pages.specs.Changes.{added, changed, ChangesAscend}
+use Rattle.pages.specs.Updates.{added, updated, NeighboursAscend}
 use Rattle.pages.proofs.Ascent.{ascends_from}
 
 pub above_ascends : (k low : ℕ) (xs : List ℕ) → AscendsFrom low xs → AscendsFrom low (above k xs)
@@ -30,16 +31,21 @@ below_then k low (x ∷ xs) zs s le t =
       | inr ge ↦ rw (le-ltb x k ge) (below_then k low xs zs (ascends_from low (x + 1) xs (omega (arith, s.0)) s.2) le t)
     ]
 
-pub added_ascends : (c : Change) (ys : List ℕ) → c.neighbour < 2 ^ 32 → AscendsFrom (c.neighbour + 1) ys → AscendsFrom c.neighbour (added c ys)
-added_ascends c ys small s =
-    elim (cases_Bool c.adds) [
-      | inl adds ↦ rw adds (omega arith, small, s)
-      | inr removes ↦ rw removes (ascends_from c.neighbour (c.neighbour + 1) ys (omega arith) s)
+pub neighbour_small : (u : EdgeUpdate) → neighbour_of u < 2 ^ 24
+unfolding neighbour_of
+neighbour_small u = omega arith
+
+pub added_ascends : (u : EdgeUpdate) (ys : List ℕ) → AscendsFrom (neighbour_of u + 1) ys → AscendsFrom (neighbour_of u) (added u ys)
+added_ascends u ys s =
+    elim (cases_Bool (adds u)) [
+      | inl is ↦ rw is (omega arith, omega (arith, neighbour_small u), s)
+      | inr not ↦ rw not (ascends_from (neighbour_of u) (neighbour_of u + 1) ys (omega arith) s)
     ]
 
--- it ascends, where the changes do
-pub changed_ascends : (low : ℕ) (xs : List ℕ) (cs : List Change) → AscendsFrom low xs → ChangesAscend low cs → AscendsFrom low (changed xs cs)
-changed_ascends low xs [] s t = s
-changed_ascends low xs (c ∷ cs) s t =
-    let rest : AscendsFrom (c.neighbour + 1) (changed (above c.neighbour xs) cs) = changed_ascends (c.neighbour + 1) (above c.neighbour xs) cs (above_from c.neighbour low xs s) t.2 in
-    below_then c.neighbour low xs (added c (changed (above c.neighbour xs) cs)) s t.0 (added_ascends c (changed (above c.neighbour xs) cs) t.1 rest)
+-- it ascends, where the neighbours of the updates do
+pub updated_ascends : (low : ℕ) (xs : List ℕ) (us : List EdgeUpdate) → AscendsFrom low xs → NeighboursAscend low us → AscendsFrom low (updated xs us)
+updated_ascends low xs [] s t = s
+updated_ascends low xs (u ∷ us) s t =
+    let n : ℕ = neighbour_of u in
+    let rest : AscendsFrom (n + 1) (updated (above n xs) us) = updated_ascends (n + 1) (above n xs) us (above_from n low xs s) t.1 in
+    below_then n low xs (added u (updated (above n xs) us)) s t.0 (added_ascends u (updated (above n xs) us) rest)

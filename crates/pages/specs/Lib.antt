@@ -1,5 +1,5 @@
 pub mod Lists
 pub mod Vertices
-pub mod Changes
+pub mod Updates
 pub mod Keys
 pub mod inside

@@ -1,35 +1,38 @@
-//! Pages that changes make of others.
+//! Pages that updates make of others.
 
 ghost use Rattle.std.specs.Prelude.{◌≡◌, ℕ, ◌+◌, ◌<◌, ◌≤◌, ◌++◌, length, slice_range, IfOk};
 ghost use Rattle.pages.specs.Lists.{AscendsFrom};
 ghost use Rattle.pages.specs.Vertices.{Rises, neighbours_of, count_below};
-ghost use Rattle.pages.specs.Changes.{changed, changes_of, ChangesAscend, AreChanges};
+ghost use Rattle.pages.specs.Updates.{updated, updates_of, NeighboursAscend, EdgesAscend};
 ghost use Rattle.pages.specs.inside.Built.{entry_of};
 
-use crate::change::{Change, merge, run_length};
 use crate::page::{MAX_PACKED, Page};
+use crate::updates::{merge, run_length};
+use edge_updates::EdgeUpdate;
 use std::alloc::{AllocError, Global};
 
 impl Page {
-    /// The page that changes make of this one, which stays as it is. A vertex whose last neighbour
-    /// is removed is not present, and one that gets its first is. The bytes of lists that do not
-    /// change are copied whole. It takes time in proportion to the page.
+    /// The page that updates make of this one, which stays as it is. They ascend by edge, where a
+    /// vertex goes by its number in the page, its remainder by 64: updates of one block that ascend
+    /// do so ([`blocks_ascend`](crate::blocks_ascend)). A vertex whose last neighbour is removed is not
+    /// present, and one that gets its first is. The bytes of lists that do not change are copied
+    /// whole. It takes time in proportion to the page.
     ///
     /// The only error is out of memory.
-    pub fn apply(&self, alloc: Global, changes: &[Change]) -> Result<Page, AllocError>
-        requires changes { AreChanges 0 changes.now }
+    pub fn apply(&self, alloc: Global, updates: &[EdgeUpdate]) -> Result<Page, AllocError>
+        requires updates { EdgesAscend 0 updates.now }
         requires few { (u : ℕ) → u < 64
-            → length (changed (neighbours_of u self.now) (changes_of u changes.now)) ≤ MAX_PACKED }
+            → length (updated (neighbours_of u self.now) (updates_of u updates.now)) ≤ MAX_PACKED }
         ensures { IfOk result (λ p. (u : ℕ) → u < 64
-            → neighbours_of u p ≡ changed (neighbours_of u self.now) (changes_of u changes.now)) }
+            → neighbours_of u p ≡ updated (neighbours_of u self.now) (updates_of u updates.now)) }
     {
-        let mut page = self.with_room(alloc, changes.len())?;
+        let mut page = self.with_room(alloc, updates.len())?;
         let mut list = Vec::with_capacity(alloc, MAX_PACKED)?;
-        let (mut low, mut rest) = (0, changes);
+        let (mut low, mut rest) = (0, updates);
         while let Some((first, _)) = rest.split_first() {
-            let vertex = first.vertex;
+            let vertex = first.vertex() % 64;
             let (run, others) = rest.split_at(run_length(rest, vertex));
-            page.push_changed(self, low, vertex, run, &mut list)?;
+            page.push_updated(self, low, vertex, run, &mut list)?;
             low = vertex + 1;
             rest = others;
         }
@@ -38,27 +41,27 @@ impl Page {
     }
 
     /// Adds the vertices of an old page from one up to another, and then that one with the list that
-    /// changes make of its old one, for which `list` gives the room. The only error is out of memory.
-    fn push_changed(
+    /// updates make of its old one, for which `list` gives the room. The only error is out of memory.
+    fn push_updated(
         &mut self,
         old: &Page,
         low: u32,
         vertex: u32,
-        changes: &[Change],
+        updates: &[EdgeUpdate],
         list: &mut Vec<u32>,
     ) -> Result<(), AllocError>
         requires order { low ≤ vertex }
         requires vertex { vertex < 64 }
         requires map { Rises 0 vertex (self.old ++ slice_range old.now (count_below low old.now)
             (count_below vertex old.now)) }
-        requires changes { ChangesAscend 0 changes.now }
-        requires few { length (changed (neighbours_of vertex old.now) changes.now) ≤ MAX_PACKED }
+        requires updates { NeighboursAscend 0 updates.now }
+        requires few { length (updated (neighbours_of vertex old.now) updates.now) ≤ MAX_PACKED }
         ensures { IfOk result (λ _. self.new ≡ self.old
             ++ slice_range old.now (count_below low old.now) (count_below vertex old.now)
-            ++ entry_of vertex (changed (neighbours_of vertex old.now) changes.now)) }
+            ++ entry_of vertex (updated (neighbours_of vertex old.now) updates.now)) }
     {
         self.push_run(old, old.index(low), old.index(vertex))?;
-        merge(&old.list(vertex), changes, list)?;
+        merge(&old.list(vertex), updates, list)?;
         self.push_any(vertex, list)
     }
 

@@ -1,20 +1,28 @@
 //! What the definitions that contracts cite come to.
 
 ghost use Rattle.std.specs.Prelude.{◌≡◌, ℕ, ◌<◌, List};
-ghost use Rattle.pages.specs.declared.change.Change.{Change};
+ghost use Rattle.edge_updates.specs.declared.edge_update.EdgeUpdate.{EdgeUpdate};
+ghost use Rattle.edge_updates.specs.Updates.{Ascend};
 ghost use Rattle.pages.specs.Lists.{AscendsFrom, has};
 ghost use Rattle.pages.specs.Vertices.{neighbours_of, IsPage};
-ghost use Rattle.pages.specs.Changes.{changed, decided, ChangesAscend};
+ghost use Rattle.pages.specs.Updates.{updated, decided, AreOfBlock, NeighboursAscend, EdgesAscend};
 
-/// The law of changes: what they make of a list ascends, and a neighbour that some change names is
-/// there exactly where that change adds it, and another one exactly where it was. The call does
+/// The law of updates: what they make of a list ascends, and a neighbour that some update names is
+/// there exactly where that update adds it, and another one exactly where it was. The call does
 /// nothing.
 pub fn changes_decide()
-    ensures ascending { (xs : List ℕ) (changes : List Change)
-        → AscendsFrom 0 xs → ChangesAscend 0 changes → AscendsFrom 0 (changed xs changes) }
-    ensures members { (xs : List ℕ) (changes : List Change) (v : ℕ)
-        → AscendsFrom 0 xs → ChangesAscend 0 changes
-        → has v (changed xs changes) ≡ decided v changes (has v xs) }
+    ensures ascending { (xs : List ℕ) (updates : List EdgeUpdate)
+        → AscendsFrom 0 xs → NeighboursAscend 0 updates → AscendsFrom 0 (updated xs updates) }
+    ensures members { (xs : List ℕ) (updates : List EdgeUpdate) (v : ℕ)
+        → AscendsFrom 0 xs → NeighboursAscend 0 updates
+        → has v (updated xs updates) ≡ decided v updates (has v xs) }
+{}
+
+/// The law of blocks: updates of the 64 vertices of one block that ascend by edge, as `edge_updates`
+/// leaves them, ascend as [`Page::apply`](crate::Page::apply) asks. The call does nothing.
+pub fn blocks_ascend()
+    ensures { (block : ℕ) (updates : List EdgeUpdate)
+        → Ascend updates → AreOfBlock block updates → EdgesAscend 0 updates }
 {}
 
 /// The law of pages: two of them with the same neighbours of each vertex are the same. The call does

@@ -9,10 +9,11 @@
 //! walks upward and downward that fill blocks ([`Ascending`], [`Descending`]). `iter` goes over the
 //! vertices. `push` and `push_run` build a page up, vertex by vertex and by runs of another page, whose
 //! bytes are copied whole; `from_keys` builds one from sorted edges (`specs/Keys.antt`). `apply` makes a
-//! new page of an old one and a list of [`Change`]s; the old one stays as it is. [`merge`] makes the new
-//! list of one vertex, and [`run_length`] finds its changes. `specs/Changes.antt` says what changes make
-//! of a list, and [`changes_decide`] and [`pages_are_their_lists`] are laws of it and of pages, and do
-//! nothing when called.
+//! new page of an old one and a list of updates, each an `EdgeUpdate` of `edge_updates`, which may be a
+//! run of a longer list as it stands there; the old page stays as it is. [`merge`] makes the new list of
+//! one vertex, and [`run_length`] finds its updates. `specs/Updates.antt` says what updates make of a
+//! list. [`changes_decide`], [`blocks_ascend`] and [`pages_are_their_lists`] are laws of updates and of
+//! pages, and do nothing when called.
 //!
 //! The layout: a word of 64 bits says which vertices are present. Each of them has an entry of 8 bytes,
 //! which stands at its rank, the number of vertices present below it: where its list starts, how many
@@ -31,7 +32,6 @@
 mod appending;
 mod applying;
 mod blocks;
-mod change;
 mod entry;
 mod index;
 mod iter;
@@ -40,12 +40,13 @@ mod loading;
 mod neighbours;
 mod offsets;
 mod page;
+mod updates;
 mod walks;
 mod writing;
 
-pub use change::{Change, merge, run_length};
 pub use iter::PageIter;
-pub use laws::{changes_decide, pages_are_their_lists};
+pub use laws::{blocks_ascend, changes_decide, pages_are_their_lists};
 pub use neighbours::Neighbours;
 pub use page::{MAX_PACKED, Page};
+pub use updates::{merge, run_length};
 pub use walks::{Ascending, Descending};

@@ -126,13 +126,13 @@ impl Page {
         })
     }
 
-    /// A page of no vertex, with room for this one after so many changes.
-    pub(crate) fn with_room(&self, alloc: Global, changes: usize) -> Result<Page, AllocError>
+    /// A page of no vertex, with room for this one after so many updates.
+    pub(crate) fn with_room(&self, alloc: Global, updates: usize) -> Result<Page, AllocError>
         ensures empty { IfOk result (λ p. p ≡ []) }
         ensures page { IsPage self.now }
     {
-        let vertices = self.entries.len().saturating_add(changes).min(64);
-        let size = changes.saturating_mul(8).saturating_add(self.bytes.len());
+        let vertices = self.entries.len().saturating_add(updates).min(64);
+        let size = updates.saturating_mul(8).saturating_add(self.bytes.len());
         Page::with_capacity(alloc, vertices, size)
     }
 

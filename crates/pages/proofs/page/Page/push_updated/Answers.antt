@@ -2,7 +2,7 @@ use Rattle.std.proofs.Common.{◌++◌, slice_range, arith}
 use Rattle.pages.specs.Vertices.{count_below}
 use Rattle.pages.proofs.Order.{rises_to}
 use Rattle.pages.proofs.Building.{below_up, below_all}
-use Rattle.pages.proofs.page.Page.push_changed.Goals as goal
+use Rattle.pages.proofs.page.Page.push_updated.Goals as goal
 
 pub push_run-requires-clause-order : goal.push_run-requires-clause-order
 push_run-requires-clause-order c = omega (arith, c.index.ensures.index, c.index-2.ensures.index, below_up c.args.low c.args.vertex c.args.old.now c.requires.order)
