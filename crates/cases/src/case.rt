@@ -8,6 +8,7 @@ use devices::Device;
 use driver::{Files, run};
 use std::alloc::{AllocError, Global};
 use std::io::ErrorKind;
+use std::thread::Threads;
 use std::{fs, io, str};
 
 // The files of a case: those of its folder.
@@ -52,14 +53,19 @@ impl Files for Folder<'_> {
     }
 }
 
-/// Runs a case. The answer tells each difference, by a line, and is empty where there is none.
-pub fn differences<'a>(rt: &'a HostRuntime, place: &'a Place) -> io::Result<String> {
+/// Runs a case, with workers in threads of `threads`. The answer tells each difference, by a line, and is empty where
+/// there is none.
+pub fn differences<T: Threads + Sync>(
+    rt: &HostRuntime,
+    threads: &T,
+    place: &Place,
+) -> io::Result<String> {
     let name = place.name.as_str();
     let folder = &Folder {
         rt,
         name: place.folder.as_str(),
     };
-    let got = outcome_of(folder, name)?;
+    let got = outcome_of(threads, folder, name)?;
     let mut told = String::new(rt.alloc());
     add_output(folder, name, &mut told, ("status", b"0\n", &got.status))?;
     add_output(folder, name, &mut told, ("out", b"", &got.out))?;
@@ -89,22 +95,31 @@ struct CaseOutput {
 }
 
 // Does the command line of a case.
-fn outcome_of(folder: &Folder<'_>, name: &str) -> io::Result<CaseOutput> {
+fn outcome_of<T: Threads + Sync>(
+    threads: &T,
+    folder: &Folder<'_>,
+    name: &str,
+) -> io::Result<CaseOutput> {
     let words = words_of(folder, name)?;
     let words = texts(folder.rt.alloc(), &words)?;
     match folder.read_with(name, "input")? {
-        Some(input) => outcome_on(folder, &words, &input),
-        None => outcome_on(folder, &words, &[]),
+        Some(input) => outcome_on(threads, folder, &words, &input),
+        None => outcome_on(threads, folder, &words, &[]),
     }
 }
 
 // Does these words over the files of the folder and this standard input.
-fn outcome_on(folder: &Folder<'_>, words: &[&str], input: &[u8]) -> io::Result<CaseOutput> {
+fn outcome_on<T: Threads + Sync>(
+    threads: &T,
+    folder: &Folder<'_>,
+    words: &[&str],
+    input: &[u8],
+) -> io::Result<CaseOutput> {
     let alloc = folder.rt.alloc();
     let mut out = Vec::new(alloc);
     let mut err = Vec::new(alloc);
     let (status, _state) = run(
-        folder.rt,
+        threads,
         alloc,
         words,
         folder,

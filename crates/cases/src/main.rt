@@ -24,9 +24,10 @@ mod repeated;
 
 use std::io;
 use std::process::ExitCode;
+use std::thread::Threads;
 
 fn main(rt: HostRuntime) -> ExitCode {
-    match run_all(&rt) {
+    match run_all(&rt, &rt) {
         Ok(0) => ExitCode::SUCCESS,
         Ok(_) => ExitCode::from(1),
         Err(error) => {
@@ -38,11 +39,11 @@ fn main(rt: HostRuntime) -> ExitCode {
 }
 
 // Runs all cases below the folder that it is run in, and answers how many differ.
-fn run_all(rt: &HostRuntime) -> io::Result<usize> {
+fn run_all(rt: &HostRuntime, threads: &(impl Threads + Sync)) -> io::Result<usize> {
     let mut agree = 0usize;
     let mut differ = 0usize;
     for place in listing::cases(rt)? {
-        let differences = case::differences(rt, &place)?;
+        let differences = case::differences(rt, threads, &place)?;
         print!(rt; "{differences}")?;
         if differences.is_empty() {
             agree = agree.saturating_add(1);

@@ -11,10 +11,11 @@ use std::io::ErrorKind;
 use std::mem::forget;
 use std::process::ExitCode;
 use std::rt::Env;
+use std::thread::Threads;
 
 fn main(rt: HostRuntime) -> ExitCode {
     let (status, state) = match words(&rt) {
-        Ok(words) => serve(&rt, &words),
+        Ok(words) => serve(&rt, &rt, &words),
         Err(error) => {
             // Where this fails too, the exit status alone tells.
             let _ = eprint!(rt; "{error}");
@@ -35,8 +36,12 @@ fn words(rt: &(impl Env + AllocGlobal)) -> Result<Vec<String>, RequestError> {
     }
 }
 
-// Does what the words ask for, and answers the exit status and what a script opened.
-fn serve(rt: &HostRuntime, words: &[String]) -> (u8, Option<ScriptState>) {
+// Does what the words ask for, with workers in threads of `threads`, and answers the exit status and what a script opened.
+fn serve(
+    rt: &HostRuntime,
+    threads: &(impl Threads + Sync),
+    words: &[String],
+) -> (u8, Option<ScriptState>) {
     let alloc = rt.alloc();
     let Ok(words) = words.iter().map(|word| word.as_str()).collect(alloc) else {
         return (RequestError::NoMemory.status(), None);
@@ -45,5 +50,13 @@ fn serve(rt: &HostRuntime, words: &[String]) -> (u8, Option<ScriptState>) {
     let mut input = Device::new(rt.stdin());
     let mut out = Device::new(rt.stdout());
     let mut err = Device::new(rt.stderr());
-    run(rt, alloc, &words, &Disk(rt), &mut input, &mut out, &mut err)
+    run(
+        threads,
+        alloc,
+        &words,
+        &Disk(rt),
+        &mut input,
+        &mut out,
+        &mut err,
+    )
 }
