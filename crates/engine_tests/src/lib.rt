@@ -1,7 +1,7 @@
 //! Tests of edge applies by the engines, alone and in pieces: small graphs whose answers were worked out by hand.
 //!
-//! Random applies are compared with the slow run by `engine_bench`. Shapes of kernels stand here too, and runs of plans
-//! that go one instruction at a time.
+//! Random applies are compared with the slow run by `engine_bench`. Shapes of kernels stand here too, runs of plans
+//! that go one instruction at a time, and runs by 1 to 64 workers.
 #![tactic(auto)]
 
 #[cfg(test)]

@@ -1,7 +1,7 @@
 -- Runs of entries whose bytes are copied behind others.
 use Rattle.std.proofs.Common.{◌≡◌, ℕ, zero, suc, ◌+◌, ◌-◌, ◌*◌, ◌%◌, ◌^◌, ◌<◌, ◌≤◌, bit_or, List, [], ◌∷◌, ◌++◌, length, get_or, take, drop, refl, sym, ◌∙◌, ap, subst, arith, append_assoc, length-append, length-drop}
 use Rattle.std.proofs.lemmas.List.{drop-take, drop-drop, drop_more, take_more, take-take, take-append-drop, take_at, drop_at, length-take, length-take-le}
-use Rattle.pages.specs.declared.entry.Entry.{Entry}
+use Rattle.pages.specs.declared.entry.ListEntry.{ListEntry}
 use Rattle.pages.specs.Lists.{AscendsFrom}
 use Rattle.pages.specs.Vertices.{Rises}
 use Rattle.pages.specs.inside.Packed.{elements_in}
@@ -13,40 +13,40 @@ use Rattle.pages.proofs.Ranks.{index_push}
 use Rattle.pages.proofs.Extending.{end_from, end_append, listed_append, lists_append, lists_stay}
 
 -- the next list fits where all that are left do
-pub next_fits : (place i : ℕ) (es : List Entry) (d : Entry) → i < length es → place + size_of (get_or es i d) ≤ end_of place (drop i es)
+pub next_fits : (place i : ℕ) (es : List ListEntry) (d : ListEntry) → i < length es → place + size_of (get_or es i d) ≤ end_of place (drop i es)
 next_fits place i es d lt =
-    let e : Entry = get_or es i d in
+    let e : ListEntry = get_or es i d in
     let cells : drop i es ≡ e ∷ drop (i + 1) es = drop_more es i d lt in
     omega (arith, end_from (place + size_of e) (drop (i + 1) es), ap (end_of place) cells)
 
 -- the front of entries, and what is behind
-pub listed_front : (place i : ℕ) (bytes : List ℕ) (es : List Entry) → AreListed place bytes es → AreListed place bytes (take i es)
+pub listed_front : (place i : ℕ) (bytes : List ℕ) (es : List ListEntry) → AreListed place bytes es → AreListed place bytes (take i es)
 listed_front place zero bytes es ok = tt
 listed_front place (suc i) bytes [] ok = tt
 listed_front place (suc i) bytes (e ∷ es) ok = (ok.0, ok.1, listed_front (place + size_of e) i bytes es ok.2)
 
-pub listed_behind : (place i : ℕ) (bytes : List ℕ) (es : List Entry) → AreListed place bytes es → AreListed (end_of place (take i es)) bytes (drop i es)
+pub listed_behind : (place i : ℕ) (bytes : List ℕ) (es : List ListEntry) → AreListed place bytes es → AreListed (end_of place (take i es)) bytes (drop i es)
 listed_behind place zero bytes es ok = ok
 listed_behind place (suc i) bytes [] ok = tt
 listed_behind place (suc i) bytes (e ∷ es) ok = listed_behind (place + size_of e) i bytes es ok.2
 
-pub start_at : (place i : ℕ) (bytes : List ℕ) (es : List Entry) (d : Entry) → AreListed place bytes es → i < length es → (get_or es i d).start ≡ end_of place (take i es)
+pub start_at : (place i : ℕ) (bytes : List ℕ) (es : List ListEntry) (d : ListEntry) → AreListed place bytes es → i < length es → (get_or es i d).start ≡ end_of place (take i es)
 start_at place i bytes [] d ok lt = absurd (omega arith)
 start_at place zero bytes (x ∷ es) d ok lt = ok.0
 start_at place (suc i) bytes (x ∷ es) d ok lt = start_at (place + size_of x) i bytes es d ok.2 (omega arith)
 
-pub lists_take : (i : ℕ) (bytes : List ℕ) (es : List Entry) → lists_in bytes (take i es) ≡ take i (lists_in bytes es)
+pub lists_take : (i : ℕ) (bytes : List ℕ) (es : List ListEntry) → lists_in bytes (take i es) ≡ take i (lists_in bytes es)
 lists_take zero bytes es = refl
 lists_take (suc i) bytes [] = refl
 lists_take (suc i) bytes (e ∷ es) = ap (λ ls. (e.vertex, list_at bytes e) ∷ ls) (lists_take i bytes es)
 
-pub lists_drop : (i : ℕ) (bytes : List ℕ) (es : List Entry) → lists_in bytes (drop i es) ≡ drop i (lists_in bytes es)
+pub lists_drop : (i : ℕ) (bytes : List ℕ) (es : List ListEntry) → lists_in bytes (drop i es) ≡ drop i (lists_in bytes es)
 lists_drop zero bytes es = refl
 lists_drop (suc i) bytes [] = refl
 lists_drop (suc i) bytes (e ∷ es) = lists_drop i bytes es
 
 -- where the first entries up to one end, and those up to another
-pub end_between : (place from to : ℕ) (es : List Entry) → from ≤ to → end_of place (take to es) ≡ end_of (end_of place (take from es)) (take (to - from) (drop from es))
+pub end_between : (place from to : ℕ) (es : List ListEntry) → from ≤ to → end_of place (take to es) ≡ end_of (end_of place (take from es)) (take (to - from) (drop from es))
 end_between place zero to es le =
     let all : to - 0 ≡ to = omega arith in
     ap (λ k. end_of place (take k es)) (sym all)
@@ -60,13 +60,13 @@ end_between place (suc from) (suc to) (e ∷ es) le =
     let gap : to - from ≡ suc to - suc from = omega arith in
     end_between (place + size_of e) from to es (omega arith) ∙ ap (λ k. end_of (end_of (place + size_of e) (take from es)) (take k (drop from es))) gap
 
-pub end_within : (place i : ℕ) (es : List Entry) → end_of place (take i es) ≤ end_of place es
+pub end_within : (place i : ℕ) (es : List ListEntry) → end_of place (take i es) ≤ end_of place es
 end_within place zero es = end_from place es
 end_within place (suc i) [] = omega arith
 end_within place (suc i) (e ∷ es) = end_within (place + size_of e) i es
 
 -- entries of bytes that were moved
-pub are_placed : (from to n : ℕ) (bytes bytes' : List ℕ) (es : List Entry) → AreListed from bytes es → end_of from es ≡ from + n → take n (drop to bytes') ≡ take n (drop from bytes) → to + n + 3 ≤ length bytes' → AreListed to bytes' (placed_at to es) × (lists_in bytes' (placed_at to es) ≡ lists_in bytes es) × (end_of to (placed_at to es) ≡ to + n)
+pub are_placed : (from to n : ℕ) (bytes bytes' : List ℕ) (es : List ListEntry) → AreListed from bytes es → end_of from es ≡ from + n → take n (drop to bytes') ≡ take n (drop from bytes) → to + n + 3 ≤ length bytes' → AreListed to bytes' (placed_at to es) × (lists_in bytes' (placed_at to es) ≡ lists_in bytes es) × (end_of to (placed_at to es) ≡ to + n)
 are_placed from to n bytes bytes' [] ok ends same room = (tt, refl, omega arith)
 are_placed from to n bytes bytes' (e ∷ es) ok ends same room =
     let s : ℕ = size_of e in
@@ -86,7 +86,7 @@ are_placed from to n bytes bytes' (e ∷ es) ok ends same room =
     )
 
 -- bytes up to a place, and the bytes of a run behind them
-module _ (es run : List Entry) (bytes from bytes' : List ℕ) (start stop : ℕ) (listed : AreListed 0 bytes es) (ends : end_of 0 es + 3 ≡ length bytes) (listed' : AreListed start from run) (stop_is : stop ≡ end_of start run) (within : stop + 3 ≤ length from) where
+module _ (es run : List ListEntry) (bytes from bytes' : List ℕ) (start stop : ℕ) (listed : AreListed 0 bytes es) (ends : end_of 0 es + 3 ≡ length bytes) (listed' : AreListed start from run) (stop_is : stop ≡ end_of start run) (within : stop + 3 ≤ length from) where
   pub copied : bytes' ≡ take (end_of 0 es) bytes ++ take (stop + 3 - start) (drop start from) → AreListed 0 bytes' (es ++ placed_at (end_of 0 es) run) × (end_of 0 (es ++ placed_at (end_of 0 es) run) + 3 ≡ length bytes') × (lists_in bytes' (es ++ placed_at (end_of 0 es) run) ≡ lists_in bytes es ++ lists_in from run)
   copied is =
       let end : ℕ = end_of 0 es in
@@ -106,9 +106,9 @@ module _ (es run : List Entry) (bytes from bytes' : List ℕ) (start stop : ℕ)
       )
 
 -- a mark more
-pub mark_more : (bits i : ℕ) (es : List (ℕ × List ℕ)) (bytes : List ℕ) (run : List Entry) (d : Entry) → i < length run → Rises 0 64 (es ++ lists_in bytes run) → IsIndex bits (es ++ lists_in bytes (take i run)) → IsIndex (bit_or bits (1 * 2 ^ ((get_or run i d).vertex % 64) % 2 ^ 64)) (es ++ lists_in bytes (take (i + 1) run))
+pub mark_more : (bits i : ℕ) (es : List (ℕ × List ℕ)) (bytes : List ℕ) (run : List ListEntry) (d : ListEntry) → i < length run → Rises 0 64 (es ++ lists_in bytes run) → IsIndex bits (es ++ lists_in bytes (take i run)) → IsIndex (bit_or bits (1 * 2 ^ ((get_or run i d).vertex % 64) % 2 ^ 64)) (es ++ lists_in bytes (take (i + 1) run))
 mark_more bits i es bytes run d lt rises ok =
-    let e : Entry = get_or run i d in
+    let e : ListEntry = get_or run i d in
     let x : List ℕ = list_at bytes e in
     let before : List (ℕ × List ℕ) = es ++ lists_in bytes (take i run) in
     let after : List (ℕ × List ℕ) = lists_in bytes (drop (i + 1) run) in

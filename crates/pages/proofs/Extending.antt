@@ -2,50 +2,50 @@
 use Rattle.std.proofs.Common.{◌≡◌, ℕ, ◌+◌, ◌-◌, ◌*◌, ◌<◌, ◌≤◌, List, [], ◌∷◌, ◌++◌, length, take, drop, refl, sym, ◌∙◌, ap, subst, arith}
 use Rattle.std.proofs.lemmas.Nat.{mul-le}
 use Rattle.std.proofs.lemmas.List.{drop_all, take_at, take-take, take-append-le, length-take}
-use Rattle.pages.specs.declared.entry.Entry.{Entry}
+use Rattle.pages.specs.declared.entry.ListEntry.{ListEntry}
 use Rattle.pages.specs.Lists.{AscendsFrom}
 use Rattle.pages.specs.inside.Packed.{elements_in}
 use Rattle.pages.specs.inside.Entries.{size_of, list_at, lists_in, IsListed, end_of, AreListed}
 use Rattle.pages.proofs.Encoding.{same_front, front_stays, middle_stays}
 
 -- where lists end
-pub size_small : (bytes : List ℕ) (e : Entry) → IsListed bytes e → size_of e ≤ 1024
+pub size_small : (bytes : List ℕ) (e : ListEntry) → IsListed bytes e → size_of e ≤ 1024
 size_small bytes e is = omega (arith, mul-le e.width (e.degree - 1) 4 255 is.width (omega (arith, is.few)))
 
-pub end_from : (place : ℕ) (es : List Entry) → place ≤ end_of place es
+pub end_from : (place : ℕ) (es : List ListEntry) → place ≤ end_of place es
 end_from place [] = omega arith
 end_from place (e ∷ es) = omega (arith, end_from (place + size_of e) es)
 
-pub end_small : (place : ℕ) (bytes : List ℕ) (es : List Entry) → AreListed place bytes es → end_of place es ≤ place + 1024 * length es
+pub end_small : (place : ℕ) (bytes : List ℕ) (es : List ListEntry) → AreListed place bytes es → end_of place es ≤ place + 1024 * length es
 end_small place bytes [] ok = omega arith
 end_small place bytes (e ∷ es) ok = omega (arith, end_small (place + size_of e) bytes es ok.2, size_small bytes e ok.1)
 
 -- from any other place on too
-pub end_room : (place : ℕ) (bytes : List ℕ) (es : List Entry) → AreListed place bytes es → (other : ℕ) → end_of other es ≤ other + 1024 * length es
+pub end_room : (place : ℕ) (bytes : List ℕ) (es : List ListEntry) → AreListed place bytes es → (other : ℕ) → end_of other es ≤ other + 1024 * length es
 end_room place bytes [] ok other = omega arith
 end_room place bytes (e ∷ es) ok other = omega (arith, end_room (place + size_of e) bytes es ok.2 (other + size_of e), size_small bytes e ok.1)
 
-pub end_append : (place : ℕ) (es fs : List Entry) → end_of place (es ++ fs) ≡ end_of (end_of place es) fs
+pub end_append : (place : ℕ) (es fs : List ListEntry) → end_of place (es ++ fs) ≡ end_of (end_of place es) fs
 end_append place [] fs = refl
 end_append place (e ∷ es) fs = end_append (place + size_of e) es fs
 
 -- more entries behind others
-pub listed_append : (place : ℕ) (bytes : List ℕ) (es fs : List Entry) → AreListed place bytes es → AreListed (end_of place es) bytes fs → AreListed place bytes (es ++ fs)
+pub listed_append : (place : ℕ) (bytes : List ℕ) (es fs : List ListEntry) → AreListed place bytes es → AreListed (end_of place es) bytes fs → AreListed place bytes (es ++ fs)
 listed_append place bytes [] fs s t = t
 listed_append place bytes (e ∷ es) fs s t = (s.0, s.1, listed_append (place + size_of e) bytes es fs s.2 t)
 
-pub lists_append : (bytes : List ℕ) (es fs : List Entry) → lists_in bytes (es ++ fs) ≡ lists_in bytes es ++ lists_in bytes fs
+pub lists_append : (bytes : List ℕ) (es fs : List ListEntry) → lists_in bytes (es ++ fs) ≡ lists_in bytes es ++ lists_in bytes fs
 lists_append bytes [] fs = refl
 lists_append bytes (e ∷ es) fs = ap (λ ls. (e.vertex, list_at bytes e) ∷ ls) (lists_append bytes es fs)
 
 -- lists stay where their bytes do
 module _ (end : ℕ) (bytes bytes' : List ℕ) (same : take end bytes' ≡ take end bytes) (room : end + 3 ≤ length bytes') where
-  list_stays : (e : Entry) → IsListed bytes e → e.start + size_of e ≤ end → list_at bytes' e ≡ list_at bytes e
+  list_stays : (e : ListEntry) → IsListed bytes e → e.start + size_of e ≤ end → list_at bytes' e ≡ list_at bytes e
   list_stays e is within =
       same_front e.width e.degree (size_of e) (drop e.start bytes') (drop e.start bytes) is.some (omega arith)
       (middle_stays e.start (size_of e) (e.start + size_of e) bytes' bytes refl (front_stays (e.start + size_of e) end bytes' bytes within same))
 
-  listed_stays : (e : Entry) → IsListed bytes e → e.start + size_of e ≤ end → IsListed bytes' e
+  listed_stays : (e : ListEntry) → IsListed bytes e → e.start + size_of e ≤ end → IsListed bytes' e
   listed_stays e is within = record {
     wide = is.wide;
     width = is.width;
@@ -55,7 +55,7 @@ module _ (end : ℕ) (bytes bytes' : List ℕ) (same : take end bytes' ≡ take 
     ascends = subst (AscendsFrom 0) (sym (list_stays e is within)) is.ascends;
   }
 
-  pub lists_stay : (place : ℕ) (es : List Entry) → AreListed place bytes es → end_of place es ≤ end → AreListed place bytes' es × (lists_in bytes' es ≡ lists_in bytes es)
+  pub lists_stay : (place : ℕ) (es : List ListEntry) → AreListed place bytes es → end_of place es ≤ end → AreListed place bytes' es × (lists_in bytes' es ≡ lists_in bytes es)
   lists_stay place [] ok le = (tt, refl)
   lists_stay place (e ∷ es) ok le =
       let within : e.start + size_of e ≤ end = omega (arith, ok.0, end_from (place + size_of e) es) in
@@ -72,7 +72,7 @@ written_back n old new same all =
     ap (λ ds. take n (new ++ ds)) none ∙ take_at new [] n (omega arith)
 
 -- a list that was written behind others
-module _ (es : List Entry) (bytes bytes' : List ℕ) (e : Entry) (xs : List ℕ) (listed : AreListed 0 bytes es) (ends : end_of 0 es + 3 ≡ length bytes) where
+module _ (es : List ListEntry) (bytes bytes' : List ℕ) (e : ListEntry) (xs : List ℕ) (listed : AreListed 0 bytes es) (ends : end_of 0 es + 3 ≡ length bytes) where
   pub stored : e.start ≡ end_of 0 es → e.degree ≡ length xs → (0 < e.width) × (e.width ≤ 4) → 0 < length xs → length xs ≤ 256 → AscendsFrom 0 xs → length bytes' ≡ length bytes + size_of e → take (end_of 0 es) bytes' ≡ take (end_of 0 es) bytes → elements_in e.width (length xs) (drop (end_of 0 es) bytes') ≡ xs → AreListed 0 bytes' (es ++ e ∷ []) × (end_of 0 (es ++ e ∷ []) + 3 ≡ length bytes') × (lists_in bytes' (es ++ e ∷ []) ≡ lists_in bytes es ++ (e.vertex, xs) ∷ [])
   stored start degree width some few ascends long front list =
       let at : list_at bytes' e ≡ xs = ap (λ n. elements_in e.width n (drop e.start bytes')) degree ∙ ap (λ k. elements_in e.width (length xs) (drop k bytes')) start ∙ list in

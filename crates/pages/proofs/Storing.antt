@@ -1,7 +1,7 @@
 -- Entries and their lists, as they lie in bytes.
 use Rattle.std.proofs.Common.{◌≡◌, ℕ, zero, suc, ◌+◌, ◌-◌, ◌*◌, ◌/◌, ◌^◌, ◌<◌, ◌≤◌, List, [], ◌∷◌, length, get_or, drop, refl, sym, ◌∙◌, ap, subst, arith, length-drop}
 use Rattle.std.proofs.lemmas.List.{drop-drop}
-use Rattle.pages.specs.declared.entry.Entry.{Entry}
+use Rattle.pages.specs.declared.entry.ListEntry.{ListEntry}
 use Rattle.pages.specs.Lists.{AscendsFrom}
 use Rattle.pages.specs.Vertices.{IsPacked, ArePacked, IsPage}
 use Rattle.pages.specs.inside.Numbers.{number_at}
@@ -18,7 +18,7 @@ mask_of (suc (suc (suc zero))) some le = refl
 mask_of (suc (suc (suc (suc zero)))) some le = refl
 mask_of (suc (suc (suc (suc (suc w))))) some le = absurd (omega arith)
 
-module _ (bytes : List ℕ) (e : Entry) (is : IsListed bytes e) where
+module _ (bytes : List ℕ) (e : ListEntry) (is : IsListed bytes e) where
   -- the list of an entry, by its first element and the bytes behind it
   pub list_is : list_of (number_at 4 e.start bytes) e.width e.degree (drop (e.start + 4) bytes) ≡ list_at bytes e
   list_is = ap (list_of (number_at 4 e.start bytes) e.width e.degree) (sym (drop-drop 4 e.start bytes))
@@ -40,20 +40,20 @@ module _ (bytes : List ℕ) (e : Entry) (is : IsListed bytes e) where
   listed_packed = record { some = omega (arith, listed_length, is.some); few = omega (arith, listed_length, is.few); ascends = is.ascends }
 
 module _ (bytes : List ℕ) where
-  pub lists_length : (es : List Entry) → length (lists_in bytes es) ≡ length es
+  pub lists_length : (es : List ListEntry) → length (lists_in bytes es) ≡ length es
   lists_length [] = refl
   lists_length (e ∷ es) = omega (arith, lists_length es)
 
   -- the list of the entry at an index
-  pub listed_at : (place : ℕ) (es : List Entry) (i : ℕ) (e : Entry) → AreListed place bytes es → i < length es → e ≡ get_or es i e → IsListed bytes e × (get_or (lists_in bytes es) i (0, []) ≡ (e.vertex, list_at bytes e))
+  pub listed_at : (place : ℕ) (es : List ListEntry) (i : ℕ) (e : ListEntry) → AreListed place bytes es → i < length es → e ≡ get_or es i e → IsListed bytes e × (get_or (lists_in bytes es) i (0, []) ≡ (e.vertex, list_at bytes e))
   listed_at place [] i e ok lt is = absurd (omega arith)
   listed_at place (x ∷ es) zero e ok lt is = rw is (ok.1, refl)
   listed_at place (x ∷ es) (suc i) e ok lt is = listed_at (place + size_of x) es i e ok.2 (omega arith) is
 
-  are_packed : (place : ℕ) (es : List Entry) → AreListed place bytes es → ArePacked (lists_in bytes es)
+  are_packed : (place : ℕ) (es : List ListEntry) → AreListed place bytes es → ArePacked (lists_in bytes es)
   are_packed place [] ok = tt
   are_packed place (e ∷ es) ok = (listed_packed bytes e ok.1, are_packed (place + size_of e) es ok.2)
 
 -- what is stored is a page
-pub is_page : (bits : ℕ) (bytes : List ℕ) (es : List Entry) → IsStored bits bytes es → IsPage (lists_in bytes es)
+pub is_page : (bits : ℕ) (bytes : List ℕ) (es : List ListEntry) → IsStored bits bytes es → IsPage (lists_in bytes es)
 is_page bits bytes es ok = record { map = ok.index.map; packed = are_packed bytes 0 es ok.listed }

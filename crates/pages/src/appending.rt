@@ -5,7 +5,7 @@ ghost use Rattle.std.specs.Vec.{vec_len, vec_capacity};
 ghost use Rattle.pages.specs.Lists.{AscendsFrom};
 ghost use Rattle.pages.specs.inside.Entries.{lists_in, end_of, placed_at, AreListed, IsExtended};
 
-use crate::entry::Entry;
+use crate::entry::ListEntry;
 use crate::writing::{width_of, write};
 use std::alloc::AllocError;
 
@@ -15,7 +15,7 @@ pub(crate) const PADDING: usize = 3;
 /// Adds the list of a vertex behind the others. The only error is out of memory, and then all is as
 /// it was.
 pub(crate) fn store(
-    entries: &mut Vec<Entry>,
+    entries: &mut Vec<ListEntry>,
     bytes: &mut Vec<u8>,
     vertex: u32,
     list: &[u32],
@@ -36,7 +36,7 @@ pub(crate) fn store(
     entries.reserve(1)?;
     bytes.resize(bytes.len() + size, 0)?;
     write(bytes, start, width, list);
-    entries.push(Entry {
+    entries.push(ListEntry {
         start: start as u32,
         degree: list.len() as u16,
         width: width as u8,
@@ -47,14 +47,18 @@ pub(crate) fn store(
 
 /// Adds the entries of a run behind others that have room, for lists which are one behind the other
 /// from a place on.
-fn append(entries: &mut Vec<Entry>, run: &[Entry], mut place: usize) -> Result<(), AllocError>
+fn append(
+    entries: &mut Vec<ListEntry>,
+    run: &[ListEntry],
+    mut place: usize,
+) -> Result<(), AllocError>
     requires room { vec_len entries.old + length run.now ≤ vec_capacity entries.old }
     requires fits { end_of place run.now < 2 ^ 32 }
     ensures ok { IsOk result }
     ensures items { entries.new.items ≡ entries.old.items ++ placed_at place run.now }
 {
     for entry in run {
-        entries.push(Entry {
+        entries.push(ListEntry {
             start: place as u32,
             degree: entry.degree,
             width: entry.width,
@@ -68,9 +72,9 @@ fn append(entries: &mut Vec<Entry>, run: &[Entry], mut place: usize) -> Result<(
 /// Adds the lists of a run behind the others, whose bytes are those from `start` up to `stop`. The
 /// only error is out of memory, and then all is as it was.
 pub(crate) fn copy(
-    entries: &mut Vec<Entry>,
+    entries: &mut Vec<ListEntry>,
     bytes: &mut Vec<u8>,
-    run: &[Entry],
+    run: &[ListEntry],
     from: &[u8],
     start: usize,
     stop: usize,
@@ -95,7 +99,7 @@ pub(crate) fn copy(
 }
 
 /// Where the list of the entry at an index starts, or where the last list ends.
-pub(crate) fn start_of(entries: &[Entry], bytes: &[u8], index: usize) -> usize
+pub(crate) fn start_of(entries: &[ListEntry], bytes: &[u8], index: usize) -> usize
     requires listed { AreListed 0 bytes.now entries.now }
     requires ends { end_of 0 entries.now + 3 ≡ length bytes.now }
     requires within { index ≤ length entries.now }

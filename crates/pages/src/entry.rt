@@ -9,18 +9,18 @@ use crate::offsets::number;
 /// A vertex that is present, with the place where its list starts, the number of its neighbours and
 /// how many bytes each offset takes.
 #[derive(Clone, Copy)]
-pub(crate) struct Entry {
+pub(crate) struct ListEntry {
     pub(crate) start: u32,
     pub(crate) degree: u16,
     pub(crate) width: u8,
     pub(crate) vertex: u8,
 }
 
-const _: () = prove!(size_of::<Entry>() == 8);
+const _: () = prove!(size_of::<ListEntry>() == 8);
 
 /// The list of an entry.
 #[inline]
-pub(crate) fn list_of(bytes: &[u8], entry: Entry) -> Neighbours<'_>
+pub(crate) fn list_of(bytes: &[u8], entry: ListEntry) -> Neighbours<'_>
     requires { IsListed bytes.now entry }
     ensures { result ≡ list_at bytes.now entry }
 {

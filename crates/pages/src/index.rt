@@ -5,7 +5,7 @@ ghost use Rattle.pages.specs.Vertices.{Rises};
 ghost use Rattle.pages.specs.inside.Entries.{lists_in};
 ghost use Rattle.pages.specs.inside.Index.{IsIndex};
 
-use crate::entry::Entry;
+use crate::entry::ListEntry;
 
 /// How many vertices below one are present, or `None` where the vertex is not.
 #[inline]
@@ -35,7 +35,7 @@ pub(crate) fn rank_below(present: u64, vertex: u32) -> usize
 }
 
 /// Bits with those of the vertices of a run.
-pub(crate) fn with_marks(present: u64, run: &[Entry]) -> u64
+pub(crate) fn with_marks(present: u64, run: &[ListEntry]) -> u64
     ensures { (es : List (ℕ × List ℕ)) (bytes : List ℕ) → IsIndex present es
         → Rises 0 64 (es ++ lists_in bytes run.now) → IsIndex result (es ++ lists_in bytes run.now) }
 {

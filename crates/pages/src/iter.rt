@@ -4,14 +4,14 @@ ghost use Rattle.std.specs.Prelude.{◌≡◌};
 ghost use Rattle.std.specs.Iterator.{YieldsFirst, item_count};
 ghost use Rattle.pages.specs.inside.Entries.{lists_in, AreFrom};
 
-use crate::entry::{Entry, list_of};
+use crate::entry::{ListEntry, list_of};
 use crate::neighbours::Neighbours;
 use std::marker::Model;
 
 /// The vertices of a page that are still to come, ascending, each with its neighbours.
 #[derive(Drop)]
 pub struct PageIter<'a> {
-    entries: &'a [Entry],
+    entries: &'a [ListEntry],
     bytes: &'a [u8],
 }
 
@@ -29,7 +29,7 @@ impl<'a> Model for PageIter<'a> {
 impl<'a> PageIter<'a> {
     /// The vertices of entries with their lists.
     #[inline]
-    pub(crate) fn new(entries: &'a [Entry], bytes: &'a [u8]) -> PageIter<'a>
+    pub(crate) fn new(entries: &'a [ListEntry], bytes: &'a [u8]) -> PageIter<'a>
         requires { AreFrom bytes.now entries.now }
         ensures { result ≡ lists_in bytes.now entries.now }
     {

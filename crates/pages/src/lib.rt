@@ -24,7 +24,7 @@
 //! bytes, of which a mask cuts out its own. So reading has no branch, the neighbour at an index takes
 //! constant time, a look-up is a binary search, and a walk downward costs what one upward does.
 //!
-//! It is made for the store's graphs, whose trees have pages as values. The widths are those of a frame
+//! It is made for graphs whose trees have pages as values; none stands on it yet. The widths are those of a frame
 //! of reference (Goldstein, Ramakrishnan, Shaft, ICDE 1998), and the ranks are Jacobson's (Space-efficient
 //! Static Trees and Graphs, FOCS 1989).
 #![tactic(auto)]

@@ -5,7 +5,7 @@ ghost use Rattle.pages.specs.Lists.{AscendsFrom};
 ghost use Rattle.pages.specs.Vertices.{Rises, neighbours_of, count_below, IsPage};
 
 use crate::appending::{PADDING, copy, start_of, store};
-use crate::entry::{Entry, list_of};
+use crate::entry::{ListEntry, list_of};
 use crate::index::{rank, rank_below, with_marks};
 use crate::iter::PageIter;
 use crate::neighbours::Neighbours;
@@ -20,7 +20,7 @@ pub const MAX_PACKED: usize = 256;
 pub struct Page {
     /// A bit for each vertex that is present.
     present: u64,
-    entries: Vec<Entry>,
+    entries: Vec<ListEntry>,
     /// The lists, and three bytes of padding.
     bytes: Vec<u8>,
 }

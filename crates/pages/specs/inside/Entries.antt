@@ -1,25 +1,25 @@
 -- Entries of vertices, and the bytes of their lists one behind the other.
 use Rattle.std.specs.Prelude.{◌≡◌, ℕ, ◌+◌, ◌-◌, ◌*◌, ◌<◌, ◌≤◌, Result, Ok, Err, List, [], ◌∷◌, ◌++◌, length, drop}
-use Rattle.pages.specs.declared.entry.Entry.{Entry}
+use Rattle.pages.specs.declared.entry.ListEntry.{ListEntry}
 use Rattle.pages.specs.Lists.{AscendsFrom}
 use Rattle.pages.specs.inside.Packed.{elements_in}
 use Rattle.pages.specs.inside.Index.{IsIndex}
 
 -- how many bytes the list of an entry takes
-abbrev pub size_of : Entry → ℕ
+abbrev pub size_of : ListEntry → ℕ
 size_of e = 4 + e.width * (e.degree - 1)
 
 -- the list of an entry
-abbrev pub list_at : List ℕ → Entry → List ℕ
+abbrev pub list_at : List ℕ → ListEntry → List ℕ
 list_at bytes e = elements_in e.width e.degree (drop e.start bytes)
 
 -- the vertices of entries, each with its list
-abbrev pub lists_in : List ℕ → List Entry → List (ℕ × List ℕ)
+abbrev pub lists_in : List ℕ → List ListEntry → List (ℕ × List ℕ)
 lists_in bytes [] = []
 lists_in bytes (e ∷ es) = (e.vertex, list_at bytes e) ∷ lists_in bytes es
 
 -- The bytes of an entry are an ascending list of 1 to 256 elements, and three bytes or more are behind them.
-pub record IsListed (bytes : List ℕ) (e : Entry) : Type 0 where
+pub record IsListed (bytes : List ℕ) (e : ListEntry) : Type 0 where
   pub wide : 0 < e.width
   pub width : e.width ≤ 4
   pub some : 0 < e.degree
@@ -28,31 +28,31 @@ pub record IsListed (bytes : List ℕ) (e : Entry) : Type 0 where
   pub ascends : AscendsFrom 0 (list_at bytes e)
 
 -- where the lists of entries end that begin at a place
-abbrev pub end_of : ℕ → List Entry → ℕ
+abbrev pub end_of : ℕ → List ListEntry → ℕ
 end_of place [] = place
 end_of place (e ∷ es) = end_of (place + size_of e) es
 
 -- the lists of entries are one behind the other from a place on
-abbrev pub AreListed : ℕ → List ℕ → List Entry → Type 0
+abbrev pub AreListed : ℕ → List ℕ → List ListEntry → Type 0
 AreListed place bytes [] = Unit {0}
 AreListed place bytes (e ∷ es) = (e.start ≡ place) × IsListed bytes e × AreListed (place + size_of e) bytes es
 
 -- The bits, the bytes and the entries of a page: the lists are the bytes, up to three of padding.
-pub record IsStored (bits : ℕ) (bytes : List ℕ) (es : List Entry) : Type 0 where
+pub record IsStored (bits : ℕ) (bytes : List ℕ) (es : List ListEntry) : Type 0 where
   pub listed : AreListed 0 bytes es
   pub ends : end_of 0 es + 3 ≡ length bytes
   pub index : IsIndex bits (lists_in bytes es)
 
 -- The lists of more vertices came behind the others, or all stayed as it was.
-abbrev pub IsExtended : {T E : Type 0} → List Entry → List ℕ → List (ℕ × List ℕ) → Result T E → List Entry → List ℕ → Type 0
+abbrev pub IsExtended : {T E : Type 0} → List ListEntry → List ℕ → List (ℕ × List ℕ) → Result T E → List ListEntry → List ℕ → Type 0
 IsExtended es bytes more (Ok t) es' bytes' = AreListed 0 bytes' es' × (end_of 0 es' + 3 ≡ length bytes') × (lists_in bytes' es' ≡ lists_in bytes es ++ more)
 IsExtended es bytes more (Err e) es' bytes' = (es' ≡ es) × (bytes' ≡ bytes)
 
 -- entries whose lists are one behind the other from another place on
-abbrev pub placed_at : ℕ → List Entry → List Entry
+abbrev pub placed_at : ℕ → List ListEntry → List ListEntry
 placed_at place [] = []
 placed_at place (e ∷ es) = record { start = place; degree = e.degree; width = e.width; vertex = e.vertex } ∷ placed_at (place + size_of e) es
 
 -- the lists of entries are one behind the other from some place on
-abbrev pub AreFrom : List ℕ → List Entry → Type 0
+abbrev pub AreFrom : List ℕ → List ListEntry → Type 0
 AreFrom bytes es = (place : ℕ) × AreListed place bytes es

@@ -1,5 +1,5 @@
 use Rattle.std.proofs.Common.{◌≡◌, ◌-◌, ◌*◌, get_or, drop, refl, arith}
-use Rattle.pages.specs.declared.entry.Entry.{Entry}
+use Rattle.pages.specs.declared.entry.ListEntry.{ListEntry}
 use Rattle.pages.proofs.Extending.{end_from}
 use Rattle.pages.proofs.Copying.{next_fits}
 use Rattle.pages.proofs.appending.append.Goals as goal
@@ -12,6 +12,6 @@ overflow_cast-place c =
 pub overflow_add-place-in-loop-entry : goal.overflow_add-place-in-loop-entry
 overflow_add-place-in-loop-entry c =
     let l = c.loop-entry in
-    let e : Entry = get_or c.args.run.now l.entry-index (record { start = 0; degree = 0; width = 0; vertex = 0 }) in
+    let e : ListEntry = get_or c.args.run.now l.entry-index (record { start = 0; degree = 0; width = 0; vertex = 0 }) in
     let size : c.from.result * c.from-in-loop-entry.result ≡ e.width * (e.degree - 1) = rw (c.from.ensures, c.from-in-loop-entry.ensures, c.saturating_sub.ensures) refl in
     omega (arith, size, next_fits l.place l.entry-index c.args.run.now (record { start = 0; degree = 0; width = 0; vertex = 0 }) (omega arith), l.invariant.ends, c.requires.fits)

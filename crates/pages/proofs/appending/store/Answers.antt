@@ -1,5 +1,5 @@
 use Rattle.std.proofs.Common.{◌≡◌, ℕ, ◌+◌, ◌-◌, ◌*◌, [], ◌∷◌, ◌++◌, replicate, length, take, drop, refl, sym, ◌∙◌, ap, arith, vec_len}
-use Rattle.pages.specs.declared.entry.Entry.{Entry}
+use Rattle.pages.specs.declared.entry.ListEntry.{ListEntry}
 use Rattle.pages.specs.inside.Packed.{elements_in}
 use Rattle.pages.specs.inside.Entries.{size_of, end_of}
 use Rattle.pages.proofs.Ascent.{rises}
@@ -21,7 +21,7 @@ returns c =
     let long = c.resize.new.self.items in
     let w : ℕ = c.width_of-width.result in
     let n : ℕ = c.len.result + (4 + w * (length xs - 1)) in
-    let e : Entry = record { start = c.len-start.result - 3; degree = length xs; width = w; vertex = c.args.vertex } in
+    let e : ListEntry = record { start = c.len-start.result - 3; degree = length xs; width = w; vertex = c.args.vertex } in
     let start : c.len-start.result - 3 ≡ end_of 0 es = omega (arith, c.len-start.ensures, c.requires.ends) in
     let filled : long ≡ take n old ++ replicate (n - vec_len c.args.bytes.now) 0 = c.in_ok-resize.ensures.items in
     let count : length long ≡ length old + size_of e = omega (arith, c.in_ok-resize.ensures.len, c.len.ensures) in

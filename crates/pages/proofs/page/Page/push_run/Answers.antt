@@ -1,6 +1,6 @@
 use Rattle.std.proofs.Common.{◌≡◌, ℕ, ◌-◌, List, ◌++◌, length, take, drop, slice_range, refl, ◌∙◌, ap, arith, length-append, length-drop}
 use Rattle.std.proofs.lemmas.List.{length-take}
-use Rattle.pages.specs.declared.entry.Entry.{Entry}
+use Rattle.pages.specs.declared.entry.ListEntry.{ListEntry}
 use Rattle.pages.specs.Vertices.{Rises}
 use Rattle.pages.specs.inside.Entries.{lists_in, end_of}
 use Rattle.pages.proofs.Order.{rises_room}
@@ -66,7 +66,7 @@ pub invariant_of-self-2 : goal.invariant_of-self-2
 invariant_of-self-2 c =
     let p = c.self.inside in
     let bytes = c.as_slice-bytes.result.now in
-    let run : List Entry = take (c.args.to - c.args.from) (drop c.args.from c.as_slice-lists.result.now) in
+    let run : List ListEntry = take (c.args.to - c.args.from) (drop c.args.from c.as_slice-lists.result.now) in
     let old : List (ℕ × List ℕ) = lists_in p.bytes.items p.entries.items in
     let rises : Rises 0 64 (old ++ lists_in bytes run) = rw (c.self.view_is, run_is c) c.requires.map in
     record {
