@@ -9,8 +9,11 @@ use Rattle.vertex_sets.proofs.Ascending.{contains_first, contains_later, first_o
 use Rattle.vertex_sets.specs.VertexSet.{Adds, VertexSubset}
 use Rattle.edge_fold.proofs.Findings.{member_is}
 
-contained : (v : ℕ) (xs : List ℕ) → is_member v xs ≡ true → Contains xs v
+pub contained : (v : ℕ) (xs : List ℕ) → is_member v xs ≡ true → Contains xs v
 contained v xs e = let any = Any-from_list_any (λ m. m == v) xs e in subst (λ (y : ℕ). Contains xs y) ((Decides-eqb any.1 v).0 any.4) (any.0, any.2, any.3)
+
+pub counted : (v : ℕ) (xs : List ℕ) → Contains xs v → is_member v xs ≡ true
+counted v xs has = list_any_at (λ m. m == v) xs has.0 v has.1 ((Decides-eqb (get_or xs has.0 v) v).1 has.2)
 
 -- a list with a number in front
 first_counts : (u v : ℕ) (xs : List ℕ) → (v ≡ u) ⊎ Contains xs v → Contains (u ∷ xs) v

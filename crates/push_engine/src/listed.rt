@@ -1,6 +1,6 @@
 //! The sources of an apply, listed.
-ghost use Rattle.std.specs.Prelude.{◌≡◌, ℕ, ◌<◌, Bool, true, false, List, length, map, IfOk};
-ghost use Rattle.kernels.specs.EdgeApply.{is_member};
+ghost use Rattle.std.specs.Prelude.{◌≡◌, ℕ, Bool, Some, false, List, length, map, IfOk};
+ghost use Rattle.std.specs.List.{filter, range_with_len};
 ghost use Rattle.kernels.specs.State.{StateValue};
 ghost use Rattle.apply_options.specs.declared.apply_schedule.Parallelization.TheVariants.{EdgeAwareDynamicVertex};
 ghost use Rattle.kernels.specs.Cells.{HasSizes};
@@ -8,10 +8,13 @@ ghost use Rattle.crew.specs.Outcome.{AreWorkers};
 ghost use Rattle.edge_fold.specs.Ends.{IsEndTest, IsTest};
 ghost use Rattle.crew.specs.Boundaries.{boundaries};
 ghost use Rattle.crew.specs.Partition.{AreEnds};
+ghost use Rattle.flat_snapshot.specs.Digraph.{IsDigraph};
 ghost use Rattle.flat_snapshot.specs.Neighbours.{destinations_of};
-ghost use Rattle.push_engine.specs.Sources.{AreSources, AscendsFrom};
+ghost use Rattle.vertex_sets.specs.VertexSet.{IsVertexSet};
+ghost use Rattle.push_engine.specs.Sources.{AreSources, AscendsFrom, IsEndOf, cut_list};
 
 use crate::edge_apply::Apply;
+use crate::passing::number_between;
 use apply_options::{Direction, Parallelization};
 use crew::Partition;
 use edge_fold::{ApplyContext, Scratch};
@@ -27,8 +30,8 @@ pub(crate) struct Listed {
     pub(crate) tested: bool,
 }
 
-/// The sources of an apply. By the direction `DensePush` all vertices with edges are listed, and tested in their pieces.
-/// The only error is out of memory.
+/// The list of an apply that is cut into pieces: the vertices that its end lets through, and by the direction `DensePush`
+/// all vertices, which are tested in their pieces. The only error is out of memory.
 pub(crate) fn list_sources(
     alloc: Global,
     apply: &Apply<'_>,
@@ -36,12 +39,14 @@ pub(crate) fn list_sources(
     context: ApplyContext<'_>,
     scratch: &mut Scratch,
 ) -> Result<Listed, AllocError>
-    ensures { IfOk result (λ l. (m : StateValue) (from : ℕ → Bool) → context.entry.vectors.now.vectors ≡ m.vectors → HasSizes context.entry.sizes.now m → IsEndTest apply.now.from m from
+    ensures sources { IfOk result (λ l. (m : StateValue) (from : ℕ → Bool) → context.entry.vectors.now.vectors ≡ m.vectors → HasSizes context.entry.sizes.now m → IsEndTest apply.now.from m from
         → AreSources flat.now.edges from l.tested l.sources.items) }
+    ensures list { IfOk result (λ l. (m : StateValue) (from : ℕ → Bool) → context.entry.vectors.now.vectors ≡ m.vectors → HasSizes context.entry.sizes.now m → IsEndTest apply.now.from m from
+        → IsEndOf flat.now.vertices apply.now.from → l.sources.items ≡ cut_list apply.now.direction flat.now.vertices from) }
 {
     match apply.from {
         None => {
-            let sources = all_sources(alloc, flat)?;
+            let sources = all_vertices(alloc, flat)?;
             Ok(Listed {
                 sources,
                 tested: false,
@@ -63,11 +68,13 @@ fn list_from(
     context: ApplyContext<'_>,
     scratch: &mut Scratch,
 ) -> Result<Listed, AllocError>
-    ensures { IfOk result (λ l. (m : StateValue) (test : ℕ → Bool) → context.entry.vectors.now.vectors ≡ m.vectors → HasSizes context.entry.sizes.now m → IsTest from.entry m test
+    ensures sources { IfOk result (λ l. (m : StateValue) (test : ℕ → Bool) → context.entry.vectors.now.vectors ≡ m.vectors → HasSizes context.entry.sizes.now m → IsTest from.entry m test
         → AreSources flat.now.edges test l.tested l.sources.items) }
+    ensures list { IfOk result (λ l. (m : StateValue) (test : ℕ → Bool) → context.entry.vectors.now.vectors ≡ m.vectors → HasSizes context.entry.sizes.now m → IsTest from.entry m test
+        → IsEndOf flat.now.vertices (Some from.entry) → l.sources.items ≡ cut_list direction flat.now.vertices test) }
 {
     if direction == Direction::DensePush {
-        let sources = all_sources(alloc, flat)?;
+        let sources = all_vertices(alloc, flat)?;
         return Ok(Listed {
             sources,
             tested: true,
@@ -80,7 +87,7 @@ fn list_from(
     })
 }
 
-/// The sources that pass.
+/// The vertices that an end lets through.
 fn passing_sources(
     alloc: Global,
     from: EndpointFilter<'_>,
@@ -88,8 +95,10 @@ fn passing_sources(
     context: ApplyContext<'_>,
     scratch: &mut Scratch,
 ) -> Result<Vec<u32>, AllocError>
-    ensures { IfOk result (λ us. (m : StateValue) (test : ℕ → Bool) → context.entry.vectors.now.vectors ≡ m.vectors → HasSizes context.entry.sizes.now m → IsTest from.entry m test
+    ensures sources { IfOk result (λ us. (m : StateValue) (test : ℕ → Bool) → context.entry.vectors.now.vectors ≡ m.vectors → HasSizes context.entry.sizes.now m → IsTest from.entry m test
         → AreSources flat.now.edges test false us.items) }
+    ensures list { IfOk result (λ us. (m : StateValue) (test : ℕ → Bool) → context.entry.vectors.now.vectors ≡ m.vectors → HasSizes context.entry.sizes.now m → IsTest from.entry m test
+        → IsEndOf flat.now.vertices (Some from.entry) → us.items ≡ filter test (range_with_len 0 flat.now.vertices)) }
 {
     match from {
         EndpointFilter::Members(set) => {
@@ -97,7 +106,7 @@ fn passing_sources(
             Ok(members)
         }
         EndpointFilter::Filter(_) => {
-            let all = all_sources(alloc, flat)?;
+            let all = all_vertices(alloc, flat)?;
             let mut kept = Vec::new(alloc);
             scratch.keep_passing(context, from, &all, &mut kept)?;
             Ok(kept)
@@ -105,15 +114,13 @@ fn passing_sources(
     }
 }
 
-/// All vertices with edges from them.
-fn all_sources(alloc: Global, flat: &Flat) -> Result<Vec<u32>, AllocError>
-    ensures ascending { IfOk result (λ us. AscendsFrom 0 us.items) }
-    ensures all { IfOk result (λ us. (u : ℕ) → 0 < length (destinations_of u flat.now.edges) → is_member u us.items ≡ true) }
+/// All vertices of a graph. The only error is out of memory.
+pub fn all_vertices(alloc: Global, flat: &Flat) -> Result<Vec<u32>, AllocError>
+    ensures list { IfOk result (λ us. us.items ≡ range_with_len 0 flat.now.vertices) }
+    ensures graph { IsDigraph flat.now }
 {
     let mut found = Vec::new(alloc);
-    'sources: for (source, _) in flat.sources() {
-        found.push(source)?;
-    }
+    number_between(0, flat.vertices(), &mut found)?;
     Ok(found)
 }
 
@@ -121,6 +128,7 @@ fn all_sources(alloc: Global, flat: &Flat) -> Result<Vec<u32>, AllocError>
 pub fn members_of(alloc: Global, set: &VertexSet) -> Result<Vec<u32>, AllocError>
     ensures ascending { IfOk result (λ us. AscendsFrom 0 us.items) }
     ensures members { IfOk result (λ us. us.items ≡ set.now.members) }
+    ensures valid { IsVertexSet set.now }
 {
     let mut found = Vec::new(alloc);
     'members: for member in set.iter() {

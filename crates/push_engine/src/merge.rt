@@ -23,7 +23,7 @@ use std::alloc::{AllocError, Global};
 use vectors::Changes;
 
 impl PushWork<'_> {
-    /// How many pieces there are: none where there is no source.
+    /// How many pieces there are: none where the list that is cut is empty.
     pub fn pieces(&self) -> usize
         ensures { result ≡ length self.now.cuts }
     {

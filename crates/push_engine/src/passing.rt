@@ -39,7 +39,7 @@ pub fn passing_set(
 }
 
 /// The numbers from one on up to another, in place of what the part has.
-fn number_between(first: u32, stop: u32, part: &mut Vec<u32>) -> Result<(), AllocError>
+pub(crate) fn number_between(first: u32, stop: u32, part: &mut Vec<u32>) -> Result<(), AllocError>
     requires { first ≤ stop }
     ensures { OnOk result (part.new.items ≡ range_with_len first (stop - first)) }
 {

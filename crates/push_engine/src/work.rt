@@ -10,7 +10,7 @@ ghost use Rattle.crew.specs.Partition.{AreEnds};
 ghost use Rattle.flat_snapshot.specs.Neighbours.{destinations_of};
 ghost use Rattle.std.proofs.Props.{props};
 ghost use Rattle.push_engine.specs.Propositions.{AreEnds-prop, AscendsFrom-prop};
-ghost use Rattle.push_engine.specs.Sources.{AreSources};
+ghost use Rattle.push_engine.specs.Sources.{AreSources, IsEndOf, cut_list};
 
 use crate::edge_apply::Apply;
 use crate::listed::{cut_sources, list_sources};
@@ -50,10 +50,10 @@ impl Drop for PushWork<'_> {
 }
 
 impl<'a> PushWork<'a> {
-    /// The pieces of an apply for so many workers, 1 to 64. The sources are listed, and where the schedule cuts by
-    /// edges, their degrees are read: it takes time in proportion to the sources, and where a filter or the direction
-    /// `DensePush` asks for it, to the vertices with edges. `sizes` are the sizes of the vertex sets by their places.
-    /// The scratch serves any apply after this one.
+    /// The pieces of an apply for so many workers, 1 to 64. What is cut is the list of the vertices that its end lets
+    /// through, and by the direction `DensePush` that of all vertices. Where the schedule cuts by edges, their degrees are
+    /// read. It takes time in proportion to the list, and where a filter is to be run, to the vertices. `sizes` are the
+    /// sizes of the vertex sets by their places. The scratch serves any apply after this one.
     ///
     /// Errors: `BadWorkers` where the number of workers is not 1 to 64, else `NoMemory`.
     pub fn new(
@@ -72,6 +72,8 @@ impl<'a> PushWork<'a> {
         ensures flat { IfOk result (λ w. w.flat.now ≡ flat.now) }
         ensures vectors { IfOk result (λ w. w.vectors.now ≡ vectors.now) }
         ensures sizes { IfOk result (λ w. w.sizes.now ≡ sizes.now) }
+        ensures list { IfOk result (λ w. (m : StateValue) (from : ℕ → Bool) → vectors.now.vectors ≡ m.vectors → HasSizes sizes.now m → IsEndTest apply.now.from m from
+            → IsEndOf flat.now.vertices apply.now.from → w.sources.items ≡ cut_list apply.now.direction flat.now.vertices from) }
         ensures cuts { IfOk result (λ w. w.cuts ≡ boundaries apply.now.parallelization workers (vec_len w.sources) (map (λ u. length (destinations_of u flat.now.edges)) w.sources.items)) }
     {
         if !is_crew(workers) {

@@ -1,16 +1,34 @@
-use Rattle.std.proofs.Common.{◌++◌, ℕ, List, ap, ◌∙◌, sym, subst}
-use Rattle.std.specs.List.{filter}
+use Rattle.std.proofs.Common.{◌≡◌, ◌++◌, ℕ, List, ap, ◌∙◌, sym, subst, Some}
+use Rattle.std.specs.List.{filter, range_with_len}
 use Rattle.kernels.specs.EdgeApply.{is_member}
-use Rattle.push_engine.specs.Sources.{AscendsFrom}
-use Rattle.push_engine.proofs.SourceLists.{filter_ascends, filtered_sources}
+use Rattle.kernels.specs.declared.endpoint_filter.EndpointFilter.{EndpointFilter}
+use Rattle.edge_fold.specs.Ends.{IsTest}
+use Rattle.vertex_sets.specs.VertexSet.{IsAscendingBelow}
+use Rattle.push_engine.specs.Sources.{AscendsFrom, IsEndOf}
+use Rattle.push_engine.proofs.SourceLists.{ascends, filter_ascends, filtered_sources, members_listed}
+use Rattle.vertex_sets.proofs.Ascending.{rises_range}
 use Rattle.push_engine.proofs.listed.passing_sources.Goals as goal
 
-pub returns-in_ok-keep_passing-in-Filter : goal.returns-in_ok-keep_passing-in-Filter
-returns-in_ok-keep_passing-in-Filter c m test vectors sizes is =
-    let all = c.in_ok-all-in-Filter.all.items in
+pub returns-in_ok-keep_passing-in-Filter-clause-sources : goal.returns-in_ok-keep_passing-in-Filter-clause-sources
+returns-in_ok-keep_passing-in-Filter-clause-sources c m test vectors sizes is =
+    let g = c.args.flat.now in
     let found = c.in_ok-all-in-Filter.ensures in
-    let kept = c.in_ok-keep_passing-in-Filter.ensures.kept m test vectors sizes is ∙ ap (λ (ks : List ℕ). ks ++ filter test c.deref.result.now) c.new-kept.ensures.items ∙ ap (filter test) c.deref.ensures.value in
+    let kept = c.in_ok-keep_passing-in-Filter.ensures.kept m test vectors sizes is ∙ ap (λ (ks : List ℕ). ks ++ filter test c.deref.result.now) c.new-kept.ensures.items ∙ ap (filter test) (c.deref.ensures.value ∙ found.list) in
     record {
-      ascending = subst (λ (us : List ℕ). AscendsFrom 0 us) (sym kept) (filter_ascends test all found.ascending);
-      passing = λ u l. ap (is_member u) kept ∙ filtered_sources c.args.flat.now.edges test all found.all u l;
+      ascending = subst (λ (us : List ℕ). AscendsFrom 0 us) (sym kept) (filter_ascends test (range_with_len 0 g.vertices) (ascends 0 (range_with_len 0 g.vertices) (rises_range 0 g.vertices)));
+      passing = λ u some. ap (is_member u) kept ∙ filtered_sources g test found.graph u some;
     }
+
+pub returns-in_ok-keep_passing-in-Filter-clause-list : goal.returns-in_ok-keep_passing-in-Filter-clause-list
+returns-in_ok-keep_passing-in-Filter-clause-list c m test vectors sizes is within =
+    let found = c.in_ok-all-in-Filter.ensures in
+    c.in_ok-keep_passing-in-Filter.ensures.kept m test vectors sizes is ∙ ap (λ (ks : List ℕ). ks ++ filter test c.deref.result.now) c.new-kept.ensures.items ∙ ap (filter test) (c.deref.ensures.value ∙ found.list)
+
+pub returns-in_ok-members-in-Members-clause-list : goal.returns-in_ok-members-in-Members-clause-list
+returns-in_ok-members-in-Members-clause-list c m test vectors sizes is within =
+    let n = c.args.flat.now.vertices in
+    let set = c.in-Members.set.now in
+    let test_is : (v : ℕ) → test v ≡ is_member v set.members = subst (λ (e : EndpointFilter). IsTest e m test) c.in-Members.is is in
+    let count : set.vertices ≡ n = subst (λ (e : EndpointFilter). IsEndOf n (Some e)) c.in-Members.is within in
+    c.in_ok-members-in-Members.ensures.members
+    ∙ members_listed n set.members test (subst (λ (k : ℕ). IsAscendingBelow k set.members) count c.members_of.ensures.valid) test_is
