@@ -1,5 +1,5 @@
 -- The pieces of an apply, put together.
-use Rattle.std.proofs.Common.{◌≡◌, ℕ, ◌<◌, ◌==◌, Bool, true, false, cond, List, [], ◌∷◌, ◌++◌, length, refl, sym, ap, ◌∙◌}
+use Rattle.std.proofs.Common.{◌≡◌, ℕ, ◌<◌, ◌==◌, ◌⊎◌, inl, inr, ◌&&◌, Bool, true, false, cond, List, [], ◌∷◌, ◌++◌, length, refl, sym, ap, ◌∙◌, arith}
 use Rattle.std.specs.List.{filter, flat_map, range_with_len}
 use Rattle.std.specs.List.Sorted.{IsPermutation}
 use Rattle.kernels.specs.StepTree.{StepsTree}
@@ -19,13 +19,17 @@ use Rattle.edge_fold.proofs.Walks.{folded_along}
 use Rattle.crew.specs.Partition.{AreEnds, piece_of}
 use Rattle.crew.proofs.PieceLists.{pieces_are_the_list}
 use Rattle.flat_snapshot.specs.Digraph.{Digraph, IsDigraph}
-use Rattle.flat_snapshot.specs.Edge.{edge_eq, has_edge}
+use Rattle.flat_snapshot.specs.Edge.{edge_eq, has_edge, IsWithin}
 use Rattle.flat_snapshot.specs.Neighbours.{sources_of}
 use Rattle.push_engine.specs.Pieces.{EachGathered}
-use Rattle.push_engine.proofs.SourceLists.{rising}
+use Rattle.push_engine.proofs.SourceLists.{member_of_range}
+use Rattle.push_engine.proofs.Walked.{member_filtered, rises_filtered}
+use Rattle.vertex_sets.proofs.Ascending.{rises_range}
+use Rattle.kernels.specs.EdgeApply.{is_member}
+use Rattle.std.proofs.lemmas.List.Elements.{filter-append}
+use Rattle.std.proofs.lemmas.Bool.Decides.{Decides-eqb}
 use Rattle.pull_engine.specs.declared.work.PullWork.{PullWork}
 use Rattle.pull_engine.specs.Columns.{columns}
-use Rattle.pull_engine.specs.Destinations.{AreDestinations}
 use Rattle.pull_engine.specs.Pieces.{Answers, edges_into_piece}
 use Rattle.pull_engine.proofs.ColumnFolds.{columns-append, folded_columns}
 use Rattle.push_engine.proofs.Filtered.{has_first, has_later}
@@ -47,27 +51,46 @@ columns_agree g p q is same (u ∷ us) =
     ap (λ (ss : List ℕ). column u ss ++ columns p g.edges us) (sources_agree p q u g.edges (λ e has. same e.0 (is.within e has).0))
     ∙ ap (λ (ks : List (ℕ × ℕ)). column u (filter q (sources_of u g.edges)) ++ ks) (columns_agree g p q is same us)
 
--- the edges into the destinations of all pieces
-columns_of_all : (from : ℕ → Bool) (edges : List (ℕ × ℕ)) (part : ℕ → List ℕ) (ks : List ℕ) → flat_map (λ k. columns from edges (part k)) ks ≡ columns from edges (flat_map part ks)
-columns_of_all from edges part [] = refl
-columns_of_all from edges part (k ∷ ks) =
-    ap (λ (es : List (ℕ × ℕ)). columns from edges (part k) ++ es) (columns_of_all from edges part ks) ∙ sym (columns-append from edges (part k) (flat_map part ks))
+-- a vertex to which an edge goes is one of the graph
+found_first : (v : ℕ) (e : ℕ × ℕ) (es : List (ℕ × ℕ)) (same : Bool) → e.1 == v ≡ same → 0 < length (cond same (e.0 ∷ sources_of v es) (sources_of v es)) → ((e.1 ≡ v) ⊎ (0 < length (sources_of v es)))
+found_first v e es true is some = inl ((Decides-eqb e.1 v).0 is)
+found_first v e es false is some = inr some
 
-pub merged : (f : ApplyContext) (m : StateValue) (steps : List StepsTree) (edges : List (ℕ × ℕ)) (from to : ℕ → Bool) (ends us ks : List ℕ) (s : Scratch) → AreEnds 0 (length us) ends → AreDestinations edges to us
+destination_within : (n v : ℕ) (es : List (ℕ × ℕ)) → ((e : ℕ × ℕ) → has_edge es e ≡ true → IsWithin n e) → 0 < length (sources_of v es) → v < n
+destination_within n v [] within some = absurd (omega (arith, some))
+destination_within n v (e ∷ es) within some = elim (found_first v e es (e.1 == v) refl some) [
+  | inl at ↦ let here = (within e (has_first e es)).1 in omega (arith, at, here)
+  | inr later ↦ destination_within n v es (λ f has. within f (has_later (edge_eq e f) (has_edge es f) has)) later
+]
+
+filtered_destinations : (g : Digraph) (to : ℕ → Bool) → IsDigraph g → (v : ℕ) → 0 < length (sources_of v g.edges) → is_member v (filter to (range_with_len 0 g.vertices)) ≡ to v
+filtered_destinations g to is v some =
+    let within : v < g.vertices = destination_within g.vertices v g.edges is.within some in
+    member_filtered to v (range_with_len 0 g.vertices) ∙ ap (λ (b : Bool). b && to v) (member_of_range v g.vertices within)
+
+-- the edges into the vertices of all pieces
+columns_of_all : (from to : ℕ → Bool) (edges : List (ℕ × ℕ)) (part : ℕ → List ℕ) (ks : List ℕ) → flat_map (λ k. columns from edges (filter to (part k))) ks ≡ columns from edges (filter to (flat_map part ks))
+columns_of_all from to edges part [] = refl
+columns_of_all from to edges part (k ∷ ks) =
+    ap (λ (es : List (ℕ × ℕ)). columns from edges (filter to (part k)) ++ es) (columns_of_all from to edges part ks)
+    ∙ sym (columns-append from edges (filter to (part k)) (filter to (flat_map part ks)))
+    ∙ ap (columns from edges) (sym (filter-append to (part k) (flat_map part ks)))
+
+pub merged : (f : ApplyContext) (m : StateValue) (steps : List StepsTree) (g : Digraph) (from to : ℕ → Bool) (ends us ks : List ℕ) (s : Scratch) → IsDigraph g → AreEnds 0 (length us) ends → us ≡ range_with_len 0 g.vertices
     → IsPermutation ks (range_with_len 1 (length ends))
-    → HasFolded f m steps (flat_map (λ k. columns from edges (piece_of ends us k)) ks) s → HasFolded f m steps (edges_between from to edges) s
-merged f m steps edges from to ends us ks s whole are same has =
+    → HasFolded f m steps (flat_map (λ k. columns from g.edges (filter to (piece_of ends us k))) ks) s → HasFolded f m steps (edges_between from to g.edges) s
+merged f m steps g from to ends us ks s is whole all same has =
     let part = piece_of ends us in
-    let edges_of = λ (k : ℕ). columns from edges (part k) in
-    let all = columns_of_all from edges part (range_with_len 1 (length ends)) ∙ ap (columns from edges) (pieces_are_the_list ends us whole) in
-    folded_columns f m steps from to us edges s (rising 0 us are.ascending) are.passing
-    (folded_along f m steps (flat_map edges_of (range_with_len 1 (length ends))) (columns from edges us) s all
+    let edges_of = λ (k : ℕ). columns from g.edges (filter to (part k)) in
+    let every = columns_of_all from to g.edges part (range_with_len 1 (length ends)) ∙ ap (λ (vs : List ℕ). columns from g.edges (filter to vs)) (pieces_are_the_list ends us whole ∙ all) in
+    folded_columns f m steps from to (filter to (range_with_len 0 g.vertices)) g.edges s (rises_filtered to 0 (range_with_len 0 g.vertices) (rises_range 0 g.vertices)) (filtered_destinations g to is)
+    (folded_along f m steps (flat_map edges_of (range_with_len 1 (length ends))) (columns from g.edges (filter to (range_with_len 0 g.vertices))) s every
     (folded_in_any_order f m steps edges_of ks (range_with_len 1 (length ends)) s same has))
 
 -- what the pieces answer, for one state
 pub each_gathered : (w : PullWork) (fs : List (Found Gathered)) (m : StateValue) (steps : List StepsTree) (from to : ℕ → Bool) → AreAnswers (Answers w) fs
     → w.vectors.now.vectors ≡ m.vectors → HasSizes w.sizes.now m → AreKernels w.apply.first.now w.apply.second steps → IsEndTest w.apply.from m from → IsEndTest w.apply.to m to
-    → EachGathered w.flat.now.vertices m steps (edges_into_piece w from) fs
+    → EachGathered w.flat.now.vertices m steps (edges_into_piece w from to) fs
 each_gathered w [] m steps from to answers vectors sizes kernels is_from is_to = tt
 each_gathered w (f ∷ fs) m steps from to answers vectors sizes kernels is_from is_to =
     (answers.0 m steps from to vectors sizes kernels is_from is_to, each_gathered w fs m steps from to answers.1 vectors sizes kernels is_from is_to)

@@ -1,5 +1,6 @@
 -- What the pieces of an apply answer.
 use Rattle.std.specs.Prelude.{◌≡◌, ℕ, Bool, List}
+use Rattle.std.specs.List.{filter}
 use Rattle.kernels.specs.StepTree.{StepsTree}
 use Rattle.kernels.specs.State.{StateValue}
 use Rattle.kernels.specs.Cells.{HasSizes}
@@ -11,12 +12,12 @@ use Rattle.crew.specs.Partition.{piece_of}
 use Rattle.pull_engine.specs.declared.work.PullWork.{PullWork}
 use Rattle.pull_engine.specs.Columns.{columns}
 
--- the edges of an apply into the destinations of a piece, where this test is that of its sources
-abbrev pub edges_into_piece : PullWork → (from : ℕ → Bool) → (piece : ℕ) → List (ℕ × ℕ)
-edges_into_piece w from k = columns from w.flat.now.edges (piece_of w.cuts w.destinations.items k)
+-- the edges of an apply into the vertices of a piece, where these tests are those of its ends
+abbrev pub edges_into_piece : PullWork → (from to : ℕ → Bool) → (piece : ℕ) → List (ℕ × ℕ)
+edges_into_piece w from to k = columns from w.flat.now.edges (filter to (piece_of w.cuts w.vertices.items k))
 
 -- a piece answers what its edges give
 abbrev pub Answers : PullWork → (piece : ℕ) → Gathered → Type 0
 Answers w k g = (m : StateValue) (steps : List StepsTree) (from to : ℕ → Bool) → w.vectors.now.vectors ≡ m.vectors → HasSizes w.sizes.now m
     → AreKernels w.apply.first.now w.apply.second steps → IsEndTest w.apply.from m from → IsEndTest w.apply.to m to
-    → AreGathered w.flat.now.vertices m steps (edges_into_piece w from k) g
+    → AreGathered w.flat.now.vertices m steps (edges_into_piece w from to k) g

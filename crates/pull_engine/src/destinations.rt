@@ -116,8 +116,36 @@ fn fold_passing(
     }
 }
 
+/// Folds the edges from the sources whose bits are set to those of some vertices that an end lets through.
+pub(crate) fn fold_part(
+    alloc: Global,
+    flat: &Flat,
+    context: ApplyContext<'_>,
+    from: Option<&[u64]>,
+    to: Option<EndpointFilter<'_>>,
+    part: &[u32],
+    scratch: &mut Scratch,
+) -> Result<(), AllocError>
+    ensures { OnOk result ((m : StateValue) (steps : List StepsTree) (test : ℕ → Bool) → IsContextOf context.entry m steps → IsEndTest to.entry m test
+        → HasFolded context.entry m steps [] scratch.old → HasFolded context.entry m steps (columns (passes_words from.entry) flat.now.edges (filter test part.now)) scratch.new) }
+{
+    let mut block = [0u32; 128];
+    match to {
+        None => {
+            fold_columns(alloc, flat, context, from, part, &mut block, scratch)?;
+            Ok(())
+        }
+        Some(end) => {
+            let mut kept = Vec::new(alloc);
+            scratch.keep_passing(context, end, part, &mut kept)?;
+            fold_columns(alloc, flat, context, from, &kept, &mut block, scratch)?;
+            Ok(())
+        }
+    }
+}
+
 /// The same to these destinations.
-pub(crate) fn fold_columns(
+fn fold_columns(
     alloc: Global,
     flat: &Flat,
     context: ApplyContext<'_>,

@@ -7,7 +7,7 @@ ghost use Rattle.edge_fold.specs.Changed.{AreApart};
 ghost use Rattle.push_engine.specs.Applied.{AreChangesOf};
 ghost use Rattle.pull_engine.specs.Pieces.{Answers};
 
-use crate::destinations::fold_columns;
+use crate::destinations::fold_part;
 use crate::listed::words_of;
 use crate::work::PullWork;
 use crew::{Found, Work};
@@ -17,7 +17,7 @@ use std::alloc::{AllocError, Global};
 use vectors::Changes;
 
 impl PullWork<'_> {
-    /// How many pieces there are: none where there is no destination.
+    /// How many pieces there are, at least one.
     pub fn pieces(&self) -> usize
         ensures { result ≡ length self.now.cuts }
     {
@@ -84,11 +84,10 @@ impl<'a> Work for PullWork<'a> {
             start: FoldStart::Unit,
         };
         let places = self.cuts.piece(piece);
-        let part = part_between(&self.destinations, places.start, places.end);
+        let part = part_between(&self.vertices, places.start, places.end);
         let words = words_of(&self.bits);
-        let mut block = [0u32; 128];
         scratch.begin();
-        fold_columns(alloc, self.flat, context, words, part, &mut block, scratch)?;
+        fold_part(alloc, self.flat, context, words, self.apply.to, part, scratch)?;
         let gathered = scratch.gathered(alloc, context, None)?;
         Ok(gathered)
     }

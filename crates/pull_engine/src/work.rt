@@ -1,5 +1,6 @@
 //! Work of an apply by pull, in pieces.
-ghost use Rattle.std.specs.Prelude.{◌≡◌, ℕ, ◌<◌, Bool, Err, length, map, vec_len, IfOk, IfSome};
+ghost use Rattle.std.specs.Prelude.{◌≡◌, ℕ, ◌<◌, Bool, Err, length, map, IfOk, IfSome};
+ghost use Rattle.std.specs.List.{range_with_len};
 ghost use Rattle.std.proofs.Props.{props};
 ghost use Rattle.kernels.specs.State.{StateValue};
 ghost use Rattle.kernels.specs.Cells.{HasSizes};
@@ -8,36 +9,35 @@ ghost use Rattle.crew.specs.Outcome.{AreWorkers};
 ghost use Rattle.edge_fold.specs.Ends.{IsEndTest};
 ghost use Rattle.crew.specs.Boundaries.{boundaries};
 ghost use Rattle.crew.specs.Partition.{AreEnds};
-ghost use Rattle.push_engine.specs.Propositions.{AreEnds-prop, AscendsFrom-prop};
+ghost use Rattle.push_engine.specs.Propositions.{AreEnds-prop};
 ghost use Rattle.flat_snapshot.specs.Neighbours.{sources_of};
 ghost use Rattle.vertex_sets.specs.declared.form.Form.TheVariants as Form;
-ghost use Rattle.pull_engine.specs.Destinations.{AreDestinations, passes_set};
+ghost use Rattle.pull_engine.specs.Destinations.{passes_set};
 
-use crate::listed::{cut_destinations, list_destinations, source_bits};
+use crate::listed::{cut_vertices, source_bits};
 use crew::{CrewError, Partition, is_crew};
 use edge_fold::{ApplyContext, FoldStart, Scratch};
 use flat_snapshot::Flat;
-use push_engine::Apply;
+use push_engine::{Apply, all_vertices};
 use std::alloc::Global;
 use vectors::Vectors;
 use vertex_sets::VertexSet;
 
-/// An apply in pieces, which workers may do side by side: the destinations are cut as its schedule says, and a piece
-/// answers what the edges into its destinations give. [`PullWork::merge`] makes the changes of the whole apply of it.
+/// An apply in pieces, which workers may do side by side: all vertices are cut as its schedule says, and a piece answers
+/// what the edges into those of its vertices give that pass. [`PullWork::merge`] makes the changes of the whole apply of it.
 pub struct PullWork<'a> {
     pub(crate) apply: Apply<'a>,
     pub(crate) flat: &'a Flat,
     pub(crate) vectors: &'a Vectors,
     pub(crate) sizes: &'a [i64],
     pub(crate) bits: Option<VertexSet>,
-    pub(crate) destinations: Vec<u32>,
+    pub(crate) vertices: Vec<u32>,
     pub(crate) cuts: Partition,
-    ghost whole: { AreEnds 0 (length destinations.items) cuts } by { AreEnds-prop 0 (length destinations.items) cuts },
+    ghost whole: { AreEnds 0 (length vertices.items) cuts } by { AreEnds-prop 0 (length vertices.items) cuts },
+    ghost all: { vertices.items ≡ range_with_len 0 flat.now.vertices } by { Prim.hlevel (props) },
     ghost form: { IfSome bits (λ s. s.form ≡ Form.Bits) } by { Prim.hlevel (props) },
     ghost sources: { (m : StateValue) (from : ℕ → Bool) → vectors.now.vectors ≡ m.vectors → HasSizes sizes.now m → IsEndTest apply.from m from
         → (v : ℕ) → v < flat.now.vertices → passes_set bits v ≡ from v } by { Prim.hlevel (props) },
-    ghost passing: { (m : StateValue) (to : ℕ → Bool) → vectors.now.vectors ≡ m.vectors → HasSizes sizes.now m → IsEndTest apply.to m to
-        → AreDestinations flat.now.edges to destinations.items } by { Prim.hlevel (AscendsFrom-prop, props) },
 }
 
 impl Drop for PullWork<'_> {
@@ -48,17 +48,17 @@ impl Drop for PullWork<'_> {
             vectors: _,
             sizes: _,
             bits: _,
-            destinations: _,
+            vertices: _,
             cuts: _,
         } = self;
     }
 }
 
 impl<'a> PullWork<'a> {
-    /// The pieces of an apply for so many workers, 1 to 64. The destinations are listed, and where the schedule cuts by
-    /// edges, their degrees are read; the sources that pass are put into bits. It takes time in proportion to the
-    /// destinations and to the graph's vertices. `sizes` are the sizes of the vertex sets by their places. The scratch
-    /// serves any apply after this one.
+    /// The pieces of an apply for so many workers, 1 to 64. What is cut is the list of all vertices, which are tested in
+    /// their pieces. Where the schedule cuts by edges, their degrees are read; the sources that pass are put into bits. It
+    /// takes time in proportion to the graph's vertices. `sizes` are the sizes of the vertex sets by their places. The
+    /// scratch serves any apply after this one.
     ///
     /// Errors: `BadWorkers` where the number of workers is not 1 to 64, else `NoMemory`.
     pub fn new(
@@ -77,7 +77,7 @@ impl<'a> PullWork<'a> {
         ensures flat { IfOk result (λ w. w.flat.now ≡ flat.now) }
         ensures vectors { IfOk result (λ w. w.vectors.now ≡ vectors.now) }
         ensures sizes { IfOk result (λ w. w.sizes.now ≡ sizes.now) }
-        ensures cuts { IfOk result (λ w. w.cuts ≡ boundaries apply.now.parallelization workers (vec_len w.destinations) (map (λ v. length (sources_of v flat.now.edges)) w.destinations.items)) }
+        ensures cuts { IfOk result (λ w. w.cuts ≡ boundaries apply.now.parallelization workers flat.now.vertices (map (λ v. length (sources_of v flat.now.edges)) (range_with_len 0 flat.now.vertices))) }
     {
         if !is_crew(workers) {
             return Err(CrewError::BadWorkers);
@@ -90,16 +90,16 @@ impl<'a> PullWork<'a> {
             vertices: flat.vertices(),
             start: FoldStart::Unit,
         };
-        let destinations = list_destinations(alloc, apply.to, flat, context, scratch)?;
+        let all = all_vertices(alloc, flat)?;
         let bits = source_bits(alloc, apply.from, context, scratch)?;
-        let cuts = cut_destinations(alloc, apply.parallelization, workers, flat, &destinations)?;
+        let cuts = cut_vertices(alloc, apply.parallelization, workers, flat, &all)?;
         Ok(PullWork {
             apply: *apply,
             flat,
             vectors,
             sizes,
             bits,
-            destinations,
+            vertices: all,
             cuts,
         })
     }

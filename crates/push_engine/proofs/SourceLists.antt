@@ -53,7 +53,7 @@ source_within n u (e ∷ es) within some = elim (found_first u e es (e.0 == u) r
   | inr later ↦ source_within n u es (λ f has. within f (has_later (edge_eq e f) (has_edge es f) has)) later
 ]
 
-member_of_range : (u n : ℕ) → u < n → is_member u (range_with_len 0 n) ≡ true
+pub member_of_range : (u n : ℕ) → u < n → is_member u (range_with_len 0 n) ≡ true
 member_of_range u n lt = counted u (range_with_len 0 n) (range_has 0 n u (omega arith) (omega (arith, lt)))
 
 -- where all pass, all vertices are cut

@@ -32,7 +32,7 @@ mod work;
 pub use apply::{is_work_above, push};
 pub use crew_apply::push_crew;
 pub use edge_apply::Apply;
-pub use listed::members_of;
+pub use listed::all_vertices;
 pub use members::keep_members;
 pub use merge::{join_all, part_between};
 pub use modified::apply_modified;

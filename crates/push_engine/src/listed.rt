@@ -125,7 +125,7 @@ pub fn all_vertices(alloc: Global, flat: &Flat) -> Result<Vec<u32>, AllocError>
 }
 
 /// The members of a set, in a list. The only error is out of memory.
-pub fn members_of(alloc: Global, set: &VertexSet) -> Result<Vec<u32>, AllocError>
+fn members_of(alloc: Global, set: &VertexSet) -> Result<Vec<u32>, AllocError>
     ensures ascending { IfOk result (λ us. AscendsFrom 0 us.items) }
     ensures members { IfOk result (λ us. us.items ≡ set.now.members) }
     ensures valid { IsVertexSet set.now }

@@ -16,13 +16,13 @@ returns-clause-changes c answers order m steps from to vectors sizes kernels is_
     let w = c.args.self.now in
     let fs = c.args.found.now in
     let edges = w.flat.now.edges in
-    let edges_of = edges_into_piece w from in
+    let edges_of = edges_into_piece w from to in
     let count = c.vertices.ensures.count in
     let old = entry m.vectors x in
     let new = λ (es : List (ℕ × ℕ)). entry (after_edges steps m.sets m.vectors es m.vectors) x in
     let each = subst (λ (n : ℕ). EachGathered n m steps edges_of fs) (sym count) (each_gathered w fs m steps from to answers vectors sizes kernels is_from is_to) in
     let has = c.in_ok-join_all.ensures m steps edges_of each (c.begin.ensures _ m steps) in
-    let whole = merged _ m steps edges from to w.cuts w.destinations.items (pieces_of fs) c.join_all.new.scratch w.whole (w.passing m to vectors sizes is_to) order has in
+    let whole = merged _ m steps w.flat.now from to w.cuts w.vertices.items (pieces_of fs) c.join_all.new.scratch c.vertices.ensures.graph w.whole w.all order has in
     c.in_ok-changes.ensures.changes m steps (edges_between from to edges) (λ _. true) (record { vectors = vectors; sizes = sizes; kernels = kernels }) (λ v. refl) whole refl x r by (omega (arith, count, long))
     ∙ ap (λ (n : ℕ). changed n old (new (filter (λ e. true) (edges_between from to edges)))) count
     ∙ ap (λ (es : List (ℕ × ℕ)). changed w.flat.now.vertices old (new es)) (filter_all (λ _. true) (edges_between from to edges) (λ e. refl))
