@@ -5,6 +5,8 @@
 #![tactic(auto)]
 
 #[cfg(test)]
+mod cuts;
+#[cfg(test)]
 mod jobs;
 #[cfg(test)]
 mod kernel_shapes;

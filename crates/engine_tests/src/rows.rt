@@ -44,7 +44,7 @@ const WAYS: [Way; 10] = [
 ];
 
 // A graph of so many vertices with these edges.
-fn graph_of(alloc: Global, vertices: u32, edges: &[(u32, u32)]) -> Result<Flat, Fail> {
+pub(crate) fn graph_of(alloc: Global, vertices: u32, edges: &[(u32, u32)]) -> Result<Flat, Fail> {
     let mut batch = Batch::new(alloc);
     for (source, destination) in edges {
         batch.push(Entry::Add(*source, *destination))?;
@@ -54,7 +54,7 @@ fn graph_of(alloc: Global, vertices: u32, edges: &[(u32, u32)]) -> Result<Flat, 
 }
 
 // The kernel of an edge function with this body.
-fn kernel_of(alloc: Global, body: &str) -> Result<EdgeKernel, Fail> {
+pub(crate) fn kernel_of(alloc: Global, body: &str) -> Result<EdgeKernel, Fail> {
     let text = format!(in alloc;
         "element Vertex end element Edge end \
         const edges : edgeset{{Edge}}(Vertex, Vertex) = load(argv[1]); \
@@ -72,7 +72,7 @@ fn first_kernel(alloc: Global, program: &Typed) -> Result<EdgeKernel, Fail> {
     }
 }
 
-fn vectors_of(alloc: Global, w: &[i64], x: &[i64]) -> Result<Vectors, Fail> {
+pub(crate) fn vectors_of(alloc: Global, w: &[i64], x: &[i64]) -> Result<Vectors, Fail> {
     let mut arrays = Vec::new(alloc);
     arrays.push(Sequence::new(Vec::from_slice(alloc, w)?))?;
     arrays.push(Sequence::new(Vec::from_slice(alloc, x)?))?;
@@ -80,7 +80,7 @@ fn vectors_of(alloc: Global, w: &[i64], x: &[i64]) -> Result<Vectors, Fail> {
 }
 
 // The apply to all edges, cut as a schedule says.
-fn apply_of<'a>(kernel: &'a EdgeKernel, parallelization: Parallelization) -> Apply<'a> {
+pub(crate) fn apply_of<'a>(kernel: &'a EdgeKernel, parallelization: Parallelization) -> Apply<'a> {
     Apply {
         from: None,
         to: None,
@@ -158,7 +158,7 @@ fn pulled_in_pieces(
 }
 
 // What each piece answers, in order.
-fn pieces_of(
+pub(crate) fn pieces_of(
     alloc: Global,
     work: &PushWork<'_>,
     scratch: &mut Scratch,
@@ -173,7 +173,7 @@ fn pieces_of(
 }
 
 // The same of a pull, from the last piece to the first.
-fn pulled_pieces_of(
+pub(crate) fn pulled_pieces_of(
     alloc: Global,
     work: &PullWork<'_>,
     scratch: &mut Scratch,
@@ -188,7 +188,7 @@ fn pulled_pieces_of(
 }
 
 // The changes in x, and none in another vector.
-fn in_x(changes: &Changes) -> &[EntryChange] {
+pub(crate) fn in_x(changes: &Changes) -> &[EntryChange] {
     match changes.vectors.first() {
         Some(of_vector) if of_vector.vector == X => of_vector.changes.as_slice(),
         _ => &[],
