@@ -6,7 +6,7 @@ use edge_fold::Scratch;
 use flat_snapshot::Flat;
 use kernels::{EdgeKernel, EndpointFilter};
 use measuring::{Benchmark, Random, Turns, print_head, print_row, told};
-use push_engine::Apply;
+use edge_apply::Apply;
 use runner::push_or_pull;
 use std::alloc::{AllocError, Global};
 use std::io;

@@ -17,7 +17,7 @@ use Rattle.edge_fold.proofs.Meaning.{filtered_edges}
 use Rattle.edge_fold.proofs.Walks.{InRow}
 use Rattle.flat_snapshot.specs.Neighbours.{sources_of}
 use Rattle.vertex_sets.proofs.Ascending.{Rises}
-use Rattle.push_engine.proofs.RowFolds.{below_all}
+use Rattle.edge_apply.proofs.Listed.{below_all}
 use Rattle.pull_engine.specs.Columns.{columns}
 
 -- the edges into a vertex

@@ -21,9 +21,9 @@ use Rattle.crew.proofs.PieceLists.{pieces_are_the_list}
 use Rattle.flat_snapshot.specs.Digraph.{Digraph, IsDigraph}
 use Rattle.flat_snapshot.specs.Edge.{edge_eq, has_edge, IsWithin}
 use Rattle.flat_snapshot.specs.Neighbours.{sources_of}
-use Rattle.push_engine.specs.Pieces.{EachGathered}
-use Rattle.push_engine.proofs.SourceLists.{member_of_range}
-use Rattle.push_engine.proofs.Walked.{member_filtered, rises_filtered}
+use Rattle.edge_apply.specs.Pieces.{EachGathered}
+use Rattle.edge_apply.proofs.Listed.{member_of_range}
+use Rattle.edge_apply.proofs.Listed.{member_filtered, rises_filtered}
 use Rattle.vertex_sets.proofs.Ascending.{rises_range}
 use Rattle.kernels.specs.EdgeApply.{is_member}
 use Rattle.std.proofs.lemmas.List.Elements.{filter-append}
@@ -32,7 +32,7 @@ use Rattle.pull_engine.specs.declared.work.PullWork.{PullWork}
 use Rattle.pull_engine.specs.Columns.{columns}
 use Rattle.pull_engine.specs.Pieces.{Answers, edges_into_piece}
 use Rattle.pull_engine.proofs.ColumnFolds.{columns-append, folded_columns}
-use Rattle.push_engine.proofs.Filtered.{has_first, has_later}
+use Rattle.edge_apply.proofs.Filtered.{has_first, has_later}
 
 -- tests that agree on the sources of a graph let the same through
 agree_one : (p q : ℕ → Bool) (u : ℕ) (S : List ℕ) (b : Bool) → p u ≡ q u → filter p S ≡ filter q S → filter p (cond b (u ∷ S) S) ≡ filter q (cond b (u ∷ S) S)

@@ -16,7 +16,7 @@ use Rattle.edge_fold.proofs.Walks.{FoldsMore, HasPassed, HasWalked, folded_along
 use Rattle.flat_snapshot.specs.FlatEdges.{AreDegreesOf}
 use Rattle.flat_snapshot.specs.Neighbours.{sources_of}
 use Rattle.vertex_sets.proofs.Ascending.{Rises}
-use Rattle.push_engine.proofs.Walked.{degree_listed, degrees_rise, member_filtered, rises_filtered}
+use Rattle.edge_apply.proofs.Listed.{degree_listed, degrees_rise, member_filtered, rises_filtered}
 use Rattle.pull_engine.specs.Columns.{columns}
 use Rattle.pull_engine.proofs.ColumnFolds.{columns-append, folded_columns}
 

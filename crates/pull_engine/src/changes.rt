@@ -8,14 +8,14 @@ ghost use Rattle.edge_fold.specs.Changed.{AreApart};
 ghost use Rattle.edge_fold.specs.Ends.{IsEndTest};
 ghost use Rattle.edge_fold.specs.declared.apply_context.FoldStart.TheVariants.{OldEntry};
 ghost use Rattle.edge_fold.specs.Folded.{IsContextOf};
-ghost use Rattle.push_engine.specs.Applied.{AreChangesOf, AreChangesOn};
-ghost use Rattle.push_engine.specs.Words.{passes_words};
+ghost use Rattle.edge_apply.specs.Applied.{AreChangesOf, AreChangesOn};
+ghost use Rattle.edge_apply.specs.Words.{passes_words};
 
 use crate::destinations::fold_to;
+use edge_apply::{Apply, passing_set};
 use edge_fold::{ApplyContext, FoldStart, Scratch};
 use flat_snapshot::Flat;
 use kernels::EndpointFilter;
-use push_engine::{Apply, passing_set};
 use std::alloc::{AllocError, Global};
 use vectors::{Changes, Vectors};
 use vertex_sets::{Form, VertexSet};
@@ -23,7 +23,7 @@ use vertex_sets::{Form, VertexSet};
 /// What an apply of edge functions changes, where it goes over the destinations and their sources: for each vector that
 /// a function has given something one list of changes, by ascending vertices, and a vector without one does not change.
 /// It promises so for each vector that has an entry for each vertex and to which the functions give by one reduction,
-/// in the words of [`push_engine::push`]. `sizes` are the sizes of the vertex sets by their places. The vectors stay as
+/// in the words of a push. `sizes` are the sizes of the vertex sets by their places. The vectors stay as
 /// they are, and so does the graph. The scratch serves any apply after this one, whatever became of it.
 ///
 /// It takes time in proportion to the vertices with edges to them and to those edges, or, where the destinations are

@@ -10,12 +10,12 @@ ghost use Rattle.edge_fold.specs.Folded.{IsContextOf, HasFolded};
 ghost use Rattle.edge_fold.specs.Given.{column};
 ghost use Rattle.flat_snapshot.specs.Neighbours.{sources_of};
 ghost use Rattle.pull_engine.specs.Columns.{columns};
-ghost use Rattle.push_engine.specs.Words.{passes_words};
+ghost use Rattle.edge_apply.specs.Words.{passes_words};
 
+use edge_apply::{keep_members, take_part};
 use edge_fold::{ApplyContext, Scratch};
 use flat_snapshot::Flat;
 use kernels::EndpointFilter;
-use push_engine::{keep_members, take_part};
 use std::alloc::{AllocError, Global};
 use vertex_sets::VertexSet;
 

@@ -2,7 +2,7 @@
 //!
 //! [`pull`] goes over the destinations that pass, each with its sources in ascending order, and says what an apply of
 //! one or two edge functions to the edges between two ends changes, in the words of `algorithm_meaning`
-//! (`after_edges`): the same as [`push_engine::push`]. Nothing is written: the functions read the vectors that are lent.
+//! (`after_edges`): the same as a push. Nothing is written: the functions read the vectors that are lent.
 //!
 //! A destination is tested once, and before its sources are read. Sources are tested in bits: those of a set that is
 //! kept so, or bits that are made once for an apply. A filter is run over blocks of 128 vertices, once for each vertex.

@@ -9,14 +9,14 @@ ghost use Rattle.crew.specs.Boundaries.{boundaries};
 ghost use Rattle.crew.specs.Partition.{AreEnds};
 ghost use Rattle.flat_snapshot.specs.Neighbours.{sources_of};
 ghost use Rattle.pull_engine.specs.Destinations.{passes_set};
-ghost use Rattle.push_engine.specs.Words.{passes_words};
+ghost use Rattle.edge_apply.specs.Words.{passes_words};
 
 use apply_options::Parallelization;
 use crew::Partition;
+use edge_apply::passing_set;
 use edge_fold::{ApplyContext, Scratch};
 use flat_snapshot::Flat;
 use kernels::EndpointFilter;
-use push_engine::passing_set;
 use std::alloc::{AllocError, Global};
 use vertex_sets::{Form, VertexSet};
 

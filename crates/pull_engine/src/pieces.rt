@@ -4,15 +4,15 @@ ghost use Rattle.std.specs.List.{range_with_len};
 ghost use Rattle.std.specs.List.Sorted.{IsPermutation};
 ghost use Rattle.crew.specs.Pieces.{AreAnswers, pieces_of};
 ghost use Rattle.edge_fold.specs.Changed.{AreApart};
-ghost use Rattle.push_engine.specs.Applied.{AreChangesOf};
+ghost use Rattle.edge_apply.specs.Applied.{AreChangesOf};
 ghost use Rattle.pull_engine.specs.Pieces.{Answers};
 
 use crate::destinations::fold_part;
 use crate::listed::words_of;
 use crate::work::PullWork;
 use crew::{Found, Work};
+use edge_apply::{join_all, part_between};
 use edge_fold::{ApplyContext, FoldStart, Gathered, Scratch};
-use push_engine::{join_all, part_between};
 use std::alloc::{AllocError, Global};
 use vectors::Changes;
 
@@ -87,7 +87,15 @@ impl<'a> Work for PullWork<'a> {
         let part = part_between(&self.vertices, places.start, places.end);
         let words = words_of(&self.bits);
         scratch.begin();
-        fold_part(alloc, self.flat, context, words, self.apply.to, part, scratch)?;
+        fold_part(
+            alloc,
+            self.flat,
+            context,
+            words,
+            self.apply.to,
+            part,
+            scratch,
+        )?;
         let gathered = scratch.gathered(alloc, context, None)?;
         Ok(gathered)
     }

@@ -9,16 +9,16 @@ ghost use Rattle.crew.specs.Outcome.{AreWorkers};
 ghost use Rattle.edge_fold.specs.Ends.{IsEndTest};
 ghost use Rattle.crew.specs.Boundaries.{boundaries};
 ghost use Rattle.crew.specs.Partition.{AreEnds};
-ghost use Rattle.push_engine.specs.Propositions.{AreEnds-prop};
+ghost use Rattle.edge_apply.specs.Propositions.{AreEnds-prop};
 ghost use Rattle.flat_snapshot.specs.Neighbours.{sources_of};
 ghost use Rattle.vertex_sets.specs.declared.form.Form.TheVariants as Form;
 ghost use Rattle.pull_engine.specs.Destinations.{passes_set};
 
 use crate::listed::{cut_vertices, source_bits};
 use crew::{CrewError, Partition, is_crew};
+use edge_apply::{Apply, all_vertices};
 use edge_fold::{ApplyContext, FoldStart, Scratch};
 use flat_snapshot::Flat;
-use push_engine::{Apply, all_vertices};
 use std::alloc::Global;
 use vectors::Vectors;
 use vertex_sets::VertexSet;

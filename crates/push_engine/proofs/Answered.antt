@@ -9,7 +9,8 @@ use Rattle.edge_fold.specs.declared.gathered.Gathered.{Gathered}
 use Rattle.edge_fold.specs.Ends.{IsEndTest}
 use Rattle.edge_fold.specs.Folded.{AreKernels}
 use Rattle.push_engine.specs.declared.work.PushWork.{PushWork}
-use Rattle.push_engine.specs.Pieces.{Answers, EachGathered, edges_of_piece}
+use Rattle.edge_apply.specs.Pieces.{EachGathered}
+use Rattle.push_engine.specs.Pieces.{Answers, edges_of_piece}
 
 pub each_gathered : (w : PushWork) (fs : List (Found Gathered)) (m : StateValue) (steps : List StepsTree) (from to : ℕ → Bool) → AreAnswers (Answers w) fs
     → w.vectors.now.vectors ≡ m.vectors → HasSizes w.sizes.now m → AreKernels w.apply.first.now w.apply.second steps → IsEndTest w.apply.from m from → IsEndTest w.apply.to m to

@@ -1,9 +1,5 @@
 pub mod RowFolds
 pub mod Walked
-pub mod Bits
-pub mod Differences
-pub mod Filtered
-pub mod Inserted
 pub mod SourceLists
 pub mod Merging
 pub mod Answered

@@ -20,30 +20,13 @@ use Rattle.edge_fold.proofs.Walks.{folded_along}
 use Rattle.crew.specs.Partition.{AreEnds, piece_of}
 use Rattle.crew.proofs.PieceLists.{pieces_are_the_list}
 use Rattle.crew.specs.Pieces.{pieces_of}
-use Rattle.push_engine.specs.Pieces.{EachGathered}
+use Rattle.edge_apply.specs.Pieces.{EachGathered}
 use Rattle.push_engine.specs.Rows.{rows}
 use Rattle.push_engine.specs.Sources.{AreSources, passing_in}
 use Rattle.push_engine.proofs.RowFolds.{agree_on_rows, rows-append, rows_to_are_edges}
-use Rattle.push_engine.proofs.SourceLists.{rising}
-use Rattle.push_engine.proofs.Walked.{rises_filtered}
+use Rattle.edge_apply.proofs.Listed.{rising}
+use Rattle.edge_apply.proofs.Listed.{rises_filtered}
 use Rattle.vertex_sets.proofs.Ascending.{Rises}
-
--- what is found of one piece more
-pub gathered_at : (n : ℕ) (m : StateValue) (steps : List StepsTree) (edges_of : ℕ → List (ℕ × ℕ)) (fs : List (Found Gathered)) (i : ℕ) (f : Found Gathered)
-    → EachGathered n m steps edges_of fs → i < length fs → f ≡ get_or fs i f → AreGathered n m steps (edges_of f.piece) f.out
-gathered_at n m steps edges_of [] i f each l is = absurd (omega (arith, l))
-gathered_at n m steps edges_of (g ∷ fs) zero f each l is = subst (λ (h : Found Gathered). AreGathered n m steps (edges_of h.piece) h.out) (sym is) each.0
-gathered_at n m steps edges_of (g ∷ fs) (suc i) f each l is = gathered_at n m steps edges_of fs i f each.1 (omega (arith, l)) is
-
-pieces_of-push : (edges_of : ℕ → List (ℕ × ℕ)) (fs : List (Found Gathered)) (f : Found Gathered) → flat_map edges_of (pieces_of (fs ++ f ∷ [])) ≡ flat_map edges_of (pieces_of fs) ++ edges_of f.piece
-pieces_of-push edges_of [] f = append-nil (edges_of f.piece)
-pieces_of-push edges_of (g ∷ fs) f =
-    ap (λ es. edges_of g.piece ++ es) (pieces_of-push edges_of fs f) ∙ sym (append_assoc (edges_of g.piece) (flat_map edges_of (pieces_of fs)) (edges_of f.piece))
-
-pub next_piece : (edges_of : ℕ → List (ℕ × ℕ)) (fs : List (Found Gathered)) (i : ℕ) (f : Found Gathered) → i < length fs → f ≡ get_or fs i f
-    → flat_map edges_of (pieces_of (take i fs)) ++ edges_of f.piece ≡ flat_map edges_of (pieces_of (take (i + 1) fs))
-next_piece edges_of fs i f l is =
-    sym (ap (λ gs. flat_map edges_of (pieces_of gs)) (take_more fs i f l ∙ ap (λ (g : Found Gathered). take i fs ++ g ∷ []) (sym is)) ∙ pieces_of-push edges_of (take i fs) f)
 
 -- the edges of all pieces
 passing_in-append : (tested : Bool) (from : ℕ → Bool) (us vs : List ℕ) → passing_in tested from (us ++ vs) ≡ passing_in tested from us ++ passing_in tested from vs

@@ -12,6 +12,7 @@ use Rattle.edge_fold.proofs.Folds.{given_on-append, reduced_at-append, reduced_a
 use Rattle.flat_snapshot.specs.Neighbours.{destinations_of}
 use Rattle.vertex_sets.proofs.Ascending.{Rises}
 use Rattle.edge_fold.specs.Between.{edges_between}
+use Rattle.edge_apply.proofs.Listed.{below_all}
 use Rattle.push_engine.specs.Rows.{rows, rows_to}
 
 same : (m n : ℕ) → (m == n) ≡ true → m ≡ n
@@ -22,13 +23,6 @@ same_back m n = grind (arith, nat_tests)
 
 apart_test : (m n : ℕ) → n < m → (m == n) ≡ false
 apart_test m n l = grind (arith, nat_tests)
-
--- a number below all is no member
-pub below_all : (low u : ℕ) (us : List ℕ) → Rises low us → u < low → is_member u us ≡ false
-below_all low u [] up l = refl
-below_all low u (x ∷ xs) up l =
-    let low_le : low ≤ x = up.0 in
-    ap (λ (b : Bool). b || is_member u xs) (apart_test x u (omega (arith, l, low_le))) ∙ below_all (x + 1) u xs up.1 (omega (arith, l, low_le))
 
 -- what an edge gives comes first, where its source is one of these
 row_grows : (u : ℕ) (e : ℕ × ℕ) (es : List (ℕ × ℕ)) (b : Bool) → (e.0 == u) ≡ b → row u (cond b (e.1 ∷ destinations_of u es) (destinations_of u es)) ≡ cond b (e ∷ row u (destinations_of u es)) (row u (destinations_of u es))

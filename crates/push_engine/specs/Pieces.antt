@@ -23,8 +23,3 @@ abbrev pub Answers : PushWork → (piece : ℕ) → Gathered → Type 0
 Answers w k g = (m : StateValue) (steps : List StepsTree) (from to : ℕ → Bool) → w.vectors.now.vectors ≡ m.vectors → HasSizes w.sizes.now m
     → AreKernels w.apply.first.now w.apply.second steps → IsEndTest w.apply.from m from → IsEndTest w.apply.to m to
     → AreGathered w.flat.now.vertices m steps (edges_of_piece w from to k) g
-
--- what is found of pieces is what these edges give
-abbrev pub EachGathered : (vertices : ℕ) → StateValue → List StepsTree → (edges_of : ℕ → List (ℕ × ℕ)) → List (Found Gathered) → Type 0
-EachGathered n m steps edges_of [] = Unit {0}
-EachGathered n m steps edges_of (f ∷ fs) = AreGathered n m steps (edges_of f.piece) f.out × EachGathered n m steps edges_of fs

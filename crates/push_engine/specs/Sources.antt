@@ -1,17 +1,11 @@
 -- The sources of an apply in pieces.
-use Rattle.std.specs.Prelude.{◌≡◌, ℕ, ◌+◌, ◌<◌, ◌≤◌, length, Bool, if◌then◌else◌, Option, Some, None, List, [], ◌∷◌}
+use Rattle.std.specs.Prelude.{◌≡◌, ℕ, ◌<◌, length, Bool, if◌then◌else◌, List}
 use Rattle.std.specs.List.{filter, range_with_len}
 use Rattle.apply_options.specs.declared.apply_schedule.Direction.{Direction}
 use Rattle.apply_options.specs.declared.apply_schedule.Direction.TheVariants.{DensePush}
 use Rattle.kernels.specs.EdgeApply.{is_member}
-use Rattle.kernels.specs.declared.endpoint_filter.EndpointFilter.{EndpointFilter}
-use Rattle.kernels.specs.declared.endpoint_filter.EndpointFilter.TheVariants as end
 use Rattle.flat_snapshot.specs.Neighbours.{destinations_of}
-
--- each is above the one before it, and the first is not below this
-abbrev pub AscendsFrom : ℕ → List ℕ → Type 0
-AscendsFrom low [] = Unit {0}
-AscendsFrom low (u ∷ us) = (low ≤ u) × AscendsFrom (u + 1) us
+use Rattle.edge_apply.specs.Lists.{AscendsFrom}
 
 -- of the sources of a piece, those that pass, where the piece is to test them
 abbrev pub passing_in : (tested : Bool) → (from : ℕ → Bool) → List ℕ → List ℕ
@@ -21,12 +15,6 @@ passing_in tested from us = if tested then filter from us else us
 pub record AreSources (edges : List (ℕ × ℕ)) (from : ℕ → Bool) (tested : Bool) (us : List ℕ) : Type 0 where
   pub ascending : AscendsFrom 0 us
   pub passing : (u : ℕ) → 0 < length (destinations_of u edges) → is_member u (passing_in tested from us) ≡ from u
-
--- a set of an end is one of as many vertices
-abbrev pub IsEndOf : ℕ → Option EndpointFilter → Type 0
-IsEndOf n None = Unit {0}
-IsEndOf n (Some (end.Members set)) = set.now.vertices ≡ n
-IsEndOf n (Some (end.Filter kernel)) = Unit {0}
 
 -- the list that is cut into pieces, of a graph of n vertices: all of them for a dense push, and else those that pass
 abbrev pub cut_list : Direction → ℕ → (from : ℕ → Bool) → List ℕ

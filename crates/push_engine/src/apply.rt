@@ -9,14 +9,13 @@ ghost use Rattle.edge_fold.specs.Ends.{IsEndTest, IsTest};
 ghost use Rattle.edge_fold.specs.declared.apply_context.FoldStart.TheVariants.{OldEntry};
 ghost use Rattle.edge_fold.specs.Folded.{IsContextOf, HasFolded};
 ghost use Rattle.flat_snapshot.specs.Digraph.{IsDigraph};
-ghost use Rattle.push_engine.specs.Applied.{AreChangesOf, AreChangesOn};
-ghost use Rattle.push_engine.specs.Words.{passes_words};
+ghost use Rattle.edge_apply.specs.Applied.{AreChangesOf, AreChangesOn};
+ghost use Rattle.edge_apply.specs.Words.{passes_words};
 ghost use Rattle.push_engine.specs.Work.{work_from};
 
-use crate::edge_apply::Apply;
-use crate::passing::passing_set;
 use crate::sources::{fold_all, fold_members, fold_passing};
 use apply_options::Direction;
+use edge_apply::{Apply, passing_set};
 use edge_fold::{ApplyContext, FoldStart, Scratch};
 use flat_snapshot::Flat;
 use kernels::EndpointFilter;

@@ -3,11 +3,11 @@ ghost use Rattle.std.specs.Prelude.{◌≡◌, Err, IfOk};
 ghost use Rattle.crew.specs.declared.error.CrewError.TheVariants.{BadWorkers, NoMemory};
 ghost use Rattle.crew.specs.Outcome.{AreWorkers};
 ghost use Rattle.edge_fold.specs.Changed.{AreApart};
-ghost use Rattle.push_engine.specs.Applied.{AreChangesOf};
+ghost use Rattle.edge_apply.specs.Applied.{AreChangesOf};
 
-use crate::edge_apply::Apply;
 use crate::work::PushWork;
 use crew::{CrewError, Gate, PieceAssignment, run_pieces};
+use edge_apply::Apply;
 use edge_fold::Scratch;
 use flat_snapshot::Flat;
 use std::alloc::Global;

@@ -19,23 +19,11 @@
 
 mod apply;
 mod crew_apply;
-mod edge_apply;
 mod listed;
-mod members;
 mod merge;
-mod modified;
-mod parts;
-mod passing;
 mod sources;
 mod work;
 
 pub use apply::{is_work_above, push};
 pub use crew_apply::push_crew;
-pub use edge_apply::Apply;
-pub use listed::all_vertices;
-pub use members::keep_members;
-pub use merge::{join_all, part_between};
-pub use modified::apply_modified;
-pub use parts::take_part;
-pub use passing::passing_set;
 pub use work::PushWork;

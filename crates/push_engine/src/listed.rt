@@ -11,12 +11,12 @@ ghost use Rattle.crew.specs.Partition.{AreEnds};
 ghost use Rattle.flat_snapshot.specs.Digraph.{IsDigraph};
 ghost use Rattle.flat_snapshot.specs.Neighbours.{destinations_of};
 ghost use Rattle.vertex_sets.specs.VertexSet.{IsVertexSet};
-ghost use Rattle.push_engine.specs.Sources.{AreSources, AscendsFrom, IsEndOf, cut_list};
+ghost use Rattle.edge_apply.specs.Lists.{AscendsFrom, IsEndOf};
+ghost use Rattle.push_engine.specs.Sources.{AreSources, cut_list};
 
-use crate::edge_apply::Apply;
-use crate::passing::number_between;
 use apply_options::{Direction, Parallelization};
 use crew::Partition;
+use edge_apply::{Apply, all_vertices};
 use edge_fold::{ApplyContext, Scratch};
 use flat_snapshot::Flat;
 use kernels::EndpointFilter;
@@ -112,16 +112,6 @@ fn passing_sources(
             Ok(kept)
         }
     }
-}
-
-/// All vertices of a graph. The only error is out of memory.
-pub fn all_vertices(alloc: Global, flat: &Flat) -> Result<Vec<u32>, AllocError>
-    ensures list { IfOk result (λ us. us.items ≡ range_with_len 0 flat.now.vertices) }
-    ensures graph { IsDigraph flat.now }
-{
-    let mut found = Vec::new(alloc);
-    number_between(0, flat.vertices(), &mut found)?;
-    Ok(found)
 }
 
 /// The members of a set, in a list. The only error is out of memory.

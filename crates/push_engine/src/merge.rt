@@ -8,14 +8,16 @@ ghost use Rattle.kernels.specs.State.{StateValue};
 ghost use Rattle.edge_fold.specs.Changed.{AreApart};
 ghost use Rattle.edge_fold.specs.Ends.{IsEndTest};
 ghost use Rattle.edge_fold.specs.Folded.{IsContextOf, HasFolded};
-ghost use Rattle.push_engine.specs.Applied.{AreChangesOf};
-ghost use Rattle.push_engine.specs.Pieces.{Answers, EachGathered};
+ghost use Rattle.edge_apply.specs.Applied.{AreChangesOf};
+ghost use Rattle.edge_apply.specs.Pieces.{EachGathered};
+ghost use Rattle.push_engine.specs.Pieces.{Answers};
 ghost use Rattle.push_engine.specs.Rows.{rows};
 ghost use Rattle.push_engine.specs.Sources.{passing_in};
 
 use crate::sources::fold_rows;
 use crate::work::PushWork;
 use crew::{Found, Work};
+use edge_apply::{join_all, part_between};
 use edge_fold::{ApplyContext, FoldStart, Gathered, Scratch};
 use flat_snapshot::Flat;
 use kernels::EndpointFilter;
@@ -118,15 +120,6 @@ impl<'a> Work for PushWork<'a> {
     }
 }
 
-/// A part of a list, from one place on up to another.
-pub fn part_between(vertices: &[u32], start: usize, end: usize) -> &[u32]
-    requires order { start ≤ end }
-    requires inside { end ≤ length vertices.now }
-    ensures { result.now ≡ slice_range vertices.now start end }
-{
-    &vertices[start..end]
-}
-
 /// Folds the edges from those of some sources that an end lets through.
 fn fold_passing_part(
     alloc: Global,
@@ -152,20 +145,4 @@ fn fold_passing_part(
             Ok(())
         }
     }
-}
-
-/// Folds the edges of which pieces have gathered what they give. The only error is out of memory.
-pub fn join_all(
-    alloc: Global,
-    context: ApplyContext<'_>,
-    found: &[Found<Gathered>],
-    scratch: &mut Scratch,
-) -> Result<(), AllocError>
-    ensures { OnOk result ((m : StateValue) (steps : List StepsTree) (edges_of : ℕ → List (ℕ × ℕ)) → EachGathered context.entry.vertices m steps edges_of found.now
-        → HasFolded context.entry m steps [] scratch.old → HasFolded context.entry m steps (flat_map edges_of (pieces_of found.now)) scratch.new) }
-{
-    'found: for one in found {
-        scratch.join_gathered(alloc, context, &one.out)?;
-    }
-    Ok(())
 }

@@ -10,10 +10,9 @@ ghost use Rattle.edge_fold.specs.Folded.{IsContextOf, HasFolded};
 ghost use Rattle.edge_fold.specs.Given.{row};
 ghost use Rattle.flat_snapshot.specs.Neighbours.{destinations_of};
 ghost use Rattle.push_engine.specs.Rows.{rows_to};
-ghost use Rattle.push_engine.specs.Words.{passes_words};
+ghost use Rattle.edge_apply.specs.Words.{passes_words};
 
-use crate::members::keep_members;
-use crate::parts::take_part;
+use edge_apply::{keep_members, take_part};
 use edge_fold::{ApplyContext, Scratch};
 use flat_snapshot::Flat;
 use kernels::EndpointFilter;

@@ -9,12 +9,13 @@ ghost use Rattle.crew.specs.Boundaries.{boundaries};
 ghost use Rattle.crew.specs.Partition.{AreEnds};
 ghost use Rattle.flat_snapshot.specs.Neighbours.{destinations_of};
 ghost use Rattle.std.proofs.Props.{props};
-ghost use Rattle.push_engine.specs.Propositions.{AreEnds-prop, AscendsFrom-prop};
-ghost use Rattle.push_engine.specs.Sources.{AreSources, IsEndOf, cut_list};
+ghost use Rattle.edge_apply.specs.Propositions.{AreEnds-prop, AscendsFrom-prop};
+ghost use Rattle.edge_apply.specs.Lists.{IsEndOf};
+ghost use Rattle.push_engine.specs.Sources.{AreSources, cut_list};
 
-use crate::edge_apply::Apply;
 use crate::listed::{cut_sources, list_sources};
 use crew::{CrewError, Partition, is_crew};
+use edge_apply::Apply;
 use edge_fold::{ApplyContext, FoldStart, Scratch};
 use flat_snapshot::Flat;
 use std::alloc::Global;

@@ -13,7 +13,7 @@ use Rattle.algorithm_meaning.specs.Value.{entry, reduce_at}
 use Rattle.algorithm_meaning.proofs.WrittenEntries.{entry_elsewhere, length_stays}
 use Rattle.flat_snapshot.specs.Edge.{edge_eq, has_edge, IsWithin}
 use Rattle.edge_fold.specs.Between.{edges_between}
-use Rattle.push_engine.proofs.Filtered.{has_first, has_later}
+use Rattle.edge_apply.proofs.Filtered.{has_first, has_later}
 use Rattle.runner.proofs.WrittenChanges.{count_after_entry}
 
 count_after_given : (u : ℕ) (cs : List Contribution) (vectors : List (List ℤ)) → length (with_given u cs vectors) ≡ length vectors

@@ -9,8 +9,8 @@ use Rattle.flat_snapshot.specs.Digraph.{Digraph, IsDigraph}
 use Rattle.flat_snapshot.specs.Edge.{has_edge, IsWithin}
 use Rattle.edge_fold.specs.Between.{edges_between}
 use Rattle.edge_fold.specs.Changed.{AreApart, changed, changes_of}
-use Rattle.push_engine.specs.Applied.{AreChangesOf, AreChangesOn}
-use Rattle.push_engine.specs.declared.edge_apply.Apply.{Apply}
+use Rattle.edge_apply.specs.Applied.{AreChangesOf, AreChangesOn}
+use Rattle.edge_apply.specs.declared.apply.Apply.{Apply}
 use Rattle.vectors.specs.declared.changes.VectorChanges.{VectorChanges}
 use Rattle.plans.specs.Reducing.{AreReduced, places_of, steps_at}
 use Rattle.run_state.specs.declared.run_view.RunView.{RunView}

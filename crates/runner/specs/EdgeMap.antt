@@ -11,7 +11,7 @@ use Rattle.plans.specs.Functions.{AreFunctionKernels}
 use Rattle.plans.specs.Reducing.{AreReduced, places_of, steps_at}
 use Rattle.run_state.specs.declared.run_view.RunView.{RunView}
 use Rattle.run_state.specs.View.{HasEntryForEach, HasSets, IsViewOf}
-use Rattle.push_engine.specs.declared.edge_apply.Apply.{Apply}
+use Rattle.edge_apply.specs.declared.apply.Apply.{Apply}
 use Rattle.runner.specs.declared.edge_maps.EdgeMap.{EdgeMap}
 use Rattle.vectors.specs.declared.changes.VectorChanges.{VectorChanges}
 use Rattle.vectors.specs.Changes.{with_all_changes}

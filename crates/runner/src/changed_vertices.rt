@@ -4,7 +4,7 @@ ghost use Rattle.algorithm_meaning.specs.EdgeApply.{modified};
 ghost use Rattle.runner.specs.EdgeMap.{AreChangesTo};
 
 use apply_options::{ApplySchedule, DenseVertexSet};
-use push_engine::apply_modified;
+use edge_apply::apply_modified;
 use std::alloc::{AllocError, Global};
 use vectors::Changes;
 use vertex_sets::VertexSet;

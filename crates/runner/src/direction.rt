@@ -2,7 +2,7 @@
 ghost use Rattle.std.specs.Prelude.{◌≡◌, ◌/◌, length, nat_lt, if◌then◌else◌, IfOk};
 ghost use Rattle.apply_options.specs.declared.apply_schedule.Direction.TheVariants as direction;
 ghost use Rattle.edge_fold.specs.Changed.{AreApart};
-ghost use Rattle.push_engine.specs.Applied.{AreChangesOf};
+ghost use Rattle.edge_apply.specs.Applied.{AreChangesOf};
 ghost use Rattle.push_engine.specs.Work.{work_from};
 
 use apply_options::Direction;
@@ -10,7 +10,8 @@ use edge_fold::{ApplyContext, FoldStart, Scratch};
 use flat_snapshot::Flat;
 use kernels::EndpointFilter;
 use pull_engine::pull;
-use push_engine::{Apply, is_work_above, passing_set, push};
+use edge_apply::{Apply, passing_set};
+use push_engine::{is_work_above, push};
 use std::alloc::{AllocError, Global};
 use vectors::{Changes, Vectors};
 use vertex_sets::VertexSet;

@@ -14,7 +14,7 @@ use crate::ends::end_of;
 use apply_options::{ApplySchedule, DenseVertexSet, Direction, Parallelization};
 use edge_fold::Scratch;
 use kernels::EdgeKernel;
-use push_engine::Apply;
+use edge_apply::Apply;
 use run_state::RunView;
 use std::alloc::{AllocError, Global};
 use typed_tree::ApplyEnds;

@@ -2,7 +2,7 @@
 ghost use Rattle.std.specs.Prelude.{◌≡◌, IfErr, IfOk, IfSome};
 ghost use Rattle.crew.specs.Outcome.{AreWorkers};
 ghost use Rattle.edge_fold.specs.Changed.{AreApart};
-ghost use Rattle.push_engine.specs.Applied.{AreChangesOf};
+ghost use Rattle.edge_apply.specs.Applied.{AreChangesOf};
 ghost use Rattle.runner.specs.EdgeMap.{AreChangesOfApply};
 ghost use Rattle.runner.specs.declared.run_error.RunError.TheVariants.{BadWorkers};
 
@@ -16,7 +16,8 @@ use edge_fold::{ApplyContext, FoldStart, Scratch};
 use flat_snapshot::Flat;
 use kernels::EndpointFilter;
 use pull_engine::{pull, pull_crew};
-use push_engine::{Apply, passing_set, push, push_crew};
+use edge_apply::{Apply, passing_set};
+use push_engine::{push, push_crew};
 use run_state::RunView;
 use std::alloc::{AllocError, Global};
 use std::thread::Threads;

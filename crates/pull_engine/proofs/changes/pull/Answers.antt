@@ -3,7 +3,7 @@ use Rattle.std.proofs.lemmas.Result.{IfOk-weaker}
 use Rattle.kernels.specs.EdgeApply.{is_member}
 use Rattle.kernels.specs.declared.endpoint_filter.EndpointFilter.{EndpointFilter}
 use Rattle.edge_fold.specs.Ends.{IsEndTest, IsTest}
-use Rattle.push_engine.proofs.Filtered.{between_agree, between_same, changes_along}
+use Rattle.edge_apply.proofs.Filtered.{between_agree, between_same, changes_along}
 use Rattle.pull_engine.proofs.changes.pull.Goals as goal
 
 pub returns-in_default-clause-changes : goal.returns-in_default-clause-changes

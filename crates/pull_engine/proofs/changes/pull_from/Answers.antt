@@ -4,8 +4,8 @@ use Rattle.kernels.specs.EdgeApply.{after_edges}
 use Rattle.kernels.specs.Value.{entry}
 use Rattle.edge_fold.specs.Between.{edges_between}
 use Rattle.edge_fold.specs.Changed.{changed}
-use Rattle.push_engine.specs.Words.{passes_words}
-use Rattle.push_engine.proofs.Filtered.{all_pass}
+use Rattle.edge_apply.specs.Words.{passes_words}
+use Rattle.edge_apply.proofs.Filtered.{all_pass}
 use Rattle.pull_engine.proofs.changes.pull_from.Goals as goal
 
 pub returns-clause-changes : goal.returns-clause-changes

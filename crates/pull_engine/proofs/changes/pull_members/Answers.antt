@@ -2,9 +2,9 @@ use Rattle.std.proofs.Common.{ℕ, sym, ap, ◌∙◌}
 use Rattle.std.proofs.lemmas.Result.{IfOk-weaker}
 use Rattle.kernels.specs.EdgeApply.{is_member}
 use Rattle.vertex_sets.specs.VertexSet.{VertexSubset}
-use Rattle.push_engine.specs.Words.{is_set}
-use Rattle.push_engine.proofs.Bits.{words_have_members}
-use Rattle.push_engine.proofs.Filtered.{between_same, changes_along}
+use Rattle.edge_apply.specs.Words.{is_set}
+use Rattle.edge_apply.proofs.Bits.{words_have_members}
+use Rattle.edge_apply.proofs.Filtered.{between_same, changes_along}
 use Rattle.pull_engine.proofs.changes.pull_members.Goals as goal
 
 pub returns-in-Some-clause-changes : goal.returns-in-Some-clause-changes

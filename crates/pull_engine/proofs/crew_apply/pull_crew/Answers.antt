@@ -2,8 +2,8 @@ use Rattle.std.proofs.Common.{ℤ, List, length, sym, subst}
 use Rattle.crew.specs.Pieces.{AreFound}
 use Rattle.crew.proofs.FoundPieces.{found_answers, found_once}
 use Rattle.flat_snapshot.specs.Digraph.{Digraph}
-use Rattle.push_engine.specs.declared.edge_apply.Apply.{Apply}
-use Rattle.push_engine.specs.Applied.{AreChangesOf}
+use Rattle.edge_apply.specs.declared.apply.Apply.{Apply}
+use Rattle.edge_apply.specs.Applied.{AreChangesOf}
 use Rattle.pull_engine.specs.Pieces.{Answers}
 use Rattle.pull_engine.proofs.crew_apply.pull_crew.Goals as goal
 

@@ -1,10 +1,10 @@
 use Rattle.std.proofs.Common.{rules, ℕ, List, [], ◌∷◌, ap, refl, subst, sym}
 use Rattle.edge_fold.specs.Between.{firsts}
 use Rattle.edge_fold.proofs.Walks.{HasWalked, walk_begun, walk_more}
-use Rattle.push_engine.proofs.Walked.{degrees_rise}
+use Rattle.edge_apply.proofs.Listed.{degrees_rise}
 use Rattle.flat_snapshot.specs.Neighbours.{sources_of}
 use Rattle.pull_engine.specs.Columns.{columns}
-use Rattle.push_engine.specs.Words.{passes_words}
+use Rattle.edge_apply.specs.Words.{passes_words}
 use Rattle.pull_engine.proofs.ColumnFolds.{columns-append}
 use Rattle.pull_engine.proofs.Walked.{destinations_agree, one_destination, walked_all}
 use Rattle.pull_engine.proofs.destinations.fold_all.Goals as goal

@@ -2,7 +2,7 @@ use Rattle.std.proofs.Common.{rules, ◌≡◌, ℕ, List, ◌++◌, [], ap, ref
 use Rattle.edge_fold.specs.Given.{column}
 use Rattle.edge_fold.proofs.Walks.{HasWalked, folded_along, parts_of, walk_begun, walk_done, walk_more}
 use Rattle.flat_snapshot.specs.Neighbours.{sources_of}
-use Rattle.push_engine.specs.Words.{passes_words}
+use Rattle.edge_apply.specs.Words.{passes_words}
 use Rattle.pull_engine.proofs.ColumnFolds.{column_from, column_in_row}
 use Rattle.pull_engine.proofs.destinations.fold_column.Goals as goal
 

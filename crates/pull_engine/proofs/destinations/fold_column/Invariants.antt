@@ -1,7 +1,7 @@
 use Rattle.std.proofs.Common.{◌≡◌, length}
 use Rattle.edge_fold.proofs.Walks.{HasWalked}
 use Rattle.flat_snapshot.specs.Neighbours.{sources_of}
-use Rattle.push_engine.specs.Words.{passes_words}
+use Rattle.edge_apply.specs.Words.{passes_words}
 use Rattle.pull_engine.proofs.ColumnFolds.{column_from}
 use Rattle.pull_engine.proofs.destinations.fold_column.Given as goal
 

@@ -2,7 +2,7 @@ use Rattle.std.proofs.Common.{rules, ◌<◌, ◌≤◌, ◌++◌, ◌+◌, leng
 use Rattle.std.proofs.lemmas.List.{take_all}
 use Rattle.edge_fold.proofs.Walks.{folded_along}
 use Rattle.pull_engine.specs.Columns.{columns}
-use Rattle.push_engine.specs.Words.{passes_words}
+use Rattle.edge_apply.specs.Words.{passes_words}
 use Rattle.pull_engine.proofs.Walked.{columns_next}
 use Rattle.pull_engine.proofs.destinations.fold_columns.Goals as goal
 

@@ -3,7 +3,7 @@ use Rattle.kernels.specs.StepTree.{StepsTree}
 use Rattle.kernels.specs.State.{StateValue}
 use Rattle.edge_fold.specs.Folded.{IsContextOf, HasFolded}
 use Rattle.pull_engine.specs.Columns.{columns}
-use Rattle.push_engine.specs.Words.{passes_words}
+use Rattle.edge_apply.specs.Words.{passes_words}
 use Rattle.pull_engine.proofs.destinations.fold_columns.Given as goal
 
 -- the columns of the destinations that have come are folded

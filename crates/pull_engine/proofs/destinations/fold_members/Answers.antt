@@ -2,7 +2,7 @@ use Rattle.std.proofs.Common.{rules, ℕ, List, [], ◌∷◌, refl, sym, ◌∙
 use Rattle.edge_fold.proofs.Walks.{HasWalked, walk_begun, walk_more}
 use Rattle.vertex_sets.proofs.Ascending.{rises}
 use Rattle.pull_engine.specs.Columns.{columns}
-use Rattle.push_engine.specs.Words.{passes_words}
+use Rattle.edge_apply.specs.Words.{passes_words}
 use Rattle.pull_engine.proofs.ColumnFolds.{columns-append}
 use Rattle.pull_engine.proofs.Walked.{one_destination, walked_all}
 use Rattle.pull_engine.proofs.destinations.fold_members.Goals as goal

@@ -3,8 +3,8 @@ use Rattle.std.specs.List.{filter}
 use Rattle.kernels.specs.declared.endpoint_filter.EndpointFilter.{EndpointFilter}
 use Rattle.edge_fold.specs.Ends.{IsEndTest}
 use Rattle.edge_fold.proofs.Walks.{folded_along}
-use Rattle.push_engine.specs.Words.{passes_words}
-use Rattle.push_engine.proofs.SourceLists.{filter_all}
+use Rattle.edge_apply.specs.Words.{passes_words}
+use Rattle.edge_apply.proofs.Listed.{filter_all}
 use Rattle.pull_engine.specs.Columns.{columns}
 use Rattle.pull_engine.proofs.destinations.fold_part.Goals as goal
 

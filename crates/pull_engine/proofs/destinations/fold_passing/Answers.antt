@@ -3,7 +3,7 @@ use Rattle.std.specs.List.{filter}
 use Rattle.edge_fold.specs.Between.{firsts}
 use Rattle.edge_fold.proofs.Walks.{folded_along, pass_begun, pass_more}
 use Rattle.pull_engine.specs.Columns.{columns}
-use Rattle.push_engine.specs.Words.{passes_words}
+use Rattle.edge_apply.specs.Words.{passes_words}
 use Rattle.pull_engine.proofs.ColumnFolds.{columns-append}
 use Rattle.pull_engine.proofs.Walked.{passed_all}
 use Rattle.pull_engine.proofs.destinations.fold_passing.Goals as goal

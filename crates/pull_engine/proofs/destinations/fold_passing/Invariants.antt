@@ -4,7 +4,7 @@ use Rattle.edge_fold.proofs.Walks.{HasPassed}
 use Rattle.flat_snapshot.specs.FlatEdges.{AreDegreesOf}
 use Rattle.flat_snapshot.specs.Neighbours.{sources_of}
 use Rattle.pull_engine.specs.Columns.{columns}
-use Rattle.push_engine.specs.Words.{passes_words}
+use Rattle.edge_apply.specs.Words.{passes_words}
 use Rattle.pull_engine.proofs.destinations.fold_passing.Given as goal
 
 -- some of the vertices with edges to them are done, and the rest is left

@@ -5,8 +5,8 @@ use Rattle.kernels.specs.EdgeApply.{is_member}
 use Rattle.vertex_sets.specs.declared.form.Form.TheVariants as Form
 use Rattle.vertex_sets.specs.VertexSet.{AreWordsOf, VertexSubset}
 use Rattle.pull_engine.specs.Destinations.{passes_set}
-use Rattle.push_engine.specs.Words.{passes_words}
-use Rattle.push_engine.proofs.Bits.{words_have_members}
+use Rattle.edge_apply.specs.Words.{passes_words}
+use Rattle.edge_apply.proofs.Bits.{words_have_members}
 use Rattle.pull_engine.proofs.listed.words_of.Goals as goal
 
 words_pass : (s : VertexSubset) (o : Option (Bor (List ℕ))) → IsSome o → IfSome o (λ words. AreWordsOf s words.now) → (v : ℕ) → passes_words o v ≡ is_member v s.members

@@ -3,7 +3,7 @@ use Rattle.std.proofs.lemmas.Result.{IfOk-weaker}
 use Rattle.kernels.specs.EdgeApply.{is_member}
 use Rattle.kernels.specs.declared.endpoint_filter.EndpointFilter.{EndpointFilter}
 use Rattle.edge_fold.specs.Ends.{IsTest}
-use Rattle.push_engine.proofs.Filtered.{changes_along, to_agree}
+use Rattle.edge_apply.proofs.Filtered.{changes_along, to_agree}
 use Rattle.push_engine.proofs.apply.push_tested.Goals as goal
 
 pub returns-in-Members-clause-changes : goal.returns-in-Members-clause-changes

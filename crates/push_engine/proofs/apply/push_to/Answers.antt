@@ -4,7 +4,7 @@ use Rattle.kernels.specs.EdgeApply.{after_edges}
 use Rattle.kernels.specs.Value.{entry}
 use Rattle.edge_fold.specs.Between.{edges_between}
 use Rattle.edge_fold.specs.Changed.{changed}
-use Rattle.push_engine.specs.Words.{passes_words}
+use Rattle.edge_apply.specs.Words.{passes_words}
 use Rattle.push_engine.proofs.RowFolds.{between_tested}
 use Rattle.push_engine.proofs.apply.push_to.Goals as goal
 

@@ -2,9 +2,9 @@ use Rattle.std.proofs.Common.{ℕ, ◌&&◌, true, refl, sym, ap, ◌∙◌}
 use Rattle.std.proofs.lemmas.Result.{IfOk-weaker}
 use Rattle.kernels.specs.EdgeApply.{is_member}
 use Rattle.vertex_sets.specs.VertexSet.{VertexSubset}
-use Rattle.push_engine.specs.Words.{is_set}
-use Rattle.push_engine.proofs.Bits.{words_have_members}
-use Rattle.push_engine.proofs.Filtered.{and_true, changes_along, to_same}
+use Rattle.edge_apply.specs.Words.{is_set}
+use Rattle.edge_apply.proofs.Bits.{words_have_members}
+use Rattle.edge_apply.proofs.Filtered.{and_true, changes_along, to_same}
 use Rattle.push_engine.proofs.apply.push_to_members.Goals as goal
 
 pub returns-in-Some-clause-changes : goal.returns-in-Some-clause-changes

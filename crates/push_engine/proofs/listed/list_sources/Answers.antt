@@ -3,8 +3,9 @@ use Rattle.std.specs.List.{filter, range_with_len}
 use Rattle.kernels.specs.EdgeApply.{is_member}
 use Rattle.kernels.specs.declared.endpoint_filter.EndpointFilter.{EndpointFilter}
 use Rattle.edge_fold.specs.Ends.{IsEndTest}
-use Rattle.push_engine.specs.Sources.{AscendsFrom}
-use Rattle.push_engine.proofs.SourceLists.{ascends, filter_all, filtered_sources, list_is_whole}
+use Rattle.edge_apply.specs.Lists.{AscendsFrom}
+use Rattle.edge_apply.proofs.Listed.{ascends, filter_all}
+use Rattle.push_engine.proofs.SourceLists.{filtered_sources, list_is_whole}
 use Rattle.vertex_sets.proofs.Ascending.{rises_range}
 use Rattle.push_engine.proofs.listed.list_sources.Goals as goal
 

@@ -1,7 +1,7 @@
 use Rattle.std.proofs.Common.{◌++◌, ℕ, List, ap, ◌∙◌, sym, subst}
 use Rattle.vertex_sets.proofs.Ascending.{rises}
-use Rattle.push_engine.specs.Sources.{AscendsFrom}
-use Rattle.push_engine.proofs.SourceLists.{all_found, ascends, one_more_found}
+use Rattle.edge_apply.specs.Lists.{AscendsFrom}
+use Rattle.edge_apply.proofs.Listed.{all_found, ascends, one_more_found}
 use Rattle.push_engine.proofs.listed.members_of.Goals as goal
 
 pub members-init : goal.members-init

@@ -4,8 +4,9 @@ use Rattle.kernels.specs.EdgeApply.{is_member}
 use Rattle.kernels.specs.declared.endpoint_filter.EndpointFilter.{EndpointFilter}
 use Rattle.edge_fold.specs.Ends.{IsTest}
 use Rattle.vertex_sets.specs.VertexSet.{IsAscendingBelow}
-use Rattle.push_engine.specs.Sources.{AscendsFrom, IsEndOf}
-use Rattle.push_engine.proofs.SourceLists.{ascends, filter_ascends, filtered_sources, members_listed}
+use Rattle.edge_apply.specs.Lists.{AscendsFrom, IsEndOf}
+use Rattle.edge_apply.proofs.Listed.{ascends, filter_ascends, members_listed}
+use Rattle.push_engine.proofs.SourceLists.{filtered_sources}
 use Rattle.vertex_sets.proofs.Ascending.{rises_range}
 use Rattle.push_engine.proofs.listed.passing_sources.Goals as goal
 

@@ -4,8 +4,8 @@ use Rattle.kernels.specs.declared.endpoint_filter.EndpointFilter.{EndpointFilter
 use Rattle.edge_fold.specs.Ends.{IsEndTest}
 use Rattle.edge_fold.proofs.Walks.{folded_along}
 use Rattle.push_engine.specs.Rows.{rows, rows_to}
-use Rattle.push_engine.proofs.Filtered.{all_pass}
-use Rattle.push_engine.proofs.SourceLists.{filter_all}
+use Rattle.edge_apply.proofs.Filtered.{all_pass}
+use Rattle.edge_apply.proofs.Listed.{filter_all}
 use Rattle.push_engine.proofs.merge.fold_passing_part.Goals as goal
 
 pub returns-in_ok-fold_rows-in-None : goal.returns-in_ok-fold_rows-in-None

@@ -3,9 +3,10 @@ use Rattle.edge_fold.specs.Between.{firsts}
 use Rattle.edge_fold.proofs.Walks.{HasWalked, walk_begun, walk_more}
 use Rattle.flat_snapshot.specs.Neighbours.{destinations_of}
 use Rattle.push_engine.specs.Rows.{rows_to}
-use Rattle.push_engine.specs.Words.{passes_words}
+use Rattle.edge_apply.specs.Words.{passes_words}
 use Rattle.push_engine.proofs.RowFolds.{rows_to-append}
-use Rattle.push_engine.proofs.Walked.{degrees_rise, one_source, sources_agree, walked_all}
+use Rattle.edge_apply.proofs.Listed.{degrees_rise}
+use Rattle.push_engine.proofs.Walked.{one_source, sources_agree, walked_all}
 use Rattle.push_engine.proofs.sources.fold_all.Goals as goal
 
 pub sources-init : goal.sources-init

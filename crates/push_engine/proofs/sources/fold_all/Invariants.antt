@@ -4,7 +4,7 @@ use Rattle.flat_snapshot.specs.Neighbours.{destinations_of}
 use Rattle.edge_fold.specs.Between.{firsts}
 use Rattle.edge_fold.proofs.Walks.{HasWalked}
 use Rattle.push_engine.specs.Rows.{rows_to}
-use Rattle.push_engine.specs.Words.{passes_words}
+use Rattle.edge_apply.specs.Words.{passes_words}
 use Rattle.push_engine.proofs.sources.fold_all.Given as goal
 
 -- some of the vertices with edges are folded, and the rest is left

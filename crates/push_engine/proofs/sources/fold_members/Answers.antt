@@ -2,7 +2,7 @@ use Rattle.std.proofs.Common.{rules, ℕ, List, [], ◌∷◌, refl, sym, ◌∙
 use Rattle.edge_fold.proofs.Walks.{HasWalked, walk_begun, walk_more}
 use Rattle.vertex_sets.proofs.Ascending.{rises}
 use Rattle.push_engine.specs.Rows.{rows_to}
-use Rattle.push_engine.specs.Words.{passes_words}
+use Rattle.edge_apply.specs.Words.{passes_words}
 use Rattle.push_engine.proofs.RowFolds.{agree_on_rows, rows_to-append}
 use Rattle.push_engine.proofs.Walked.{one_source, walked_all}
 use Rattle.push_engine.proofs.sources.fold_members.Goals as goal

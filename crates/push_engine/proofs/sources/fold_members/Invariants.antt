@@ -1,7 +1,7 @@
 use Rattle.std.proofs.Common.{◌≡◌, length}
 use Rattle.edge_fold.proofs.Walks.{HasWalked}
 use Rattle.push_engine.specs.Rows.{rows_to}
-use Rattle.push_engine.specs.Words.{passes_words}
+use Rattle.edge_apply.specs.Words.{passes_words}
 use Rattle.push_engine.proofs.sources.fold_members.Given as goal
 
 -- some members are folded, and the rest is left

@@ -2,7 +2,7 @@ use Rattle.std.proofs.Common.{rules, ◌≡◌, ℕ, List, ◌++◌, [], ap, ref
 use Rattle.edge_fold.specs.Given.{row}
 use Rattle.edge_fold.proofs.Walks.{HasWalked, folded_along, parts_of, walk_begun, walk_done, walk_more}
 use Rattle.flat_snapshot.specs.Neighbours.{destinations_of}
-use Rattle.push_engine.specs.Words.{passes_words}
+use Rattle.edge_apply.specs.Words.{passes_words}
 use Rattle.push_engine.proofs.Walked.{row_in_row, row_to}
 use Rattle.push_engine.proofs.sources.fold_row.Goals as goal
 

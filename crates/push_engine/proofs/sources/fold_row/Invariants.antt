@@ -1,7 +1,7 @@
 use Rattle.std.proofs.Common.{◌≡◌, length}
 use Rattle.edge_fold.proofs.Walks.{HasWalked}
 use Rattle.flat_snapshot.specs.Neighbours.{destinations_of}
-use Rattle.push_engine.specs.Words.{passes_words}
+use Rattle.edge_apply.specs.Words.{passes_words}
 use Rattle.push_engine.proofs.Walked.{row_to}
 use Rattle.push_engine.proofs.sources.fold_row.Given as goal
 

@@ -1,7 +1,7 @@
 use Rattle.std.proofs.Common.{rules, ◌<◌, ◌≤◌, ◌++◌, ◌+◌, length, take, ap}
 use Rattle.std.proofs.lemmas.List.{take_all}
 use Rattle.push_engine.specs.Rows.{rows_to}
-use Rattle.push_engine.specs.Words.{passes_words}
+use Rattle.edge_apply.specs.Words.{passes_words}
 use Rattle.edge_fold.proofs.Walks.{folded_along}
 use Rattle.push_engine.proofs.Walked.{rows_next}
 use Rattle.push_engine.proofs.sources.fold_rows.Goals as goal

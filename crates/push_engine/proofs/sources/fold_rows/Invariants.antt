@@ -3,7 +3,7 @@ use Rattle.kernels.specs.StepTree.{StepsTree}
 use Rattle.kernels.specs.State.{StateValue}
 use Rattle.edge_fold.specs.Folded.{IsContextOf, HasFolded}
 use Rattle.push_engine.specs.Rows.{rows_to}
-use Rattle.push_engine.specs.Words.{passes_words}
+use Rattle.edge_apply.specs.Words.{passes_words}
 use Rattle.push_engine.proofs.sources.fold_rows.Given as goal
 
 -- the rows of the sources that have come are folded

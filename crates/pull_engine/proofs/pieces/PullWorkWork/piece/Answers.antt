@@ -2,9 +2,9 @@ use Rattle.std.proofs.Common.{◌-◌, ℕ, true, List, [], length, slice_range,
 use Rattle.std.specs.List.{filter}
 use Rattle.edge_fold.specs.Gathered.{AreGatheredFor}
 use Rattle.crew.specs.Partition.{end_of, piece_of}
-use Rattle.push_engine.proofs.SourceLists.{filter_all, piece_inside}
+use Rattle.edge_apply.proofs.Listed.{filter_all, piece_inside}
 use Rattle.pull_engine.specs.Columns.{columns}
-use Rattle.push_engine.specs.Words.{passes_words}
+use Rattle.edge_apply.specs.Words.{passes_words}
 use Rattle.pull_engine.proofs.Merging.{columns_agree}
 use Rattle.pull_engine.proofs.pieces.PullWorkWork.piece.Goals as goal
 

@@ -5,8 +5,8 @@ use Rattle.kernels.specs.Value.{entry}
 use Rattle.edge_fold.specs.Between.{edges_between}
 use Rattle.edge_fold.specs.Changed.{changed}
 use Rattle.crew.specs.Pieces.{pieces_of}
-use Rattle.push_engine.specs.Pieces.{EachGathered}
-use Rattle.push_engine.proofs.SourceLists.{filter_all}
+use Rattle.edge_apply.specs.Pieces.{EachGathered}
+use Rattle.edge_apply.proofs.Listed.{filter_all}
 use Rattle.pull_engine.specs.Pieces.{edges_into_piece}
 use Rattle.pull_engine.proofs.Merging.{each_gathered, merged}
 use Rattle.pull_engine.proofs.work.PullWork.merge.Goals as goal

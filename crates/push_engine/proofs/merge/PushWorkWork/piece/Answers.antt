@@ -4,7 +4,7 @@ use Rattle.edge_fold.specs.Gathered.{AreGatheredFor}
 use Rattle.crew.specs.Partition.{end_of, piece_of}
 use Rattle.push_engine.specs.Rows.{rows}
 use Rattle.push_engine.specs.Sources.{passing_in}
-use Rattle.push_engine.proofs.SourceLists.{piece_inside}
+use Rattle.edge_apply.proofs.Listed.{piece_inside}
 use Rattle.push_engine.proofs.merge.PushWorkWork.piece.Goals as goal
 
 pub part_between-part-requires-clause-order : goal.part_between-part-requires-clause-order

@@ -3,7 +3,7 @@ use Rattle.std.specs.List.{filter}
 use Rattle.edge_fold.proofs.Walks.{folded_along}
 use Rattle.push_engine.specs.Rows.{rows, rows_to}
 use Rattle.push_engine.specs.Sources.{passing_in}
-use Rattle.push_engine.proofs.Filtered.{all_pass}
+use Rattle.edge_apply.proofs.Filtered.{all_pass}
 use Rattle.push_engine.proofs.work.PushWork.fold_part.Goals as goal
 
 pub returns-then-self : goal.returns-then-self

@@ -5,10 +5,11 @@ use Rattle.kernels.specs.Value.{entry}
 use Rattle.edge_fold.specs.Between.{edges_between}
 use Rattle.edge_fold.specs.Changed.{changed}
 use Rattle.crew.specs.Pieces.{pieces_of}
-use Rattle.push_engine.specs.Pieces.{EachGathered, edges_of_piece}
+use Rattle.edge_apply.specs.Pieces.{EachGathered}
+use Rattle.push_engine.specs.Pieces.{edges_of_piece}
 use Rattle.push_engine.proofs.Answered.{each_gathered}
 use Rattle.push_engine.proofs.Merging.{merged}
-use Rattle.push_engine.proofs.SourceLists.{filter_all}
+use Rattle.edge_apply.proofs.Listed.{filter_all}
 use Rattle.push_engine.proofs.work.PushWork.merge.Goals as goal
 
 pub returns-clause-changes : goal.returns-clause-changes

@@ -3,7 +3,7 @@ use Rattle.std.proofs.lemmas.Result.{IfOk-weaker}
 use Rattle.algorithm_meaning.specs.EdgeApply.{is_member}
 use Rattle.kernels.specs.declared.endpoint_filter.EndpointFilter.{EndpointFilter}
 use Rattle.edge_fold.specs.Ends.{IsEndTest}
-use Rattle.push_engine.proofs.Filtered.{between_agree, changes_along}
+use Rattle.edge_apply.proofs.Filtered.{between_agree, changes_along}
 use Rattle.runner.proofs.team.Team.hybrid.Goals as goal
 
 pub returns-in_ok-passing-in-Filter-clause-changes : goal.returns-in_ok-passing-in-Filter-clause-changes

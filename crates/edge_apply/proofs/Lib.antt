@@ -1,0 +1,6 @@
+pub mod Bits
+pub mod Filtered
+pub mod Inserted
+pub mod Differences
+pub mod Listed
+pub mod FoundPieces

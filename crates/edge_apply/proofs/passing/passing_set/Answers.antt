@@ -1,0 +1,34 @@
+use Rattle.std.proofs.Common.{rules, ◌≡◌, ℕ, ◌+◌, ◌<◌, Bool, true, false, ◌||◌, ◌&&◌, nat_lt, List, ◌++◌, ap, ◌∙◌, arith}
+use Rattle.std.proofs.lemmas.Bool.Decides.{nat_tests}
+use Rattle.std.specs.List.{filter}
+use Rattle.kernels.specs.EdgeApply.{is_member}
+use Rattle.edge_apply.proofs.Bits.{passing_more}
+use Rattle.edge_apply.proofs.passing.passing_set.Goals as goal
+
+pub parts-preserved : goal.parts-preserved
+parts-preserved c =
+    let next = c.parts.next in
+    let stop = next + c.min.result in
+    let invariant = c.parts.invariant in
+    let inserted = c.in_ok-insert_all.ensures in
+    record {
+      vertices = inserted.vertices ∙ invariant.vertices;
+      form = inserted.form ∙ invariant.form;
+      below = search rules;
+      members = λ m test vectors sizes is v l.
+          inserted.members v (let count = invariant.vertices in omega (arith, count, l))
+          ∙ ap (λ (b : Bool). b || is_member v c.deref-in-parts.result.now) (invariant.members m test vectors sizes is v l)
+          ∙ ap (λ (ks : List ℕ). (test v && nat_lt v next) || is_member v ks)
+          (c.deref-in-parts.ensures.value ∙ c.in_ok-keep_passing.ensures.kept m test vectors sizes is ∙ ap (λ (ks : List ℕ). ks ++ filter test c.deref.result.now) c.clear.ensures.items
+          ∙ ap (filter test) (c.deref.ensures.value ∙ c.in_ok-number_between.ensures))
+          ∙ passing_more test v next stop (omega arith);
+    }
+
+all_below : (t : Bool) (v n : ℕ) → v < n → t && nat_lt v n ≡ t
+all_below true v n l = grind (arith, nat_tests)
+all_below false v n l = grind (arith, nat_tests)
+
+pub returns-clause-members : goal.returns-clause-members
+returns-clause-members c m test vectors sizes is v l =
+    let done = c.parts-test.false in
+    c.parts.invariant.members m test vectors sizes is v l ∙ all_below (test v) v c.parts.next (omega (arith, done, l))

@@ -1,0 +1,28 @@
+-- What an apply of edge functions changes.
+use Rattle.std.specs.Prelude.{◌≡◌, ℕ, ◌≤◌, ℤ, Bool, List, [], length, slice_index_or}
+use Rattle.apply_options.specs.declared.reduction.Reduction.{Reduction}
+use Rattle.kernels.specs.StepTree.{StepsTree}
+use Rattle.kernels.specs.EdgeApply.{after_edges}
+use Rattle.kernels.specs.Laws.{IsGivenBy}
+use Rattle.kernels.specs.State.{StateValue}
+use Rattle.kernels.specs.Value.{entry}
+use Rattle.kernels.specs.Cells.{HasSizes}
+use Rattle.flat_snapshot.specs.Digraph.{Digraph}
+use Rattle.vectors.specs.declared.changes.VectorChanges.{VectorChanges}
+use Rattle.edge_fold.specs.Between.{edges_between}
+use Rattle.edge_fold.specs.Changed.{changed, changes_of}
+use Rattle.edge_fold.specs.Ends.{IsEndTest}
+use Rattle.edge_fold.specs.Folded.{AreKernels}
+use Rattle.edge_apply.specs.declared.apply.Apply.{Apply}
+
+-- for each vector that has an entry for each vertex and to which the functions give by one reduction, the vertices whose
+-- entry an apply to these edges of a graph of n vertices changes, ascending, with the entries after it
+abbrev pub AreChangesOn : (n : ℕ) → (edges : List (ℕ × ℕ)) → StateValue → List StepsTree → List VectorChanges → Type 0
+AreChangesOn n edges m steps cs = (x : ℕ) (r : Reduction) → IsGivenBy r x steps m.sets m.vectors → n ≤ length (slice_index_or m.vectors x [])
+    → changes_of x cs ≡ changed n (entry m.vectors x) (entry (after_edges steps m.sets m.vectors edges m.vectors) x)
+
+-- the changes are those of an apply to the edges between its ends, over the vectors and the sizes of the sets of a state
+abbrev pub AreChangesOf : Apply → Digraph → (vectors : List (List ℤ)) → (sizes : List ℤ) → List VectorChanges → Type 0
+AreChangesOf a g vectors sizes cs = (m : StateValue) (steps : List StepsTree) (from to : ℕ → Bool) → vectors ≡ m.vectors → HasSizes sizes m
+    → AreKernels a.first.now a.second steps → IsEndTest a.from m from → IsEndTest a.to m to
+    → AreChangesOn g.vertices (edges_between from to g.edges) m steps cs

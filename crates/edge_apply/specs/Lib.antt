@@ -1,0 +1,5 @@
+pub mod Lists
+pub mod Words
+pub mod Applied
+pub mod Pieces
+pub mod Propositions

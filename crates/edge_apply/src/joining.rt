@@ -1,0 +1,37 @@
+//! What the pieces of an apply have found, put together.
+ghost use Rattle.std.specs.Prelude.{◌≡◌, ℕ, ◌≤◌, List, [], length, slice_range, OnOk};
+ghost use Rattle.std.specs.List.{flat_map};
+ghost use Rattle.crew.specs.Pieces.{pieces_of};
+ghost use Rattle.kernels.specs.StepTree.{StepsTree};
+ghost use Rattle.kernels.specs.State.{StateValue};
+ghost use Rattle.edge_fold.specs.Folded.{IsContextOf, HasFolded};
+ghost use Rattle.edge_apply.specs.Pieces.{EachGathered};
+
+use crew::Found;
+use edge_fold::{ApplyContext, Gathered, Scratch};
+use std::alloc::{AllocError, Global};
+
+/// A part of a list, from one place on up to another.
+pub fn part_between(vertices: &[u32], start: usize, end: usize) -> &[u32]
+    requires order { start ≤ end }
+    requires inside { end ≤ length vertices.now }
+    ensures { result.now ≡ slice_range vertices.now start end }
+{
+    &vertices[start..end]
+}
+
+/// Folds the edges of which pieces have gathered what they give. The only error is out of memory.
+pub fn join_all(
+    alloc: Global,
+    context: ApplyContext<'_>,
+    found: &[Found<Gathered>],
+    scratch: &mut Scratch,
+) -> Result<(), AllocError>
+    ensures { OnOk result ((m : StateValue) (steps : List StepsTree) (edges_of : ℕ → List (ℕ × ℕ)) → EachGathered context.entry.vertices m steps edges_of found.now
+        → HasFolded context.entry m steps [] scratch.old → HasFolded context.entry m steps (flat_map edges_of (pieces_of found.now)) scratch.new) }
+{
+    'found: for one in found {
+        scratch.join_gathered(alloc, context, &one.out)?;
+    }
+    Ok(())
+}
