@@ -6,11 +6,11 @@ ghost use Rattle.edge_apply.specs.Applied.{AreChangesOf};
 ghost use Rattle.push_engine.specs.Work.{work_from};
 
 use apply_options::Direction;
+use edge_apply::{Apply, passing_set};
 use edge_fold::{ApplyContext, FoldStart, Scratch};
 use flat_snapshot::Flat;
 use kernels::EndpointFilter;
 use pull_engine::pull;
-use edge_apply::{Apply, passing_set};
 use push_engine::{is_work_above, push};
 use std::alloc::{AllocError, Global};
 use vectors::{Changes, Vectors};
