@@ -70,15 +70,8 @@ pub fn run_held<J: Naming, R: Threads + Sync, G: Gate + Sync>(
     ensures workers { IfOk result (λ _. AreWorkers workers) }
     ensures bad_workers { (result ≡ Err run.BadWorkers) ↔ (¬ AreWorkers workers) }
 {
-    run_on(
-        rt,
-        alloc,
-        plan,
-        &held.snapshot().graph,
-        workers,
-        turns,
-        gate,
-    )
+    let snapshot = held.snapshot();
+    run_on(rt, alloc, plan, &snapshot.graph, workers, turns, gate)
 }
 
 // Runs a plan on a graph by so many workers.
