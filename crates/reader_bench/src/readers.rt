@@ -2,10 +2,9 @@
 //! same commits on versions alone.
 
 ghost use Rattle.std.specs.Prelude.{◌≡◌};
-ghost use Rattle.version_list.specs.Machine.{opened};
 
 use measuring::{Taken, Times, nanos_since, print_head, print_times as print_row};
-use shared_graph::{Naming, Opening, Reader, SharedError, SharedGraph};
+use shared_graph::{LatestError, Naming, Opening, Reader, SharedError, SharedGraph};
 use std::alloc::{AllocError, Global};
 use std::io::{self, Error};
 use std::marker::Brand;
@@ -41,7 +40,7 @@ fn one_edge(alloc: Global, step: u32) -> Result<Batch, AllocError> {
 }
 
 // Takes so many snapshots, and gives the sum of their numbers.
-fn take<J: Naming>(reader: &mut Reader<J>, reads: u32) -> Result<u64, SharedError> {
+fn take<J: Naming>(reader: &mut Reader<J>, reads: u32) -> Result<u64, LatestError> {
     let mut sum = 0u64;
     for _ in 0..reads {
         sum = sum.wrapping_add(reader.latest()?.number);
@@ -92,6 +91,10 @@ fn told_shared(_: SharedError) -> Error {
     Error::other("the shared graph refused")
 }
 
+fn told_latest(_: LatestError) -> Error {
+    Error::other("the shared graph gave no version")
+}
+
 /// Prints the number of the version after a few commits.
 pub fn print_outcome(rt: &HostRuntime) -> io::Result<()> {
     let mut versions = Versions::new(rt.alloc(), VERTICES, 64).map_err(told)?;
@@ -129,7 +132,8 @@ fn print_shared<J: Naming + Send + Sync, R: AllocGlobal + Clock + Threads + Wait
     opening: Opening,
 ) -> io::Result<()>
     requires book { opening ≡ J.book }
-    requires base { J.base ≡ opened 1024 16777216 }
+    requires vertices { J.vertices ≡ 1024 }
+    requires room { J.room ≡ 16777216 }
 {
     let opened = SharedGraph::<J, &R>::open(threads, rt.alloc(), opening, VERTICES, 64, 4);
     let (graph, readers) = opened.map_err(told_shared)?;
@@ -189,7 +193,7 @@ fn times_of_latest<J: Naming>(rt: &HostRuntime, me: &mut Reader<J>) -> io::Resul
     let mut taken = Taken::new(rt.alloc());
     for _ in 0..TURNS {
         let start = Instant::now(rt)?;
-        let sum = take(me, STEPS).map_err(told_shared)?;
+        let sum = take(me, STEPS).map_err(told_latest)?;
         taken.add(rt, start, u64::from(STEPS), sum)?;
     }
     taken.times()
@@ -264,6 +268,6 @@ fn read_all<J: Naming + Send + Sync, R: Threads + Clock + Sync>(
 
 fn time_reads<J: Naming, C: Clock>(clock: &C, reader: &mut Reader<J>) -> io::Result<u64> {
     let start = Instant::now(clock)?;
-    take(reader, READS).map_err(told_shared)?;
+    take(reader, READS).map_err(told_latest)?;
     nanos_since(clock, start)
 }

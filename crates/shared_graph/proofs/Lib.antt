@@ -4,3 +4,4 @@ pub mod Publishing
 pub mod Growing
 pub mod Steps
 pub mod Crossing
+pub mod Versions

@@ -103,14 +103,15 @@ number_asked_same s t Newest same = same
 number_asked_same s t (At k) same = refl
 
 -- a hold that was prepared gives the version that was asked for
-pub holds_version : (t : Timeline) (which : Which) (p : PreparedAcquire) (base : State) (log : List Entry) (e : Entry) (h : Hold) → IsTimelineOf base log t → IsPreparedAcquire t which p → e.done.step ≡ Acquire which
-    → h.version ≡ p.version → h.graph ≡ p.graph → HoldsVersion (state_at base (log ++ e ∷ [])) which h
-holds_version t which p base log e h is ready step_is version graph =
+pub holds_version : (t : Timeline) (which : Which) (p : PreparedAcquire) (base : State) (log shown : List Entry) (e : Entry) (h : Hold) → IsTimelineOf base log t → IsPreparedAcquire t which p → e.done.step ≡ Acquire which
+    → shown ≡ log ++ e ∷ [] → h.version ≡ p.version → h.graph ≡ p.graph → HoldsVersion (state_at base shown) which h
+holds_version t which p base log shown e h is ready step_is ends version graph =
     let after : State = state_after t.state (Acquire which) in
-    let after_is : state_at base (log ++ e ∷ []) ≡ after = state_at-push base log e ∙ ap (λ (s : State). state_after s e.done.step) (sym is.state) ∙ ap (state_after t.state) step_is in
+    let after_is : state_at base shown ≡ after = ap (state_at base) ends ∙ state_at-push base log e ∙ ap (λ (s : State). state_after s e.done.step) (sym is.state) ∙ ap (state_after t.state) step_is in
     let same = held_versions t.state which (t.state.given + 1) (number_asked t.state which) ready.is_answer in
     let here : HoldsVersion after which h = record {
       version_is = version ∙ ready.version ∙ sym (number_asked_same t.state after which same.0);
+      made = omega (arith, version, ready.made, same.0);
       graph_is = graph ∙ ready.graph ∙ ap (version_graph t.state) (sym version) ∙ ap (λ (f : ℕ → Digraph). f h.version) (sym same.1);
     } in
     subst (λ (s : State). HoldsVersion s which h) (sym after_is) here

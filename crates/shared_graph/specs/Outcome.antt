@@ -7,7 +7,7 @@ use Rattle.version_list.specs.declared.step.Reply.TheVariants.{Released}
 use Rattle.version_list.specs.declared.step.Reply.{Reply}
 use Rattle.version_list.specs.Machine.{State}
 use Rattle.shared_graph.specs.declared.error.SharedError.{SharedError}
-use Rattle.shared_graph.specs.declared.error.SharedError.TheVariants.{VertexRange, BadChunkSize, NotKept, NotHeld, HistoryFull, BadSeats, Closed, NoMemory}
+use Rattle.shared_graph.specs.declared.error.SharedError.TheVariants.{VertexRange, BadChunkSize, NotKept, NotHeld, HistoryFull, BadSeats, NoMemory}
 use Rattle.shared_graph.specs.declared.held.Unreleased.{Unreleased}
 use Rattle.shared_graph.specs.Holding.{Hold}
 use Rattle.shared_graph.specs.Passes.{Pass, fresh_passes, HasMade, IsRefused}
@@ -21,7 +21,6 @@ Refuses base old step NotKept new = IsRefused base old step 121 new
 Refuses base old step NotHeld new = IsRefused base old step 122 new
 Refuses base old step HistoryFull new = IsRefused base old step 123 new
 Refuses base old step BadSeats new = ⊥
-Refuses base old step Closed new = ⊥
 
 -- a step is made, with the reply of what the call gives, or refused
 abbrev pub Answers : {A : Type 0} → State → Pass → Step → (A → Reply) → Result A SharedError → Pass → Type 0
@@ -42,9 +41,8 @@ Opens n b readers passes (Err NoMemory) = (is_vertex_count n ≡ true) × (is_ch
 Opens n b readers passes (Err NotKept) = ⊥
 Opens n b readers passes (Err NotHeld) = ⊥
 Opens n b readers passes (Err HistoryFull) = ⊥
-Opens n b readers passes (Err Closed) = ⊥
 
 -- a release is made, or refused as the machine refuses it, and then the held version comes back
-abbrev pub AnswersRelease : {A : Type 0} → State → Pass → Hold → Result A Unreleased → Pass → Type 0
+abbrev pub AnswersRelease : {A J : Type 0} → State → Pass → Hold → Result A (Unreleased J) → Pass → Type 0
 AnswersRelease base old hold (Ok x) new = HasMade base old (Release hold.ticket) Released new
 AnswersRelease base old hold (Err u) new = (u.held ≡ hold) × Refuses base old (Release hold.ticket) u.error new

@@ -3,7 +3,9 @@ use Rattle.std.specs.Prelude.{ℕ}
 use Rattle.version_list.specs.declared.error.VersionError.{VersionError}
 use Rattle.version_list.specs.declared.error.VersionError.TheVariants as version
 use Rattle.shared_graph.specs.declared.error.SharedError.{SharedError}
-use Rattle.shared_graph.specs.declared.error.SharedError.TheVariants.{VertexRange, BadChunkSize, NotKept, NotHeld, HistoryFull, BadSeats, Closed, NoMemory}
+use Rattle.shared_graph.specs.declared.error.SharedError.TheVariants.{VertexRange, BadChunkSize, NotKept, NotHeld, HistoryFull, BadSeats, NoMemory}
+use Rattle.shared_graph.specs.declared.error.LatestError.{LatestError}
+use Rattle.shared_graph.specs.declared.error.LatestError.TheVariants as latest
 
 -- the number of a refusal
 abbrev pub number_of : SharedError → ℕ
@@ -13,8 +15,12 @@ number_of NotKept = 121
 number_of NotHeld = 122
 number_of HistoryFull = 123
 number_of BadSeats = 124
-number_of Closed = 125
 number_of NoMemory = 900
+
+-- the number of a refusal of the newest version
+abbrev pub latest_number_of : LatestError → ℕ
+latest_number_of latest.Closed = 125
+latest_number_of latest.NoMemory = 900
 
 -- a refusal of the versions, as one of the shared graph
 abbrev pub from_version : VersionError → SharedError

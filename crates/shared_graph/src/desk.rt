@@ -4,7 +4,7 @@ ghost use Rattle.std.specs.Prelude.{◌≡◌, [], IfOk, IfErr, true};
 ghost use Rattle.version_list.specs.declared.step.Step.TheVariants.{Commit, Acquire, Release};
 ghost use Rattle.version_list.specs.declared.step.Reply.TheVariants as reply;
 ghost use Rattle.std.specs.Arc.{arc_value};
-ghost use Rattle.version_list.specs.Machine.{is_open};
+ghost use Rattle.version_list.specs.Machine.{opened, is_open};
 ghost use Rattle.version_list.specs.Prepared.{IsPrepared, IsPreparedAcquire};
 ghost use Rattle.version_list.specs.Timeline.{beginning};
 ghost use Rattle.shared_graph.specs.declared.error.SharedError.TheVariants.{NoMemory};
@@ -52,6 +52,7 @@ impl<J: Naming, R: Wait + Drop> Drop for Desk<J, R> {
 
 impl<J: Naming, R: Wait + Drop> Model for Desk<J, R> {
     ghost use Rattle.std.specs.Prelude.{List};
+    ghost use Rattle.version_list.specs.Machine.{opened};
     ghost use Rattle.shared_graph.specs.declared.entry.Entry.{Entry};
     ghost use Rattle.shared_graph.specs.Locked.{IsTimelineOf};
 
@@ -59,13 +60,13 @@ impl<J: Naming, R: Wait + Drop> Model for Desk<J, R> {
 
     ghost view = { λ d. d.ledger };
 
-    ghost invariant = { λ d. IsTimelineOf J.base d.ledger d.versions };
+    ghost invariant = { λ d. IsTimelineOf (opened J.vertices J.room) d.ledger d.versions };
 }
 
 impl<J: Naming, R: Wait + Drop> Desk<J, R> {
     /// Versions that were just opened, and the ledger of no step.
     pub(crate) fn new(versions: Versions, ledger: Ledger<J, R>) -> Desk<J, R>
-        requires versions { versions ≡ beginning J.base }
+        requires versions { versions ≡ beginning (opened J.vertices J.room) }
         requires ledger { ledger ≡ [] }
     {
         Desk { versions, ledger }
@@ -79,7 +80,7 @@ impl<J: Naming, R: Wait + Drop> Desk<J, R> {
         me: &mut Reader<J>,
         batch: Batch,
     ) -> Result<u64, SharedError>
-        ensures answer { Answers J.base me.old (Commit batch) reply.Version result me.new }
+        ensures answer { Answers (opened J.vertices J.room) me.old (Commit batch) reply.Version result me.new }
         ensures log { IfOk result (λ _. me.new.shown ≡ self.new) }
         ensures err { IfErr result (λ _. self.new ≡ self.old) }
     {
@@ -104,9 +105,10 @@ impl<J: Naming, R: Wait + Drop> Desk<J, R> {
         alloc: Global,
         me: &mut Reader<J>,
         which: Which,
-    ) -> Result<Held, SharedError>
-        ensures answer { Answers J.base me.old (Acquire which) (λ h. reply.Ticket h.ticket h.version) result me.new }
-        ensures graph { IfOk result (HoldsVersion (state_at J.base me.new.shown) which) }
+    ) -> Result<Held<J>, SharedError>
+        ensures answer { Answers (opened J.vertices J.room) me.old (Acquire which) (λ h. reply.Ticket h.ticket h.version) result me.new }
+        ensures version { IfOk result (HoldsVersion (state_at (opened J.vertices J.room) me.new.shown) which) }
+        ensures history { IfOk result (λ h. h.history ≡ me.new.shown) }
         ensures log { IfOk result (λ _. me.new.shown ≡ self.new) }
         ensures err { IfErr result (λ _. self.new ≡ self.old) }
     {
@@ -127,7 +129,7 @@ impl<J: Naming, R: Wait + Drop> Desk<J, R> {
             .record(rt, me, &done, newest.number, newest.graph);
         let number = prepared.version;
         let (ticket, _) = self.versions.finish_acquire(prepared);
-        Ok(Held::new(ticket, Snapshot { number, graph }))
+        Ok(Held::new(ticket, Snapshot { number, graph }, me.front()))
     }
 
     /// Closes the ticket of a held version in the name of a reader. Memory runs out only for an open ticket.
@@ -135,12 +137,12 @@ impl<J: Naming, R: Wait + Drop> Desk<J, R> {
         &mut self,
         rt: &T,
         me: &mut Reader<J>,
-        held: Held,
-    ) -> Result<(), Unreleased>
-        ensures answer { AnswersRelease J.base me.old held result me.new }
+        held: Held<J>,
+    ) -> Result<(), Unreleased<J>>
+        ensures answer { AnswersRelease (opened J.vertices J.room) me.old held result me.new }
         ensures log { IfOk result (λ _. me.new.shown ≡ self.new) }
         ensures err { IfErr result (λ _. self.new ≡ self.old) }
-        ensures memory { IfErr result (λ u. u.error ≡ NoMemory → is_open (state_at J.base self.old) held.ticket ≡ true) }
+        ensures memory { IfErr result (λ u. u.error ≡ NoMemory → is_open (state_at (opened J.vertices J.room) self.old) held.ticket ≡ true) }
     {
         prove!(self.versions.history().len() as u64 <= MAX_HISTORY);
         let ticket = held.ticket();
@@ -176,12 +178,12 @@ fn prepare_commit<J: Naming, R: Wait + Drop, T: Threads + Wait + Sync>(
     me: &mut Reader<J>,
     batch: Batch,
 ) -> Result<(Prepared, Arc<Graph>), SharedError>
-    requires { IsTimelineOf J.base ledger.now versions.old }
-    ensures timeline { IsTimelineOf J.base ledger.now versions.new }
+    requires { IsTimelineOf (opened J.vertices J.room) ledger.now versions.old }
+    ensures timeline { IsTimelineOf (opened J.vertices J.room) ledger.now versions.new }
     ensures prepared { IfOk result (λ r. IsPrepared versions.new batch r.0) }
     ensures graph { IfOk result (λ r. arc_value r.1 ≡ r.0.graph) }
     ensures same { IfOk result (λ _. me.new ≡ me.old) }
-    ensures err { IfErr result (λ e. Refuses J.base me.old (Commit batch) e me.new) }
+    ensures err { IfErr result (λ e. Refuses (opened J.vertices J.room) me.old (Commit batch) e me.new) }
 {
     let forks = if batch.entries().len() < MANY_ENTRIES {
         0
@@ -206,13 +208,13 @@ fn prepare_hold<J: Naming, R: Wait + Drop, T: Wait>(
     me: &mut Reader<J>,
     which: Which,
 ) -> Result<(PreparedAcquire, Snapshot, Arc<Graph>), SharedError>
-    requires { IsTimelineOf J.base ledger.now versions.old }
-    ensures timeline { IsTimelineOf J.base ledger.now versions.new }
+    requires { IsTimelineOf (opened J.vertices J.room) ledger.now versions.old }
+    ensures timeline { IsTimelineOf (opened J.vertices J.room) ledger.now versions.new }
     ensures prepared { IfOk result (λ r. IsPreparedAcquire versions.new which r.0) }
-    ensures newest { IfOk result (λ r. IsNewest (state_at J.base ledger.now) r.1.number (arc_value r.1.graph)) }
+    ensures newest { IfOk result (λ r. IsNewest (state_at (opened J.vertices J.room) ledger.now) r.1.number (arc_value r.1.graph)) }
     ensures graph { IfOk result (λ r. arc_value r.2 ≡ r.0.graph) }
     ensures same { IfOk result (λ _. me.new ≡ me.old) }
-    ensures err { IfErr result (λ e. Refuses J.base me.old (Acquire which) e me.new) }
+    ensures err { IfErr result (λ e. Refuses (opened J.vertices J.room) me.old (Acquire which) e me.new) }
 {
     let prepared = match versions.prepare_acquire(which) {
         Ok(prepared) => prepared,

@@ -1,12 +1,13 @@
 ghost use Rattle.std.specs.Prelude.{◌≡◌};
 ghost use Rattle.shared_graph.specs.declared.error.SharedError.TheVariants.{NoMemory};
-ghost use Rattle.shared_graph.specs.Refusal.{number_of, from_version};
+ghost use Rattle.shared_graph.specs.declared.error.LatestError.TheVariants as latest;
+ghost use Rattle.shared_graph.specs.Refusal.{number_of, latest_number_of, from_version};
 
 use std::alloc::{AllocError, AllocFailed};
 use thiserror::Error;
 use version_list::VersionError;
 
-/// Why a step was refused, a snapshot was not given, or a graph was not opened.
+/// Why a step was refused, or a graph was not opened.
 #[derive(Clone, Copy, Debug, PartialEq, Eq, Error)]
 pub enum SharedError {
     #[error("a graph has 1 to 16777216 vertices, and an entry names two of them")]
@@ -21,14 +22,12 @@ pub enum SharedError {
     HistoryFull,
     #[error("a shared graph has 1 to 64 readers")]
     BadSeats,
-    #[error("nothing is published, as after the graph was dropped")]
-    Closed,
     #[error("out of memory")]
     NoMemory,
 }
 
 impl SharedError {
-    /// The number by which users know the refusal: 111, 103, 121 to 125 or 900.
+    /// The number by which users know the refusal: 111, 103, 121 to 124 or 900.
     pub fn number(self) -> u16
         ensures { result ≡ number_of self }
     {
@@ -39,7 +38,6 @@ impl SharedError {
             SharedError::NotHeld => 122,
             SharedError::HistoryFull => 123,
             SharedError::BadSeats => 124,
-            SharedError::Closed => 125,
             SharedError::NoMemory => 900,
         }
     }
@@ -73,5 +71,34 @@ impl<T: Drop> From<AllocFailed<T>> for SharedError {
 
     fn from(_error: AllocFailed<T>) -> SharedError {
         SharedError::NoMemory
+    }
+}
+
+/// Why the newest version was not given.
+#[derive(Clone, Copy, Debug, PartialEq, Eq, Error)]
+pub enum LatestError {
+    #[error("nothing is published, as after the graph was dropped")]
+    Closed,
+    #[error("out of memory")]
+    NoMemory,
+}
+
+impl LatestError {
+    /// The number by which users know the refusal: 125 or 900.
+    pub fn number(self) -> u16
+        ensures { result ≡ latest_number_of self }
+    {
+        match self {
+            LatestError::Closed => 125,
+            LatestError::NoMemory => 900,
+        }
+    }
+}
+
+impl From<AllocError> for LatestError {
+    ghost from_gives = { λ _ e. e ≡ latest.NoMemory };
+
+    fn from(_error: AllocError) -> LatestError {
+        LatestError::NoMemory
     }
 }

@@ -2,6 +2,7 @@
 
 ghost use Rattle.std.specs.Prelude.{◌≡◌, ◌<◌, ◌^◌, ◌++◌, ◌∷◌, [], length, MatchBool};
 ghost use mathlib.Core.List.{IsPrefix};
+ghost use Rattle.version_list.specs.Machine.{opened};
 ghost use Rattle.version_list.specs.Timeline.{IsLegal};
 ghost use Rattle.shared_graph.specs.Histories.{steps_of, MayFollow};
 
@@ -33,6 +34,7 @@ impl<J: Naming> Drop for Front<J> {
 
 impl<J: Naming> Model for Front<J> {
     ghost use Rattle.std.specs.Prelude.{◌≡◌, List, length};
+    ghost use Rattle.version_list.specs.Machine.{opened};
     ghost use Rattle.version_list.specs.Timeline.{IsLegal};
     ghost use Rattle.shared_graph.specs.declared.entry.Entry.{Entry};
     ghost use Rattle.shared_graph.specs.Histories.{steps_of};
@@ -42,7 +44,7 @@ impl<J: Naming> Model for Front<J> {
     ghost view = { λ f. f.seen.log };
 
     ghost invariant = { λ f. (f.count ≡ length f.seen.log) × (f.seen.book ≡ J.book)
-        × IsLegal J.base (steps_of f.seen.log) };
+        × IsLegal (opened J.vertices J.room) (steps_of f.seen.log) };
 }
 
 impl<J: Naming> Front<J> {
@@ -62,7 +64,7 @@ impl<J: Naming> Front<J> {
     pub(crate) fn of_seen(seen: Seen<Entry, u64, Law>, count: u64) -> Front<J>
         requires book { seen.book ≡ J.book }
         requires count { count ≡ length seen.log }
-        requires legal { IsLegal J.base (steps_of seen.log) }
+        requires legal { IsLegal (opened J.vertices J.room) (steps_of seen.log) }
         ensures { result ≡ seen.log }
     {
         Front {
@@ -75,7 +77,7 @@ impl<J: Naming> Front<J> {
     /// How many entries it has.
     pub(crate) fn len(&self) -> u64
         ensures length { result ≡ length self.now }
-        ensures legal { IsLegal J.base (steps_of self.now) }
+        ensures legal { IsLegal (opened J.vertices J.room) (steps_of self.now) }
     {
         self.count
     }
@@ -112,7 +114,7 @@ impl<J: Naming> Front<J> {
     pub(crate) fn longer(&self, other: &Front<J>) -> Front<J>
         ensures this { IsPrefix self.now result }
         ensures that { IsPrefix other.now result }
-        ensures legal { IsLegal J.base (steps_of result) }
+        ensures legal { IsLegal (opened J.vertices J.room) (steps_of result) }
     {
         if self.begins(other) {
             other.again()
@@ -125,7 +127,7 @@ impl<J: Naming> Front<J> {
     /// history is longer.
     pub(crate) fn add(&mut self, book: &Book<J>, by: u64, done: &Done) -> bool
         requires room { length self.old < 2 ^ 62 }
-        requires follows { MayFollow J.base self.old done.now }
+        requires follows { MayFollow (opened J.vertices J.room) self.old done.now }
         ensures { MatchBool result (self.new ≡ self.old ++ record { by = by; done = done.now } ∷ [])
             (self.new ≡ self.old) }
     {

@@ -2,33 +2,46 @@
 
 ghost use Rattle.std.specs.Prelude.{◌≡◌};
 ghost use Rattle.std.specs.Arc.{arc_value};
+ghost use Rattle.shared_graph.specs.Histories.{IsVersionOf};
 
 use crate::error::SharedError;
+use crate::front::Front;
+use crate::naming::Naming;
 use crate::snapshot::Snapshot;
 use std::marker::Model;
 use version_list::Ticket;
 
-/// A version that is held by a ticket. It is not let go: give it to
-/// [`SharedGraph::release`](crate::SharedGraph::release), or spend it by [`Held::into_snapshot`].
-pub struct Held {
+/// A version that is held by a ticket, and the history at whose end it was held, of which it is a
+/// version. It is not let go: give it to [`SharedGraph::release`](crate::SharedGraph::release), or
+/// spend it by [`Held::into_snapshot`].
+pub struct Held<J: Naming> {
     ticket: Ticket,
     snapshot: Snapshot,
+    history: Front<J>,
 }
 
-impl Model for Held {
+impl<J: Naming> Model for Held<J> {
     ghost use Rattle.std.specs.Arc.{arc_value};
     ghost use Rattle.shared_graph.specs.Holding.{Hold};
+    ghost use Rattle.shared_graph.specs.Histories.{IsVersionOf};
 
     ghost Value = { Hold };
 
-    ghost view = { λ h. record { ticket = h.ticket.number; version = h.snapshot.number; graph = arc_value h.snapshot.graph } };
+    ghost view = { λ h. record { ticket = h.ticket.number; version = h.snapshot.number; graph = arc_value h.snapshot.graph; history = h.history } };
+
+    ghost invariant = { λ h. IsVersionOf J.vertices h.history h.snapshot.number (arc_value h.snapshot.graph) };
 }
 
-impl Held {
-    pub(crate) fn new(ticket: Ticket, snapshot: Snapshot) -> Held
-        ensures { result ≡ record { ticket = ticket.number; version = snapshot.number; graph = arc_value snapshot.graph } }
+impl<J: Naming> Held<J> {
+    pub(crate) fn new(ticket: Ticket, snapshot: Snapshot, history: &Front<J>) -> Held<J>
+        requires { IsVersionOf J.vertices history.now snapshot.number (arc_value snapshot.graph) }
+        ensures { result ≡ record { ticket = ticket.number; version = snapshot.number; graph = arc_value snapshot.graph; history = history.now } }
     {
-        Held { ticket, snapshot }
+        Held {
+            ticket,
+            snapshot,
+            history: history.again(),
+        }
     }
 
     /// The ticket's number.
@@ -38,10 +51,12 @@ impl Held {
         self.ticket
     }
 
-    /// The version that is held. Takes no memory.
+    /// The version that is held: its graph is the fold of the first batches of the history at whose
+    /// end it was held, as many as its number says. Takes no memory.
     pub fn snapshot(&self) -> &Snapshot
         ensures number { result.now.number ≡ self.now.version }
         ensures graph { arc_value result.now.graph ≡ self.now.graph }
+        ensures version { IsVersionOf J.vertices self.now.history self.now.version self.now.graph }
     {
         &self.snapshot
     }
@@ -51,17 +66,19 @@ impl Held {
     pub fn into_snapshot(self) -> Snapshot
         ensures number { result.number ≡ self.version }
         ensures graph { arc_value result.graph ≡ self.graph }
+        ensures version { IsVersionOf J.vertices self.history self.version self.graph }
     {
         let Held {
             ticket: _,
             snapshot,
+            history: _,
         } = self;
         snapshot
     }
 }
 
 /// A release that was refused: why, and what was to be released.
-pub struct Unreleased {
+pub struct Unreleased<J: Naming> {
     pub error: SharedError,
-    pub held: Held,
+    pub held: Held<J>,
 }

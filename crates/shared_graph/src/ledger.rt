@@ -58,8 +58,8 @@ impl<J: Naming, R: Wait + Drop> Model for Ledger<J, R> {
 
     ghost view = { λ l. l.front };
 
-    ghost invariant = { λ l. (J.base ≡ opened l.vertices l.room) × AreCounts l.front l.counts.items
-        × (l.publisher ≡ record { book = J.book; base = J.base; log = l.front }) };
+    ghost invariant = { λ l. (opened J.vertices J.room ≡ opened l.vertices l.room) × AreCounts l.front l.counts.items
+        × (l.publisher ≡ record { book = J.book; base = opened J.vertices J.room; log = l.front }) };
 }
 
 impl<J: Naming, R: Wait + Drop> Ledger<J, R> {
@@ -77,8 +77,8 @@ impl<J: Naming, R: Wait + Drop> Ledger<J, R> {
         readers: usize,
     ) -> Result<(Ledger<J, R>, Vec<Reader<J>>), AllocError>
         requires book { opening ≡ J.book }
-        requires base { J.base ≡ opened vertices room }
-        requires newest { IsNewest (state_at J.base []) 0 (arc_value graph) }
+        requires base { opened J.vertices J.room ≡ opened vertices room }
+        requires newest { IsNewest (state_at (opened J.vertices J.room) []) 0 (arc_value graph) }
         requires readers { (0 < readers) × (readers ≤ 64) }
         ensures ledger { IfOk result (λ r. r.0 ≡ []) }
         ensures readers { IfOk result (λ r. r.1.items ≡ fresh_passes readers) }
@@ -103,7 +103,7 @@ impl<J: Naming, R: Wait + Drop> Ledger<J, R> {
     ///
     /// Errors: `AllocError` where the graph cannot be shared once more.
     pub(crate) fn newest(&self) -> Result<Snapshot, AllocError>
-        ensures { IfOk result (λ s. IsNewest (state_at J.base self.now) s.number (arc_value s.graph)) }
+        ensures { IfOk result (λ s. IsNewest (state_at (opened J.vertices J.room) self.now) s.number (arc_value s.graph)) }
     {
         self.publisher.published().snapshot()
     }
@@ -116,7 +116,7 @@ impl<J: Naming, R: Wait + Drop> Ledger<J, R> {
         alloc: Global,
         graph: &Graph,
     ) -> Result<(Snapshot, Arc<Graph>), AllocError>
-        ensures newest { IfOk result (λ r. IsNewest (state_at J.base self.now) r.0.number (arc_value r.0.graph)) }
+        ensures newest { IfOk result (λ r. IsNewest (state_at (opened J.vertices J.room) self.now) r.0.number (arc_value r.0.graph)) }
         ensures graph { IfOk result (λ r. arc_value r.1 ≡ graph.now) }
     {
         let newest = self.newest()?;
@@ -135,10 +135,10 @@ impl<J: Naming, R: Wait + Drop> Ledger<J, R> {
         graph: Arc<Graph>,
     )
         requires few { length self.old ≤ 16777216 }
-        requires follows { MayFollow J.base self.old done.now }
-        requires newest { IsNewest (state_after (state_at J.base self.old) done.now.step) number (arc_value graph) }
+        requires follows { MayFollow (opened J.vertices J.room) self.old done.now }
+        requires newest { IsNewest (state_after (state_at (opened J.vertices J.room) self.old) done.now.step) number (arc_value graph) }
         ensures log { self.new ≡ self.old ++ record { by = me.old.number; done = done.now } ∷ [] }
-        ensures made { HasMade J.base me.old done.now.step done.now.reply me.new }
+        ensures made { HasMade (opened J.vertices J.room) me.old done.now.step done.now.reply me.new }
         ensures shown { me.new.shown ≡ self.new }
     {
         make_step(rt, &self.book, &mut self.front, &mut self.counts, me, done);
@@ -156,7 +156,7 @@ impl<J: Naming, R: Wait + Drop> Ledger<J, R> {
         error: VersionError,
     ) -> SharedError
         ensures error { result ≡ from_version error }
-        ensures shown { ShowsRefusal J.base error me.old self.now me.new }
+        ensures shown { ShowsRefusal (opened J.vertices J.room) error me.old self.now me.new }
     {
         if error != VersionError::NoMemory {
             meet(rt, &self.front, &self.counts, me);
@@ -179,7 +179,7 @@ fn meet<J: Naming, T: Wait>(
     ensures steps { (result.1 ≡ length (own me.now.number front.now)) × (result.1 ≡ slice_index counts.now result.0) }
     ensures begins { IsPrefix me.now.shown front.now }
     ensures own { own me.now.number front.now ≡ own me.now.number me.now.last }
-    ensures legal { IsLegal J.base (steps_of front.now) }
+    ensures legal { IsLegal (opened J.vertices J.room) (steps_of front.now) }
 {
     let (number, steps) = me.account();
     let place = number as usize;
@@ -200,11 +200,11 @@ fn make_step<J: Naming, T: Wait>(
     done: &Done,
 )
     requires few { length front.old ≤ 16777216 }
-    requires follows { MayFollow J.base front.old done.now }
+    requires follows { MayFollow (opened J.vertices J.room) front.old done.now }
     requires counts { AreCounts front.old counts.old.items }
     ensures front { front.new ≡ front.old ++ record { by = me.now.number; done = done.now } ∷ [] }
     ensures counts { AreCounts front.new counts.new.items }
-    ensures made { HasMade J.base me.now done.now.step done.now.reply (record me.now { shown = front.new; last = front.new }) }
+    ensures made { HasMade (opened J.vertices J.room) me.now done.now.step done.now.reply (record me.now { shown = front.new; last = front.new }) }
 {
     let (place, steps) = meet(rt, front, counts, me);
     extend(rt, book, front, place, done);
@@ -221,7 +221,7 @@ fn extend<J: Naming, T: Wait>(
     done: &Done,
 )
     requires few { length front.old ≤ 16777216 }
-    requires follows { MayFollow J.base front.old done.now }
+    requires follows { MayFollow (opened J.vertices J.room) front.old done.now }
     ensures { front.new ≡ front.old ++ record { by = reader; done = done.now } ∷ [] }
 {
     if !front.add(book, reader as u64, done) {
@@ -245,7 +245,7 @@ fn fresh_readers<J: Naming, R: Wait + Drop>(
     readers: usize,
 ) -> Result<Vec<Reader<J>>, AllocError>
     requires first { first.now ≡ [] }
-    requires book { (publisher.old.book ≡ J.book) × (publisher.old.base ≡ J.base) }
+    requires book { (publisher.old.book ≡ J.book) × (publisher.old.base ≡ opened J.vertices J.room) }
     ensures same { publisher.new ≡ publisher.old }
     ensures fresh { IfOk result (λ v. v.items ≡ fresh_passes readers) }
 {

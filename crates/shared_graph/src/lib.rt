@@ -26,6 +26,7 @@ mod entry;
 mod error;
 mod front;
 mod held;
+mod laws;
 mod ledger;
 mod naming;
 mod publisher;
@@ -36,8 +37,12 @@ mod snapshot;
 
 pub use book::Opening;
 pub use entry::Entry;
-pub use error::SharedError;
+pub use error::{LatestError, SharedError};
 pub use held::{Held, Unreleased};
+pub use laws::{
+    held_versions_are_of_the_history, longer_histories_keep_their_versions,
+    versions_are_folds_of_commits,
+};
 pub use naming::Naming;
 pub use reader::{Reader, Token};
 pub use shared::{MAX_READERS, SharedGraph};

@@ -1,16 +1,16 @@
 //! Readers, and what they tell one another.
 
-ghost use Rattle.std.specs.Prelude.{◌≡◌, ◌<◌, ◌+◌, ◌^◌, ◌⊎◌, ◌++◌, ◌∷◌, [], length, IfOk, IfErr, Some};
+ghost use Rattle.std.specs.Prelude.{◌≡◌, ◌<◌, ◌+◌, ◌^◌, ◌++◌, ◌∷◌, [], length, IfOk, OnErr, Some};
 ghost use Rattle.std.specs.Arc.{arc_value};
 ghost use mathlib.Core.List.{IsPrefix};
 ghost use Rattle.left_right.specs.Sides.{view as view_of};
+ghost use Rattle.version_list.specs.Machine.{opened};
 ghost use Rattle.version_list.specs.Timeline.{IsLegal};
-ghost use Rattle.shared_graph.specs.declared.error.SharedError.TheVariants.{Closed, NoMemory};
 ghost use Rattle.shared_graph.specs.Histories.{steps_of, own, state_at, IsNewest};
 ghost use Rattle.shared_graph.specs.Passes.{fresh, Shows};
 ghost use Rattle.shared_graph.specs.Publishing.{Knows};
 
-use crate::error::SharedError;
+use crate::error::LatestError;
 use crate::front::Front;
 use crate::naming::Naming;
 use crate::publisher::{Seeing, ShownReader};
@@ -45,6 +45,7 @@ impl<J: Naming> Model for Reader<J> {
     ghost use Rattle.std.specs.Prelude.{◌≡◌, length, Some, IfSome};
     ghost use mathlib.Core.List.{IsPrefix};
     ghost use Rattle.left_right.specs.Sides.{view as view_of};
+    ghost use Rattle.version_list.specs.Machine.{opened};
     ghost use Rattle.shared_graph.specs.Histories.{own};
     ghost use Rattle.shared_graph.specs.Passes.{Pass};
     ghost use Rattle.shared_graph.specs.Publishing.{Knows};
@@ -54,14 +55,14 @@ impl<J: Naming> Model for Reader<J> {
     ghost view = { λ r. record { number = r.number; shown = r.front; last = r.last } };
 
     ghost invariant = { λ r. (r.steps ≡ length (own r.number r.last)) × IsPrefix r.last r.front
-        × IfSome r.read (λ x. Knows J.book J.base (view_of x.place)) };
+        × IfSome r.read (λ x. Knows J.book (opened J.vertices J.room) (view_of x.place)) };
 }
 
 impl<J: Naming> Reader<J> {
     /// A reader that has shown nothing.
     pub(crate) fn new(number: u64, read: ShownReader, first: &Front<J>) -> Reader<J>
         requires first { first.now ≡ [] }
-        requires read { Knows J.book J.base (view_of read.place) }
+        requires read { Knows J.book (opened J.vertices J.room) (view_of read.place) }
         ensures { result ≡ fresh number }
     {
         Reader {
@@ -76,18 +77,20 @@ impl<J: Naming> Reader<J> {
     /// The newest version that is published. Takes no lock and waits for nobody: it has no bound by
     /// which it could. It costs a guard and the clone of one counted pointer.
     ///
-    /// The history shown afterwards begins with the one before; the snapshot's number is the count
-    /// of its commits, and the graph is their batches, folded.
+    /// The history shown afterwards is legal and begins with the one before; the snapshot's number is
+    /// the count of its commits, and the graph is their batches, folded.
     ///
     /// Errors: `Closed` where nothing is published, as after the shared graph was dropped, and
     /// `NoMemory` where the graph cannot be shared once more. The reader is then as it was.
-    pub fn latest(&mut self) -> Result<Snapshot, SharedError>
-        ensures shows { IfOk result (λ s. Shows J.base self.old self.new) }
-        ensures newest { IfOk result (λ s. IsNewest (state_at J.base self.new.shown) s.number (arc_value s.graph)) }
-        ensures err { IfErr result (λ e. ((e ≡ Closed) ⊎ (e ≡ NoMemory)) × (self.new ≡ self.old)) }
+    pub fn latest(&mut self) -> Result<Snapshot, LatestError>
+        ensures shows { IfOk result (λ s. Shows (opened J.vertices J.room) self.old self.new) }
+        ensures newest { IfOk result (λ s. IsNewest (state_at (opened J.vertices J.room) self.new.shown) s.number (arc_value s.graph)) }
+        ensures err { OnErr result (self.new ≡ self.old) }
+        ensures legal { IsLegal (opened J.vertices J.room) (steps_of self.new.shown) }
     {
+        self.front.len();
         let Some(reader) = self.read.take() else {
-            return Err(SharedError::Closed);
+            return Err(LatestError::Closed);
         };
         let (reader, seen) = read_shown(reader, &self.front);
         self.read = Some(reader);
@@ -113,7 +116,7 @@ impl<J: Naming> Reader<J> {
         ensures last { self.new.last ≡ self.old.last }
         ensures shown { IsPrefix self.old.shown self.new.shown }
         ensures told { IsPrefix token.now self.new.shown }
-        ensures legal { IsLegal J.base (steps_of self.new.shown) }
+        ensures legal { IsLegal (opened J.vertices J.room) (steps_of self.new.shown) }
     {
         self.front = self.front.longer(&token.front);
     }
@@ -173,32 +176,30 @@ impl<J: Naming> Model for Token<J> {
 fn read_shown<J: Naming>(
     reader: ShownReader,
     front: &Front<J>,
-) -> (ShownReader, Result<(Snapshot, Front<J>), SharedError>)
-    requires { Knows J.book J.base (view_of reader.place) }
-    ensures knows { Knows J.book J.base (view_of result.0.place) }
-    ensures seen { IfOk result.1 (λ r. IsPrefix front.now r.1 × IsLegal J.base (steps_of r.1)) }
-    ensures newest { IfOk result.1 (λ r. IsNewest (state_at J.base r.1) r.0.number (arc_value r.0.graph)) }
-    ensures err { IfErr result.1 (λ e. (e ≡ Closed) ⊎ (e ≡ NoMemory)) }
+) -> (ShownReader, Result<(Snapshot, Front<J>), LatestError>)
+    requires { Knows J.book (opened J.vertices J.room) (view_of reader.place) }
+    ensures knows { Knows J.book (opened J.vertices J.room) (view_of result.0.place) }
+    ensures seen { IfOk result.1 (λ r. IsPrefix front.now r.1 × IsLegal (opened J.vertices J.room) (steps_of r.1)) }
+    ensures newest { IfOk result.1 (λ r. IsNewest (state_at (opened J.vertices J.room) r.1) r.0.number (arc_value r.0.graph)) }
 {
     match reader.enter_as::<Seeing>() {
         Ok(reading) => {
             let seen = see(reading.get(), front);
             (reading.leave(), seen)
         }
-        Err(reader) => (reader, Err(SharedError::Closed)),
+        Err(reader) => (reader, Err(LatestError::Closed)),
     }
 }
 
 // The version that is shown, and the history that made it, where that begins with what was seen.
-fn see<J: Naming>(shown: &Shown, front: &Front<J>) -> Result<(Snapshot, Front<J>), SharedError>
-    requires { (shown.now.book ≡ J.book) × (shown.now.base ≡ J.base) }
-    ensures seen { IfOk result (λ r. IsPrefix front.now r.1 × IsLegal J.base (steps_of r.1)) }
-    ensures newest { IfOk result (λ r. IsNewest (state_at J.base r.1) r.0.number (arc_value r.0.graph)) }
-    ensures err { IfErr result (λ e. (e ≡ Closed) ⊎ (e ≡ NoMemory)) }
+fn see<J: Naming>(shown: &Shown, front: &Front<J>) -> Result<(Snapshot, Front<J>), LatestError>
+    requires { (shown.now.book ≡ J.book) × (shown.now.base ≡ opened J.vertices J.room) }
+    ensures seen { IfOk result (λ r. IsPrefix front.now r.1 × IsLegal (opened J.vertices J.room) (steps_of r.1)) }
+    ensures newest { IfOk result (λ r. IsNewest (state_at (opened J.vertices J.room) r.1) r.0.number (arc_value r.0.graph)) }
 {
     let newer = shown.front::<J>();
     if !front.begins(&newer) {
-        return Err(SharedError::Closed);
+        return Err(LatestError::Closed);
     }
     let snapshot = shown.snapshot()?;
     Ok((snapshot, newer))

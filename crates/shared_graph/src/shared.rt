@@ -53,7 +53,8 @@ impl<J: Naming, R: Wait + Drop> SharedGraph<J, R> {
         readers: usize,
     ) -> Result<(SharedGraph<J, R>, Vec<Reader<J>>), SharedError>
         requires book { opening ≡ J.book }
-        requires base { J.base ≡ opened vertices 16777216 }
+        requires vertices { J.vertices ≡ vertices }
+        requires room { J.room ≡ 16777216 }
         ensures { Opens vertices chunk_size readers (λ r. r.1.items) result }
     {
         SharedGraph::open_with_room(
@@ -79,7 +80,8 @@ impl<J: Naming, R: Wait + Drop> SharedGraph<J, R> {
         room: u64,
     ) -> Result<(SharedGraph<J, R>, Vec<Reader<J>>), SharedError>
         requires book { opening ≡ J.book }
-        requires base { J.base ≡ opened vertices room }
+        requires vertices { J.vertices ≡ vertices }
+        requires room { J.room ≡ room }
         ensures { Opens vertices chunk_size readers (λ r. r.1.items) result }
     {
         let versions = Versions::with_room(alloc, vertices, chunk_size, room)?;
@@ -106,14 +108,14 @@ impl<J: Naming, R: Wait + Drop> SharedGraph<J, R> {
         me: &mut Reader<J>,
         batch: Batch,
     ) -> Result<u64, SharedError>
-        ensures { Answers J.base me.old (Commit batch) reply.Version result me.new }
+        ensures { Answers (opened J.vertices J.room) me.old (Commit batch) reply.Version result me.new }
     {
         self.desk.lock(rt).commit(rt, alloc, me, batch)
     }
 
     /// Holds a version by a new ticket in the name of a reader: of the newest all batches of the
     /// history that the reader then shows, folded, of an older one those up to its number. That
-    /// history extends the one before and ends in this hold.
+    /// history extends the one before and ends in this hold, and what is held keeps it.
     ///
     /// Errors: `NotKept` where the version asked for is neither the newest nor held, else
     /// `HistoryFull` where the history has no room for this step and for the ticket's release, at
@@ -125,9 +127,10 @@ impl<J: Naming, R: Wait + Drop> SharedGraph<J, R> {
         alloc: Global,
         me: &mut Reader<J>,
         which: Which,
-    ) -> Result<Held, SharedError>
-        ensures answer { Answers J.base me.old (Acquire which) (λ h. reply.Ticket h.ticket h.version) result me.new }
-        ensures version { IfOk result (HoldsVersion (state_at J.base me.new.shown) which) }
+    ) -> Result<Held<J>, SharedError>
+        ensures answer { Answers (opened J.vertices J.room) me.old (Acquire which) (λ h. reply.Ticket h.ticket h.version) result me.new }
+        ensures version { IfOk result (HoldsVersion (state_at (opened J.vertices J.room) me.new.shown) which) }
+        ensures history { IfOk result (λ h. h.history ≡ me.new.shown) }
     {
         self.desk.lock(rt).hold(rt, alloc, me, which)
     }
@@ -138,8 +141,13 @@ impl<J: Naming, R: Wait + Drop> SharedGraph<J, R> {
     /// Errors, which give the held version back: `NotHeld` where its ticket is not open, at the end
     /// of the history that the reader then shows; else `NoMemory`, and then graph and reader are as
     /// they were.
-    pub fn release<T: Wait>(&self, rt: &T, me: &mut Reader<J>, held: Held) -> Result<(), Unreleased>
-        ensures { AnswersRelease J.base me.old held result me.new }
+    pub fn release<T: Wait>(
+        &self,
+        rt: &T,
+        me: &mut Reader<J>,
+        held: Held<J>,
+    ) -> Result<(), Unreleased<J>>
+        ensures { AnswersRelease (opened J.vertices J.room) me.old held result me.new }
     {
         self.desk.lock(rt).release(rt, me, held)
     }

@@ -69,9 +69,9 @@ impl Shown {
         graph: Arc<Graph>,
         front: &Front<J>,
     ) -> Shown
-        requires base { J.base ≡ opened vertices room }
-        requires newest { IsNewest (state_at J.base front.now) number (arc_value graph) }
-        ensures { result ≡ record { book = J.book; base = J.base; log = front.now } }
+        requires base { opened J.vertices J.room ≡ opened vertices room }
+        requires newest { IsNewest (state_at (opened J.vertices J.room) front.now) number (arc_value graph) }
+        ensures { result ≡ record { book = J.book; base = opened J.vertices J.room; log = front.now } }
     {
         Shown {
             number,
@@ -115,9 +115,9 @@ impl Shown {
 
     /// The history.
     pub(crate) fn front<J: Naming>(&self) -> Front<J>
-        requires { (self.now.book ≡ J.book) × (self.now.base ≡ J.base) }
+        requires { (self.now.book ≡ J.book) × (self.now.base ≡ opened J.vertices J.room) }
         ensures front { result ≡ self.now.log }
-        ensures legal { IsLegal J.base (steps_of result) }
+        ensures legal { IsLegal (opened J.vertices J.room) (steps_of result) }
     {
         Front::of_seen(self.seen.again(), self.count)
     }

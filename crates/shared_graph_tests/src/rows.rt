@@ -1,8 +1,9 @@
 //! Readers of a shared graph beside a writer, on threads.
 ghost use Rattle.std.specs.Prelude.{◌≡◌};
-ghost use Rattle.version_list.specs.Machine.{opened};
 
-use shared_graph::{Held, Naming, Opening, Reader, SharedError, SharedGraph, Unreleased};
+use shared_graph::{
+    Held, Naming, Opening, Reader, SharedError, SharedGraph, Snapshot, Unreleased,
+};
 use std::alloc::{AllocError, Global};
 use std::marker::Brand;
 use std::rt::Clock;
@@ -42,9 +43,14 @@ fn add<J: Naming, W: Wait + Drop, R: Threads + Wait + Sync>(
     graph.commit(rt, alloc, me, batch)
 }
 
+// The newest version. Why there is none does not matter to a row.
+fn newest<J: Naming>(reader: &mut Reader<J>) -> Result<Snapshot, SharedError> {
+    reader.latest().map_err(|_| SharedError::NoMemory)
+}
+
 // The number of the newest version, and how many edges it has.
 fn look<J: Naming>(reader: &mut Reader<J>) -> Result<(u64, usize), SharedError> {
-    let newest = reader.latest()?;
+    let newest = newest(reader)?;
     Ok((newest.number, newest.graph.edge_count()))
 }
 
@@ -54,7 +60,7 @@ fn has_edge<J: Naming>(
     source: u32,
     destination: u32,
 ) -> Result<bool, SharedError> {
-    Ok(reader.latest()?.graph.contains(source, destination))
+    Ok(newest(reader)?.graph.contains(source, destination))
 }
 
 fn next<J: Naming>(readers: &mut Vec<Reader<J>>) -> Result<Reader<J>, SharedError> {
@@ -66,7 +72,7 @@ fn release<J: Naming, W: Wait + Drop, R: Wait>(
     rt: &R,
     graph: &SharedGraph<J, W>,
     me: &mut Reader<J>,
-    held: Held,
+    held: Held<J>,
 ) -> Option<u16> {
     match graph.release(rt, me, held) {
         Ok(()) => None,
@@ -82,7 +88,7 @@ fn release_held<J: Naming, W: Wait + Drop, R: Wait>(
     rt: &R,
     graph: &SharedGraph<J, W>,
     me: &mut Reader<J>,
-    held: Result<Held, SharedError>,
+    held: Result<Held<J>, SharedError>,
 ) -> Option<u16> {
     match held {
         Ok(held) => release(rt, graph, me, held),
@@ -121,7 +127,8 @@ fn two_threads<J: Naming + Send + Sync, R: Threads + Wait + AllocGlobal + Sync>(
     opening: Opening,
 ) -> Result<Vec<u64>, SharedError>
     requires book { opening ≡ J.book }
-    requires base { J.base ≡ opened 1 16777216 }
+    requires vertices { J.vertices ≡ 1 }
+    requires room { J.room ≡ 16777216 }
 {
     let (graph, mut readers) = SharedGraph::<J, &R>::open(rt, rt.alloc(), opening, 1, 64, 2)?;
     let (mut one, mut two) = (next(&mut readers)?, next(&mut readers)?);
@@ -183,7 +190,8 @@ fn three_readers<J: Naming, R: Threads + Wait + AllocGlobal + Sync>(
     opening: Opening,
 ) -> Result<bool, SharedError>
     requires book { opening ≡ J.book }
-    requires base { J.base ≡ opened 3 16777216 }
+    requires vertices { J.vertices ≡ 3 }
+    requires room { J.room ≡ 16777216 }
 {
     let (graph, mut readers) = SharedGraph::<J, &R>::open(rt, rt.alloc(), opening, 3, 64, 3)?;
     tell_both(rt, rt.alloc(), &graph, &mut readers)
@@ -263,79 +271,6 @@ fn follow<J: Naming, W: Wait + Drop, R: Threads + Wait + Sync>(
 }
 
 #[test]
-fn a_hold_of_another_graph_comes_back(rt: HostRuntime) -> Result<(), Fail> {
-    let back = two_graphs::<Brand, Brand, _>(&rt, Opening::new(), Opening::new())?;
-    assert!(rt; back);
-    Ok(())
-}
-
-fn two_graphs<J: Naming, K: Naming, R: Threads + Wait + AllocGlobal + Sync>(
-    rt: &R,
-    first: Opening,
-    second: Opening,
-) -> Result<bool, SharedError>
-    requires first { first ≡ J.book }
-    requires first_base { J.base ≡ opened 2 16777216 }
-    requires second { second ≡ K.book }
-    requires second_base { K.base ≡ opened 2 16777216 }
-{
-    let (one, mut ones) = SharedGraph::<J, &R>::open(rt, rt.alloc(), first, 2, 64, 1)?;
-    two_graphs_beside::<J, K, R>(rt, &one, &mut ones, second)
-}
-
-fn two_graphs_beside<'a, J: Naming, K: Naming, R: Threads + Wait + AllocGlobal + Sync>(
-    rt: &'a R,
-    one: &SharedGraph<J, &'a R>,
-    ones: &mut [Reader<J>],
-    second: Opening,
-) -> Result<bool, SharedError>
-    requires second { second ≡ K.book }
-    requires second_base { K.base ≡ opened 2 16777216 }
-{
-    let (two, mut twos) = SharedGraph::<K, &R>::open(rt, rt.alloc(), second, 2, 64, 1)?;
-    comes_back(rt, rt.alloc(), (one, ones), (&two, &mut twos))
-}
-
-// Whether a version that the first graph holds is refused by the second, and released by the first.
-fn comes_back<J: Naming, K: Naming, W: Wait + Drop, R: Wait>(
-    rt: &R,
-    alloc: Global,
-    (one, ones): (&SharedGraph<J, W>, &mut [Reader<J>]),
-    (two, twos): (&SharedGraph<K, W>, &mut [Reader<K>]),
-) -> Result<bool, SharedError> {
-    let ([mine], [theirs]) = (ones, twos) else {
-        return Err(SharedError::BadSeats);
-    };
-    comes_back_to(rt, alloc, (one, mine), (two, theirs))
-}
-
-// The same of one reader of each graph.
-fn comes_back_to<J: Naming, K: Naming, W: Wait + Drop, R: Wait>(
-    rt: &R,
-    alloc: Global,
-    (one, mine): (&SharedGraph<J, W>, &mut Reader<J>),
-    (two, theirs): (&SharedGraph<K, W>, &mut Reader<K>),
-) -> Result<bool, SharedError> {
-    let held = one.hold(rt, alloc, mine, Which::Newest)?;
-    match two.release(rt, theirs, held) {
-        Ok(()) => Ok(false),
-        Err(refused) => Ok(is_released_by(rt, one, mine, refused)),
-    }
-}
-
-// Whether a version was refused as another graph's, and its own releases it.
-fn is_released_by<J: Naming, W: Wait + Drop, R: Wait>(
-    rt: &R,
-    graph: &SharedGraph<J, W>,
-    me: &mut Reader<J>,
-    refused: Unreleased,
-) -> bool {
-    let Unreleased { error, held } = refused;
-    let released = release(rt, graph, me, held);
-    error.number() == 122 && released.is_none()
-}
-
-#[test]
 fn sixty_four_readers_beside_a_writer(rt: HostRuntime) -> Result<(), Fail> {
     let risen = many_readers::<Brand, _>(&rt, Opening::new())?;
     assert!(rt; risen);
@@ -349,7 +284,8 @@ fn many_readers<J: Naming + Send + Sync, R: Threads + Wait + Clock + AllocGlobal
     opening: Opening,
 ) -> Result<bool, SharedError>
     requires book { opening ≡ J.book }
-    requires base { J.base ≡ opened 128 16777216 }
+    requires vertices { J.vertices ≡ 128 }
+    requires room { J.room ≡ 16777216 }
 {
     let (graph, readers) = SharedGraph::<J, &R>::open(rt, rt.alloc(), opening, 128, 64, 64)?;
     read_beside(rt, rt.alloc(), &graph, readers)
@@ -438,7 +374,8 @@ fn little_room<J: Naming, R: Threads + Wait + AllocGlobal + Sync>(
     opening: Opening,
 ) -> Result<bool, SharedError>
     requires book { opening ≡ J.book }
-    requires base { J.base ≡ opened 2 7 }
+    requires vertices { J.vertices ≡ 2 }
+    requires room { J.room ≡ 7 }
 {
     let (graph, mut readers) = SharedGraph::<J, &R>::open_with_room(
         rt,

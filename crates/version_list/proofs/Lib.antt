@@ -4,3 +4,4 @@ pub mod Stepping
 pub mod Running
 pub mod Crossing
 pub mod Kept
+pub mod Commits

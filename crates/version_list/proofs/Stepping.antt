@@ -1,5 +1,5 @@
 -- What an accepted step does to a timeline, and to the fields that stand for its state.
-use Rattle.std.proofs.Common.{◌≡◌, ℕ, ◌+◌, ◌≤◌, ◌==◌, nat_eq, true, false, if◌then◌else◌, Some, None, is_some, List, [], ◌∷◌, ◌++◌, length, vec_capacity, inl, inr, refl, sym, ap, ◌∙◌, subst, arith, length-append}
+use Rattle.std.proofs.Common.{◌≡◌, ℕ, ◌+◌, ◌≤◌, ◌==◌, nat_eq, true, false, if◌then◌else◌, Option, Some, None, IfSome, is_some, List, [], ◌∷◌, ◌++◌, length, vec_capacity, inl, inr, refl, sym, ap, ◌∙◌, subst, arith, length-append}
 use Rattle.std.proofs.lemmas.Bool.{cases_Bool, ltb-false}
 use Rattle.indexmap.specs.IndexMap.{get, index_map_len}
 use Rattle.std.proofs.Math.Seq.{take-length}
@@ -15,10 +15,10 @@ use Rattle.version_list.specs.declared.step.Done.{Done}
 use Rattle.version_list.specs.declared.prepared.Prepared.{Prepared}
 use Rattle.version_list.specs.declared.prepared.PreparedAcquire.{PreparedAcquire}
 use Rattle.version_list.specs.declared.versions.Versions.TheInside.{Inside}
-use Rattle.version_list.specs.Machine.{State, OpenTicket, opened, reply_to, changed, state_after, newest_number, lacks_room, version_graph, number_asked, is_kept, is_open, ticket_version}
+use Rattle.version_list.specs.Machine.{State, OpenTicket, opened, reply_to, changed, state_after, newest_number, lacks_room, version_graph, number_asked, is_kept, kept_graph, is_open, ticket_version}
 use Rattle.version_list.specs.Timeline.{Timeline, IsLegal, IsAccepted, replay, Accepts}
 use Rattle.version_list.specs.Prepared.{IsPrepared, IsPreparedAcquire}
-use Rattle.version_list.specs.Held.{Holds, HasRoom, one_more}
+use Rattle.version_list.specs.Held.{AreTickets, Holds, HasRoom, one_more}
 use Rattle.version_list.specs.Fields.{base, timeline, Shows, IsFaithful}
 use Rattle.version_list.proofs.Holding.{others, is_open_is, length-others}
 use Rattle.version_list.proofs.Keeping.{kept_is_made, holds_opened, tickets_committed, holds_committed, tickets_opened, tickets_closed}
@@ -221,6 +221,14 @@ pub acquire_room : (s : State) (which : Which) (number version : ℕ) → reply_
 acquire_room s which number version is = elim (cases_Bool (is_kept s (number_asked s which))) [
   | inl kept ↦ elim (cases_Bool (lacks_room s 2)) [ inl full ↦ let no : Refused 123 ≡ Ticket number version = rw (kept, full) at is in absurd cc | inr room ↦ (kept, room) ]
   | inr lost ↦ let no : Refused 121 ≡ Ticket number version = rw (lost) at is in absurd cc
+]
+
+-- a version whose graph is kept was made
+pub found_is_made : (s : State) → AreTickets s → (k : ℕ) (found : Option Digraph) → found ≡ kept_graph s k → IfSome found (λ g. k ≤ newest_number s)
+found_is_made s tickets k None is = tt
+found_is_made s tickets k (Some g) is = elim (cases_Bool (is_kept s k)) [
+  | inl kept ↦ kept_is_made s tickets k kept
+  | inr lost ↦ let no : ◌≡◌ {A = Option Digraph} (Some g) None = rw (lost) at is in absurd cc
 ]
 
 -- a commit that was prepared is finished

@@ -5,3 +5,4 @@ pub mod Held
 pub mod Fields
 pub mod Refusal
 pub mod Kept
+pub mod Commits

@@ -27,6 +27,7 @@ pub record IsPreparedAcquire (t : Timeline) (asked : Which) (p : PreparedAcquire
   pub which : p.which ≡ asked
   pub ticket : p.ticket.number ≡ t.state.given + 1
   pub version : p.version ≡ number_asked t.state asked
+  pub made : p.version ≤ newest_number t.state
   pub graph : p.graph ≡ version_graph t.state p.version
   pub kept : p.kept ≡ p.graph
   pub reserved : 2 ≤ t.reserved

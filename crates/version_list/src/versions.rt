@@ -406,7 +406,8 @@ impl Versions {
 
     /// The graph of a version, where it is the newest or held.
     fn kept_graph(&self, version: u64) -> Option<&Graph>
-        ensures { option_copied result ≡ kept_graph self.now.state version }
+        ensures graph { option_copied result ≡ kept_graph self.now.state version }
+        ensures made { IfSome result (λ _. version ≤ newest_number self.now.state) }
     {
         if version == self.number {
             Some(&self.newest)

@@ -1,5 +1,5 @@
 use Rattle.std.proofs.Common.{◌≡◌, ◌∷◌, ◌++◌, [], List, sym, ap, ◌∙◌, subst, arith}
-use Rattle.version_list.specs.Machine.{State}
+use Rattle.version_list.specs.Machine.{State, opened}
 use Rattle.shared_graph.specs.declared.entry.Entry.{Entry}
 use Rattle.shared_graph.specs.Passes.{HasMade}
 use Rattle.shared_graph.proofs.Growing.{length-own}
@@ -11,7 +11,7 @@ overflow_add-steps g c = omega (arith, c.meet-place.ensures.steps.0, length-own 
 
 pub returns-clause-made : goal.returns-clause-made
 returns-clause-made g c =
-    let base : State = g.J.Naming.base in
+    let base : State = opened g.J.Naming.vertices g.J.Naming.room in
     let log : List Entry = c.args.front.now in
     let e : Entry = record { by = c.args.me.now.number; done = c.args.done.now } in
     let is : c.extend.new.front ≡ log ++ e ∷ [] = c.extend.ensures ∙ ap (λ n. log ++ record { by = n; done = c.args.done.now } ∷ []) c.meet-place.ensures.place.0 in

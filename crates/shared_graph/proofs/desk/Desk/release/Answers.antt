@@ -1,7 +1,7 @@
 use Rattle.std.proofs.Common.{◌≡◌, ◌∙◌, true, List, refl, sym, subst}
 use Rattle.version_list.specs.declared.step.Step.TheVariants.{Release}
 use Rattle.version_list.specs.declared.step.Reply.TheVariants.{Released}
-use Rattle.version_list.specs.Machine.{State, is_open, reply_to}
+use Rattle.version_list.specs.Machine.{State, opened, is_open, reply_to}
 use Rattle.shared_graph.specs.declared.entry.Entry.{Entry}
 use Rattle.shared_graph.specs.Locked.{IsTimelineOf}
 use Rattle.shared_graph.proofs.Steps.{release_accepted, timeline_push}
@@ -9,7 +9,7 @@ use Rattle.shared_graph.proofs.desk.Desk.release.Goals as goal
 
 pub invariant_of-self : goal.invariant_of-self
 invariant_of-self g c =
-    let base : State = g.J.Naming.base in
+    let base : State = opened g.J.Naming.vertices g.J.Naming.room in
     let log : List Entry = c.self.inside.ledger in
     let number = c.ticket-ticket.result.number in
     let old = c.self.inside.versions in

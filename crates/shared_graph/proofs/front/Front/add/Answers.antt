@@ -1,5 +1,6 @@
 use Rattle.std.proofs.Common.{◌≡◌, ◌==◌, true, ◌∙◌, ◌∷◌, ◌++◌, [], List, length, sym, ap, subst, arith, length-append}
 use Rattle.std.proofs.lemmas.Bool.{eq-eqb}
+use Rattle.version_list.specs.Machine.{opened}
 use Rattle.version_list.specs.Timeline.{IsLegal}
 use Rattle.shared_graph.specs.declared.entry.Entry.{Entry}
 use Rattle.shared_graph.specs.Histories.{steps_of, MayFollow}
@@ -31,8 +32,8 @@ invariant_of-self g c =
     let told = rw found at c.compare_exchange-found.ensures.7 in
     let added : c.compare_exchange-found.new.seen.log ≡ log ++ e ∷ [] =
     told ∙ ap (λ s. s.log ++ c.plain-offer.result.ask ∷ []) c.again-seen.ensures ∙ ap (λ (x : Entry). log ++ x ∷ []) (c.plain-offer.ensures.1 ∙ ap (λ d. record { by = c.args.by; done = d }) c.of.ensures) in
-    let may : MayFollow g.J.Naming.base log e.done = rw c.self.view_is c.requires.follows in (
+    let may : MayFollow (opened g.J.Naming.vertices g.J.Naming.room) log e.done = rw c.self.view_is c.requires.follows in (
       omega (arith, c.self.invariant.0, ap length added, length-append log (e ∷ [])),
       c.compare_exchange-found.ensures.0 ∙ ap (λ s. s.book) c.again-seen.ensures ∙ c.self.invariant.1,
-      subst (λ (l : List Entry). IsLegal g.J.Naming.base (steps_of l)) (sym added) (legal-push g.J.Naming.base log e c.self.invariant.2 may),
+      subst (λ (l : List Entry). IsLegal (opened g.J.Naming.vertices g.J.Naming.room) (steps_of l)) (sym added) (legal-push (opened g.J.Naming.vertices g.J.Naming.room) log e c.self.invariant.2 may),
     )

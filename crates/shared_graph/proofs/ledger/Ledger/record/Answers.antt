@@ -1,5 +1,5 @@
 use Rattle.std.proofs.Common.{◌≡◌, ◌∙◌, ◌∷◌, [], List, length, sym, ap, subst, arith, length-append}
-use Rattle.version_list.specs.Machine.{State, state_after}
+use Rattle.version_list.specs.Machine.{State, opened, state_after}
 use Rattle.shared_graph.specs.declared.entry.Entry.{Entry}
 use Rattle.shared_graph.specs.Histories.{state_at, IsNewest}
 use Rattle.std.specs.Arc.{arc_value}
@@ -8,7 +8,7 @@ use Rattle.shared_graph.proofs.ledger.Ledger.record.Goals as goal
 
 pub new-shown-requires-clause-newest : goal.new-shown-requires-clause-newest
 new-shown-requires-clause-newest g c =
-    let base : State = g.J.Naming.base in
+    let base : State = opened g.J.Naming.vertices g.J.Naming.room in
     let log : List Entry = c.self.inside.front in
     let e : Entry = record { by = c.args.me.now.number; done = c.args.done.now } in
     let after : state_at base c.make_step.new.front ≡ state_after (state_at base log) e.done.step = ap (state_at base) c.make_step.ensures.front ∙ state_at-push base log e in

@@ -5,8 +5,8 @@ use Rattle.version_list.specs.Fields.{timeline}
 use Rattle.version_list.proofs.Keeping.{graph_of_held}
 use Rattle.version_list.proofs.versions.Versions.kept_graph.Goals as goal
 
-pub returns-else-version-self : goal.returns-else-version-self
-returns-else-version-self c =
+pub returns-else-version-self-clause-graph : goal.returns-else-version-self-clause-graph
+returns-else-version-self-clause-graph c =
     let old = c.self.inside in
     let shows = c.self.invariant.state in
     let found = graph_of_held (timeline old).state old.held shows.held c.args.version (λ newest. c.if-version-self.false (newest ∙ sym shows.number)) in

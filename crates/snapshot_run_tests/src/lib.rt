@@ -1,0 +1,7 @@
+//! Tests of runs on the versions of a shared graph, on threads: what no contract says of when a version is given.
+#![tactic(auto)]
+
+#[cfg(test)]
+mod paths;
+#[cfg(test)]
+mod runs;

@@ -1,0 +1,16 @@
+//! Runs of compiled programs on versions of a graph that other threads change.
+//!
+//! [`run_latest`] takes the newest version that is published and runs a plan on it; [`run_held`] runs one on a version that is
+//! held. Both say all that a caller wants to know in one contract: the outcome is what the plan's program means, within the turns,
+//! on the fold of the batches of one list, which is that of the commits in the history that the reader shows. That history begins
+//! with all that the reader had shown, whole where the newest version was asked for, and it does not depend on who commits, holds
+//! or releases meanwhile, on the number of workers, or on the schedule. `specs/Outcome.antt` says what an outcome on a graph is.
+//!
+//! It stands on `runner` and `shared_graph`, and uses nothing of them but their public contracts.
+#![tactic(auto)]
+
+mod error;
+mod snapshot_run;
+
+pub use error::LatestRunError;
+pub use snapshot_run::{run_held, run_latest};

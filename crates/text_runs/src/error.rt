@@ -1,0 +1,32 @@
+//! Why a text was not run.
+ghost use Rattle.std.specs.Prelude.{◌≡◌};
+ghost use Rattle.text_runs.specs.declared.error.TextRunError.TheVariants.{NotCompiled, NotRun};
+
+use compiler::CompileError;
+use snapshot_runs::LatestRunError;
+use thiserror::Error;
+
+/// Why a text was not run on the newest version.
+#[derive(Clone, Copy, Debug, PartialEq, Eq, Error)]
+pub enum TextRunError {
+    #[error("{0}")]
+    NotCompiled(CompileError),
+    #[error("{0}")]
+    NotRun(LatestRunError),
+}
+
+impl From<CompileError> for TextRunError {
+    ghost from_gives = { λ error e. e ≡ NotCompiled error };
+
+    fn from(error: CompileError) -> TextRunError {
+        TextRunError::NotCompiled(error)
+    }
+}
+
+impl From<LatestRunError> for TextRunError {
+    ghost from_gives = { λ error e. e ≡ NotRun error };
+
+    fn from(error: LatestRunError) -> TextRunError {
+        TextRunError::NotRun(error)
+    }
+}
