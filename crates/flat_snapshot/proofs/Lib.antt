@@ -1,4 +1,3 @@
-pub mod Storing
-pub mod Words
-pub mod Ranks
+pub mod Numbered
+pub mod Walks
 pub mod Snapshots

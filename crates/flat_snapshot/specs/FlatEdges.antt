@@ -1,11 +1,11 @@
 -- The neighbours of vertices, and the edges that they make.
-use Rattle.std.specs.Prelude.{◌≡◌, ℕ, ◌<◌, unwrap_or, List, [], ◌∷◌, ◌++◌, length}
+use Rattle.std.specs.Prelude.{◌≡◌, ℕ, ◌<◌, unwrap_or, List, length}
 use Rattle.std.specs.List.{All}
 use Rattle.shared_tree.specs.Entries.{IsMap, lookup}
-use Rattle.tree_batch.specs.Edge.{Edge, edges_from}
+use Rattle.pages.specs.Vertices.{neighbours_of}
 use Rattle.tree_batch.specs.Digraph.{digraph, IsDigraph}
-use Rattle.tree_batch.specs.Neighbours.{destinations_of, sources_of}
-use Rattle.flat_snapshot.specs.Lists.{neighbours_of, degrees_of}
+use Rattle.tree_batch.specs.Neighbours.{destinations_of, sources_of, edges_of}
+use Rattle.flat_snapshot.specs.Lists.{degrees_of}
 
 -- The vertices that have neighbours, ascending, each with the number of them.
 pub record AreDegreesOf (neighbours : ℕ → List ℕ) (ds : List (ℕ × ℕ)) : Type 0 where
@@ -13,16 +13,11 @@ pub record AreDegreesOf (neighbours : ℕ → List ℕ) (ds : List (ℕ × ℕ))
   pub some : All (λ d. 0 < d.1) ds
   pub degrees : (u : ℕ) → unwrap_or (lookup u ds) 0 ≡ length (neighbours u)
 
--- the edges from vertices to the elements of their lists
-abbrev pub edges_in : List (ℕ × List ℕ) → List Edge
-edges_in [] = []
-edges_in (e ∷ es) = edges_from e.0 e.1 ++ edges_in es
-
 -- The neighbours along the edges of a graph of n vertices and those against them, with m edges.
 pub record IsFlat (n m : ℕ) (outgoing incoming : List (ℕ × List ℕ)) : Type 0 where
-  pub graph : IsDigraph (digraph n (edges_in outgoing))
-  pub count : m ≡ length (edges_in outgoing)
-  pub out : AreDegreesOf (λ u. destinations_of u (edges_in outgoing)) (degrees_of outgoing)
-  pub into : AreDegreesOf (λ v. sources_of v (edges_in outgoing)) (degrees_of incoming)
-  pub destinations : (u : ℕ) → neighbours_of u outgoing ≡ destinations_of u (edges_in outgoing)
-  pub sources : (v : ℕ) → neighbours_of v incoming ≡ sources_of v (edges_in outgoing)
+  pub graph : IsDigraph (digraph n (edges_of outgoing))
+  pub count : m ≡ length (edges_of outgoing)
+  pub out : AreDegreesOf (λ u. destinations_of u (edges_of outgoing)) (degrees_of outgoing)
+  pub into : AreDegreesOf (λ v. sources_of v (edges_of outgoing)) (degrees_of incoming)
+  pub destinations : (u : ℕ) → neighbours_of u outgoing ≡ destinations_of u (edges_of outgoing)
+  pub sources : (v : ℕ) → neighbours_of v incoming ≡ sources_of v (edges_of outgoing)

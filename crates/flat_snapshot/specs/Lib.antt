@@ -1,7 +1,5 @@
 pub mod Lists
-pub mod ListBytes
-pub mod Degrees
-pub mod Index
+pub mod Places
 pub mod FlatEdges
 pub use Rattle.shared_tree.specs.Entries
 pub use Rattle.tree_batch.specs.Digraph

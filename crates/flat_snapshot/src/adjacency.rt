@@ -1,93 +1,90 @@
 //! The neighbours of all vertices in one direction.
 
-ghost use Rattle.std.specs.Prelude.{◌≡◌, ◌^◌, ◌<◌, ◌∷◌, ◌++◌, [], length, IfOk};
-ghost use Rattle.tree_batch.specs.VertexSets.{HaveFew};
-ghost use Rattle.shared_tree.specs.Entries.{Rises, IsMap};
-ghost use Rattle.flat_snapshot.specs.Lists.{neighbours_of, degrees_of, element_lists};
+ghost use Rattle.std.specs.Prelude.{◌≡◌, ℕ, ◌+◌, ◌^◌, ◌<◌, ◌≤◌, ◌/◌, ◌%◌, [], ◌∷◌, length, IfOk, IfSome, MatchOption};
+ghost use Rattle.std.specs.Option.{option_copied};
+ghost use Rattle.shared_tree.specs.Entries.{Rises};
+ghost use Rattle.pages.specs.Vertices.{neighbours_of};
+ghost use Rattle.vertex_blocks.specs.Blocks.{lists_of, AreBlocks, vertices_at, vertices_from};
+ghost use Rattle.tree_batch.specs.VertexBlocks.{HaveFew};
+ghost use Rattle.flat_snapshot.specs.Lists.{degrees_of};
+ghost use Rattle.flat_snapshot.specs.Places.{IsPadded, IsPut};
 
 use crate::degrees::Degrees;
-use crate::edges::Edges;
-use crate::index::{Word, cover, mark, rank};
-use crate::lists::Lists;
-use c_tree::CTree;
+use shared_tree::Share;
 use std::alloc::{AllocError, Global};
 use std::marker::Model;
+use vertex_blocks::{NeighbourIter, VertexBlock};
 
 /// The neighbours of all vertices in one direction. A contract sees the vertices that have some,
 /// ascending, each with the list of them.
 pub(crate) struct Adjacency {
-    words: Vec<Word>,
-    lists: Lists,
+    /// The block of the vertices from `64 * k` on at the index `k`, if one of them has neighbours.
+    blocks: Vec<Option<VertexBlock>>,
 }
 
 // By hand: a derived drop would be written out, and proved again, where neighbours are let go.
 impl Drop for Adjacency {
     fn drop(self) {
-        let Adjacency { words: _, lists: _ } = self;
+        let Adjacency { blocks: _ } = self;
     }
 }
 
 impl Model for Adjacency {
-    ghost use Rattle.std.specs.Prelude.{ℕ, List};
+    ghost use Rattle.std.specs.Prelude.{ℕ, List, ◌≤◌, ◌^◌, length};
+    ghost use Rattle.tree_batch.specs.VertexBlocks.{HaveFew};
+    ghost use Rattle.flat_snapshot.specs.Lists.{lists_in, AreBlocks as AreInPlace};
 
     ghost Value = { List (ℕ × List ℕ) };
 
-    ghost use Rattle.flat_snapshot.specs.Index.{IsIndex};
+    ghost view = { λ a. lists_in 0 a.blocks.items };
 
-    ghost view = { λ a. a.lists };
-
-    ghost invariant = { λ a. IsIndex a.words.items a.lists };
+    ghost invariant = { λ a. (length a.blocks.items ≤ 2 ^ 18) × AreInPlace a.blocks.items
+        × HaveFew (lists_in 0 a.blocks.items) };
 }
 
 impl Adjacency {
-    /// No neighbours, with room for the words of so many vertices. The only error is out of memory.
-    fn new(alloc: Global, vertices: u32) -> Result<Adjacency, AllocError>
-        ensures { IfOk result (λ a. a ≡ []) }
-    {
-        let words = Vec::with_capacity(alloc, (vertices / 64) as usize + 1)?;
-        let lists = Lists::new(alloc);
-        Ok(Adjacency { words, lists })
-    }
-
-    /// The neighbours that vertices have, which come ascending. The only error is out of memory.
+    /// The neighbours that the vertices of blocks have, which come ascending. The only error is out of
+    /// memory.
     pub(crate) fn of(
         alloc: Global,
         vertices: u32,
-        sets: shared_tree::Iter<'_, CTree>,
+        blocks: shared_tree::Iter<'_, VertexBlock>,
     ) -> Result<Adjacency, AllocError>
-        requires map { IsMap sets }
-        requires few { HaveFew sets }
-        ensures { IfOk result (λ a. a ≡ element_lists sets.entry) }
+        requires map { Rises 0 (2 ^ 18) blocks }
+        requires blocks { AreBlocks blocks }
+        requires few { HaveFew (lists_of blocks) }
+        ensures { IfOk result (λ a. a ≡ lists_of blocks.entry) }
     {
-        let mut adjacency = Adjacency::new(alloc, vertices)?;
-        let mut sets = sets;
-        while let Some((vertex, set)) = sets.next() {
-            adjacency.push(vertex, set)?;
+        let mut places = Vec::with_capacity(alloc, (vertices / 64) as usize + 1)?;
+        let mut blocks = blocks;
+        while let Some((number, block)) = blocks.next() {
+            push(&mut places, number, block)?;
         }
-        Ok(adjacency)
+        Ok(Adjacency { blocks: places })
     }
 
-    /// Adds a vertex with its neighbours behind the others. The only error is out of memory.
-    fn push(&mut self, vertex: u32, set: &CTree) -> Result<(), AllocError>
-        requires above { Rises 0 vertex self.old }
-        requires few { length set.now.elements < 2 ^ 32 }
-        ensures { IfOk result (λ _. self.new ≡ self.old ++ (vertex, set.now.elements) ∷ []) }
+    /// The block of a vertex, if one of its vertices has neighbours.
+    #[inline]
+    fn block(&self, vertex: u32) -> Option<&VertexBlock>
+        ensures lists { (u : ℕ) → u / 64 ≡ vertex / 64
+            → neighbours_of (u % 64) (vertices_at (option_copied result)) ≡ neighbours_of u self.now }
+        ensures few { length (neighbours_of vertex self.now) ≤ 16777216 }
     {
-        cover(&mut self.words, vertex)?;
-        let before = self.lists.len();
-        self.lists.push(vertex, set)?;
-        mark(&mut self.words, vertex, before);
-        Ok(())
+        let index = (vertex / 64) as usize;
+        if index >= self.blocks.len() {
+            return None;
+        }
+        self.blocks[index].as_ref()
     }
 
     /// The neighbours of a vertex.
     #[inline]
-    pub(crate) fn edges(&self, vertex: u32) -> Edges<'_>
+    pub(crate) fn edges(&self, vertex: u32) -> NeighbourIter<'_>
         ensures { result ≡ neighbours_of vertex self.now }
     {
-        match rank(&self.words, vertex) {
-            Some(index) => self.lists.edges(index),
-            None => Edges::none(),
+        match self.block(vertex) {
+            Some(block) => block.neighbours(vertex % 64).iter(),
+            None => NeighbourIter::none(),
         }
     }
 
@@ -96,16 +93,64 @@ impl Adjacency {
     pub(crate) fn degree(&self, vertex: u32) -> u32
         ensures { result ≡ length (neighbours_of vertex self.now) }
     {
-        match rank(&self.words, vertex) {
-            Some(index) => self.lists.degree(index),
+        match self.block(vertex) {
+            Some(block) => block.degree(vertex % 64) as u32,
             None => 0,
         }
+    }
+
+    /// The first vertex from one on that has neighbours, with their number.
+    pub(crate) fn first_from(&self, from: u32) -> Option<(u32, u32)>
+        ensures degrees { MatchOption result (degrees_of (vertices_from from self.now) ≡ [])
+            (λ d. degrees_of (vertices_from from self.now)
+            ≡ d ∷ degrees_of (vertices_from (d.0 + 1) self.now)) }
+        ensures within { IfSome result (λ d. d.0 < 2 ^ 24) }
+    {
+        let end = self.blocks.len() as u32 * 64;
+        let mut vertex = from;
+        while vertex < end {
+            let Some(block) = self.block(vertex) else {
+                vertex += 64 - vertex % 64;
+                continue;
+            };
+            let degree = block.degree(vertex % 64) as u32;
+            if degree > 0 {
+                return Some((vertex, degree));
+            }
+            vertex += 1;
+        }
+        None
     }
 
     /// The vertices that have neighbours, ascending, each with their number.
     pub(crate) fn degrees(&self) -> Degrees<'_>
         ensures { result ≡ degrees_of self.now }
     {
-        self.lists.degrees()
+        Degrees::new(self)
     }
+}
+
+/// Adds a block at its number, which is behind all others. The only error is out of memory.
+fn push(
+    places: &mut Vec<Option<VertexBlock>>,
+    number: u32,
+    block: &VertexBlock,
+) -> Result<(), AllocError>
+    requires { length places.old.items ≤ number }
+    ensures { IfOk result (λ _. IsPut places.old.items number block.now places.new.items) }
+{
+    pad(places, number)?;
+    places.push(Some(block.share()?))?;
+    Ok(())
+}
+
+/// Adds places without a block up to a number. The only error is out of memory.
+fn pad(places: &mut Vec<Option<VertexBlock>>, number: u32) -> Result<(), AllocError>
+    requires { length places.old.items ≤ number }
+    ensures { IfOk result (λ _. IsPadded places.old.items number places.new.items) }
+{
+    while places.len() < number as usize {
+        places.push(None)?;
+    }
+    Ok(())
 }

@@ -2,34 +2,39 @@
 
 ghost use Rattle.std.specs.Prelude.{◌≡◌};
 ghost use Rattle.std.specs.Iterator.{YieldsFirst, item_count};
-ghost use Rattle.flat_snapshot.specs.Degrees.{degrees_in};
+ghost use Rattle.flat_snapshot.specs.Lists.{degrees_of};
 
-use crate::lists::Entry;
+use crate::adjacency::Adjacency;
 use std::marker::Model;
 
 /// The vertices that are still to come, ascending, each with its degree.
 #[derive(Drop)]
 pub struct Degrees<'a> {
-    entries: &'a [Entry],
+    neighbours: &'a Adjacency,
+    /// From which vertex on to look for the next.
+    from: u32,
 }
 
 impl<'a> Model for Degrees<'a> {
     ghost use Rattle.std.specs.Prelude.{ℕ, List};
+    ghost use Rattle.vertex_blocks.specs.Blocks.{vertices_from};
+    ghost use Rattle.flat_snapshot.specs.Lists.{degrees_of};
 
     ghost Value = { List (ℕ × ℕ) };
 
-    ghost use Rattle.flat_snapshot.specs.Degrees.{degrees_in};
-
-    ghost view = { λ d. degrees_in d.entries.now };
+    ghost view = { λ d. degrees_of (vertices_from d.from d.neighbours.now) };
 }
 
 impl<'a> Degrees<'a> {
-    /// The vertices of entries with their degrees.
+    /// The vertices that have neighbours, with their number.
     #[inline]
-    pub(crate) fn new(entries: &'a [Entry]) -> Degrees<'a>
-        ensures { result ≡ degrees_in entries.now }
+    pub(crate) fn new(neighbours: &'a Adjacency) -> Degrees<'a>
+        ensures { result ≡ degrees_of neighbours.now }
     {
-        Degrees { entries }
+        Degrees {
+            neighbours,
+            from: 0,
+        }
     }
 }
 
@@ -42,8 +47,8 @@ impl<'a> Iterator for Degrees<'a> {
 
     #[inline]
     fn next(&mut self) -> Option<(u32, u32)> {
-        let (first, rest) = self.entries.split_first()?;
-        self.entries = rest;
-        Some((first.vertex, first.degree))
+        let (vertex, degree) = self.neighbours.first_from(self.from)?;
+        self.from = vertex + 1;
+        Some((vertex, degree))
     }
 }

@@ -7,12 +7,13 @@ ghost use Rattle.flat_snapshot.specs.FlatEdges.{AreDegreesOf};
 
 use crate::adjacency::Adjacency;
 use crate::degrees::Degrees;
-use crate::edges::Edges;
 use std::alloc::{AllocError, Global};
 use std::marker::Model;
 use tree_batch::Graph;
+use vertex_blocks::NeighbourIter;
 
-/// A graph's neighbours in arrays. It owns what it shows and never changes. Threads may share it.
+/// A graph's neighbours in arrays of blocks, which it shares with the graph and which never change.
+/// Threads may share it.
 pub struct Flat {
     vertices: u32,
     edge_count: usize,
@@ -34,20 +35,20 @@ impl Drop for Flat {
 
 impl Model for Flat {
     ghost use Rattle.tree_batch.specs.Digraph.{Digraph, digraph};
-    ghost use Rattle.flat_snapshot.specs.FlatEdges.{edges_in, IsFlat};
+    ghost use Rattle.tree_batch.specs.Neighbours.{edges_of};
+    ghost use Rattle.flat_snapshot.specs.FlatEdges.{IsFlat};
 
     ghost Value = { Digraph };
 
-    ghost view = { λ f. digraph f.vertices (edges_in f.outgoing) };
+    ghost view = { λ f. digraph f.vertices (edges_of f.outgoing) };
 
     ghost invariant = { λ f. IsFlat f.vertices f.edge_count f.outgoing f.incoming };
 }
 
 impl Flat {
-    /// The flat snapshot of a graph, which stays as it is. It copies the bytes of all lists of
-    /// neighbours and takes time in proportion to them and to the vertices that have edges, beside the
-    /// bits. Memory in each direction: the bytes, 16 more for each vertex that has edges, and two bits
-    /// for each vertex.
+    /// The flat snapshot of a graph, which stays as it is. It copies no list of neighbours: in each
+    /// direction it counts one more owner of each of the graph's blocks of 64 vertices, and takes time
+    /// and memory in proportion to the number of blocks that the vertices would fill.
     ///
     /// The only error is out of memory.
     pub fn of(alloc: Global, graph: &Graph) -> Result<Flat, AllocError>
@@ -68,7 +69,7 @@ impl Flat {
     /// The destinations of the edges from a vertex, ascending. A number that is no vertex has none.
     /// A look-up takes constant time and no memory.
     #[inline]
-    pub fn out(&self, source: u32) -> Edges<'_>
+    pub fn out(&self, source: u32) -> NeighbourIter<'_>
         ensures { result ≡ destinations_of source self.now.edges }
     {
         self.outgoing.edges(source)
@@ -77,7 +78,7 @@ impl Flat {
     /// The sources of the edges to a vertex, ascending. A number that is no vertex has none. A
     /// look-up takes constant time and no memory.
     #[inline]
-    pub fn in_(&self, destination: u32) -> Edges<'_>
+    pub fn in_(&self, destination: u32) -> NeighbourIter<'_>
         ensures { result ≡ sources_of destination self.now.edges }
     {
         self.incoming.edges(destination)
@@ -100,7 +101,7 @@ impl Flat {
     }
 
     /// The vertices that have out-edges, ascending, each with the number of them. It takes no memory,
-    /// and a step takes constant time.
+    /// and all steps together take time in proportion to the blocks and to 64 for each that has edges.
     pub fn sources(&self) -> Degrees<'_>
         ensures degrees { AreDegreesOf (λ u. destinations_of u self.now.edges) result }
         ensures bounded { length result ≤ 2 ^ 32 }
@@ -109,7 +110,7 @@ impl Flat {
     }
 
     /// The vertices that have in-edges, ascending, each with the number of them. It takes no memory,
-    /// and a step takes constant time.
+    /// and all steps together take time in proportion to the blocks and to 64 for each that has edges.
     pub fn destinations(&self) -> Degrees<'_>
         ensures degrees { AreDegreesOf (λ v. sources_of v self.now.edges) result }
         ensures bounded { length result ≤ 2 ^ 32 }

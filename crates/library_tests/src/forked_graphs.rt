@@ -14,15 +14,15 @@ fn batch_of(alloc: Global, entries: &[Entry]) -> Result<Batch, Fail> {
     Ok(batch)
 }
 
-// A loop at each of the first seven vertices.
+// A loop in each of the first seven blocks of 64 vertices.
 const LOOPS: [Entry; 7] = [
     Entry::Add(0, 0),
-    Entry::Add(1, 1),
-    Entry::Add(2, 2),
-    Entry::Add(3, 3),
-    Entry::Add(4, 4),
-    Entry::Add(5, 5),
-    Entry::Add(6, 6),
+    Entry::Add(64, 64),
+    Entry::Add(128, 128),
+    Entry::Add(192, 192),
+    Entry::Add(256, 256),
+    Entry::Add(320, 320),
+    Entry::Add(384, 384),
 ];
 
 // Whether these entries leave these edges in a graph of two vertices at so many forks.
@@ -49,26 +49,35 @@ fn has_the_same_edges_at_any_forks(rt: HostRuntime) -> Result<(), Fail> {
     Ok(())
 }
 
-// The graph after a hundred batches: each removes a loop of one of the first seven vertices and adds an edge.
+// The graph after a hundred batches: each removes a loop of one of the first seven blocks and adds an edge.
 fn after_batches(alloc: Global, graph: &Graph) -> Result<Graph, Fail> {
     let mut newest = graph.clone()?;
     for vertex in 0..100u32 {
-        let entries = [Entry::Remove(vertex % 7, vertex % 7), Entry::Add(3, vertex)];
+        let first = vertex % 7 * 64;
+        let entries = [Entry::Remove(first, first), Entry::Add(3, vertex)];
         let batch = batch_of(alloc, &entries)?;
         newest = newest.apply(alloc, &batch)?;
     }
     Ok(newest)
 }
 
-const LOOP_EDGES: [(u32, u32); 7] = [(0, 0), (1, 1), (2, 2), (3, 3), (4, 4), (5, 5), (6, 6)];
+const LOOP_EDGES: [(u32, u32); 7] = [
+    (0, 0),
+    (64, 64),
+    (128, 128),
+    (192, 192),
+    (256, 256),
+    (320, 320),
+    (384, 384),
+];
 
 #[test]
 fn keeps_a_held_graph(rt: HostRuntime) -> Result<(), Fail> {
     let start = batch_of(rt.alloc(), &LOOPS)?;
-    let held = Graph::new(100, 2)?.apply(rt.alloc(), &start)?;
+    let held = Graph::new(400, 2)?.apply(rt.alloc(), &start)?;
     let newest = after_batches(rt.alloc(), &held)?.edge_count();
     let kept = held.edges().eq(LOOP_EDGES.iter().copied());
-    assert!(rt; newest == 99 && kept);
+    assert!(rt; newest == 100 && kept);
     Ok(())
 }
 
@@ -76,7 +85,7 @@ fn keeps_a_held_graph(rt: HostRuntime) -> Result<(), Fail> {
 fn halves_run_at_the_same_time(rt: HostRuntime) -> Result<(), Fail> {
     let batch = batch_of(rt.alloc(), &LOOPS)?;
     let meeting = Meeting::new();
-    Graph::new(7, 64)?.apply_forked(&rt, rt.alloc(), &batch, 1, &meeting)?;
+    Graph::new(400, 64)?.apply_forked(&rt, rt.alloc(), &batch, 1, &meeting)?;
     assert!(rt; meeting.took_place());
     Ok(())
 }
@@ -101,7 +110,7 @@ impl Fork for Visits {
 fn tells_of_each_half(rt: HostRuntime) -> Result<(), Fail> {
     let batch = batch_of(rt.alloc(), &LOOPS)?;
     let visits = Visits(AtomicU64::new(0));
-    Graph::new(7, 64)?.apply_forked(&rt, rt.alloc(), &batch, 2, &visits)?;
+    Graph::new(400, 64)?.apply_forked(&rt, rt.alloc(), &batch, 2, &visits)?;
     // once for the edges by source, and once for those by destination
     assert_eq!(rt; visits.0.load(Ordering::SeqCst), 2244);
     Ok(())

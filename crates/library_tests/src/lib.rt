@@ -14,6 +14,10 @@ mod forked_graphs;
 #[cfg(test)]
 mod forked_sets;
 #[cfg(test)]
+mod graph_blocks;
+#[cfg(test)]
+mod random_batches;
+#[cfg(test)]
 mod script_devices;
 #[cfg(test)]
 mod sets_of_vertices;

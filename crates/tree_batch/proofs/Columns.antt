@@ -1,12 +1,11 @@
 -- The sources of the edges to a vertex.
 use Rattle.std.proofs.Common.{◌≡◌, ℕ, ◌+◌, ◌*◌, ◌^◌, ◌≤◌, ◌==◌, Bool, true, false, ◌||◌, ◌&&◌, inl, inr, List, [], ◌∷◌, map, refl, sym, ap, ◌∙◌, arith}
 use Rattle.std.proofs.lemmas.Bool.{cases_Bool, eqb-true}
-use Rattle.tail_codec.specs.Spelling.{AscendsFrom}
+use Rattle.pages.specs.Lists.{AscendsFrom}
 use Rattle.tree_batch.specs.Edge.{Edge, place, has_edge, Rises, edges_from}
-use Rattle.tree_batch.specs.Run.{has_number}
-use Rattle.tree_batch.specs.Neighbours.{destinations_of, sources_of}
+use Rattle.tree_batch.specs.Neighbours.{has_number, destinations_of, sources_of}
 use Rattle.tree_batch.proofs.Rising.{rises_within, same_edges}
-use Rattle.tree_batch.proofs.Adjacency.{rises_from_set, has_from}
+use Rattle.tree_batch.proofs.Adjacency.{rises_from_list, has_from}
 
 -- a number is among the destinations where the edge is there
 pub has_destination : (es : List Edge) (u v : ℕ) → has_number (destinations_of u es) v ≡ has_edge es (u, v)
@@ -51,5 +50,5 @@ second_ends u (x ∷ xs) = ap (λ ys. x ∷ ys) (second_ends u xs)
 pub same_numbers : (xs ys : List ℕ) → AscendsFrom 0 xs → AscendsFrom 0 ys → ((v : ℕ) → has_number xs v ≡ has_number ys v) → xs ≡ ys
 same_numbers xs ys s t same =
     let top = (0 + 1) * 2 ^ 32 in
-    let edges : edges_from 0 xs ≡ edges_from 0 ys = same_edges (place (0, 0)) (place (0, 0)) top top (edges_from 0 xs) (edges_from 0 ys) (rises_from_set 0 0 xs (omega arith) s) (rises_from_set 0 0 ys (omega arith) t) (λ e. has_from 0 xs e ∙ ap (λ b. (0 == e.0) && b) (same e.1) ∙ sym (has_from 0 ys e)) in
+    let edges : edges_from 0 xs ≡ edges_from 0 ys = same_edges (place (0, 0)) (place (0, 0)) top top (edges_from 0 xs) (edges_from 0 ys) (rises_from_list 0 0 xs (omega arith) s) (rises_from_list 0 0 ys (omega arith) t) (λ e. has_from 0 xs e ∙ ap (λ b. (0 == e.0) && b) (same e.1) ∙ sym (has_from 0 ys e)) in
     sym (second_ends 0 xs) ∙ ap (map (λ e. e.1)) edges ∙ second_ends 0 ys

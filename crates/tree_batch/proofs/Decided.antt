@@ -1,18 +1,20 @@
--- What decides on vertices and neighbours when updates are made of entries and cut into runs.
-use Rattle.std.proofs.Common.{◌≡◌, ◌≢◌, ℕ, ◌+◌, ◌<◌, ◌≤◌, ◌^◌, Some, None, inl, inr, List, [], ◌∷◌, ◌++◌, length, get_or, take, drop, refl, sym, ap, ◌∙◌, subst, arith, length-append, length-drop}
+-- What decides on edges when updates are made of entries and cut by blocks.
+use Rattle.std.proofs.Common.{◌≡◌, ◌≢◌, ℕ, ◌+◌, ◌/◌, ◌^◌, ◌<◌, ◌≤◌, Some, None, inl, inr, List, [], ◌∷◌, ◌++◌, length, get_or, take, drop, refl, sym, ap, ◌∙◌, subst, arith, length-append, length-drop}
 use Rattle.std.specs.Option.{option_or}
-use Rattle.std.proofs.lemmas.Bool.{cases_eq, ne_eqb, eq-eqb}
+use Rattle.std.proofs.lemmas.Bool.{cases_eq, ne_eqb}
 use Rattle.std.proofs.lemmas.List.{take_more, drop_more}
 use Rattle.shared_tree.specs.Entries.{Rises, lookup}
 use Rattle.shared_tree.proofs.Order.{rises_to, rises_joined, lookup_here}
 use Rattle.edge_updates.specs.declared.edge_update.EdgeUpdate.{EdgeUpdate}
 use Rattle.edge_updates.specs.EdgeUpdate.{vertex_of, neighbour_of, adds}
 use Rattle.edge_updates.specs.Updates.{one_decided, decided, FollowAscending, Ascend}
+use Rattle.pages.specs.Updates.{AreOfBlock, EdgesAscend}
+use Rattle.pages.proofs.UpdateRuns.{ascend_in_page}
+use Rattle.vertex_blocks.specs.Changes.{BlockChange}
 use Rattle.tree_batch.specs.declared.batch.Entry.{Entry}
 use Rattle.tree_batch.specs.Edge.{Edge}
 use Rattle.tree_batch.specs.Entry.{edge_of, is_add, entry_decision, decision}
-use Rattle.tree_batch.specs.Run.{neighbour_decided, NeighboursRise, VertexRun, run_decided, IsRunFor}
-use Rattle.tree_batch.specs.Runs.{IsRunOf, BeginsElsewhere, BeginsFrom, AreCutSoFar}
+use Rattle.tree_batch.specs.BlockCuts.{IsCutAt, block_decided, AreCut, BeginsElsewhere, BeginsFrom, AreCutSoFar}
 use Rattle.tree_batch.proofs.Deciding.{option_or-none, option_or-assoc, decision-pushed}
 
 -- an update that says what an entry says
@@ -41,67 +43,57 @@ decided_more xs i d us u lt says same e =
     ∙ sym (ap (λ ys. decision ys e) more ∙ decision-pushed (take i xs) x e)
 
 -- later updates decide before earlier ones
-decided_append : (xs ys : List EdgeUpdate) (e : Edge) → decided (xs ++ ys) e ≡ option_or (decided ys e) (decided xs e)
+pub decided_append : (xs ys : List EdgeUpdate) (e : Edge) → decided (xs ++ ys) e ≡ option_or (decided ys e) (decided xs e)
 decided_append [] ys e = sym (option_or-none (decided ys e))
 decided_append (x ∷ xs) ys e = ap (λ o. option_or o (one_decided x e)) (decided_append xs ys e) ∙ option_or-assoc (decided ys e) (decided xs e) (one_decided x e)
 
--- one more update on a vertex
-pub run_more : (u : ℕ) (ds : List EdgeUpdate) (i : ℕ) (d : EdgeUpdate) → i < length ds → vertex_of (get_or ds i d) ≡ u → IsRunOf u (take i ds) → IsRunOf u (take (i + 1) ds)
-run_more u ds i d lt on run = rw (take_more ds i d lt) (pushed (take i ds) run)
+-- one more update of a block
+pub cut_longer : (k : ℕ) (ds : List EdgeUpdate) (i : ℕ) (d : EdgeUpdate) → i < length ds → vertex_of (get_or ds i d) / 64 ≡ k → AreOfBlock k (take i ds) → AreOfBlock k (take (i + 1) ds)
+cut_longer k ds i d lt on cut = rw (take_more ds i d lt) (pushed (take i ds) cut)
   where
-    pushed : (xs : List EdgeUpdate) → IsRunOf u xs → IsRunOf u (xs ++ get_or ds i d ∷ [])
+    pushed : (xs : List EdgeUpdate) → AreOfBlock k xs → AreOfBlock k (xs ++ get_or ds i d ∷ [])
     pushed [] r = (on, tt)
     pushed (x ∷ xs) r = (r.0, pushed xs r.1)
 
--- the updates from one on another vertex on
-pub begins_elsewhere : (u : ℕ) (ds : List EdgeUpdate) (i : ℕ) (d : EdgeUpdate) → i < length ds → vertex_of (get_or ds i d) ≢ u → BeginsElsewhere u (drop i ds)
-begins_elsewhere u ds i d lt other = rw (drop_more ds i d lt) other
+-- the updates from one of another block on
+pub begins_elsewhere : (k : ℕ) (ds : List EdgeUpdate) (i : ℕ) (d : EdgeUpdate) → i < length ds → vertex_of (get_or ds i d) / 64 ≢ k → BeginsElsewhere k (drop i ds)
+begins_elsewhere k ds i d lt other = rw (drop_more ds i d lt) other
+
+pub no_update : (us : List EdgeUpdate) → length us ≡ 0 → us ≡ []
+no_update [] e = refl
+no_update (u ∷ us) e = absurd (omega arith)
 
 drop_past : (xs : List EdgeUpdate) (i : ℕ) → length xs ≤ i → drop i xs ≡ []
-drop_past xs i le = none (drop i xs) (omega (arith, length-drop i xs))
-  where
-    none : (ys : List EdgeUpdate) → length ys ≡ 0 → ys ≡ []
-    none [] e = refl
-    none (y ∷ ys) e = absurd (omega arith)
+drop_past xs i le = no_update (drop i xs) (omega (arith, length-drop i xs))
 
 -- where none is left
-pub begins_nowhere : (u : ℕ) (ds : List EdgeUpdate) (i : ℕ) → length ds ≤ i → BeginsElsewhere u (drop i ds)
-begins_nowhere u ds i le = rw (drop_past ds i le) tt
+pub begins_nowhere : (k : ℕ) (ds : List EdgeUpdate) (i : ℕ) → length ds ≤ i → BeginsElsewhere k (drop i ds)
+begins_nowhere k ds i le = rw (drop_past ds i le) tt
 
--- a run that ascends rises by neighbours
-run_rises : (a : EdgeUpdate) (ds : List EdgeUpdate) → FollowAscending a ds → IsRunOf (vertex_of a) ds → NeighboursRise (neighbour_of a + 1) ds
-run_rises a [] s r = tt
-run_rises a (d ∷ ds) s r = (omega (arith, s.0.1 (sym r.0)), run_rises d ds s.1 (subst (λ u. IsRunOf u ds) (sym r.0) r.1))
-
-front_ascends : (a : EdgeUpdate) (xs ys : List EdgeUpdate) → FollowAscending a (xs ++ ys) → FollowAscending a xs
+pub front_ascends : (a : EdgeUpdate) (xs ys : List EdgeUpdate) → FollowAscending a (xs ++ ys) → FollowAscending a xs
 front_ascends a [] ys s = tt
 front_ascends a (x ∷ xs) ys s = (s.0, front_ascends x xs ys s.1)
 
-back_ascends : (a : EdgeUpdate) (xs ys : List EdgeUpdate) → FollowAscending a (xs ++ ys) → Ascend ys
+pub back_ascends : (a : EdgeUpdate) (xs ys : List EdgeUpdate) → FollowAscending a (xs ++ ys) → Ascend ys
 back_ascends a [] [] s = tt
 back_ascends a [] (y ∷ ys) s = s.1
 back_ascends a (x ∷ xs) ys s = back_ascends x xs ys s.1
 
 -- what follows is on no lower vertex
-no_lower : (a : EdgeUpdate) (xs : List EdgeUpdate) (y : EdgeUpdate) (ys : List EdgeUpdate) → FollowAscending a (xs ++ y ∷ ys) → vertex_of a ≤ vertex_of y
+pub no_lower : (a : EdgeUpdate) (xs : List EdgeUpdate) (y : EdgeUpdate) (ys : List EdgeUpdate) → FollowAscending a (xs ++ y ∷ ys) → vertex_of a ≤ vertex_of y
 no_lower a [] y ys s = s.0.0
 no_lower a (x ∷ xs) y ys s = omega (arith, s.0.0, no_lower x xs y ys s.1)
 
--- a run decides on its own vertex
-run_says : (ds : List EdgeUpdate) (e : Edge) → IsRunOf e.0 ds → decided ds e ≡ neighbour_decided ds e.1
-run_says [] e r = refl
-run_says (d ∷ ds) e r = rw (run_says ds e r.1, eq-eqb (vertex_of d) e.0 r.0)
-
--- and on no other
-run_silent : (u : ℕ) (ds : List EdgeUpdate) (e : Edge) → IsRunOf u ds → e.0 ≢ u → decided ds e ≡ None
-run_silent u [] e r other = refl
-run_silent u (d ∷ ds) e r other =
-    let apart : vertex_of d ≢ e.0 = omega (arith, r.0) in
-    rw (run_silent u ds e r.1 other, ne_eqb (vertex_of d) e.0 apart)
+-- the updates of a block decide on no vertex of another
+pub cut_silent : (k : ℕ) (ds : List EdgeUpdate) (e : Edge) → AreOfBlock k ds → e.0 / 64 ≢ k → decided ds e ≡ None
+cut_silent k [] e r other = refl
+cut_silent k (d ∷ ds) e r other =
+    let apart : vertex_of d ≢ e.0 = λ same. other (ap (λ v. v / 64) (sym same) ∙ r.0) in
+    rw (cut_silent k ds e r.1 other, ne_eqb (vertex_of d) e.0 apart)
 
 module _ {V : Type 0} where
   -- there is no value above all keys
-  lookup_above : (a h : ℕ) (es : List (ℕ × V)) (k : ℕ) → Rises a h es → h ≤ k → lookup k es ≡ None
+  pub lookup_above : (a h : ℕ) (es : List (ℕ × V)) (k : ℕ) → Rises a h es → h ≤ k → lookup k es ≡ None
   lookup_above a h [] k s le = refl
   lookup_above a h (e ∷ es) k s le =
       let other : e.0 ≢ k = omega (arith, room (e.0 + 1) h es s.1) in
@@ -124,83 +116,95 @@ module _ {V : Type 0} where
       rw (ne_eqb k j other)
   lookup_before (e ∷ es) k v j ne = rw (lookup_before es k v j ne)
 
-size_of : (a r : VertexRun) → Some a ≡ Some r → r.chunk_size ≡ a.chunk_size
-size_of a r e = cc
+-- the first update is in what is cut off in front of its block
+pub first_cut : (k : ℕ) (d : EdgeUpdate) (ds : List EdgeUpdate) → k ≡ vertex_of d / 64 → (cut after : List EdgeUpdate) → d ∷ ds ≡ cut ++ after → BeginsElsewhere k after → (r : List EdgeUpdate) × (cut ≡ d ∷ r) × (ds ≡ r ++ after)
+first_cut k d ds at [] after w other = absurd (begins after w other)
+  where
+    begins : (ys : List EdgeUpdate) → d ∷ ds ≡ ys → BeginsElsewhere k ys → ⊥
+    begins [] e o = cc
+    begins (y ∷ ys) e o = let same : d ≡ y = cc in o (ap (λ z. vertex_of z / 64) (sym same) ∙ sym at)
+first_cut k d ds at (x ∷ xs) after w other = let same : x ≡ d = cc in let rest : ds ≡ xs ++ after = cc in (xs, ap (λ z. z ∷ xs) same, rest)
 
-module _ (all : List EdgeUpdate) (d : EdgeUpdate) (ds run after : List EdgeUpdate) (runs : List (ℕ × VertexRun)) (b : ℕ) (so_far : AreCutSoFar b all (d ∷ ds) runs) (whole : d ∷ ds ≡ run ++ after) (is_run : IsRunOf (vertex_of d) run) (elsewhere : BeginsElsewhere (vertex_of d) after) where
-  -- the first update is in the run
-  run_first : (r : List EdgeUpdate) × (run ≡ d ∷ r) × (ds ≡ r ++ after)
-  run_first = first run whole elsewhere
-    where
-      first : (xs : List EdgeUpdate) → d ∷ ds ≡ xs ++ after → BeginsElsewhere (vertex_of d) after → (r : List EdgeUpdate) × (xs ≡ d ∷ r) × (ds ≡ r ++ after)
-      first [] w other = absurd (begins after w other)
-        where
-          begins : (ys : List EdgeUpdate) → d ∷ ds ≡ ys → BeginsElsewhere (vertex_of d) ys → ⊥
-          begins [] e o = cc
-          begins (y ∷ ys) e o = let same : d ≡ y = cc in o (ap (λ z. vertex_of z) (sym same))
-      first (x ∷ xs) w other = let same : x ≡ d = cc in let rest : ds ≡ xs ++ after = cc in (xs, ap (λ z. z ∷ xs) same, rest)
+pub same_change : (a c : BlockChange) → Some a ≡ Some c → a ≡ c
+same_change a c e = cc
 
-  -- the run rises by neighbours
-  pub new_run_rises : NeighboursRise 0 run
-  new_run_rises =
-      let first = run_first in
-      let order : FollowAscending d (first.0 ++ after) = subst (λ xs. FollowAscending d xs) first.2 so_far.order in
-      let on : IsRunOf (vertex_of d) (d ∷ first.0) = subst (IsRunOf (vertex_of d)) first.1 is_run in
-      subst (NeighboursRise 0) (sym first.1) (omega arith, run_rises d first.0 (front_ascends d first.0 after order) on.1)
+module _ (all : List EdgeUpdate) (d : EdgeUpdate) (ds cut after : List EdgeUpdate) (blocks : List (ℕ × BlockChange)) (so_far : AreCutSoFar all (d ∷ ds) blocks) (whole : d ∷ ds ≡ cut ++ after) (of_block : AreOfBlock (vertex_of d / 64) cut) (elsewhere : BeginsElsewhere (vertex_of d / 64) after) where
+  abbrev k : ℕ
+  k = vertex_of d / 64
+
+  -- the first update is in the cut
+  cut_first : (r : List EdgeUpdate) × (cut ≡ d ∷ r) × (ds ≡ r ++ after)
+  cut_first = first_cut k d ds refl cut after whole elsewhere
+
+  order : FollowAscending d (cut_first.0 ++ after)
+  order = subst (λ xs. FollowAscending d xs) cut_first.2 so_far.order
+
+  -- the updates of the block ascend in it
+  pub cut_ascends : EdgesAscend 0 cut
+  cut_ascends =
+      let first = cut_first in
+      let ascends : Ascend cut = subst Ascend (sym first.1) (front_ascends d first.0 after order) in
+      ascend_in_page k cut ascends of_block
 
   -- what is left is shorter
   pub after_shorter : length after < length (d ∷ ds)
-  after_shorter = let first = run_first in omega (arith, ap length first.2, length-append first.0 after)
+  after_shorter = let first = cut_first in omega (arith, ap length first.2, length-append first.0 after)
 
-  begins_after : BeginsFrom (vertex_of d + 1) after
-  begins_after =
-      let first = run_first in
-      let order : FollowAscending d (first.0 ++ after) = subst (λ xs. FollowAscending d xs) first.2 so_far.order in
-      from after order elsewhere
+  begins_after : BeginsFrom (k + 1) after
+  begins_after = from after order elsewhere
     where
-      from : (ys : List EdgeUpdate) → FollowAscending d (run_first.0 ++ ys) → BeginsElsewhere (vertex_of d) ys → BeginsFrom (vertex_of d + 1) ys
+      from : (ys : List EdgeUpdate) → FollowAscending d (cut_first.0 ++ ys) → BeginsElsewhere k ys → BeginsFrom (k + 1) ys
       from [] s o = tt
-      from (y ∷ ys) s o = omega (arith, no_lower d run_first.0 y ys s, o)
+      from (y ∷ ys) s o = omega (arith, no_lower d cut_first.0 y ys s, o)
 
-  -- the runs after one more
-  pub cut_more : (new_run : VertexRun) → IsRunFor run b new_run → vertex_of d < 2 ^ 32 → AreCutSoFar b all after (runs ++ (vertex_of d, new_run) ∷ [])
-  cut_more new_run made small = let more = runs ++ (vertex_of d, new_run) ∷ [] in record {
-    low = vertex_of d + 1;
-    order = back_ascends d run_first.0 after (subst (λ xs. FollowAscending d xs) run_first.2 so_far.order);
+  -- the blocks after one more
+  pub cut_more : (c : BlockChange) → c.updates ≡ cut → vertex_of d < 2 ^ 24 → AreCutSoFar all after (blocks ++ (k, c) ∷ [])
+  cut_more c is small = let more = blocks ++ (k, c) ∷ [] in record {
+    low = k + 1;
+    order = back_ascends d cut_first.0 after order;
     begins = begins_after;
-    rise = let last : vertex_of d + 1 ≤ vertex_of d + 1 = omega arith in rises_joined 0 (vertex_of d + 1) runs (vertex_of d) new_run [] (rises_to 0 so_far.low (vertex_of d) runs so_far.rise so_far.begins) last;
+    rise = let last : k + 1 ≤ k + 1 = omega arith in rises_joined 0 (k + 1) blocks k c [] (rises_to 0 so_far.low k blocks so_far.rise so_far.begins) last;
     small = omega arith;
-    sizes = λ u r is. elim (cases_eq u (vertex_of d)) [
+    cuts = λ j x there. elim (cases_eq j k) [
       | inl at ↦
-          let here : lookup u more ≡ Some new_run = rw at (lookup_last 0 so_far.low runs (vertex_of d) new_run so_far.rise so_far.begins) in
-          let same : Some new_run ≡ Some r = sym here ∙ is in
-          size_of new_run r same ∙ made.chunk_size
-      | inr other ↦ so_far.sizes u r (sym (lookup_before runs (vertex_of d) new_run u other) ∙ is)
+          let here : lookup j more ≡ Some c = rw at (lookup_last 0 so_far.low blocks k c so_far.rise so_far.begins) in
+          let same : c ≡ x = same_change c x (sym here ∙ there) in
+          subst (λ (y : BlockChange). IsCutAt j y) same (rw at (record { some = rw (is, cut_first.1) (omega arith); block = rw is of_block; order = rw is cut_ascends }))
+      | inr other ↦ so_far.cuts j x (sym (lookup_before blocks k c j other) ∙ there)
     ];
     same = λ e.
-        let rest : decided (d ∷ ds) e ≡ option_or (decided after e) (decided run e) = ap (λ xs. decided xs e) whole ∙ decided_append run after e in
-        let known = so_far.same e ∙ ap (λ o. option_or o (run_decided (lookup e.0 runs) e.1)) rest ∙ option_or-assoc (decided after e) (decided run e) (run_decided (lookup e.0 runs) e.1) in
-        known ∙ ap (λ o. option_or (decided after e) o) (elim (cases_eq e.0 (vertex_of d)) [
+        let rest : decided (d ∷ ds) e ≡ option_or (decided after e) (decided cut e) = ap (λ xs. decided xs e) whole ∙ decided_append cut after e in
+        let said = block_decided (lookup (e.0 / 64) blocks) e in
+        let known = so_far.same e ∙ ap (λ o. option_or o said) rest ∙ option_or-assoc (decided after e) (decided cut e) said in
+        known ∙ ap (λ o. option_or (decided after e) o) (elim (cases_eq (e.0 / 64) k) [
           | inl at ↦
-              let none : lookup e.0 runs ≡ None = rw at (lookup_above 0 so_far.low runs (vertex_of d) so_far.rise so_far.begins) in
-              let here : lookup e.0 more ≡ Some new_run = rw at (lookup_last 0 so_far.low runs (vertex_of d) new_run so_far.rise so_far.begins) in
-              rw (none, here) (option_or-none (decided run e) ∙ run_says run e (subst (λ u. IsRunOf u run) (sym at) is_run) ∙ made.same e.1)
-          | inr other ↦ rw (run_silent (vertex_of d) run e is_run other, lookup_before runs (vertex_of d) new_run e.0 other)
+              let none : lookup (e.0 / 64) blocks ≡ None = rw at (lookup_above 0 so_far.low blocks k so_far.rise so_far.begins) in
+              let here : lookup (e.0 / 64) more ≡ Some c = rw at (lookup_last 0 so_far.low blocks k c so_far.rise so_far.begins) in
+              rw (none, here, is) (option_or-none (decided cut e))
+          | inr other ↦ rw (cut_silent k cut e of_block other, lookup_before blocks k c (e.0 / 64) other)
         ]);
   }
 
 -- no update has been read
-pub cut_none : (b : ℕ) (all : List EdgeUpdate) → Ascend all → AreCutSoFar b all all []
-cut_none b all s = record {
+pub cut_none : (all : List EdgeUpdate) → Ascend all → AreCutSoFar all all []
+cut_none all s = record {
   low = 0;
   order = s;
   begins = from all;
   rise = omega arith;
   small = omega arith;
-  sizes = λ u r is. absurd (cc);
+  cuts = λ k c is. absurd (cc);
   same = λ e. sym (option_or-none (decided all e));
 }
   where
     from : (ds : List EdgeUpdate) → BeginsFrom 0 ds
     from [] = tt
     from (d ∷ ds) = omega arith
+
+-- all updates have been read
+pub cut_all : (all rest : List EdgeUpdate) (blocks : List (ℕ × BlockChange)) → AreCutSoFar all rest blocks → length rest ≡ 0 → AreCut all blocks
+cut_all all rest blocks so_far end = record {
+  map = rises_to 0 so_far.low (2 ^ 18) blocks so_far.rise so_far.small;
+  cuts = so_far.cuts;
+  same = λ e. sym (so_far.same e ∙ ap (λ us. option_or (decided us e) (block_decided (lookup (e.0 / 64) blocks) e)) (no_update rest end));
+}

@@ -1,11 +1,12 @@
 pub mod Rising
 pub mod AllEdges
 pub mod Deciding
-pub mod SetMembers
-pub mod Parting
 pub mod Decided
+pub mod CutAround
+pub mod Listed
 pub mod Adjacency
 pub mod Columns
+pub mod BlockMembers
 pub mod Neighbourhoods
 pub mod Crossing
-pub mod VertexSets
+pub mod BlocksOf

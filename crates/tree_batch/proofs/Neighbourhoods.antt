@@ -1,132 +1,131 @@
 -- The neighbours of vertices after the updates of a batch.
-use Rattle.std.proofs.Common.{◌≡◌, ◌↔◌, ℕ, zero, suc, ◌+◌, ◌*◌, ◌%◌, ◌^◌, ◌≤◌, ◌==◌, Bool, true, false, IsTrue, inl, inr, Option, Some, None, unwrap_or, List, [], ◌∷◌, length, refl, sym, ap, ◌∙◌, subst, arith}
-use Rattle.std.specs.Borrow.{Bor}
-use Rattle.std.specs.Option.{option_copied}
-use Rattle.std.specs.List.{Contains}
-use Rattle.std.proofs.lemmas.Bool.{false≢true, cases_Bool, cases_eq, ne_eqb, eq-eqb, or_right}
-use Rattle.std.proofs.lemmas.List.Elements.{Contains-append_right}
+use Rattle.std.proofs.Common.{◌≡◌, ℕ, zero, suc, ◌+◌, ◌*◌, ◌/◌, ◌%◌, ◌^◌, ◌<◌, ◌≤◌, true, false, Option, Some, None, unwrap_or, List, length, refl, sym, ap, ◌∙◌, subst, arith}
+use Rattle.shared_tree.specs.Entries.{lookup}
+use Rattle.shared_tree.specs.declared.change_all.Changed.{Changed}
+use Rattle.shared_tree.specs.ChangedMaps.{MadeAt, GrewBy}
 use Rattle.c_tree.specs.Heads.{IsChunkSize}
-use Rattle.tail_codec.specs.Spelling.{AscendsFrom}
-use Rattle.shared_tree.specs.Entries.{lookup, IsMap}
-use Rattle.shared_tree.specs.ChangedMaps.{MadeAt, IsChangedMap, total_weight, GrewBy}
-use Rattle.c_tree.specs.Chunks.{ChunkedSet}
+use Rattle.edge_updates.specs.declared.edge_update.EdgeUpdate.{EdgeUpdate}
+use Rattle.edge_updates.specs.Updates.{decided}
+use Rattle.pages.specs.Vertices.{Rises, neighbours_of}
+use Rattle.pages.specs.Updates.{updated, updates_of}
+use Rattle.vertex_blocks.specs.declared.block.VertexBlock.{VertexBlock}
+use Rattle.vertex_blocks.specs.Blocks.{Block, IsBlock, vertices_at, lists_of}
+use Rattle.vertex_blocks.specs.Changes.{BlockChange, IsBlockAfter}
 use Rattle.tree_batch.specs.declared.batch.Entry.{Entry}
-use Rattle.tree_batch.specs.Edge.{Edge, all_edges}
-use Rattle.tree_batch.specs.Entry.{decision, is_edge_after, names_outside, AreEdgesAfter}
+use Rattle.tree_batch.specs.Edge.{Edge, IsAscending}
+use Rattle.tree_batch.specs.Entry.{decision, names_outside, AreEdgesAfter}
 use Rattle.tree_batch.specs.Digraph.{Digraph, digraph, graph_after, is_chunk_size}
-use Rattle.tree_batch.specs.Run.{has_number, elements_at, chunk_size_at, VertexRun, run_decided, IsSetAfter, IsNeighbourSet}
-use Rattle.tree_batch.specs.Neighbours.{edges_of, has_neighbour, sources_of, AreNeighbours, IsGraph, HasNeighbours}
-use Rattle.tree_batch.proofs.AllEdges.{edges_after_are, digraph_after, few_vertices, rises_below, rises_filter}
+use Rattle.tree_batch.specs.Neighbours.{has_number, edges_of, has_neighbour, sources_of}
+use Rattle.tree_batch.specs.VertexBlocks.{AreGraphBlocks, IsGraph}
+use Rattle.tree_batch.specs.BlockCuts.{block_decided}
+use Rattle.tree_batch.specs.Forking.{IsChangedTree}
+use Rattle.tree_batch.proofs.Rising.{rises_wider}
+use Rattle.tree_batch.proofs.AllEdges.{edges_after_are, digraph_after}
+use Rattle.tree_batch.proofs.Listed.{lists_rise, listed_in_block, neighbour_lists, neighbours_ascend, blocks_at, are_blocks}
 use Rattle.tree_batch.proofs.Adjacency.{rises_edges, has_edges, edges_weigh, rises_room}
 use Rattle.tree_batch.proofs.Columns.{has_source, sources_ascend, same_numbers}
+use Rattle.tree_batch.proofs.BlockMembers.{updated_members}
 
-module _ (b : ℕ) (says : Edge → Option Bool) (runs : List (ℕ × VertexRun)) (es new : List (ℕ × ChunkedSet)) (ok : AreNeighbours b es) (is_map : IsMap runs) (sizes : (u : ℕ) (r : VertexRun) → lookup u runs ≡ Some r → r.chunk_size ≡ b) (same : (e : Edge) → run_decided (lookup e.0 runs) e.1 ≡ says e) (changed : IsChangedMap IsSetAfter runs es new) where
-  size_kept : (u : ℕ) (r : VertexRun) (o : Option ChunkedSet) → r.chunk_size ≡ b → lookup u es ≡ o → chunk_size_at r.chunk_size o ≡ b
-  size_kept u r None size is = size
-  size_kept u r (Some s) size is = (ok.sets u s is).chunk_size
+-- the vertices of a graph's blocks rise
+pub graph_rises : (bs : List (ℕ × Block)) → AreGraphBlocks bs → Rises 0 (2 ^ 24) (lists_of bs)
+graph_rises bs ok = lists_rise 0 (2 ^ 18) bs ok.map ok.blocks
 
-  set_made : (u : ℕ) (run : Option VertexRun) (s : ChunkedSet) → lookup u runs ≡ run → MadeAt IsSetAfter run (lookup u es) (lookup u new) → lookup u new ≡ Some s → IsNeighbourSet b s
-  set_made u None s none made is = ok.sets u s (sym made ∙ is)
-  set_made u (Some r) s there made is =
-      let made_here : IsSetAfter r (lookup u es) (Some s) = subst (λ o. IsSetAfter r (lookup u es) o) is made in
-      subst (λ c. IsNeighbourSet c s) (size_kept u r (lookup u es) (sizes u r there) refl) made_here.set
+-- a vertex has the neighbours that it has in its block
+pub in_block : (u : ℕ) (bs : List (ℕ × Block)) → AreGraphBlocks bs → neighbours_of u (lists_of bs) ≡ neighbours_of (u % 64) (vertices_at (lookup (u / 64) bs))
+in_block u bs ok = listed_in_block 0 (2 ^ 18) u bs ok.map ok.blocks
 
-  -- they are neighbours still
-  pub neighbours_changed : AreNeighbours b new
-  neighbours_changed = record {
-    map = changed.within 0 (2 ^ 32) ok.map is_map;
-    sets = λ u s is. set_made u (lookup u runs) s refl (changed.values u) is;
-  }
+module _ (all : List EdgeUpdate) (bs : List (ℕ × Block)) (t : Changed VertexBlock) (ok : AreGraphBlocks bs) (made : IsChangedTree all bs t) where
+  abbrev new : List (ℕ × Block)
+  new = t.tree.entries
 
-  member_made : (e : Edge) (run : Option VertexRun) → MadeAt IsSetAfter run (lookup e.0 es) (lookup e.0 new) → has_neighbour new e ≡ unwrap_or (run_decided run e.1) (has_neighbour es e)
-  member_made e None made = ap (λ o. has_number (elements_at o) e.1) made
-  member_made e (Some r) made = made.members e.1
+  abbrev changes : List (ℕ × BlockChange)
+  changes = made.changes
 
-  -- and are as the runs say
-  pub members_changed : (e : Edge) → has_neighbour new e ≡ unwrap_or (says e) (has_neighbour es e)
-  members_changed e = member_made e (lookup e.0 runs) (changed.values e.0) ∙ ap (λ o. unwrap_or o (has_neighbour es e)) (same e)
+  block_made : (k : ℕ) (o : Option BlockChange) (b : Block) → MadeAt IsBlockAfter o (lookup k bs) (lookup k new) → lookup k new ≡ Some b → IsBlock b × (0 < length b)
+  block_made k None b was is = blocks_at bs ok.blocks k b (sym was ∙ is)
+  block_made k (Some c) b was is =
+      let here : IsBlockAfter c (lookup k bs) (Some b) = subst (λ o. IsBlockAfter c (lookup k bs) o) is was in
+      (here.block, here.some)
 
--- the growth in elements is that in edges
-pub edges_grew : (es new : List (ℕ × ChunkedSet)) (g : ℕ) → GrewBy (total_weight (λ s. length s.elements) es) g (total_weight (λ s. length s.elements) new) → GrewBy (length (edges_of es)) g (length (edges_of new))
-edges_grew es new g grew = rw (edges_weigh es, edges_weigh new) grew
+  -- they are blocks still
+  pub blocks_changed : AreGraphBlocks new
+  blocks_changed =
+      let map = made.values.within 0 (2 ^ 18) ok.map made.cut.map in
+      record { map = map; blocks = are_blocks 0 (2 ^ 18) new map (λ k b is. block_made k (lookup k changes) b (made.values.values k) is) }
 
-module _ (n b count : ℕ) (out into : List (ℕ × ChunkedSet)) (ok : IsGraph n b count out into) where
+  member_made : (e : Edge) (o : Option BlockChange) → lookup (e.0 / 64) changes ≡ o → MadeAt IsBlockAfter o (lookup (e.0 / 64) bs) (lookup (e.0 / 64) new) → has_number (neighbours_of (e.0 % 64) (vertices_at (lookup (e.0 / 64) new))) e.1 ≡ unwrap_or (block_decided o e) (has_neighbour (lists_of bs) e)
+  member_made e None there was = ap (λ o. has_number (neighbours_of (e.0 % 64) (vertices_at o)) e.1) was ∙ ap (λ xs. has_number xs e.1) (sym (in_block e.0 bs ok))
+  member_made e (Some c) there was =
+      let here = made.cut.cuts (e.0 / 64) c there in
+      let lists = was.lists (e.0 % 64) (omega arith) in
+      let after = updated_members (e.0 / 64) c.updates (neighbours_of e.0 (lists_of bs)) e here.order here.block refl (neighbours_ascend e.0 (lists_of bs) (neighbour_lists bs ok.blocks)) in
+      ap (λ xs. has_number xs e.1) (lists ∙ ap (λ xs. updated xs (updates_of (e.0 % 64) c.updates)) (sym (in_block e.0 bs ok))) ∙ after
+
+  -- and have what the updates decide
+  pub members_changed : (e : Edge) → has_neighbour (lists_of new) e ≡ unwrap_or (decided all e) (has_neighbour (lists_of bs) e)
+  members_changed e =
+      ap (λ xs. has_number xs e.1) (in_block e.0 new blocks_changed)
+      ∙ member_made e (lookup (e.0 / 64) changes) refl (made.values.values (e.0 / 64)) ∙ ap (λ o. unwrap_or o (has_neighbour (lists_of bs) e)) (made.cut.same e)
+
+  -- the growth is that in edges
+  pub edges_grew : GrewBy (length (edges_of (lists_of bs))) t.growth (length (edges_of (lists_of new)))
+  edges_grew = rw (edges_weigh bs, edges_weigh new) made.growth
+
+module _ (n count : ℕ) (out into : List (ℕ × Block)) (ok : IsGraph n count out into) where
   abbrev old : Digraph
-  old = digraph n (edges_of out)
+  old = digraph n (edges_of (lists_of out))
 
-  -- the numbers of a set of sources are the sources
-  pub sources_are : (v : ℕ) → sources_of v (edges_of out) ≡ elements_at (lookup v into)
+  -- the lists of the other direction are the sources
+  pub sources_are : (v : ℕ) → sources_of v (edges_of (lists_of out)) ≡ neighbours_of v (lists_of into)
   sources_are v =
-      same_numbers (sources_of v (edges_of out)) (elements_at (lookup v into))
-      (sources_ascend v 0 (2 ^ 64) 0 (edges_of out) (omega arith) ok.graph.ascending (λ w le. omega arith))
-      (ascends (lookup v into) refl)
-      (λ u. has_source (edges_of out) u v ∙ has_edges 0 (2 ^ 32) out (u, v) ok.out.map ∙ sym (ok.converse u v))
-    where
-      ascends : (o : Option ChunkedSet) → lookup v into ≡ o → AscendsFrom 0 (elements_at o)
-      ascends None is = tt
-      ascends (Some s) is = (ok.into.sets v s is).valid.ascending
+      same_numbers (sources_of v (edges_of (lists_of out))) (neighbours_of v (lists_of into))
+      (sources_ascend v 0 (2 ^ 64) 0 (edges_of (lists_of out)) (omega arith) ok.graph.ascending (λ w le. omega arith))
+      (neighbours_ascend v (lists_of into) (neighbour_lists into ok.into.blocks))
+      (λ u. has_source (edges_of (lists_of out)) u v ∙ has_edges 0 (2 ^ 24) (lists_of out) (u, v) (graph_rises out ok.out) ∙ sym (ok.converse u v))
 
-  module _ (batch : List Entry) (inside : names_outside n batch ≡ false) (says : Edge → Option Bool) (same : (e : Edge) → says e ≡ decision batch e) (out' into' : List (ℕ × ChunkedSet)) (g : ℕ)
-      (out_ok : AreNeighbours b out') (into_ok : AreNeighbours b into')
-      (out_members : (e : Edge) → has_neighbour out' e ≡ unwrap_or (says e) (has_neighbour out e))
-      (into_members : (e : Edge) → has_neighbour into' e ≡ unwrap_or (says (e.1, e.0)) (has_neighbour into e))
-      (grew : GrewBy (length (edges_of out)) g (length (edges_of out'))) where
-    edges_after : AreEdgesAfter (edges_of out) batch (edges_of out')
+  module _ (batch : List Entry) (inside : names_outside n batch ≡ false) (us turned : List EdgeUpdate) (same : (e : Edge) → decided us e ≡ decision batch e) (turns : (e : Edge) → decided turned e ≡ decided us (e.1, e.0)) (outs ins : Changed VertexBlock) (out_made : IsChangedTree us out outs) (into_made : IsChangedTree turned into ins) where
+    abbrev out' : List (ℕ × Block)
+    out' = outs.tree.entries
+
+    abbrev into' : List (ℕ × Block)
+    into' = ins.tree.entries
+
+    out_ok : AreGraphBlocks out'
+    out_ok = blocks_changed us out outs ok.out out_made
+
+    out_members : (e : Edge) → has_neighbour (lists_of out') e ≡ unwrap_or (decided us e) (has_neighbour (lists_of out) e)
+    out_members = members_changed us out outs ok.out out_made
+
+    into_members : (e : Edge) → has_neighbour (lists_of into') e ≡ unwrap_or (decided us (e.1, e.0)) (has_neighbour (lists_of into) e)
+    into_members e = members_changed turned into ins ok.into into_made e ∙ ap (λ o. unwrap_or o (has_neighbour (lists_of into) e)) (turns e)
+
+    ascending : IsAscending (edges_of (lists_of out'))
+    ascending =
+        let rise : Rises 0 (2 ^ 24) (lists_of out') = graph_rises out' out_ok in
+        rises_wider 0 (2 ^ 24 * 2 ^ 32) (2 ^ 64) (edges_of (lists_of out')) (omega arith) (rises_edges 0 (2 ^ 24) (lists_of out') rise (neighbour_lists out' out_ok.blocks))
+
+    edges_after : AreEdgesAfter (edges_of (lists_of out)) batch (edges_of (lists_of out'))
     edges_after = record {
-      ascending = rises_edges b 0 (2 ^ 32) out' out_ok.map out_ok.sets;
-      members = λ e. has_edges 0 (2 ^ 32) out' e out_ok.map ∙ out_members e ∙ ap (λ o. unwrap_or o (has_neighbour out e)) (same e) ∙ ap (λ h. unwrap_or (decision batch e) h) (sym (has_edges 0 (2 ^ 32) out e ok.out.map));
+      ascending = ascending;
+      members = λ e. has_edges 0 (2 ^ 24) (lists_of out') e (graph_rises out' out_ok) ∙ out_members e ∙ ap (λ o. unwrap_or o (has_neighbour (lists_of out) e)) (same e) ∙ ap (λ h. unwrap_or (decision batch e) h) (sym (has_edges 0 (2 ^ 24) (lists_of out) e (graph_rises out ok.out)));
     }
 
     -- the new edges are those after the batch
-    pub graph_is_after : digraph n (edges_of out') ≡ graph_after old batch
-    graph_is_after = ap (λ es. digraph n es) (edges_after_are old batch (edges_of out') ok.graph inside edges_after)
+    pub graph_is_after : digraph n (edges_of (lists_of out')) ≡ graph_after old batch
+    graph_is_after = ap (λ es. digraph n es) (edges_after_are old batch (edges_of (lists_of out')) ok.graph inside edges_after)
 
-    few : length (edges_of out') ≤ n * 2 ^ 32
-    few =
-        let is = edges_after_are old batch (edges_of out') ok.graph inside edges_after in
-        let rises = rises_filter (is_edge_after (edges_of out) batch) 0 (n * 2 ^ 32) (all_edges n) (rises_below n (omega (arith, few_vertices n ok.graph.count))) in
-        let room = rises_room 0 (n * 2 ^ 32) (graph_after old batch).edges rises in
-        rw is (omega (arith, room))
+    few : length (edges_of (lists_of out')) ≤ 2 ^ 56
+    few = omega (arith, rises_room 0 (2 ^ 24 * 2 ^ 32) (edges_of (lists_of out')) (rises_edges 0 (2 ^ 24) (lists_of out') (graph_rises out' out_ok) (neighbour_lists out' out_ok.blocks)))
 
     -- the new graph is one
-    pub graph_made : (new_count : ℕ) → new_count ≡ (count + g) % 2 ^ 64 → IsGraph n b new_count out' into'
+    pub graph_made : (new_count : ℕ) → new_count ≡ (count + outs.growth) % 2 ^ 64 → IsGraph n new_count out' into'
     graph_made new_count is = record {
-      graph = digraph_after old batch (edges_of out') ok.graph inside edges_after;
+      graph = digraph_after old batch (edges_of (lists_of out')) ok.graph inside edges_after;
       out = out_ok;
-      into = into_ok;
-      converse = λ u v. into_members (v, u) ∙ ap (λ h. unwrap_or (says (u, v)) h) (ok.converse u v) ∙ sym (out_members (u, v));
-      count = omega (arith, is, ok.count, grew, few, few_vertices n ok.graph.count);
+      into = blocks_changed turned into ins ok.into into_made;
+      converse = λ u v. into_members (v, u) ∙ ap (λ h. unwrap_or (decided us (u, v)) h) (ok.converse u v) ∙ sym (out_members (u, v));
+      count = omega (arith, is, ok.count, edges_grew us out outs ok.out out_made, few);
     }
-
--- the set that is found at a vertex has its neighbours
-pub neighbours_found : (b u : ℕ) (es : List (ℕ × ChunkedSet)) (xs : List ℕ) (o : Option (Bor ChunkedSet)) → AreNeighbours b es → option_copied o ≡ lookup u es → xs ≡ elements_at (lookup u es) → HasNeighbours xs o
-neighbours_found b u es xs None ok found is = is ∙ ap elements_at (sym found)
-neighbours_found b u es xs (Some s) ok found is =
-    let same : xs ≡ s.now.elements = is ∙ ap elements_at (sym found) in
-    let some = (ok.sets u s.now (sym found)).some in
-    (sym same, λ none. omega (arith, some, ap length (sym same ∙ none)))
-
-number_contained : (xs : List ℕ) (v : ℕ) → has_number xs v ≡ true → Contains xs v
-number_contained [] v h = absurd (false≢true h)
-number_contained (x ∷ xs) v h = elim (cases_eq x v) [
-  | inl is ↦ (0, omega arith, is)
-  | inr other ↦
-      let later : has_number xs v ≡ true = rw (ne_eqb x v other) at h in
-      Contains-append_right (x ∷ []) xs v (number_contained xs v later)
-]
-
-contained_number : (xs : List ℕ) (v : ℕ) → Contains xs v → has_number xs v ≡ true
-contained_number [] v (k, lt, is) = absurd (omega arith)
-contained_number (x ∷ xs) v (zero, lt, is) = rw (eq-eqb x v is)
-contained_number (x ∷ xs) v (suc k, lt, is) = or_right (x == v) (has_number xs v) (contained_number xs v (k, omega arith, is))
-
--- a test of containment is a test of the number
-pub contains_is : (xs : List ℕ) (v : ℕ) (r : Bool) → IsTrue r ↔ Contains xs v → r ≡ has_number xs v
-contains_is xs v true h = sym (contained_number xs v (h.0 refl))
-contains_is xs v false h = elim (cases_Bool (has_number xs v)) [
-  | inl there ↦ absurd (false≢true (h.1 (number_contained xs v there)))
-  | inr absent ↦ sym absent
-]
 
 -- a chunk size is a power of two from 1 to 256
 pub size_is : (b : ℕ) → IsChunkSize b → is_chunk_size b ≡ true

@@ -1,33 +1,45 @@
--- For proofs only: trees that are changed below a vertex, at it and above it.
-use Rattle.std.specs.Prelude.{ℕ, Option, Some, List, length}
+-- For proofs only: trees that are changed, below a block, at it and above it.
+use Rattle.std.specs.Prelude.{◌≡◌, ℕ, Option, List}
 use Rattle.shared_tree.specs.declared.change_all.Changed.{Changed}
 use Rattle.shared_tree.specs.Changes.{IsSplit}
 use Rattle.shared_tree.specs.ChangedMaps.{IsChangedMap, total_weight, GrewBy}
-use Rattle.c_tree.specs.Chunks.{ChunkedSet}
-use Rattle.c_tree.specs.declared.ctree.CTree.{CTree}
+use Rattle.edge_updates.specs.declared.edge_update.EdgeUpdate.{EdgeUpdate}
+use Rattle.edge_updates.specs.Updates.{Ascend}
+use Rattle.vertex_blocks.specs.declared.block.VertexBlock.{VertexBlock}
+use Rattle.vertex_blocks.specs.Blocks.{Block, edge_total}
+use Rattle.vertex_blocks.specs.Changes.{BlockChange, IsBlockAfter}
 use Rattle.tree_batch.specs.declared.middle.Middle.{Middle}
-use Rattle.tree_batch.specs.Run.{VertexRun, IsSetAfter}
+use Rattle.tree_batch.specs.BlockCuts.{AreCut, IsCutAround}
 
--- both are cut at the vertex of the run
-pub record AreAround (es : List (ℕ × ChunkedSet)) (runs : List (ℕ × VertexRun)) (m : Middle) : Type 0 where
-  pub map : IsSplit m.vertex es m.below.tree.entries m.found m.above.tree.entries
-  pub cut : IsSplit m.vertex runs m.below.runs.now (Some m.run.now) m.above.runs.now
+-- both are cut at the block in the middle
+pub record AreAround (bs : List (ℕ × Block)) (us : List EdgeUpdate) (m : Middle) : Type 0 where
+  pub map : IsSplit m.number bs m.below.tree.entries m.found m.above.tree.entries
+  pub cut : IsCutAround us m.number m.below.updates.now m.updates.now m.above.updates.now
 
--- the tree is changed by the runs, and its growth told
-pub record IsChangedTree (runs : List (ℕ × VertexRun)) (es : List (ℕ × ChunkedSet)) (c : Changed CTree) : Type 0 where
-  pub values : IsChangedMap IsSetAfter runs es c.tree.entries
-  pub growth : GrewBy (total_weight (λ s. length s.elements) es) c.growth (total_weight (λ s. length s.elements) c.tree.entries)
+-- the tree is changed by the updates, cut by blocks, and its growth told
+pub record IsChangedTree (us : List EdgeUpdate) (bs : List (ℕ × Block)) (c : Changed VertexBlock) : Type 0 where
+  pub changes : List (ℕ × BlockChange)
+  pub cut : AreCut us changes
+  pub values : IsChangedMap IsBlockAfter changes bs c.tree.entries
+  pub growth : GrewBy (total_weight edge_total bs) c.growth (total_weight edge_total c.tree.entries)
 
--- both sides of a vertex and its set are changed, from a tree and runs that are cut there
-pub record CanRejoin (m : Middle) (lower : Changed CTree) (made : Option ChunkedSet) (upper : Changed CTree) : Type 0 where
-  pub es : List (ℕ × ChunkedSet)
-  pub runs : List (ℕ × VertexRun)
-  pub around : AreAround es runs m
-  pub below : IsChangedTree m.below.runs.now m.below.tree.entries lower
-  pub above : IsChangedTree m.above.runs.now m.above.tree.entries upper
-  pub set : IsSetAfter m.run.now m.found made
+-- the block is changed by the updates
+pub record IsChangedBlock (us : List EdgeUpdate) (old new : Option Block) : Type 0 where
+  pub change : BlockChange
+  pub updates : change.updates ≡ us
+  pub after : IsBlockAfter change old new
 
--- both sides of a vertex are changed
-pub record AreSides (m : Middle) (lower upper : Changed CTree) : Type 0 where
-  pub below : IsChangedTree m.below.runs.now m.below.tree.entries lower
-  pub above : IsChangedTree m.above.runs.now m.above.tree.entries upper
+-- both sides of a block and the block are changed, from a tree and updates that are cut there
+pub record CanRejoin (m : Middle) (lower : Changed VertexBlock) (made : Option Block) (upper : Changed VertexBlock) : Type 0 where
+  pub bs : List (ℕ × Block)
+  pub us : List EdgeUpdate
+  pub order : Ascend us
+  pub around : AreAround bs us m
+  pub below : IsChangedTree m.below.updates.now m.below.tree.entries lower
+  pub above : IsChangedTree m.above.updates.now m.above.tree.entries upper
+  pub block : IsChangedBlock m.updates.now m.found made
+
+-- both sides of a block are changed
+pub record AreSides (m : Middle) (lower upper : Changed VertexBlock) : Type 0 where
+  pub below : IsChangedTree m.below.updates.now m.below.tree.entries lower
+  pub above : IsChangedTree m.above.updates.now m.above.tree.entries upper

@@ -1,10 +1,9 @@
 pub mod Edge
 pub mod Entry
 pub mod Digraph
-pub mod Run
-pub mod Runs
 pub mod Neighbours
+pub mod VertexBlocks
+pub mod BlockCuts
 pub mod Forking
 pub mod Outcome
 pub mod Refusal
-pub mod VertexSets

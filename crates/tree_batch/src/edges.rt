@@ -2,43 +2,47 @@
 
 ghost use Rattle.std.specs.Prelude.{◌≡◌};
 ghost use Rattle.std.specs.Iterator.{YieldsFirst, item_count};
-ghost use Rattle.tree_batch.specs.Neighbours.{edges_of, HaveNeighbours};
+ghost use Rattle.vertex_blocks.specs.Blocks.{lists_of};
+ghost use Rattle.tree_batch.specs.Neighbours.{edges_of};
+ghost use Rattle.tree_batch.specs.VertexBlocks.{AreGraphBlocks};
 
-use c_tree::CTree;
+use crate::vertices::VertexIter;
 use shared_tree::Tree;
 use std::marker::Model;
+use vertex_blocks::{NeighbourIter, VertexBlock};
 
 /// The edges of a graph that are still to come, in ascending order.
 #[derive(Drop)]
 pub struct EdgeIter<'a> {
     source: u32,
     /// Those of the source that are still to come.
-    destinations: Option<c_tree::Iter<'a>>,
-    vertices: shared_tree::Iter<'a, CTree>,
+    destinations: Option<NeighbourIter<'a>>,
+    vertices: VertexIter<'a>,
 }
 
 impl<'a> Model for EdgeIter<'a> {
     ghost use Rattle.std.specs.Prelude.{List, ◌++◌};
+    ghost use Rattle.vertex_blocks.specs.Blocks.{AreNeighbourLists};
     ghost use Rattle.tree_batch.specs.Edge.{Edge};
-    ghost use Rattle.tree_batch.specs.Neighbours.{edges_of, edges_left, HaveNeighbours};
+    ghost use Rattle.tree_batch.specs.Neighbours.{edges_of, edges_left};
 
     ghost Value = { List Edge };
 
     ghost view = { λ i. edges_left i.source i.destinations ++ edges_of i.vertices };
 
-    ghost invariant = { λ i. HaveNeighbours i.vertices };
+    ghost invariant = { λ i. AreNeighbourLists i.vertices };
 }
 
 impl<'a> EdgeIter<'a> {
-    /// The edges from vertices to their neighbours, of which each vertex has some.
-    pub(crate) fn new(vertices: &'a Tree<CTree>) -> EdgeIter<'a>
-        requires { HaveNeighbours vertices.now.entries }
-        ensures { result ≡ edges_of vertices.now.entries }
+    /// The edges from the vertices of blocks to their neighbours.
+    pub(crate) fn new(blocks: &'a Tree<VertexBlock>) -> EdgeIter<'a>
+        requires { AreGraphBlocks blocks.now.entries }
+        ensures { result ≡ edges_of (lists_of blocks.now.entries) }
     {
         EdgeIter {
             source: 0,
             destinations: None,
-            vertices: vertices.iter(),
+            vertices: VertexIter::new(blocks),
         }
     }
 }
@@ -56,8 +60,8 @@ impl<'a> Iterator for EdgeIter<'a> {
                 return Some((self.source, destination));
             }
         }
-        let (source, set) = self.vertices.next()?;
-        let mut destinations = set.iter();
+        let (source, neighbours) = self.vertices.next()?;
+        let mut destinations = neighbours.iter();
         let Some(destination) = destinations.next() else {
             unreachable!()
         };

@@ -1,88 +1,102 @@
-//! The pass over a tree of vertices by halves that go to two threads.
+//! The pass over a tree of blocks by halves that go to two threads.
 
-ghost use Rattle.std.specs.Prelude.{◌≡◌, ℕ, ◌+◌, ◌<◌, ◌≤◌, List, length, IfOk};
+ghost use Rattle.std.specs.Prelude.{ℕ, ◌+◌, ◌<◌, ◌≤◌, ◌≡◌, List, IfOk};
 ghost use Rattle.std.specs.Option.{option_copied};
 ghost use denote.Param.Send.{IsSync};
-ghost use Rattle.shared_tree.specs.Entries.{IsMap};
 ghost use Rattle.shared_tree.specs.ChangedMaps.{weight_at, GrewBy};
-ghost use Rattle.c_tree.specs.Chunks.{ChunkedSet};
-ghost use Rattle.tree_batch.specs.Run.{VertexRun, IsSetAfter};
-ghost use Rattle.tree_batch.specs.Forking.{IsChangedTree, AreSides, AreAround, CanRejoin};
+ghost use Rattle.edge_updates.specs.declared.edge_update.EdgeUpdate.{EdgeUpdate};
+ghost use Rattle.edge_updates.specs.Updates.{Ascend};
+ghost use Rattle.pages.specs.Updates.{EdgesAscend};
+ghost use Rattle.vertex_blocks.specs.Blocks.{Block, edge_total};
+ghost use Rattle.tree_batch.specs.Forking.{IsChangedTree, IsChangedBlock, AreSides, AreAround, CanRejoin};
 
+use crate::cuts::changed;
 use crate::middle::{Middle, cut_at_middle};
-use crate::run::Run;
-use c_tree::CTree;
+use c_tree::ChunkSize;
+use edge_updates::EdgeUpdate;
 use set_ops::Fork;
 use shared_tree::{Changed, Tree, ValueChange, join_around};
 use std::alloc::{AllocError, Global};
 use std::thread::{self, Threads};
+use vertex_blocks::{BlockUpdates, VertexBlock};
 
-/// The tree with each of these runs made at its vertex, with halves on two threads at so many
-/// levels, the first of which is `level`. Where one run has more than half of the updates, its set
-/// goes by halves.
+/// The tree after updates whose edges ascend, with halves on two threads at so many levels, the first
+/// of which is `level`. Where one block has more than half of the updates, that block goes by halves.
 #[cycle(forked)]
 pub(crate) fn change_forked<R: Threads + Sync, F: Fork + Sync>(
     rt: &R,
     alloc: Global,
-    tree: &Tree<CTree>,
-    runs: &[(u32, Run)],
+    tree: &Tree<VertexBlock>,
+    updates: &[EdgeUpdate],
+    chunk_size: ChunkSize,
     forks: u32,
     level: u32,
     fork: &F,
-) -> Result<Changed<CTree>, AllocError>
-    requires map { IsMap runs.now }
+) -> Result<Changed<VertexBlock>, AllocError>
+    requires order { Ascend updates.now }
     requires few { forks + level ≤ 7 }
-    ensures { IfOk result (λ c. IsChangedTree runs.now tree.now.entries c) }
+    ensures { IfOk result (λ c. IsChangedTree updates.now tree.now.entries c) }
 {
     if forks == 0 {
-        return changed(alloc, tree, runs);
+        return changed(alloc, tree, updates, chunk_size);
     }
-    let Some(middle) = cut_at_middle(alloc, tree, runs)? else {
-        return changed(alloc, tree, runs);
+    let Some(middle) = cut_at_middle(alloc, tree, updates)? else {
+        return changed(alloc, tree, updates, chunk_size);
     };
-    let (below, above) = sides(rt, alloc, &middle, forks, level, fork)?;
-    let set = set_after(rt, alloc, &middle, forks, fork)?;
-    rejoin(alloc, &middle, below, set, above)
+    let (below, above) = sides(rt, alloc, &middle, chunk_size, forks, level, fork)?;
+    let block = block_after(rt, alloc, &middle, chunk_size, forks, level, fork)?;
+    rejoin(alloc, &middle, below, block, above)
 }
 
-/// Both sides of a vertex, each on a thread of its own where the vertex has no more than half of the
+/// Both sides of a block, each on a thread of its own where the block has no more than half of the
 /// updates.
 #[cycle(forked)]
 fn sides<R: Threads + Sync, F: Fork + Sync>(
     rt: &R,
     alloc: Global,
     middle: &Middle<'_>,
+    chunk_size: ChunkSize,
     forks: u32,
     level: u32,
     fork: &F,
-) -> Result<(Changed<CTree>, Changed<CTree>), AllocError>
+) -> Result<(Changed<VertexBlock>, Changed<VertexBlock>), AllocError>
     requires left { 0 < forks }
     requires few { forks + level ≤ 7 }
-    requires below { IsMap middle.now.below.runs.now }
-    requires above { IsMap middle.now.above.runs.now }
+    requires below { Ascend middle.now.below.updates.now }
+    requires above { Ascend middle.now.above.updates.now }
     ensures { IfOk result (λ p. AreSides middle.now p.0 p.1) }
 {
     if middle.is_heavy {
-        return sides_alone(alloc, middle);
+        return sides_alone(alloc, middle, chunk_size);
     }
     let (lower, upper) = (&middle.below, &middle.above);
     let trees = (&lower.tree, &upper.tree);
     in_two(
-        rt, alloc, trees.0, lower.runs, trees.1, upper.runs, forks, level, fork,
+        rt,
+        alloc,
+        trees.0,
+        lower.updates,
+        trees.1,
+        upper.updates,
+        chunk_size,
+        forks,
+        level,
+        fork,
     )
 }
 
-/// Both sides of a vertex, one after the other.
+/// Both sides of a block, one after the other.
 fn sides_alone(
     alloc: Global,
     middle: &Middle<'_>,
-) -> Result<(Changed<CTree>, Changed<CTree>), AllocError>
-    requires below { IsMap middle.now.below.runs.now }
-    requires above { IsMap middle.now.above.runs.now }
+    chunk_size: ChunkSize,
+) -> Result<(Changed<VertexBlock>, Changed<VertexBlock>), AllocError>
+    requires below { Ascend middle.now.below.updates.now }
+    requires above { Ascend middle.now.above.updates.now }
     ensures { IfOk result (λ p. AreSides middle.now p.0 p.1) }
 {
-    let below = changed(alloc, &middle.below.tree, middle.below.runs)?;
-    let above = changed(alloc, &middle.above.tree, middle.above.runs)?;
+    let below = changed(alloc, &middle.below.tree, middle.below.updates, chunk_size)?;
+    let above = changed(alloc, &middle.above.tree, middle.above.updates, chunk_size)?;
     Ok((below, above))
 }
 
@@ -91,107 +105,118 @@ fn sides_alone(
 fn in_two<R: Threads + Sync, F: Fork + Sync>(
     rt: &R,
     alloc: Global,
-    lower: &Tree<CTree>,
-    lower_runs: &[(u32, Run)],
-    upper: &Tree<CTree>,
-    upper_runs: &[(u32, Run)],
+    lower: &Tree<VertexBlock>,
+    lower_updates: &[EdgeUpdate],
+    upper: &Tree<VertexBlock>,
+    upper_updates: &[EdgeUpdate],
+    chunk_size: ChunkSize,
     forks: u32,
     level: u32,
     fork: &F,
-) -> Result<(Changed<CTree>, Changed<CTree>), AllocError>
+) -> Result<(Changed<VertexBlock>, Changed<VertexBlock>), AllocError>
     requires left { 0 < forks }
     requires few { forks + level ≤ 7 }
-    requires lower_map { IsMap lower_runs.now }
-    requires upper_map { IsMap upper_runs.now }
-    ensures { IfOk result (λ p. IsChangedTree lower_runs.now lower.now.entries p.0
-        × IsChangedTree upper_runs.now upper.now.entries p.1) }
+    requires lower_order { Ascend lower_updates.now }
+    requires upper_order { Ascend upper_updates.now }
+    ensures { IfOk result (λ p. IsChangedTree lower_updates.now lower.now.entries p.0
+        × IsChangedTree upper_updates.now upper.now.entries p.1) }
 {
     let (below, above) = thread::join(
         rt,
-        || -> Result<Changed<CTree>, AllocError>
+        || -> Result<Changed<VertexBlock>, AllocError>
             requires { IsSync R.row × IsSync F.row × (0 < forks) × (forks + level ≤ 7)
-                × IsMap lower_runs.now }
+                × Ascend lower_updates.now }
             ensures { IfOk result (λ c.
-                IsChangedTree lower_runs.entry.now lower.entry.now.entries c) }
+                IsChangedTree lower_updates.entry.now lower.entry.now.entries c) }
         {
             fork.enter(level, false);
-            change_forked(rt, alloc, lower, lower_runs, forks - 1, level + 1, fork)
+            change_forked(
+                rt,
+                alloc,
+                lower,
+                lower_updates,
+                chunk_size,
+                forks - 1,
+                level + 1,
+                fork,
+            )
         },
-        || -> Result<Changed<CTree>, AllocError>
+        || -> Result<Changed<VertexBlock>, AllocError>
             requires { IsSync R.row × IsSync F.row × (0 < forks) × (forks + level ≤ 7)
-                × IsMap upper_runs.now }
+                × Ascend upper_updates.now }
             ensures { IfOk result (λ c.
-                IsChangedTree upper_runs.entry.now upper.entry.now.entries c) }
+                IsChangedTree upper_updates.entry.now upper.entry.now.entries c) }
         {
             fork.enter(level, true);
-            change_forked(rt, alloc, upper, upper_runs, forks - 1, level + 1, fork)
+            change_forked(
+                rt,
+                alloc,
+                upper,
+                upper_updates,
+                chunk_size,
+                forks - 1,
+                level + 1,
+                fork,
+            )
         },
     );
     Ok((below?, above?))
 }
 
-/// The tree with each of these runs made at its vertex.
-fn changed(
-    alloc: Global,
-    tree: &Tree<CTree>,
-    runs: &[(u32, Run)],
-) -> Result<Changed<CTree>, AllocError>
-    requires { IsMap runs.now }
-    ensures { IfOk result (λ c. IsChangedTree runs.now tree.now.entries c) }
-{
-    tree.change_all(alloc, runs)
-}
-
-/// The set of the vertex in the middle.
-fn set_after<R: Threads + Sync, F: Fork + Sync>(
+/// The block in the middle.
+fn block_after<R: Threads + Sync, F: Fork + Sync>(
     rt: &R,
     alloc: Global,
     middle: &Middle<'_>,
+    chunk_size: ChunkSize,
     forks: u32,
+    level: u32,
     fork: &F,
-) -> Result<Option<CTree>, AllocError>
-    ensures { IfOk result (IsSetAfter middle.now.run.now middle.now.found) }
+) -> Result<Option<VertexBlock>, AllocError>
+    requires { EdgesAscend 0 middle.now.updates.now }
+    ensures { IfOk result (IsChangedBlock middle.now.updates.now middle.now.found) }
 {
     let found = middle.found.as_ref();
+    let updates = BlockUpdates::new(middle.updates, chunk_size);
     if middle.is_heavy {
-        middle.run.change_forked(rt, alloc, found, forks, fork)
+        Ok(updates.change_forked(rt, alloc, found, forks, level, fork)?)
     } else {
-        middle.run.change(alloc, found)
+        Ok(updates.change(alloc, found)?)
     }
 }
 
-/// The tree of both sides and the set between them.
+/// The tree of both sides and the block between them.
 fn rejoin(
     alloc: Global,
     middle: &Middle<'_>,
-    below: Changed<CTree>,
-    set: Option<CTree>,
-    above: Changed<CTree>,
-) -> Result<Changed<CTree>, AllocError>
-    requires { CanRejoin middle.now below set above }
-    ensures { IfOk result (λ c. (es : List (ℕ × ChunkedSet)) (runs : List (ℕ × VertexRun))
-        → AreAround es runs middle.now → IsChangedTree runs es c) }
+    below: Changed<VertexBlock>,
+    block: Option<VertexBlock>,
+    above: Changed<VertexBlock>,
+) -> Result<Changed<VertexBlock>, AllocError>
+    requires { CanRejoin middle.now below block above }
+    ensures { IfOk result (λ c. (bs : List (ℕ × Block)) (us : List EdgeUpdate)
+        → Ascend us → AreAround bs us middle.now → IsChangedTree us bs c) }
 {
-    let growth = growth(middle.found.as_ref(), set.as_ref());
-    let tree = join_around(alloc, below.tree, middle.vertex, set, above.tree)?;
+    let growth = growth(middle.found.as_ref(), block.as_ref());
+    let tree = join_around(alloc, below.tree, middle.number, block, above.tree)?;
     let growth = growth.wrapping_add(below.growth.wrapping_add(above.growth));
     Ok(Changed { tree, growth })
 }
 
-/// How many more elements the new set has than the old one, modulo 2^64.
-fn growth(old: Option<&CTree>, new: Option<&CTree>) -> usize
-    ensures { GrewBy (weight_at (λ s. length s.elements) (option_copied old.entry)) result
-        (weight_at (λ s. length s.elements) (option_copied new.entry)) }
+/// How many more edges the new block has than the old one, modulo 2^64.
+fn growth(old: Option<&VertexBlock>, new: Option<&VertexBlock>) -> usize
+    ensures { GrewBy (weight_at edge_total (option_copied old.entry)) result
+        (weight_at edge_total (option_copied new.entry)) }
 {
-    element_count(new).wrapping_sub(element_count(old))
+    edge_count(new).wrapping_sub(edge_count(old))
 }
 
-/// How many elements there are.
-fn element_count(set: Option<&CTree>) -> usize
-    ensures { result ≡ weight_at (λ s. length s.elements) (option_copied set.entry) }
+/// How many edges there are.
+fn edge_count(block: Option<&VertexBlock>) -> usize
+    ensures { result ≡ weight_at edge_total (option_copied block.entry) }
 {
-    match set {
-        Some(set) => set.len(),
+    match block {
+        Some(block) => block.edge_count(),
         None => 0,
     }
 }

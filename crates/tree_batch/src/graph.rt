@@ -3,24 +3,27 @@
 ghost use Rattle.std.specs.Prelude.{◌≡◌, length};
 ghost use Rattle.tree_batch.specs.Edge.{has_edge};
 ghost use Rattle.tree_batch.specs.Digraph.{IsDigraph};
+ghost use Rattle.vertex_blocks.specs.Blocks.{lists_of};
 ghost use Rattle.tree_batch.specs.Neighbours.{destinations_of, sources_of, edges_of, HasNeighbours};
-ghost use Rattle.tree_batch.specs.VertexSets.{AreSetsOf};
+ghost use Rattle.tree_batch.specs.VertexBlocks.{AreBlocksOf};
 ghost use Rattle.tree_batch.specs.Outcome.{Opens, Applies};
 
 use crate::batch::Batch;
+use crate::cuts::changed;
 use crate::edges::EdgeIter;
 use crate::error::GraphError;
-use crate::neighbours::{
-    destinations_after, destinations_after_forked, sources_after, sources_after_forked,
-};
+use crate::forked::change_forked;
+use crate::neighbours::neighbours;
+use crate::turned::{turned, turned_forked};
 use crate::updates::{updates, updates_forked};
-use c_tree::{CTree, ChunkSize};
+use c_tree::ChunkSize;
 use set_ops::Fork;
 use shared_tree::{Share, Tree};
 use std::alloc::{AllocError, Global};
 use std::fmt::{self, Debug};
 use std::marker::Model;
 use std::thread::Threads;
+use vertex_blocks::{NeighbourSet, VertexBlock};
 
 /// The greatest number of vertices of a graph.
 pub const MAX_VERTICES: u32 = 16_777_216;
@@ -35,8 +38,8 @@ pub struct Graph {
     vertices: u32,
     chunk_size: ChunkSize,
     edge_count: usize,
-    outgoing: Tree<CTree>,
-    incoming: Tree<CTree>,
+    outgoing: Tree<VertexBlock>,
+    incoming: Tree<VertexBlock>,
 }
 
 // By hand: a derived drop would be written out, and proved again, in each function that lets a graph go.
@@ -54,13 +57,15 @@ impl Drop for Graph {
 
 impl Model for Graph {
     ghost use Rattle.tree_batch.specs.Digraph.{Digraph, digraph};
-    ghost use Rattle.tree_batch.specs.Neighbours.{edges_of, IsGraph};
+    ghost use Rattle.vertex_blocks.specs.Blocks.{lists_of};
+    ghost use Rattle.tree_batch.specs.Neighbours.{edges_of};
+    ghost use Rattle.tree_batch.specs.VertexBlocks.{IsGraph};
 
     ghost Value = { Digraph };
 
-    ghost view = { λ g. digraph g.vertices (edges_of g.outgoing.entries) };
+    ghost view = { λ g. digraph g.vertices (edges_of (lists_of g.outgoing.entries)) };
 
-    ghost invariant = { λ g. IsGraph g.vertices g.chunk_size g.edge_count
+    ghost invariant = { λ g. IsGraph g.vertices g.edge_count
         g.outgoing.entries g.incoming.entries };
 }
 
@@ -104,8 +109,9 @@ impl Graph {
         }
         let size = self.chunk_size;
         let updates = updates(alloc, batch.entries())?;
-        let out = destinations_after(alloc, &self.outgoing, &updates, size)?;
-        let into = sources_after(alloc, &self.incoming, updates, size)?;
+        let out = changed(alloc, &self.outgoing, &updates, size)?;
+        let turned = turned(updates)?;
+        let into = changed(alloc, &self.incoming, &turned, size)?;
         Ok(Graph {
             vertices: self.vertices,
             chunk_size: self.chunk_size,
@@ -116,8 +122,8 @@ impl Graph {
     }
 
     /// As [`Graph::apply`], with the entries sorted by threads, and with halves of the vertices on two
-    /// threads at so many levels, at most 6. Where one vertex has more than half of the entries, its
-    /// set goes by halves. Where no thread can be started, the caller does both halves. The answer is
+    /// threads at so many levels, at most 6. Where one block of 64 vertices has more than half of the
+    /// entries, the set of its vertex with more than half of these goes by halves. Where no thread can be started, the caller does both halves. The answer is
     /// that of `apply` whatever `forks` is. `fork` is told of each half that begins, first of those
     /// of the edges by source and then of those by destination.
     ///
@@ -142,9 +148,10 @@ impl Graph {
         let (size, most) = (self.chunk_size, forks.min(MOST_FORKS));
         let updates = updates_forked(rt, alloc, batch.entries())?;
         let tree = &self.outgoing;
-        let outs = destinations_after_forked(rt, alloc, tree, &updates, size, most, fork)?;
+        let outs = change_forked(rt, alloc, tree, &updates, size, most, 1, fork)?;
+        let turned = turned_forked(rt, alloc, updates)?;
         let tree = &self.incoming;
-        let ins = sources_after_forked(rt, alloc, tree, updates, size, most, fork)?;
+        let ins = change_forked(rt, alloc, tree, &turned, size, most, 1, fork)?;
         Ok(Graph {
             vertices: self.vertices,
             chunk_size: self.chunk_size,
@@ -156,43 +163,36 @@ impl Graph {
 
     /// The destinations of the edges from a vertex, or `None` where there is none. It takes
     /// logarithmic time and no memory.
-    pub fn out(&self, source: u32) -> Option<&CTree>
+    pub fn out(&self, source: u32) -> Option<NeighbourSet<'_>>
         ensures { HasNeighbours (destinations_of source self.now.edges) result }
     {
-        self.destinations(source)
+        neighbours(&self.outgoing, source)
     }
 
     /// The sources of the edges to a vertex, or `None` where there is none. It takes logarithmic
     /// time and no memory.
-    pub fn in_(&self, destination: u32) -> Option<&CTree>
+    pub fn in_(&self, destination: u32) -> Option<NeighbourSet<'_>>
         ensures { HasNeighbours (sources_of destination self.now.edges) result }
     {
-        self.incoming.find(destination)
+        neighbours(&self.incoming, destination)
     }
 
-    /// The vertices that have out-edges, ascending, each with the destinations of its edges. It takes
-    /// no memory, and a step takes constant time on average.
-    pub fn outgoing(&self) -> shared_tree::Iter<'_, CTree>
-        ensures sets { AreSetsOf (λ u. destinations_of u self.now.edges) result }
-        ensures edges { edges_of result ≡ self.now.edges }
+    /// The blocks of the vertices that have out-edges, ascending, each by its number: that of a vertex
+    /// is the vertex divided by 64. It takes no memory, and a step takes constant time on average.
+    pub fn outgoing(&self) -> shared_tree::Iter<'_, VertexBlock>
+        ensures blocks { AreBlocksOf (λ u. destinations_of u self.now.edges) result }
+        ensures edges { edges_of (lists_of result) ≡ self.now.edges }
         ensures graph { IsDigraph self.now }
     {
         self.outgoing.iter()
     }
 
-    /// The vertices that have in-edges, ascending, each with the sources of its edges. It takes no
-    /// memory, and a step takes constant time on average.
-    pub fn incoming(&self) -> shared_tree::Iter<'_, CTree>
-        ensures sets { AreSetsOf (λ v. sources_of v self.now.edges) result }
+    /// The blocks of the vertices that have in-edges, as [`Graph::outgoing`] gives those of the
+    /// vertices that have out-edges.
+    pub fn incoming(&self) -> shared_tree::Iter<'_, VertexBlock>
+        ensures blocks { AreBlocksOf (λ v. sources_of v self.now.edges) result }
     {
         self.incoming.iter()
-    }
-
-    /// As [`Graph::out`].
-    fn destinations(&self, source: u32) -> Option<&CTree>
-        ensures { HasNeighbours (destinations_of source self.now.edges) result }
-    {
-        self.outgoing.find(source)
     }
 
     /// Whether the edge from `source` to `destination` is there. It takes logarithmic time and no
@@ -200,7 +200,7 @@ impl Graph {
     pub fn contains(&self, source: u32, destination: u32) -> bool
         ensures { result ≡ has_edge self.now.edges (source, destination) }
     {
-        match self.outgoing.find(source) {
+        match neighbours(&self.outgoing, source) {
             Some(destinations) => destinations.contains(destination),
             None => false,
         }

@@ -6,8 +6,7 @@ ghost use Rattle.tree_batch.specs.declared.batch.Entry.{Entry};
 ghost use Rattle.tree_batch.specs.Edge.{Edge, has_edge, IsWithin, IsAscending};
 ghost use Rattle.tree_batch.specs.Entry.{edge_of, is_add, NoneNames};
 ghost use Rattle.tree_batch.specs.Digraph.{Digraph, graph_after, IsDigraph};
-ghost use Rattle.tree_batch.specs.Run.{has_number};
-ghost use Rattle.tree_batch.specs.Neighbours.{destinations_of, sources_of};
+ghost use Rattle.tree_batch.specs.Neighbours.{has_number, destinations_of, sources_of};
 
 /// The law of a batch. For each entry that names an edge between vertices of the graph, with none
 /// behind it that does, the edge is there after the batch exactly where that entry adds it. An edge

@@ -1,34 +1,39 @@
-//! Trees and runs cut where half of the updates are on either side.
+//! Trees and updates cut where half of the updates are on either side.
 
-ghost use Rattle.std.specs.Prelude.{◌≡◌, ◌<◌, ◌≤◌, [], length, IfOk, MatchOption};
-ghost use Rattle.shared_tree.specs.Entries.{IsMap};
+ghost use Rattle.std.specs.Prelude.{◌≤◌, length, take, drop, IfOk, IfSome};
+ghost use Rattle.edge_updates.specs.Updates.{Ascend};
+ghost use Rattle.tree_batch.specs.BlockCuts.{AreBelow, BeginsFrom};
 ghost use Rattle.tree_batch.specs.Forking.{AreAround};
 
-use crate::run::Run;
-use c_tree::CTree;
+use crate::cuts::{BLOCK, cut_length};
+use edge_updates::EdgeUpdate;
 use shared_tree::Tree;
 use std::alloc::{AllocError, Global};
+use vertex_blocks::VertexBlock;
 
-/// A tree, and the runs of some of its vertices.
+/// A tree, and updates of its vertices.
 pub(crate) struct Half<'a> {
-    pub(crate) tree: Tree<CTree>,
-    pub(crate) runs: &'a [(u32, Run)],
+    pub(crate) tree: Tree<VertexBlock>,
+    pub(crate) updates: &'a [EdgeUpdate],
 }
 
 impl Drop for Half<'_> {
     fn drop(self) {
-        let Half { tree: _, runs: _ } = self;
+        let Half {
+            tree: _,
+            updates: _,
+        } = self;
     }
 }
 
-/// A run, with the set that is there, and what is below and above its vertex.
+/// The updates of a block, with the block that is there, and what is below and above its number.
 pub(crate) struct Middle<'a> {
     pub(crate) below: Half<'a>,
-    pub(crate) vertex: u32,
-    pub(crate) found: Option<CTree>,
-    pub(crate) run: &'a Run,
+    pub(crate) number: u32,
+    pub(crate) found: Option<VertexBlock>,
+    pub(crate) updates: &'a [EdgeUpdate],
     pub(crate) above: Half<'a>,
-    /// Whether the run has more than half of the updates.
+    /// Whether the block has more than half of the updates.
     pub(crate) is_heavy: bool,
 }
 
@@ -36,68 +41,64 @@ impl Drop for Middle<'_> {
     fn drop(self) {
         let Middle {
             below: _,
-            vertex: _,
+            number: _,
             found: _,
-            run: _,
+            updates: _,
             above: _,
             is_heavy: _,
         } = self;
     }
 }
 
-/// A tree and runs cut at the run in the middle of the updates, or `None` where there is none.
+/// A tree and updates whose edges ascend, cut at the block of the update in the middle, or `None` where
+/// there is no update.
 pub(crate) fn cut_at_middle<'a>(
     alloc: Global,
-    tree: &Tree<CTree>,
-    runs: &'a [(u32, Run)],
+    tree: &Tree<VertexBlock>,
+    updates: &'a [EdgeUpdate],
 ) -> Result<Option<Middle<'a>>, AllocError>
-    requires { IsMap runs.now }
-    ensures { IfOk result (λ o. MatchOption o (runs.now ≡ []) (AreAround tree.now.entries runs.now)) }
+    requires { Ascend updates.now }
+    ensures { IfOk result (λ o. IfSome o (AreAround tree.now.entries updates.now)) }
 {
-    let half = update_count(runs) / 2;
-    let (runs_below, rest) = runs.split_at(place_of(runs, half));
-    let Some((first, runs_above)) = rest.split_first() else {
+    let half = updates.len() / 2;
+    let Some(middle) = updates.get(half) else {
         return Ok(None);
     };
-    let (below, found, above) = tree.split(alloc, first.0)?;
+    let (below, rest) = updates.split_at(count_below(updates, middle.vertex() / BLOCK));
+    let Some((first, _)) = rest.split_first() else {
+        return Ok(None);
+    };
+    let number = first.vertex() / BLOCK;
+    let (block, above) = rest.split_at(cut_length(rest, number));
+    let (lower, found, upper) = tree.split(alloc, number)?;
     Ok(Some(Middle {
         below: Half {
-            tree: below,
-            runs: runs_below,
+            tree: lower,
+            updates: below,
         },
-        vertex: first.0,
+        number,
         found,
-        run: &first.1,
+        updates: block,
         above: Half {
-            tree: above,
-            runs: runs_above,
+            tree: upper,
+            updates: above,
         },
-        is_heavy: first.1.len() > half,
+        is_heavy: block.len() > half,
     }))
 }
 
-/// How many updates there are.
-fn update_count(runs: &[(u32, Run)]) -> usize {
-    let mut count = 0usize;
-    for (_, run) in runs {
-        count = count.saturating_add(run.len());
+/// How many updates in front are of blocks below this one.
+fn count_below(updates: &[EdgeUpdate], block: u32) -> usize
+    ensures bounded { result ≤ length updates.now }
+    ensures below { AreBelow block (take result updates.now) }
+    ensures rest { BeginsFrom block (drop result updates.now) }
+{
+    let mut count = 0;
+    while count < updates.len() {
+        if updates[count].vertex() / BLOCK >= block {
+            return count;
+        }
+        count += 1;
     }
     count
-}
-
-/// The place of the first run with which there are more than so many updates, or of the last run.
-fn place_of(runs: &[(u32, Run)], most: usize) -> usize
-    ensures bounded { result ≤ length runs.now }
-    ensures within { 0 < length runs.now → result < length runs.now }
-{
-    let mut place = 0;
-    let mut count = 0usize;
-    while place + 1 < runs.len() {
-        count = count.saturating_add(runs[place].1.len());
-        if count > most {
-            return place;
-        }
-        place += 1;
-    }
-    place
 }

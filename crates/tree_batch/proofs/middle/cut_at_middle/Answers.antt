@@ -1,13 +1,15 @@
-use Rattle.std.proofs.Common.{◌≡◌, ◌++◌, sym}
-use Rattle.std.proofs.lemmas.List.{take-append-drop}
-use Rattle.shared_tree.proofs.CutMaps.{cut_at_place}
+use Rattle.std.proofs.Common.{◌/◌, sym, ap, ◌∙◌, arith}
+use Rattle.tree_batch.proofs.CutAround.{cut_around}
 use Rattle.tree_batch.proofs.middle.cut_at_middle.Goals as goal
 
 pub returns : goal.returns
 returns c =
-    let runs = c.args.runs.now in
-    let whole : runs ≡ c.split_at.result.0.now ++ c.split_at.result.1.now = rw (c.split_at.ensures.front, c.split_at.ensures.back) (sym (take-append-drop c.place_of.result runs)) in
+    let back = c.split_at.ensures.back in
+    let is = sym back ∙ c.in-Some-split_first.ensures.cases.0 in
+    let cut = rw back at c.cut_length.ensures.cut in
+    let rest = rw back at c.cut_length.ensures.rest in
     record {
-      map = c.in_ok-below.ensures;
-      cut = cut_at_place runs c.split_at.result.0.now c.split_at.result.1.now c.in-Some.first.now c.in-Some.runs_above.now c.requires whole c.in-Some.ensures.cases.0;
+      map = c.in_ok-lower.ensures;
+      cut = rw (c.split_at-2.ensures.front, c.split_at-2.ensures.back, c.split_at.ensures.front, back)
+          (cut_around c.args.updates.now c.count_below.result c.cut_length.result _ (c.vertex-number.result / 64) _ _ c.requires c.count_below.ensures.below c.count_below.ensures.rest is (ap (λ v. v / 64) c.vertex-number.ensures.value) (omega (arith, c.vertex-number.ensures.small)) cut rest);
     }

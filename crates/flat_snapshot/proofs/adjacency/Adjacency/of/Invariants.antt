@@ -1,14 +1,15 @@
-use Rattle.std.proofs.Common.{◌≡◌, ◌++◌}
-use Rattle.shared_tree.specs.Entries.{IsMap}
-use Rattle.tree_batch.specs.VertexSets.{HaveFew}
-use Rattle.flat_snapshot.specs.Lists.{element_lists}
+use Rattle.std.proofs.Common.{◌≡◌, ◌++◌, ◌^◌, length}
+use Rattle.shared_tree.specs.Entries.{Rises}
+use Rattle.vertex_blocks.specs.Blocks.{lists_of, AreBlocks}
+use Rattle.flat_snapshot.specs.Lists.{lists_in, AreBlocks as AreInPlace}
 use Rattle.flat_snapshot.proofs.adjacency.Adjacency.of.Given as goal
 
-abbrev pub invariant-loop-vertex : goal.invariant-loop-vertex
-invariant-loop-vertex l = record {
-  can : (goal.iterator-loop-vertex).can_next l.sets;
-  finite : (goal.iterator-loop-vertex).is_finite l.sets;
-  whole : l.adjacency ++ element_lists l.sets ≡ element_lists l.fn.sets;
-  few : HaveFew l.sets;
-  map : IsMap (l.adjacency ++ element_lists l.sets);
+abbrev pub invariant-loop-number : goal.invariant-loop-number
+invariant-loop-number l = record {
+  can : (goal.iterator-loop-number).can_next l.blocks;
+  finite : (goal.iterator-loop-number).is_finite l.blocks;
+  whole : lists_in 0 l.places.items ++ lists_of l.blocks ≡ lists_of l.fn.blocks;
+  rest : Rises (length l.places.items) (2 ^ 18) l.blocks;
+  left : AreBlocks l.blocks;
+  blocks : AreInPlace l.places.items;
 }

@@ -1,17 +1,17 @@
 use Rattle.std.proofs.Common.{◌≡◌, ◌∙◌, ap}
 use Rattle.tree_batch.specs.Digraph.{digraph}
-use Rattle.flat_snapshot.specs.FlatEdges.{edges_in}
-use Rattle.flat_snapshot.proofs.Snapshots.{edges_same, flat_made, digraph_is}
+use Rattle.tree_batch.specs.Neighbours.{edges_of}
+use Rattle.flat_snapshot.proofs.Snapshots.{flat_made, digraph_is}
 use Rattle.flat_snapshot.proofs.flat.Flat.of.Goals as goal
 
 pub invariant_of-result : goal.invariant_of-result
 invariant_of-result c =
     rw (c.in_ok-outgoing.ensures, c.in_ok-incoming.ensures)
     (flat_made c.args.graph.now c.vertices-vertices.result c.edge_count-edge_count.result c.outgoing.result c.incoming.result c.vertices-vertices.ensures.graph c.vertices-vertices.ensures.count c.edge_count-edge_count.ensures
-    c.outgoing.ensures.sets c.outgoing.ensures.edges c.incoming.ensures.sets)
+    c.outgoing.ensures.blocks c.outgoing.ensures.edges c.incoming.ensures.blocks)
 
 pub returns : goal.returns
 returns c =
     let g = c.args.graph.now in
-    let same : edges_in c.in_ok-outgoing.outgoing ≡ g.edges = ap edges_in c.in_ok-outgoing.ensures ∙ edges_same c.outgoing.result ∙ c.outgoing.ensures.edges in
-    ap (λ n. digraph n (edges_in c.in_ok-outgoing.outgoing)) c.vertices-vertices.ensures.count ∙ ap (digraph g.vertices) same ∙ digraph_is g
+    let same : edges_of c.in_ok-outgoing.outgoing ≡ g.edges = ap edges_of c.in_ok-outgoing.ensures ∙ c.outgoing.ensures.edges in
+    ap (λ n. digraph n (edges_of c.in_ok-outgoing.outgoing)) c.vertices-vertices.ensures.count ∙ ap (digraph g.vertices) same ∙ digraph_is g

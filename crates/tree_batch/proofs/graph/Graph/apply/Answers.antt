@@ -1,5 +1,4 @@
 use Rattle.std.proofs.Common.{◌≡◌, false, sym, refl}
-use Rattle.edge_updates.specs.Updates.{decided}
 use Rattle.tree_batch.specs.Entry.{names_outside}
 use Rattle.tree_batch.proofs.AllEdges.{few_vertices}
 use Rattle.tree_batch.proofs.Deciding.{all_inside}
@@ -13,13 +12,10 @@ pub invariant_of-result : goal.invariant_of-result
 invariant_of-result c =
     let g = c.self.inside in
     let inside : names_outside g.vertices c.args.batch.now ≡ false = sym c.if-names_outside.ensures in
-    graph_made g.vertices g.chunk_size g.edge_count g.outgoing.entries g.incoming.entries c.self.invariant c.args.batch.now inside (decided c.in_ok-updates.updates.items) (rw c.entries.ensures at c.in_ok-updates.ensures.same) c.in_ok-out.out.tree.entries c.in_ok-into.into.tree.entries c.in_ok-out.out.growth
-    c.in_ok-out.ensures.neighbours c.in_ok-into.ensures.neighbours (rw c.deref.ensures.value at c.in_ok-out.ensures.members) c.in_ok-into.ensures.members c.in_ok-out.ensures.growth _ refl
+    graph_made g.vertices g.edge_count g.outgoing.entries g.incoming.entries c.self.invariant c.args.batch.now inside c.in_ok-updates.updates.items c.in_ok-turned.turned.items (rw c.entries.ensures at c.in_ok-updates.ensures.same) c.in_ok-turned.ensures.same c.in_ok-out.out c.in_ok-into.into (rw c.deref.ensures.value at c.in_ok-out.ensures) (rw c.deref-2.ensures.value at c.in_ok-into.ensures) _ refl
 
 pub returns : goal.returns
 returns c =
     let g = c.self.inside in
     let inside : names_outside g.vertices c.args.batch.now ≡ false = sym c.if-names_outside.ensures in
-    let after = graph_is_after g.vertices g.chunk_size g.edge_count g.outgoing.entries g.incoming.entries c.self.invariant c.args.batch.now inside (decided c.in_ok-updates.updates.items) (rw c.entries.ensures at c.in_ok-updates.ensures.same) c.in_ok-out.out.tree.entries c.in_ok-into.into.tree.entries c.in_ok-out.out.growth
-    c.in_ok-out.ensures.neighbours c.in_ok-into.ensures.neighbours (rw c.deref.ensures.value at c.in_ok-out.ensures.members) c.in_ok-into.ensures.members c.in_ok-out.ensures.growth in
-    rw (← c.self.view_is) (inside, after)
+    rw (← c.self.view_is) (inside, graph_is_after g.vertices g.edge_count g.outgoing.entries g.incoming.entries c.self.invariant c.args.batch.now inside c.in_ok-updates.updates.items c.in_ok-turned.turned.items (rw c.entries.ensures at c.in_ok-updates.ensures.same) c.in_ok-turned.ensures.same c.in_ok-out.out c.in_ok-into.into (rw c.deref.ensures.value at c.in_ok-out.ensures) (rw c.deref-2.ensures.value at c.in_ok-into.ensures))

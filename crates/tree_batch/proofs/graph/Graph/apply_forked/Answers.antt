@@ -1,5 +1,4 @@
 use Rattle.std.proofs.Common.{◌≡◌, false, sym, refl}
-use Rattle.edge_updates.specs.Updates.{decided}
 use Rattle.tree_batch.specs.Entry.{names_outside}
 use Rattle.tree_batch.proofs.AllEdges.{few_vertices}
 use Rattle.tree_batch.proofs.Deciding.{all_inside}
@@ -13,13 +12,10 @@ pub invariant_of-result : goal.invariant_of-result
 invariant_of-result g c =
     let h = c.self.inside in
     let inside : names_outside h.vertices c.args.batch.now ≡ false = sym c.if-names_outside.ensures in
-    graph_made h.vertices h.chunk_size h.edge_count h.outgoing.entries h.incoming.entries c.self.invariant c.args.batch.now inside (decided c.in_ok-updates.updates.items) (rw c.entries.ensures at c.in_ok-updates.ensures.same) c.in_ok-outs.outs.tree.entries c.in_ok-ins.ins.tree.entries c.in_ok-outs.outs.growth
-    c.in_ok-outs.ensures.neighbours c.in_ok-ins.ensures.neighbours (rw c.deref.ensures.value at c.in_ok-outs.ensures.members) c.in_ok-ins.ensures.members c.in_ok-outs.ensures.growth _ refl
+    graph_made h.vertices h.edge_count h.outgoing.entries h.incoming.entries c.self.invariant c.args.batch.now inside c.in_ok-updates.updates.items c.in_ok-turned.turned.items (rw c.entries.ensures at c.in_ok-updates.ensures.same) c.in_ok-turned.ensures.same c.in_ok-outs.outs c.in_ok-ins.ins (rw c.deref.ensures.value at c.in_ok-outs.ensures) (rw c.deref-2.ensures.value at c.in_ok-ins.ensures) _ refl
 
 pub returns : goal.returns
 returns g c =
     let h = c.self.inside in
     let inside : names_outside h.vertices c.args.batch.now ≡ false = sym c.if-names_outside.ensures in
-    let after = graph_is_after h.vertices h.chunk_size h.edge_count h.outgoing.entries h.incoming.entries c.self.invariant c.args.batch.now inside (decided c.in_ok-updates.updates.items) (rw c.entries.ensures at c.in_ok-updates.ensures.same) c.in_ok-outs.outs.tree.entries c.in_ok-ins.ins.tree.entries c.in_ok-outs.outs.growth
-    c.in_ok-outs.ensures.neighbours c.in_ok-ins.ensures.neighbours (rw c.deref.ensures.value at c.in_ok-outs.ensures.members) c.in_ok-ins.ensures.members c.in_ok-outs.ensures.growth in
-    rw (← c.self.view_is) (inside, after)
+    rw (← c.self.view_is) (inside, graph_is_after h.vertices h.edge_count h.outgoing.entries h.incoming.entries c.self.invariant c.args.batch.now inside c.in_ok-updates.updates.items c.in_ok-turned.turned.items (rw c.entries.ensures at c.in_ok-updates.ensures.same) c.in_ok-turned.ensures.same c.in_ok-outs.outs c.in_ok-ins.ins (rw c.deref.ensures.value at c.in_ok-outs.ensures) (rw c.deref-2.ensures.value at c.in_ok-ins.ensures))

@@ -1,0 +1,131 @@
+//! Many random batches on small graphs, beside a plain table of pairs.
+use std::alloc::Global;
+use std::test::Fail;
+use tree_batch::{Batch, Entry, Graph};
+
+// Numbers that look random, each made from the one before (Marsaglia, Xorshift RNGs, 2003).
+#[derive(Drop)]
+struct Numbers(u64);
+
+impl Numbers {
+    // The next number below a bound.
+    fn below(&mut self, bound: u32) -> u32 {
+        let mut next = self.0;
+        next ^= next << 13;
+        next ^= next >> 7;
+        next ^= next << 17;
+        self.0 = next;
+        ((next >> 33) as u32).checked_rem(bound).unwrap_or(0)
+    }
+}
+
+// Over how many sources entries go, how far these are apart, and how many of ten entries add an edge.
+#[derive(Clone, Copy)]
+struct Kind {
+    sources: u32,
+    stride: u32,
+    additions: u32,
+}
+
+// A graph beside a table that tells of each pair of vertices whether its edge is there.
+#[derive(Drop)]
+struct Beside {
+    graph: Graph,
+    table: Vec<bool>,
+    vertices: u32,
+}
+
+impl Beside {
+    fn new(alloc: Global, vertices: u32) -> Result<Beside, Fail> {
+        let cells = (vertices as usize).saturating_mul(vertices as usize);
+        Ok(Beside {
+            graph: Graph::new(vertices, 2)?,
+            table: vec![in alloc; false; cells]?,
+            vertices,
+        })
+    }
+
+    // Notes an edge in the table.
+    fn put(&mut self, source: u32, destination: u32, is_there: bool) {
+        let place = source.wrapping_mul(self.vertices).wrapping_add(destination);
+        if let Some(cell) = self.table.get_mut(place as usize) {
+            *cell = is_there;
+        }
+    }
+
+    // Applies a batch of a few random entries over some sources, of which so many of ten add an edge.
+    fn change(&mut self, alloc: Global, numbers: &mut Numbers, kind: Kind) -> Result<(), Fail> {
+        let mut batch = Batch::new(alloc);
+        for _ in 0..=numbers.below(4) {
+            let source = numbers.below(kind.sources).wrapping_mul(kind.stride);
+            let destination = numbers.below(self.vertices);
+            let is_there = numbers.below(10) < kind.additions;
+            self.put(source, destination, is_there);
+            batch.push(match is_there {
+                true => Entry::Add(source, destination),
+                false => Entry::Remove(source, destination),
+            })?;
+        }
+        self.graph = self.graph.apply(alloc, &batch)?;
+        Ok(())
+    }
+
+    // Whether the graph lists the edges of the table and no other.
+    fn agrees(&self) -> bool {
+        let vertices = self.vertices;
+        let there = self.table.iter().enumerate().filter(|cell| *cell.1);
+        self.graph.edges().eq(there.map(|cell| {
+            let place = cell.0 as u32;
+            (
+                place.checked_div(vertices).unwrap_or(0),
+                place.checked_rem(vertices).unwrap_or(0),
+            )
+        }))
+    }
+}
+
+// Whether batches of two kinds by turns, two thousand of each, make what they make of a table; looked at after each
+// sixteenth.
+fn agree(alloc: Global, vertices: u32, batches: u32, kinds: (Kind, Kind)) -> Result<bool, Fail> {
+    let mut beside = Beside::new(alloc, vertices)?;
+    let mut numbers = Numbers(20_261_127);
+    for turn in 0..batches {
+        let kind = if turn / 2000 % 2 == 0 { kinds.0 } else { kinds.1 };
+        beside.change(alloc, &mut numbers, kind)?;
+        if turn % 16 == 0 && !beside.agrees() {
+            return Ok(false);
+        }
+    }
+    Ok(beside.agrees())
+}
+
+const ALL_OVER: Kind = Kind {
+    sources: 70,
+    stride: 1,
+    additions: 6,
+};
+
+#[test]
+fn many_batches_make_what_they_make_of_a_table(rt: HostRuntime) -> Result<(), Fail> {
+    assert!(rt; agree(rt.alloc(), 70, 100_000, (ALL_OVER, ALL_OVER))?);
+    Ok(())
+}
+
+// Eight sources, some of them in one block.
+const GROWING: Kind = Kind {
+    sources: 8,
+    stride: 41,
+    additions: 9,
+};
+
+const SHRINKING: Kind = Kind {
+    sources: 8,
+    stride: 41,
+    additions: 3,
+};
+
+#[test]
+fn lists_that_grow_and_shrink_are_those_of_a_table(rt: HostRuntime) -> Result<(), Fail> {
+    assert!(rt; agree(rt.alloc(), 330, 20_000, (GROWING, SHRINKING))?);
+    Ok(())
+}

@@ -1,0 +1,71 @@
+//! Going over the vertices of a graph.
+
+ghost use Rattle.std.specs.Prelude.{◌≡◌};
+ghost use Rattle.std.specs.Iterator.{YieldsFirst, item_count};
+ghost use Rattle.vertex_blocks.specs.Blocks.{lists_of};
+ghost use Rattle.tree_batch.specs.VertexBlocks.{AreGraphBlocks};
+
+use crate::cuts::BLOCK;
+use shared_tree::Tree;
+use std::marker::Model;
+use vertex_blocks::{BlockIter, NeighbourSet, VertexBlock};
+
+/// The vertices that are still to come, ascending, each with its neighbours.
+#[derive(Drop)]
+pub(crate) struct VertexIter<'a> {
+    /// The number of the block that was begun.
+    number: u32,
+    /// Its vertices that are still to come.
+    vertices: Option<BlockIter<'a>>,
+    blocks: shared_tree::Iter<'a, VertexBlock>,
+}
+
+impl<'a> Model for VertexIter<'a> {
+    ghost use Rattle.std.specs.Prelude.{ℕ, List, ◌++◌};
+    ghost use Rattle.vertex_blocks.specs.Blocks.{vertices_at, numbered, lists_of};
+    ghost use Rattle.tree_batch.specs.VertexBlocks.{AreBlocksLeft};
+
+    ghost Value = { List (ℕ × List ℕ) };
+
+    ghost view = { λ i. numbered i.number (vertices_at i.vertices) ++ lists_of i.blocks };
+
+    ghost invariant = { λ i. AreBlocksLeft i.number (vertices_at i.vertices) i.blocks };
+}
+
+impl<'a> VertexIter<'a> {
+    /// The vertices of blocks.
+    pub(crate) fn new(blocks: &'a Tree<VertexBlock>) -> VertexIter<'a>
+        requires { AreGraphBlocks blocks.now.entries }
+        ensures { result ≡ lists_of blocks.now.entries }
+    {
+        VertexIter {
+            number: 0,
+            vertices: None,
+            blocks: blocks.iter(),
+        }
+    }
+}
+
+impl<'a> Iterator for VertexIter<'a> {
+    type Item = (u32, NeighbourSet<'a>);
+
+    ghost next_gives = { YieldsFirst (λ i. i) };
+
+    ghost remaining = { item_count (λ i. i) };
+
+    fn next(&mut self) -> Option<(u32, NeighbourSet<'a>)> {
+        if let Some(vertices) = &mut self.vertices {
+            if let Some((vertex, neighbours)) = vertices.next() {
+                return Some((BLOCK * self.number + vertex, neighbours));
+            }
+        }
+        let (number, block) = self.blocks.next()?;
+        let mut vertices = block.iter();
+        let Some((vertex, neighbours)) = vertices.next() else {
+            unreachable!()
+        };
+        self.number = number;
+        self.vertices = Some(vertices);
+        Some((BLOCK * number + vertex, neighbours))
+    }
+}
