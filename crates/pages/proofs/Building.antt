@@ -7,7 +7,7 @@ use Rattle.pages.specs.inside.Built.{entry_of, built}
 use Rattle.pages.proofs.Order.{rises_room, rises_append}
 use Rattle.pages.proofs.Ranks.{none_below, below_here, below_not, below_first, below_end}
 
-rises_entry : (u : ℕ) (xs : List ℕ) → Rises u (u + 1) (entry_of u xs)
+pub rises_entry : (u : ℕ) (xs : List ℕ) → Rises u (u + 1) (entry_of u xs)
 rises_entry u [] = omega arith
 rises_entry u (x ∷ xs) = (omega arith, omega arith)
 
@@ -19,24 +19,24 @@ rises_built f (suc u) =
     subst (λ n. Rises 0 n (built f u ++ entry_of u (f u))) (add-one u) up
 
 -- the list of a vertex in vertices of which it is among the second ones, or not among them
-of_right : (u a n : ℕ) (l r : List (ℕ × List ℕ)) → Rises a n l → n ≤ u → neighbours_of u (l ++ r) ≡ neighbours_of u r
+pub of_right : (u a n : ℕ) (l r : List (ℕ × List ℕ)) → Rises a n l → n ≤ u → neighbours_of u (l ++ r) ≡ neighbours_of u r
 of_right u a n [] r s le = refl
 of_right u a n (e ∷ l) r s le =
     let other : e.0 ≢ u = omega (arith, rises_room (e.0 + 1) n l s.1) in
     rw (ne_eqb e.0 u other) (of_right u (e.0 + 1) n l r s.1 le)
 
-of_left : (u : ℕ) (l r : List (ℕ × List ℕ)) → neighbours_of u r ≡ [] → neighbours_of u (l ++ r) ≡ neighbours_of u l
+pub of_left : (u : ℕ) (l r : List (ℕ × List ℕ)) → neighbours_of u r ≡ [] → neighbours_of u (l ++ r) ≡ neighbours_of u l
 of_left u [] r none = none
 of_left u (e ∷ l) r none = elim (cases_eq e.0 u) [
   | inl at ↦ rw (eq-eqb e.0 u at) refl
   | inr other ↦ rw (ne_eqb e.0 u other) (of_left u l r none)
 ]
 
-entry_self : (u : ℕ) (xs : List ℕ) → neighbours_of u (entry_of u xs) ≡ xs
+pub entry_self : (u : ℕ) (xs : List ℕ) → neighbours_of u (entry_of u xs) ≡ xs
 entry_self u [] = refl
 entry_self u (x ∷ xs) = rw (eq-eqb u u refl) refl
 
-entry_other : (u v : ℕ) (xs : List ℕ) → v ≢ u → neighbours_of u (entry_of v xs) ≡ []
+pub entry_other : (u v : ℕ) (xs : List ℕ) → v ≢ u → neighbours_of u (entry_of v xs) ≡ []
 entry_other u v [] other = refl
 entry_other u v (x ∷ xs) other = rw (ne_eqb v u other) refl
 
@@ -108,12 +108,19 @@ there_or_not u a h (e ∷ es) s = elim (cases_lt e.0 u) [
       ]
 ]
 
+-- each vertex has a neighbour
+abbrev pub HaveNeighbours : List (ℕ × List ℕ) → Type 0
+HaveNeighbours es = (i : ℕ) → i < length es → 0 < length ((get_or es i (0, [])).1)
+
 packed_at : (es : List (ℕ × List ℕ)) (i : ℕ) → ArePacked es → i < length es → IsPacked ((get_or es i (0, [])).1)
 packed_at [] i ok lt = absurd (omega arith)
 packed_at (e ∷ es) zero ok lt = ok.0
 packed_at (e ∷ es) (suc i) ok lt = packed_at es i ok.1 (omega arith)
 
-entry_some : (u : ℕ) (xs : List ℕ) → 0 < length xs → (u, xs) ∷ [] ≡ entry_of u xs
+pub packed_some : (es : List (ℕ × List ℕ)) → ArePacked es → HaveNeighbours es
+packed_some es ok i lt = (packed_at es i ok lt).some
+
+pub entry_some : (u : ℕ) (xs : List ℕ) → 0 < length xs → (u, xs) ∷ [] ≡ entry_of u xs
 entry_some u [] lt = absurd (omega arith)
 entry_some u (x ∷ xs) lt = refl
 
@@ -124,13 +131,13 @@ slice_more es a c le lt =
     ap (λ k. take k (drop a es)) gap ∙ take_more (drop a es) (c - a) (0, []) (omega (arith, length-drop a es))
     ∙ ap (λ e. take (c - a) (drop a es) ++ e ∷ []) (get_or-drop a es (c - a) (0, []) ∙ ap (λ k. get_or es k (0, [])) back)
 
-module _ (es : List (ℕ × List ℕ)) (map : Rises 0 64 es) (packed : ArePacked es) where
+module _ (es : List (ℕ × List ℕ)) (map : Rises 0 64 es) (some_each : HaveNeighbours es) where
   -- the vertices from one up to another, and the next one
   next_slice : (a u : ℕ) → a ≤ count_below u es → slice_range es a (count_below (u + 1) es) ≡ slice_range es a (count_below u es) ++ entry_of u (neighbours_of u es)
   next_slice a u le = elim (there_or_not u 0 64 es map) [
     | inl out ↦ ap (slice_range es a) out.same ∙ sym (append-nil (slice_range es a (count_below u es))) ∙ ap (λ xs. slice_range es a (count_below u es) ++ entry_of u xs) (sym out.none)
     | inr in_it ↦
-        let some : 0 < length (neighbours_of u es) = omega (arith, (packed_at es (count_below u es) packed in_it.within).some, ap (λ e. length e.1) in_it.at) in
+        let some : 0 < length (neighbours_of u es) = omega (arith, some_each (count_below u es) in_it.within, ap (λ e. length e.1) in_it.at) in
         ap (slice_range es a) in_it.more ∙ slice_more es a (count_below u es) le in_it.within
         ∙ ap (λ e. slice_range es a (count_below u es) ++ e ∷ []) in_it.at ∙ ap (λ ls. slice_range es a (count_below u es) ++ ls) (entry_some u (neighbours_of u es) some)
   ]
@@ -161,18 +168,18 @@ module _ (es : List (ℕ × List ℕ)) (map : Rises 0 64 es) (packed : ArePacked
       nothing n = omega arith
 
 -- a list of vertices is built up from its look-ups, and so from any function that gives the same
-built_same : (f g : ℕ → List ℕ) (n : ℕ) → ((u : ℕ) → u < n → f u ≡ g u) → built f n ≡ built g n
+pub built_same : (f g : ℕ → List ℕ) (n : ℕ) → ((u : ℕ) → u < n → f u ≡ g u) → built f n ≡ built g n
 built_same f g zero same = refl
 built_same f g (suc u) same = rw (built_same f g u (λ v lt. same v (omega arith)), same u (omega arith)) refl
 
-is_built : (n : ℕ) (es : List (ℕ × List ℕ)) → n ≡ 64 → Rises 0 64 es → ArePacked es → es ≡ built (λ u. neighbours_of u es) n
-is_built n es is map packed =
+pub is_built : (n : ℕ) (es : List (ℕ × List ℕ)) → n ≡ 64 → Rises 0 64 es → HaveNeighbours es → es ≡ built (λ u. neighbours_of u es) n
+is_built n es is map some_each =
     let none : count_below 0 es ≡ 0 = below_first 0 0 64 es map (omega arith) in
     let all : count_below n es ≡ length es = below_end n 0 64 es map (omega arith) in
     let whole : length es - 0 ≡ length es = omega arith in
     let slice : slice_range es (count_below 0 es) (count_below n es) ≡ es = rw (none, all) (ap (λ k. take k es) whole ∙ take_all (length es) es (omega arith)) in
-    sym slice ∙ carried es map packed (λ u. neighbours_of u es) 0 n (omega arith) (λ u ge lt. refl)
+    sym slice ∙ carried es map some_each (λ u. neighbours_of u es) 0 n (omega arith) (λ u ge lt. refl)
 
 pub same_pages : (n : ℕ) (p q : List (ℕ × List ℕ)) → n ≡ 64 → Rises 0 64 p → ArePacked p → Rises 0 64 q → ArePacked q → ((u : ℕ) → u < 64 → neighbours_of u p ≡ neighbours_of u q) → p ≡ q
 same_pages n p q is map packed map' packed' same =
-    is_built n p is map packed ∙ built_same (λ u. neighbours_of u p) (λ u. neighbours_of u q) n (λ u lt. same u (omega arith)) ∙ sym (is_built n q is map' packed')
+    is_built n p is map (packed_some p packed) ∙ built_same (λ u. neighbours_of u p) (λ u. neighbours_of u q) n (λ u lt. same u (omega arith)) ∙ sym (is_built n q is map' (packed_some q packed'))

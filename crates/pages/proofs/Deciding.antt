@@ -24,7 +24,7 @@ has_left v [] r none = none
 has_left v (x ∷ l) r none = elim (cases_eq x v) [ inl at ↦ rw (eq-eqb x v at) refl | inr other ↦ rw (ne_eqb x v other) (has_left v l r none) ]
 
 -- none is below what a list ascends from
-has_low : (v low : ℕ) (xs : List ℕ) → v < low → AscendsFrom low xs → has v xs ≡ false
+pub has_low : (v low : ℕ) (xs : List ℕ) → v < low → AscendsFrom low xs → has v xs ≡ false
 has_low v low [] lt s = refl
 has_low v low (x ∷ xs) lt s = rw (ne_eqb x v (omega (arith, s.0))) (has_low v (x + 1) xs (omega (arith, s.0)) s.2)
 
@@ -57,7 +57,7 @@ above_has v n (x ∷ xs) lt = elim (cases_eq x v) [
 ]
 
 -- updates of greater neighbours do not decide
-not_decided : (v low : ℕ) (us : List EdgeUpdate) (b : Bool) → v < low → NeighboursAscend low us → decided v us b ≡ b
+pub not_decided : (v low : ℕ) (us : List EdgeUpdate) (b : Bool) → v < low → NeighboursAscend low us → decided v us b ≡ b
 not_decided v low [] b lt s = refl
 not_decided v low (u ∷ us) b lt s = rw (ne_eqb (neighbour_of u) v (omega (arith, s.0))) (not_decided v (neighbour_of u + 1) us b (omega (arith, s.0)) s.1)
 

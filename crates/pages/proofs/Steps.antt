@@ -4,7 +4,7 @@ use Rattle.edge_updates.specs.declared.edge_update.EdgeUpdate.{EdgeUpdate}
 use Rattle.pages.specs.Vertices.{Rises, neighbours_of, count_below, IsPage}
 use Rattle.pages.specs.Updates.{vertex_in_page, updated, updates_of, EdgesAscend}
 use Rattle.pages.specs.inside.Built.{entry_of, built}
-use Rattle.pages.proofs.Building.{rises_built, neighbours_built, carried}
+use Rattle.pages.proofs.Building.{rises_built, neighbours_built, packed_some, carried}
 use Rattle.pages.proofs.Merging.{neighbour_small}
 use Rattle.pages.proofs.UpdateRuns.{none_before}
 
@@ -21,7 +21,7 @@ module _ (es : List (ℕ × List ℕ)) (page : IsPage es) (updates : List EdgeUp
   -- vertices that no update is of are carried over
   pub carried_to : (low v : ℕ) (rest : List EdgeUpdate) → low ≤ v → EdgesAscend (v * 2 ^ 24) rest → ((u : ℕ) → low ≤ u → updates_of u updates ≡ updates_of u rest) → built after low ++ slice_range es (count_below low es) (count_below v es) ≡ built after v
   carried_to low v rest le coming passed =
-      carried es page.map page.packed after low v le
+      carried es page.map (packed_some es page.packed) after low v le
       (λ u ge lt. ap (updated (neighbours_of u es)) (passed u ge ∙ none_before u (v * 2 ^ 24) rest coming (omega arith)))
 
   -- so the vertices stay in order

@@ -29,7 +29,7 @@ ascend_in_page block [] s t = tt
 ascend_in_page block (u ∷ us) s t = (omega arith, follow_in_page block u us s t.0 t.1)
 
 -- edges ascend from a smaller number too
-edges_from : (a b : ℕ) (us : List EdgeUpdate) → a ≤ b → EdgesAscend b us → EdgesAscend a us
+pub edges_from : (a b : ℕ) (us : List EdgeUpdate) → a ≤ b → EdgesAscend b us → EdgesAscend a us
 edges_from a b [] le s = tt
 edges_from a b (u ∷ us) le s = (omega (arith, s.0), s.1)
 

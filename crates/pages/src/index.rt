@@ -7,9 +7,9 @@ ghost use Rattle.pages.specs.inside.Index.{IsIndex};
 
 use crate::entry::ListEntry;
 
-/// How many vertices below one are present, or `None` where the vertex is not.
+/// How many vertices below one are present, or `None` where the vertex is not. It takes constant time.
 #[inline]
-pub(crate) fn rank(present: u64, vertex: u32) -> Option<usize>
+pub fn rank(present: u64, vertex: u32) -> Option<usize>
     requires { vertex < 64 }
     ensures { MatchOption result (present / 2 ^ vertex % 2 ≡ 0)
         (λ r. (present / 2 ^ vertex % 2 ≡ 1) × (r ≡ count_ones (present % 2 ^ vertex))) }
@@ -21,9 +21,9 @@ pub(crate) fn rank(present: u64, vertex: u32) -> Option<usize>
     Some(below.count_ones() as usize)
 }
 
-/// How many vertices below one are present.
+/// How many vertices below one are present. It takes constant time.
 #[inline]
-pub(crate) fn rank_below(present: u64, vertex: u32) -> usize
+pub fn rank_below(present: u64, vertex: u32) -> usize
     requires { vertex ≤ 64 }
     ensures { result ≡ count_ones (present % 2 ^ vertex) }
 {

@@ -24,7 +24,7 @@
 //! bytes, of which a mask cuts out its own. So reading has no branch, the neighbour at an index takes
 //! constant time, a look-up is a binary search, and a walk downward costs what one upward does.
 //!
-//! It is made for graphs whose trees have pages as values; none stands on it yet. The widths are those of a frame
+//! Blocks of vertices stand on this crate; they take [`rank`] and [`width_of`] too. The widths are those of a frame
 //! of reference (Goldstein, Ramakrishnan, Shaft, ICDE 1998), and the ranks are Jacobson's (Space-efficient
 //! Static Trees and Graphs, FOCS 1989).
 #![tactic(auto)]
@@ -44,9 +44,11 @@ mod updates;
 mod walks;
 mod writing;
 
+pub use index::{rank, rank_below};
 pub use iter::PageIter;
 pub use laws::{blocks_ascend, changes_decide, pages_are_their_lists};
 pub use neighbours::Neighbours;
 pub use page::{MAX_PACKED, Page};
 pub use updates::{merge, run_length};
 pub use walks::{Ascending, Descending};
+pub use writing::width_of;

@@ -57,7 +57,7 @@ impl<'a> Neighbours<'a> {
 
     /// No neighbour.
     #[inline]
-    pub(crate) fn none() -> Neighbours<'a>
+    pub fn none() -> Neighbours<'a>
         ensures { result ≡ [] }
     {
         Neighbours::new(0, 1, 0xff, 0, &[])

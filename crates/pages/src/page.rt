@@ -126,8 +126,10 @@ impl Page {
         })
     }
 
-    /// A page of no vertex, with room for this one after so many updates.
-    pub(crate) fn with_room(&self, alloc: Global, updates: usize) -> Result<Page, AllocError>
+    /// A page of no vertex, with room in advance for this one after so many updates.
+    ///
+    /// The only error is out of memory.
+    pub fn with_room(&self, alloc: Global, updates: usize) -> Result<Page, AllocError>
         ensures empty { IfOk result (λ p. p ≡ []) }
         ensures page { IsPage self.now }
     {

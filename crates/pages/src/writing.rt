@@ -7,7 +7,7 @@ ghost use Rattle.pages.specs.inside.Packed.{elements_in, span_of};
 
 /// How many bytes each offset takes where the greatest is `span`.
 #[inline]
-pub(crate) fn width_of(span: u32) -> usize
+pub fn width_of(span: u32) -> usize
     ensures width { (0 < result) × (result ≤ 4) }
     ensures wide { span < 2 ^ (8 * result) }
 {

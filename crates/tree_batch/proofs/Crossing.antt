@@ -5,13 +5,8 @@ use Rattle.shared_tree.proofs.tree.Tree.TheLaws.TheKnot.{crosses as tree_crosses
 use Rattle.shared_tree.specs.contracts.tree.Tree as tree
 use Rattle.c_tree.proofs.chunk_size.ChunkSize.TheSendSync.{the_send as size_send, the_sync as size_sync}
 use Rattle.vertex_blocks.specs.contracts.block.VertexBlock as block
+use Rattle.vertex_blocks.proofs.Crossing.{block_send, block_sync}
 use Rattle.tree_batch.specs.contracts.graph.Graph as graph
-
-block_send : IsSend block.the_row
-block_send = search (sendable, crosses) depth 12
-
-block_sync : IsSync block.the_row
-block_sync = search (sendable, crosses) depth 12
 
 pub tree_send : IsSend (tree.the_row block.the_row)
 tree_send = search (sendable, crosses, tree_crosses, block_send, block_sync) depth 12

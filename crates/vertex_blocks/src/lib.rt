@@ -1,0 +1,32 @@
+//! Blocks of 64 vertices with their neighbours.
+//!
+//! A block is the vertices of a graph from `64 * k` on, each by its number in the block, 0 to 63. A
+//! vertex with few neighbours has them packed in the block's [`Page`](pages::Page); one with many has
+//! them as a set in chunks of its own, a [`CTree`](c_tree::CTree), which versions share where it does
+//! not change. A packed list becomes a set where it grows above 256 neighbours, and a set is packed
+//! again where it falls below 192, so that one that goes up and down near a size does not change its
+//! form each time. No answer depends on the form. A contract sees a block as its vertices, ascending,
+//! each with the ascending list of its neighbours.
+//!
+//! A block is counted and never changes, so trees of versions share it. [`BlockUpdates`] makes the
+//! block after updates.
+#![tactic(auto)]
+
+mod block;
+mod block_iter;
+mod block_updates;
+mod building;
+mod large_sets;
+mod laws;
+mod neighbour_iter;
+mod neighbour_set;
+mod room;
+mod runs;
+mod set_walk;
+
+pub use block::VertexBlock;
+pub use block_iter::BlockIter;
+pub use block_updates::BlockUpdates;
+pub use laws::blocks_are_their_lists;
+pub use neighbour_iter::NeighbourIter;
+pub use neighbour_set::NeighbourSet;

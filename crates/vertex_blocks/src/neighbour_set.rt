@@ -1,0 +1,94 @@
+//! The neighbours of a vertex, packed or as a set in chunks.
+
+ghost use Rattle.std.specs.Prelude.{◌≡◌, ◌↔◌, [], length, IsTrue, IfSome};
+ghost use Rattle.pages.specs.Lists.{AscendsFrom, has};
+ghost use Rattle.vertex_blocks.specs.inside.Forms.{listed};
+
+use crate::neighbour_iter::NeighbourIter;
+use c_tree::CTree;
+use pages::Neighbours;
+use std::marker::Model;
+
+/// The neighbours of a vertex, ascending. A contract sees the list of them.
+#[derive(Drop)]
+pub struct NeighbourSet<'a> {
+    form: NeighbourForm<'a>,
+}
+
+/// The two forms in which neighbours stand.
+#[derive(Drop)]
+pub(crate) enum NeighbourForm<'a> {
+    Packed(Neighbours<'a>),
+    Chunked(&'a CTree),
+}
+
+impl<'a> Model for NeighbourSet<'a> {
+    ghost use Rattle.std.specs.Prelude.{ℕ, List};
+    ghost use Rattle.vertex_blocks.specs.inside.Forms.{listed};
+
+    ghost Value = { List ℕ };
+
+    ghost view = { λ s. listed s.form };
+}
+
+impl<'a> NeighbourSet<'a> {
+    /// The neighbours in one of the forms.
+    #[inline]
+    pub(crate) fn new(form: NeighbourForm<'a>) -> NeighbourSet<'a>
+        ensures { result ≡ listed form.entry }
+    {
+        NeighbourSet { form }
+    }
+
+    /// How many neighbours there are. It takes constant time and no memory.
+    #[inline]
+    pub fn len(&self) -> usize
+        ensures count { result ≡ length self.now }
+        ensures ascending { AscendsFrom 0 self.now }
+    {
+        match &self.form {
+            NeighbourForm::Packed(list) => list.len(),
+            NeighbourForm::Chunked(set) => set.len(),
+        }
+    }
+
+    /// Whether there is no neighbour. It takes constant time and no memory.
+    #[inline]
+    pub fn is_empty(&self) -> bool
+        ensures { IsTrue result ↔ (self.now ≡ []) }
+    {
+        self.len() == 0
+    }
+
+    /// Whether a vertex is among the neighbours. It takes logarithmic time and no memory.
+    pub fn contains(&self, neighbour: u32) -> bool
+        ensures { result ≡ has neighbour self.now }
+    {
+        match &self.form {
+            NeighbourForm::Packed(list) => list.contains(neighbour),
+            NeighbourForm::Chunked(set) => set.contains(neighbour),
+        }
+    }
+
+    /// The set in chunks, where the neighbours stand in one and are not packed. It takes constant time
+    /// and no memory.
+    pub fn chunked(&self) -> Option<&'a CTree>
+        ensures { IfSome result (λ t. t.now.elements ≡ self.now) }
+    {
+        match &self.form {
+            NeighbourForm::Packed(_) => None,
+            NeighbourForm::Chunked(set) => Some(*set),
+        }
+    }
+
+    /// A walk over the neighbours, ascending. It takes no memory.
+    #[inline]
+    pub fn iter(self) -> NeighbourIter<'a>
+        ensures { result ≡ self.entry }
+    {
+        match self.form {
+            NeighbourForm::Packed(list) => NeighbourIter::packed(list),
+            NeighbourForm::Chunked(set) => NeighbourIter::chunked(set),
+        }
+    }
+}
