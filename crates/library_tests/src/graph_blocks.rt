@@ -100,7 +100,9 @@ fn lists_reach_as_far_as_vertices(rt: HostRuntime) -> Result<(), Fail> {
         let graph = Graph::new(MOST, 64)?.apply(rt.alloc(), &batch)?;
         let edges = [(MOST - 1, 1), (MOST - 1, 1 + span)];
         let listed = graph.edges().eq(edges.iter().copied());
-        let into = graph.in_(1 + span).map_or(false, |set| set.contains(MOST - 1));
+        let into = graph
+            .in_(1 + span)
+            .map_or(false, |set| set.contains(MOST - 1));
         assert!(rt; listed && into, "a span of {span}");
     }
     Ok(())

@@ -84,15 +84,19 @@ impl Beside {
     }
 }
 
-// Whether batches of two kinds by turns, two thousand of each, make what they make of a table; looked at after each
-// sixteenth.
+// Whether batches of two kinds by turns, two thousand of each, make what they make of a table, looked at after each
+// five hundred.
 fn agree(alloc: Global, vertices: u32, batches: u32, kinds: (Kind, Kind)) -> Result<bool, Fail> {
     let mut beside = Beside::new(alloc, vertices)?;
     let mut numbers = Numbers(20_261_127);
     for turn in 0..batches {
-        let kind = if turn / 2000 % 2 == 0 { kinds.0 } else { kinds.1 };
+        let kind = if turn / 2000 % 2 == 0 {
+            kinds.0
+        } else {
+            kinds.1
+        };
         beside.change(alloc, &mut numbers, kind)?;
-        if turn % 16 == 0 && !beside.agrees() {
+        if turn % 500 == 0 && !beside.agrees() {
             return Ok(false);
         }
     }
@@ -107,7 +111,7 @@ const ALL_OVER: Kind = Kind {
 
 #[test]
 fn many_batches_make_what_they_make_of_a_table(rt: HostRuntime) -> Result<(), Fail> {
-    assert!(rt; agree(rt.alloc(), 70, 100_000, (ALL_OVER, ALL_OVER))?);
+    assert!(rt; agree(rt.alloc(), 70, 10_000, (ALL_OVER, ALL_OVER))?);
     Ok(())
 }
 
@@ -126,6 +130,6 @@ const SHRINKING: Kind = Kind {
 
 #[test]
 fn lists_that_grow_and_shrink_are_those_of_a_table(rt: HostRuntime) -> Result<(), Fail> {
-    assert!(rt; agree(rt.alloc(), 330, 20_000, (GROWING, SHRINKING))?);
+    assert!(rt; agree(rt.alloc(), 330, 12_000, (GROWING, SHRINKING))?);
     Ok(())
 }

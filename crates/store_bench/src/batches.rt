@@ -16,58 +16,66 @@ const CELLS: usize = 300 * 300;
 
 const CHUNK_SIZE: u32 = 4;
 
-// How many batches of a size follow one another.
-const BATCHES: u32 = 20;
+// Batches that follow one another: how many entries they have, how many they are, and after each how many of them the
+// graph is compared with the table.
+const SERIES: [(u32, u32, u32); 6] = [
+    (3, 100_000, 1_000),
+    (10, 20, 1),
+    (100, 20, 1),
+    (1_000, 20, 1),
+    (10_000, 20, 1),
+    (100_000, 20, 1),
+];
 
-// How many entries batches have.
-const SIZES: [u32; 5] = [10, 100, 1_000, 10_000, 100_000];
-
-/// Applies batches of 10 entries, of ten times as many and so on up to `most`, with forks and without, and prints
-/// how many edges are there after the batches of each size. Fails where the graph and the table differ.
+/// Applies 100,000 batches of 3 entries, then 20 batches of 10 entries, of ten times as many and so on up to `most`, with
+/// forks and without, and prints how many edges are there after the batches of each size. Fails where the graph and the
+/// table differ.
 pub fn print_agreement<T: Threads + Sync>(
     rt: &HostRuntime,
     threads: &T,
     most: u32,
 ) -> io::Result<()> {
     let mut random = Random::new(SEED);
-    for entries in &SIZES {
-        if *entries <= most {
-            print_size(rt, threads, &mut random, *entries)?;
+    for series in &SERIES {
+        if series.0 <= most {
+            print_series(rt, threads, &mut random, *series)?;
         }
     }
     Ok(())
 }
 
-// Prints how many edges there are after batches of so many entries, one after another.
-fn print_size<T: Threads + Sync>(
+// Prints how many edges there are after batches, one after another.
+fn print_series<T: Threads + Sync>(
     rt: &HostRuntime,
     threads: &T,
     random: &mut Random,
-    entries: u32,
+    series: (u32, u32, u32),
 ) -> io::Result<()> {
+    let (entries, batches, each) = series;
     let mut graph = Graph::new(VERTICES, CHUNK_SIZE).map_err(told)?;
     let mut table = vec![in rt.alloc(); false; CELLS]?;
-    for turn in 0..BATCHES {
+    for turn in 0..batches {
         let batch = random_batch(rt.alloc(), random, entries)?;
-        graph = after_batch(rt.alloc(), threads, turn % 3, &graph, &batch, &mut table)?;
+        put_all(&mut table, batch.entries());
+        graph = after_batch(rt.alloc(), threads, turn % 3, &graph, &batch)?;
+        if turn.checked_rem(each) == Some(0) && !is_same(&graph, &table) {
+            return Err(Error::other("a batch made another graph than a table"));
+        }
     }
     let edges = graph.edge_count();
     println!(rt; "batches of {entries} entries: {edges} edges")
 }
 
-// The graph after a batch, which the table takes in too.
+// The graph after a batch.
 fn after_batch<T: Threads + Sync>(
     alloc: Global,
     threads: &T,
     forks: u32,
     graph: &Graph,
     batch: &Batch,
-    table: &mut [bool],
 ) -> io::Result<Graph> {
-    put_all(table, batch.entries());
     match graph.apply_forked(threads, alloc, batch, forks, &Quiet) {
-        Ok(graph) if is_same(&graph, table) => Ok(graph),
-        Ok(_) => Err(Error::other("a batch made another graph than a table")),
+        Ok(graph) => Ok(graph),
         Err(error) => Err(told(error)),
     }
 }
