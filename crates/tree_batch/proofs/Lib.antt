@@ -10,3 +10,4 @@ pub mod BlockMembers
 pub mod Neighbourhoods
 pub mod Crossing
 pub mod BlocksOf
+pub mod Walking

@@ -166,7 +166,7 @@ impl Graph {
     pub fn out(&self, source: u32) -> Option<NeighbourSet<'_>>
         ensures { HasNeighbours (destinations_of source self.now.edges) result }
     {
-        neighbours(&self.outgoing, source)
+        self.destinations(source)
     }
 
     /// The sources of the edges to a vertex, or `None` where there is none. It takes logarithmic
@@ -175,6 +175,13 @@ impl Graph {
         ensures { HasNeighbours (sources_of destination self.now.edges) result }
     {
         neighbours(&self.incoming, destination)
+    }
+
+    /// As [`Graph::out`], whose name a folder of proofs cannot have.
+    fn destinations(&self, source: u32) -> Option<NeighbourSet<'_>>
+        ensures { HasNeighbours (destinations_of source self.now.edges) result }
+    {
+        neighbours(&self.outgoing, source)
     }
 
     /// The blocks of the vertices that have out-edges, ascending, each by its number: that of a vertex

@@ -17,7 +17,8 @@ pub(crate) struct VertexIter<'a> {
     number: u32,
     /// Its vertices that are still to come.
     vertices: Option<BlockIter<'a>>,
-    blocks: shared_tree::Iter<'a, VertexBlock>,
+    /// The blocks behind it.
+    rest: shared_tree::Iter<'a, VertexBlock>,
 }
 
 impl<'a> Model for VertexIter<'a> {
@@ -27,9 +28,9 @@ impl<'a> Model for VertexIter<'a> {
 
     ghost Value = { List (ℕ × List ℕ) };
 
-    ghost view = { λ i. numbered i.number (vertices_at i.vertices) ++ lists_of i.blocks };
+    ghost view = { λ i. numbered i.number (vertices_at i.vertices) ++ lists_of i.rest };
 
-    ghost invariant = { λ i. AreBlocksLeft i.number (vertices_at i.vertices) i.blocks };
+    ghost invariant = { λ i. AreBlocksLeft i.number (vertices_at i.vertices) i.rest };
 }
 
 impl<'a> VertexIter<'a> {
@@ -41,7 +42,7 @@ impl<'a> VertexIter<'a> {
         VertexIter {
             number: 0,
             vertices: None,
-            blocks: blocks.iter(),
+            rest: blocks.iter(),
         }
     }
 }
@@ -59,7 +60,7 @@ impl<'a> Iterator for VertexIter<'a> {
                 return Some((BLOCK * self.number + vertex, neighbours));
             }
         }
-        let (number, block) = self.blocks.next()?;
+        let (number, block) = self.rest.next()?;
         let mut vertices = block.iter();
         let Some((vertex, neighbours)) = vertices.next() else {
             unreachable!()
