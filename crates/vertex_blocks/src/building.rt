@@ -60,9 +60,13 @@ impl Building {
         ensures page { IfOk result (λ b. b.page ≡ []) }
         ensures sets { IfOk result (λ b. b.sets ≡ []) }
     {
+        let set_count = match old {
+            Some(block) => block.parts().1.len(),
+            None => 0,
+        };
         Ok(Building {
             page: new_page(alloc, old, updates)?,
-            sets: LargeSets::new(alloc),
+            sets: LargeSets::with_capacity(alloc, set_count)?,
             chunk_size,
         })
     }

@@ -1,6 +1,6 @@
 //! Sets of vertices that have many neighbours.
 
-ghost use Rattle.std.specs.Prelude.{◌≡◌, ◌^◌, ◌<◌, ◌≤◌, ◌∷◌, ◌++◌, [], length, slice_range, OnOk, MatchOption};
+ghost use Rattle.std.specs.Prelude.{◌≡◌, ◌^◌, ◌<◌, ◌≤◌, ◌∷◌, ◌++◌, [], length, slice_range, IfOk, OnOk, MatchOption};
 ghost use Rattle.pages.specs.Vertices.{Rises, neighbours_of, count_below};
 ghost use Rattle.vertex_blocks.specs.Blocks.{IsBlock, edge_total};
 
@@ -46,14 +46,17 @@ impl Model for LargeSets {
 }
 
 impl LargeSets {
-    /// No set.
-    pub(crate) fn new(alloc: Global) -> LargeSets
-        ensures { result ≡ [] }
+    /// No set, with room in advance for so many. The only error is out of memory.
+    pub(crate) fn with_capacity(alloc: Global, count: usize) -> Result<LargeSets, AllocError>
+        ensures { IfOk result (λ s. s ≡ []) }
     {
-        LargeSets {
-            present: 0,
-            sets: Vec::new(alloc),
-        }
+        let sets = Vec::with_capacity(alloc, count)?;
+        Ok(LargeSets { present: 0, sets })
+    }
+
+    /// How many vertices have a set.
+    pub(crate) fn len(&self) -> usize {
+        self.sets.len()
     }
 
     /// The set of a vertex, if it has one.

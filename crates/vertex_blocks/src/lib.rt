@@ -6,10 +6,12 @@
 //! not change. A packed list becomes a set where it grows above 256 neighbours, and a set is packed
 //! again where it falls below 192, so that one that goes up and down near a size does not change its
 //! form each time. No answer depends on the form. A contract sees a block as its vertices, ascending,
-//! each with the ascending list of its neighbours.
+//! each with the ascending list of its neighbours: `specs/Blocks.antt`.
 //!
 //! A block is counted and never changes, so trees of versions share it. [`BlockUpdates`] makes the
-//! block after updates.
+//! block after updates, of which `specs/Changes.antt` says what they make of one. The page and the sets that
+//! do not change are taken over: bytes are copied whole, and sets are shared. [`blocks_are_their_lists`]
+//! is the law that leads from blocks to the vertices of a graph, and does nothing when called.
 #![tactic(auto)]
 
 mod block;

@@ -3,6 +3,7 @@
 ghost use Rattle.std.specs.Prelude.{◌≡◌, ◌≤◌, [], length, IfOk};
 
 use crate::block::VertexBlock;
+use crate::large_sets::LargeSets;
 use edge_updates::EdgeUpdate;
 use pages::{MAX_PACKED, Page, width_of};
 use std::alloc::{AllocError, Global};
@@ -20,8 +21,22 @@ pub(crate) fn new_page(
         let (vertices, size) = room_for(updates);
         return Page::with_capacity(alloc, vertices, size);
     };
-    let (page, _) = block.parts();
-    page.with_room(alloc, updates.len())
+    let (page, sets) = block.parts();
+    page.with_room(alloc, packed_updates(sets, updates))
+}
+
+/// How many updates are of vertices that have no set.
+fn packed_updates(sets: &LargeSets, updates: &[EdgeUpdate]) -> usize {
+    let mut total = 0usize;
+    let mut rest = updates;
+    while let Some((first, _)) = rest.split_first() {
+        let count = leading(rest, first.vertex()).max(1);
+        if sets.get(first.vertex() % 64).is_none() {
+            total = total.saturating_add(count);
+        }
+        rest = &rest[count..];
+    }
+    total
 }
 
 /// How many vertices updates are of, and how many bytes the packed lists take that they add.
