@@ -13,7 +13,7 @@ use crate::degrees::Degrees;
 use shared_tree::Share;
 use std::alloc::{AllocError, Global};
 use std::marker::Model;
-use vertex_blocks::{NeighbourIter, VertexBlock};
+use vertex_blocks::{NeighbourSet, VertexBlock};
 
 /// The neighbours of all vertices in one direction. A contract sees the vertices that have some,
 /// ascending, each with the list of them.
@@ -79,12 +79,12 @@ impl Adjacency {
 
     /// The neighbours of a vertex.
     #[inline]
-    pub(crate) fn edges(&self, vertex: u32) -> NeighbourIter<'_>
+    pub(crate) fn neighbours(&self, vertex: u32) -> NeighbourSet<'_>
         ensures { result ≡ neighbours_of vertex self.now }
     {
         match self.block(vertex) {
-            Some(block) => block.neighbours(vertex % 64).iter(),
-            None => NeighbourIter::none(),
+            Some(block) => block.neighbours(vertex % 64),
+            None => NeighbourSet::none(),
         }
     }
 

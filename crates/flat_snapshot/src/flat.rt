@@ -10,7 +10,7 @@ use crate::degrees::Degrees;
 use std::alloc::{AllocError, Global};
 use std::marker::Model;
 use tree_batch::Graph;
-use vertex_blocks::NeighbourIter;
+use vertex_blocks::{NeighbourIter, NeighbourSet};
 
 /// A graph's neighbours in arrays of blocks, which it shares with the graph and which never change.
 /// Threads may share it.
@@ -72,7 +72,7 @@ impl Flat {
     pub fn out(&self, source: u32) -> NeighbourIter<'_>
         ensures { result ≡ destinations_of source self.now.edges }
     {
-        self.outgoing.edges(source)
+        self.outgoing.neighbours(source).iter()
     }
 
     /// The sources of the edges to a vertex, ascending. A number that is no vertex has none. A
@@ -81,7 +81,23 @@ impl Flat {
     pub fn in_(&self, destination: u32) -> NeighbourIter<'_>
         ensures { result ≡ sources_of destination self.now.edges }
     {
-        self.incoming.edges(destination)
+        self.incoming.neighbours(destination).iter()
+    }
+
+    /// The same as a set, which is smaller than a walk and may be gone over by its form.
+    #[inline]
+    pub fn out_set(&self, source: u32) -> NeighbourSet<'_>
+        ensures { result ≡ destinations_of source self.now.edges }
+    {
+        self.outgoing.neighbours(source)
+    }
+
+    /// The sources of the edges to a vertex as a set, as [`Flat::out_set`].
+    #[inline]
+    pub fn in_set(&self, destination: u32) -> NeighbourSet<'_>
+        ensures { result ≡ sources_of destination self.now.edges }
+    {
+        self.incoming.neighbours(destination)
     }
 
     /// How many edges there are from a vertex. It takes constant time and no memory.

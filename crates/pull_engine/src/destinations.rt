@@ -17,6 +17,7 @@ use edge_fold::{ApplyContext, Scratch};
 use flat_snapshot::Flat;
 use kernels::EndpointFilter;
 use std::alloc::{AllocError, Global};
+use vertex_blocks::{NeighbourForm, NeighbourWalk, SetWalk};
 use vertex_sets::VertexSet;
 
 /// Folds the edges from the sources whose bits are set to the destinations that an end lets through; words or an end
@@ -179,9 +180,49 @@ fn fold_column(
     ensures { OnOk result ((m : StateValue) (steps : List StepsTree) (edges : List (ℕ × ℕ)) → IsContextOf context.entry m steps
         → HasFolded context.entry m steps edges scratch.old → HasFolded context.entry m steps (edges ++ column destination (filter (passes_words from.entry) (sources_of destination flat.now.edges))) scratch.new) }
 {
-    let mut neighbours = flat.in_(destination);
-    'rounds: while !neighbours.is_empty() {
-        let count = neighbours.fill(block);
+    match flat.in_set(destination).into_form() {
+        NeighbourForm::Packed(list) => {
+            fold_walk(
+                alloc,
+                context,
+                destination,
+                from,
+                list.ascending(),
+                block,
+                scratch,
+            )
+        }
+        NeighbourForm::Chunked(set) => {
+            fold_walk(
+                alloc,
+                context,
+                destination,
+                from,
+                SetWalk::new(set),
+                block,
+                scratch,
+            )
+        }
+    }
+}
+
+/// The same from the sources of a walk.
+#[inline]
+fn fold_walk<W: NeighbourWalk + Drop>(
+    alloc: Global,
+    context: ApplyContext<'_>,
+    destination: u32,
+    from: Option<&[u64]>,
+    mut walk: W,
+    block: &mut [u32],
+    scratch: &mut Scratch,
+) -> Result<(), AllocError>
+    requires { length block.old ≡ 128 }
+    ensures { OnOk result ((m : StateValue) (steps : List StepsTree) (edges : List (ℕ × ℕ)) → IsContextOf context.entry m steps
+        → HasFolded context.entry m steps edges scratch.old → HasFolded context.entry m steps (edges ++ column destination (filter (passes_words from.entry) (W.coming walk.entry))) scratch.new) }
+{
+    'rounds: while walk.len() > 0 {
+        let count = walk.fill(block);
         let kept = keep_members(from, block, count);
         scratch.fold_into(alloc, context, &block[..kept], destination)?;
     }

@@ -17,6 +17,7 @@ use edge_fold::{ApplyContext, Scratch};
 use flat_snapshot::Flat;
 use kernels::EndpointFilter;
 use std::alloc::{AllocError, Global};
+use vertex_blocks::{NeighbourForm, NeighbourWalk, SetWalk};
 use vertex_sets::VertexSet;
 
 /// Folds all edges to the destinations whose bits are set; words that are not given let all through.
@@ -121,9 +122,41 @@ fn fold_row(
     ensures { OnOk result ((m : StateValue) (steps : List StepsTree) (edges : List (ℕ × ℕ)) → IsContextOf context.entry m steps
         → HasFolded context.entry m steps edges scratch.old → HasFolded context.entry m steps (edges ++ row source (filter (passes_words to.entry) (destinations_of source flat.now.edges))) scratch.new) }
 {
-    let mut neighbours = flat.out(source);
-    'rounds: while !neighbours.is_empty() {
-        let count = neighbours.fill(block);
+    match flat.out_set(source).into_form() {
+        NeighbourForm::Packed(list) => {
+            fold_walk(alloc, context, source, to, list.ascending(), block, scratch)
+        }
+        NeighbourForm::Chunked(set) => {
+            fold_walk(
+                alloc,
+                context,
+                source,
+                to,
+                SetWalk::new(set),
+                block,
+                scratch,
+            )
+        }
+    }
+}
+
+/// The same to the destinations of a walk.
+#[inline]
+fn fold_walk<W: NeighbourWalk + Drop>(
+    alloc: Global,
+    context: ApplyContext<'_>,
+    source: u32,
+    to: Option<&[u64]>,
+    mut walk: W,
+    block: &mut [u32],
+    scratch: &mut Scratch,
+) -> Result<(), AllocError>
+    requires { length block.old ≡ 128 }
+    ensures { OnOk result ((m : StateValue) (steps : List StepsTree) (edges : List (ℕ × ℕ)) → IsContextOf context.entry m steps
+        → HasFolded context.entry m steps edges scratch.old → HasFolded context.entry m steps (edges ++ row source (filter (passes_words to.entry) (W.coming walk.entry))) scratch.new) }
+{
+    'rounds: while walk.len() > 0 {
+        let count = walk.fill(block);
         let kept = keep_members(to, block, count);
         scratch.fold(alloc, context, source, &block[..kept])?;
     }

@@ -1,7 +1,6 @@
 -- What the code is made of: no public contract cites these definitions.
 pub mod Sets
 pub mod Joined
-pub mod Forms
 pub mod Walks
 pub mod Steps
 pub mod Runs

@@ -3,7 +3,7 @@
 ghost use Rattle.std.specs.Prelude.{◌≡◌, ◌<◌, ◌^◌, ◌++◌, length, IfOk};
 ghost use Rattle.pages.specs.Vertices.{neighbours_of, IsPage};
 ghost use Rattle.vertex_blocks.specs.Blocks.{IsBlock, edge_total};
-ghost use Rattle.vertex_blocks.specs.inside.Forms.{listed};
+ghost use Rattle.vertex_blocks.specs.Forms.{listed};
 ghost use Rattle.vertex_blocks.specs.inside.Joined.{IsMadeOf, IsBlockOf, AreApart};
 
 use crate::block_iter::BlockIter;

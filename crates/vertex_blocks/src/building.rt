@@ -6,7 +6,7 @@ ghost use Rattle.pages.specs.Lists.{AscendsFrom};
 ghost use Rattle.pages.specs.Vertices.{Rises, neighbours_of};
 ghost use Rattle.pages.specs.Updates.{updated, NeighboursAscend};
 ghost use Rattle.vertex_blocks.specs.Blocks.{vertices_at};
-ghost use Rattle.vertex_blocks.specs.inside.Forms.{listed};
+ghost use Rattle.vertex_blocks.specs.Forms.{listed};
 ghost use Rattle.vertex_blocks.specs.inside.Joined.{AreApart, IsBlockOf};
 ghost use Rattle.vertex_blocks.specs.inside.Steps.{IsBuilt, IsPut};
 

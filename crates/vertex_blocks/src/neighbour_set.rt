@@ -2,7 +2,7 @@
 
 ghost use Rattle.std.specs.Prelude.{◌≡◌, ◌↔◌, [], length, IsTrue, IfSome};
 ghost use Rattle.pages.specs.Lists.{AscendsFrom, has};
-ghost use Rattle.vertex_blocks.specs.inside.Forms.{listed};
+ghost use Rattle.vertex_blocks.specs.Forms.{listed};
 
 use crate::neighbour_iter::NeighbourIter;
 use c_tree::CTree;
@@ -17,14 +17,14 @@ pub struct NeighbourSet<'a> {
 
 /// The two forms in which neighbours stand.
 #[derive(Drop)]
-pub(crate) enum NeighbourForm<'a> {
+pub enum NeighbourForm<'a> {
     Packed(Neighbours<'a>),
     Chunked(&'a CTree),
 }
 
 impl<'a> Model for NeighbourSet<'a> {
     ghost use Rattle.std.specs.Prelude.{ℕ, List};
-    ghost use Rattle.vertex_blocks.specs.inside.Forms.{listed};
+    ghost use Rattle.vertex_blocks.specs.Forms.{listed};
 
     ghost Value = { List ℕ };
 
@@ -38,6 +38,23 @@ impl<'a> NeighbourSet<'a> {
         ensures { result ≡ listed form.entry }
     {
         NeighbourSet { form }
+    }
+
+    /// No neighbour. It takes no memory.
+    #[inline]
+    pub fn none() -> NeighbourSet<'a>
+        ensures { result ≡ [] }
+    {
+        NeighbourSet::new(NeighbourForm::Packed(Neighbours::none()))
+    }
+
+    /// The neighbours in the form in which they stand. Who goes over them in a loop for each form has a
+    /// smaller walk than [`NeighbourSet::iter`] is.
+    #[inline]
+    pub fn into_form(self) -> NeighbourForm<'a>
+        ensures { listed result ≡ self.entry }
+    {
+        self.form
     }
 
     /// How many neighbours there are. It takes constant time and no memory.

@@ -7,7 +7,7 @@ use std::marker::Model;
 
 /// The elements of a set that are still to come, and how many they are.
 #[derive(Drop)]
-pub(crate) struct SetWalk<'a> {
+pub struct SetWalk<'a> {
     walk: c_tree::Iter<'a>,
     left: usize,
 }
@@ -25,7 +25,7 @@ impl<'a> Model for SetWalk<'a> {
 impl<'a> SetWalk<'a> {
     /// All elements of a set.
     #[inline]
-    pub(crate) fn new(set: &'a CTree) -> SetWalk<'a>
+    pub fn new(set: &'a CTree) -> SetWalk<'a>
         ensures { result ≡ set.now.elements }
     {
         SetWalk {
@@ -36,7 +36,7 @@ impl<'a> SetWalk<'a> {
 
     /// How many elements are still to come.
     #[inline]
-    pub(crate) fn len(&self) -> usize
+    pub fn len(&self) -> usize
         ensures { result ≡ length self.now }
     {
         self.left
@@ -45,7 +45,7 @@ impl<'a> SetWalk<'a> {
     /// Reads the next elements into the front of a block, as many as fit and are left, and gives their
     /// number.
     #[inline]
-    pub(crate) fn fill(&mut self, block: &mut [u32]) -> usize
+    pub fn fill(&mut self, block: &mut [u32]) -> usize
         ensures count { result ≡ min (length block.old) (length self.old) }
         ensures filled { take result block.new ≡ take result self.old }
         ensures kept { drop result block.new ≡ drop result block.old }
