@@ -1,9 +1,7 @@
 //! Readers of a shared graph beside a writer, on threads.
 ghost use Rattle.std.specs.Prelude.{◌≡◌};
 
-use shared_graph::{
-    Held, Naming, Opening, Reader, SharedError, SharedGraph, Snapshot, Unreleased,
-};
+use shared_graph::{Held, Naming, Opening, Reader, SharedError, SharedGraph, Snapshot, Unreleased};
 use std::alloc::{AllocError, Global};
 use std::marker::Brand;
 use std::rt::Clock;

@@ -114,7 +114,12 @@ fn hold_beside<J: Naming, W: Wait + Drop, R: Threads + Wait + Sync>(
     let stayed = stays(rt, alloc, graph, plan, (first, second));
     let followed = search(rt, alloc, plan, third, 1) == Ok((3, true));
     let missed = graph.hold(rt, alloc, second, Which::At(0));
-    Ok([told, stayed, followed, is_not_kept(rt, graph, second, missed)])
+    Ok([
+        told,
+        stayed,
+        followed,
+        is_not_kept(rt, graph, second, missed),
+    ])
 }
 
 // Whether a version was not held, since it is not kept.
@@ -291,11 +296,7 @@ fn race<J: Naming + Send + Sync, R: Threads + Wait + AllocGlobal + Sync>(
 
 // Whether all commits are made, each run beside them is of its version, and so is one of the last version after the writer is
 // joined, though the reader was told nothing.
-fn race_two<
-    J: Naming + Send + Sync,
-    W: Wait + Drop + Send + Sync,
-    R: Threads + Wait + Sync,
->(
+fn race_two<J: Naming + Send + Sync, W: Wait + Drop + Send + Sync, R: Threads + Wait + Sync>(
     rt: &R,
     alloc: Global,
     graph: &SharedGraph<J, W>,
