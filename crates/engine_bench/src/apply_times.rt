@@ -2,11 +2,11 @@
 
 use crate::kernels_of::edge_kernel;
 use apply_options::{DenseVertexSet, Direction, Parallelization};
+use edge_apply::Apply;
 use edge_fold::Scratch;
 use flat_snapshot::Flat;
 use kernels::{EdgeKernel, EndpointFilter};
 use measuring::{Benchmark, Random, Turns, print_head, print_row, told};
-use edge_apply::Apply;
 use runner::push_or_pull;
 use std::alloc::{AllocError, Global};
 use std::io;

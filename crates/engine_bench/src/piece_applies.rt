@@ -2,10 +2,10 @@
 
 use apply_options::Direction;
 use crew::{CrewError, Found, Work};
+use edge_apply::Apply;
 use edge_fold::{Gathered, Scratch};
 use flat_snapshot::Flat;
 use pull_engine::PullWork;
-use edge_apply::Apply;
 use push_engine::PushWork;
 use std::alloc::{AllocError, Global};
 use std::io;

@@ -2,11 +2,11 @@
 
 use apply_options::{DenseVertexSet, Direction, Parallelization};
 use crew::{Found, Work};
+use edge_apply::Apply;
 use edge_fold::{Gathered, Scratch};
 use flat_snapshot::Flat;
 use kernels::EdgeKernel;
 use pull_engine::{PullWork, pull};
-use edge_apply::Apply;
 use push_engine::{PushWork, push};
 use run_comparison::checked;
 use runner::pick_direction;

@@ -1,3 +1,4 @@
 pub mod Numbered
 pub mod Walks
 pub mod Snapshots
+pub mod Crossing

@@ -1,23 +1,8 @@
 //! Many random batches on small graphs, beside a plain table of pairs.
+use measuring::Random;
 use std::alloc::Global;
 use std::test::Fail;
 use tree_batch::{Batch, Entry, Graph};
-
-// Numbers that look random, each made from the one before (Marsaglia, Xorshift RNGs, 2003).
-#[derive(Drop)]
-struct Numbers(u64);
-
-impl Numbers {
-    // The next number below a bound.
-    fn below(&mut self, bound: u32) -> u32 {
-        let mut next = self.0;
-        next ^= next << 13;
-        next ^= next >> 7;
-        next ^= next << 17;
-        self.0 = next;
-        ((next >> 33) as u32).checked_rem(bound).unwrap_or(0)
-    }
-}
 
 // Over how many sources entries go, how far these are apart, and how many of ten entries add an edge.
 #[derive(Clone, Copy)]
@@ -45,21 +30,26 @@ impl Beside {
         })
     }
 
+    // Where the table tells of an edge.
+    fn place(&self, source: u32, destination: u32) -> usize {
+        source.wrapping_mul(self.vertices).wrapping_add(destination) as usize
+    }
+
     // Notes an edge in the table.
     fn put(&mut self, source: u32, destination: u32, is_there: bool) {
-        let place = source.wrapping_mul(self.vertices).wrapping_add(destination);
-        if let Some(cell) = self.table.get_mut(place as usize) {
+        let place = self.place(source, destination);
+        if let Some(cell) = self.table.get_mut(place) {
             *cell = is_there;
         }
     }
 
     // Applies a batch of a few random entries over some sources, of which so many of ten add an edge.
-    fn change(&mut self, alloc: Global, numbers: &mut Numbers, kind: Kind) -> Result<(), Fail> {
+    fn change(&mut self, alloc: Global, numbers: &mut Random, kind: Kind) -> Result<(), Fail> {
         let mut batch = Batch::new(alloc);
         for _ in 0..=numbers.below(4) {
-            let source = numbers.below(kind.sources).wrapping_mul(kind.stride);
-            let destination = numbers.below(self.vertices);
-            let is_there = numbers.below(10) < kind.additions;
+            let source = (numbers.below(u64::from(kind.sources)) as u32).wrapping_mul(kind.stride);
+            let destination = numbers.below(u64::from(self.vertices)) as u32;
+            let is_there = numbers.below(10) < u64::from(kind.additions);
             self.put(source, destination, is_there);
             batch.push(match is_there {
                 true => Entry::Add(source, destination),
@@ -70,17 +60,28 @@ impl Beside {
         Ok(())
     }
 
+    // How many edges of the table the graph lists, while they ascend.
+    fn listed(&self) -> usize {
+        let (mut edges, mut next) = (0usize, 0usize);
+        for (source, destination) in self.graph.edges() {
+            let place = self.place(source, destination);
+            let is_there = self.table.get(place).copied().unwrap_or(false);
+            if place < next || !is_there {
+                break;
+            }
+            edges = edges.wrapping_add(1);
+            next = place.wrapping_add(1);
+        }
+        edges
+    }
+
     // Whether the graph lists the edges of the table and no other.
     fn agrees(&self) -> bool {
-        let vertices = self.vertices;
-        let there = self.table.iter().enumerate().filter(|cell| *cell.1);
-        self.graph.edges().eq(there.map(|cell| {
-            let place = cell.0 as u32;
-            (
-                place.checked_div(vertices).unwrap_or(0),
-                place.checked_rem(vertices).unwrap_or(0),
-            )
-        }))
+        let mut edges = 0usize;
+        for is_there in &self.table {
+            edges = edges.wrapping_add(usize::from(*is_there));
+        }
+        self.graph.edge_count() == edges && self.listed() == edges
     }
 }
 
@@ -88,7 +89,7 @@ impl Beside {
 // five hundred.
 fn agree(alloc: Global, vertices: u32, batches: u32, kinds: (Kind, Kind)) -> Result<bool, Fail> {
     let mut beside = Beside::new(alloc, vertices)?;
-    let mut numbers = Numbers(20_261_127);
+    let mut numbers = Random::new(20_261_127);
     for turn in 0..batches {
         let kind = if turn / 2000 % 2 == 0 {
             kinds.0

@@ -1,3 +1,4 @@
 mod Merging
 pub mod ColumnFolds
 pub mod Walked
+pub mod Crossing

@@ -3,3 +3,4 @@ pub mod Walked
 pub mod SourceLists
 pub mod Merging
 pub mod Answered
+pub mod Crossing

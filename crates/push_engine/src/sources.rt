@@ -153,7 +153,7 @@ fn fold_walk<W: NeighbourWalk + Drop>(
 ) -> Result<(), AllocError>
     requires { length block.old ≡ 128 }
     ensures { OnOk result ((m : StateValue) (steps : List StepsTree) (edges : List (ℕ × ℕ)) → IsContextOf context.entry m steps
-        → HasFolded context.entry m steps edges scratch.old → HasFolded context.entry m steps (edges ++ row source (filter (passes_words to.entry) (W.coming walk.entry))) scratch.new) }
+        → HasFolded context.entry m steps edges scratch.old → HasFolded context.entry m steps (edges ++ row source (filter (passes_words to.entry) (W.coming walk))) scratch.new) }
 {
     'rounds: while walk.len() > 0 {
         let count = walk.fill(block);

@@ -18,8 +18,7 @@ const CHUNK_SIZE: u32 = 4;
 
 // Batches that follow one another: how many entries they have, how many they are, and after each how many of them the
 // graph is compared with the table.
-const SERIES: [(u32, u32, u32); 6] = [
-    (3, 100_000, 1_000),
+const SERIES: [(u32, u32, u32); 5] = [
     (10, 20, 1),
     (100, 20, 1),
     (1_000, 20, 1),
@@ -27,9 +26,17 @@ const SERIES: [(u32, u32, u32); 6] = [
     (100_000, 20, 1),
 ];
 
-/// Applies 100,000 batches of 3 entries, then 20 batches of 10 entries, of ten times as many and so on up to `most`, with
-/// forks and without, and prints how many edges are there after the batches of each size. Fails where the graph and the
-/// table differ.
+// Many small batches, the same way.
+const MANY: (u32, u32, u32) = (3, 100_000, 1_000);
+
+/// Applies 100,000 batches of 3 entries, with forks and without, and prints how many edges are there after them. Fails
+/// where the graph and the table differ.
+pub fn print_many<T: Threads + Sync>(rt: &HostRuntime, threads: &T) -> io::Result<()> {
+    print_series(rt, threads, &mut Random::new(SEED), MANY)
+}
+
+/// Applies 20 batches of 10 entries, of ten times as many and so on up to `most`, with forks and without, and prints how
+/// many edges are there after the batches of each size. Fails where the graph and the table differ.
 pub fn print_agreement<T: Threads + Sync>(
     rt: &HostRuntime,
     threads: &T,

@@ -35,12 +35,19 @@ fn print<T: Threads + Sync>(
 ) -> io::Result<bool> {
     match option {
         "" => is_printed(batches::print_agreement(rt, threads, 1000)),
-        "--check" if subject == "batches" => is_printed(batches::print_agreement(
-            rt, threads, 100_000,
-        )),
+        "--check" => is_printed(check(rt, threads, subject)),
         "--time" => is_printed(print_times(rt, threads, subject)),
         _ => Ok(false),
     }
+}
+
+// Checks a subject at its whole size.
+fn check<T: Threads + Sync>(rt: &HostRuntime, threads: &T, subject: &str) -> io::Result<()> {
+    if subject != "batches" {
+        return Err(Error::other("nothing of this name is checked"));
+    }
+    batches::print_many(rt, threads)?;
+    batches::print_agreement(rt, threads, 100_000)
 }
 
 // Prints the times of a subject.

@@ -1,11 +1,17 @@
+use denote.Param.Send.{sendable}
+use Rattle.std.proofs.Crossing.{crosses}
 use Rattle.std.proofs.Common.{ℤ, List, length, sym, subst}
 use Rattle.crew.specs.Pieces.{AreFound}
 use Rattle.crew.proofs.FoundPieces.{found_answers, found_once}
 use Rattle.flat_snapshot.specs.Digraph.{Digraph}
+use Rattle.push_engine.proofs.Crossing.{work_sync}
 use Rattle.edge_apply.specs.declared.apply.Apply.{Apply}
 use Rattle.edge_apply.specs.Applied.{AreChangesOf}
 use Rattle.push_engine.specs.Pieces.{Answers}
 use Rattle.push_engine.proofs.crew_apply.push_crew.Goals as goal
+
+pub run_pieces-requires-sync-W : goal.run_pieces-requires-sync-W
+run_pieces-requires-sync-W g c κs within = search (sendable, crosses, work_sync) depth 14
 
 pub returns-clause-changes : goal.returns-clause-changes
 returns-clause-changes g c =

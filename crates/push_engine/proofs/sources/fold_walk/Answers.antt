@@ -1,9 +1,13 @@
-use Rattle.std.proofs.Common.{rules, ◌≡◌, ℕ, List, ◌++◌, [], ap, refl, subst, sym, take}
+use Rattle.std.proofs.Common.{rules, ◌≡◌, ◌≤◌, ℕ, List, ◌++◌, [], ◌∷◌, length, ap, refl, subst, sym, take, arith}
 use Rattle.edge_fold.specs.Given.{row}
 use Rattle.edge_fold.proofs.Walks.{HasWalked, folded_along, parts_of, walk_begun, walk_done, walk_more}
 use Rattle.edge_apply.specs.Words.{passes_words}
 use Rattle.push_engine.proofs.Walked.{row_in_row, row_to}
 use Rattle.push_engine.proofs.sources.fold_walk.Goals as goal
+
+none_left : (xs : List ℕ) → length xs ≤ 0 → xs ≡ []
+none_left [] l = refl
+none_left (x ∷ xs) l = absurd (omega (arith, l))
 
 pub rounds-preserved : goal.rounds-preserved
 rounds-preserved g c =
@@ -26,7 +30,7 @@ rounds-preserved g c =
 pub returns : goal.returns
 returns g c =
     let a = c.args in
-    let none : (g.W.NeighbourWalk.coming c.rounds.walk) ≡ [] = search rules in
+    let none = none_left (g.W.NeighbourWalk.coming c.rounds.walk) (omega (arith, c.rounds-test.false, c.len.ensures)) in
     walk_done a.context (row_to (passes_words a.to) a.source) (g.W.NeighbourWalk.coming a.walk) (g.W.NeighbourWalk.coming c.rounds.walk) a.scratch.now c.rounds.scratch none c.rounds.invariant.walked
 
 pub rounds-init : goal.rounds-init
