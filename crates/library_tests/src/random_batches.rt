@@ -47,8 +47,10 @@ impl Beside {
     fn change(&mut self, alloc: Global, numbers: &mut Random, kind: Kind) -> Result<(), Fail> {
         let mut batch = Batch::new(alloc);
         for _ in 0..=numbers.below(4) {
-            let source = (numbers.below(u64::from(kind.sources)) as u32).wrapping_mul(kind.stride);
-            let destination = numbers.below(u64::from(self.vertices)) as u32;
+            let source = (numbers.below(u64::from(kind.sources.max(1))) as u32).wrapping_mul(
+                kind.stride,
+            );
+            let destination = numbers.below(u64::from(self.vertices.max(1))) as u32;
             let is_there = numbers.below(10) < u64::from(kind.additions);
             self.put(source, destination, is_there);
             batch.push(match is_there {
