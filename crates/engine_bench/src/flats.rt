@@ -83,18 +83,13 @@ impl FlatBenchmark {
     fn new(alloc: Global, vertices: u32, edges: u32) -> io::Result<FlatBenchmark> {
         let graph = random_graph(alloc, vertices, edges)?;
         let mut work = FlatBenchmark {
-            flat: shared(Flat::of(alloc, &graph)?),
+            flat: Flat::of(alloc, &graph)?,
             graph,
             tails: Vec::new(alloc),
         };
         add_tails(alloc, &work.graph, &mut work.tails)?;
         Ok(work)
     }
-}
-
-// A value that threads may share.
-fn shared<T: Send + Sync>(value: T) -> T {
-    value
 }
 
 impl Benchmark for FlatBenchmark {
