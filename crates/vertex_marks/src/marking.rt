@@ -1,0 +1,78 @@
+//! Vertices that are marked.
+ghost use Rattle.std.specs.Prelude.{◌≡◌, ℕ, ◌<◌, ◌≤◌, ◌==◌, ◌||◌, false, length, slice_index, OnOk};
+ghost use Rattle.vertex_marks.specs.Marks.{is_marked, room};
+
+use crate::vertex_marks::VertexMarks;
+use std::alloc::{AllocError, Global};
+
+impl VertexMarks {
+    /// No mark, and room for no vertex.
+    pub fn new(alloc: Global) -> VertexMarks
+        ensures { (v : ℕ) → is_marked result v ≡ false }
+    {
+        VertexMarks {
+            words: Vec::new(alloc),
+            summary: Vec::new(alloc),
+        }
+    }
+
+    /// Makes room for so many vertices, where it is not there. It takes time in proportion to what is missing.
+    ///
+    /// The only error is out of memory. The marks stay, after an error too.
+    pub fn make_room(&mut self, vertices: u32) -> Result<(), AllocError>
+        ensures marks { (v : ℕ) → is_marked self.new v ≡ is_marked self.old v }
+        ensures longer { room self.old ≤ room self.new }
+        ensures room { OnOk result (vertices ≤ room self.new) }
+    {
+        let words = (vertices as usize + 63) / 64;
+        lengthen(&mut self.summary, (words + 63) / 64)?;
+        lengthen(&mut self.words, words)?;
+        Ok(())
+    }
+
+    /// For how many vertices there is room.
+    #[inline(always)]
+    pub fn room(&self) -> usize
+        ensures { result ≡ room self.now }
+    {
+        64 * self.words.len()
+    }
+
+    /// Whether a vertex is marked.
+    #[inline(always)]
+    pub fn contains(&self, vertex: u32) -> bool
+        ensures { result ≡ is_marked self.now vertex }
+    {
+        match self.words.get(vertex as usize / 64) {
+            Some(word) => (word >> (vertex % 64)) & 1 == 1,
+            None => false,
+        }
+    }
+
+    /// Marks a vertex for which there is room.
+    #[inline(always)]
+    pub fn insert(&mut self, vertex: u32)
+        requires { vertex < room self.old }
+        ensures marks { (v : ℕ) → is_marked self.new v ≡ (vertex == v) || is_marked self.old v }
+        ensures room { room self.new ≡ room self.old }
+    {
+        let place = vertex as usize / 64;
+        let word = self.words[place] | 1u64 << (vertex % 64);
+        let sum = self.summary[place / 64] | 1u64 << (place % 64);
+        self.words[place] = word;
+        self.summary[place / 64] = sum;
+    }
+}
+
+/// Adds words without a bit where there are fewer than this.
+fn lengthen(words: &mut Vec<u64>, count: usize) -> Result<(), AllocError>
+    ensures same { (k : ℕ) → slice_index words.new.items k ≡ slice_index words.old.items k }
+    ensures longer { length words.old.items ≤ length words.new.items }
+    ensures most { (n : ℕ) → length words.old.items ≤ n → count ≤ n → length words.new.items ≤ n }
+    ensures enough { OnOk result (count ≤ length words.new.items) }
+{
+    if words.len() < count {
+        words.resize(count, 0)?;
+    }
+    Ok(())
+}
