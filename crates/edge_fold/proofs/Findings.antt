@@ -8,10 +8,10 @@ use Rattle.std.specs.List.{filter}
 use Rattle.std.proofs.lemmas.List.{append-nil}
 use Rattle.std.proofs.lemmas.List.Elements.{Contains-append_left, Contains-get_or, Contains-push, Contains-push_cases, filter_more}
 use Rattle.std.proofs.lemmas.List.Sorted.{IsNonDecreasingBy-push}
-use Rattle.std.specs.List.Sorted.{IsNonDecreasing}
+use Rattle.std.specs.List.Sorted.{IsNonDecreasing, IsStrictlyIncreasing}
 use Rattle.std.proofs.lemmas.List.Folds.{Any-from_list_any, list_any_at}
 use Rattle.algorithm_meaning.specs.EdgeApply.{is_member}
-use Rattle.vertex_sets.proofs.Ascending.{contains_first, contains_later, contains_nothing, first_or_later}
+use Rattle.vertex_sets.proofs.Ascending.{contains_first, contains_later, contains_nothing, first_or_later, non_decreasing, rises_from_increasing}
 use Rattle.vectors.specs.declared.changes.EntryChange.{EntryChange}
 use Rattle.vectors.specs.declared.changes.VectorChanges.{VectorChanges}
 use Rattle.edge_fold.specs.declared.vector_accumulator.VectorAccumulator.{VectorAccumulator}
@@ -110,25 +110,6 @@ apart_push [] c none apart = (refl, tt)
 apart_push (d ∷ ds) c none apart =
     (named_push d.vector ds c apart.0 (turned d.vector c.vector (first_off (d.vector == c.vector) (is_named c.vector ds) none)), apart_push ds c (rest_off (d.vector == c.vector) (is_named c.vector ds) none) apart.1)
 
--- the slots that are left after one was worked on
-abbrev tail : List VectorAccumulator → List VectorAccumulator
-tail [] = []
-tail (s ∷ ss) = ss
-
-pub left_after : (k n : ℕ) (xs ys : List VectorAccumulator) (s d : VectorAccumulator) → k < n → k < length (take n xs) → k < length ys → drop k (take n xs) ≡ drop k ys
-    → drop (k + 1) (take n (set xs k s)) ≡ drop (k + 1) ys
-left_after k n xs ys s d l inside also left =
-    ap (drop (k + 1)) (take-set-lt n xs k s l)
-    ∙ drop-set-lt (k + 1) (take n xs) k s (omega arith)
-    ∙ ap tail (sym (drop_more (take n xs) k d inside) ∙ left ∙ drop_more ys k d also)
-
-pub next_left : (k n : ℕ) (xs ys : List VectorAccumulator) (d : VectorAccumulator) → k < n → k < length (take n xs) → k < length ys → drop k (take n xs) ≡ drop k ys
-    → drop k ys ≡ get_or xs k d ∷ drop (k + 1) ys
-next_left k n xs ys d l inside also left =
-    sym left ∙ drop_more (take n xs) k d inside
-    ∙ ap (λ (s : VectorAccumulator). s ∷ drop (k + 1) (take n xs)) (get_or-take n xs k d l)
-    ∙ ap (λ ss. get_or xs k d ∷ ss) (ap tail (sym (drop_more (take n xs) k d inside) ∙ left ∙ drop_more ys k d also))
-
 -- kept vertices
 choose : {A B C : Type 0} → A ⊎ B → (A → C) → (B → C) → C
 choose (inl a) f g = f a
@@ -178,26 +159,12 @@ member_at v xs false false h e = sym e
 pub member_is : (v : ℕ) (xs : List ℕ) (b : Bool) → IsTrue b ↔ Contains xs v → b ≡ is_member v xs
 member_is v xs b h = member_at v xs b (is_member v xs) h refl
 
--- one more vertex of an ascending list of those that pass a test
-pub ascending_more : (xs ys : List ℕ) (v : ℕ) (b : Bool) → ys ≡ xs ++ cond b (v ∷ []) [] → IsNonDecreasing xs → ((u : ℕ) → Contains xs u → u < v) → IsNonDecreasing ys
-ascending_more xs ys v true e up below =
-    subst (λ (ks : List ℕ). IsNonDecreasing ks) (sym e) (IsNonDecreasingBy-push (λ (x : ℕ). x) xs v up (λ d l. let less = below (get_or xs (length xs - 1) d) (Contains-get_or xs (length xs - 1) d (omega (arith, l))) in omega (arith, less)))
-ascending_more xs ys v false e up below = subst (λ (ks : List ℕ). IsNonDecreasing ks) (sym (e ∙ append-nil xs)) up
-
-pub below_more : (xs ys : List ℕ) (v : ℕ) (b : Bool) → ys ≡ xs ++ cond b (v ∷ []) [] → ((u : ℕ) → Contains xs u → u < v) → (u : ℕ) → Contains ys u → u < v + 1
-below_more xs ys v true e below u has =
-    choose (Contains-push_cases xs v u (subst (λ (ks : List ℕ). Contains ks u) e has)) (λ h. let less = below u h in omega (arith, less)) (λ h. omega (arith, h))
-below_more xs ys v false e below u has = let less = below u (subst (λ (ks : List ℕ). Contains ks u) (e ∙ append-nil xs) has) in omega (arith, less)
-
-less_than : (u v : ℕ) → u < v + 1 → (u == v) ≡ false → u < v
-less_than u v l off = grind (arith, nat_tests)
-
-others_at : (p : ℕ → Bool) (xs ys : List ℕ) (v u : ℕ) (b c : Bool) → p v ≡ b → (u == v) ≡ c → ys ≡ xs ++ cond b (v ∷ []) [] → ((w : ℕ) → w < v → ¬ Contains xs w → p w ≡ false) → u < v + 1 → ¬ Contains ys u → p u ≡ false
-others_at p xs ys v u true true is at e others l absent =
-    absurd (absent (subst (λ (ks : List ℕ). Contains ks u) (sym e) (subst (λ (w : ℕ). Contains (xs ++ v ∷ []) w) (sym (same u v at)) (Contains-push xs v))))
-others_at p xs ys v u false true is at e others l absent = ap p (same u v at) ∙ is
-others_at p xs ys v u b false is at e others l absent =
-    others u (less_than u v l at) (λ h. absent (subst (λ (ks : List ℕ). Contains ks u) (sym e) (Contains-append_left xs (cond b (v ∷ []) []) u h)))
-
-pub others_more : (p : ℕ → Bool) (xs ys : List ℕ) (v : ℕ) → ys ≡ xs ++ cond (p v) (v ∷ []) [] → ((w : ℕ) → w < v → ¬ Contains xs w → p w ≡ false) → (u : ℕ) → u < v + 1 → ¬ Contains ys u → p u ≡ false
-others_more p xs ys v e others u l absent = others_at p xs ys v u (p v) (u == v) refl refl e others l absent
+-- a list that ascends does not fall
+pub never_falls : (xs : List ℕ) → IsStrictlyIncreasing xs → IsNonDecreasing xs
+never_falls xs up i j d le within =
+    omega (arith, get_or_any xs i d (omega (arith, le, within)), get_or_any xs j d within, non_decreasing 0 xs (rises_from_increasing 0 xs (omega arith) up) i j le within)
+  where
+    get_or_any : (ys : List ℕ) (k d : ℕ) → k < length ys → get_or ys k d ≡ get_or ys k 0
+    get_or_any [] k d l = absurd (omega arith)
+    get_or_any (y ∷ ys) zero d l = refl
+    get_or_any (y ∷ ys) (suc k) d l = get_or_any ys k d (omega arith)

@@ -6,6 +6,7 @@ use Rattle.std.proofs.lemmas.List.{append-nil, take_more}
 use Rattle.apply_options.specs.declared.reduction.Reduction.{Reduction}
 use Rattle.algorithm_meaning.specs.Arithmetic.{reduced}
 use Rattle.vectors.specs.declared.changes.EntryChange.{EntryChange}
+use Rattle.vertex_marks.specs.Marks.{is_marked}
 use Rattle.edge_fold.specs.declared.accumulator.Accumulator.{Accumulator}
 use Rattle.edge_fold.specs.declared.apply_context.FoldStart.TheVariants as start
 use Rattle.edge_fold.specs.declared.gathered.GatheredIn.{GatheredIn}
@@ -49,7 +50,7 @@ one_number_more r a v k h cs ds e =
     ap (λ (es : List EntryChange). reduced_at r v h (numbers_of es)) e
     ∙ ap (λ (gs : List (ℕ × ℤ)). reduced_at r v h gs) (numbers_of-append cs (number_at a k))
     ∙ reduced_at-append r v h (numbers_of cs) (numbers_of (number_at a k))
-    ∙ number_there r v k n (get_or a.values.items k (pos 0)) (get_or a.stamps.items k 0 == a.stamp) (k == v) refl
+    ∙ number_there r v k n (get_or a.values.items k (pos 0)) (is_marked a.marks k) (k == v) refl
     ∙ own_vertex r a v k n (k == v) refl
 
 found_at : (new : ℕ → ℤ) (on : ℤ → ℤ) (y h : ℤ) (k v next : ℕ) (q p : Bool) → (k == v) ≡ q → nat_lt v next ≡ p → next ≤ k → v < k + 1

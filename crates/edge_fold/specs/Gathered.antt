@@ -4,6 +4,7 @@ use Rattle.apply_options.specs.declared.reduction.Reduction.{Reduction}
 use Rattle.typed_tree.specs.StepTree.{StepsTree}
 use Rattle.algorithm_meaning.specs.State.{StateValue}
 use Rattle.vectors.specs.declared.changes.EntryChange.{EntryChange}
+use Rattle.vertex_marks.specs.Marks.{is_marked}
 use Rattle.edge_fold.specs.declared.accumulator.Accumulator.{Accumulator}
 use Rattle.edge_fold.specs.declared.gathered.Gathered.{Gathered}
 use Rattle.edge_fold.specs.declared.gathered.GatheredIn.{GatheredIn}
@@ -16,7 +17,7 @@ numbers_of (c ∷ cs) = (c.vertex, c.number) ∷ numbers_of cs
 
 -- what an accumulator has at a vertex
 abbrev pub number_at : Accumulator → ℕ → List EntryChange
-number_at a v = if slice_index_or a.stamps.items v 0 == a.stamp then record { vertex = v; number = slice_index_or a.values.items v (pos 0) } ∷ [] else []
+number_at a v = if is_marked a.marks v then record { vertex = v; number = slice_index_or a.values.items v (pos 0) } ∷ [] else []
 
 -- what is gathered for a vector
 abbrev pub gathered_for : (vector : ℕ) → List GatheredIn → List (ℕ × ℤ)

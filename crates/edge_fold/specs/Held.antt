@@ -1,6 +1,7 @@
 -- What an accumulator has.
-use Rattle.std.specs.Prelude.{◌≡◌, ℕ, ℤ, pos, ◌==◌, if◌then◌else◌, List, slice_index_or, vec_len}
+use Rattle.std.specs.Prelude.{◌≡◌, ℕ, ℤ, pos, if◌then◌else◌, List, slice_index_or}
 use Rattle.apply_options.specs.declared.reduction.Reduction.{Reduction}
+use Rattle.vertex_marks.specs.Marks.{is_marked, room as marks_room}
 use Rattle.edge_fold.specs.declared.accumulator.Accumulator.{Accumulator}
 use Rattle.edge_fold.specs.declared.initial_entries.InitialEntries.{InitialEntries}
 use Rattle.edge_fold.specs.Given.{reduced_at}
@@ -8,7 +9,7 @@ use Rattle.edge_fold.specs.FoldStarts.{combined, opening_seed, start_of}
 
 -- a number combined with the new entry at a vertex, or the number where nothing was given
 abbrev pub held_with : (ℤ → ℤ → ℤ) → Accumulator → ℕ → ℤ → ℤ
-held_with combine a v h = if slice_index_or a.stamps.items v 0 == a.stamp then combine h (slice_index_or a.values.items v (pos 0)) else h
+held_with combine a v h = if is_marked a.marks v then combine h (slice_index_or a.values.items v (pos 0)) else h
 
 -- the new entry at a vertex, or this one where nothing was given
 abbrev pub held : Accumulator → ℕ → ℤ → ℤ
@@ -16,7 +17,7 @@ held a v old = held_with (λ h y. y) a v old
 
 -- for how many vertices there is room
 abbrev pub room : Accumulator → ℕ
-room a = vec_len a.stamps
+room a = marks_room a.marks
 
 -- after a join an accumulator has what was given to vertices, too
 abbrev pub AreJoined : InitialEntries → Reduction → (before after : Accumulator) → List (ℕ × ℤ) → Type 0

@@ -1,25 +1,21 @@
-//! Accumulator: the new entries of one vector, known by a stamp.
-ghost use Rattle.std.specs.Prelude.{◌≡◌, ℕ, ◌<◌, ◌≤◌, Contains, slice_index_or, vec_len};
+//! Accumulator: the new entries of one vector, at vertices that are marked.
+ghost use Rattle.std.specs.Prelude.{◌≤◌, vec_len};
+ghost use Rattle.vertex_marks.specs.Marks.{room as marks_room};
 
-/// The new entries of one vector, at the vertices that an apply has given something.
+use vertex_marks::VertexMarks;
+
+/// The new entries of one vector, at the vertices that an apply has given something, which are marked.
 pub(crate) struct Accumulator {
     pub(crate) values: Vec<i64>,
-    pub(crate) stamps: Vec<u32>,
-    pub(crate) touched: Vec<u32>,
-    pub(crate) stamp: u32,
-    ghost begun: { 0 < stamp },
-    ghost same: { vec_len stamps ≤ vec_len values },
-    ghost past: { (v : ℕ) → slice_index_or stamps.items v 0 ≤ stamp },
-    ghost covers: { (v : ℕ) → ¬ Contains touched.items v → ¬ (slice_index_or stamps.items v 0 ≡ stamp) },
+    pub(crate) marks: VertexMarks,
+    ghost same: { marks_room marks ≤ vec_len values },
 }
 
 impl Drop for Accumulator {
     fn drop(self) {
         let Accumulator {
             values: _,
-            stamps: _,
-            touched: _,
-            stamp: _,
+            marks: _,
         } = self;
     }
 }

@@ -43,7 +43,7 @@ impl Scratch {
             (entry (after_edges steps m.sets m.vectors (filter (λ e. test e.1) edges) m.vectors) x)) }
     {
         self.flush(alloc, context)?;
-        let changes = found_in_slots(alloc, context, to, &mut self.slots, &mut self.block)?;
+        let changes = found_in_slots(alloc, context, to, &self.slots, &mut self.block)?;
         Ok(changes)
     }
 
@@ -70,17 +70,17 @@ fn found_in_slots(
     alloc: Global,
     context: ApplyContext<'_>,
     to: Option<EndpointFilter<'_>>,
-    slots: &mut VectorAccumulators,
+    slots: &VectorAccumulators,
     block: &mut Block,
 ) -> Result<Changes, AllocError>
     ensures once { IfOk result (λ c. AreApart c.vectors.items) }
     ensures changes { IfOk result (λ c. (m : StateValue) (test : ℕ → Bool) → context.entry.vectors.now.vectors ≡ m.vectors → HasSizes context.entry.sizes.now m → IsEndTest to.entry m test
         → (x : ℕ) → changes_of x c.vectors.items ≡ changed context.entry.vertices (entry m.vectors x)
-        (λ v. if test v then held_in (active slots.old) x v (entry m.vectors x v) else entry m.vectors x v)) }
+        (λ v. if test v then held_in (active slots.now) x v (entry m.vectors x v) else entry m.vectors x v)) }
 {
     let mut vectors = Vec::new(alloc);
     'slots: for place in 0..slots.used {
-        let found = found_in_slot(alloc, context, to, &mut slots.slots[place], block)?;
+        let found = found_in_slot(alloc, context, to, &slots.slots[place], block)?;
         push_once(found, &mut vectors)?;
     }
     Ok(Changes { vectors })
@@ -116,22 +116,16 @@ fn found_in_slot(
     alloc: Global,
     context: ApplyContext<'_>,
     to: Option<EndpointFilter<'_>>,
-    slot: &mut VectorAccumulator,
+    slot: &VectorAccumulator,
     block: &mut Block,
 ) -> Result<VectorChanges, AllocError>
-    ensures vector { IfOk result (λ c. c.vector ≡ slot.old.vector) }
+    ensures vector { IfOk result (λ c. c.vector ≡ slot.now.vector) }
     ensures changes { IfOk result (λ c. (m : StateValue) (test : ℕ → Bool) → context.entry.vectors.now.vectors ≡ m.vectors → HasSizes context.entry.sizes.now m → IsEndTest to.entry m test
-        → c.changes.items ≡ changed context.entry.vertices (entry m.vectors slot.old.vector)
-        (λ v. if test v then held slot.old.entries v (entry m.vectors slot.old.vector v) else entry m.vectors slot.old.vector v)) }
+        → c.changes.items ≡ changed context.entry.vertices (entry m.vectors slot.now.vector)
+        (λ v. if test v then held slot.now.entries v (entry m.vectors slot.now.vector v) else entry m.vectors slot.now.vector v)) }
 {
-    if slot.entries.is_crowded() {
-        let walked = slot.entries.walk(alloc, context.vertices)?;
-        let found = found_among(alloc, context, to, slot, &walked, block)?;
-        return Ok(found);
-    }
-    slot.entries.sort_touched();
-    let touched = slot.entries.touched();
-    let found = found_among(alloc, context, to, slot, touched, block)?;
+    let marked = slot.entries.marked(alloc)?;
+    let found = found_among(alloc, context, to, slot, &marked, block)?;
     Ok(found)
 }
 
@@ -141,11 +135,11 @@ fn found_among(
     context: ApplyContext<'_>,
     to: Option<EndpointFilter<'_>>,
     slot: &VectorAccumulator,
-    touched: &[u32],
+    marked: &[u32],
     block: &mut Block,
 ) -> Result<VectorChanges, AllocError>
-    requires ascending { IsNonDecreasing touched.now }
-    requires covers { (combine : ℤ → ℤ → ℤ) (v : ℕ) (h : ℤ) → v < context.vertices → ¬ Contains touched.now v → held_with combine slot.now.entries v h ≡ h }
+    requires ascending { IsNonDecreasing marked.now }
+    requires covers { (combine : ℤ → ℤ → ℤ) (v : ℕ) (h : ℤ) → v < context.vertices → ¬ Contains marked.now v → held_with combine slot.now.entries v h ≡ h }
     ensures vector { IfOk result (λ c. c.vector ≡ slot.now.vector) }
     ensures changes { IfOk result (λ c. (m : StateValue) (test : ℕ → Bool) → context.entry.vectors.now.vectors ≡ m.vectors → HasSizes context.entry.sizes.now m → IsEndTest to.entry m test
         → c.changes.items ≡ changed context.entry.vertices (entry m.vectors slot.now.vector)
@@ -154,11 +148,11 @@ fn found_among(
     let vector = slot.vector;
     match to {
         None => {
-            let changes = all_changes(alloc, context, slot, touched)?;
+            let changes = all_changes(alloc, context, slot, marked)?;
             Ok(VectorChanges { vector, changes })
         }
         Some(end) => {
-            let changes = passing_changes(alloc, context, end, slot, touched, block)?;
+            let changes = passing_changes(alloc, context, end, slot, marked, block)?;
             Ok(VectorChanges { vector, changes })
         }
     }
@@ -169,15 +163,15 @@ fn all_changes(
     alloc: Global,
     context: ApplyContext<'_>,
     slot: &VectorAccumulator,
-    touched: &[u32],
+    marked: &[u32],
 ) -> Result<Vec<EntryChange>, AllocError>
-    requires ascending { IsNonDecreasing touched.now }
-    requires covers { (combine : ℤ → ℤ → ℤ) (v : ℕ) (h : ℤ) → v < context.vertices → ¬ Contains touched.now v → held_with combine slot.now.entries v h ≡ h }
+    requires ascending { IsNonDecreasing marked.now }
+    requires covers { (combine : ℤ → ℤ → ℤ) (v : ℕ) (h : ℤ) → v < context.vertices → ¬ Contains marked.now v → held_with combine slot.now.entries v h ≡ h }
     ensures { IfOk result (λ cs. cs.items ≡ changed context.entry.vertices (entry context.entry.vectors.now.vectors slot.now.vector)
         (λ v. held slot.now.entries v (entry context.entry.vectors.now.vectors slot.now.vector v))) }
 {
     let old = context.vectors.lane(slot.vector);
-    let changes = slot.entries.changes(alloc, old, touched, context.vertices)?;
+    let changes = slot.entries.changes(alloc, old, marked, context.vertices)?;
     Ok(changes)
 }
 
@@ -187,17 +181,17 @@ fn passing_changes(
     context: ApplyContext<'_>,
     end: EndpointFilter<'_>,
     slot: &VectorAccumulator,
-    touched: &[u32],
+    marked: &[u32],
     block: &mut Block,
 ) -> Result<Vec<EntryChange>, AllocError>
-    requires ascending { IsNonDecreasing touched.now }
-    requires covers { (combine : ℤ → ℤ → ℤ) (v : ℕ) (h : ℤ) → v < context.vertices → ¬ Contains touched.now v → held_with combine slot.now.entries v h ≡ h }
+    requires ascending { IsNonDecreasing marked.now }
+    requires covers { (combine : ℤ → ℤ → ℤ) (v : ℕ) (h : ℤ) → v < context.vertices → ¬ Contains marked.now v → held_with combine slot.now.entries v h ≡ h }
     ensures { IfOk result (λ cs. (m : StateValue) (test : ℕ → Bool) → context.entry.vectors.now.vectors ≡ m.vectors → HasSizes context.entry.sizes.now m → IsTest end.entry m test
         → cs.items ≡ changed context.entry.vertices (entry m.vectors slot.now.vector)
         (λ v. if test v then held slot.now.entries v (entry m.vectors slot.now.vector v) else entry m.vectors slot.now.vector v)) }
 {
     let mut kept = Vec::new(alloc);
-    keep_passing(context, end, touched, block, &mut kept)?;
+    keep_passing(context, end, marked, block, &mut kept)?;
     let old = context.vectors.lane(slot.vector);
     let changes = slot.entries.changes(alloc, old, &kept, context.vertices)?;
     Ok(changes)

@@ -121,15 +121,15 @@ fn numbers_in_slot(
         → (r : Reduction) (v : ℕ) (h : ℤ) → v < context.entry.vertices
         → reduced_at r v h (numbers_of cs.items) ≡ (if test v then held_with (combined FromUnit r) slot.now.entries v h else h)) }
 {
-    let touched = slot.entries.ascending(alloc, context.vertices)?;
+    let marked = slot.entries.marked(alloc)?;
     match to {
         None => {
-            let numbers = slot.entries.numbers(alloc, &touched, context.vertices)?;
+            let numbers = slot.entries.numbers(alloc, &marked, context.vertices)?;
             Ok(numbers)
         }
         Some(end) => {
             let mut kept = Vec::new(alloc);
-            keep_passing(context, end, &touched, block, &mut kept)?;
+            keep_passing(context, end, &marked, block, &mut kept)?;
             let numbers = slot.entries.numbers(alloc, &kept, context.vertices)?;
             Ok(numbers)
         }
@@ -137,22 +137,6 @@ fn numbers_in_slot(
 }
 
 impl Accumulator {
-    /// The vertices of a graph that were given something, ascending. All others of the graph have no new entry. The
-    /// only error is out of memory.
-    fn ascending(&self, alloc: Global, vertices: u32) -> Result<Vec<u32>, AllocError>
-        ensures ascending { IfOk result (λ found. IsNonDecreasing found.items) }
-        ensures covers { IfOk result (λ found. (combine : ℤ → ℤ → ℤ) (v : ℕ) (h : ℤ) → v < vertices → ¬ Contains found.items v → held_with combine self.now v h ≡ h) }
-    {
-        if self.is_crowded() {
-            let walked = self.walk(alloc, vertices)?;
-            return Ok(walked);
-        }
-        let mut touched = Vec::with_capacity(alloc, self.touched.len())?;
-        touched.extend_from_slice(&self.touched)?;
-        touched.sort_unstable();
-        Ok(touched)
-    }
-
     /// What these vertices of the graph were given, which do not fall, each named once; `new` is any account of a
     /// number that is combined with that at these vertices, and stays at all others of the graph. The only error is out
     /// of memory.
@@ -182,11 +166,10 @@ impl Accumulator {
     fn push_number(&self, vertex: u32, numbers: &mut Vec<EntryChange>) -> Result<(), AllocError>
         ensures { OnOk result (numbers.new.items ≡ numbers.old.items ++ number_at self.now vertex) }
     {
-        let place = vertex as usize;
-        if place < self.stamps.len() && self.stamps[place] == self.stamp {
+        if self.marks.contains(vertex) {
             numbers.push(EntryChange {
                 vertex,
-                number: self.values[place],
+                number: self.values[vertex as usize],
             })?;
         }
         Ok(())

@@ -1,5 +1,5 @@
 //! Joins: contributions reduced into the entries of an accumulator.
-ghost use Rattle.std.specs.Prelude.{◌≡◌, ℕ, ℤ, pos, ◌==◌, ◌∷◌, [], ◌<◌, ◌≤◌, true, false, Contains, length, slice_index_or, vec_len, IfOk, OnOk};
+ghost use Rattle.std.specs.Prelude.{◌≡◌, ℕ, ℤ, pos, ◌^◌, ◌∷◌, [], ◌<◌, ◌≤◌, true, false, Contains, length, slice_index_or, vec_len, IfOk, OnOk};
 ghost use Rattle.std.specs.List.Sorted.{IsNonDecreasing};
 ghost use Rattle.edge_fold.specs.Gathered.{numbers_of};
 ghost use Rattle.edge_fold.specs.Given.{each_given, for_vector, given_from};
@@ -8,12 +8,12 @@ ghost use Rattle.kernels.specs.ContributionColumns.{contribution_at, truth_at};
 
 use crate::accumulator::Accumulator;
 use crate::initial_entries::InitialEntries;
-use crate::passing::keep_where;
 use algorithm_meaning::reduce;
 use apply_options::Reduction;
 use kernels::ContributionColumn;
 use std::alloc::{AllocError, Global};
 use vectors::EntryChange;
+use vertex_marks::VertexMarks;
 
 impl Accumulator {
     /// No new entry, and room for no vertex.
@@ -22,40 +22,28 @@ impl Accumulator {
     {
         Accumulator {
             values: Vec::new(alloc),
-            stamps: Vec::new(alloc),
-            touched: Vec::new(alloc),
-            stamp: 1,
+            marks: VertexMarks::new(alloc),
         }
     }
 
-    /// Forgets all entries, and makes room for so many vertices. It takes constant time where the room is there, but
-    /// once in 2^32 times. The only error is out of memory, after which it has no entry too.
+    /// Forgets all entries, and makes room for so many vertices. Where the room is there it takes time in proportion to
+    /// the entries that it had, and to one word for each 4,096 vertices. The only error is out of memory, after which it
+    /// has no entry too.
     pub(crate) fn begin(&mut self, vertices: u32) -> Result<(), AllocError>
         ensures { (combine : ℤ → ℤ → ℤ) (v : ℕ) (h : ℤ) → held_with combine self.new v h ≡ h }
     {
-        self.clear();
+        self.marks.clear();
         self.make_room(vertices as usize)
-    }
-
-    /// Forgets all entries.
-    fn clear(&mut self)
-        ensures { (combine : ℤ → ℤ → ℤ) (v : ℕ) (h : ℤ) → held_with combine self.new v h ≡ h }
-    {
-        self.touched.clear();
-        if self.stamp == u32::MAX {
-            self.stamps.fill(0);
-            self.stamp = 0;
-        }
-        self.stamp += 1;
     }
 
     /// Makes room for so many vertices, where it is not there. The entries stay, after an error too.
     fn make_room(&mut self, vertices: usize) -> Result<(), AllocError>
+        requires { vertices ≤ 2 ^ 32 }
         ensures held { (combine : ℤ → ℤ → ℤ) (v : ℕ) (h : ℤ) → held_with combine self.new v h ≡ held_with combine self.old v h }
         ensures room { OnOk result (vertices ≤ room self.new) }
     {
-        lengthen_numbers(&mut self.values, vertices)?;
-        lengthen(&mut self.stamps, vertices)?;
+        lengthen(&mut self.values, (vertices + 63) / 64 * 64)?;
+        self.marks.make_room(vertices)?;
         Ok(())
     }
 
@@ -173,10 +161,11 @@ impl Accumulator {
     ) -> Result<(), AllocError>
         ensures { OnOk result (AreJoined opening.entry reduction self.old self.new ((vertex, number) ∷ [])) }
     {
-        if vertex as usize >= self.stamps.len() {
+        if vertex as usize >= self.marks.room() {
             return self.join_beyond(reduction, opening, vertex, number);
         }
-        self.join_inside(reduction, opening, vertex, number)
+        self.join_inside(reduction, opening, vertex, number);
+        Ok(())
     }
 
     /// The same where there is no room yet.
@@ -192,7 +181,8 @@ impl Accumulator {
         ensures { OnOk result (AreJoined opening.entry reduction self.old self.new ((vertex, number) ∷ [])) }
     {
         self.make_room(vertex as usize + 1)?;
-        self.join_inside(reduction, opening, vertex, number)
+        self.join_inside(reduction, opening, vertex, number);
+        Ok(())
     }
 
     /// The same where there is room.
@@ -203,19 +193,17 @@ impl Accumulator {
         opening: InitialEntries<'_>,
         vertex: u32,
         number: i64,
-    ) -> Result<(), AllocError>
+    )
         requires { vertex < room self.old }
-        ensures { OnOk result (AreJoined opening.entry reduction self.old self.new ((vertex, number) ∷ [])) }
+        ensures { AreJoined opening.entry reduction self.old self.new ((vertex, number) ∷ []) }
     {
         let place = vertex as usize;
-        if self.stamps[place] == self.stamp {
+        if self.marks.contains(vertex) {
             self.values[place] = reduce(reduction, self.values[place], number);
-            return Ok(());
+            return;
         }
-        self.touched.push(vertex)?;
-        self.stamps[place] = self.stamp;
         self.values[place] = opening.first(reduction, place, number);
-        Ok(())
+        self.marks.insert(vertex);
     }
 
     /// The new entry at a vertex, or this one where nothing was given.
@@ -223,78 +211,26 @@ impl Accumulator {
     pub(crate) fn entry(&self, vertex: u32, old: i64) -> i64
         ensures { result ≡ held self.now vertex old }
     {
-        let place = vertex as usize;
-        if place < self.stamps.len() && self.stamps[place] == self.stamp {
-            self.values[place]
+        if self.marks.contains(vertex) {
+            self.values[vertex as usize]
         } else {
             old
         }
     }
 
-    /// Puts the vertices that were given something in ascending order.
-    pub(crate) fn sort_touched(&mut self)
-        ensures ascending { IsNonDecreasing self.new.touched.items }
-        ensures held { (combine : ℤ → ℤ → ℤ) (v : ℕ) (h : ℤ) → held_with combine self.new v h ≡ held_with combine self.old v h }
-    {
-        self.touched.sort_unstable();
-    }
-
-    /// Whether so many vertices were given something that a walk over all finds them in order sooner than a sort, which
-    /// takes time in proportion to their number and its logarithm.
-    pub(crate) fn is_crowded(&self) -> bool {
-        let touched = self.touched.len();
-        let depth = touched.checked_ilog2().unwrap_or(0);
-        touched.saturating_mul(depth as usize) > self.stamps.len() / 2
-    }
-
-    /// Whether a vertex was given something.
-    #[inline]
-    fn is_touched(&self, vertex: u32) -> bool
-        ensures { result ≡ (slice_index_or self.now.stamps.items vertex 0 == self.now.stamp) }
-    {
-        match self.stamps.get(vertex as usize) {
-            Some(stamp) => *stamp == self.stamp,
-            None => false,
-        }
-    }
-
-    /// The vertices of a graph that were given something, ascending. All others of the graph have no new entry. The
-    /// only error is out of memory.
-    pub(crate) fn walk(&self, alloc: Global, vertices: u32) -> Result<Vec<u32>, AllocError>
+    /// The vertices that were given something, ascending. All others have no new entry. It takes time in proportion to
+    /// their number, and to one word for each 4,096 vertices. The only error is out of memory.
+    pub(crate) fn marked(&self, alloc: Global) -> Result<Vec<u32>, AllocError>
         ensures ascending { IfOk result (λ found. IsNonDecreasing found.items) }
-        ensures covers { IfOk result (λ found. (combine : ℤ → ℤ → ℤ) (v : ℕ) (h : ℤ) → v < vertices → ¬ Contains found.items v → held_with combine self.now v h ≡ h) }
+        ensures covers { IfOk result (λ found. (combine : ℤ → ℤ → ℤ) (v : ℕ) (h : ℤ) → ¬ Contains found.items v → held_with combine self.now v h ≡ h) }
     {
-        let mut found = Vec::with_capacity(alloc, self.touched.len())?;
-        'vertices: for vertex in 0..vertices {
-            keep_where(self.is_touched(vertex), vertex, &mut found)?;
-        }
+        let found = self.marks.members(alloc)?;
         Ok(found)
-    }
-
-    /// The vertices that were given something. All others have no new entry.
-    pub(crate) fn touched(&self) -> &[u32]
-        ensures list { result.now ≡ self.now.touched.items }
-        ensures covers { (combine : ℤ → ℤ → ℤ) (v : ℕ) (h : ℤ) → ¬ Contains result.now v → held_with combine self.now v h ≡ h }
-    {
-        &self.touched
     }
 }
 
 /// Adds zeros where there are fewer numbers than this.
-fn lengthen(numbers: &mut Vec<u32>, count: usize) -> Result<(), AllocError>
-    ensures same { (k : ℕ) → slice_index_or numbers.new.items k 0 ≡ slice_index_or numbers.old.items k 0 }
-    ensures longer { vec_len numbers.old ≤ vec_len numbers.new }
-    ensures most { (n : ℕ) → vec_len numbers.old ≤ n → count ≤ n → vec_len numbers.new ≤ n }
-    ensures enough { OnOk result (count ≤ vec_len numbers.new) }
-{
-    if numbers.len() < count {
-        numbers.resize(count, 0)?;
-    }
-    Ok(())
-}
-
-/// The same of numbers with a sign.
-fn lengthen_numbers(numbers: &mut Vec<i64>, count: usize) -> Result<(), AllocError>
+fn lengthen(numbers: &mut Vec<i64>, count: usize) -> Result<(), AllocError>
     ensures same { (k : ℕ) → slice_index_or numbers.new.items k (pos 0) ≡ slice_index_or numbers.old.items k (pos 0) }
     ensures longer { vec_len numbers.old ≤ vec_len numbers.new }
     ensures enough { OnOk result (count ≤ vec_len numbers.new) }

@@ -16,11 +16,9 @@
 //! `algorithm_meaning`), for each vector that has an entry for each vertex. The functions read the vectors that are
 //! lent, which stay as they are until the changes are written.
 //!
-//! A slot has the new entries of one vector. It knows them by a stamp, a number that goes up with each apply, so nothing
-//! is cleared, and lists the vertices that were given something. So an apply takes time in proportion to its edges, and
-//! to the vertices only for memory that is new, or where so many of them were given something that a walk over all finds
-//! them in order sooner than a sort. Slots keep their memory: 12 bytes a vertex for each vector that one apply writes,
-//! and 4 for each vertex that was given something.
+//! A slot has the new entries of one vector, at vertices that are marked (`vertex_marks`). What an apply marked is let go
+//! when the next one begins. So an apply takes time in proportion to its edges, and to the vertices only for memory that
+//! is new. Slots keep their memory: 8 bytes and a little more than a bit a vertex for each vector that one apply writes.
 //!
 //! What depends on the source alone, as an entry of the source with a constant added, is worked out once for a source and
 //! joined to its destinations in one loop. Where it comes from several sources to one destination, it is first reduced to

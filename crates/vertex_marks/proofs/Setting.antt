@@ -1,9 +1,8 @@
 -- Words in which one bit was set, and words that were set to zero.
-use Rattle.std.proofs.Common.{◌≡◌, ◌≢◌, ℕ, ◌*◌, ◌+◌, ◌/◌, ◌%◌, ◌<◌, ◌≤◌, ◌⊎◌, inl, inr, ◌↔◌, ◌==◌, ◌||◌, Bool, true, false, List, length, set, subst, take, drop, take_all, ap₂, ◌++◌, [], ◌-◌, ◌^◌, bit_and, get_or, get_or-set_same, get_or-set_other, refl, sym, ◌∙◌, ap, arith, Contains}
+use Rattle.std.proofs.Common.{◌≡◌, ◌≢◌, ℕ, ◌*◌, ◌+◌, ◌/◌, ◌%◌, ◌<◌, ◌≤◌, ◌⊎◌, inl, inr, ◌↔◌, ◌==◌, ◌||◌, false, List, length, set, subst, take, drop, take_all, ap₂, ◌++◌, ◌-◌, ◌^◌, bit_and, get_or, get_or-set_other, sym, ◌∙◌, ap, arith, Contains}
 use Rattle.std.specs.Int.{bit_at}
-use Rattle.std.proofs.lemmas.Bool.{cases_eq, cases_lt, eqb-true, eq-eqb, ne_eqb}
+use Rattle.std.proofs.lemmas.Bool.{cases_eq, cases_lt, eq-eqb, ne_eqb}
 use Rattle.std.proofs.lemmas.List.{append-nil, get_or_past, drop_all}
-use Rattle.std.proofs.lemmas.Nat.Bits.{bit_at-zero}
 use Rattle.vertex_sets.specs.Words.{bit_members}
 use Rattle.vertex_sets.proofs.Ascending.{contains_nothing, first_or_later}
 use Rattle.vertex_sets.proofs.BitMembers.{bit_in, bits_none, bits_lowest}

@@ -1,5 +1,5 @@
 //! Vertices that are marked.
-ghost use Rattle.std.specs.Prelude.{◌≡◌, ℕ, ◌<◌, ◌≤◌, ◌==◌, ◌||◌, false, length, slice_index, OnOk};
+ghost use Rattle.std.specs.Prelude.{◌≡◌, ℕ, ◌*◌, ◌^◌, ◌<◌, ◌≤◌, ◌==◌, ◌||◌, false, length, slice_index, OnOk};
 ghost use Rattle.vertex_marks.specs.Marks.{is_marked, room};
 
 use crate::vertex_marks::VertexMarks;
@@ -8,7 +8,8 @@ use std::alloc::{AllocError, Global};
 impl VertexMarks {
     /// No mark, and room for no vertex.
     pub fn new(alloc: Global) -> VertexMarks
-        ensures { (v : ℕ) → is_marked result v ≡ false }
+        ensures marks { (v : ℕ) → is_marked result v ≡ false }
+        ensures room { room result ≡ 0 }
     {
         VertexMarks {
             words: Vec::new(alloc),
@@ -16,15 +17,18 @@ impl VertexMarks {
         }
     }
 
-    /// Makes room for so many vertices, where it is not there. It takes time in proportion to what is missing.
+    /// Makes room for so many vertices, at most 2^32, where it is not there: for whole words of 64. It takes time in
+    /// proportion to what is missing.
     ///
     /// The only error is out of memory. The marks stay, after an error too.
-    pub fn make_room(&mut self, vertices: u32) -> Result<(), AllocError>
+    pub fn make_room(&mut self, vertices: usize) -> Result<(), AllocError>
+        requires { vertices ≤ 2 ^ 32 }
         ensures marks { (v : ℕ) → is_marked self.new v ≡ is_marked self.old v }
         ensures longer { room self.old ≤ room self.new }
         ensures room { OnOk result (vertices ≤ room self.new) }
+        ensures most { (n : ℕ) → room self.old ≤ 64 * n → vertices ≤ 64 * n → room self.new ≤ 64 * n }
     {
-        let words = (vertices as usize + 63) / 64;
+        let words = (vertices + 63) / 64;
         lengthen(&mut self.summary, (words + 63) / 64)?;
         lengthen(&mut self.words, words)?;
         Ok(())

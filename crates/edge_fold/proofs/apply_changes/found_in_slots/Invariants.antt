@@ -11,10 +11,8 @@ use Rattle.edge_fold.proofs.apply_changes.found_in_slots.Given as goal
 -- what is found, and after it what the slots that are left have, is what all have
 abbrev pub invariant-slots : goal.invariant-slots
 invariant-slots l = record {
-  used : l.slots.used ≡ l.fn.slots.used;
   apart : AreApart l.vectors.items;
-  left : drop l.place (active l.slots) ≡ drop l.place (active l.fn.slots);
   found : (m : StateValue) (test : ℕ → Bool) → l.context.vectors.now.vectors ≡ m.vectors → HasSizes l.context.sizes.now m → IsEndTest l.to m test
-      → (x : ℕ) → changes_or x l.vectors.items (found_in l.context.vertices (entry m.vectors) test (drop l.place (active l.fn.slots)) x)
-      ≡ found_in l.context.vertices (entry m.vectors) test (active l.fn.slots) x;
+      → (x : ℕ) → changes_or x l.vectors.items (found_in l.context.vertices (entry m.vectors) test (drop l.place (active l.slots)) x)
+      ≡ found_in l.context.vertices (entry m.vectors) test (active l.slots) x;
 }

@@ -1,4 +1,4 @@
-use Rattle.std.proofs.Common.{◌≡◌, ◌≢◌, ◌+◌, ◌^◌, ◌<◌, ℕ, length, length-set, get_or, get_or-set_same, get_or-set_other, ap, sym, ◌∙◌, rules}
+use Rattle.std.proofs.Common.{◌≡◌, ◌≢◌, ◌+◌, ◌^◌, ◌<◌, ℕ, length, length-set, get_or, get_or-set_same, get_or-set_other, ap, ◌∙◌, rules}
 use Rattle.std.proofs.lemmas.List.{get_or_past}
 use Rattle.vertex_marks.proofs.Naming.{fewer_left}
 use Rattle.vertex_marks.proofs.Setting.{stay_more, cleared_more, all_cleared}
@@ -20,14 +20,16 @@ words-preserved c =
     let fits : left < 2 ^ 64 = search rules in
     let written : (length new ≡ length words) × (get_or new place 0 ≡ 0) × ((p : ℕ) → p ≢ place → get_or new p 0 ≡ get_or words p 0) =
     elim c.if-place-words.branch [
-      | then-place-words w ↦
-          (ap length w.words-is ∙ length-set words place 0,
-           ap (λ ws. get_or ws place 0) w.words-is ∙ get_or-set_same words place 0 0 w.if-place-words.true,
-           λ p apart. ap (λ ws. get_or ws p 0) w.words-is ∙ get_or-set_other words place p 0 0 apart)
-      | else-place-words w ↦
-          (ap length w.words-is,
-           ap (λ ws. get_or ws place 0) w.words-is ∙ get_or_past words place 0 w.if-place-words.false,
-           λ p apart. ap (λ ws. get_or ws p 0) w.words-is)
+      | then-place-words w ↦ (
+        ap length w.words-is ∙ length-set words place 0,
+        ap (λ ws. get_or ws place 0) w.words-is ∙ get_or-set_same words place 0 0 w.if-place-words.true,
+        λ p apart. ap (λ ws. get_or ws p 0) w.words-is ∙ get_or-set_other words place p 0 0 apart,
+      )
+      | else-place-words w ↦ (
+        ap length w.words-is,
+        ap (λ ws. get_or ws place 0) w.words-is ∙ get_or_past words place 0 w.if-place-words.false,
+        λ p apart. ap (λ ws. get_or ws p 0) w.words-is,
+      )
     ] in
     record {
       len = written.0 ∙ c.words.invariant.len;

@@ -1,4 +1,4 @@
-use Rattle.std.proofs.Common.{◌≡◌, ◌≢◌, ◌*◌, ℕ, Contains, length, get_or, drop, take, ◌++◌, ap, sym, subst, ◌∙◌, arith, rules}
+use Rattle.std.proofs.Common.{◌≡◌, ◌*◌, Contains, length, get_or, drop, take, ◌++◌, ap, sym, subst, ◌∙◌, arith, rules}
 use Rattle.std.proofs.lemmas.List.{get_or_default}
 use Rattle.vertex_sets.specs.Words.{bit_members}
 use Rattle.vertex_marks.proofs.Setting.{zero_below, all_zero, none_marked, written_back}
@@ -14,7 +14,7 @@ sums-preserved c =
       len = c.clear_named.ensures.len ∙ c.sums.invariant.len;
       stay = λ p some. c.sums.invariant.stay p (c.clear_named.ensures.stay p some);
       zero = zero_below c.sums.words c.clear_named.new.words summary place (λ p some. self.summed p (c.sums.invariant.stay p some)) c.clear_named.ensures.stay
-      (λ p is. c.clear_named.ensures.clear p (subst (λ n. Contains (bit_members 64 (64 * place) n) p) (sym sum) is)) c.sums.invariant.zero;
+          (λ p is. c.clear_named.ensures.clear p (subst (λ n. Contains (bit_members 64 (64 * place) n) p) (sym sum) is)) c.sums.invariant.zero;
     }
 
 pub invariant_of-self : goal.invariant_of-self

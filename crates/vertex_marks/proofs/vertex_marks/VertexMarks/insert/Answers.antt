@@ -1,4 +1,4 @@
-use Rattle.std.proofs.Common.{◌≡◌, ◌*◌, ◌/◌, ◌%◌, ◌^◌, ◌<◌, bit_or, length, length-set, get_or, ◌∙◌, sym, ap, arith, rules, subst}
+use Rattle.std.proofs.Common.{◌≡◌, ◌*◌, ◌/◌, ◌%◌, ◌^◌, ◌<◌, bit_or, length, length-set, get_or, ◌∙◌, arith}
 use Rattle.std.proofs.lemmas.List.{get_or_default}
 use Rattle.vertex_marks.proofs.Setting.{marked_more, summary_more}
 use Rattle.vertex_marks.proofs.vertex_marks.VertexMarks.insert.Goals as goal
