@@ -4,3 +4,4 @@ pub mod Inserted
 pub mod Differences
 pub mod Listed
 pub mod FoundPieces
+pub mod Crossing

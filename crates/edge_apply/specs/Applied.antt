@@ -22,7 +22,7 @@ AreChangesOn n edges m steps cs = (x : ℕ) (r : Reduction) → IsGivenBy r x st
     → changes_of x cs ≡ changed n (entry m.vectors x) (entry (after_edges steps m.sets m.vectors edges m.vectors) x)
 
 -- the changes are those of an apply to the edges between its ends, over the vectors and the sizes of the sets of a state
-abbrev pub AreChangesOf : Apply → Digraph → (vectors : List (List ℤ)) → (sizes : List ℤ) → List VectorChanges → Type 0
-AreChangesOf a g vectors sizes cs = (m : StateValue) (steps : List StepsTree) (from to : ℕ → Bool) → vectors ≡ m.vectors → HasSizes sizes m
+abbrev pub AreChangesOf : Apply → List VectorChanges → Type 0
+AreChangesOf a cs = (m : StateValue) (steps : List StepsTree) (from to : ℕ → Bool) → a.vectors.now.vectors ≡ m.vectors → HasSizes a.sizes.now m
     → AreKernels a.first.now a.second steps → IsEndTest a.from m from → IsEndTest a.to m to
-    → AreChangesOn g.vertices (edges_between from to g.edges) m steps cs
+    → AreChangesOn a.flat.now.vertices (edges_between from to a.flat.now.edges) m steps cs

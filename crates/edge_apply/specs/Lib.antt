@@ -1,5 +1,6 @@
 pub mod Lists
 pub mod Words
+pub mod Contexts
 pub mod Applied
 pub mod Pieces
 pub mod Propositions

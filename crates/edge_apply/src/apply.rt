@@ -1,11 +1,22 @@
 //! Edge applies: what an apply of edge functions is given.
-use apply_options::{DenseVertexSet, Direction, Parallelization};
-use kernels::{EdgeKernel, EndpointFilter};
+ghost use Rattle.std.specs.Prelude.{◌≡◌};
+ghost use Rattle.flat_snapshot.specs.Digraph.{IsDigraph};
+ghost use Rattle.edge_apply.specs.Contexts.{context_of};
 
-/// An apply of one or two edge functions to the edges between two ends, and the values that its schedule has for it.
-/// An end that is not given lets all vertices through.
+use apply_options::{DenseVertexSet, Direction, Parallelization};
+use edge_fold::{ApplyContext, FoldStart};
+use flat_snapshot::Flat;
+use kernels::{EdgeKernel, EndpointFilter};
+use vectors::Vectors;
+
+/// An apply of one or two edge functions to the edges of a graph between two ends, and the values that its schedule has for
+/// it. The functions read the vectors and the sizes of the vertex sets, by their places. An end that is not given lets all
+/// vertices through.
 #[derive(Clone, Copy)]
 pub struct Apply<'a> {
+    pub flat: &'a Flat,
+    pub vectors: &'a Vectors,
+    pub sizes: &'a [i64],
     pub from: Option<EndpointFilter<'a>>,
     pub to: Option<EndpointFilter<'a>>,
     pub first: &'a EdgeKernel,
@@ -13,4 +24,21 @@ pub struct Apply<'a> {
     pub direction: Direction,
     pub parallelization: Parallelization,
     pub dense_vertex_set: DenseVertexSet,
+}
+
+impl<'a> Apply<'a> {
+    /// The functions and what they read, and what new entries begin with.
+    pub fn context(&self, start: FoldStart) -> ApplyContext<'a>
+        ensures context { result ≡ context_of self.now start }
+        ensures graph { IsDigraph self.now.flat.now }
+    {
+        ApplyContext {
+            first: self.first,
+            second: self.second,
+            vectors: self.vectors,
+            sizes: self.sizes,
+            vertices: self.flat.vertices(),
+            start,
+        }
+    }
 }

@@ -13,8 +13,8 @@ use Rattle.edge_apply.specs.Pieces.{EachGathered}
 use Rattle.push_engine.specs.Pieces.{Answers, edges_of_piece}
 
 pub each_gathered : (w : PushWork) (fs : List (Found Gathered)) (m : StateValue) (steps : List StepsTree) (from to : ℕ → Bool) → AreAnswers (Answers w) fs
-    → w.vectors.now.vectors ≡ m.vectors → HasSizes w.sizes.now m → AreKernels w.apply.first.now w.apply.second steps → IsEndTest w.apply.from m from → IsEndTest w.apply.to m to
-    → EachGathered w.flat.now.vertices m steps (edges_of_piece w from to) fs
+    → w.apply.vectors.now.vectors ≡ m.vectors → HasSizes w.apply.sizes.now m → AreKernels w.apply.first.now w.apply.second steps → IsEndTest w.apply.from m from → IsEndTest w.apply.to m to
+    → EachGathered w.apply.flat.now.vertices m steps (edges_of_piece w from to) fs
 each_gathered w [] m steps from to answers vectors sizes kernels is_from is_to = tt
 each_gathered w (f ∷ fs) m steps from to answers vectors sizes kernels is_from is_to =
     (answers.0 m steps from to vectors sizes kernels is_from is_to, each_gathered w fs m steps from to answers.1 vectors sizes kernels is_from is_to)

@@ -16,10 +16,10 @@ use Rattle.push_engine.specs.Sources.{passing_in}
 
 -- the edges of an apply from the sources of a piece, where these tests are those of its ends
 abbrev pub edges_of_piece : PushWork → (from to : ℕ → Bool) → (piece : ℕ) → List (ℕ × ℕ)
-edges_of_piece w from to k = filter (λ e. to e.1) (rows w.flat.now.edges (passing_in w.tested from (piece_of w.cuts w.sources.items k)))
+edges_of_piece w from to k = filter (λ e. to e.1) (rows w.apply.flat.now.edges (passing_in w.tested from (piece_of w.cuts w.sources.items k)))
 
 -- a piece answers what its edges give
 abbrev pub Answers : PushWork → (piece : ℕ) → Gathered → Type 0
-Answers w k g = (m : StateValue) (steps : List StepsTree) (from to : ℕ → Bool) → w.vectors.now.vectors ≡ m.vectors → HasSizes w.sizes.now m
+Answers w k g = (m : StateValue) (steps : List StepsTree) (from to : ℕ → Bool) → w.apply.vectors.now.vectors ≡ m.vectors → HasSizes w.apply.sizes.now m
     → AreKernels w.apply.first.now w.apply.second steps → IsEndTest w.apply.from m from → IsEndTest w.apply.to m to
-    → AreGathered w.flat.now.vertices m steps (edges_of_piece w from to k) g
+    → AreGathered w.apply.flat.now.vertices m steps (edges_of_piece w from to k) g

@@ -7,8 +7,8 @@ ghost use Rattle.edge_fold.specs.Between.{edges_between};
 ghost use Rattle.edge_fold.specs.Changed.{AreApart};
 ghost use Rattle.edge_fold.specs.Ends.{IsEndTest, IsTest};
 ghost use Rattle.edge_fold.specs.declared.apply_context.FoldStart.TheVariants.{OldEntry};
+ghost use Rattle.edge_apply.specs.Contexts.{context_of};
 ghost use Rattle.edge_fold.specs.Folded.{IsContextOf, HasFolded};
-ghost use Rattle.flat_snapshot.specs.Digraph.{IsDigraph};
 ghost use Rattle.edge_apply.specs.Applied.{AreChangesOf, AreChangesOn};
 ghost use Rattle.edge_apply.specs.Words.{passes_words};
 ghost use Rattle.push_engine.specs.Work.{work_from};
@@ -26,8 +26,8 @@ use vertex_sets::{Form, VertexSet};
 /// What an apply of edge functions changes, where it goes from the sources to the destinations: for each vector that a
 /// function has given something one list of changes, by ascending vertices, and a vector without one does not change.
 /// It promises so for each vector that has an entry for each vertex and to which the functions give by one reduction.
-/// `sizes` are the sizes of the vertex sets by their places. The vectors stay as they are, and so does the graph. The
-/// scratch serves any apply after this one, whatever became of it.
+/// The vectors stay as they are, and so does the graph. The scratch serves any apply after this one,
+/// whatever became of it.
 ///
 /// Where more than one edge for each 8 vertices comes from the sources, or the set of the destinations is kept as bits,
 /// an edge is left out as it comes where its destination does not pass; a filter is then run for each vertex, once. Else
@@ -37,42 +37,31 @@ use vertex_sets::{Form, VertexSet};
 pub fn push(
     alloc: Global,
     apply: &Apply<'_>,
-    flat: &Flat,
-    vectors: &Vectors,
-    sizes: &[i64],
     scratch: &mut Scratch,
 ) -> Result<Changes, AllocError>
     ensures once { IfOk result (λ c. AreApart c.vectors.items) }
-    ensures changes { IfOk result (λ c. AreChangesOf apply.now flat.now vectors.now.vectors sizes.now c.vectors.items) }
+    ensures changes { IfOk result (λ c. AreChangesOf apply.now c.vectors.items) }
 {
-    let context = ApplyContext {
-        first: apply.first,
-        second: apply.second,
-        vectors,
-        sizes,
-        vertices: flat.vertices(),
-        start: FoldStart::OldEntry,
-    };
     let Some(end) = apply.to else {
-        return push_to(alloc, apply, flat, context, None, None, scratch);
+        return push_to(alloc, apply, None, None, scratch);
     };
-    if is_tested_first(flat, apply.from, end) {
-        return push_tested(alloc, apply, flat, context, end, scratch);
+    if is_tested_first(apply, end) {
+        return push_tested(alloc, apply, end, scratch);
     }
-    push_to(alloc, apply, flat, context, None, apply.to, scratch)
+    push_to(alloc, apply, None, apply.to, scratch)
 }
 
 /// Whether destinations are tested as they come, and not at the end.
-fn is_tested_first(flat: &Flat, from: Option<EndpointFilter<'_>>, to: EndpointFilter<'_>) -> bool {
+fn is_tested_first(apply: &Apply<'_>, to: EndpointFilter<'_>) -> bool {
     if let EndpointFilter::Members(set) = to {
         if set.words().is_some() {
             return true;
         }
     }
-    let limit = flat.vertices() as usize / 8;
-    match from {
-        Some(EndpointFilter::Members(set)) => is_work_above(flat, set, limit),
-        _ => flat.edge_count() > limit,
+    let limit = apply.flat.vertices() as usize / 8;
+    match apply.from {
+        Some(EndpointFilter::Members(set)) => is_work_above(apply.flat, set, limit),
+        _ => apply.flat.edge_count() > limit,
     }
 }
 
@@ -96,21 +85,18 @@ pub fn is_work_above(flat: &Flat, sources: &VertexSet, limit: usize) -> bool
 fn push_tested(
     alloc: Global,
     apply: &Apply<'_>,
-    flat: &Flat,
-    context: ApplyContext<'_>,
     to: EndpointFilter<'_>,
     scratch: &mut Scratch,
 ) -> Result<Changes, AllocError>
-    requires { IsDigraph flat.now }
     ensures once { IfOk result (λ c. AreApart c.vectors.items) }
-    ensures changes { IfOk result (λ c. (m : StateValue) (steps : List StepsTree) (from test : ℕ → Bool) → IsContextOf context.entry m steps → context.entry.vertices ≡ flat.now.vertices → context.entry.start ≡ OldEntry
-        → IsEndTest apply.now.from m from → IsTest to.entry m test → AreChangesOn flat.now.vertices (edges_between from test flat.now.edges) m steps c.vectors.items) }
+    ensures changes { IfOk result (λ c. (m : StateValue) (steps : List StepsTree) (from test : ℕ → Bool) → IsContextOf (context_of apply.now OldEntry) m steps → IsEndTest apply.now.from m from → IsTest to.entry m test → AreChangesOn apply.now.flat.now.vertices (edges_between from test apply.now.flat.now.edges) m steps c.vectors.items) }
 {
     match to {
-        EndpointFilter::Members(set) => push_to_members(alloc, apply, flat, context, set, scratch),
+        EndpointFilter::Members(set) => push_to_members(alloc, apply, set, scratch),
         EndpointFilter::Filter(_) => {
+            let context = apply.context(FoldStart::OldEntry);
             let passing = passing_set(alloc, context, to, scratch)?;
-            push_to_members(alloc, apply, flat, context, &passing, scratch)
+            push_to_members(alloc, apply, &passing, scratch)
         }
     }
 }
@@ -119,23 +105,20 @@ fn push_tested(
 fn push_to_members(
     alloc: Global,
     apply: &Apply<'_>,
-    flat: &Flat,
-    context: ApplyContext<'_>,
     set: &VertexSet,
     scratch: &mut Scratch,
 ) -> Result<Changes, AllocError>
     ensures once { IfOk result (λ c. AreApart c.vectors.items) }
-    ensures changes { IfOk result (λ c. (m : StateValue) (steps : List StepsTree) (from to : ℕ → Bool) → IsContextOf context.entry m steps → context.entry.vertices ≡ flat.now.vertices → context.entry.start ≡ OldEntry
-        → IsEndTest apply.now.from m from → ((v : ℕ) → to v ≡ is_member v set.now.members) → AreChangesOn flat.now.vertices (edges_between from to flat.now.edges) m steps c.vectors.items) }
+    ensures changes { IfOk result (λ c. (m : StateValue) (steps : List StepsTree) (from to : ℕ → Bool) → IsContextOf (context_of apply.now OldEntry) m steps → IsEndTest apply.now.from m from → ((v : ℕ) → to v ≡ is_member v set.now.members) → AreChangesOn apply.now.flat.now.vertices (edges_between from to apply.now.flat.now.edges) m steps c.vectors.items) }
 {
     if let Some(words) = set.words() {
-        return push_to(alloc, apply, flat, context, Some(words), None, scratch);
+        return push_to(alloc, apply, Some(words), None, scratch);
     }
     let bits = set.to_form(alloc, Form::Bits)?;
     let Some(words) = bits.words() else {
         unreachable!();
     };
-    push_to(alloc, apply, flat, context, Some(words), None, scratch)
+    push_to(alloc, apply, Some(words), None, scratch)
 }
 
 /// What an apply changes at the destinations whose bits are set and that an end lets through; words or an end that are
@@ -143,19 +126,17 @@ fn push_to_members(
 fn push_to(
     alloc: Global,
     apply: &Apply<'_>,
-    flat: &Flat,
-    context: ApplyContext<'_>,
     words: Option<&[u64]>,
     to: Option<EndpointFilter<'_>>,
     scratch: &mut Scratch,
 ) -> Result<Changes, AllocError>
     ensures once { IfOk result (λ c. AreApart c.vectors.items) }
-    ensures changes { IfOk result (λ c. (m : StateValue) (steps : List StepsTree) (from test : ℕ → Bool) → IsContextOf context.entry m steps → context.entry.vertices ≡ flat.now.vertices → context.entry.start ≡ OldEntry
-        → IsEndTest apply.now.from m from → IsEndTest to.entry m test
-        → AreChangesOn flat.now.vertices (edges_between from (λ v. passes_words words.entry v && test v) flat.now.edges) m steps c.vectors.items) }
+    ensures changes { IfOk result (λ c. (m : StateValue) (steps : List StepsTree) (from test : ℕ → Bool) → IsContextOf (context_of apply.now OldEntry) m steps → IsEndTest apply.now.from m from → IsEndTest to.entry m test
+        → AreChangesOn apply.now.flat.now.vertices (edges_between from (λ v. passes_words words.entry v && test v) apply.now.flat.now.edges) m steps c.vectors.items) }
 {
+    let context = apply.context(FoldStart::OldEntry);
     scratch.begin();
-    fold_from(alloc, apply, flat, context, words, scratch)?;
+    fold_from(alloc, apply, context, words, scratch)?;
     let changes = scratch.changes(alloc, context, to)?;
     Ok(changes)
 }
@@ -165,31 +146,21 @@ fn push_to(
 fn fold_from(
     alloc: Global,
     apply: &Apply<'_>,
-    flat: &Flat,
     context: ApplyContext<'_>,
     to: Option<&[u64]>,
     scratch: &mut Scratch,
 ) -> Result<(), AllocError>
     ensures { OnOk result ((m : StateValue) (steps : List StepsTree) (from : ℕ → Bool) → IsContextOf context.entry m steps → IsEndTest apply.now.from m from
-        → HasFolded context.entry m steps [] scratch.old → HasFolded context.entry m steps (edges_between from (passes_words to.entry) flat.now.edges) scratch.new) }
+        → HasFolded context.entry m steps [] scratch.old → HasFolded context.entry m steps (edges_between from (passes_words to.entry) apply.now.flat.now.edges) scratch.new) }
 {
     let mut block = [0u32; 128];
     match apply.from {
         None => {
-            fold_all(alloc, flat, context, to, &mut block, scratch)?;
+            fold_all(alloc, apply.flat, context, to, &mut block, scratch)?;
             Ok(())
         }
         Some(end) => {
-            fold_from_end(
-                alloc,
-                apply.direction,
-                end,
-                flat,
-                context,
-                to,
-                &mut block,
-                scratch,
-            )?;
+            fold_from_end(alloc, apply, end, context, to, &mut block, scratch)?;
             Ok(())
         }
     }
@@ -198,9 +169,8 @@ fn fold_from(
 /// The same where only some sources pass.
 fn fold_from_end(
     alloc: Global,
-    direction: Direction,
+    apply: &Apply<'_>,
     from: EndpointFilter<'_>,
-    flat: &Flat,
     context: ApplyContext<'_>,
     to: Option<&[u64]>,
     block: &mut [u32],
@@ -208,14 +178,14 @@ fn fold_from_end(
 ) -> Result<(), AllocError>
     requires { length block.old ≡ 128 }
     ensures { OnOk result ((m : StateValue) (steps : List StepsTree) (test : ℕ → Bool) → IsContextOf context.entry m steps → IsTest from.entry m test
-        → HasFolded context.entry m steps [] scratch.old → HasFolded context.entry m steps (edges_between test (passes_words to.entry) flat.now.edges) scratch.new) }
+        → HasFolded context.entry m steps [] scratch.old → HasFolded context.entry m steps (edges_between test (passes_words to.entry) apply.now.flat.now.edges) scratch.new) }
 {
     if let EndpointFilter::Members(set) = from {
-        if direction != Direction::DensePush {
-            fold_members(alloc, flat, context, set, to, block, scratch)?;
+        if apply.direction != Direction::DensePush {
+            fold_members(alloc, apply.flat, context, set, to, block, scratch)?;
             return Ok(());
         }
     }
-    fold_passing(alloc, flat, context, from, to, block, scratch)?;
+    fold_passing(alloc, apply.flat, context, from, to, block, scratch)?;
     Ok(())
 }

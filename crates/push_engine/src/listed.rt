@@ -17,7 +17,7 @@ ghost use Rattle.push_engine.specs.Sources.{AreSources, cut_list};
 use apply_options::{Direction, Parallelization};
 use crew::Partition;
 use edge_apply::{Apply, all_vertices};
-use edge_fold::{ApplyContext, Scratch};
+use edge_fold::{FoldStart, Scratch};
 use flat_snapshot::Flat;
 use kernels::EndpointFilter;
 use std::alloc::{AllocError, Global};
@@ -35,25 +35,23 @@ pub(crate) struct Listed {
 pub(crate) fn list_sources(
     alloc: Global,
     apply: &Apply<'_>,
-    flat: &Flat,
-    context: ApplyContext<'_>,
     scratch: &mut Scratch,
 ) -> Result<Listed, AllocError>
-    ensures sources { IfOk result (λ l. (m : StateValue) (from : ℕ → Bool) → context.entry.vectors.now.vectors ≡ m.vectors → HasSizes context.entry.sizes.now m → IsEndTest apply.now.from m from
-        → AreSources flat.now.edges from l.tested l.sources.items) }
-    ensures list { IfOk result (λ l. (m : StateValue) (from : ℕ → Bool) → context.entry.vectors.now.vectors ≡ m.vectors → HasSizes context.entry.sizes.now m → IsEndTest apply.now.from m from
-        → IsEndOf flat.now.vertices apply.now.from → l.sources.items ≡ cut_list apply.now.direction flat.now.vertices from) }
+    ensures sources { IfOk result (λ l. (m : StateValue) (from : ℕ → Bool) → apply.now.vectors.now.vectors ≡ m.vectors → HasSizes apply.now.sizes.now m → IsEndTest apply.now.from m from
+        → AreSources apply.now.flat.now.edges from l.tested l.sources.items) }
+    ensures list { IfOk result (λ l. (m : StateValue) (from : ℕ → Bool) → apply.now.vectors.now.vectors ≡ m.vectors → HasSizes apply.now.sizes.now m → IsEndTest apply.now.from m from
+        → IsEndOf apply.now.flat.now.vertices apply.now.from → l.sources.items ≡ cut_list apply.now.direction apply.now.flat.now.vertices from) }
 {
     match apply.from {
         None => {
-            let sources = all_vertices(alloc, flat)?;
+            let sources = all_vertices(alloc, apply.flat)?;
             Ok(Listed {
                 sources,
                 tested: false,
             })
         }
         Some(end) => {
-            let listed = list_from(alloc, apply.direction, end, flat, context, scratch)?;
+            let listed = list_from(alloc, apply, end, scratch)?;
             Ok(listed)
         }
     }
@@ -62,25 +60,23 @@ pub(crate) fn list_sources(
 /// The same where only some pass.
 fn list_from(
     alloc: Global,
-    direction: Direction,
+    apply: &Apply<'_>,
     from: EndpointFilter<'_>,
-    flat: &Flat,
-    context: ApplyContext<'_>,
     scratch: &mut Scratch,
 ) -> Result<Listed, AllocError>
-    ensures sources { IfOk result (λ l. (m : StateValue) (test : ℕ → Bool) → context.entry.vectors.now.vectors ≡ m.vectors → HasSizes context.entry.sizes.now m → IsTest from.entry m test
-        → AreSources flat.now.edges test l.tested l.sources.items) }
-    ensures list { IfOk result (λ l. (m : StateValue) (test : ℕ → Bool) → context.entry.vectors.now.vectors ≡ m.vectors → HasSizes context.entry.sizes.now m → IsTest from.entry m test
-        → IsEndOf flat.now.vertices (Some from.entry) → l.sources.items ≡ cut_list direction flat.now.vertices test) }
+    ensures sources { IfOk result (λ l. (m : StateValue) (test : ℕ → Bool) → apply.now.vectors.now.vectors ≡ m.vectors → HasSizes apply.now.sizes.now m → IsTest from.entry m test
+        → AreSources apply.now.flat.now.edges test l.tested l.sources.items) }
+    ensures list { IfOk result (λ l. (m : StateValue) (test : ℕ → Bool) → apply.now.vectors.now.vectors ≡ m.vectors → HasSizes apply.now.sizes.now m → IsTest from.entry m test
+        → IsEndOf apply.now.flat.now.vertices (Some from.entry) → l.sources.items ≡ cut_list apply.now.direction apply.now.flat.now.vertices test) }
 {
-    if direction == Direction::DensePush {
-        let sources = all_vertices(alloc, flat)?;
+    if apply.direction == Direction::DensePush {
+        let sources = all_vertices(alloc, apply.flat)?;
         return Ok(Listed {
             sources,
             tested: true,
         });
     }
-    let sources = passing_sources(alloc, from, flat, context, scratch)?;
+    let sources = passing_sources(alloc, apply, from, scratch)?;
     Ok(Listed {
         sources,
         tested: false,
@@ -90,15 +86,14 @@ fn list_from(
 /// The vertices that an end lets through.
 fn passing_sources(
     alloc: Global,
+    apply: &Apply<'_>,
     from: EndpointFilter<'_>,
-    flat: &Flat,
-    context: ApplyContext<'_>,
     scratch: &mut Scratch,
 ) -> Result<Vec<u32>, AllocError>
-    ensures sources { IfOk result (λ us. (m : StateValue) (test : ℕ → Bool) → context.entry.vectors.now.vectors ≡ m.vectors → HasSizes context.entry.sizes.now m → IsTest from.entry m test
-        → AreSources flat.now.edges test false us.items) }
-    ensures list { IfOk result (λ us. (m : StateValue) (test : ℕ → Bool) → context.entry.vectors.now.vectors ≡ m.vectors → HasSizes context.entry.sizes.now m → IsTest from.entry m test
-        → IsEndOf flat.now.vertices (Some from.entry) → us.items ≡ filter test (range_with_len 0 flat.now.vertices)) }
+    ensures sources { IfOk result (λ us. (m : StateValue) (test : ℕ → Bool) → apply.now.vectors.now.vectors ≡ m.vectors → HasSizes apply.now.sizes.now m → IsTest from.entry m test
+        → AreSources apply.now.flat.now.edges test false us.items) }
+    ensures list { IfOk result (λ us. (m : StateValue) (test : ℕ → Bool) → apply.now.vectors.now.vectors ≡ m.vectors → HasSizes apply.now.sizes.now m → IsTest from.entry m test
+        → IsEndOf apply.now.flat.now.vertices (Some from.entry) → us.items ≡ filter test (range_with_len 0 apply.now.flat.now.vertices)) }
 {
     match from {
         EndpointFilter::Members(set) => {
@@ -106,8 +101,9 @@ fn passing_sources(
             Ok(members)
         }
         EndpointFilter::Filter(_) => {
-            let all = all_vertices(alloc, flat)?;
+            let all = all_vertices(alloc, apply.flat)?;
             let mut kept = Vec::new(alloc);
+            let context = apply.context(FoldStart::Unit);
             scratch.keep_passing(context, from, &all, &mut kept)?;
             Ok(kept)
         }
@@ -130,13 +126,12 @@ fn members_of(alloc: Global, set: &VertexSet) -> Result<Vec<u32>, AllocError>
 /// Where a schedule cuts sources for so many workers. The only error is out of memory.
 pub(crate) fn cut_sources(
     alloc: Global,
-    parallelization: Parallelization,
+    apply: &Apply<'_>,
     workers: usize,
-    flat: &Flat,
     sources: &[u32],
 ) -> Result<Partition, AllocError>
     requires { AreWorkers workers }
-    ensures ends { IfOk result (λ c. c ≡ boundaries parallelization workers (length sources.now) (map (λ u. length (destinations_of u flat.now.edges)) sources.now)) }
+    ensures ends { IfOk result (λ c. c ≡ boundaries apply.now.parallelization workers (length sources.now) (map (λ u. length (destinations_of u apply.now.flat.now.edges)) sources.now)) }
     ensures whole { IfOk result (λ c. AreEnds 0 (length sources.now) c) }
 {
     let count = sources.len();
@@ -144,21 +139,20 @@ pub(crate) fn cut_sources(
     if count > u32::MAX as usize {
         return Err(AllocError);
     }
-    let degrees = degrees_for(alloc, parallelization, flat, sources)?;
-    Partition::of(alloc, parallelization, workers, count, &degrees)
+    let degrees = degrees_for(alloc, apply, sources)?;
+    Partition::of(alloc, apply.parallelization, workers, count, &degrees)
 }
 
 /// How many edges there are from each source, where a schedule asks for it, and else none.
 fn degrees_for(
     alloc: Global,
-    parallelization: Parallelization,
-    flat: &Flat,
+    apply: &Apply<'_>,
     sources: &[u32],
 ) -> Result<Vec<u32>, AllocError>
-    ensures { IfOk result (λ ds. parallelization ≡ EdgeAwareDynamicVertex → ds.items ≡ map (λ u. length (destinations_of u flat.now.edges)) sources.now) }
+    ensures { IfOk result (λ ds. apply.now.parallelization ≡ EdgeAwareDynamicVertex → ds.items ≡ map (λ u. length (destinations_of u apply.now.flat.now.edges)) sources.now) }
 {
-    if parallelization == Parallelization::EdgeAwareDynamicVertex {
-        let degrees = degrees_of(alloc, flat, sources)?;
+    if apply.parallelization == Parallelization::EdgeAwareDynamicVertex {
+        let degrees = degrees_of(alloc, apply.flat, sources)?;
         return Ok(degrees);
     }
     Ok(Vec::new(alloc))

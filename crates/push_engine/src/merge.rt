@@ -17,10 +17,8 @@ ghost use Rattle.push_engine.specs.Sources.{passing_in};
 use crate::sources::fold_rows;
 use crate::work::PushWork;
 use crew::{Found, Work};
-use edge_apply::{join_all, part_between};
+use edge_apply::{Apply, join_all, part_between};
 use edge_fold::{ApplyContext, FoldStart, Gathered, Scratch};
-use flat_snapshot::Flat;
-use kernels::EndpointFilter;
 use std::alloc::{AllocError, Global};
 use vectors::Changes;
 
@@ -45,16 +43,9 @@ impl PushWork<'_> {
     ) -> Result<Changes, AllocError>
         ensures once { IfOk result (λ c. AreApart c.vectors.items) }
         ensures changes { IfOk result (λ c. AreAnswers (Answers self.now) found.now → IsPermutation (pieces_of found.now) (range_with_len 1 (length self.now.cuts))
-            → AreChangesOf self.now.apply self.now.flat.now self.now.vectors.now.vectors self.now.sizes.now c.vectors.items) }
+            → AreChangesOf self.now.apply c.vectors.items) }
     {
-        let context = ApplyContext {
-            first: self.apply.first,
-            second: self.apply.second,
-            vectors: self.vectors,
-            sizes: self.sizes,
-            vertices: self.flat.vertices(),
-            start: FoldStart::OldEntry,
-        };
+        let context = self.apply.context(FoldStart::OldEntry);
         scratch.begin();
         join_all(alloc, context, found, scratch)?;
         let changes = scratch.changes(alloc, context, None)?;
@@ -70,14 +61,14 @@ impl PushWork<'_> {
         scratch: &mut Scratch,
     ) -> Result<(), AllocError>
         ensures { OnOk result ((m : StateValue) (steps : List StepsTree) (from : ℕ → Bool) → IsContextOf context.entry m steps → IsEndTest self.now.apply.from m from
-            → HasFolded context.entry m steps [] scratch.old → HasFolded context.entry m steps (rows self.now.flat.now.edges (passing_in self.now.tested from part.now)) scratch.new) }
+            → HasFolded context.entry m steps [] scratch.old → HasFolded context.entry m steps (rows self.now.apply.flat.now.edges (passing_in self.now.tested from part.now)) scratch.new) }
     {
         if self.tested {
-            fold_passing_part(alloc, self.apply.from, self.flat, context, part, scratch)?;
+            fold_passing_part(alloc, &self.apply, context, part, scratch)?;
             return Ok(());
         }
         let mut block = [0u32; 128];
-        fold_rows(alloc, self.flat, context, part, None, &mut block, scratch)?;
+        fold_rows(alloc, self.apply.flat, context, part, None, &mut block, scratch)?;
         Ok(())
     }
 }
@@ -103,14 +94,7 @@ impl<'a> Work for PushWork<'a> {
         state: &mut Scratch,
         piece: usize,
     ) -> Result<Gathered, AllocError> {
-        let context = ApplyContext {
-            first: self.apply.first,
-            second: self.apply.second,
-            vectors: self.vectors,
-            sizes: self.sizes,
-            vertices: self.flat.vertices(),
-            start: FoldStart::Unit,
-        };
+        let context = self.apply.context(FoldStart::Unit);
         let places = self.cuts.piece(piece);
         let part = part_between(&self.sources, places.start, places.end);
         state.begin();
@@ -123,25 +107,24 @@ impl<'a> Work for PushWork<'a> {
 /// Folds the edges from those of some sources that an end lets through.
 fn fold_passing_part(
     alloc: Global,
-    from: Option<EndpointFilter<'_>>,
-    flat: &Flat,
+    apply: &Apply<'_>,
     context: ApplyContext<'_>,
     part: &[u32],
     scratch: &mut Scratch,
 ) -> Result<(), AllocError>
-    ensures { OnOk result ((m : StateValue) (steps : List StepsTree) (test : ℕ → Bool) → IsContextOf context.entry m steps → IsEndTest from.entry m test
-        → HasFolded context.entry m steps [] scratch.old → HasFolded context.entry m steps (rows flat.now.edges (filter test part.now)) scratch.new) }
+    ensures { OnOk result ((m : StateValue) (steps : List StepsTree) (test : ℕ → Bool) → IsContextOf context.entry m steps → IsEndTest apply.now.from m test
+        → HasFolded context.entry m steps [] scratch.old → HasFolded context.entry m steps (rows apply.now.flat.now.edges (filter test part.now)) scratch.new) }
 {
     let mut block = [0u32; 128];
-    match from {
+    match apply.from {
         None => {
-            fold_rows(alloc, flat, context, part, None, &mut block, scratch)?;
+            fold_rows(alloc, apply.flat, context, part, None, &mut block, scratch)?;
             Ok(())
         }
         Some(end) => {
             let mut kept = Vec::new(alloc);
             scratch.keep_passing(context, end, part, &mut kept)?;
-            fold_rows(alloc, flat, context, &kept, None, &mut block, scratch)?;
+            fold_rows(alloc, apply.flat, context, &kept, None, &mut block, scratch)?;
             Ok(())
         }
     }

@@ -16,33 +16,25 @@ ghost use Rattle.push_engine.specs.Sources.{AreSources, cut_list};
 use crate::listed::{cut_sources, list_sources};
 use crew::{CrewError, Partition, is_crew};
 use edge_apply::Apply;
-use edge_fold::{ApplyContext, FoldStart, Scratch};
-use flat_snapshot::Flat;
+use edge_fold::Scratch;
 use std::alloc::Global;
-use vectors::Vectors;
 
 /// An apply in pieces, which workers may do side by side: the sources are cut as its schedule says, and a piece answers
 /// what the edges from its sources give. [`PushWork::merge`] makes the changes of the whole apply of it.
 pub struct PushWork<'a> {
     pub(crate) apply: Apply<'a>,
-    pub(crate) flat: &'a Flat,
-    pub(crate) vectors: &'a Vectors,
-    pub(crate) sizes: &'a [i64],
     pub(crate) sources: Vec<u32>,
     pub(crate) tested: bool,
     pub(crate) cuts: Partition,
     ghost whole: { AreEnds 0 (length sources.items) cuts } by { AreEnds-prop 0 (length sources.items) cuts },
-    ghost passing: { (m : StateValue) (from : ℕ → Bool) → vectors.now.vectors ≡ m.vectors → HasSizes sizes.now m → IsEndTest apply.from m from
-        → AreSources flat.now.edges from tested sources.items } by { Prim.hlevel (AscendsFrom-prop, props) },
+    ghost passing: { (m : StateValue) (from : ℕ → Bool) → apply.vectors.now.vectors ≡ m.vectors → HasSizes apply.sizes.now m → IsEndTest apply.from m from
+        → AreSources apply.flat.now.edges from tested sources.items } by { Prim.hlevel (AscendsFrom-prop, props) },
 }
 
 impl Drop for PushWork<'_> {
     fn drop(self) {
         let PushWork {
             apply: _,
-            flat: _,
-            vectors: _,
-            sizes: _,
             sources: _,
             tested: _,
             cuts: _,
@@ -53,16 +45,13 @@ impl Drop for PushWork<'_> {
 impl<'a> PushWork<'a> {
     /// The pieces of an apply for so many workers, 1 to 64. What is cut is the list of the vertices that its end lets
     /// through, and by the direction `DensePush` that of all vertices. Where the schedule cuts by edges, their degrees are
-    /// read. It takes time in proportion to the list, and where a filter is to be run, to the vertices. `sizes` are the
-    /// sizes of the vertex sets by their places. The scratch serves any apply after this one.
+    /// read. It takes time in proportion to the list, and where a filter is to be run, to the vertices. The scratch serves
+    /// any apply after this one.
     ///
     /// Errors: `BadWorkers` where the number of workers is not 1 to 64, else `NoMemory`.
     pub fn new(
         alloc: Global,
         apply: &Apply<'a>,
-        flat: &'a Flat,
-        vectors: &'a Vectors,
-        sizes: &'a [i64],
         workers: usize,
         scratch: &mut Scratch,
     ) -> Result<PushWork<'a>, CrewError>
@@ -70,31 +59,17 @@ impl<'a> PushWork<'a> {
         ensures refused { result ≡ Err BadWorkers → ¬ AreWorkers workers }
         ensures memory { result ≡ Err NoMemory → AreWorkers workers }
         ensures apply { IfOk result (λ w. w.apply ≡ apply.now) }
-        ensures flat { IfOk result (λ w. w.flat.now ≡ flat.now) }
-        ensures vectors { IfOk result (λ w. w.vectors.now ≡ vectors.now) }
-        ensures sizes { IfOk result (λ w. w.sizes.now ≡ sizes.now) }
-        ensures list { IfOk result (λ w. (m : StateValue) (from : ℕ → Bool) → vectors.now.vectors ≡ m.vectors → HasSizes sizes.now m → IsEndTest apply.now.from m from
-            → IsEndOf flat.now.vertices apply.now.from → w.sources.items ≡ cut_list apply.now.direction flat.now.vertices from) }
-        ensures cuts { IfOk result (λ w. w.cuts ≡ boundaries apply.now.parallelization workers (vec_len w.sources) (map (λ u. length (destinations_of u flat.now.edges)) w.sources.items)) }
+        ensures list { IfOk result (λ w. (m : StateValue) (from : ℕ → Bool) → apply.now.vectors.now.vectors ≡ m.vectors → HasSizes apply.now.sizes.now m → IsEndTest apply.now.from m from
+            → IsEndOf apply.now.flat.now.vertices apply.now.from → w.sources.items ≡ cut_list apply.now.direction apply.now.flat.now.vertices from) }
+        ensures cuts { IfOk result (λ w. w.cuts ≡ boundaries apply.now.parallelization workers (vec_len w.sources) (map (λ u. length (destinations_of u apply.now.flat.now.edges)) w.sources.items)) }
     {
         if !is_crew(workers) {
             return Err(CrewError::BadWorkers);
         }
-        let context = ApplyContext {
-            first: apply.first,
-            second: apply.second,
-            vectors,
-            sizes,
-            vertices: flat.vertices(),
-            start: FoldStart::Unit,
-        };
-        let listed = list_sources(alloc, apply, flat, context, scratch)?;
-        let cuts = cut_sources(alloc, apply.parallelization, workers, flat, &listed.sources)?;
+        let listed = list_sources(alloc, apply, scratch)?;
+        let cuts = cut_sources(alloc, apply, workers, &listed.sources)?;
         Ok(PushWork {
             apply: *apply,
-            flat,
-            vectors,
-            sizes,
             sources: listed.sources,
             tested: listed.tested,
             cuts,

@@ -1,5 +1,5 @@
 -- What engines change, in the words of the meaning.
-use Rattle.std.proofs.Common.{◌≡◌, ℕ, ◌<◌, List, Result, Ok, Err, IfOk, length, ap, ◌∙◌, subst₂, true}
+use Rattle.std.proofs.Common.{◌≡◌, ℕ, ◌<◌, List, Result, Ok, Err, IfOk, length, ap, sym, ◌∙◌, subst, subst₂, true}
 use Rattle.typed_tree.specs.declared.statement.ApplyEnds.{ApplyEnds}
 use Rattle.typed_tree.specs.ProgramTree.{ProgramTree}
 use Rattle.algorithm_meaning.specs.EdgeApply.{after_edge_apply, after_edges, matching, passes}
@@ -9,6 +9,7 @@ use Rattle.flat_snapshot.specs.Digraph.{Digraph, IsDigraph}
 use Rattle.flat_snapshot.specs.Edge.{has_edge, IsWithin}
 use Rattle.edge_fold.specs.Between.{edges_between}
 use Rattle.edge_fold.specs.Changed.{AreApart, changed, changes_of}
+use Rattle.kernels.specs.Cells.{HasSizes}
 use Rattle.edge_apply.specs.Applied.{AreChangesOf, AreChangesOn}
 use Rattle.edge_apply.specs.declared.apply.Apply.{Apply}
 use Rattle.vectors.specs.declared.changes.VectorChanges.{VectorChanges}
@@ -56,12 +57,14 @@ changes_are_meant d p m g ends places cs graph count edges long one apart are =
 
 -- what an engine says of an apply is what a plan's edge apply asks
 pub apply_is_meant : (run : RunView) (asked : EdgeMap) (apply : Apply) (cs : List VectorChanges) → IsDigraph run.graph.now → IsApplyOf run asked apply
-    → AreApart cs → AreChangesOf apply run.graph.now run.vectors.now.vectors run.sizes.now cs → AreChangesOfApply run asked cs
+    → AreApart cs → AreChangesOf apply cs → AreChangesOfApply run asked cs
 apply_is_meant run asked apply cs graph is once changes p m g view long one =
     let places = places_of asked.first asked.second in
-    let parts = is p m view.functions view.sets in
-    changes_are_meant run.graph.now p m g asked.ends places cs graph view.vertices view.edges long one once
-    (changes m (steps_at p.edge_functions places) (passes p.filters m asked.ends.from) (passes p.filters m asked.ends.to) view.vectors view.sizes parts.0 parts.1 parts.2)
+    let parts = is.parts p m view.functions view.sets in
+    changes_are_meant apply.flat.now p m g asked.ends places cs (subst IsDigraph (sym is.graph) graph)
+    (ap (λ (d : Digraph). d.vertices) is.graph ∙ view.vertices) (ap (λ (d : Digraph). d.edges) is.graph ∙ view.edges) long one once
+    (changes m (steps_at p.edge_functions places) (passes p.filters m asked.ends.from) (passes p.filters m asked.ends.to)
+    (ap (λ vs. vs.vectors) is.vectors ∙ view.vectors) (subst (λ ns. HasSizes ns m) (sym is.sizes) view.sizes) parts.0 parts.1 parts.2)
 
 -- what follows from two facts of a result
 pub from_both : {A E : Type 0} (P Q R : A → Type 0) (r : Result A E) → ((a : A) → P a → Q a → R a) → IfOk r P → IfOk r Q → IfOk r R

@@ -30,7 +30,14 @@ AreChangesOfApply run asked cs = (p : ProgramTree) (m : StateValue) (g : GraphVa
     → AreChangesTo g.vertices m.vectors (after_edge_apply p.filters p.edge_functions g asked.ends (places_of asked.first asked.second) m) cs
 
 -- an apply of the engines has the functions and the ends of an edge apply, whatever program and state the run shows
-abbrev pub IsApplyOf : RunView → EdgeMap → Apply → Type 0
-IsApplyOf run asked apply = (p : ProgramTree) (m : StateValue) → AreFunctionKernels run.functions.now p → HasSets run m
+abbrev pub HasFunctionsAndEnds : RunView → EdgeMap → Apply → Type 0
+HasFunctionsAndEnds run asked apply = (p : ProgramTree) (m : StateValue) → AreFunctionKernels run.functions.now p → HasSets run m
     → AreKernels apply.first.now apply.second (steps_at p.edge_functions (places_of asked.first asked.second))
     × IsEndTest apply.from m (passes p.filters m asked.ends.from) × IsEndTest apply.to m (passes p.filters m asked.ends.to)
+
+-- an apply of the engines is an edge apply of a run
+pub record IsApplyOf (run : RunView) (asked : EdgeMap) (apply : Apply) : Type 0 where
+  pub graph : apply.flat.now ≡ run.graph.now
+  pub vectors : apply.vectors.now ≡ run.vectors.now
+  pub sizes : apply.sizes.now ≡ run.sizes.now
+  pub parts : HasFunctionsAndEnds run asked apply

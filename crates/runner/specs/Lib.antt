@@ -5,3 +5,4 @@ pub mod Done
 pub mod Results
 pub mod Job
 pub mod RunRefusal
+pub mod HybridSources

@@ -1,27 +1,28 @@
 //! The direction of an edge apply: from the sources, or into the destinations.
-ghost use Rattle.std.specs.Prelude.{◌≡◌, ◌/◌, length, nat_lt, if◌then◌else◌, IfOk};
+ghost use Rattle.std.specs.Prelude.{◌≡◌, ◌/◌, List, length, if◌then◌else◌, nat_lt, IfOk};
 ghost use Rattle.apply_options.specs.declared.apply_schedule.Direction.TheVariants as direction;
 ghost use Rattle.edge_fold.specs.Changed.{AreApart};
+ghost use Rattle.vectors.specs.declared.changes.VectorChanges.{VectorChanges};
 ghost use Rattle.edge_apply.specs.Applied.{AreChangesOf};
 ghost use Rattle.push_engine.specs.Work.{work_from};
+ghost use Rattle.runner.specs.HybridSources.{AreSourcesOf};
 
 use apply_options::Direction;
 use edge_apply::{Apply, passing_set};
-use edge_fold::{ApplyContext, FoldStart, Scratch};
+use edge_fold::{FoldStart, Scratch};
 use flat_snapshot::Flat;
 use kernels::EndpointFilter;
 use pull_engine::pull;
 use push_engine::{is_work_above, push};
 use std::alloc::{AllocError, Global};
-use vectors::{Changes, Vectors};
+use vectors::Changes;
 use vertex_sets::VertexSet;
 
 /// What an apply of edge functions changes, by push or by pull, as the direction says that its schedule has for it: for
 /// each vector that a function has given something one list of changes, by ascending vertices, and a vector without one
 /// does not change. It promises so for each vector that has an entry for each vertex and to which the functions give by
-/// one reduction; no change in such a vector depends on the direction. `sizes` are the sizes of the vertex sets by their
-/// places. The vectors stay as they are, and so does the graph. The scratch serves any apply after this one, whatever
-/// became of it.
+/// one reduction; no change in such a vector depends on the direction. The vectors stay as they are, and so does the graph.
+/// The scratch serves any apply after this one, whatever became of it.
 ///
 /// The hybrid goes by [`pick_direction`], and pulls where all sources pass. A filter of sources is then run for each
 /// vertex, once.
@@ -30,77 +31,70 @@ use vertex_sets::VertexSet;
 pub fn push_or_pull(
     alloc: Global,
     apply: &Apply<'_>,
-    flat: &Flat,
-    vectors: &Vectors,
-    sizes: &[i64],
     scratch: &mut Scratch,
 ) -> Result<Changes, AllocError>
     ensures once { IfOk result (λ c. AreApart c.vectors.items) }
-    ensures changes { IfOk result (λ c. AreChangesOf apply.now flat.now vectors.now.vectors sizes.now c.vectors.items) }
+    ensures changes { IfOk result (λ c. AreChangesOf apply.now c.vectors.items) }
 {
-    match apply.direction {
-        Direction::SparsePush | Direction::DensePush => {
-            push(alloc, apply, flat, vectors, sizes, scratch)
-        }
-        Direction::DensePull => pull(alloc, apply, flat, vectors, sizes, scratch),
-        Direction::Hybrid => hybrid(alloc, apply, flat, vectors, sizes, scratch),
+    let sources = hybrid_sources(alloc, apply, scratch)?;
+    let apply = from_sources(apply, &sources);
+    if is_pulled(&apply) {
+        pull(alloc, &apply, scratch)
+    } else {
+        push(alloc, &apply, scratch)
     }
 }
 
-/// The same by the direction that is worth less.
-fn hybrid(
+/// The sources of a hybrid that a filter lets through, in a set, and none for other applies. Each vertex is tested once.
+/// The only error is out of memory.
+pub(crate) fn hybrid_sources(
     alloc: Global,
     apply: &Apply<'_>,
-    flat: &Flat,
-    vectors: &Vectors,
-    sizes: &[i64],
     scratch: &mut Scratch,
-) -> Result<Changes, AllocError>
-    ensures once { IfOk result (λ c. AreApart c.vectors.items) }
-    ensures changes { IfOk result (λ c. AreChangesOf apply.now flat.now vectors.now.vectors sizes.now c.vectors.items) }
+) -> Result<Option<VertexSet>, AllocError>
+    ensures { IfOk result (AreSourcesOf apply.now) }
 {
+    if apply.direction != Direction::Hybrid {
+        return Ok(None);
+    }
     let Some(end) = apply.from else {
-        return pull(alloc, apply, flat, vectors, sizes, scratch);
+        return Ok(None);
     };
     match end {
-        EndpointFilter::Members(set) => hybrid_from(
-            alloc, apply, flat, vectors, sizes, set, scratch,
-        ),
+        EndpointFilter::Members(_) => Ok(None),
         EndpointFilter::Filter(_) => {
-            let context = ApplyContext {
-                first: apply.first,
-                second: apply.second,
-                vectors,
-                sizes,
-                vertices: flat.vertices(),
-                start: FoldStart::OldEntry,
-            };
+            let context = apply.context(FoldStart::OldEntry);
             let passing = passing_set(alloc, context, end, scratch)?;
-            let among = Apply {
-                from: Some(EndpointFilter::Members(&passing)),
-                ..*apply
-            };
-            hybrid_from(alloc, &among, flat, vectors, sizes, &passing, scratch)
+            Ok(Some(passing))
         }
     }
 }
 
-/// The same where the sources are the members of a set.
-fn hybrid_from(
-    alloc: Global,
-    apply: &Apply<'_>,
-    flat: &Flat,
-    vectors: &Vectors,
-    sizes: &[i64],
-    sources: &VertexSet,
-    scratch: &mut Scratch,
-) -> Result<Changes, AllocError>
-    ensures once { IfOk result (λ c. AreApart c.vectors.items) }
-    ensures changes { IfOk result (λ c. AreChangesOf apply.now flat.now vectors.now.vectors sizes.now c.vectors.items) }
+/// The same apply, from these sources where they are given.
+pub(crate) fn from_sources<'a>(apply: &Apply<'a>, sources: &'a Option<VertexSet>) -> Apply<'a>
+    requires { AreSourcesOf apply.now sources.now }
+    ensures { (cs : List VectorChanges) → AreChangesOf result cs → AreChangesOf apply.now cs }
 {
-    match pick_direction(flat, sources) {
-        Direction::DensePull => pull(alloc, apply, flat, vectors, sizes, scratch),
-        _ => push(alloc, apply, flat, vectors, sizes, scratch),
+    match sources {
+        None => *apply,
+        Some(set) => Apply {
+            from: Some(EndpointFilter::Members(set)),
+            ..*apply
+        },
+    }
+}
+
+/// Whether an apply goes into the destinations.
+pub(crate) fn is_pulled(apply: &Apply<'_>) -> bool {
+    match apply.direction {
+        Direction::SparsePush | Direction::DensePush => false,
+        Direction::DensePull => true,
+        Direction::Hybrid => match apply.from {
+            Some(EndpointFilter::Members(set)) => {
+                pick_direction(apply.flat, set) == Direction::DensePull
+            }
+            _ => true,
+        },
     }
 }
 

@@ -49,7 +49,7 @@ pub fn edge_map(
 {
     let no_members = VertexSet::empty(alloc, run.graph.vertices(), Form::List)?;
     let apply = apply_of(run, asked, &no_members);
-    push_or_pull(alloc, &apply, run.graph, run.vectors, run.sizes, scratch)
+    push_or_pull(alloc, &apply, scratch)
 }
 
 /// The apply as the engines take it, a sparse push in one piece where the schedule says nothing. A place without a set has
@@ -60,6 +60,9 @@ pub(crate) fn apply_of<'a>(run: RunView<'a>, asked: EdgeMap, no_members: &'a Ver
 {
     let schedule = asked.schedule;
     Apply {
+        flat: run.graph,
+        vectors: run.vectors,
+        sizes: run.sizes,
         from: end_of(asked.ends.from, run, no_members),
         to: end_of(asked.ends.to, run, no_members),
         first: run.functions.edge.get(asked.first),

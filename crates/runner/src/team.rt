@@ -6,22 +6,19 @@ ghost use Rattle.edge_apply.specs.Applied.{AreChangesOf};
 ghost use Rattle.runner.specs.EdgeMap.{AreChangesOfApply};
 ghost use Rattle.runner.specs.declared.run_error.RunError.TheVariants.{BadWorkers};
 
-use crate::direction::pick_direction;
+use crate::direction::{from_sources, hybrid_sources, is_pulled};
 use crate::edge_maps::{EdgeMap, apply_of};
 use crate::employment::{edges_from, edges_into, employed};
 use crate::run_error::RunError;
-use apply_options::Direction;
 use crew::{Gate, edges_for, is_crew};
-use edge_apply::{Apply, passing_set};
-use edge_fold::{ApplyContext, FoldStart, Scratch};
-use flat_snapshot::Flat;
-use kernels::EndpointFilter;
+use edge_apply::Apply;
+use edge_fold::Scratch;
 use pull_engine::{pull, pull_crew};
 use push_engine::{push, push_crew};
 use run_state::RunView;
 use std::alloc::{AllocError, Global};
 use std::thread::Threads;
-use vectors::{Changes, Vectors};
+use vectors::Changes;
 use vertex_sets::{Form, VertexSet};
 
 /// So many workers, 1 to 64, who starts their threads, and who is told of their pieces.
@@ -77,15 +74,7 @@ impl<R: Threads + Sync, G: Gate + Sync> Team<'_, R, G> {
     {
         let no_members = VertexSet::empty(alloc, run.graph.vertices(), Form::List)?;
         let apply = apply_of(run, asked, &no_members);
-        self.push_or_pull(
-            alloc,
-            &apply,
-            run.graph,
-            run.vectors,
-            run.sizes,
-            scratch,
-            states,
-        )
+        self.push_or_pull(alloc, &apply, scratch, states)
     }
 
     /// The same of an apply of the engines.
@@ -93,84 +82,18 @@ impl<R: Threads + Sync, G: Gate + Sync> Team<'_, R, G> {
         &self,
         alloc: Global,
         apply: &Apply<'_>,
-        flat: &Flat,
-        vectors: &Vectors,
-        sizes: &[i64],
         scratch: &mut Scratch,
         states: &mut Vec<Scratch>,
     ) -> Result<Changes, AllocError>
         ensures once { IfOk result (λ c. AreApart c.vectors.items) }
-        ensures changes { IfOk result (λ c. AreChangesOf apply.now flat.now vectors.now.vectors sizes.now c.vectors.items) }
+        ensures changes { IfOk result (λ c. AreChangesOf apply.now c.vectors.items) }
     {
-        match apply.direction {
-            Direction::SparsePush | Direction::DensePush => {
-                self.push(alloc, apply, flat, vectors, sizes, scratch, states)
-            }
-            Direction::DensePull => self.pull(alloc, apply, flat, vectors, sizes, scratch, states),
-            Direction::Hybrid => self.hybrid(alloc, apply, flat, vectors, sizes, scratch, states),
-        }
-    }
-
-    /// The same by the direction that is worth less.
-    fn hybrid(
-        &self,
-        alloc: Global,
-        apply: &Apply<'_>,
-        flat: &Flat,
-        vectors: &Vectors,
-        sizes: &[i64],
-        scratch: &mut Scratch,
-        states: &mut Vec<Scratch>,
-    ) -> Result<Changes, AllocError>
-        ensures once { IfOk result (λ c. AreApart c.vectors.items) }
-        ensures changes { IfOk result (λ c. AreChangesOf apply.now flat.now vectors.now.vectors sizes.now c.vectors.items) }
-    {
-        let Some(end) = apply.from else {
-            return self.pull(alloc, apply, flat, vectors, sizes, scratch, states);
-        };
-        match end {
-            EndpointFilter::Members(set) => {
-                self.hybrid_from(alloc, apply, flat, vectors, sizes, set, scratch, states)
-            }
-            EndpointFilter::Filter(_) => {
-                let context = ApplyContext {
-                    first: apply.first,
-                    second: apply.second,
-                    vectors,
-                    sizes,
-                    vertices: flat.vertices(),
-                    start: FoldStart::OldEntry,
-                };
-                let passing = passing_set(alloc, context, end, scratch)?;
-                let among = Apply {
-                    from: Some(EndpointFilter::Members(&passing)),
-                    ..*apply
-                };
-                self.hybrid_from(
-                    alloc, &among, flat, vectors, sizes, &passing, scratch, states,
-                )
-            }
-        }
-    }
-
-    /// The same where the sources are the members of a set.
-    fn hybrid_from(
-        &self,
-        alloc: Global,
-        apply: &Apply<'_>,
-        flat: &Flat,
-        vectors: &Vectors,
-        sizes: &[i64],
-        sources: &VertexSet,
-        scratch: &mut Scratch,
-        states: &mut Vec<Scratch>,
-    ) -> Result<Changes, AllocError>
-        ensures once { IfOk result (λ c. AreApart c.vectors.items) }
-        ensures changes { IfOk result (λ c. AreChangesOf apply.now flat.now vectors.now.vectors sizes.now c.vectors.items) }
-    {
-        match pick_direction(flat, sources) {
-            Direction::DensePull => self.pull(alloc, apply, flat, vectors, sizes, scratch, states),
-            _ => self.push(alloc, apply, flat, vectors, sizes, scratch, states),
+        let sources = hybrid_sources(alloc, apply, scratch)?;
+        let apply = from_sources(apply, &sources);
+        if is_pulled(&apply) {
+            self.pull(alloc, &apply, scratch, states)
+        } else {
+            self.push(alloc, &apply, scratch, states)
         }
     }
 
@@ -179,23 +102,18 @@ impl<R: Threads + Sync, G: Gate + Sync> Team<'_, R, G> {
         &self,
         alloc: Global,
         apply: &Apply<'_>,
-        flat: &Flat,
-        vectors: &Vectors,
-        sizes: &[i64],
         scratch: &mut Scratch,
         states: &mut Vec<Scratch>,
     ) -> Result<Changes, AllocError>
         ensures once { IfOk result (λ c. AreApart c.vectors.items) }
-        ensures changes { IfOk result (λ c. AreChangesOf apply.now flat.now vectors.now.vectors sizes.now c.vectors.items) }
+        ensures changes { IfOk result (λ c. AreChangesOf apply.now c.vectors.items) }
     {
-        let edges = edges_from(flat, apply.from, edges_for(self.workers));
+        let edges = edges_from(apply.flat, apply.from, edges_for(self.workers));
         let Some(workers) = self.employed(apply, edges) else {
-            return push(alloc, apply, flat, vectors, sizes, scratch);
+            return push(alloc, apply, scratch);
         };
         let (rt, gate) = (self.rt, self.gate);
-        match push_crew(
-            rt, gate, workers, alloc, apply, flat, vectors, sizes, scratch, states,
-        ) {
+        match push_crew(rt, gate, workers, alloc, apply, scratch, states) {
             Ok(changes) => Ok(changes),
             Err(_) => Err(AllocError),
         }
@@ -206,23 +124,18 @@ impl<R: Threads + Sync, G: Gate + Sync> Team<'_, R, G> {
         &self,
         alloc: Global,
         apply: &Apply<'_>,
-        flat: &Flat,
-        vectors: &Vectors,
-        sizes: &[i64],
         scratch: &mut Scratch,
         states: &mut Vec<Scratch>,
     ) -> Result<Changes, AllocError>
         ensures once { IfOk result (λ c. AreApart c.vectors.items) }
-        ensures changes { IfOk result (λ c. AreChangesOf apply.now flat.now vectors.now.vectors sizes.now c.vectors.items) }
+        ensures changes { IfOk result (λ c. AreChangesOf apply.now c.vectors.items) }
     {
-        let edges = edges_into(flat, apply.to, edges_for(self.workers));
+        let edges = edges_into(apply.flat, apply.to, edges_for(self.workers));
         let Some(workers) = self.employed(apply, edges) else {
-            return pull(alloc, apply, flat, vectors, sizes, scratch);
+            return pull(alloc, apply, scratch);
         };
         let (rt, gate) = (self.rt, self.gate);
-        match pull_crew(
-            rt, gate, workers, alloc, apply, flat, vectors, sizes, scratch, states,
-        ) {
+        match pull_crew(rt, gate, workers, alloc, apply, scratch, states) {
             Ok(changes) => Ok(changes),
             Err(_) => Err(AllocError),
         }

@@ -1,7 +1,9 @@
-use Rattle.std.proofs.Common.{ℕ, List, ap, ◌∙◌, arith}
+use Rattle.std.proofs.Common.{ℕ, List, ap, sym, subst, ◌∙◌, arith}
 use Rattle.std.specs.List.{filter}
 use Rattle.kernels.specs.EdgeApply.{after_edges}
 use Rattle.kernels.specs.Value.{entry}
+use Rattle.edge_fold.specs.declared.apply_context.ApplyContext.{ApplyContext}
+use Rattle.edge_fold.specs.Folded.{IsContextOf}
 use Rattle.edge_fold.specs.Between.{edges_between}
 use Rattle.edge_fold.specs.Changed.{changed}
 use Rattle.edge_apply.specs.Words.{passes_words}
@@ -9,8 +11,11 @@ use Rattle.push_engine.proofs.RowFolds.{between_tested}
 use Rattle.push_engine.proofs.apply.push_to.Goals as goal
 
 pub returns-clause-changes : goal.returns-clause-changes
-returns-clause-changes c m steps from test are count starts is_from is_to x r by long =
-    let g = c.args.flat.now in
+returns-clause-changes c m steps from test reads is_from is_to x r by long =
+    let are = subst (λ (f : ApplyContext). IsContextOf f m steps) (sym c.context-context.ensures.context) reads in
+    let count = ap (λ (f : ApplyContext). f.vertices) c.context-context.ensures.context in
+    let starts = ap (λ (f : ApplyContext). f.start) c.context-context.ensures.context in
+    let g = c.args.apply.now.flat.now in
     let bits = passes_words c.args.words in
     let edges = edges_between from bits g.edges in
     let old = entry m.vectors x in

@@ -11,7 +11,7 @@ use Rattle.push_engine.proofs.listed.list_from.Goals as goal
 
 pub returns-then-eq-clause-sources : goal.returns-then-eq-clause-sources
 returns-then-eq-clause-sources c m test vectors sizes is =
-    let g = c.args.flat.now in
+    let g = c.args.apply.now.flat.now in
     let list = c.in_ok-sources.ensures.list in
     record {
       ascending = subst (λ (us : List ℕ). AscendsFrom 0 us) (sym list) (ascends 0 (range_with_len 0 g.vertices) (rises_range 0 g.vertices));

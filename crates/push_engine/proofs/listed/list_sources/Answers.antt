@@ -11,7 +11,7 @@ use Rattle.push_engine.proofs.listed.list_sources.Goals as goal
 
 pub returns-in_ok-sources-in-None-clause-sources : goal.returns-in_ok-sources-in-None-clause-sources
 returns-in_ok-sources-in-None-clause-sources c m from vectors sizes is =
-    let g = c.args.flat.now in
+    let g = c.args.apply.now.flat.now in
     let all : (v : ℕ) → from v ≡ true = subst (λ (o : Option EndpointFilter). IsEndTest o m from) c.in-None.is is in
     let list = c.in_ok-sources-in-None.ensures.list in
     record {
@@ -21,6 +21,6 @@ returns-in_ok-sources-in-None-clause-sources c m from vectors sizes is =
 
 pub returns-in_ok-sources-in-None-clause-list : goal.returns-in_ok-sources-in-None-clause-list
 returns-in_ok-sources-in-None-clause-list c m from vectors sizes is within =
-    let n = c.args.flat.now.vertices in
+    let n = c.args.apply.now.flat.now.vertices in
     let all : (v : ℕ) → from v ≡ true = subst (λ (o : Option EndpointFilter). IsEndTest o m from) c.in-None.is is in
     c.in_ok-sources-in-None.ensures.list ∙ list_is_whole c.args.apply.now.direction n from all

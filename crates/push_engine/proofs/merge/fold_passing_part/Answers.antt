@@ -11,7 +11,7 @@ use Rattle.push_engine.proofs.merge.fold_passing_part.Goals as goal
 pub returns-in_ok-fold_rows-in-None : goal.returns-in_ok-fold_rows-in-None
 returns-in_ok-fold_rows-in-None c m steps test are is has =
     let a = c.args in
-    let edges = a.flat.now.edges in
+    let edges = a.apply.now.flat.now.edges in
     let all = subst (λ (o : Option EndpointFilter). IsEndTest o m test) c.in-None.is is in
     folded_along a.context m steps (rows_to (λ v. true) edges a.part.now) (rows edges (filter test a.part.now)) c.fold_rows.new.scratch (all_pass (rows edges a.part.now) ∙ ap (rows edges) (sym (filter_all test a.part.now all)))
     (c.in_ok-fold_rows-in-None.ensures m steps [] are has)
@@ -19,7 +19,7 @@ returns-in_ok-fold_rows-in-None c m steps test are is has =
 pub returns-in_ok-fold_rows-in-Some : goal.returns-in_ok-fold_rows-in-Some
 returns-in_ok-fold_rows-in-Some c m steps test are is has =
     let a = c.args in
-    let edges = a.flat.now.edges in
+    let edges = a.apply.now.flat.now.edges in
     let some = subst (λ (o : Option EndpointFilter). IsEndTest o m test) c.in-Some.is is in
     let kept = c.deref.ensures.value ∙ c.in_ok-keep_passing-in-Some.ensures.kept m test are.vectors are.sizes some ∙ ap (λ (ks : List ℕ). ks ++ filter test a.part.now) c.new-kept.ensures.items in
     folded_along a.context m steps (rows_to (λ v. true) edges c.deref.result.now) (rows edges (filter test a.part.now)) c.fold_rows-in-Some.new.scratch (all_pass (rows edges c.deref.result.now) ∙ ap (rows edges) kept)

@@ -1,13 +1,18 @@
-use Rattle.std.proofs.Common.{sym, subst, slice_get}
+use Rattle.std.proofs.Common.{sym, subst, slice_get, refl}
 use Rattle.algorithm_meaning.specs.Function.{steps_of}
 use Rattle.kernels.specs.Kernels.{IsEdgeKernel}
 use Rattle.runner.proofs.edge_maps.apply_of.Goals as goal
 
 pub returns : goal.returns
-returns c p m functions sets =
-    let place = c.args.asked.first in
-    let first = subst (λ k. IsEdgeKernel k (steps_of (slice_get p.edge_functions place))) (sym c.get.ensures) (functions.edge place) in (
-      c.second_kernel.ensures p c.get.result.now place functions first,
-      c.end_of.ensures p m functions sets,
-      c.end_of-2.ensures p m functions sets,
-    )
+returns c = record {
+  graph = refl;
+  vectors = refl;
+  sizes = refl;
+  parts = λ p m functions sets.
+      let place = c.args.asked.first in
+      let first = subst (λ k. IsEdgeKernel k (steps_of (slice_get p.edge_functions place))) (sym c.get.ensures) (functions.edge place) in (
+        c.second_kernel.ensures p c.get.result.now place functions first,
+        c.end_of.ensures p m functions sets,
+        c.end_of-2.ensures p m functions sets,
+      );
+}

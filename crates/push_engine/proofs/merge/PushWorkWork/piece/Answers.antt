@@ -1,10 +1,12 @@
-use Rattle.std.proofs.Common.{◌-◌, ℕ, List, length, slice_range, refl, ap, ◌∙◌, subst, arith}
+use Rattle.std.proofs.Common.{◌-◌, ℕ, List, length, slice_range, refl, sym, ap, ◌∙◌, subst, arith}
 use Rattle.std.specs.List.{filter}
 use Rattle.edge_fold.specs.Gathered.{AreGatheredFor}
 use Rattle.crew.specs.Partition.{end_of, piece_of}
 use Rattle.push_engine.specs.Rows.{rows}
 use Rattle.push_engine.specs.Sources.{passing_in}
 use Rattle.edge_apply.proofs.Listed.{piece_inside}
+use Rattle.edge_fold.specs.declared.apply_context.ApplyContext.{ApplyContext}
+use Rattle.edge_fold.specs.Folded.{IsContextOf}
 use Rattle.push_engine.proofs.merge.PushWorkWork.piece.Goals as goal
 
 pub part_between-part-requires-clause-order : goal.part_between-part-requires-clause-order
@@ -28,14 +30,15 @@ part_between-part-requires-clause-inside c =
 pub returns-clause-out : goal.returns-clause-out
 returns-clause-out c m steps from to vectors sizes kernels is_from is_to x r by =
     let w = c.args.self.now in
-    let edges = w.flat.now.edges in
+    let edges = w.apply.flat.now.edges in
     let k = c.args.piece in
     let g = c.in_ok-gathered.gathered in
     let part = c.part_between-part.ensures
     ∙ ap (λ (us : List ℕ). slice_range us c.piece-places.result.start c.piece-places.result.end) c.deref.ensures.value
     ∙ ap (λ (s : ℕ). slice_range w.sources.items s c.piece-places.result.end) c.piece-places.ensures.start
     ∙ ap (λ (e : ℕ). slice_range w.sources.items (end_of w.cuts (k - 1)) e) c.piece-places.ensures.end in
-    let has = c.in_ok-fold_part.ensures m steps from (record { vectors = vectors; sizes = sizes; kernels = kernels }) is_from (c.begin.ensures _ m steps) in
-    let gathered = c.in_ok-gathered.ensures m steps (rows edges (passing_in w.tested from c.part_between-part.result.now)) to (record { vectors = vectors; sizes = sizes; kernels = kernels }) is_to has refl x r by in
-    subst (λ (n : ℕ). AreGatheredFor n m steps (filter (λ e. to e.1) (rows edges (passing_in w.tested from (piece_of w.cuts w.sources.items k)))) g x r) c.vertices.ensures.count
-    (subst (λ (us : List ℕ). AreGatheredFor c.vertices.result m steps (filter (λ e. to e.1) (rows edges (passing_in w.tested from us))) g x r) part gathered)
+    let reads = subst (λ (f : ApplyContext). IsContextOf f m steps) (sym c.context-context.ensures.context) (record { vectors = vectors; sizes = sizes; kernels = kernels }) in
+    let has = c.in_ok-fold_part.ensures m steps from reads is_from (c.begin.ensures _ m steps) in
+    let gathered = c.in_ok-gathered.ensures m steps (rows edges (passing_in w.tested from c.part_between-part.result.now)) to reads is_to has (ap (λ (f : ApplyContext). f.start) c.context-context.ensures.context) x r by in
+    subst (λ (n : ℕ). AreGatheredFor n m steps (filter (λ e. to e.1) (rows edges (passing_in w.tested from (piece_of w.cuts w.sources.items k)))) g x r) (ap (λ (f : ApplyContext). f.vertices) c.context-context.ensures.context)
+    (subst (λ (us : List ℕ). AreGatheredFor c.context-context.result.vertices m steps (filter (λ e. to e.1) (rows edges (passing_in w.tested from us))) g x r) part gathered)

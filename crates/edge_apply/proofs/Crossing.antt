@@ -1,0 +1,34 @@
+-- That an apply goes to other threads.
+use denote.Ref.{NamedLft}
+use denote.Param.Send.{IsSync, sendable}
+use denote.Param.SendFields.{declared_sync}
+use Rattle.std.proofs.Crossing.{crosses}
+use Rattle.flat_snapshot.proofs.Crossing.{flat_sync}
+use Rattle.vectors.proofs.vectors.Vectors.TheSendSync.{the_sync as vectors_sync}
+use Rattle.kernels.proofs.endpoint_filter.EndpointFilter.TheSendSync.{the_sync as filter_sync}
+use Rattle.kernels.proofs.kernel.EdgeKernel.TheSendSync.{the_sync as kernel_sync}
+use Rattle.edge_apply.specs.contracts.apply.Apply as apply
+
+pub apply_sync : (lft : NamedLft) → IsSync (apply.the_row lft)
+apply_sync lft = declared_sync (apply.the_type lft) (
+  search (sendable, crosses, flat_sync) depth 12,
+  (
+    search (sendable, crosses, vectors_sync) depth 12,
+    (
+      search (sendable, crosses) depth 12,
+      (
+        search (sendable, crosses, filter_sync) depth 12,
+        (
+          search (sendable, crosses, filter_sync) depth 12,
+          (
+            search (sendable, crosses, kernel_sync) depth 12,
+            (
+              search (sendable, crosses, kernel_sync) depth 12,
+              (search (sendable, crosses) depth 12, (search (sendable, crosses) depth 12, (search (sendable, crosses) depth 12, tt))),
+            ),
+          ),
+        ),
+      ),
+    ),
+  ),
+)
