@@ -250,11 +250,10 @@ impl<'a> Trial<'a> {
 
     fn compare_whole(self, alloc: Global, way: Way, scratch: &mut Scratch) -> io::Result<()> {
         let apply = self.apply(way.direction(), Parallelization::Serial);
-        let (flat, before, sizes) = (&self.work.sample.flat, &self.work.before, &self.work.sizes);
         let changes = match way {
-            Way::Push(_) => push(alloc, &apply, flat, before, sizes, scratch),
-            Way::Pull => pull(alloc, &apply, flat, before, sizes, scratch),
-            Way::Scheduled(_) => push_or_pull(alloc, &apply, flat, before, sizes, scratch),
+            Way::Push(_) => push(alloc, &apply, scratch),
+            Way::Pull => pull(alloc, &apply, scratch),
+            Way::Scheduled(_) => push_or_pull(alloc, &apply, scratch),
         };
         self.require(alloc, &changes?)
     }
@@ -280,10 +279,7 @@ impl<'a> Trial<'a> {
         workers: usize,
         scratch: &mut Scratch,
     ) -> io::Result<()> {
-        let (flat, before, sizes) = (&self.work.sample.flat, &self.work.before, &self.work.sizes);
-        let (ascending, descending) = changes_by_pieces(
-            alloc, apply, flat, before, sizes, workers, scratch,
-        )?;
+        let (ascending, descending) = changes_by_pieces(alloc, apply, workers, scratch)?;
         self.require(alloc, &ascending)?;
         self.require(alloc, &descending)
     }
@@ -306,6 +302,9 @@ impl<'a> Trial<'a> {
 
     fn apply(self, direction: Direction, parallelization: Parallelization) -> Apply<'a> {
         Apply {
+            flat: &self.work.sample.flat,
+            vectors: &self.work.before,
+            sizes: &self.work.sizes,
             from: self.end(self.ends.0),
             to: self.end(self.ends.1),
             first: &self.tried.edge,

@@ -55,10 +55,9 @@ fn print_flat<'a>(
     frontier: &'a VertexSet,
 ) -> io::Result<()> {
     let kernel = edge_kernel(rt.alloc(), PROGRAM, 0)?;
+    let vectors = own_numbers(rt.alloc(), flat.vertices())?;
     let mut work = PushBenchmark {
-        flat,
-        apply: push_of(&kernel, frontier),
-        vectors: own_numbers(rt.alloc(), flat.vertices())?,
+        apply: push_of(&kernel, flat, &vectors, frontier),
         scratch: Scratch::new(rt.alloc()),
     };
     print_row(rt, name, TURNS, &mut work, ())?;
@@ -67,18 +66,14 @@ fn print_flat<'a>(
 
 // An apply, of which nothing is written, and the memory that it keeps.
 struct PushBenchmark<'a> {
-    flat: &'a Flat,
     apply: Apply<'a>,
-    vectors: Vectors,
     scratch: Scratch,
 }
 
 impl Drop for PushBenchmark<'_> {
     fn drop(self) {
         let PushBenchmark {
-            flat: _,
             apply: _,
-            vectors: _,
             scratch: _,
         } = self;
     }
@@ -86,14 +81,7 @@ impl Drop for PushBenchmark<'_> {
 
 impl PushBenchmark<'_> {
     fn changes(&mut self, alloc: Global) -> Result<Changes, AllocError> {
-        push_or_pull(
-            alloc,
-            &self.apply,
-            self.flat,
-            &self.vectors,
-            &[],
-            &mut self.scratch,
-        )
+        push_or_pull(alloc, &self.apply, &mut self.scratch)
     }
 }
 
@@ -101,7 +89,7 @@ impl Benchmark for PushBenchmark<'_> {
     type Row = ();
 
     fn items(&self, _row: ()) -> u64 {
-        self.flat.edge_count() as u64
+        self.apply.flat.edge_count() as u64
     }
 
     fn run(&mut self, rt: &HostRuntime, _row: ()) -> io::Result<u64> {
@@ -109,8 +97,16 @@ impl Benchmark for PushBenchmark<'_> {
     }
 }
 
-fn push_of<'a>(kernel: &'a EdgeKernel, frontier: &'a VertexSet) -> Apply<'a> {
+fn push_of<'a>(
+    kernel: &'a EdgeKernel,
+    flat: &'a Flat,
+    vectors: &'a Vectors,
+    frontier: &'a VertexSet,
+) -> Apply<'a> {
     Apply {
+        flat,
+        vectors,
+        sizes: &[],
         from: Some(EndpointFilter::Members(frontier)),
         to: None,
         first: kernel,

@@ -4,32 +4,28 @@ use apply_options::Direction;
 use crew::{CrewError, Found, Work};
 use edge_apply::Apply;
 use edge_fold::{Gathered, Scratch};
-use flat_snapshot::Flat;
 use pull_engine::PullWork;
 use push_engine::PushWork;
 use std::alloc::{AllocError, Global};
 use std::io;
 use std::io::Error;
-use vectors::{Changes, Vectors};
+use vectors::Changes;
 
 /// What an apply changes, as its pieces for so many workers make it: merged from the first piece to the last, and from
 /// the last to the first. A dense pull is cut by its destinations, and what any other direction does by its sources.
 pub fn changes_by_pieces(
     alloc: Global,
     apply: &Apply<'_>,
-    flat: &Flat,
-    vectors: &Vectors,
-    sizes: &[i64],
     workers: usize,
     scratch: &mut Scratch,
 ) -> io::Result<(Changes, Changes)> {
     let merged = if apply.direction == Direction::DensePull {
-        match PullWork::new(alloc, apply, flat, vectors, sizes, workers, scratch) {
+        match PullWork::new(alloc, apply, workers, scratch) {
             Ok(work) => pulled(alloc, &work, scratch),
             Err(error) => return Err(refused(error)),
         }
     } else {
-        match PushWork::new(alloc, apply, flat, vectors, sizes, workers, scratch) {
+        match PushWork::new(alloc, apply, workers, scratch) {
             Ok(work) => pushed(alloc, &work, scratch),
             Err(error) => return Err(refused(error)),
         }

@@ -43,10 +43,10 @@ fn pushes(alloc: Global, workers: usize, gains: &[[i64; 5]]) -> Result<bool, Fai
     let flat = graph_of(alloc, 5, &OUT)?;
     let vectors = vectors_of(alloc, &[0; 5], &[0; 5])?;
     let kernel = kernel_of(alloc, "x[d] += 1;")?;
-    let mut apply = apply_of(&kernel, Parallelization::EdgeAwareDynamicVertex);
+    let mut apply = apply_of(&kernel, &flat, &vectors, Parallelization::EdgeAwareDynamicVertex);
     apply.direction = Direction::DensePush;
     let mut scratch = Scratch::new(alloc);
-    let work = PushWork::new(alloc, &apply, &flat, &vectors, &[], workers, &mut scratch)?;
+    let work = PushWork::new(alloc, &apply, workers, &mut scratch)?;
     let found = pieces_of(alloc, &work, &mut scratch)?;
     let mut same = found.len() == gains.len();
     for (one, gain) in found.chunks(1).zip(gains.iter()) {
@@ -61,9 +61,9 @@ fn pulls(alloc: Global, workers: usize, gains: &[[i64; 5]]) -> Result<bool, Fail
     let flat = graph_of(alloc, 5, &INTO)?;
     let vectors = vectors_of(alloc, &[0; 5], &[0; 5])?;
     let kernel = kernel_of(alloc, "x[d] += 1;")?;
-    let apply = apply_of(&kernel, Parallelization::EdgeAwareDynamicVertex);
+    let apply = apply_of(&kernel, &flat, &vectors, Parallelization::EdgeAwareDynamicVertex);
     let mut scratch = Scratch::new(alloc);
-    let work = PullWork::new(alloc, &apply, &flat, &vectors, &[], workers, &mut scratch)?;
+    let work = PullWork::new(alloc, &apply, workers, &mut scratch)?;
     let mut found = pulled_pieces_of(alloc, &work, &mut scratch)?;
     found.reverse();
     let mut same = found.len() == gains.len();

@@ -80,9 +80,17 @@ pub(crate) fn vectors_of(alloc: Global, w: &[i64], x: &[i64]) -> Result<Vectors,
     Ok(Vectors::new(alloc, arrays)?)
 }
 
-// The apply to all edges, cut as a schedule says.
-pub(crate) fn apply_of<'a>(kernel: &'a EdgeKernel, parallelization: Parallelization) -> Apply<'a> {
+// The apply to all edges of a graph, cut as a schedule says.
+pub(crate) fn apply_of<'a>(
+    kernel: &'a EdgeKernel,
+    flat: &'a Flat,
+    vectors: &'a Vectors,
+    parallelization: Parallelization,
+) -> Apply<'a> {
     Apply {
+        flat,
+        vectors,
+        sizes: &[],
         from: None,
         to: None,
         first: kernel,
@@ -104,24 +112,24 @@ fn changes_of(
     let mut scratch = Scratch::new(alloc);
     match way {
         Way::Push => {
-            let apply = apply_of(kernel, Parallelization::Serial);
-            Ok(push(alloc, &apply, flat, vectors, &[], &mut scratch)?)
+            let apply = apply_of(kernel, flat, vectors, Parallelization::Serial);
+            Ok(push(alloc, &apply, &mut scratch)?)
         }
         Way::Pull => {
-            let apply = apply_of(kernel, Parallelization::Serial);
-            Ok(pull(alloc, &apply, flat, vectors, &[], &mut scratch)?)
+            let apply = apply_of(kernel, flat, vectors, Parallelization::Serial);
+            Ok(pull(alloc, &apply, &mut scratch)?)
         }
         Way::Pieces(cut, workers) => {
-            let apply = apply_of(kernel, cut);
-            pushed_in_pieces(alloc, &apply, flat, vectors, workers, false, &mut scratch)
+            let apply = apply_of(kernel, flat, vectors, cut);
+            pushed_in_pieces(alloc, &apply, workers, false, &mut scratch)
         }
         Way::PiecesTurned(cut, workers) => {
-            let apply = apply_of(kernel, cut);
-            pushed_in_pieces(alloc, &apply, flat, vectors, workers, true, &mut scratch)
+            let apply = apply_of(kernel, flat, vectors, cut);
+            pushed_in_pieces(alloc, &apply, workers, true, &mut scratch)
         }
         Way::PullPieces(cut, workers) => {
-            let apply = apply_of(kernel, cut);
-            pulled_in_pieces(alloc, &apply, flat, vectors, workers, &mut scratch)
+            let apply = apply_of(kernel, flat, vectors, cut);
+            pulled_in_pieces(alloc, &apply, workers, &mut scratch)
         }
     }
 }
@@ -130,13 +138,11 @@ fn changes_of(
 fn pushed_in_pieces(
     alloc: Global,
     apply: &Apply<'_>,
-    flat: &Flat,
-    vectors: &Vectors,
     workers: usize,
     turned: bool,
     scratch: &mut Scratch,
 ) -> Result<Changes, Fail> {
-    let work = PushWork::new(alloc, apply, flat, vectors, &[], workers, scratch)?;
+    let work = PushWork::new(alloc, apply, workers, scratch)?;
     let mut found = pieces_of(alloc, &work, scratch)?;
     if turned {
         found.reverse();
@@ -148,12 +154,10 @@ fn pushed_in_pieces(
 fn pulled_in_pieces(
     alloc: Global,
     apply: &Apply<'_>,
-    flat: &Flat,
-    vectors: &Vectors,
     workers: usize,
     scratch: &mut Scratch,
 ) -> Result<Changes, Fail> {
-    let work = PullWork::new(alloc, apply, flat, vectors, &[], workers, scratch)?;
+    let work = PullWork::new(alloc, apply, workers, scratch)?;
     let found = pulled_pieces_of(alloc, &work, scratch)?;
     Ok(work.merge(alloc, &found, scratch)?)
 }
