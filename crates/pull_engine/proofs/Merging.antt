@@ -89,8 +89,8 @@ merged f m steps g from to ends us ks s is whole all same has =
 
 -- what the pieces answer, for one state
 pub each_gathered : (w : PullWork) (fs : List (Found Gathered)) (m : StateValue) (steps : List StepsTree) (from to : ℕ → Bool) → AreAnswers (Answers w) fs
-    → w.vectors.now.vectors ≡ m.vectors → HasSizes w.sizes.now m → AreKernels w.apply.first.now w.apply.second steps → IsEndTest w.apply.from m from → IsEndTest w.apply.to m to
-    → EachGathered w.flat.now.vertices m steps (edges_into_piece w from to) fs
+    → w.apply.vectors.now.vectors ≡ m.vectors → HasSizes w.apply.sizes.now m → AreKernels w.apply.first.now w.apply.second steps → IsEndTest w.apply.from m from → IsEndTest w.apply.to m to
+    → EachGathered w.apply.flat.now.vertices m steps (edges_into_piece w from to) fs
 each_gathered w [] m steps from to answers vectors sizes kernels is_from is_to = tt
 each_gathered w (f ∷ fs) m steps from to answers vectors sizes kernels is_from is_to =
     (answers.0 m steps from to vectors sizes kernels is_from is_to, each_gathered w fs m steps from to answers.1 vectors sizes kernels is_from is_to)

@@ -17,14 +17,14 @@ use edge_fold::{ApplyContext, FoldStart, Scratch};
 use flat_snapshot::Flat;
 use kernels::EndpointFilter;
 use std::alloc::{AllocError, Global};
-use vectors::{Changes, Vectors};
+use vectors::Changes;
 use vertex_sets::{Form, VertexSet};
 
 /// What an apply of edge functions changes, where it goes over the destinations and their sources: for each vector that
 /// a function has given something one list of changes, by ascending vertices, and a vector without one does not change.
 /// It promises so for each vector that has an entry for each vertex and to which the functions give by one reduction,
-/// in the words of a push. `sizes` are the sizes of the vertex sets by their places. The vectors stay as
-/// they are, and so does the graph. The scratch serves any apply after this one, whatever became of it.
+/// in the words of a push. The vectors stay as they are, and so does the
+/// graph. The scratch serves any apply after this one, whatever became of it.
 ///
 /// It takes time in proportion to the vertices with edges to them and to those edges, or, where the destinations are
 /// members of a set, to these and the edges to them. A filter of sources is run for each vertex, and sources that are
@@ -34,22 +34,13 @@ use vertex_sets::{Form, VertexSet};
 pub fn pull(
     alloc: Global,
     apply: &Apply<'_>,
-    flat: &Flat,
-    vectors: &Vectors,
-    sizes: &[i64],
     scratch: &mut Scratch,
 ) -> Result<Changes, AllocError>
     ensures once { IfOk result (λ c. AreApart c.vectors.items) }
-    ensures changes { IfOk result (λ c. AreChangesOf apply.now flat.now vectors.now.vectors sizes.now c.vectors.items) }
+    ensures changes { IfOk result (λ c. AreChangesOf apply.now c.vectors.items) }
 {
-    let context = ApplyContext {
-        first: apply.first,
-        second: apply.second,
-        vectors,
-        sizes,
-        vertices: flat.vertices(),
-        start: FoldStart::OldEntry,
-    };
+    let flat = apply.flat;
+    let context = apply.context(FoldStart::OldEntry);
     let Some(end) = apply.from else {
         return pull_from(alloc, flat, context, None, apply.to, scratch);
     };

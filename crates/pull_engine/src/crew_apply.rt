@@ -9,10 +9,9 @@ use crate::work::PullWork;
 use crew::{CrewError, Gate, PieceAssignment, run_pieces};
 use edge_apply::Apply;
 use edge_fold::Scratch;
-use flat_snapshot::Flat;
 use std::alloc::Global;
 use std::thread::Threads;
-use vectors::{Changes, Vectors};
+use vectors::Changes;
 
 /// What an apply of edge functions changes, as [`crate::pull`] tells it, done in pieces by so many workers, 1 to 64, of whom
 /// the caller is worker 1: however the pieces fall to them, the changes are the same. The pieces are those of
@@ -30,9 +29,6 @@ pub fn pull_crew<R: Threads + Sync, G: Gate + Sync>(
     workers: usize,
     alloc: Global,
     apply: &Apply<'_>,
-    flat: &Flat,
-    vectors: &Vectors,
-    sizes: &[i64],
     scratch: &mut Scratch,
     states: &mut Vec<Scratch>,
 ) -> Result<Changes, CrewError>
@@ -40,9 +36,9 @@ pub fn pull_crew<R: Threads + Sync, G: Gate + Sync>(
     ensures refused { result ≡ Err BadWorkers → ¬ AreWorkers workers }
     ensures memory { result ≡ Err NoMemory → AreWorkers workers }
     ensures once { IfOk result (λ c. AreApart c.vectors.items) }
-    ensures changes { IfOk result (λ c. AreChangesOf apply.now flat.now vectors.now.vectors sizes.now c.vectors.items) }
+    ensures changes { IfOk result (λ c. AreChangesOf apply.now c.vectors.items) }
 {
-    let work = PullWork::new(alloc, apply, flat, vectors, sizes, workers, scratch)?;
+    let work = PullWork::new(alloc, apply, workers, scratch)?;
     let pieces = work.pieces();
     // A graph has fewer vertices.
     if pieces > u32::MAX as usize {

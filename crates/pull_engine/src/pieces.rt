@@ -12,7 +12,7 @@ use crate::listed::words_of;
 use crate::work::PullWork;
 use crew::{Found, Work};
 use edge_apply::{join_all, part_between};
-use edge_fold::{ApplyContext, FoldStart, Gathered, Scratch};
+use edge_fold::{FoldStart, Gathered, Scratch};
 use std::alloc::{AllocError, Global};
 use vectors::Changes;
 
@@ -37,16 +37,9 @@ impl PullWork<'_> {
     ) -> Result<Changes, AllocError>
         ensures once { IfOk result (λ c. AreApart c.vectors.items) }
         ensures changes { IfOk result (λ c. AreAnswers (Answers self.now) found.now → IsPermutation (pieces_of found.now) (range_with_len 1 (length self.now.cuts))
-            → AreChangesOf self.now.apply self.now.flat.now self.now.vectors.now.vectors self.now.sizes.now c.vectors.items) }
+            → AreChangesOf self.now.apply c.vectors.items) }
     {
-        let context = ApplyContext {
-            first: self.apply.first,
-            second: self.apply.second,
-            vectors: self.vectors,
-            sizes: self.sizes,
-            vertices: self.flat.vertices(),
-            start: FoldStart::OldEntry,
-        };
+        let context = self.apply.context(FoldStart::OldEntry);
         scratch.begin();
         join_all(alloc, context, found, scratch)?;
         let changes = scratch.changes(alloc, context, None)?;
@@ -75,21 +68,14 @@ impl<'a> Work for PullWork<'a> {
         scratch: &mut Scratch,
         piece: usize,
     ) -> Result<Gathered, AllocError> {
-        let context = ApplyContext {
-            first: self.apply.first,
-            second: self.apply.second,
-            vectors: self.vectors,
-            sizes: self.sizes,
-            vertices: self.flat.vertices(),
-            start: FoldStart::Unit,
-        };
+        let context = self.apply.context(FoldStart::Unit);
         let places = self.cuts.piece(piece);
         let part = part_between(&self.vertices, places.start, places.end);
         let words = words_of(&self.bits);
         scratch.begin();
         fold_part(
             alloc,
-            self.flat,
+            self.apply.flat,
             context,
             words,
             self.apply.to,

@@ -17,36 +17,28 @@ ghost use Rattle.pull_engine.specs.Destinations.{passes_set};
 use crate::listed::{cut_vertices, source_bits};
 use crew::{CrewError, Partition, is_crew};
 use edge_apply::{Apply, all_vertices};
-use edge_fold::{ApplyContext, FoldStart, Scratch};
-use flat_snapshot::Flat;
+use edge_fold::{FoldStart, Scratch};
 use std::alloc::Global;
-use vectors::Vectors;
 use vertex_sets::VertexSet;
 
 /// An apply in pieces, which workers may do side by side: all vertices are cut as its schedule says, and a piece answers
 /// what the edges into those of its vertices give that pass. [`PullWork::merge`] makes the changes of the whole apply of it.
 pub struct PullWork<'a> {
     pub(crate) apply: Apply<'a>,
-    pub(crate) flat: &'a Flat,
-    pub(crate) vectors: &'a Vectors,
-    pub(crate) sizes: &'a [i64],
     pub(crate) bits: Option<VertexSet>,
     pub(crate) vertices: Vec<u32>,
     pub(crate) cuts: Partition,
     ghost whole: { AreEnds 0 (length vertices.items) cuts } by { AreEnds-prop 0 (length vertices.items) cuts },
-    ghost all: { vertices.items ≡ range_with_len 0 flat.now.vertices } by { Prim.hlevel (props) },
+    ghost all: { vertices.items ≡ range_with_len 0 apply.flat.now.vertices } by { Prim.hlevel (props) },
     ghost form: { IfSome bits (λ s. s.form ≡ Form.Bits) } by { Prim.hlevel (props) },
-    ghost sources: { (m : StateValue) (from : ℕ → Bool) → vectors.now.vectors ≡ m.vectors → HasSizes sizes.now m → IsEndTest apply.from m from
-        → (v : ℕ) → v < flat.now.vertices → passes_set bits v ≡ from v } by { Prim.hlevel (props) },
+    ghost sources: { (m : StateValue) (from : ℕ → Bool) → apply.vectors.now.vectors ≡ m.vectors → HasSizes apply.sizes.now m → IsEndTest apply.from m from
+        → (v : ℕ) → v < apply.flat.now.vertices → passes_set bits v ≡ from v } by { Prim.hlevel (props) },
 }
 
 impl Drop for PullWork<'_> {
     fn drop(self) {
         let PullWork {
             apply: _,
-            flat: _,
-            vectors: _,
-            sizes: _,
             bits: _,
             vertices: _,
             cuts: _,
@@ -57,16 +49,12 @@ impl Drop for PullWork<'_> {
 impl<'a> PullWork<'a> {
     /// The pieces of an apply for so many workers, 1 to 64. What is cut is the list of all vertices, which are tested in
     /// their pieces. Where the schedule cuts by edges, their degrees are read; the sources that pass are put into bits. It
-    /// takes time in proportion to the graph's vertices. `sizes` are the sizes of the vertex sets by their places. The
-    /// scratch serves any apply after this one.
+    /// takes time in proportion to the graph's vertices. The scratch serves any apply after this one.
     ///
     /// Errors: `BadWorkers` where the number of workers is not 1 to 64, else `NoMemory`.
     pub fn new(
         alloc: Global,
         apply: &Apply<'a>,
-        flat: &'a Flat,
-        vectors: &'a Vectors,
-        sizes: &'a [i64],
         workers: usize,
         scratch: &mut Scratch,
     ) -> Result<PullWork<'a>, CrewError>
@@ -74,30 +62,17 @@ impl<'a> PullWork<'a> {
         ensures refused { result ≡ Err BadWorkers → ¬ AreWorkers workers }
         ensures memory { result ≡ Err NoMemory → AreWorkers workers }
         ensures apply { IfOk result (λ w. w.apply ≡ apply.now) }
-        ensures flat { IfOk result (λ w. w.flat.now ≡ flat.now) }
-        ensures vectors { IfOk result (λ w. w.vectors.now ≡ vectors.now) }
-        ensures sizes { IfOk result (λ w. w.sizes.now ≡ sizes.now) }
-        ensures cuts { IfOk result (λ w. w.cuts ≡ boundaries apply.now.parallelization workers flat.now.vertices (map (λ v. length (sources_of v flat.now.edges)) (range_with_len 0 flat.now.vertices))) }
+        ensures cuts { IfOk result (λ w. w.cuts ≡ boundaries apply.now.parallelization workers apply.now.flat.now.vertices (map (λ v. length (sources_of v apply.now.flat.now.edges)) (range_with_len 0 apply.now.flat.now.vertices))) }
     {
         if !is_crew(workers) {
             return Err(CrewError::BadWorkers);
         }
-        let context = ApplyContext {
-            first: apply.first,
-            second: apply.second,
-            vectors,
-            sizes,
-            vertices: flat.vertices(),
-            start: FoldStart::Unit,
-        };
-        let all = all_vertices(alloc, flat)?;
+        let context = apply.context(FoldStart::Unit);
+        let all = all_vertices(alloc, apply.flat)?;
         let bits = source_bits(alloc, apply.from, context, scratch)?;
-        let cuts = cut_vertices(alloc, apply.parallelization, workers, flat, &all)?;
+        let cuts = cut_vertices(alloc, apply.parallelization, workers, apply.flat, &all)?;
         Ok(PullWork {
             apply: *apply,
-            flat,
-            vectors,
-            sizes,
             bits,
             vertices: all,
             cuts,

@@ -3,7 +3,6 @@ use Rattle.std.proofs.Crossing.{crosses}
 use Rattle.std.proofs.Common.{ℤ, List, length, sym, subst}
 use Rattle.crew.specs.Pieces.{AreFound}
 use Rattle.crew.proofs.FoundPieces.{found_answers, found_once}
-use Rattle.flat_snapshot.specs.Digraph.{Digraph}
 use Rattle.pull_engine.proofs.Crossing.{work_sync}
 use Rattle.edge_apply.specs.declared.apply.Apply.{Apply}
 use Rattle.edge_apply.specs.Applied.{AreChangesOf}
@@ -21,7 +20,4 @@ returns-clause-changes g c =
     let found = subst (λ n. AreFound (Answers work) n c.in_ok-found.found.items) c.pieces-pieces.ensures c.in_ok-found.ensures.found.1 in
     let listed = subst (λ fs. AreFound (Answers work) (length work.cuts) fs) (sym lent) found in
     let whole = c.in_ok-changes.ensures.changes (found_answers (Answers work) (length work.cuts) _ listed) (found_once (Answers work) (length work.cuts) _ listed) in
-    subst (λ (z : List ℤ). AreChangesOf c.args.apply.now c.args.flat.now c.args.vectors.now.vectors z cs) c.in_ok-work.ensures.sizes
-    (subst (λ v. AreChangesOf c.args.apply.now c.args.flat.now v.vectors work.sizes.now cs) c.in_ok-work.ensures.vectors
-    (subst (λ (d : Digraph). AreChangesOf c.args.apply.now d work.vectors.now.vectors work.sizes.now cs) c.in_ok-work.ensures.flat
-    (subst (λ (a : Apply). AreChangesOf a work.flat.now work.vectors.now.vectors work.sizes.now cs) c.in_ok-work.ensures.apply whole)))
+    subst (λ (a : Apply). AreChangesOf a cs) c.in_ok-work.ensures.apply whole

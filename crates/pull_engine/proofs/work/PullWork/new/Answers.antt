@@ -7,7 +7,7 @@ use Rattle.pull_engine.proofs.work.PullWork.new.Goals as goal
 
 pub returns-clause-cuts : goal.returns-clause-cuts
 returns-clause-cuts c =
-    let g = c.args.flat.now in
+    let g = c.args.apply.now.flat.now in
     let degree = λ (v : ℕ). length (sources_of v g.edges) in
     let cut = λ (n : ℕ) (us : List ℕ). boundaries c.args.apply.now.parallelization c.args.workers n (map degree us) in
     let list = c.deref.ensures.value ∙ c.in_ok-all.ensures.list in
