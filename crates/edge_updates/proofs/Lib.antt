@@ -2,3 +2,4 @@ pub mod Packing
 pub mod SortedUpdates
 pub mod KeepingLast
 pub mod Turning
+pub mod EndWidths

@@ -1,11 +1,14 @@
 -- Updates whose ends are swapped.
-use Rattle.std.proofs.Common.{◌≡◌, ℕ, ◌+◌, ◌<◌, ◌==◌, Bool, true, false, ◌&&◌, List, [], ◌∷◌, ◌++◌, length, get_or, take, drop, refl, sym, ◌∙◌, arith}
+use Rattle.std.proofs.Common.{◌≡◌, ℕ, zero, suc, ◌≤◌, ◌+◌, ◌<◌, ◌==◌, Bool, true, false, ◌&&◌, List, [], ◌∷◌, ◌++◌, length, get_or, take, drop, refl, sym, ◌∙◌, arith}
 use Rattle.std.proofs.Math.ListN.{set, length-set}
 use Rattle.std.proofs.Math.Seq.{take-length}
 use Rattle.std.proofs.lemmas.List.{take_more, take_more_set, drop_more, drop-set-lt}
+use Rattle.std.specs.List.Sorted.{IsSortedByKey}
+use Rattle.std.specs.Ordering.{nat_cmp}
 use Rattle.edge_updates.specs.declared.edge_update.EdgeUpdate.{EdgeUpdate}
 use Rattle.edge_updates.specs.EdgeUpdate.{vertex_of, neighbour_of, adds}
-use Rattle.edge_updates.specs.Updates.{names, decided, times, NamesOnce}
+use Rattle.edge_updates.specs.Updates.{names, decided, times, Ascend, NamesOnce}
+use Rattle.edge_updates.proofs.SortedUpdates.{sorted_from}
 use Rattle.edge_updates.proofs.KeepingLast.{written}
 
 -- the one update has the ends of the other swapped
@@ -81,3 +84,19 @@ times_turned (x ∷ xs) (y ∷ ys) u v s = rw (times_turned xs ys u v s.1, names
 -- and name none twice where none was
 pub once_turned : (xs ys : List EdgeUpdate) → AreTurned xs ys → NamesOnce xs → NamesOnce ys
 once_turned xs ys s once e = omega (arith, once (e.1, e.0), times_turned xs ys e.1 e.0 s)
+
+-- the new neighbours of updates that ascended do not fall
+turned_rise : (xs ys : List EdgeUpdate) → Ascend xs → AreTurned xs ys → (k : ℕ) (d : EdgeUpdate) → k + 1 < length ys → neighbour_of (get_or ys k d) ≤ neighbour_of (get_or ys (k + 1) d)
+turned_rise [] [] s t k d lt = absurd (omega arith)
+turned_rise [] (y ∷ ys) s t k d lt = absurd t
+turned_rise (x ∷ xs) [] s t k d lt = absurd t
+turned_rise (x ∷ []) (y ∷ []) s t k d lt = absurd (omega arith)
+turned_rise (x ∷ []) (y ∷ z ∷ ys) s t k d lt = absurd t.1
+turned_rise (x ∷ w ∷ xs) (y ∷ []) s t k d lt = absurd t.1
+turned_rise (x ∷ w ∷ xs) (y ∷ z ∷ ys) s t zero d lt = omega (arith, t.0.neighbour, t.1.0.neighbour, s.0.0)
+turned_rise (x ∷ w ∷ xs) (y ∷ z ∷ ys) s t (suc k) d lt =
+    let next : suc k + 1 ≡ suc (k + 1) = omega arith in
+    rw next (turned_rise (w ∷ xs) (z ∷ ys) s.1 t.1 k d (omega arith))
+
+pub turned_sorted : (xs ys : List EdgeUpdate) → Ascend xs → AreTurned xs ys → IsSortedByKey neighbour_of nat_cmp ys
+turned_sorted xs ys s t = sorted_from neighbour_of ys (turned_rise xs ys s t)

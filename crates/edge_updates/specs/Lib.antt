@@ -1,3 +1,4 @@
 pub mod EdgeUpdate
 pub mod Updates
 pub mod LastUpdates
+pub mod EndWidths

@@ -3,8 +3,8 @@
 //! A contract sees an [`EdgeUpdate`] as a vertex, a neighbour of it and whether the edge between them
 //! is added, and a list of them as what it decides: the last update that names an edge decides on it.
 //! [`sort`] and [`keep_last`] leave that as it is, and after both the edges ascend, each once.
-//! [`turn`] gives the same edges seen from the neighbour: sorted once more, they are the other
-//! direction.
+//! [`turn`] gives the same edges seen from the neighbour, and [`sort_turned`] sorts them too: they are
+//! the other direction.
 //!
 //! Batches of a graph are sorted by this crate.
 #![tactic(auto)]
@@ -17,4 +17,4 @@ mod sorts;
 pub use converse::turn;
 pub use edge_update::EdgeUpdate;
 pub use lasts::keep_last;
-pub use sorts::{sort, sort_forked};
+pub use sorts::{sort, sort_forked, sort_turned};

@@ -21,7 +21,8 @@ use Rattle.tree_batch.specs.BlockCuts.{block_decided}
 use Rattle.tree_batch.specs.Forking.{IsChangedTree}
 use Rattle.tree_batch.proofs.Rising.{rises_wider}
 use Rattle.tree_batch.proofs.AllEdges.{edges_after_are, digraph_after}
-use Rattle.tree_batch.proofs.Listed.{lists_rise, listed_in_block, neighbour_lists, neighbours_ascend, blocks_at, are_blocks}
+use Rattle.vertex_blocks.proofs.Numbering.{lists_rise, list_in_blocks}
+use Rattle.tree_batch.proofs.Listed.{neighbour_lists, neighbours_ascend, blocks_at, are_blocks}
 use Rattle.tree_batch.proofs.Adjacency.{rises_edges, has_edges, edges_weigh, rises_room}
 use Rattle.tree_batch.proofs.Columns.{has_source, sources_ascend, same_numbers}
 use Rattle.tree_batch.proofs.BlockMembers.{updated_members}
@@ -32,7 +33,7 @@ graph_rises bs ok = lists_rise 0 (2 ^ 18) bs ok.map ok.blocks
 
 -- a vertex has the neighbours that it has in its block
 pub in_block : (u : ℕ) (bs : List (ℕ × Block)) → AreGraphBlocks bs → neighbours_of u (lists_of bs) ≡ neighbours_of (u % 64) (vertices_at (lookup (u / 64) bs))
-in_block u bs ok = listed_in_block 0 (2 ^ 18) u bs ok.map ok.blocks
+in_block u bs ok = list_in_blocks 0 (2 ^ 18) bs u ok.map ok.blocks
 
 module _ (all : List EdgeUpdate) (bs : List (ℕ × Block)) (t : Changed VertexBlock) (ok : AreGraphBlocks bs) (made : IsChangedTree all bs t) where
   abbrev new : List (ℕ × Block)

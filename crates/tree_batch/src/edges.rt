@@ -6,7 +6,7 @@ ghost use Rattle.vertex_blocks.specs.Blocks.{lists_of};
 ghost use Rattle.tree_batch.specs.Neighbours.{edges_of};
 ghost use Rattle.tree_batch.specs.VertexBlocks.{AreGraphBlocks};
 
-use crate::vertices::VertexIter;
+use crate::vertices::AdjacencyIter;
 use shared_tree::Tree;
 use std::marker::Model;
 use vertex_blocks::{NeighbourIter, VertexBlock};
@@ -17,7 +17,7 @@ pub struct EdgeIter<'a> {
     source: u32,
     /// Those of the source that are still to come.
     destinations: Option<NeighbourIter<'a>>,
-    vertices: VertexIter<'a>,
+    vertices: AdjacencyIter<'a>,
 }
 
 impl<'a> Model for EdgeIter<'a> {
@@ -42,7 +42,7 @@ impl<'a> EdgeIter<'a> {
         EdgeIter {
             source: 0,
             destinations: None,
-            vertices: VertexIter::new(blocks),
+            vertices: AdjacencyIter::new(blocks),
         }
     }
 }

@@ -108,9 +108,10 @@ impl Graph {
             return Err(GraphError::VertexRange);
         }
         let size = self.chunk_size;
-        let updates = updates(alloc, batch.entries())?;
+        let mut scratch = Vec::new(alloc);
+        let updates = updates(alloc, batch.entries(), &mut scratch)?;
         let out = changed(alloc, &self.outgoing, &updates, size)?;
-        let turned = turned(updates)?;
+        let turned = turned(updates, scratch)?;
         let into = changed(alloc, &self.incoming, &turned, size)?;
         Ok(Graph {
             vertices: self.vertices,

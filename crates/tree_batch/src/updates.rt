@@ -11,15 +11,20 @@ use edge_updates::{EdgeUpdate, keep_last, sort, sort_forked};
 use std::alloc::{AllocError, Global};
 use std::thread::Threads;
 
-/// What entries say of edges, each named once, ascending by source and then by destination.
-pub(crate) fn updates(alloc: Global, entries: &[Entry]) -> Result<Vec<EdgeUpdate>, AllocError>
+/// What entries say of edges, each named once, ascending by source and then by destination. The memory
+/// of `scratch` is used for the sort.
+pub(crate) fn updates(
+    alloc: Global,
+    entries: &[Entry],
+    scratch: &mut Vec<EdgeUpdate>,
+) -> Result<Vec<EdgeUpdate>, AllocError>
     requires { names_outside 16777216 entries.now ≡ false }
     ensures order { IfOk result (λ v. Ascend v.items) }
     ensures once { IfOk result (λ v. NamesOnce v.items) }
     ensures same { IfOk result (λ v. (e : Edge) → decided v.items e ≡ decision entries.now e) }
 {
     let mut updates = unsorted(alloc, entries)?;
-    sort(&mut updates)?;
+    sort(&mut updates, scratch)?;
     keep_last(&mut updates);
     Ok(updates)
 }
@@ -48,7 +53,7 @@ fn unsorted(alloc: Global, entries: &[Entry]) -> Result<Vec<EdgeUpdate>, AllocEr
 {
     let mut updates = Vec::with_capacity(alloc, entries.len())?;
     for entry in entries {
-        updates.push(update(*entry))?;
+        updates.push_reserved(update(*entry));
     }
     Ok(updates)
 }

@@ -12,7 +12,7 @@ use vertex_blocks::{BlockIter, NeighbourSet, VertexBlock};
 
 /// The vertices that are still to come, ascending, each with its neighbours.
 #[derive(Drop)]
-pub(crate) struct VertexIter<'a> {
+pub(crate) struct AdjacencyIter<'a> {
     /// The number of the block that was begun.
     number: u32,
     /// Its vertices that are still to come.
@@ -21,7 +21,7 @@ pub(crate) struct VertexIter<'a> {
     rest: shared_tree::Iter<'a, VertexBlock>,
 }
 
-impl<'a> Model for VertexIter<'a> {
+impl<'a> Model for AdjacencyIter<'a> {
     ghost use Rattle.std.specs.Prelude.{ℕ, List, ◌++◌};
     ghost use Rattle.vertex_blocks.specs.Blocks.{vertices_at, numbered, lists_of};
     ghost use Rattle.tree_batch.specs.VertexBlocks.{AreBlocksLeft};
@@ -33,13 +33,13 @@ impl<'a> Model for VertexIter<'a> {
     ghost invariant = { λ i. AreBlocksLeft i.number (vertices_at i.vertices) i.rest };
 }
 
-impl<'a> VertexIter<'a> {
+impl<'a> AdjacencyIter<'a> {
     /// The vertices of blocks.
-    pub(crate) fn new(blocks: &'a Tree<VertexBlock>) -> VertexIter<'a>
+    pub(crate) fn new(blocks: &'a Tree<VertexBlock>) -> AdjacencyIter<'a>
         requires { AreGraphBlocks blocks.now.entries }
         ensures { result ≡ lists_of blocks.now.entries }
     {
-        VertexIter {
+        AdjacencyIter {
             number: 0,
             vertices: None,
             rest: blocks.iter(),
@@ -47,7 +47,7 @@ impl<'a> VertexIter<'a> {
     }
 }
 
-impl<'a> Iterator for VertexIter<'a> {
+impl<'a> Iterator for AdjacencyIter<'a> {
     type Item = (u32, NeighbourSet<'a>);
 
     ghost next_gives = { YieldsFirst (λ i. i) };

@@ -1,5 +1,5 @@
 use Rattle.std.proofs.Common.{◌≡◌, length, drop, ◌∙◌, arith}
-use Rattle.edge_updates.proofs.Turning.{turned_more, turned_all, decided_turned, once_turned}
+use Rattle.edge_updates.proofs.Turning.{turned_more, turned_all, decided_turned, once_turned, turned_sorted}
 use Rattle.edge_updates.proofs.converse.turn.Goals as goal
 
 pub loop-update-preserved : goal.loop-update-preserved
@@ -20,3 +20,10 @@ returns-clause-once c once =
     let len : length c.loop-update.update-items ≡ c.args.updates.now.len = c.loop-update.auto.update-items ∙ c.deref_mut-update-items.ensures.len in
     let all = turned_all old c.loop-update.update-items (drop (length c.loop-update.update-items) old) c.loop-update.update-index c.args.updates.now.len c.loop-update.invariant (omega arith) len in
     once_turned old _ all once
+
+pub returns-clause-rising : goal.returns-clause-rising
+returns-clause-rising c ascends =
+    let old = c.args.updates.now.items in
+    let len : length c.loop-update.update-items ≡ c.args.updates.now.len = c.loop-update.auto.update-items ∙ c.deref_mut-update-items.ensures.len in
+    let all = turned_all old c.loop-update.update-items (drop (length c.loop-update.update-items) old) c.loop-update.update-index c.args.updates.now.len c.loop-update.invariant (omega arith) len in
+    turned_sorted old _ ascends all
