@@ -34,11 +34,7 @@ use vertex_sets::{Form, VertexSet};
 /// destinations are tested at the end, those alone that were given something.
 ///
 /// The only error is out of memory.
-pub fn push(
-    alloc: Global,
-    apply: &Apply<'_>,
-    scratch: &mut Scratch,
-) -> Result<Changes, AllocError>
+pub fn push(alloc: Global, apply: &Apply<'_>, scratch: &mut Scratch) -> Result<Changes, AllocError>
     ensures once { IfOk result (λ c. AreApart c.vectors.items) }
     ensures changes { IfOk result (λ c. AreChangesOf apply.now c.vectors.items) }
 {

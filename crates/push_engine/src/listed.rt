@@ -144,11 +144,7 @@ pub(crate) fn cut_sources(
 }
 
 /// How many edges there are from each source, where a schedule asks for it, and else none.
-fn degrees_for(
-    alloc: Global,
-    apply: &Apply<'_>,
-    sources: &[u32],
-) -> Result<Vec<u32>, AllocError>
+fn degrees_for(alloc: Global, apply: &Apply<'_>, sources: &[u32]) -> Result<Vec<u32>, AllocError>
     ensures { IfOk result (λ ds. apply.now.parallelization ≡ EdgeAwareDynamicVertex → ds.items ≡ map (λ u. length (destinations_of u apply.now.flat.now.edges)) sources.now) }
 {
     if apply.parallelization == Parallelization::EdgeAwareDynamicVertex {

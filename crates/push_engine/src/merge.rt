@@ -68,7 +68,15 @@ impl PushWork<'_> {
             return Ok(());
         }
         let mut block = [0u32; 128];
-        fold_rows(alloc, self.apply.flat, context, part, None, &mut block, scratch)?;
+        fold_rows(
+            alloc,
+            self.apply.flat,
+            context,
+            part,
+            None,
+            &mut block,
+            scratch,
+        )?;
         Ok(())
     }
 }
