@@ -8,6 +8,7 @@ use Rattle.edge_apply.proofs.apply.Apply.TheSendSync.{the_sync as apply_sync}
 use Rattle.vertex_sets.proofs.set.VertexSet.TheSendSync.{the_sync as set_sync}
 use Rattle.vectors.proofs.vectors.Vectors.TheSendSync.{the_sync as vectors_sync}
 use Rattle.crew.proofs.partition.Partition.TheSendSync.{the_sync as partition_sync}
+use Rattle.kernels.proofs.shape.Shape.TheSendSync.{the_sync as shape_sync}
 use Rattle.pull_engine.specs.contracts.work.PullWork as work
 
 pub work_sync : (lft : NamedLft) → IsSync (work.the_row lft)
@@ -23,7 +24,7 @@ work_sync lft = declared_sync (work.the_type lft) (
           search (sendable, crosses, set_sync) depth 12,
           (
             search (sendable, crosses) depth 12,
-            (search (sendable, crosses, partition_sync) depth 12, tt),
+            (search (sendable, crosses, partition_sync) depth 12, (search (sendable, crosses, shape_sync) depth 12, tt)),
           ),
         ),
       ),
