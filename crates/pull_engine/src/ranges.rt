@@ -39,7 +39,10 @@ impl<'a> PullRange<'a> {
         let Some(EndpointFilter::Members(set)) = self.to else {
             return None;
         };
-        if self.low > 0 || self.high != self.flat.vertices() {
+        if self.low > 0 {
+            return None;
+        }
+        if self.high != self.flat.vertices() {
             return None;
         }
         Some(set)
@@ -130,8 +133,14 @@ fn keep_destinations(
 {
     kept.clear();
     match range.to {
-        None => kept.extend_from_slice(part),
-        Some(end) => scratch.keep_passing(range.context, end, part, kept),
+        None => {
+            kept.extend_from_slice(part)?;
+            Ok(())
+        }
+        Some(end) => {
+            scratch.keep_passing(range.context, end, part, kept)?;
+            Ok(())
+        }
     }
 }
 
