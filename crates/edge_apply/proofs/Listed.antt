@@ -112,7 +112,7 @@ same_ends DynamicVertex w n ds es same = refl
 same_ends EdgeAwareDynamicVertex w n ds es same = ap (edge_aware_ends w) (same refl)
 
 -- a piece stands in the list
-last_end : (s l : ℕ) (es : List ℕ) → AreEnds s l es → s ≤ l
+pub last_end : (s l : ℕ) (es : List ℕ) → AreEnds s l es → s ≤ l
 last_end s l [] are = omega (arith, are)
 last_end s l (e ∷ es) are = let more = last_end e l es are.1 in let low = are.0 in omega (arith, more, low)
 

@@ -16,8 +16,8 @@ mod vertices;
 
 pub use apply::Apply;
 pub use joining::{join_all, part_between};
-pub use members::keep_members;
+pub use members::{keep_members, passes};
 pub use modified::apply_modified;
 pub use parts::take_part;
 pub use passing::passing_set;
-pub use vertices::all_vertices;
+pub use vertices::{all_vertices, number_between};

@@ -18,6 +18,17 @@ pub fn keep_members(words: Option<&[u64]>, block: &mut [u32], count: usize) -> u
     }
 }
 
+/// Whether the bit of a vertex is set. All pass where no words are given.
+#[inline(always)]
+pub fn passes(words: Option<&[u64]>, vertex: u32) -> bool
+    ensures { result ≡ passes_words words.entry vertex }
+{
+    match words {
+        None => true,
+        Some(words) => is_set(words, vertex),
+    }
+}
+
 /// The same where words are given.
 #[inline(always)]
 fn keep_set(words: &[u64], block: &mut [u32], count: usize) -> usize

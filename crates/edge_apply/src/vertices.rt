@@ -16,8 +16,8 @@ pub fn all_vertices(alloc: Global, flat: &Flat) -> Result<Vec<u32>, AllocError>
     Ok(found)
 }
 
-/// The numbers from one on up to another, in place of what the part has.
-pub(crate) fn number_between(first: u32, stop: u32, part: &mut Vec<u32>) -> Result<(), AllocError>
+/// The numbers from one on up to another, in place of what the part has. The only error is out of memory.
+pub fn number_between(first: u32, stop: u32, part: &mut Vec<u32>) -> Result<(), AllocError>
     requires { first ≤ stop }
     ensures { OnOk result (part.new.items ≡ range_with_len first (stop - first)) }
 {

@@ -40,7 +40,7 @@ changed_from-append old new v (suc m) n =
     ∙ sym (append_assoc (change_at old new v) (changed_from old new (v + 1) m) (changed_from old new (v + 1 + m) n))
     ∙ ap (λ k. (change_at old new v ++ changed_from old new (v + 1) m) ++ changed_from old new k n) (next_place v m)
 
-equal_itself : (x : ℤ) → int_equal x x ≡ true
+pub equal_itself : (x : ℤ) → int_equal x x ≡ true
 equal_itself x = grind (arith, ints, nat_tests)
 
 -- where the entries stay there are no changes

@@ -37,8 +37,9 @@ impl Accumulator {
     }
 }
 
-/// Adds a change, where there is one.
-fn push_change(
+/// Adds a change, where there is one. The only error is out of memory.
+#[inline]
+pub fn push_change(
     vertex: u32,
     before: i64,
     number: i64,

@@ -49,5 +49,9 @@ mod vector_accumulator;
 mod vector_accumulators;
 
 pub use apply_context::{ApplyContext, FoldStart};
+pub use changes::push_change;
 pub use gathered::{Gathered, GatheredIn};
 pub use scratch::Scratch;
+pub use source_numbers::{
+    OneNumber, OwnEntry, OwnEntryPlus, OwnNumber, SourceNumbers, reduce_sources,
+};

@@ -11,7 +11,7 @@ use typed_tree::Operator;
 use vectors::Lane;
 
 /// A number for each source.
-pub(crate) trait SourceNumbers {
+pub trait SourceNumbers {
     ghost number: { Self → ℕ → ℤ };
 
     fn of(&self, source: u32) -> i64
@@ -20,25 +20,25 @@ pub(crate) trait SourceNumbers {
 
 /// The number of the source itself.
 #[derive(Clone, Copy)]
-pub(crate) struct OwnNumber;
+pub struct OwnNumber;
 
 /// The source's entry of a vector.
 #[derive(Clone, Copy)]
-pub(crate) struct OwnEntry<'a> {
-    pub(crate) lane: Lane<'a>,
+pub struct OwnEntry<'a> {
+    pub lane: Lane<'a>,
 }
 
 /// The source's entry of a vector with a number added.
 #[derive(Clone, Copy)]
-pub(crate) struct OwnEntryPlus<'a> {
-    pub(crate) lane: Lane<'a>,
-    pub(crate) number: i64,
+pub struct OwnEntryPlus<'a> {
+    pub lane: Lane<'a>,
+    pub number: i64,
 }
 
 /// One number for all sources.
 #[derive(Clone, Copy)]
-pub(crate) struct OneNumber {
-    pub(crate) number: i64,
+pub struct OneNumber {
+    pub number: i64,
 }
 
 impl SourceNumbers for OwnNumber {
@@ -75,6 +75,19 @@ impl SourceNumbers for OneNumber {
     fn of(&self, _source: u32) -> i64 {
         self.number
     }
+}
+
+/// A number reduced with those of sources, in their order.
+#[inline]
+pub fn reduce_sources<N: SourceNumbers>(
+    reduction: Reduction,
+    numbers: &N,
+    number: i64,
+    sources: &[u32],
+) -> i64
+    ensures { result ≡ reduced_with reduction (N.number numbers.now) number sources.now }
+{
+    reduce_rest(reduction, numbers, number, sources)
 }
 
 /// The numbers of sources reduced to one, where there is a source.

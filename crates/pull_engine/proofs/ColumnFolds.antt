@@ -21,7 +21,7 @@ use Rattle.edge_apply.proofs.Listed.{below_all}
 use Rattle.pull_engine.specs.Columns.{columns}
 
 -- the edges into a vertex
-abbrev into : ℕ → List (ℕ × ℕ) → List (ℕ × ℕ)
+abbrev pub into : ℕ → List (ℕ × ℕ) → List (ℕ × ℕ)
 into v es = filter (λ e. e.1 == v) es
 
 nothing_either : (b : Bool) (none : List (ℕ × ℕ)) → none ≡ [] → [] ≡ cond b none []
@@ -90,13 +90,13 @@ between_one from to v e rest S false q true passes is at more =
     more ∙ sym (ap (λ (c : Bool). cond (to v) (column v (cond c (e.0 ∷ filter from S) (filter from S))) []) passes)
 between_one from to v e rest S false q false passes is at more = more
 
-into_between : (v : ℕ) (from to : ℕ → Bool) (es : List (ℕ × ℕ)) → into v (edges_between from to es) ≡ cond (to v) (column v (filter from (sources_of v es))) []
+pub into_between : (v : ℕ) (from to : ℕ → Bool) (es : List (ℕ × ℕ)) → into v (edges_between from to es) ≡ cond (to v) (column v (filter from (sources_of v es))) []
 into_between v from to [] = nothing_either (to v) [] refl
 into_between v from to (e ∷ es) =
     between_one from to v e (edges_between from to es) (sources_of v es) (from e.0) (to e.1) (e.1 == v) refl refl refl (into_between v from to es)
 
 -- only the edges into a vertex count for it
-only_into : (r : Reduction) (x v : ℕ) (n : ℤ) (g : ℕ × ℕ → List (ℕ × Reduction × ℤ)) (es : List (ℕ × ℕ)) → reduced_at r v n (given_on x g (into v es)) ≡ reduced_at r v n (given_on x g es)
+pub only_into : (r : Reduction) (x v : ℕ) (n : ℤ) (g : ℕ × ℕ → List (ℕ × Reduction × ℤ)) (es : List (ℕ × ℕ)) → reduced_at r v n (given_on x g (into v es)) ≡ reduced_at r v n (given_on x g es)
 only_into r x v n g es = filtered_edges r x v n (λ u. u == v) g es ∙ ap (λ (b : Bool). cond b (reduced_at r v n (given_on x g es)) n) ((Decides-eqb v v).1 refl)
 
 agree_at : (from : ℕ → Bool) (v : ℕ) (S : List ℕ) (a b : Bool) → (0 < length S → a ≡ b) → cond a (column v (filter from S)) [] ≡ cond b (column v (filter from S)) []

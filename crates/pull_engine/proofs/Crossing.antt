@@ -6,6 +6,7 @@ use Rattle.std.proofs.Crossing.{crosses}
 use Rattle.edge_apply.proofs.Crossing.{apply_sync}
 use Rattle.vertex_sets.proofs.set.VertexSet.TheSendSync.{the_sync as set_sync}
 use Rattle.crew.proofs.partition.Partition.TheSendSync.{the_sync as partition_sync}
+use Rattle.kernels.proofs.shape.Shape.TheSendSync.{the_sync as shape_sync}
 use Rattle.pull_engine.specs.contracts.work.PullWork as work
 
 pub work_sync : (lft : NamedLft) → IsSync (work.the_row lft)
@@ -15,7 +16,7 @@ work_sync lft = declared_sync (work.the_type lft) (
     search (sendable, crosses, set_sync) depth 12,
     (
       search (sendable, crosses) depth 12,
-      (search (sendable, crosses, partition_sync) depth 12, tt),
+      (search (sendable, crosses, partition_sync) depth 12, (search (sendable, crosses, shape_sync) depth 12, tt)),
     ),
   ),
 )

@@ -1,5 +1,5 @@
 -- The pieces of an apply, put together.
-use Rattle.std.proofs.Common.{◌≡◌, ℕ, ◌<◌, ◌==◌, ◌⊎◌, inl, inr, ◌&&◌, Bool, true, false, cond, List, [], ◌∷◌, ◌++◌, length, refl, sym, ap, ◌∙◌, arith}
+use Rattle.std.proofs.Common.{◌≡◌, ℕ, ◌<◌, ◌==◌, ◌⊎◌, inl, inr, ◌&&◌, Bool, true, false, cond, Option, Some, None, List, [], ◌∷◌, ◌++◌, length, refl, sym, ap, ◌∙◌, subst, arith}
 use Rattle.std.specs.List.{filter, flat_map, range_with_len}
 use Rattle.std.specs.List.Sorted.{IsPermutation}
 use Rattle.kernels.specs.StepTree.{StepsTree}
@@ -30,7 +30,13 @@ use Rattle.std.proofs.lemmas.List.Elements.{filter-append}
 use Rattle.std.proofs.lemmas.Bool.Decides.{Decides-eqb}
 use Rattle.pull_engine.specs.declared.work.PullWork.{PullWork}
 use Rattle.pull_engine.specs.Columns.{columns}
-use Rattle.pull_engine.specs.Pieces.{Answers, edges_into_piece}
+use Rattle.apply_options.specs.declared.reduction.Reduction.{Reduction}
+use Rattle.kernels.specs.Value.{entry}
+use Rattle.edge_fold.specs.Given.{IsReducedBy}
+use Rattle.pull_engine.specs.Pieces.{Answers, AnswersFor, GathersPiece, edges_into_piece}
+use Rattle.pull_engine.specs.Ranges.{entry_after, shape_vector}
+use Rattle.pull_engine.proofs.FoundParts.{ListParts}
+use Rattle.pull_engine.proofs.Told.{told_in_piece}
 use Rattle.pull_engine.proofs.ColumnFolds.{columns-append, folded_columns}
 use Rattle.edge_apply.proofs.Filtered.{has_first, has_later}
 
@@ -56,7 +62,7 @@ found_first : (v : ℕ) (e : ℕ × ℕ) (es : List (ℕ × ℕ)) (same : Bool) 
 found_first v e es true is some = inl ((Decides-eqb e.1 v).0 is)
 found_first v e es false is some = inr some
 
-destination_within : (n v : ℕ) (es : List (ℕ × ℕ)) → ((e : ℕ × ℕ) → has_edge es e ≡ true → IsWithin n e) → 0 < length (sources_of v es) → v < n
+pub destination_within : (n v : ℕ) (es : List (ℕ × ℕ)) → ((e : ℕ × ℕ) → has_edge es e ≡ true → IsWithin n e) → 0 < length (sources_of v es) → v < n
 destination_within n v [] within some = absurd (omega (arith, some))
 destination_within n v (e ∷ es) within some = elim (found_first v e es (e.1 == v) refl some) [
   | inl at ↦ let here = (within e (has_first e es)).1 in omega (arith, at, here)
@@ -88,9 +94,25 @@ merged f m steps g from to ends us ks s is whole all same has =
     (folded_in_any_order f m steps edges_of ks (range_with_len 1 (length ends)) s same has))
 
 -- what the pieces answer, for one state
-pub each_gathered : (w : PullWork) (fs : List (Found Gathered)) (m : StateValue) (steps : List StepsTree) (from to : ℕ → Bool) → AreAnswers (Answers w) fs
+pub each_gathered : (w : PullWork) (fs : List (Found Gathered)) (m : StateValue) (steps : List StepsTree) (from to : ℕ → Bool) → AreAnswers (GathersPiece w) fs
     → w.apply.vectors.now.vectors ≡ m.vectors → HasSizes w.apply.sizes.now m → AreKernels w.apply.first.now w.apply.second steps → IsEndTest w.apply.from m from → IsEndTest w.apply.to m to
     → EachGathered w.apply.flat.now.vertices m steps (edges_into_piece w from to) fs
 each_gathered w [] m steps from to answers vectors sizes kernels is_from is_to = tt
 each_gathered w (f ∷ fs) m steps from to answers vectors sizes kernels is_from is_to =
     (answers.0 m steps from to vectors sizes kernels is_from is_to, each_gathered w fs m steps from to answers.1 vectors sizes kernels is_from is_to)
+
+-- the answers of pieces, where no common shape is known
+pub gathers_pieces : (w : PullWork) (fs : List (Found Gathered)) → shape_vector w.shape ≡ None → AreAnswers (Answers w) fs → AreAnswers (GathersPiece w) fs
+gathers_pieces w [] none answers = tt
+gathers_pieces w (f ∷ fs) none answers = (subst (λ (o : Option ℕ). AnswersFor o w f.piece f.out) none answers.0, gathers_pieces w fs none answers.1)
+
+-- the same where one is
+pub pulled_parts : (w : PullWork) (fs : List (Found Gathered)) (y : ℕ) → shape_vector w.shape ≡ Some y → AreAnswers (Answers w) fs
+    → (m : StateValue) (steps : List StepsTree) (from to : ℕ → Bool) → w.apply.vectors.now.vectors ≡ m.vectors → HasSizes w.apply.sizes.now m → AreKernels w.apply.first.now w.apply.second steps → IsEndTest w.apply.from m from → IsEndTest w.apply.to m to
+    → (r : Reduction) → IsReducedBy r y m steps
+    → ListParts (told_in_piece (entry m.vectors y) (entry_after m steps y r (edges_between from to w.apply.flat.now.edges)) w.cuts) fs
+pulled_parts w [] y at answers m steps from to vectors sizes kernels is_from is_to r by = tt
+pulled_parts w (f ∷ fs) y at answers m steps from to vectors sizes kernels is_from is_to r by = (
+  subst (λ (o : Option ℕ). AnswersFor o w f.piece f.out) at answers.0 m steps from to vectors sizes kernels is_from is_to r by,
+  pulled_parts w fs y at answers.1 m steps from to vectors sizes kernels is_from is_to r by,
+)

@@ -1,3 +1,7 @@
 pub mod Columns
 pub mod Destinations
+pub mod EarlySources
+pub mod Ranges
+pub mod Pulls
+pub mod Propositions
 pub mod Pieces

@@ -1,23 +1,40 @@
 -- What the pieces of an apply answer.
-use Rattle.std.specs.Prelude.{◌≡◌, ℕ, Bool, List}
+use Rattle.std.specs.Prelude.{◌≡◌, ℕ, ◌-◌, Bool, Option, Some, None, List}
 use Rattle.std.specs.List.{filter}
 use Rattle.kernels.specs.StepTree.{StepsTree}
 use Rattle.kernels.specs.State.{StateValue}
 use Rattle.kernels.specs.Cells.{HasSizes}
+use Rattle.vectors.specs.declared.changes.EntryChange.{EntryChange}
 use Rattle.edge_fold.specs.declared.gathered.Gathered.{Gathered}
 use Rattle.edge_fold.specs.Ends.{IsEndTest}
 use Rattle.edge_fold.specs.Folded.{AreKernels}
 use Rattle.edge_fold.specs.Gathered.{AreGathered}
-use Rattle.crew.specs.Partition.{piece_of}
+use Rattle.edge_fold.specs.Between.{edges_between}
+use Rattle.crew.specs.Partition.{end_of, piece_of}
 use Rattle.pull_engine.specs.declared.work.PullWork.{PullWork}
 use Rattle.pull_engine.specs.Columns.{columns}
+use Rattle.pull_engine.specs.Ranges.{AreChangesFrom, all_listed, shape_vector}
 
 -- the edges of an apply into the vertices of a piece, where these tests are those of its ends
 abbrev pub edges_into_piece : PullWork → (from to : ℕ → Bool) → (piece : ℕ) → List (ℕ × ℕ)
 edges_into_piece w from to k = columns from w.apply.flat.now.edges (filter to (piece_of w.cuts w.vertices.items k))
 
--- a piece answers what its edges give
-abbrev pub Answers : PullWork → (piece : ℕ) → Gathered → Type 0
-Answers w k g = (m : StateValue) (steps : List StepsTree) (from to : ℕ → Bool) → w.apply.vectors.now.vectors ≡ m.vectors → HasSizes w.apply.sizes.now m
+-- a piece of an apply by any functions answers what its edges give
+abbrev pub GathersPiece : PullWork → (piece : ℕ) → Gathered → Type 0
+GathersPiece w k g = (m : StateValue) (steps : List StepsTree) (from to : ℕ → Bool) → w.apply.vectors.now.vectors ≡ m.vectors → HasSizes w.apply.sizes.now m
     → AreKernels w.apply.first.now w.apply.second steps → IsEndTest w.apply.from m from → IsEndTest w.apply.to m to
     → AreGathered w.apply.flat.now.vertices m steps (edges_into_piece w from to k) g
+
+-- where one function gives a vector by sources alone, a piece answers what the apply changes at its vertices, ascending
+abbrev pub IsPiecePulled : (vector : ℕ) → PullWork → (piece : ℕ) → List EntryChange → Type 0
+IsPiecePulled x w k cs = (m : StateValue) (steps : List StepsTree) (from to : ℕ → Bool) → w.apply.vectors.now.vectors ≡ m.vectors → HasSizes w.apply.sizes.now m
+    → AreKernels w.apply.first.now w.apply.second steps → IsEndTest w.apply.from m from → IsEndTest w.apply.to m to
+    → AreChangesFrom x (end_of w.cuts (k - 1)) (end_of w.cuts k - end_of w.cuts (k - 1)) (edges_between from to w.apply.flat.now.edges) m steps cs
+
+abbrev pub AnswersFor : Option ℕ → PullWork → (piece : ℕ) → Gathered → Type 0
+AnswersFor None w k g = GathersPiece w k g
+AnswersFor (Some x) w k g = IsPiecePulled x w k (all_listed g.vectors.items)
+
+-- what a piece answers
+abbrev pub Answers : PullWork → (piece : ℕ) → Gathered → Type 0
+Answers w k g = AnswersFor (shape_vector w.shape) w k g

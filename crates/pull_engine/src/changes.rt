@@ -1,10 +1,10 @@
 //! Whole applies by pull: into the destinations.
-ghost use Rattle.std.specs.Prelude.{◌≡◌, ℕ, Bool, List, IfOk};
+ghost use Rattle.std.specs.Prelude.{◌≡◌, ℕ, ◌==◌, Bool, if◌then◌else◌, List, [], IfOk};
 ghost use Rattle.kernels.specs.StepTree.{StepsTree};
 ghost use Rattle.kernels.specs.EdgeApply.{is_member};
 ghost use Rattle.kernels.specs.State.{StateValue};
 ghost use Rattle.edge_fold.specs.Between.{edges_between};
-ghost use Rattle.edge_fold.specs.Changed.{AreApart};
+ghost use Rattle.edge_fold.specs.Changed.{AreApart, changes_of};
 ghost use Rattle.edge_fold.specs.Ends.{IsEndTest};
 ghost use Rattle.edge_fold.specs.declared.apply_context.FoldStart.TheVariants.{OldEntry};
 ghost use Rattle.edge_fold.specs.Folded.{IsContextOf};
@@ -12,12 +12,14 @@ ghost use Rattle.edge_apply.specs.Applied.{AreChangesOf, AreChangesOn};
 ghost use Rattle.edge_apply.specs.Words.{passes_words};
 
 use crate::destinations::fold_to;
+use crate::ranges::PullRange;
+use crate::shapes::{apply_shape, pull_shape, shape_target};
 use edge_apply::{Apply, passing_set};
 use edge_fold::{ApplyContext, FoldStart, Scratch};
 use flat_snapshot::Flat;
 use kernels::EndpointFilter;
 use std::alloc::{AllocError, Global};
-use vectors::Changes;
+use vectors::{Changes, EntryChange, VectorChanges};
 use vertex_sets::{Form, VertexSet};
 
 /// What an apply of edge functions changes, where it goes over the destinations and their sources: for each vector that
@@ -26,12 +28,17 @@ use vertex_sets::{Form, VertexSet};
 /// in the words of a push. The vectors stay as they are, and so does the
 /// graph. The scratch serves any apply after this one, whatever became of it.
 ///
-/// It takes time in proportion to the vertices with edges to them and to those edges, or, where the destinations are
-/// members of a set, to these and the edges to them. A filter of sources is run for each vertex, and sources that are
-/// members of a list or of flags are put into bits first.
+/// It takes time in proportion to the vertices and to the edges to them, or, where the destinations are members of a set,
+/// to these and the edges to them. Where one source decides, as the greatest one for a `max=` of the source, no edges are
+/// read after the first of them, but in sets in chunks for the greatest. A filter of sources is run for each vertex, and
+/// sources that are members of a list or of flags are put into bits first.
 ///
 /// The only error is out of memory.
-pub fn pull(alloc: Global, apply: &Apply<'_>, scratch: &mut Scratch) -> Result<Changes, AllocError>
+pub fn pull(
+    alloc: Global,
+    apply: &Apply<'_>,
+    scratch: &mut Scratch,
+) -> Result<Changes, AllocError>
     ensures once { IfOk result (λ c. AreApart c.vectors.items) }
     ensures changes { IfOk result (λ c. AreChangesOf apply.now c.vectors.items) }
 {
@@ -85,8 +92,51 @@ fn pull_from(
     ensures changes { IfOk result (λ c. (m : StateValue) (steps : List StepsTree) (test : ℕ → Bool) → IsContextOf context.entry m steps → context.entry.vertices ≡ flat.now.vertices → context.entry.start ≡ OldEntry → IsEndTest to.entry m test
         → AreChangesOn flat.now.vertices (edges_between (passes_words from.entry) test flat.now.edges) m steps c.vectors.items) }
 {
+    let shape = apply_shape(context.first, context.second);
+    let Some(target) = shape_target(shape) else {
+        return pull_folded(alloc, flat, context, from, to, scratch);
+    };
+    let range = PullRange {
+        flat,
+        context,
+        from,
+        to,
+        low: 0,
+        high: flat.vertices(),
+    };
+    let changes = pull_shape(alloc, shape, range, scratch)?;
+    changes_in(alloc, target.vector, changes)
+}
+
+/// The same by functions of any shape.
+fn pull_folded(
+    alloc: Global,
+    flat: &Flat,
+    context: ApplyContext<'_>,
+    from: Option<&[u64]>,
+    to: Option<EndpointFilter<'_>>,
+    scratch: &mut Scratch,
+) -> Result<Changes, AllocError>
+    ensures once { IfOk result (λ c. AreApart c.vectors.items) }
+    ensures changes { IfOk result (λ c. (m : StateValue) (steps : List StepsTree) (test : ℕ → Bool) → IsContextOf context.entry m steps → context.entry.vertices ≡ flat.now.vertices → context.entry.start ≡ OldEntry → IsEndTest to.entry m test
+        → AreChangesOn flat.now.vertices (edges_between (passes_words from.entry) test flat.now.edges) m steps c.vectors.items) }
+{
     scratch.begin();
     fold_to(alloc, flat, context, from, to, scratch)?;
     let changes = scratch.changes(alloc, context, None)?;
     Ok(changes)
+}
+
+/// The changes of one vector. The only error is out of memory.
+pub(crate) fn changes_in(
+    alloc: Global,
+    vector: usize,
+    changes: Vec<EntryChange>,
+) -> Result<Changes, AllocError>
+    ensures once { IfOk result (λ c. AreApart c.vectors.items) }
+    ensures changes { IfOk result (λ c. (x : ℕ) → changes_of x c.vectors.items ≡ (if vector == x then changes.items else [])) }
+{
+    let mut vectors = Vec::with_capacity(alloc, 1)?;
+    vectors.push(VectorChanges { vector, changes })?;
+    Ok(Changes { vectors })
 }

@@ -8,9 +8,18 @@
 //! kept so, or bits that are made once for an apply. A filter is run over blocks of 128 vertices, once for each vertex.
 //! Sources are read in blocks of 128, and what passes goes to `edge_fold`, where each destination has one writer.
 //!
+//! One function that gives a vector by its sources alone, in one of the shapes of `kernels`, needs no scratch: a pull of
+//! a range of destinations is one loop that is made for the function. The entry of a destination is reduced with the
+//! numbers of its sources, and where that is another number, a change is added to an ascending list. Where one source
+//! decides ([`one_source_decides`]), the walk over the sources ends there: downward for the greatest source, upward for
+//! the least, and at the first for a number that all sources give. So breadth-first search reads of each vertex that it
+//! has not reached only the sources up to the first in the frontier, as the bottom-up step of direction-optimizing
+//! breadth-first search (Beamer, Asanović, Patterson, SC 2012).
+//!
 //! [`PullWork`] is an apply in pieces, which workers may do side by side: the destinations are cut as the schedule says
 //! (`crew::Partition`), a piece answers what the edges into its destinations give, and [`PullWork::merge`] makes the changes of
-//! the whole of all answers, in whatever order they come. [`pull_crew`] has the pieces done by 1 to 64 workers. The promise of
+//! the whole of all answers, in whatever order they come. By a function of such a shape a piece answers what changes at its
+//! vertices, and the merge puts the lists one after the other. [`pull_crew`] has the pieces done by 1 to 64 workers. The promise of
 //! both is that of [`pull`].
 //!
 //! Push and pull are those of Ligra's edge map (Shun, Blelloch, PPoPP 2013).
@@ -19,10 +28,15 @@
 mod changes;
 mod crew_apply;
 mod destinations;
+mod early_sources;
 mod listed;
 mod pieces;
+mod ranges;
+mod shapes;
+mod source_folds;
 mod work;
 
 pub use changes::pull;
 pub use crew_apply::pull_crew;
+pub use early_sources::one_source_decides;
 pub use work::PullWork;

@@ -1,20 +1,25 @@
 //! Pieces of an apply by pull, and their merge.
-ghost use Rattle.std.specs.Prelude.{◌≡◌, ℕ, List, [], length, IfOk};
-ghost use Rattle.std.specs.List.{range_with_len};
+ghost use Rattle.std.specs.Prelude.{◌≡◌, ℕ, ◌<◌, ◌≤◌, ◌++◌, List, [], length, Contains, IfNone, IfOk, IfSome, OnOk};
+ghost use Rattle.std.specs.List.{flat_map, range_with_len};
 ghost use Rattle.std.specs.List.Sorted.{IsPermutation};
 ghost use Rattle.crew.specs.Pieces.{AreAnswers, pieces_of};
 ghost use Rattle.edge_fold.specs.Changed.{AreApart};
 ghost use Rattle.edge_apply.specs.Applied.{AreChangesOf};
-ghost use Rattle.pull_engine.specs.Pieces.{Answers};
+ghost use Rattle.vectors.specs.declared.changes.EntryChange.{EntryChange as Change};
+ghost use Rattle.pull_engine.specs.Pieces.{Answers, GathersPiece, IsPiecePulled};
+ghost use Rattle.pull_engine.specs.Ranges.{all_listed, shape_vector as vector_of};
 
+use crate::changes::changes_in;
 use crate::destinations::fold_part;
 use crate::listed::words_of;
+use crate::ranges::PullRange;
+use crate::shapes::{ShapeTarget, pull_shape, shape_target};
 use crate::work::PullWork;
 use crew::{Found, Work};
 use edge_apply::{join_all, part_between};
-use edge_fold::{FoldStart, Gathered, Scratch};
+use edge_fold::{ApplyContext, FoldStart, Gathered, GatheredIn, Scratch};
 use std::alloc::{AllocError, Global};
-use vectors::Changes;
+use vectors::{Changes, EntryChange};
 
 impl PullWork<'_> {
     /// How many pieces there are, at least one.
@@ -39,11 +44,93 @@ impl PullWork<'_> {
         ensures changes { IfOk result (λ c. AreAnswers (Answers self.now) found.now → IsPermutation (pieces_of found.now) (range_with_len 1 (length self.now.cuts))
             → AreChangesOf self.now.apply c.vectors.items) }
     {
+        match shape_target(self.shape) {
+            Some(target) => {
+                let changes = append_pieces(alloc, self.cuts.pieces(), found)?;
+                changes_in(alloc, target.vector, changes)
+            }
+            None => self.merge_gathered(alloc, found, scratch),
+        }
+    }
+
+    /// The same of what the pieces give.
+    fn merge_gathered(
+        &self,
+        alloc: Global,
+        found: &[Found<Gathered>],
+        scratch: &mut Scratch,
+    ) -> Result<Changes, AllocError>
+        ensures once { IfOk result (λ c. AreApart c.vectors.items) }
+        ensures changes { IfOk result (λ c. AreAnswers (GathersPiece self.now) found.now → IsPermutation (pieces_of found.now) (range_with_len 1 (length self.now.cuts))
+            → AreChangesOf self.now.apply c.vectors.items) }
+    {
         let context = self.apply.context(FoldStart::OldEntry);
         scratch.begin();
         join_all(alloc, context, found, scratch)?;
         let changes = scratch.changes(alloc, context, None)?;
         Ok(changes)
+    }
+
+    /// What the edges into the vertices of a piece give.
+    fn gather_piece(
+        &self,
+        alloc: Global,
+        scratch: &mut Scratch,
+        piece: usize,
+    ) -> Result<Gathered, AllocError>
+        requires some { 0 < piece }
+        requires inside { piece ≤ length self.now.cuts }
+        ensures { IfOk result (GathersPiece self.now piece) }
+    {
+        let context = self.apply.context(FoldStart::Unit);
+        let places = self.cuts.piece(piece);
+        let part = part_between(&self.vertices, places.start, places.end);
+        let words = words_of(&self.bits);
+        scratch.begin();
+        fold_part(
+            alloc,
+            self.apply.flat,
+            context,
+            words,
+            self.apply.to,
+            part,
+            scratch,
+        )?;
+        let gathered = scratch.gathered(alloc, context, None)?;
+        Ok(gathered)
+    }
+
+    /// What the apply changes at the vertices of a piece, by a function of a common shape.
+    fn pull_piece(
+        &self,
+        alloc: Global,
+        scratch: &mut Scratch,
+        piece: usize,
+    ) -> Result<Vec<EntryChange>, AllocError>
+        requires some { 0 < piece }
+        requires inside { piece ≤ length self.now.cuts }
+        ensures { IfOk result (λ cs. IfSome (vector_of self.now.shape) (λ vector. IsPiecePulled vector self.now piece cs.items)) }
+    {
+        let start = FoldStart::OldEntry;
+        let context = ApplyContext {
+            first: self.apply.first,
+            second: self.apply.second,
+            vectors: self.apply.vectors,
+            sizes: self.apply.sizes,
+            vertices: self.apply.flat.vertices(),
+            start,
+        };
+        let places = self.cuts.piece(piece);
+        let from = words_of(&self.bits);
+        let range = PullRange {
+            flat: self.apply.flat,
+            context,
+            from,
+            to: self.apply.to,
+            low: places.start as u32,
+            high: places.end as u32,
+        };
+        pull_shape(alloc, self.shape, range, scratch)
     }
 }
 
@@ -68,21 +155,75 @@ impl<'a> Work for PullWork<'a> {
         scratch: &mut Scratch,
         piece: usize,
     ) -> Result<Gathered, AllocError> {
-        let context = self.apply.context(FoldStart::Unit);
-        let places = self.cuts.piece(piece);
-        let part = part_between(&self.vertices, places.start, places.end);
-        let words = words_of(&self.bits);
-        scratch.begin();
-        fold_part(
-            alloc,
-            self.apply.flat,
-            context,
-            words,
-            self.apply.to,
-            part,
-            scratch,
-        )?;
-        let gathered = scratch.gathered(alloc, context, None)?;
-        Ok(gathered)
+        match shape_target(self.shape) {
+            Some(target) => {
+                let changes = self.pull_piece(alloc, scratch, piece)?;
+                listed_in(alloc, target, changes)
+            }
+            None => self.gather_piece(alloc, scratch, piece),
+        }
     }
+}
+
+/// The changes of one vector, as what a piece answers.
+fn listed_in(
+    alloc: Global,
+    target: ShapeTarget,
+    changes: Vec<EntryChange>,
+) -> Result<Gathered, AllocError>
+    ensures { IfOk result (λ g. all_listed g.vectors.items ≡ changes.items) }
+{
+    let mut vectors = Vec::with_capacity(alloc, 1)?;
+    vectors.push(GatheredIn {
+        vector: target.vector,
+        reduction: target.reduction,
+        numbers: changes,
+    })?;
+    Ok(Gathered { vectors })
+}
+
+/// The changes of all pieces, one piece after the other. The only error is out of memory.
+fn append_pieces(
+    alloc: Global,
+    pieces: usize,
+    found: &[Found<Gathered>],
+) -> Result<Vec<EntryChange>, AllocError>
+    ensures { IfOk result (λ cs. (parts : ℕ → List Change) → IsPermutation (pieces_of found.now) (range_with_len 1 pieces)
+        → AreAnswers (λ k g. all_listed g.vectors.items ≡ parts k) found.now → cs.items ≡ flat_map parts (range_with_len 1 pieces)) }
+{
+    let mut changes = Vec::new(alloc);
+    'pieces: for place in 0..pieces {
+        match find_piece(found, place + 1) {
+            Some(one) => append_listed(&one.vectors, &mut changes)?,
+            None => {}
+        }
+    }
+    Ok(changes)
+}
+
+/// Adds all that is listed.
+fn append_listed(vectors: &[GatheredIn], changes: &mut Vec<EntryChange>) -> Result<(), AllocError>
+    ensures { OnOk result (changes.new.items ≡ changes.old.items ++ all_listed vectors.now) }
+{
+    'vectors: for of_vector in vectors {
+        changes.extend_from_slice(&of_vector.numbers)?;
+    }
+    Ok(())
+}
+
+/// What was found of a piece. It takes constant time where the pieces come in their order.
+fn find_piece(found: &[Found<Gathered>], piece: usize) -> Option<&Gathered>
+    requires { 0 < piece }
+    ensures some { IfSome result (λ g. (parts : ℕ → List Change) → AreAnswers (λ k g. all_listed g.vectors.items ≡ parts k) found.now → all_listed g.now.vectors.items ≡ parts piece) }
+    ensures none { IfNone result (¬ Contains (pieces_of found.now) piece) }
+{
+    if piece <= found.len() && found[piece - 1].piece == piece {
+        return Some(&found[piece - 1].out);
+    }
+    'found: for one in found {
+        if one.piece == piece {
+            return Some(&one.out);
+        }
+    }
+    None
 }

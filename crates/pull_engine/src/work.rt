@@ -13,11 +13,15 @@ ghost use Rattle.edge_apply.specs.Propositions.{AreEnds-prop};
 ghost use Rattle.flat_snapshot.specs.Neighbours.{sources_of};
 ghost use Rattle.vertex_sets.specs.declared.form.Form.TheVariants as Form;
 ghost use Rattle.pull_engine.specs.Destinations.{passes_set};
+ghost use Rattle.pull_engine.specs.Propositions.{HasShape-prop};
+ghost use Rattle.pull_engine.specs.Ranges.{IsShapeOfApply};
 
 use crate::listed::{cut_vertices, source_bits};
+use crate::shapes::apply_shape;
 use crew::{CrewError, Partition, is_crew};
 use edge_apply::{Apply, all_vertices};
 use edge_fold::{FoldStart, Scratch};
+use kernels::Shape;
 use std::alloc::Global;
 use vertex_sets::VertexSet;
 
@@ -28,11 +32,13 @@ pub struct PullWork<'a> {
     pub(crate) bits: Option<VertexSet>,
     pub(crate) vertices: Vec<u32>,
     pub(crate) cuts: Partition,
+    pub(crate) shape: Shape,
     ghost whole: { AreEnds 0 (length vertices.items) cuts } by { AreEnds-prop 0 (length vertices.items) cuts },
     ghost all: { vertices.items ≡ range_with_len 0 apply.flat.now.vertices } by { Prim.hlevel (props) },
     ghost form: { IfSome bits (λ s. s.form ≡ Form.Bits) } by { Prim.hlevel (props) },
     ghost sources: { (m : StateValue) (from : ℕ → Bool) → apply.vectors.now.vectors ≡ m.vectors → HasSizes apply.sizes.now m → IsEndTest apply.from m from
         → (v : ℕ) → v < apply.flat.now.vertices → passes_set bits v ≡ from v } by { Prim.hlevel (props) },
+    ghost shaped: { IsShapeOfApply shape apply.first.now apply.second } by { Prim.hlevel (HasShape-prop, props) },
 }
 
 impl Drop for PullWork<'_> {
@@ -42,6 +48,7 @@ impl Drop for PullWork<'_> {
             bits: _,
             vertices: _,
             cuts: _,
+            shape: _,
         } = self;
     }
 }
@@ -76,6 +83,7 @@ impl<'a> PullWork<'a> {
             bits,
             vertices: all,
             cuts,
+            shape: apply_shape(apply.first, apply.second),
         })
     }
 }

@@ -34,4 +34,5 @@ pub use laws::blocks_are_their_lists;
 pub use neighbour_iter::NeighbourIter;
 pub use neighbour_set::{NeighbourForm, NeighbourSet};
 pub use neighbour_walk::NeighbourWalk;
+pub use pages::Neighbours;
 pub use set_walk::SetWalk;

@@ -1,30 +1,48 @@
-use Rattle.std.proofs.Common.{ℕ, true, List, refl, sym, ap, ◌∙◌, subst, arith}
-use Rattle.std.specs.List.{filter}
-use Rattle.kernels.specs.EdgeApply.{after_edges}
+use Rattle.std.proofs.Common.{◌≡◌, ℕ, List, length, sym, ap, ◌∙◌, subst}
+use Rattle.std.specs.List.{flat_map, range_with_len}
+use Rattle.std.specs.List.Sorted.{IsPermutation}
+use Rattle.std.proofs.lemmas.List.FromFn.{length-range_with_len}
+use Rattle.std.proofs.lemmas.Result.{IfOk-weaker}
+use Rattle.crew.specs.Partition.{AreEnds}
+use Rattle.crew.specs.Pieces.{pieces_of}
 use Rattle.kernels.specs.Value.{entry}
 use Rattle.edge_fold.specs.Between.{edges_between}
-use Rattle.edge_fold.specs.Changed.{changed}
-use Rattle.crew.specs.Pieces.{pieces_of}
-use Rattle.edge_apply.specs.Pieces.{EachGathered}
-use Rattle.edge_apply.proofs.Listed.{filter_all}
-use Rattle.pull_engine.specs.Pieces.{edges_into_piece}
+use Rattle.edge_fold.specs.Given.{all_given}
+use Rattle.pull_engine.specs.Ranges.{entry_after}
 use Rattle.edge_fold.specs.declared.apply_context.ApplyContext.{ApplyContext}
 use Rattle.edge_fold.specs.Folded.{IsContextOf}
-use Rattle.pull_engine.proofs.Merging.{each_gathered, merged}
+use Rattle.pull_engine.proofs.Merging.{gathers_pieces, pulled_parts}
+use Rattle.pull_engine.proofs.Shaped.{shape_gives_only, whole_changes}
+use Rattle.pull_engine.proofs.Told.{told_in_piece, told_in_pieces}
 use Rattle.pull_engine.proofs.work.PullWork.merge.Goals as goal
 
-pub returns-clause-changes : goal.returns-clause-changes
-returns-clause-changes c answers order m steps from to vectors sizes kernels is_from is_to x r by long =
+pub returns-in_ok-changes-in-Some-clause-changes : goal.returns-in_ok-changes-in-Some-clause-changes
+returns-in_ok-changes-in-Some-clause-changes c =
     let w = c.args.self.now in
     let fs = c.args.found.now in
-    let edges = w.apply.flat.now.edges in
-    let edges_of = edges_into_piece w from to in
-    let count = (ap (λ (f : ApplyContext). f.vertices) c.context-context.ensures.context) in
-    let old = entry m.vectors x in
-    let new = λ (es : List (ℕ × ℕ)). entry (after_edges steps m.sets m.vectors es m.vectors) x in
-    let each = subst (λ (n : ℕ). EachGathered n m steps edges_of fs) (sym count) (each_gathered w fs m steps from to answers vectors sizes kernels is_from is_to) in
-    let has = c.in_ok-join_all.ensures m steps edges_of each (c.begin.ensures _ m steps) in
-    let whole = merged _ m steps w.apply.flat.now from to w.cuts w.vertices.items (pieces_of fs) c.join_all.new.scratch c.context-context.ensures.graph w.whole w.all order has in
-    c.in_ok-changes.ensures.changes m steps (edges_between from to edges) (λ _. true) (subst (λ (f : ApplyContext). IsContextOf f m steps) (sym c.context-context.ensures.context) (record { vectors = vectors; sizes = sizes; kernels = kernels })) (λ v. refl) whole (ap (λ (f : ApplyContext). f.start) c.context-context.ensures.context) x r by (omega (arith, count, long))
-    ∙ ap (λ (n : ℕ). changed n old (new (filter (λ e. true) (edges_between from to edges)))) count
-    ∙ ap (λ (es : List (ℕ × ℕ)). changed w.apply.flat.now.vertices old (new es)) (filter_all (λ _. true) (edges_between from to edges) (λ e. refl))
+    let y = c.in-Some.target.vector in
+    let at = c.in-Some.ensures.some in
+    let n = w.apply.flat.now.vertices in
+    let count = c.pieces.ensures in
+    let long = ap length w.all ∙ length-range_with_len 0 n in
+    let ends = subst (λ (l : ℕ). AreEnds 0 l w.cuts) long w.whole in
+    IfOk-weaker c.changes_in.result _ _
+    (λ cs told answers order m steps from to vectors sizes kernels is_from is_to.
+    let es = edges_between from to w.apply.flat.now.edges in
+    whole_changes y n es m steps c.in_ok-changes-in-Some.changes.items cs.vectors.items told
+    (λ e. shape_gives_only w.shape y m e (all_given m steps e) at (w.shaped m w.apply.sizes.now steps sizes kernels e))
+    (λ r by.
+    let old = entry m.vectors y in
+    let new = entry_after m steps y r es in
+    c.in_ok-changes-in-Some.ensures (told_in_piece old new w.cuts)
+    (subst (λ (l : ℕ). IsPermutation (pieces_of fs) (range_with_len 1 l)) (sym count) order)
+    (pulled_parts w fs y at answers m steps from to vectors sizes kernels is_from is_to r by)
+    ∙ ap (λ (l : ℕ). flat_map (told_in_piece old new w.cuts) (range_with_len 1 l)) count
+    ∙ told_in_pieces old new w.cuts n ends))
+    c.changes_in.ensures.changes
+
+pub returns-in-None-clause-changes : goal.returns-in-None-clause-changes
+returns-in-None-clause-changes c =
+    IfOk-weaker c.merge_gathered.result _ _
+    (λ cs changes answers. changes (gathers_pieces c.args.self.now c.args.found.now c.in-None.ensures.none answers))
+    c.merge_gathered.ensures.changes

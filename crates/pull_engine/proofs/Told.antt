@@ -1,0 +1,102 @@
+-- The changes of destinations that come one after the other.
+use Rattle.std.proofs.Common.{◌≡◌, ℕ, zero, suc, ◌+◌, ◌-◌, ◌<◌, ◌≤◌, ◌==◌, ℤ, Bool, true, false, cond, List, [], ◌∷◌, ◌++◌, length, drop, get_or, slice_index_or, refl, sym, ap, ◌∙◌, append_assoc, arith}
+use Rattle.std.proofs.lemmas.List.{append-nil, drop-drop, drop_all, drop_more, get_or-drop}
+use Rattle.std.specs.List.{filter, flat_map, range_with_len}
+use Rattle.apply_options.specs.declared.reduction.Reduction.{Reduction}
+use Rattle.kernels.specs.Arithmetic.{int_equal}
+use Rattle.vectors.specs.declared.changes.EntryChange.{EntryChange}
+use Rattle.flat_snapshot.specs.Neighbours.{sources_of}
+use Rattle.edge_fold.specs.Changed.{change_at, changed_from}
+use Rattle.edge_fold.specs.ReducedContributions.{reduced_with}
+use Rattle.edge_fold.proofs.ChangedRows.{changed_from-append, equal_itself}
+use Rattle.edge_fold.proofs.Findings.{changed_agree}
+use Rattle.crew.specs.Partition.{AreEnds, end_of}
+use Rattle.edge_apply.proofs.Listed.{last_end}
+use Rattle.pull_engine.specs.Ranges.{changes_at, pulled, pulled_to}
+
+-- the next of some destinations
+pub told_more : (old new : ℕ → ℤ) (us : List ℕ) (i : ℕ) (found more all : List EntryChange) → i < length us → more ≡ found ++ change_at old new (get_or us i 0)
+    → found ++ changes_at old new (drop i us) ≡ all → more ++ changes_at old new (drop (i + 1) us) ≡ all
+told_more old new us i found more all l is was =
+    let rest = changes_at old new (drop (i + 1) us) in
+    ap (λ cs. cs ++ rest) is ∙ append_assoc found (change_at old new (get_or us i 0)) rest
+    ∙ ap (λ ks. found ++ changes_at old new ks) (sym (drop_more us i 0 l)) ∙ was
+
+pub told_all : (old new : ℕ → ℤ) (us : List ℕ) (i : ℕ) (found all : List EntryChange) → length us ≤ i → found ++ changes_at old new (drop i us) ≡ all → found ≡ all
+told_all old new us i found all l was = sym (append-nil found) ∙ ap (λ ks. found ++ changes_at old new ks) (sym (drop_all i us l)) ∙ was
+
+pub no_change : (old new : ℕ → ℤ) (v : ℕ) → new v ≡ old v → change_at old new v ≡ []
+no_change old new v same =
+    let change : EntryChange = record { vertex = v; number = new v } in
+    ap (λ (b : Bool). cond b [] (change ∷ [])) (ap (λ (y : ℤ). int_equal (old v) y) same ∙ equal_itself (old v))
+
+-- those that do not pass do not change
+told_if : (old new : ℕ → ℤ) (to : ℕ → Bool) (u : ℕ) (us : List ℕ) (b : Bool) → to u ≡ b
+    → changes_at old new (filter to us) ≡ changes_at old (λ v. cond (to v) (new v) (old v)) us
+    → changes_at old new (cond b (u ∷ filter to us) (filter to us)) ≡ changes_at old (λ v. cond (to v) (new v) (old v)) (u ∷ us)
+told_if old new to u us true is more =
+    ap (λ (y : ℤ). change_at old (λ _. y) u ++ changes_at old new (filter to us)) (sym (ap (λ (c : Bool). cond c (new u) (old u)) is))
+    ∙ ap (λ cs. change_at old (λ v. cond (to v) (new v) (old v)) u ++ cs) more
+told_if old new to u us false is more =
+    more ∙ sym (ap (λ cs. cs ++ changes_at old (λ v. cond (to v) (new v) (old v)) us) (no_change old (λ v. cond (to v) (new v) (old v)) u (ap (λ (c : Bool). cond c (new u) (old u)) is)))
+
+told_passing : (old new : ℕ → ℤ) (to : ℕ → Bool) (us : List ℕ) → changes_at old new (filter to us) ≡ changes_at old (λ v. cond (to v) (new v) (old v)) us
+told_passing old new to [] = refl
+told_passing old new to (u ∷ us) = told_if old new to u us (to u) refl (told_passing old new to us)
+
+told_in_row : (old new : ℕ → ℤ) (v n : ℕ) → changes_at old new (range_with_len v n) ≡ changed_from old new v n
+unfolding changed_from
+told_in_row old new v zero = refl
+told_in_row old new v (suc n) = ap (λ cs. change_at old new v ++ cs) (told_in_row old new (v + 1) n)
+
+-- a range that begins
+pub range_begun : (old new : ℕ → ℤ) (low : ℕ) → [] ≡ changed_from old new low (low - low)
+unfolding changed_from
+range_begun old new low = ap (λ n. changed_from old new low n) (let none : 0 ≡ low - low = omega arith in none)
+
+-- a range, and those vertices of the next part that pass
+pub range_more : (r : Reduction) (number : ℕ → ℤ) (lane old : ℕ → ℤ) (from to : ℕ → Bool) (es : List (ℕ × ℕ)) (low next stop : ℕ) (part kept : List ℕ) (found more : List EntryChange) → low ≤ next → next ≤ stop
+    → ((v : ℕ) → lane v ≡ old v) → part ≡ range_with_len next (stop - next) → kept ≡ filter to part → more ≡ found ++ changes_at lane (pulled r number lane from es) kept
+    → found ≡ changed_from old (pulled_to r number old from to es) low (next - low)
+    → more ≡ changed_from old (pulled_to r number old from to es) low (stop - low)
+range_more r number lane old from to es low next stop part kept found more l k same is_part is_kept is was =
+    let new = λ (o : ℕ → ℤ). pulled_to r number o from to es in
+    let whole : next - low + (stop - next) ≡ stop - low = omega (arith, l, k) in
+    let place : next ≡ low + (next - low) = omega (arith, l) in
+    is ∙ ap (λ cs. cs ++ changes_at lane (pulled r number lane from es) kept) was
+    ∙ ap (λ cs. changed_from old (new old) low (next - low) ++ cs)
+    (ap (λ us. changes_at lane (pulled r number lane from es) us) (is_kept ∙ ap (λ us. filter to us) is_part)
+    ∙ told_passing lane (pulled r number lane from es) to (range_with_len next (stop - next))
+    ∙ told_in_row lane (new lane) next (stop - next)
+    ∙ changed_agree lane old (new lane) (new old) same next (stop - next) (λ v b. ap (λ (z : ℤ). cond (to v) (reduced_with r number z (filter from (sources_of v es))) z) (same v)))
+    ∙ ap (λ u. changed_from old (new old) low (next - low) ++ changed_from old (new old) u (stop - next)) place
+    ∙ sym (changed_from-append old (new old) low (next - low) (stop - next))
+    ∙ ap (λ n. changed_from old (new old) low n) whole
+
+-- the changes of the pieces, one after the other
+abbrev pub told_in_piece : (old new : ℕ → ℤ) → (ends : List ℕ) → ℕ → List EntryChange
+told_in_piece old new ends k = changed_from old new (end_of ends (k - 1)) (end_of ends k - end_of ends (k - 1))
+
+told_from : (old new : ℕ → ℤ) (ends : List ℕ) (n j s : ℕ) (es : List ℕ) → drop j (0 ∷ ends) ≡ s ∷ es → AreEnds s n es
+    → flat_map (told_in_piece old new ends) (range_with_len (j + 1) (length es)) ≡ changed_from old new s (n - s)
+told_from old new ends n j s [] at are = range_begun old new s ∙ ap (λ k. changed_from old new s (k - s)) are
+told_from old new ends n j s (e ∷ es) at are =
+    let all = 0 ∷ ends in
+    let start : end_of ends (j + 1 - 1) ≡ s = ap (λ k. get_or all k 0) (let q : j + 1 - 1 ≡ j + 0 = omega arith in q) ∙ sym (get_or-drop j all 0 0) ∙ ap (λ ys. get_or ys 0 0) at in
+    let end : end_of ends (j + 1) ≡ e = sym (get_or-drop j all 1 0) ∙ ap (λ ys. get_or ys 1 0) at in
+    let next : drop (j + 1) all ≡ e ∷ es = sym (drop-drop 1 j all) ∙ ap (drop 1) at in
+    let low = are.0 in
+    let high = last_end e n es are.1 in
+    let whole : e - s + (n - e) ≡ n - s = omega (arith, low, high) in
+    let place : e ≡ s + (e - s) = omega (arith, low) in
+    ap (λ cs. cs ++ flat_map (told_in_piece old new ends) (range_with_len (j + 1 + 1) (length es)))
+    (ap (λ k. changed_from old new k (end_of ends (j + 1) - k)) start ∙ ap (λ k. changed_from old new s (k - s)) end)
+    ∙ ap (λ cs. changed_from old new s (e - s) ++ cs) (told_from old new ends n (j + 1) e es next are.1)
+    ∙ ap (λ k. changed_from old new s (e - s) ++ changed_from old new k (n - e)) place
+    ∙ sym (changed_from-append old new s (e - s) (n - e))
+    ∙ ap (λ k. changed_from old new s k) whole
+
+pub told_in_pieces : (old new : ℕ → ℤ) (ends : List ℕ) (n : ℕ) → AreEnds 0 n ends → flat_map (told_in_piece old new ends) (range_with_len 1 (length ends)) ≡ changed_from old new 0 n
+told_in_pieces old new ends n are =
+    let none : n - 0 ≡ n = omega arith in
+    told_from old new ends n 0 0 ends refl are ∙ ap (λ k. changed_from old new 0 k) none

@@ -1,0 +1,22 @@
+use Rattle.std.proofs.Common.{rules, ◌≡◌, ℕ, ℤ, pos, FitsSigned, to_z, of_z, w64, ap, sym, ◌∙◌}
+use Rattle.std.specs.List.{filter}
+use Rattle.std.proofs.lemmas.Int.{to_z-of_z}
+use Rattle.edge_apply.specs.Words.{passes_words}
+use Rattle.kernels.specs.Arithmetic.{reduced}
+use Rattle.pull_engine.specs.EarlySources.{reduced_once}
+use Rattle.pull_engine.proofs.Deciding.{one_number}
+use Rattle.pull_engine.proofs.source_folds.OneForAnySourceFold.fold.Goals as goal
+
+pub returns-in-Some-clause-number : goal.returns-in-Some-clause-number
+returns-in-Some-clause-number c =
+    let p = passes_words c.args.from in
+    let old = c.args.old in
+    let f = c.args.self.now in
+    let fits : FitsSigned w64 c.reduce.result = search rules in
+    let old_fits : FitsSigned w64 old = search rules in
+    let number_fits : FitsSigned w64 f.number = search rules in
+    to_z-of_z w64 c.reduce.result fits ∙ c.reduce.ensures
+    ∙ ap (λ (n : ℤ). reduced f.reduction n (to_z w64 (of_z w64 f.number))) (to_z-of_z w64 old old_fits)
+    ∙ ap (λ (n : ℤ). reduced f.reduction old n) (to_z-of_z w64 f.number number_fits)
+    ∙ ap (λ o. reduced_once f.reduction (λ s. f.number) old o) c.in-Some.ensures
+    ∙ sym (one_number f.reduction f.once f.number old (filter p c.args.sources))

@@ -1,0 +1,63 @@
+use Rattle.std.proofs.Common.{rules, ◌≡◌, ◌-◌, ◌^◌, ◌<◌, ◌≤◌, ℕ, List, length, sym, ap, ◌∙◌, subst, arith}
+use Rattle.std.proofs.lemmas.List.FromFn.{length-range_with_len}
+use Rattle.std.proofs.lemmas.Result.{IfOk-weaker}
+use Rattle.crew.specs.Partition.{end_of}
+use Rattle.edge_apply.proofs.Filtered.{between_agree}
+use Rattle.edge_apply.proofs.Listed.{piece_inside}
+use Rattle.edge_apply.specs.Words.{passes_words}
+use Rattle.pull_engine.specs.Ranges.{AreChangesFrom, shape_vector}
+use Rattle.edge_fold.specs.declared.apply_context.ApplyContext.{ApplyContext}
+use Rattle.edge_fold.specs.Folded.{IsContextOf}
+use Rattle.pull_engine.proofs.Shaped.{some_weaker}
+use Rattle.pull_engine.proofs.work.PullWork.pull_piece.Goals as goal
+
+pub overflow_cast-range : goal.overflow_cast-range
+overflow_cast-range c =
+    let w = c.args.self.now in
+    let inside = piece_inside (length w.vertices.items) w.cuts c.args.piece w.whole c.requires.some c.requires.inside in
+    let order = inside.0 in
+    let last = inside.1 in
+    let start = c.piece-places.ensures.start in
+    let long = ap length w.all ∙ length-range_with_len 0 w.apply.flat.now.vertices in
+    let count = (ap (λ (f : ApplyContext). f.vertices) c.context-context.ensures.context) in
+    let few = c.vertices.type_inv in
+    omega (arith, order, last, start, long, count, few)
+
+pub overflow_cast-range-2 : goal.overflow_cast-range-2
+overflow_cast-range-2 c =
+    let w = c.args.self.now in
+    let inside = piece_inside (length w.vertices.items) w.cuts c.args.piece w.whole c.requires.some c.requires.inside in
+    let last = inside.1 in
+    let end = c.piece-places.ensures.end in
+    let long = ap length w.all ∙ length-range_with_len 0 w.apply.flat.now.vertices in
+    let count = (ap (λ (f : ApplyContext). f.vertices) c.context-context.ensures.context) in
+    let few = c.vertices.type_inv in
+    omega (arith, last, end, long, count, few)
+
+pub pull_shape-requires-clause-order : goal.pull_shape-requires-clause-order
+pull_shape-requires-clause-order c =
+    let w = c.args.self.now in
+    let inside = piece_inside (length w.vertices.items) w.cuts c.args.piece w.whole c.requires.some c.requires.inside in
+    let order = inside.0 in
+    let start = c.piece-places.ensures.start in
+    let end = c.piece-places.ensures.end in
+    omega (arith, order, start, end)
+
+pub returns : goal.returns
+returns c =
+    let w = c.args.self.now in
+    let k = c.args.piece in
+    let passes = passes_words c.words_of-from.result in
+    let places = c.piece-places.result in
+    let start = c.piece-places.ensures.start in
+    let end = c.piece-places.ensures.end in
+    IfOk-weaker c.pull_shape.result _ _
+    (λ cs is. some_weaker (shape_vector w.shape) _ _
+    (λ x changed m steps from to vectors sizes kernels is_from is_to.
+    let same = between_agree w.apply.flat.now passes from to c.context-context.ensures.graph (λ v l. c.words_of-from.ensures v ∙ w.sources m from vectors sizes is_from v l) in
+    subst (λ (e : ℕ). AreChangesFrom x (end_of w.cuts (k - 1)) (e - end_of w.cuts (k - 1)) _ m steps cs.items) end
+    (subst (λ (s : ℕ). AreChangesFrom x s (places.end - s) _ m steps cs.items) start
+    (subst (λ (es : List (ℕ × ℕ)). AreChangesFrom x places.start (places.end - places.start) es m steps cs.items) same
+    (changed m steps to (subst (λ (f : ApplyContext). IsContextOf f m steps) (sym c.context-context.ensures.context) (record { vectors = vectors; sizes = sizes; kernels = kernels })) is_to))))
+    is)
+    c.pull_shape.ensures

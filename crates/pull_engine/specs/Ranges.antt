@@ -1,0 +1,59 @@
+-- What a pull tells of a range of destinations.
+use Rattle.std.specs.Prelude.{◌≡◌, ℕ, ℤ, Bool, if◌then◌else◌, Option, Some, None, List, [], ◌∷◌, ◌++◌}
+use Rattle.std.specs.List.{filter}
+use Rattle.apply_options.specs.declared.reduction.Reduction.{Reduction}
+use Rattle.kernels.specs.StepTree.{StepsTree}
+use Rattle.kernels.specs.State.{StateValue}
+use Rattle.kernels.specs.Cells.{HasSizes}
+use Rattle.kernels.specs.Shapes.{HasShape}
+use Rattle.kernels.specs.Value.{entry}
+use Rattle.kernels.specs.declared.kernel.EdgeKernel.{EdgeKernel}
+use Rattle.kernels.specs.declared.shape.Shape.{Shape}
+use Rattle.kernels.specs.declared.shape.Shape.TheVariants as shape
+use Rattle.std.specs.Borrow.{Bor}
+use Rattle.flat_snapshot.specs.Neighbours.{sources_of}
+use Rattle.vectors.specs.declared.changes.EntryChange.{EntryChange}
+use Rattle.edge_fold.specs.declared.gathered.GatheredIn.{GatheredIn}
+use Rattle.edge_fold.specs.Changed.{change_at, changed_from}
+use Rattle.edge_fold.specs.Folded.{AreKernels}
+use Rattle.edge_fold.specs.Given.{IsReducedBy, all_given, given_on, reduced_at}
+use Rattle.edge_fold.specs.ReducedContributions.{reduced_with}
+
+-- those of the vertices whose entry differs, in their order
+abbrev pub changes_at : (old new : ℕ → ℤ) → List ℕ → List EntryChange
+changes_at old new [] = []
+changes_at old new (v ∷ vs) = change_at old new v ++ changes_at old new vs
+
+-- the entry at a vertex, reduced with the numbers of those of its sources that pass
+abbrev pub pulled : Reduction → (number : ℕ → ℤ) → (old : ℕ → ℤ) → (from : ℕ → Bool) → List (ℕ × ℕ) → ℕ → ℤ
+pulled r number old from es v = reduced_with r number (old v) (filter from (sources_of v es))
+
+-- the same where the vertex passes, and else the entry
+abbrev pub pulled_to : Reduction → (number : ℕ → ℤ) → (old : ℕ → ℤ) → (from to : ℕ → Bool) → List (ℕ × ℕ) → ℕ → ℤ
+pulled_to r number old from to es v = if to v then pulled r number old from es v else old v
+
+-- the place of the vector to which a function of a shape gives
+abbrev pub shape_vector : Shape → Option ℕ
+shape_vector shape.Other = None
+shape_vector (shape.Source x r) = Some x
+shape_vector (shape.Entry x r y) = Some x
+shape_vector (shape.EntryPlus x r y n) = Some x
+shape_vector (shape.Constant x r n) = Some x
+
+-- what the functions give on every edge is what one of this shape gives
+abbrev pub IsShapeOfApply : Shape → EdgeKernel → Option (Bor EdgeKernel) → Type 0
+IsShapeOfApply t first second = (m : StateValue) (sizes : List ℤ) (steps : List StepsTree) → HasSizes sizes m → AreKernels first second steps
+    → (edge : ℕ × ℕ) → HasShape t m edge (all_given m steps edge)
+
+-- the entry at a vertex after an apply to these edges
+abbrev pub entry_after : StateValue → List StepsTree → (x : ℕ) → Reduction → List (ℕ × ℕ) → ℕ → ℤ
+entry_after m steps x r es v = reduced_at r v (entry m.vectors x v) (given_on x (all_given m steps) es)
+
+-- the changes of a vector are those of an apply to these edges, at so many vertices from one on
+abbrev pub AreChangesFrom : (vector low count : ℕ) → (edges : List (ℕ × ℕ)) → StateValue → List StepsTree → List EntryChange → Type 0
+AreChangesFrom x low count es m steps cs = (r : Reduction) → IsReducedBy r x m steps → cs ≡ changed_from (entry m.vectors x) (entry_after m steps x r es) low count
+
+-- all that is listed, one vector after the other
+abbrev pub all_listed : List GatheredIn → List EntryChange
+all_listed [] = []
+all_listed (g ∷ gs) = g.numbers.items ++ all_listed gs

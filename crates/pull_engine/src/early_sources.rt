@@ -1,0 +1,110 @@
+//! The first and the last of a vertex's sources that pass.
+ghost use Rattle.std.specs.Prelude.{◌≡◌, ℕ, ℤ, pos, Bool, List, length};
+ghost use Rattle.std.specs.List.{filter};
+ghost use Rattle.apply_options.specs.declared.reduction.Reduction.{Reduction};
+ghost use Rattle.apply_options.specs.declared.reduction.Reduction.TheVariants.{Min, Max};
+ghost use Rattle.edge_apply.specs.Words.{passes_words};
+ghost use Rattle.edge_fold.specs.ReducedContributions.{reduced_with};
+ghost use Rattle.vertex_blocks.specs.Lists.{AscendsFrom};
+ghost use Rattle.pull_engine.specs.EarlySources.{CountsOnce, first_of, last_of, reduced_once};
+
+use edge_apply::{keep_members, passes};
+use vertex_blocks::{NeighbourForm, NeighbourSet, NeighbourWalk, Neighbours, SetWalk};
+
+/// Which source alone decides: of those that pass, the last one where a number is reduced with the greatest source, the
+/// first one where it is reduced with the least, and any one, as the first, where all give the same number and no sum is
+/// made. So a walk may end at that source, and the entry is the same as after all sources. The call does nothing.
+pub fn one_source_decides()
+    ensures greatest { (from : ℕ → Bool) (old : ℤ) (sources : List ℕ) → AscendsFrom 0 sources
+        → reduced_with Max (λ s. pos s) old (filter from sources) ≡ reduced_once Max (λ s. pos s) old (last_of (filter from sources)) }
+    ensures least { (from : ℕ → Bool) (old : ℤ) (sources : List ℕ) → AscendsFrom 0 sources
+        → reduced_with Min (λ s. pos s) old (filter from sources) ≡ reduced_once Min (λ s. pos s) old (first_of (filter from sources)) }
+    ensures any { (r : Reduction) → CountsOnce r → (number old : ℤ) (sources : List ℕ)
+        → reduced_with r (λ _. number) old sources ≡ reduced_once r (λ _. number) old (first_of sources) }
+{}
+
+/// The first source whose bit is set. Sources that are packed are read one by one, so what stands after it is not.
+#[inline]
+pub(crate) fn first_passing(sources: NeighbourSet<'_>, from: Option<&[u64]>) -> Option<u32>
+    ensures { result ≡ first_of (filter (passes_words from.entry) sources.entry) }
+{
+    match sources.into_form() {
+        NeighbourForm::Packed(list) => first_packed(list, from),
+        NeighbourForm::Chunked(set) => first_chunked(SetWalk::new(set), from),
+    }
+}
+
+/// The last source whose bit is set. Sources that are packed are read downward, so what stands before it is not.
+#[inline]
+pub(crate) fn last_passing(
+    sources: NeighbourSet<'_>,
+    from: Option<&[u64]>,
+    block: &mut [u32],
+) -> Option<u32>
+    requires { length block.old ≡ 128 }
+    ensures room { length block.new ≡ 128 }
+    ensures last { result ≡ last_of (filter (passes_words from.entry) sources.entry) }
+{
+    match sources.into_form() {
+        NeighbourForm::Packed(list) => last_packed(list, from),
+        NeighbourForm::Chunked(set) => last_chunked(SetWalk::new(set), from, block),
+    }
+}
+
+#[inline]
+fn first_packed(sources: Neighbours<'_>, from: Option<&[u64]>) -> Option<u32>
+    ensures { result ≡ first_of (filter (passes_words from.entry) sources.entry) }
+{
+    let mut place = 0usize;
+    'up: while place < sources.len() {
+        let source = sources.get(place);
+        if passes(from, source) {
+            return Some(source);
+        }
+        place += 1;
+    }
+    None
+}
+
+#[inline]
+fn last_packed(sources: Neighbours<'_>, from: Option<&[u64]>) -> Option<u32>
+    ensures { result ≡ last_of (filter (passes_words from.entry) sources.entry) }
+{
+    let mut end = sources.len();
+    'down: while end > 0 {
+        end -= 1;
+        let source = sources.get(end);
+        if passes(from, source) {
+            return Some(source);
+        }
+    }
+    None
+}
+
+fn first_chunked(mut sources: SetWalk<'_>, from: Option<&[u64]>) -> Option<u32>
+    ensures { result ≡ first_of (filter (passes_words from.entry) sources.entry) }
+{
+    'up: while let Some(source) = sources.next() {
+        if passes(from, source) {
+            return Some(source);
+        }
+    }
+    None
+}
+
+/// A set in chunks is walked upward, whole.
+fn last_chunked(mut sources: SetWalk<'_>, from: Option<&[u64]>, block: &mut [u32]) -> Option<u32>
+    requires { length block.old ≡ 128 }
+    ensures room { length block.new ≡ 128 }
+    ensures last { result ≡ last_of (filter (passes_words from.entry) sources.entry) }
+{
+    let mut last = None;
+    'rounds: while sources.len() > 0 {
+        let count = sources.fill(block);
+        let kept = keep_members(from, block, count);
+        if kept > 0 {
+            last = Some(block[kept - 1]);
+        }
+    }
+    last
+}

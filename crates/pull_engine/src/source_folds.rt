@@ -1,0 +1,184 @@
+//! What the sources of a vertex give its entry, by one function.
+ghost use Rattle.std.specs.Prelude.{◌≡◌, ℕ, ℤ, pos, length};
+ghost use Rattle.std.specs.List.{filter};
+ghost use Rattle.apply_options.specs.declared.reduction.Reduction.{Reduction as Reducing};
+ghost use Rattle.apply_options.specs.declared.reduction.Reduction.TheVariants.{Min, Max};
+ghost use Rattle.edge_apply.specs.Words.{passes_words};
+ghost use Rattle.edge_fold.specs.ReducedContributions.{reduced_with};
+ghost use Rattle.pull_engine.specs.EarlySources.{CountsOnce};
+
+use crate::early_sources::{first_passing, last_passing};
+use algorithm_meaning::reduce;
+use apply_options::Reduction;
+use edge_apply::keep_members;
+use edge_fold::{SourceNumbers, reduce_sources};
+use vertex_blocks::{NeighbourForm, NeighbourSet, NeighbourWalk, SetWalk};
+
+/// An entry, reduced with the numbers of sources.
+pub(crate) trait SourceFold {
+    ghost reduction: { Self → Reducing };
+
+    ghost number: { Self → ℕ → ℤ };
+
+    /// The entry reduced with the numbers of those sources whose bits are set. The block is lent.
+    fn fold(
+        &self,
+        old: i64,
+        sources: NeighbourSet<'_>,
+        from: Option<&[u64]>,
+        block: &mut [u32],
+    ) -> i64
+        requires { length block.old ≡ 128 }
+        ensures room { length block.new ≡ 128 }
+        ensures number { result ≡ reduced_with (reduction self.now) (number self.now) old (filter (passes_words from.entry) sources.entry) };
+}
+
+/// The greatest source: the walk goes downward, and ends at the first that passes.
+#[derive(Drop)]
+pub(crate) struct GreatestSource;
+
+/// The least source: the walk goes upward, and ends at the first that passes.
+#[derive(Drop)]
+pub(crate) struct LeastSource;
+
+/// The same number of each source, for the least or the greatest: the walk ends at the first source that passes.
+#[derive(Drop)]
+pub(crate) struct OneForAny {
+    pub(crate) reduction: Reduction,
+    pub(crate) number: i64,
+    ghost once: { CountsOnce reduction },
+}
+
+/// A number of each source: the walk goes over all, in blocks.
+#[derive(Drop)]
+pub(crate) struct AllSources<N> {
+    pub(crate) reduction: Reduction,
+    pub(crate) numbers: N,
+}
+
+impl SourceFold for GreatestSource {
+    ghost reduction = { λ _. Max };
+
+    ghost number = { λ _ s. pos s };
+
+    #[inline]
+    fn fold(
+        &self,
+        old: i64,
+        sources: NeighbourSet<'_>,
+        from: Option<&[u64]>,
+        block: &mut [u32],
+    ) -> i64 {
+        if sources.len() == 0 {
+            return old;
+        }
+        match last_passing(sources, from, block) {
+            Some(source) => reduce(Reduction::Max, old, i64::from(source)),
+            None => old,
+        }
+    }
+}
+
+impl SourceFold for LeastSource {
+    ghost reduction = { λ _. Min };
+
+    ghost number = { λ _ s. pos s };
+
+    #[inline]
+    fn fold(
+        &self,
+        old: i64,
+        sources: NeighbourSet<'_>,
+        from: Option<&[u64]>,
+        _block: &mut [u32],
+    ) -> i64 {
+        if sources.len() == 0 {
+            return old;
+        }
+        match first_passing(sources, from) {
+            Some(source) => reduce(Reduction::Min, old, i64::from(source)),
+            None => old,
+        }
+    }
+}
+
+impl SourceFold for OneForAny {
+    ghost reduction = { λ f. f.reduction };
+
+    ghost number = { λ f _. f.number };
+
+    #[inline]
+    fn fold(
+        &self,
+        old: i64,
+        sources: NeighbourSet<'_>,
+        from: Option<&[u64]>,
+        _block: &mut [u32],
+    ) -> i64 {
+        match first_passing(sources, from) {
+            Some(_) => reduce(self.reduction, old, self.number),
+            None => old,
+        }
+    }
+}
+
+impl<N: SourceNumbers> SourceFold for AllSources<N> {
+    ghost reduction = { λ f. f.reduction };
+
+    ghost number = { λ f. N.number f.numbers };
+
+    #[inline]
+    fn fold(
+        &self,
+        old: i64,
+        sources: NeighbourSet<'_>,
+        from: Option<&[u64]>,
+        block: &mut [u32],
+    ) -> i64 {
+        match sources.into_form() {
+            NeighbourForm::Packed(list) => {
+                fold_walk(
+                    self.reduction,
+                    &self.numbers,
+                    old,
+                    list.ascending(),
+                    from,
+                    block,
+                )
+            }
+            NeighbourForm::Chunked(set) => {
+                fold_walk(
+                    self.reduction,
+                    &self.numbers,
+                    old,
+                    SetWalk::new(set),
+                    from,
+                    block,
+                )
+            }
+        }
+    }
+}
+
+/// The entry reduced with the numbers of all sources of a walk that pass.
+#[inline]
+fn fold_walk<N: SourceNumbers, W: NeighbourWalk + Drop>(
+    reduction: Reduction,
+    numbers: &N,
+    old: i64,
+    mut sources: W,
+    from: Option<&[u64]>,
+    block: &mut [u32],
+) -> i64
+    requires { length block.old ≡ 128 }
+    ensures room { length block.new ≡ 128 }
+    ensures number { result ≡ reduced_with reduction (N.number numbers.now) old (filter (passes_words from.entry) (W.coming sources)) }
+{
+    let mut number = old;
+    'rounds: while sources.len() > 0 {
+        let count = sources.fill(block);
+        let kept = keep_members(from, block, count);
+        number = reduce_sources(reduction, numbers, number, &block[..kept]);
+    }
+    number
+}
