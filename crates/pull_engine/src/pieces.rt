@@ -111,15 +111,7 @@ impl PullWork<'_> {
         requires inside { piece ≤ length self.now.cuts }
         ensures { IfOk result (λ cs. IfSome (vector_of self.now.shape) (λ vector. IsPiecePulled vector self.now piece cs.items)) }
     {
-        let start = FoldStart::OldEntry;
-        let context = ApplyContext {
-            first: self.apply.first,
-            second: self.apply.second,
-            vectors: self.apply.vectors,
-            sizes: self.apply.sizes,
-            vertices: self.apply.flat.vertices(),
-            start,
-        };
+        let context = self.apply.context(FoldStart::OldEntry);
         let places = self.cuts.piece(piece);
         let from = words_of(&self.bits);
         let range = PullRange {

@@ -9,3 +9,4 @@ pub mod EdgeMaps
 pub mod Between
 pub mod WrittenChanges
 pub mod Resting
+pub mod HybridSources

@@ -1,8 +1,7 @@
 //! The direction of an edge apply: from the sources, or into the destinations.
-ghost use Rattle.std.specs.Prelude.{◌≡◌, ◌/◌, List, length, if◌then◌else◌, nat_lt, IfOk};
+ghost use Rattle.std.specs.Prelude.{◌≡◌, ◌/◌, length, if◌then◌else◌, nat_lt, IfOk};
 ghost use Rattle.apply_options.specs.declared.apply_schedule.Direction.TheVariants as direction;
 ghost use Rattle.edge_fold.specs.Changed.{AreApart};
-ghost use Rattle.vectors.specs.declared.changes.VectorChanges.{VectorChanges};
 ghost use Rattle.edge_apply.specs.Applied.{AreChangesOf};
 ghost use Rattle.push_engine.specs.Work.{work_from};
 ghost use Rattle.runner.specs.HybridSources.{AreSourcesOf};
@@ -37,11 +36,29 @@ pub fn push_or_pull(
     ensures changes { IfOk result (λ c. AreChangesOf apply.now c.vectors.items) }
 {
     let sources = hybrid_sources(alloc, apply, scratch)?;
-    let apply = from_sources(apply, &sources);
-    if is_pulled(&apply) {
-        pull(alloc, &apply, scratch)
+    let Some(set) = &sources else {
+        return by_direction(alloc, apply, scratch);
+    };
+    let among = Apply {
+        from: Some(EndpointFilter::Members(set)),
+        ..*apply
+    };
+    by_direction(alloc, &among, scratch)
+}
+
+/// The same where the hybrid has its sources in a set.
+fn by_direction(
+    alloc: Global,
+    apply: &Apply<'_>,
+    scratch: &mut Scratch,
+) -> Result<Changes, AllocError>
+    ensures once { IfOk result (λ c. AreApart c.vectors.items) }
+    ensures changes { IfOk result (λ c. AreChangesOf apply.now c.vectors.items) }
+{
+    if is_pulled(apply) {
+        pull(alloc, apply, scratch)
     } else {
-        push(alloc, &apply, scratch)
+        push(alloc, apply, scratch)
     }
 }
 
@@ -67,20 +84,6 @@ pub(crate) fn hybrid_sources(
             let passing = passing_set(alloc, context, end, scratch)?;
             Ok(Some(passing))
         }
-    }
-}
-
-/// The same apply, from these sources where they are given.
-pub(crate) fn from_sources<'a>(apply: &Apply<'a>, sources: &'a Option<VertexSet>) -> Apply<'a>
-    requires { AreSourcesOf apply.now sources.now }
-    ensures { (cs : List VectorChanges) → AreChangesOf result cs → AreChangesOf apply.now cs }
-{
-    match sources {
-        None => *apply,
-        Some(set) => Apply {
-            from: Some(EndpointFilter::Members(set)),
-            ..*apply
-        },
     }
 }
 

@@ -6,13 +6,14 @@ ghost use Rattle.edge_apply.specs.Applied.{AreChangesOf};
 ghost use Rattle.runner.specs.EdgeMap.{AreChangesOfApply};
 ghost use Rattle.runner.specs.declared.run_error.RunError.TheVariants.{BadWorkers};
 
-use crate::direction::{from_sources, hybrid_sources, is_pulled};
+use crate::direction::{hybrid_sources, is_pulled};
 use crate::edge_maps::{EdgeMap, apply_of};
 use crate::employment::{edges_from, edges_into, employed};
 use crate::run_error::RunError;
 use crew::{Gate, edges_for, is_crew};
 use edge_apply::Apply;
 use edge_fold::Scratch;
+use kernels::EndpointFilter;
 use pull_engine::{pull, pull_crew};
 use push_engine::{push, push_crew};
 use run_state::RunView;
@@ -89,11 +90,31 @@ impl<R: Threads + Sync, G: Gate + Sync> Team<'_, R, G> {
         ensures changes { IfOk result (λ c. AreChangesOf apply.now c.vectors.items) }
     {
         let sources = hybrid_sources(alloc, apply, scratch)?;
-        let apply = from_sources(apply, &sources);
-        if is_pulled(&apply) {
-            self.pull(alloc, &apply, scratch, states)
+        let Some(set) = &sources else {
+            return self.by_direction(alloc, apply, scratch, states);
+        };
+        let among = Apply {
+            from: Some(EndpointFilter::Members(set)),
+            ..*apply
+        };
+        self.by_direction(alloc, &among, scratch, states)
+    }
+
+    /// The same where the hybrid has its sources in a set.
+    fn by_direction(
+        &self,
+        alloc: Global,
+        apply: &Apply<'_>,
+        scratch: &mut Scratch,
+        states: &mut Vec<Scratch>,
+    ) -> Result<Changes, AllocError>
+        ensures once { IfOk result (λ c. AreApart c.vectors.items) }
+        ensures changes { IfOk result (λ c. AreChangesOf apply.now c.vectors.items) }
+    {
+        if is_pulled(apply) {
+            self.pull(alloc, apply, scratch, states)
         } else {
-            self.push(alloc, &apply, scratch, states)
+            self.push(alloc, apply, scratch, states)
         }
     }
 

@@ -19,9 +19,8 @@ overflow_cast-range c =
     let last = inside.1 in
     let start = c.piece-places.ensures.start in
     let long = ap length w.all ∙ length-range_with_len 0 w.apply.flat.now.vertices in
-    let count = (ap (λ (f : ApplyContext). f.vertices) c.context-context.ensures.context) in
-    let few = c.vertices.type_inv in
-    omega (arith, order, last, start, long, count, few)
+    let few = c.context-context.ensures.graph.vertices in
+    omega (arith, order, last, start, long, few)
 
 pub overflow_cast-range-2 : goal.overflow_cast-range-2
 overflow_cast-range-2 c =
@@ -30,9 +29,8 @@ overflow_cast-range-2 c =
     let last = inside.1 in
     let end = c.piece-places.ensures.end in
     let long = ap length w.all ∙ length-range_with_len 0 w.apply.flat.now.vertices in
-    let count = (ap (λ (f : ApplyContext). f.vertices) c.context-context.ensures.context) in
-    let few = c.vertices.type_inv in
-    omega (arith, last, end, long, count, few)
+    let few = c.context-context.ensures.graph.vertices in
+    omega (arith, last, end, long, few)
 
 pub pull_shape-requires-clause-order : goal.pull_shape-requires-clause-order
 pull_shape-requires-clause-order c =
