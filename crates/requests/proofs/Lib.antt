@@ -3,5 +3,5 @@ mod Found
 mod Flags
 mod FileWords
 mod ScriptWords
-mod Reading
+mod Operands
 mod RaceWords

@@ -1,6 +1,6 @@
 -- The words after `script`: without a fault, they are the files, but for a `--`.
-use Rattle.std.proofs.Common.{◌≡◌, ◌∙◌, ◌<◌, ◌≤◌, ℕ, Bool, true, false, List, [], ◌∷◌, ◌++◌, length, Option, Some, None, refl, sym, ap, subst, codes, arith}
-use Rattle.std.proofs.lemmas.Bool.{ltb-true}
+use Rattle.std.proofs.Common.{◌≡◌, ◌∙◌, ◌<◌, ◌≤◌, ◌==◌, ℕ, Bool, true, false, List, [], ◌∷◌, ◌++◌, length, Option, Some, None, refl, sym, ap, ap₂, subst, codes, arith}
+use Rattle.std.proofs.lemmas.Bool.{ltb-true, ne_eqb}
 use Rattle.std.proofs.lemmas.List.{append-nil, append_assoc}
 use Rattle.std.specs.Prelude.{MatchOption, fold, nat_lt, slice_index_or}
 use Rattle.std.specs.List.{AllByRecursion}
@@ -10,7 +10,7 @@ use Rattle.clap.specs.Simple.{filled}
 use Rattle.clap.specs.Words.{Shape, Text, built, all_of}
 use Rattle.clap.specs.Walk.{Walk, Waiting, finished, idle, positional, rows_after, settled, walked}
 use Rattle.clap.specs.Faults.{check_fault, defaults_fault, flag_word_fault, level_fault, settle_fault, values_fault, walk_fault}
-use Rattle.clap.specs.Kinds.{Kinds, or_else}
+use Rattle.clap.specs.Kinds.{Kinds, or_else, range_kinds}
 use Rattle.clap.specs.declared.error.kind.ErrorKind.TheVariants.{MissingRequiredArgument}
 use Rattle.requests.specs.CommandLine.{command_line, script_command, script_files}
 use Rattle.requests.specs.Forms.{HasNoHyphen, operands}
@@ -161,12 +161,17 @@ texts_quiet : (words : List Text) → values_fault (filled script_files) words �
 texts_quiet [] = refl
 texts_quiet (word ∷ words) = texts_quiet words
 
-not_more : (n : ℕ) → n ≤ usize_max → nat_lt usize_max n ≡ false
-not_more n few = go (nat_lt usize_max n) refl
+not_less : (a b : ℕ) → b ≤ a → nat_lt a b ≡ false
+not_less a b le = go (nat_lt a b) refl
   where
-    go : (b : Bool) → nat_lt usize_max n ≡ b → nat_lt usize_max n ≡ false
-    go true more = absurd (omega (arith, few, ltb-true usize_max n more))
-    go false more = more
+    go : (t : Bool) → nat_lt a b ≡ t → nat_lt a b ≡ false
+    go true less = absurd (omega (arith, le, ltb-true a b less))
+    go false less = less
+
+range_quiet : (n : ℕ) → 0 < n → n ≤ usize_max → range_kinds 1 usize_max n ≡ []
+range_quiet n some few =
+    let none : (n == 0) ≡ false = ne_eqb n 0 (λ e. omega (arith, e, some)) in
+    rw (none, not_less n 1 (omega (arith, some)), not_less usize_max n few) refl
 
 -- the faults at the end of a walk
 abbrev end_fault : Walk → Kinds
@@ -174,9 +179,15 @@ end_fault end =
     or_else (settle_fault script.rules script.args_override_self end.held)
     (or_else (defaults_fault (settled script.rules end.held).rows script.rules) (check_fault script (finished script.rules end.held) false))
 
-end_quiet : (file : Text) (others : List Text) (behind : Bool) → length (file ∷ others) ≤ usize_max → end_fault (at_files (file ∷ others) behind) ≡ []
+end_is : (file : Text) (others : List Text) (behind : Bool)
+    → end_fault (at_files (file ∷ others) behind) ≡ or_else (or_else (range_kinds 1 usize_max (length (file ∷ others))) (values_fault (filled script_files) (file ∷ others))) []
 unfolding defaults_fault
-end_quiet file others behind few = simp (not_more (length (file ∷ others)) few, texts_quiet others)
+end_is file others behind = refl
+
+end_quiet : (file : Text) (others : List Text) (behind : Bool) → length (file ∷ others) ≤ usize_max → end_fault (at_files (file ∷ others) behind) ≡ []
+end_quiet file others behind few =
+    end_is file others behind
+    ∙ ap₂ (λ (range values : Kinds). or_else (or_else range values) []) (range_quiet (length (file ∷ others)) (omega arith) few) (texts_quiet (file ∷ others))
 
 -- a level has the faults of its walk and those of the end
 all_quiet : (words : List Text) (end : Walk) → walk_fault script [] (at_files [] false) words ≡ [] → after_words [] false words ≡ end → end_fault end ≡ []

@@ -1,4 +1,4 @@
-use Rattle.requests.proofs.Reading.{is_quiet}
+use Rattle.requests.proofs.Operands.{is_quiet}
 use Rattle.requests.proofs.laws.plain_commands_are_taken.Goals as goal
 
 pub returns : goal.returns

@@ -10,8 +10,8 @@ use Rattle.clap.proofs.FaultLemmas.{stopped_fault}
 use Rattle.clap.specs.Lexer.{long_of, usize_max}
 use Rattle.clap.specs.Words.{Row, Rule, Shape, Text, built, all_of, fault_of}
 use Rattle.clap.specs.Simple.{names_of}
-use Rattle.clap.specs.Walk.{Names, Walk, idle, walk, walked}
-use Rattle.clap.specs.Faults.{level_fault, walk_fault}
+use Rattle.clap.specs.Walk.{Names, Walk, idle, rows_after, walk, walked}
+use Rattle.clap.specs.Faults.{defaults_fault, level_fault, walk_fault}
 use Rattle.clap.specs.declared.error.kind.ErrorKind.TheVariants.{UnknownArgument, InvalidSubcommand, DisplayHelp}
 use Rattle.requests.specs.CommandLine.{command_line}
 use Rattle.requests.specs.Asked.{file_of, request_of, script_with}
@@ -95,7 +95,7 @@ check_first word words t e =
     let walk_is = walk_from_command (codes "check") word words (walked_to_check word t) in
     let below : level_fault (taker (codes "check")) [] (held None) words false [] ≡ [] = first_is_quiet _ _ (second_is_quiet _ _ (rw walk_is at e)) in
     let is : word ≡ codes "check" = sym ((bytes_eq-Decides (codes "check") word).0 t) in
-    rw walk_is (one_file (codes "check") word words _ (rw is refl) (file_read (codes "check") words below))
+    rw walk_is (one_file (codes "check") word words (rows_after (taker []).rules [] words) (rw is refl) (file_read (codes "check") words below))
 
 plan_first : (word : Text) (words : List Text) → bytes_eq (codes "check") word ≡ false → bytes_eq (codes "plan") word ≡ true
     → fault_of command_line (word ∷ words) ≡ [] → IsRead (word ∷ words)
@@ -103,7 +103,7 @@ plan_first word words no_check t e =
     let walk_is = walk_from_command (codes "plan") word words (walked_to_plan word no_check t) in
     let below : level_fault (taker (codes "plan")) [] (held None) words false [] ≡ [] = first_is_quiet _ _ (second_is_quiet _ _ (rw walk_is at e)) in
     let is : word ≡ codes "plan" = sym ((bytes_eq-Decides (codes "plan") word).0 t) in
-    rw walk_is (one_file (codes "plan") word words _ (rw is refl) (file_read (codes "plan") words below))
+    rw walk_is (one_file (codes "plan") word words (rows_after (taker []).rules [] words) (rw is refl) (file_read (codes "plan") words below))
 
 script_first : (word : Text) (words : List Text) → bytes_eq (codes "check") word ≡ false → bytes_eq (codes "plan") word ≡ false → bytes_eq (codes "script") word ≡ true
     → fault_of command_line (word ∷ words) ≡ [] → IsRead (word ∷ words)
@@ -159,7 +159,7 @@ is_read (word ∷ words) e = go (bytes_eq (codes "check") word) (bytes_eq (codes
 -- ---- words without a fault
 
 pub is_quiet : (words : List Text) → length words ≤ usize_max → IsCommand words → fault_of command_line words ≡ []
-unfolding walk_fault walked
+unfolding walk_fault walked defaults_fault
 is_quiet words few no_words = refl
 is_quiet words few (check_word file no_hyphen) = rw (file_quiet (codes "check") file no_hyphen) refl
 is_quiet words few (check_after_dashes file) = rw (file_quiet_behind (codes "check") file) refl
