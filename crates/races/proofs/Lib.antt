@@ -1,0 +1,4 @@
+mod ScriptLaws
+mod Numbering
+mod Commits
+mod Runs

@@ -22,20 +22,31 @@ run_line when program version = when ++ (32 ∷ (decimal program ++ 32 ∷ word_
 abbrev pub run_text : List ℕ → ℕ → VersionRun → List ℕ
 run_text when program run = run_line when program run.version ++ outcome_text run.outcome
 
--- the early runs of programs, from that of this number
-abbrev pub early_text : ℕ → List ProgramRuns → List ℕ
-early_text program [] = []
-early_text program (runs ∷ more) = run_text (codes "early") program runs.early ++ early_text (suc program) more
+-- the texts of items that are numbered from n
+abbrev pub numbered : {A : Type 0} → (ℕ → A → List ℕ) → ℕ → List A → List ℕ
+numbered f n [] = []
+numbered f n (x ∷ xs) = f n x ++ numbered f (suc n) xs
 
--- the late runs of programs, from that of this number
-abbrev pub late_text : ℕ → List ProgramRuns → List ℕ
-late_text program [] = []
-late_text program (runs ∷ more) = run_text (codes "late") program runs.late ++ late_text (suc program) more
+-- the early run of the program of this number
+abbrev pub early_run : ℕ → ProgramRuns → List ℕ
+early_run program runs = run_text (codes "early") program runs.early
+
+-- the late run of the program of this number
+abbrev pub late_run : ℕ → ProgramRuns → List ℕ
+late_run program runs = run_text (codes "late") program runs.late
+
+-- the early runs of the programs, in order
+abbrev pub early_text : List ProgramRuns → List ℕ
+early_text all = numbered early_run 1 all
+
+-- the late runs of the programs, in order
+abbrev pub late_text : List ProgramRuns → List ℕ
+late_text all = numbered late_run 1 all
 
 -- the reply of the opening, those of the commits, and the early and the late runs, each in order
 abbrev pub race_text : Race → List ℕ
 race_text race =
-    word_line (codes "open") race.vertices ++ (versions_text race.versions.items ++ (early_text 1 race.runs.items ++ late_text 1 race.runs.items))
+    word_line (codes "open") race.vertices ++ (versions_text race.versions.items ++ (early_text race.runs.items ++ late_text race.runs.items))
 
 -- of the text a beginning was taken
 abbrev pub TakesBeginning : List ℕ → Taken → Taken → Type 0

@@ -81,12 +81,10 @@ fn send_early<W: Drain>(
     all: &[ProgramRuns],
     replies: &mut ReplyWriter<'_, W>,
 ) -> Result<(), SendError>
-    ensures { Emits replies.old replies.new (early_text 1 all.now) result }
+    ensures { Emits replies.old replies.new (early_text all.now) result }
 {
-    let mut program = 0;
-    'runs: for runs in all {
-        program += 1;
-        send_run(alloc, EARLY, program, &runs.early, replies)?;
+    'runs: for place in 0..all.len() {
+        send_run(alloc, EARLY, place as u64 + 1, &all[place].early, replies)?;
     }
     Ok(())
 }
@@ -96,12 +94,10 @@ fn send_late<W: Drain>(
     all: &[ProgramRuns],
     replies: &mut ReplyWriter<'_, W>,
 ) -> Result<(), SendError>
-    ensures { Emits replies.old replies.new (late_text 1 all.now) result }
+    ensures { Emits replies.old replies.new (late_text all.now) result }
 {
-    let mut program = 0;
-    'runs: for runs in all {
-        program += 1;
-        send_run(alloc, LATE, program, &runs.late, replies)?;
+    'runs: for place in 0..all.len() {
+        send_run(alloc, LATE, place as u64 + 1, &all[place].late, replies)?;
     }
     Ok(())
 }

@@ -1,12 +1,12 @@
 //! The run of a race, on threads.
-ghost use Rattle.std.specs.Prelude.{◌≡◌, IfOk, length, map};
+ghost use Rattle.std.specs.Prelude.{◌≡◌, IfOk, length, map, suc};
 ghost use Rattle.std.specs.List.{All};
 ghost use Rattle.version_list.specs.Machine.{opened};
 ghost use Rattle.version_list.specs.Timeline.{IsLegal};
 ghost use Rattle.shared_graph.specs.Histories.{steps_of};
 ghost use Rattle.shared_graph.specs.Passes.{fresh_passes};
 ghost use Rattle.races.specs.Race.{AllRan, IsRace};
-ghost use Rattle.races.specs.Racing.{HasCommitted, RanEarly};
+ghost use Rattle.races.specs.Racing.{HasCommitted, IsRaced, RanEarly};
 
 use crate::entrants::{EarlyRun, Entrant, entrants};
 use crate::error::RaceError;

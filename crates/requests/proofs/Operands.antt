@@ -24,14 +24,14 @@ use Rattle.requests.proofs.ScriptWords.{NamesFiles, files_in, files_quiet, files
 abbrev IsRead : List Text → Type 0
 IsRead words = HasOperands words (request_of words)
 
-abbrev top : Shape
+abbrev pub top : Shape
 top = (built command_line).top
 
-abbrev names : Names
+abbrev pub names : Names
 names = names_of (built command_line)
 
 -- where the walk stands before any file; `behind` says that it has passed a `--`
-abbrev at_start : Bool → Walk
+abbrev pub at_start : Bool → Walk
 at_start behind = record { held = held None; waiting = idle; position = 1; is_trailing = behind; stopped = None }
 
 only_help : HasOnlyHelp top.rules
@@ -44,7 +44,7 @@ abbrev met : Text → Walk
 met name = record (at_start false) { stopped = Some (name, []) }
 
 -- past a subcommand, the walk gathers the words
-gathers : (c : List Rule) (ns : Names) (w : Walk) (name : Text) (before words : List Text)
+pub gathers : (c : List Rule) (ns : Names) (w : Walk) (name : Text) (before words : List Text)
     → fold (walked c ns) (record w { stopped = Some (name, before) }) words ≡ record w { stopped = Some (name, before ++ words) }
 unfolding walked
 gathers c ns w name before [] = rw append-nil refl

@@ -1,8 +1,11 @@
 //! Laws of command lines, each the contract of a call that does nothing.
 
-ghost use Rattle.std.specs.Prelude.{◌≡◌, ◌≤◌, [], ◌∷◌, List, codes, length};
+ghost use Rattle.std.specs.Prelude.{◌≡◌, ◌≤◌, [], ◌∷◌, ◌++◌, List, codes, false, length};
 ghost use Rattle.clap.specs.Lexer.{usize_max};
+ghost use Rattle.clap.specs.ValueTests.{accepts};
 ghost use Rattle.clap.specs.Words.{Text, fault_of};
+ghost use Rattle.clap.specs.declared.builder.value_parser.ValueParser.TheVariants.{Unsigned};
+ghost use Rattle.clap.specs.declared.error.kind.ErrorKind.TheVariants.{ValueValidation};
 ghost use Rattle.requests.specs.Asked.{Asks, a_race, request_of};
 ghost use Rattle.requests.specs.CommandLine.{command_line};
 ghost use Rattle.requests.specs.Forms.{HasNoHyphen, HasOperands, IsCommand};
@@ -23,4 +26,15 @@ pub fn plain_commands_are_taken()
 pub fn races_are_asked_for()
     ensures { (script program : Text) → HasNoHyphen script → HasNoHyphen program
         → Asks (codes "race" ∷ script ∷ program ∷ []) (a_race script (program ∷ []) 2 1000000) }
+{}
+
+/// The law that a number of workers that is none from 1 to 64, or of turns that is none below 2^64, is a fault where it is the
+/// first word behind `race`, whatever follows. The call does nothing.
+pub fn numbers_out_of_range_are_faults()
+    ensures workers { (number : Text) (words : List Text) → accepts false (Unsigned 1 64) number ≡ false
+        → fault_of command_line (codes "race" ∷ (codes "--workers=" ++ number) ∷ words) ≡ ValueValidation ∷ [] }
+    ensures turns { (number : Text) (words : List Text) → accepts false (Unsigned 0 18446744073709551615) number ≡ false
+        → fault_of command_line (codes "race" ∷ (codes "--turns=" ++ number) ∷ words) ≡ ValueValidation ∷ [] }
+    ensures examples { (accepts false (Unsigned 1 64) (codes "0") ≡ false) × (accepts false (Unsigned 1 64) (codes "65") ≡ false)
+        × (accepts false (Unsigned 1 64) (codes "x") ≡ false) }
 {}

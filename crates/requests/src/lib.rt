@@ -16,6 +16,7 @@ mod reading;
 
 pub use asked::{Request, RequestError};
 pub use laws::{
-    plain_commands_are_taken, plain_commands_are_their_operands, races_are_asked_for,
+    numbers_out_of_range_are_faults, plain_commands_are_taken,
+    plain_commands_are_their_operands, races_are_asked_for,
 };
 pub use reading::{DEFAULT_TURNS, DEFAULT_WORKERS, MAX_WORKERS, request};
