@@ -1,4 +1,5 @@
 mod ScriptLaws
 mod Numbering
+mod Writing
 mod Commits
 mod Runs

@@ -147,7 +147,7 @@ impl Committed {
 
     // The batches; what is pending is dropped.
     fn into_batches(self) -> Vec<Batch>
-        ensures { result.items ≡ self.entry.batches }
+        ensures { result.items ≡ self.batches }
     {
         let Committed { batches, pending: _ } = self;
         batches

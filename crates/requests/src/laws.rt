@@ -1,6 +1,7 @@
 //! Laws of command lines, each the contract of a call that does nothing.
 
-ghost use Rattle.std.specs.Prelude.{◌≡◌, ◌≤◌, [], ◌∷◌, ◌++◌, List, codes, false, length};
+ghost use Rattle.std.specs.Prelude.{◌≡◌, ◌≤◌, [], ◌∷◌, ◌++◌, List, codes, true, false, length};
+ghost use Rattle.std.specs.Str.Parse.{digits_value, without_leading_plus};
 ghost use Rattle.clap.specs.Lexer.{usize_max};
 ghost use Rattle.clap.specs.ValueTests.{accepts};
 ghost use Rattle.clap.specs.Words.{Text, fault_of};
@@ -37,4 +38,13 @@ pub fn numbers_out_of_range_are_faults()
         → fault_of command_line (codes "race" ∷ (codes "--turns=" ++ number) ∷ words) ≡ ValueValidation ∷ [] }
     ensures examples { (accepts false (Unsigned 1 64) (codes "0") ≡ false) × (accepts false (Unsigned 1 64) (codes "65") ≡ false)
         × (accepts false (Unsigned 1 64) (codes "x") ≡ false) }
+{}
+
+/// The law that `race` with both options in front of a script and a program is a race by so many workers within so many turns.
+/// The call does nothing.
+pub fn options_are_numbers()
+    ensures { (workers turns script program : Text) → accepts false (Unsigned 1 64) workers ≡ true
+        → accepts false (Unsigned 0 18446744073709551615) turns ≡ true → HasNoHyphen script → HasNoHyphen program
+        → Asks (codes "race" ∷ (codes "--workers=" ++ workers) ∷ (codes "--turns=" ++ turns) ∷ script ∷ program ∷ [])
+            (a_race script (program ∷ []) (digits_value 10 (without_leading_plus workers)) (digits_value 10 (without_leading_plus turns))) }
 {}

@@ -16,7 +16,7 @@ mod reading;
 
 pub use asked::{Request, RequestError};
 pub use laws::{
-    numbers_out_of_range_are_faults, plain_commands_are_taken,
+    numbers_out_of_range_are_faults, options_are_numbers, plain_commands_are_taken,
     plain_commands_are_their_operands, races_are_asked_for,
 };
 pub use reading::{DEFAULT_TURNS, DEFAULT_WORKERS, MAX_WORKERS, request};
