@@ -38,8 +38,8 @@ committed programs lines leaves o bs (Some more) found e =
     let is : o.pending ∷ more ≡ bs = ap (λ (b : Option (List (List Entry))). unwrap_or b bs) e in
     let rest = leaves (stepping o (Commit o.pending) []).state more found in
     subst (λ (b : List (List Entry)).
-        (option_map (λ s. s.versions) (state_after_lines programs (Some (stepping o (Commit o.pending) []).state) lines) ≡ Some (state_after_commits o.versions b))
-        × (step_line (Commit o.pending) (reply_to o.versions (Commit o.pending)) ++ replies_to_lines programs (Some (stepping o (Commit o.pending) []).state) lines ≡ commit_replies o.versions b)) is
+    (option_map (λ s. s.versions) (state_after_lines programs (Some (stepping o (Commit o.pending) []).state) lines) ≡ Some (state_after_commits o.versions b))
+    × (step_line (Commit o.pending) (reply_to o.versions (Commit o.pending)) ++ replies_to_lines programs (Some (stepping o (Commit o.pending) []).state) lines ≡ commit_replies o.versions b)) is
     (rest.0, ap (λ (t : List ℕ). step_line (Commit o.pending) (reply_to o.versions (Commit o.pending)) ++ t) rest.1)
 
 -- a line that is a change

@@ -118,12 +118,7 @@ fn send_run<W: Drain>(
 }
 
 // The line of a run.
-fn run_line(
-    alloc: Global,
-    when: &[u8],
-    program: u64,
-    version: u64,
-) -> Result<Vec<u8>, AllocError>
+fn run_line(alloc: Global, when: &[u8], program: u64, version: u64) -> Result<Vec<u8>, AllocError>
     ensures { IfOk result (λ line. line.items ≡ run_line when.now program version) }
 {
     let mut line = Vec::new(alloc);

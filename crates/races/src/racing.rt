@@ -62,8 +62,9 @@ fn race_known<J: Naming + Send + Sync, T: Threads + Wait + Sync>(
         batches,
     } = script;
     let seats = plans.len() + 1;
-    let (graph, readers) =
-        SharedGraph::<J, &T>::open(rt, alloc, opening, vertices, chunk_size, seats)?;
+    let (graph, readers) = SharedGraph::<J, &T>::open(
+        rt, alloc, opening, vertices, chunk_size, seats,
+    )?;
     let (versions, runs) = race_on(rt, alloc, &graph, readers, batches, plans, workers, turns)?;
     Ok(Race {
         vertices,

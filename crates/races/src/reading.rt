@@ -60,10 +60,12 @@ fn opened(line: &[u8]) -> Option<(u32, u32)>
     ensures { Opens (command_of line.now) result }
 {
     match command(line) {
-        Some(Command::Vertices {
-            vertices,
-            chunk_size,
-        }) => Some((vertices, chunk_size)),
+        Some(
+            Command::Vertices {
+                vertices,
+                chunk_size,
+            },
+        ) => Some((vertices, chunk_size)),
         _ => None,
     }
 }
@@ -111,14 +113,18 @@ impl Committed {
         ensures { Takes self.old command self.new result }
     {
         match command {
-            Some(Command::Add {
-                source,
-                destination,
-            }) => self.push(Entry::Add(source, destination)),
-            Some(Command::Remove {
-                source,
-                destination,
-            }) => self.push(Entry::Remove(source, destination)),
+            Some(
+                Command::Add {
+                    source,
+                    destination,
+                },
+            ) => self.push(Entry::Add(source, destination)),
+            Some(
+                Command::Remove {
+                    source,
+                    destination,
+                },
+            ) => self.push(Entry::Remove(source, destination)),
             Some(Command::Commit) => self.commit(alloc),
             _ => Err(RaceScriptError::NoRace),
         }
@@ -149,7 +155,10 @@ impl Committed {
     fn into_batches(self) -> Vec<Batch>
         ensures { result.items ≡ self.batches }
     {
-        let Committed { batches, pending: _ } = self;
+        let Committed {
+            batches,
+            pending: _,
+        } = self;
         batches
     }
 }

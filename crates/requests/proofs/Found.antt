@@ -1,11 +1,11 @@
 -- What the code gets from what clap found.
-use Rattle.std.proofs.Common.{if◌then◌else◌, ◌∷◌, ◌≡◌, ◌∙◌, ◌≢◌, ◌<◌, ◌≤◌, Bool, true, false, List, [], Option, Some, None, Result, Ok, Err, refl, sym, ap, subst, inl, inr, codes, arith}
+use Rattle.std.proofs.Common.{if◌then◌else◌, ◌∷◌, ◌≡◌, ◌∙◌, Bool, true, false, List, [], Option, Some, None, Result, Ok, Err, refl, sym, ap, inl, inr, codes, arith}
 use Rattle.std.proofs.lemmas.Bool.{true≢false}
 use Rattle.std.specs.Borrow.{Bor}
 use Rattle.std.specs.Box.{box_value}
 use Rattle.std.specs.Prelude.{IsErrAnd, map, option_map, unwrap_or}
 use Rattle.std.specs.Str.{bytes_eq}
-use Rattle.clap.specs.Kinds.{HasKind, IsAmong, Kinds}
+use Rattle.clap.specs.Kinds.{HasKind, Kinds}
 use Rattle.clap.specs.Matches.{subcommand_name_of}
 use Rattle.clap.specs.Words.{Row, Text, fault_of, kind_of, subcommand_of, subcommand_rows, subcommand_rows_of}
 use Rattle.clap.specs.declared.error.Error.{Error as Fault}
@@ -13,7 +13,7 @@ use Rattle.clap.specs.declared.error.kind.ErrorKind.{ErrorKind as FaultKind}
 use Rattle.clap.specs.declared.error.kind.ErrorKind.TheVariants.{OutOfMemory}
 use Rattle.clap.specs.declared.parser.matches.ArgMatches.{ArgMatches}
 use Rattle.clap.specs.declared.parser.matches.ArgMatches.TheViews.{out-ArgMatches, out-SubCommand}
-use Rattle.requests.specs.Asked.{Answers, Asked, HasFewWorkers, IsFaultAmong, command_of, found_request, race_of, request_of, script_with, files_of}
+use Rattle.requests.specs.Asked.{Answers, HasFewWorkers, IsFaultAmong, command_of, found_request, race_of, request_of, script_with, files_of}
 use Rattle.requests.specs.CommandLine.{command_line}
 use Rattle.requests.specs.Refusal.{of_fault}
 use Rattle.requests.specs.declared.asked.Request.{Request}

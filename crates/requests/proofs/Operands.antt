@@ -1,5 +1,5 @@
 -- What the words of `check`, `plan` and `script` ask for.
-use Rattle.std.proofs.Common.{◌≡◌, ◌∙◌, ◌<◌, ◌≤◌, inl, inr, length, arith, Bool, true, false, List, [], ◌∷◌, ◌++◌, Option, Some, None, refl, sym, ap, codes}
+use Rattle.std.proofs.Common.{◌≡◌, ◌∙◌, ◌≤◌, length, arith, Bool, true, false, List, [], ◌∷◌, ◌++◌, Option, Some, None, refl, sym, ap, codes}
 use Rattle.std.proofs.lemmas.List.{append-nil, append_assoc}
 use Rattle.std.proofs.lemmas.Slice.Eq.{bytes_eq-Decides}
 use Rattle.std.specs.Prelude.{fold, find, option_map, slice_get, unwrap_or}
@@ -16,7 +16,7 @@ use Rattle.clap.specs.declared.error.kind.ErrorKind.TheVariants.{UnknownArgument
 use Rattle.requests.specs.CommandLine.{command_line}
 use Rattle.requests.specs.Asked.{file_of, request_of, script_with}
 use Rattle.requests.specs.Forms.{HasOperands, IsCommand, no_words, check_word, check_after_dashes, plan_word, plan_after_dashes, script_words, script_after_dashes, operands}
-use Rattle.requests.proofs.FileWords.{NamesOne, file_in, file_quiet, file_quiet_behind, file_read, taker}
+use Rattle.requests.proofs.FileWords.{NamesOne, file_quiet, file_quiet_behind, file_read, taker}
 use Rattle.requests.proofs.Flags.{HasOnlyHelp, dashes, first_is_quiet, held, is_value, none_or_help, second_is_quiet, step_is_fault}
 use Rattle.requests.proofs.ScriptWords.{NamesFiles, files_in, files_quiet, files_quiet_behind, files_read, script}
 
@@ -166,8 +166,14 @@ is_quiet words few (check_after_dashes file) = rw (file_quiet_behind (codes "che
 is_quiet words few (plan_word file no_hyphen) = rw (file_quiet (codes "plan") file no_hyphen) refl
 is_quiet words few (plan_after_dashes file) = rw (file_quiet_behind (codes "plan") file) refl
 is_quiet words few (script_words file others all) =
-    rw (gathers top.rules names (at_start false) (codes "script") [] (file ∷ others), stopped_fault top names (at_start false) (codes "script", []) (file ∷ others),
-    files_quiet file others all (omega (arith, few))) refl
+    rw (
+      gathers top.rules names (at_start false) (codes "script") [] (file ∷ others),
+      stopped_fault top names (at_start false) (codes "script", []) (file ∷ others),
+      files_quiet file others all (omega (arith, few)),
+    ) refl
 is_quiet words few (script_after_dashes file others) =
-    rw (gathers top.rules names (at_start false) (codes "script") [] (dashes ∷ file ∷ others), stopped_fault top names (at_start false) (codes "script", []) (dashes ∷ file ∷ others),
-    files_quiet_behind file others (omega (arith, few))) refl
+    rw (
+      gathers top.rules names (at_start false) (codes "script") [] (dashes ∷ file ∷ others),
+      stopped_fault top names (at_start false) (codes "script", []) (dashes ∷ file ∷ others),
+      files_quiet_behind file others (omega (arith, few)),
+    ) refl

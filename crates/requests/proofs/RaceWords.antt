@@ -12,7 +12,7 @@ use Rattle.clap.specs.declared.builder.value_parser.Reading.TheVariants.{AsWritt
 use Rattle.clap.specs.declared.parser.matches.ValueSource.TheVariants.{CommandLine}
 use Rattle.clap.specs.declared.builder.value_parser.ValueParser.TheVariants.{Unsigned}
 use Rattle.clap.specs.declared.error.kind.ErrorKind.TheVariants.{ValueValidation}
-use Rattle.requests.specs.Asked.{Asks, a_race, request_of}
+use Rattle.requests.specs.Asked.{Asks, a_race}
 use Rattle.requests.specs.CommandLine.{command_line, race_command}
 use Rattle.requests.specs.Forms.{HasNoHyphen}
 use Rattle.requests.proofs.Flags.{no_dashes}
@@ -28,16 +28,20 @@ pub bad_workers : (number : Text) (words : List Text) → accepts false (Unsigne
     → fault_of command_line (codes "race" ∷ (codes "--workers=" ++ number) ∷ words) ≡ ValueValidation ∷ []
 unfolding clap_on_literals
 bad_workers number words bad =
-    rw (gathers top.rules names (at_start false) (codes "race") [] ((codes "--workers=" ++ number) ∷ words),
-    stopped_fault top names (at_start false) (codes "race", []) ((codes "--workers=" ++ number) ∷ words)) (rw bad refl)
+    rw (
+      gathers top.rules names (at_start false) (codes "race") [] ((codes "--workers=" ++ number) ∷ words),
+      stopped_fault top names (at_start false) (codes "race", []) ((codes "--workers=" ++ number) ∷ words),
+    ) (rw bad refl)
 
 -- a bound of turns that is no number below 2 ^ 64
 pub bad_turns : (number : Text) (words : List Text) → accepts false (Unsigned 0 18446744073709551615) number ≡ false
     → fault_of command_line (codes "race" ∷ (codes "--turns=" ++ number) ∷ words) ≡ ValueValidation ∷ []
 unfolding clap_on_literals
 bad_turns number words bad =
-    rw (gathers top.rules names (at_start false) (codes "race") [] ((codes "--turns=" ++ number) ∷ words),
-    stopped_fault top names (at_start false) (codes "race", []) ((codes "--turns=" ++ number) ∷ words)) (rw bad refl)
+    rw (
+      gathers top.rules names (at_start false) (codes "race") [] ((codes "--turns=" ++ number) ∷ words),
+      stopped_fault top names (at_start false) (codes "race", []) ((codes "--turns=" ++ number) ∷ words),
+    ) (rw bad refl)
 
 -- ---- options in front of the files
 
@@ -119,8 +123,15 @@ module _ (workers turns script program : Text) (w : accepts false (Unsigned 1 64
   turns_are_quiet : walk_fault race [] (after_options []) words ≡ []
   unfolding walk_fault
   turns_are_quiet =
-      rw (workers_quiet workers w, workers_walked workers, turns_quiet workers turns t, turns_walked workers turns, script_quiet rows script s, script_walked rows script s,
-      program_quiet rows script program refl p) refl
+      rw (
+        workers_quiet workers w,
+        workers_walked workers,
+        turns_quiet workers turns t,
+        turns_walked workers turns,
+        script_quiet rows script s,
+        script_walked rows script s,
+        program_quiet rows script program refl p,
+      ) refl
 
   level_quiet : level_fault race [] nothing_held words false [] ≡ []
   unfolding defaults_fault

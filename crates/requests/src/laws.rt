@@ -46,5 +46,5 @@ pub fn options_are_numbers()
     ensures { (workers turns script program : Text) → accepts false (Unsigned 1 64) workers ≡ true
         → accepts false (Unsigned 0 18446744073709551615) turns ≡ true → HasNoHyphen script → HasNoHyphen program
         → Asks (codes "race" ∷ (codes "--workers=" ++ workers) ∷ (codes "--turns=" ++ turns) ∷ script ∷ program ∷ [])
-            (a_race script (program ∷ []) (digits_value 10 (without_leading_plus workers)) (digits_value 10 (without_leading_plus turns))) }
+        (a_race script (program ∷ []) (digits_value 10 (without_leading_plus workers)) (digits_value 10 (without_leading_plus turns))) }
 {}

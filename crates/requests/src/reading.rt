@@ -101,11 +101,7 @@ fn race<'a>(alloc: Global, found: &ArgMatches<'a>) -> Result<Request<'a>, AllocE
 }
 
 // The files that were found by this name.
-fn files<'a>(
-    alloc: Global,
-    found: &ArgMatches<'a>,
-    name: &str,
-) -> Result<Vec<&'a str>, AllocError>
+fn files<'a>(alloc: Global, found: &ArgMatches<'a>, name: &str) -> Result<Vec<&'a str>, AllocError>
     ensures { IfOk result (λ files. map (λ f. f.now) files.items ≡ files_of name.now (rows_of (found_of found.now))) }
 {
     Vec::from_slice(alloc, found.get_raw(name).unwrap_or(&[]))
@@ -122,7 +118,12 @@ fn file<'a>(found: &ArgMatches<'a>, name: &str) -> &'a str
 fn workers(found: &ArgMatches) -> usize
     ensures { result ≡ number_of (codes "workers") 1 64 2 (rows_of (found_of found.now)) }
 {
-    number(found, WORKERS, (1, MAX_WORKERS as u64), DEFAULT_WORKERS as u64) as usize
+    number(
+        found,
+        WORKERS,
+        (1, MAX_WORKERS as u64),
+        DEFAULT_WORKERS as u64,
+    ) as usize
 }
 
 // How many turns a run may use.

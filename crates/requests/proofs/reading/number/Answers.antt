@@ -1,4 +1,4 @@
-use Rattle.std.proofs.Common.{◌≡◌, ◌∙◌, ℕ, Option, Some, None, sym, subst}
+use Rattle.std.proofs.Common.{◌≡◌, ◌∙◌, ℕ, Option, subst}
 use Rattle.std.specs.Option.{option_map_or}
 use Rattle.std.specs.Str.Parse.{ParsesUnsigned, ExplainsUnsignedError, HasUnsignedDigitsIfOk}
 use Rattle.clap.specs.Words.{found_of, one_of, rows_of}
@@ -17,7 +17,7 @@ returns-in-Some c =
     least most c.args.default (one_of c.args.name.now (rows_of (found_of c.args.found.now))) c.get_one.result
     (λ none. c.get_one.ensures.none (same ∙ none)) (λ t some. c.get_one.ensures.value t (same ∙ some)) in
     c.in_range.ensures ∙ subst (λ (o : Option ℕ). option_map_or (within least most c.args.default) o c.args.default
-        ≡ number_of c.args.name.now least most c.args.default (rows_of (found_of c.args.found.now))) c.in-Some.is found
+    ≡ number_of c.args.name.now least most c.args.default (rows_of (found_of c.args.found.now))) c.in-Some.is found
 
 pub returns-in-None : goal.returns-in-None
 returns-in-None c =
@@ -28,4 +28,4 @@ returns-in-None c =
     least most c.args.default (one_of c.args.name.now (rows_of (found_of c.args.found.now))) c.get_one.result
     (λ none. c.get_one.ensures.none (same ∙ none)) (λ t some. c.get_one.ensures.value t (same ∙ some)) in
     subst (λ (o : Option ℕ). option_map_or (within least most c.args.default) o c.args.default
-        ≡ number_of c.args.name.now least most c.args.default (rows_of (found_of c.args.found.now))) c.in-None.is found
+    ≡ number_of c.args.name.now least most c.args.default (rows_of (found_of c.args.found.now))) c.in-None.is found
