@@ -3,3 +3,4 @@ mod Numbering
 mod Writing
 mod Commits
 mod Runs
+mod Crossing

@@ -1,6 +1,6 @@
 -- Texts of numbered items, sent one after another.
 use Rattle.std.proofs.Common.{◌≡◌, ◌∙◌, ℕ, suc, ◌+◌, ◌<◌, List, [], ◌∷◌, ◌++◌, length, get_or, take, drop, refl, sym, ap, subst, append_assoc, append-nil, arith}
-use Rattle.std.proofs.lemmas.List.{take-append-drop, drop_more, take_more, length-take}
+use Rattle.std.proofs.lemmas.List.{take-append-drop, drop_more, take_more, length-take-le}
 use Rattle.replies.specs.declared.send_error.SendError.{SendError}
 use Rattle.replies.specs.Sending.{Output, Sends, Fails}
 use Rattle.replies.proofs.SendingLaws.{sends_then, fails_then, fails_more}
@@ -16,7 +16,7 @@ module _ {A : Type 0} (f : ℕ → A → List ℕ) where
 
   module _ (a b c : Output) (xs : List A) (place : ℕ) (x none : A) (within : place < length xs) (is : x ≡ get_or xs place none) where
     counted : length (take place xs) + 1 ≡ place + 1
-    counted = omega (arith, length-take place xs, within)
+    counted = ap (λ (n : ℕ). n + 1) (length-take-le place xs (omega (arith, within)))
 
     split_at : take place xs ++ x ∷ drop (place + 1) xs ≡ xs
     split_at = ap (λ ys. take place xs ++ ys) (ap (λ y. y ∷ drop (place + 1) xs) is ∙ sym (drop_more xs place none within)) ∙ take-append-drop place xs
