@@ -4,3 +4,4 @@ mod Writing
 mod Commits
 mod Runs
 mod Crossing
+mod Pairs

@@ -8,7 +8,9 @@ use Rattle.races.specs.RaceText.{numbered}
 
 module _ {A : Type 0} (f : ℕ → A → List ℕ) where
   numbered-append : (n : ℕ) (xs ys : List A) → numbered f n (xs ++ ys) ≡ numbered f n xs ++ numbered f (length xs + n) ys
-  numbered-append n [] ys = refl
+  numbered-append n [] ys =
+      let none : n ≡ 0 + n = omega arith in
+      ap (λ (k : ℕ). numbered f k ys) none
   numbered-append n (x ∷ xs) ys =
       let counted : length xs + suc n ≡ length (x ∷ xs) + n = omega arith in
       ap (λ (t : List ℕ). f n x ++ t) (numbered-append (suc n) xs ys ∙ ap (λ (k : ℕ). numbered f (suc n) xs ++ numbered f k ys) counted)

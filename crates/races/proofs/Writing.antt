@@ -20,19 +20,19 @@ part_taken : (a b : Output) (t : List ℕ) → a.kept ≡ [] → SendsPart a b t
 part_taken a b t none part = (part.1.sent, part.0, part.1.taken, part.1.whole ∙ ap (λ (k : List ℕ). k ++ t) none)
 
 -- a text that failed to go
-fails_written : {A : Type 0} (a b : Output) (t : List ℕ) (e : SendError) → a.kept ≡ [] → Fails a b t e → Writes {A} t (taken_by a.taken a.failures) (taken_by b.taken b.failures) (Err e)
-fails_written a b t NoMemory none h = part_taken a b t none h
-fails_written a b t WriteFailed none h = (part_taken a b t none h.0, h.1)
+fails_written : (A : Type 0) (a b : Output) (t : List ℕ) (e : SendError) → a.kept ≡ [] → Fails a b t e → Writes {A = A} t (taken_by a.taken a.failures) (taken_by b.taken b.failures) (Err e)
+fails_written A a b t NoMemory none h = part_taken a b t none h
+fails_written A a b t WriteFailed none h = (part_taken a b t none h.0, h.1)
 
 pub failed_written : {A : Type 0} (a b : Output) (t : List ℕ) (r : Result A SendError) (e : SendError) → a.kept ≡ [] → IsErrAnd r (λ d. d ≡ e) → Fails a b t e
     → Writes t (taken_by a.taken a.failures) (taken_by b.taken b.failures) r
-failed_written {A} a b t r e none is h = let p = err_from_is_err_and r is in rw (p.1, p.2) (fails_written {A} a b t e none h)
+failed_written {A} a b t r e none is h = let p = err_from_is_err_and r is in rw (p.1, p.2) (fails_written A a b t e none h)
 
 -- a text that was sent, and then what is kept is written
 pub sent_written : {A : Type 0} (a b c : Output) (t : List ℕ) (r : Result A SendError) → a.kept ≡ [] → Sends a b t → Emits b c [] r → OnOk r (c.kept ≡ [])
     → Writes t (taken_by a.taken a.failures) (taken_by c.taken c.failures) r
 sent_written a b c t (Ok x) none one other empty = all_taken a c t none empty (subst (Sends a c) (append-nil t) (sends_then a b c t [] one other))
-sent_written {A} a b c t (Err e) none one other empty = fails_written {A} a c t e none (subst (λ (u : List ℕ). Fails a c u e) (append-nil t) (fails_then a b c t [] e one other))
+sent_written {A} a b c t (Err e) none one other empty = fails_written A a c t e none (subst (λ (u : List ℕ). Fails a c u e) (append-nil t) (fails_then a b c t [] e one other))
 
 -- memory ran out before anything was sent
 pub none_written : {A : Type 0} (text : List ℕ) (t : Taken) (r : Result A SendError) → IsErrAnd r (λ d. d ≡ NoMemory) → Writes text t t r

@@ -1,4 +1,4 @@
-use Rattle.std.proofs.Common.{ℕ, List, ◌≤◌, ◌<◌, length, subst, arith, codes}
+use Rattle.std.proofs.Common.{ℕ, List, ◌≤◌, ◌<◌, length, refl, subst, arith, codes}
 use Rattle.std.proofs.lemmas.List.{take_all}
 use Rattle.std.specs.List.{flat_map}
 use Rattle.replies.specs.ReplyText.{word_line}
@@ -17,12 +17,12 @@ pub returns-in_err-send_line : goal.returns-in_err-send_line
 returns-in_err-send_line g c =
     let within : c.versions.version-index < length c.args.versions.now = omega (arith, c.versions-test.true, c.versions.auto.version-index-end) in
     emits_failed _ _ _ _ _ c.from_residual.ensures.1
-    (fails_at line _ _ _ c.args.versions.now c.versions.version-index c.version-item.result c.version-item.result within c.version-item.is _ c.versions.invariant c.in_err-send_line.ensures)
+    (fails_at line _ _ _ c.args.versions.now c.versions.version-index _ 0 within refl _ c.versions.invariant c.in_err-send_line.ensures)
 
 pub versions-preserved : goal.versions-preserved
 versions-preserved g c =
     let within : c.versions.version-index < length c.args.versions.now = omega (arith, c.versions-test.true, c.versions.auto.version-index-end) in
-    sends_at line _ _ _ c.args.versions.now c.versions.version-index c.version-item.result c.version-item.result within c.version-item.is c.versions.invariant c.in_ok-send_line.ensures
+    sends_at line _ _ _ c.args.versions.now c.versions.version-index _ 0 within refl c.versions.invariant c.in_ok-send_line.ensures
 
 pub returns : goal.returns
 returns g c =
