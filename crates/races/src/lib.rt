@@ -20,8 +20,6 @@ mod outcomes;
 mod race_text;
 mod racing;
 mod reading;
-#[cfg(test)]
-mod trial;
 
 pub use error::{RaceError, RaceScriptError};
 pub use laws::race_scripts_mean_what_scripts_mean;
