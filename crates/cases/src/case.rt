@@ -8,6 +8,7 @@ use devices::Device;
 use driver::{Files, run};
 use std::alloc::{AllocError, Global};
 use std::io::ErrorKind;
+use std::sync::Wait;
 use std::thread::Threads;
 use std::{fs, io, str};
 
@@ -53,9 +54,9 @@ impl Files for Folder<'_> {
     }
 }
 
-/// Runs a case, with workers in threads of `threads`. The answer tells each difference, by a line, and is empty where
+/// Runs a case, with workers and races in threads of `threads`. The answer tells each difference, by a line, and is empty where
 /// there is none.
-pub fn differences<T: Threads + Sync>(
+pub fn differences<T: Threads + Wait + Sync>(
     rt: &HostRuntime,
     threads: &T,
     place: &Place,
@@ -95,7 +96,7 @@ struct CaseOutput {
 }
 
 // Does the command line of a case.
-fn outcome_of<T: Threads + Sync>(
+fn outcome_of<T: Threads + Wait + Sync>(
     threads: &T,
     folder: &Folder<'_>,
     name: &str,
@@ -109,7 +110,7 @@ fn outcome_of<T: Threads + Sync>(
 }
 
 // Does these words over the files of the folder and this standard input.
-fn outcome_on<T: Threads + Sync>(
+fn outcome_on<T: Threads + Wait + Sync>(
     threads: &T,
     folder: &Folder<'_>,
     words: &[&str],
@@ -140,7 +141,7 @@ fn add_output(
     (output, default, got): (&str, &[u8], &[u8]),
 ) -> io::Result<()> {
     let case = folder.path(name)?;
-    let wanted = folder.read_with(name, output)?;
+    let wanted = wanted_output(folder, name, output, got)?;
     let output = Output {
         case: case.as_str(),
         name: output,
@@ -148,6 +149,30 @@ fn add_output(
         got,
     };
     Ok(add_differences(folder.rt.alloc(), told, output)?)
+}
+
+// What an output's file holds; or, where there are files with the numbers from 1 in its place, the one of these that holds what
+// was got, or else the first.
+fn wanted_output(
+    folder: &Folder<'_>,
+    name: &str,
+    output: &str,
+    got: &[u8],
+) -> io::Result<Option<Vec<u8>>> {
+    let mut wanted = folder.read_with(name, output)?;
+    if wanted.is_some() {
+        return Ok(wanted);
+    }
+    for number in 1..10 {
+        let name = format!(in folder.rt.alloc(); "{name}.{number}")?;
+        let Some(bytes) = folder.read_with(name.as_str(), output)? else {
+            break;
+        };
+        if wanted.is_none() || bytes.as_slice() == got {
+            wanted = Some(bytes);
+        }
+    }
+    Ok(wanted)
 }
 
 // The words as texts.

@@ -8,6 +8,7 @@
 //!   standard input;
 //! - `graphs/NAME.out`, `graphs/NAME.err` and `graphs/NAME.status`: what standard output and standard
 //!   error must be told, and the exit status. A file that is not there stands for no bytes, or for 0.
+//!   Where an output may be one of several, as that of a race, they stand in `graphs/NAME.1.out`, `graphs/NAME.2.out` and so on.
 //!
 //! A long file may stand in a short form (`repeated.rt`).
 //!
@@ -24,6 +25,7 @@ mod repeated;
 
 use std::io;
 use std::process::ExitCode;
+use std::sync::Wait;
 use std::thread::Threads;
 
 fn main(rt: HostRuntime) -> ExitCode {
@@ -39,7 +41,7 @@ fn main(rt: HostRuntime) -> ExitCode {
 }
 
 // Runs all cases below the folder that it is run in, and answers how many differ.
-fn run_all(rt: &HostRuntime, threads: &(impl Threads + Sync)) -> io::Result<usize> {
+fn run_all(rt: &HostRuntime, threads: &(impl Threads + Wait + Sync)) -> io::Result<usize> {
     let mut agree = 0usize;
     let mut differ = 0usize;
     for place in listing::cases(rt)? {

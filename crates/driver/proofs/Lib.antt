@@ -1,6 +1,2 @@
 mod Compiling
-mod FileWords
-mod Flags
-mod Reading
-mod ScriptWords
 mod Workers

@@ -1,5 +1,6 @@
 -- How a request ends, as an error and as an exit status.
-use Rattle.std.specs.Prelude.{ℕ, Bool, true, false, Result, Ok, Err}
+use Rattle.std.specs.Prelude.{ℕ, Bool, true, false, List, Result, Ok, Err}
+use Rattle.std.specs.Borrow.{Bor}
 use Rattle.std.specs.IoError.{error_kind}
 use Rattle.std.specs.declared.io.Error.{Error}
 use Rattle.std.specs.declared.io.ErrorKind.{ErrorKind}
@@ -7,12 +8,18 @@ use Rattle.std.specs.declared.io.ErrorKind.TheVariants.{OutOfMemory}
 use Rattle.scripts.specs.declared.error.ScriptError.{ScriptError}
 use Rattle.scripts.specs.declared.error.ScriptError.TheVariants as script
 use Rattle.driver.specs.declared.error.ServeError.{ServeError}
-use Rattle.driver.specs.declared.error.ServeError.TheVariants.{NoMemory, ReadFailed, WriteFailed, Refused}
-use Rattle.clap.specs.declared.error.Error.{Error as Fault}
-use Rattle.clap.specs.declared.error.kind.ErrorKind.{ErrorKind as FaultKind}
-use Rattle.clap.specs.declared.error.kind.ErrorKind.TheVariants as fault
-use Rattle.driver.specs.declared.requests.RequestError.{RequestError}
-use Rattle.driver.specs.declared.requests.RequestError.TheVariants as request
+use Rattle.driver.specs.declared.error.ServeError.TheVariants.{NoMemory, ReadFailed, WriteFailed, Refused, RaceRefused, Closed}
+use Rattle.requests.specs.declared.asked.RequestError.{RequestError}
+use Rattle.requests.specs.declared.asked.RequestError.TheVariants as request
+use Rattle.replies.specs.declared.send_error.SendError.{SendError}
+use Rattle.replies.specs.declared.send_error.SendError.TheVariants as send
+use Rattle.races.specs.declared.error.RaceScriptError.{RaceScriptError}
+use Rattle.races.specs.declared.error.RaceScriptError.TheVariants as race_script
+use Rattle.races.specs.declared.error.RaceError.{RaceError}
+use Rattle.races.specs.declared.error.RaceError.TheVariants.{NotCommitted, NotRun}
+use Rattle.shared_graph.specs.Refusal.{number_of as shared_number_of}
+use Rattle.shared_graph.specs.declared.error.SharedError.TheVariants as shared
+use Rattle.snapshot_runs.specs.declared.error.LatestRunError.TheVariants as run
 
 -- what becomes of a kind of failed read
 abbrev pub of_kind : ErrorKind → ServeError
@@ -35,6 +42,8 @@ status_of NoMemory = 4
 status_of ReadFailed = 5
 status_of WriteFailed = 5
 status_of (Refused file error) = 1
+status_of (RaceRefused file number) = 1
+status_of Closed = 4
 
 -- the exit status after a request: whether some run ended by a fault, or why it was not done
 abbrev pub status_of_end : Result Bool ServeError → ℕ
@@ -47,7 +56,20 @@ abbrev pub refusal_status_of : RequestError → ℕ
 refusal_status_of request.NoMemory = 4
 refusal_status_of _ = 2
 
--- what becomes of a fault of this kind: it is told with its own text, unless memory ran out
-abbrev pub of_fault : FaultKind → Fault → RequestError
-of_fault fault.OutOfMemory e = request.NoMemory
-of_fault _ e = request.Fault e
+-- what becomes of a reply that could not be sent
+abbrev pub of_send : SendError → ServeError
+of_send send.NoMemory = NoMemory
+of_send send.WriteFailed = WriteFailed
+
+-- what becomes of a refusal of the script of a race in the file of this name
+abbrev pub of_race_script : Bor (List ℕ) → RaceScriptError → ServeError
+of_race_script file race_script.NoMemory = NoMemory
+of_race_script file race_script.NoRace = RaceRefused file 801
+
+-- what becomes of a refusal of a race of the script in this file
+abbrev pub of_race : Bor (List ℕ) → RaceError → ServeError
+of_race file (NotCommitted shared.NoMemory) = NoMemory
+of_race file (NotCommitted error) = RaceRefused file (shared_number_of error)
+of_race file (NotRun run.NoMemory) = NoMemory
+of_race file (NotRun run.Closed) = Closed
+of_race file (NotRun run.BadWorkers) = RaceRefused file 411

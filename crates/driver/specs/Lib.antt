@@ -1,6 +1,6 @@
-pub mod CommandLine
 pub mod Endings
-pub mod Reading
-pub mod Running
-pub mod Serving
 pub mod Programs
+pub mod Reading
+pub mod Serving
+pub mod Racing
+pub mod Running

@@ -11,7 +11,7 @@ use Rattle.driver.specs.Endings.{of_read}
 use Rattle.driver.specs.declared.error.ServeError.{ServeError}
 use Rattle.driver.specs.declared.compiled_plan.CompiledPlan.{CompiledPlan}
 use Rattle.driver.specs.Programs.{tree_of}
-use Rattle.driver.specs.declared.error.ServeError.TheVariants.{NoMemory, ReadFailed, WriteFailed, Refused}
+use Rattle.driver.specs.declared.error.ServeError.TheVariants.{NoMemory, ReadFailed, WriteFailed, Refused, RaceRefused, Closed}
 
 -- a read answered with bytes that the file may hold, or failed as it may fail
 abbrev pub AnswersRead : (List ℕ → Type 0) → (Error → Type 0) → Result (Vec ℕ) Error → Type 0
@@ -49,6 +49,8 @@ IsNoProgram holds fails name NoMemory = Unit {0}
 IsNoProgram holds fails name ReadFailed = FailsRead fails ReadFailed
 IsNoProgram holds fails name WriteFailed = ⊥
 IsNoProgram holds fails name (Refused file error) = (file.now ≡ name) × HoldsRefused holds error
+IsNoProgram holds fails name (RaceRefused file number) = ⊥
+IsNoProgram holds fails name Closed = ⊥
 
 -- what is made of the file of this name
 abbrev pub CompilesFile : (List ℕ → Type 0) → (Error → Type 0) → List ℕ → Result Plan ServeError → Type 0

@@ -1,24 +1,32 @@
 -- What doing a command line comes to.
-use Rattle.std.specs.Prelude.{◌≡◌, ℕ, List, ◌⊎◌}
+use Rattle.std.specs.Prelude.{◌≡◌, ℕ, true, false, List, [], ◌⊎◌}
 use Rattle.std.specs.declared.io.Error.{Error}
+use Rattle.clap.specs.Words.{fault_of}
+use Rattle.requests.specs.CommandLine.{command_line}
+use Rattle.requests.specs.Asked.{IsFaultAmong, asked_by, is_race, request_of}
+use Rattle.requests.specs.declared.asked.Request.{Request}
+use Rattle.requests.specs.declared.asked.RequestError.{RequestError}
 use Rattle.scripts.specs.Script.{Input, Taken}
-use Rattle.driver.specs.CommandLine.{IsCommand, operands, words_of}
 use Rattle.driver.specs.Endings.{refusal_status_of}
+use Rattle.driver.specs.Racing.{ServesRace}
 use Rattle.driver.specs.Serving.{Serves}
-use Rattle.driver.specs.declared.requests.Request.{Request}
-use Rattle.driver.specs.declared.requests.RequestError.{RequestError}
-use Rattle.driver.specs.declared.requests.RequestError.TheVariants.{NoMemory}
 
--- the words were read as a request, which was done
+-- a race was done, and the standard input was not read
+pub record RunsRace (holds : List ℕ → List ℕ → Type 0) (fails : List ℕ → Error → Type 0) (request : Request) (old new : Input) (before after : Taken) (status : ℕ) : Type 0 where
+  pub serves : ServesRace holds fails request before after status
+  pub unread : new ≡ old
+
+-- the words are without a fault, and what they ask for was done
 pub record RunsRequest (holds : List ℕ → List ℕ → Type 0) (fails : List ℕ → Error → Type 0) (words : List (List ℕ)) (old new : Input) (before after : Taken) (status : ℕ) : Type 0 where
   pub request : Request
-  pub read : operands words ≡ words_of request
-  pub serves : Serves holds fails request old new before after status
+  pub quiet : fault_of command_line words ≡ []
+  pub read : asked_by request ≡ request_of words
+  pub done : ((is_race request ≡ false) × Serves holds fails request old new before after status) ⊎ ((is_race request ≡ true) × RunsRace holds fails request old new before after status)
 
--- the words were refused, and nothing else was done; those of a request only where memory ran out
+-- the words were refused, for a fault of theirs or since memory ran out, and nothing else was done
 pub record RefusesWords (words : List (List ℕ)) (old new : Input) (before after : Taken) (status : ℕ) : Type 0 where
   pub error : RequestError
-  pub cause : IsCommand words → error ≡ NoMemory
+  pub cause : IsFaultAmong (fault_of command_line words) error
   pub ending : status ≡ refusal_status_of error
   pub unread : new ≡ old
   pub untouched : after ≡ before

@@ -1,11 +1,12 @@
 //! Why a request is not done to its end.
 
 ghost use Rattle.std.specs.Prelude.{◌≡◌};
-ghost use Rattle.driver.specs.Endings.{of_read, of_script, status_of};
+ghost use Rattle.driver.specs.Endings.{of_read, of_script, of_send, status_of};
 ghost use Rattle.driver.specs.declared.error.ServeError.TheVariants.{NoMemory};
 
 use crate::status;
 use compiler::CompileError;
+use replies::SendError;
 use scripts::ScriptError;
 use std::alloc::{AllocError, AllocFailed};
 use std::io::ErrorKind;
@@ -22,18 +23,22 @@ pub enum ServeError<'a> {
     WriteFailed,
     /// The text in the file of this name is no program. The error is never that memory ran out.
     Refused { file: &'a str, error: CompileError },
+    /// The script in the file of this name is none of a race, or its graph or a batch is refused, by this number.
+    RaceRefused { file: &'a str, number: u16 },
+    /// A race found nothing published.
+    Closed,
 }
 
 impl ServeError<'_> {
-    /// The exit status: 4 where memory ran out, 5 where reading or writing failed, 1 where a text is
-    /// refused.
+    /// The exit status: 4 where memory ran out or nothing was published, 5 where reading or writing failed, 1 where a
+    /// text or what it opens is refused.
     pub fn status(&self) -> u8
         ensures { result ≡ status_of self.now }
     {
         match self {
-            ServeError::NoMemory => status::NO_MEMORY,
+            ServeError::NoMemory | ServeError::Closed => status::NO_MEMORY,
             ServeError::ReadFailed | ServeError::WriteFailed => status::DEVICE_FAILED,
-            ServeError::Refused { .. } => status::REFUSED,
+            ServeError::Refused { .. } | ServeError::RaceRefused { .. } => status::REFUSED,
         }
     }
 }
@@ -48,6 +53,8 @@ impl fmt::Display for ServeError<'_> {
                 Some(at) => write!(f, "{file}: refused {} at {at}", error.number()),
                 None => write!(f, "{file}: refused {}", error.number()),
             },
+            ServeError::RaceRefused { file, number } => write!(f, "{file}: refused {number}"),
+            ServeError::Closed => f.write_str("refused 125"),
         }
     }
 }
@@ -87,6 +94,17 @@ impl From<ScriptError> for ServeError<'_> {
             ScriptError::NoMemory => ServeError::NoMemory,
             ScriptError::ReadFailed => ServeError::ReadFailed,
             ScriptError::WriteFailed => ServeError::WriteFailed,
+        }
+    }
+}
+
+impl From<SendError> for ServeError<'_> {
+    ghost from_gives = { λ error e. e ≡ of_send error };
+
+    fn from(error: SendError) -> Self {
+        match error {
+            SendError::NoMemory => ServeError::NoMemory,
+            SendError::WriteFailed => ServeError::WriteFailed,
         }
     }
 }

@@ -1,31 +1,31 @@
 //! What the program `gsnap` does, as a library: it reads a command line and does what that asks for.
 //!
-//! [`request`] reads the words, and [`serve`] does the request over any files, readers and writers.
-//! [`run`] does both, tells a refusal, and answers the exit status.
+//! [`run`] reads the words (crate `requests`), does the request over any files, readers and writers, tells a refusal, and answers
+//! the exit status. [`serve`] does each request but a race, and is proved to return; [`serve_race`] does a race, which may wait.
 //!
 //! Contracts see a request as the words that it stands for, files as a relation between a name and
 //! what a read may answer, and readers and writers by the bytes that they gave and took. The promise
 //! is that what was written is the replies of the script (crate `scripts`), with the programs that
 //! the files hold, or `ok` where the file to check holds a program, or the text of the plan of the
-//! program that the file holds (crate `lowering`), and that the status says how the request ended.
+//! program that the file holds (crate `lowering`), or the text of a race of the script and the
+//! programs (crate `races`), and that the status says how the request ended.
 //!
 //! `gsnap` hands in the real files and streams, and `cases` a folder of tests.
 #![tactic(auto)]
 
-mod command_line;
 mod compiled_plan;
 mod error;
 mod files;
 mod programs;
-mod requests;
+mod racing;
 mod running;
 mod serving;
 mod status;
 
-pub use command_line::request;
 pub use error::ServeError;
 pub use files::{Disk, Files};
+pub use racing::serve_race;
 pub use requests::{Request, RequestError};
-pub use running::run;
+pub use running::{refusal_status, run};
 pub use scripts::ScriptState;
 pub use serving::serve;

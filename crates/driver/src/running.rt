@@ -5,22 +5,24 @@ ghost use Rattle.scripts.specs.Script.{input as input_of, taken_by};
 ghost use Rattle.driver.specs.Endings.{refusal_status_of};
 ghost use Rattle.driver.specs.Running.{Runs};
 
-use crate::command_line::request;
 use crate::files::Files;
-use crate::requests::RequestError;
+use crate::racing::serve_race;
 use crate::serving::{TextWriter, serve};
+use crate::status;
 use devices::{Drain, Feed};
+use requests::{RequestError, request};
 use scripts::ScriptState;
 use std::alloc::Global;
 use std::fmt::Write;
+use std::sync::Wait;
 use std::thread::Threads;
 
 /// Reads the words after the program's name, and does what they ask for; the answer is the exit status.
 ///
-/// It is that of `serve` where the words are a request. Where they are none, or ask for help, it is 2, and 4
+/// It is that of `serve` where the words are a request, or that of `serve_race` where they are a race, which may wait. Where they are none, or ask for help, it is 2, and 4
 /// where memory runs out over them; `err` is then told why, and `out` took nothing. With it comes what a script
 /// opened, as by `serve`.
-pub fn run<T: Threads + Sync, F: Files, R: Feed, W: Drain, E: Drain>(
+pub fn run<T: Threads + Wait + Sync, F: Files, R: Feed, W: Drain, E: Drain>(
     rt: &T,
     alloc: Global,
     words: &[&str],
@@ -36,6 +38,9 @@ pub fn run<T: Threads + Sync, F: Files, R: Feed, W: Drain, E: Drain>(
         (taken_by (W.taken out.new) (W.failures out.new)) result.0 }
 {
     match request(alloc, words) {
+        Ok(request) if request.is_race() => {
+            (serve_race(rt, alloc, &request, files, out, err), None)
+        }
         Ok(request) => serve(rt, alloc, &request, files, input, out, err),
         Err(error) => (refused(&error, err), None),
     }
@@ -46,5 +51,15 @@ fn refused<E: Drain>(error: &RequestError, err: &mut E) -> u8
     ensures { result ≡ refusal_status_of error.now }
 {
     let _ = write!(TextWriter(err), "{error}");
-    error.status()
+    refusal_status(error)
+}
+
+/// The exit status after words that are no request, or that ask for help: 2, and 4 where memory ran out.
+pub fn refusal_status(error: &RequestError) -> u8
+    ensures { result ≡ refusal_status_of error.now }
+{
+    match error {
+        RequestError::NoMemory => status::NO_MEMORY,
+        RequestError::NotText | RequestError::Fault(_) => status::BAD_COMMAND_LINE,
+    }
 }

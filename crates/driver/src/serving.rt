@@ -1,6 +1,7 @@
 //! What the program does for a request.
 
-ghost use Rattle.std.specs.Prelude.{◌≡◌, ◌++◌, map, IfOk};
+ghost use Rattle.std.specs.Prelude.{◌≡◌, ◌++◌, false, map, IfOk};
+ghost use Rattle.requests.specs.Asked.{is_race};
 ghost use Rattle.crew.specs.Outcome.{AreWorkers};
 ghost use Rattle.driver.specs.Programs.{ShowsMeaning};
 ghost use Rattle.scripts.specs.Script.{input as input_of, taken_by, RunsScript};
@@ -12,12 +13,12 @@ use crate::compiled_plan::CompiledPlan;
 use crate::error::ServeError;
 use crate::files::Files;
 use crate::programs::{CompiledPrograms, RunOrder, run_by_workers};
-use crate::requests::Request;
 use crate::status;
 use algorithm_meaning::Outcome;
 use compiler::{CompileError, compile};
 use devices::{Drain, Feed, write_all};
 use plans::Plan;
+use requests::Request;
 use scripts::{ScriptError, ScriptState, run_text, script};
 use std::alloc::{AllocError, Global};
 use std::fmt;
@@ -27,7 +28,7 @@ use std::thread::Threads;
 // What is told of a program that compiles.
 const OK_LINE: &[u8] = b"ok\n";
 
-/// Does a request, and answers the exit status: 0 where all was done, or 3 where some run of the script
+/// Does a request that is no race, and answers the exit status: 0 where all was done, or 3 where some run of the script
 /// ended by a fault. `out` has then taken the line `ok` of a check, the text of a plan, or the replies of the
 /// script. With it comes what a script opened, where one was run, for the caller to let go: that takes time in
 /// proportion to the graph.
@@ -47,6 +48,7 @@ pub fn serve<T: Threads + Sync, F: Files, R: Feed, W: Drain, E: Drain>(
     out: &mut W,
     err: &mut E,
 ) -> (u8, Option<ScriptState>)
+    requires { is_race request.now ≡ false }
     ensures { Serves (F.may_hold files.now) (F.may_fail files.now) request.now
         (input_of (R.given input.old) (R.ended input.old) (R.failures input.old))
         (input_of (R.given input.new) (R.ended input.new) (R.failures input.new))
@@ -64,12 +66,13 @@ pub fn serve<T: Threads + Sync, F: Files, R: Feed, W: Drain, E: Drain>(
             let (ended, state) = run_files(rt, alloc, script, programs, files, out);
             (told(ended, err), state)
         }
+        Request::Race { .. } => unreachable!(),
     }
 }
 
 // Tells how a request ended where it was not done, and answers the status. Where telling fails too,
 // the status alone tells.
-fn told<E: Drain>(ended: Result<bool, ServeError<'_>>, err: &mut E) -> u8
+pub(crate) fn told<E: Drain>(ended: Result<bool, ServeError<'_>>, err: &mut E) -> u8
     ensures { result ≡ status_of_end ended.entry }
 {
     match ended {
@@ -186,7 +189,7 @@ fn run_files<'a, T: Threads + Sync, F: Files, W: Drain>(
 }
 
 // The programs in the files of these names.
-fn compiled_files<'a, F: Files>(
+pub(crate) fn compiled_files<'a, F: Files>(
     alloc: Global,
     names: &[&'a str],
     files: &F,

@@ -5,12 +5,13 @@
 #![tactic(auto)]
 
 use devices::Device;
-use driver::{Disk, RequestError, ScriptState, run};
+use driver::{Disk, RequestError, ScriptState, refusal_status, run};
 use std::env;
 use std::io::ErrorKind;
 use std::mem::forget;
 use std::process::ExitCode;
 use std::rt::Env;
+use std::sync::Wait;
 use std::thread::Threads;
 
 fn main(rt: HostRuntime) -> ExitCode {
@@ -19,7 +20,7 @@ fn main(rt: HostRuntime) -> ExitCode {
         Err(error) => {
             // Where this fails too, the exit status alone tells.
             let _ = eprint!(rt; "{error}");
-            (error.status(), None)
+            (refusal_status(&error), None)
         }
     };
     // The graph goes with the process: to let go of its nodes one by one takes time, and nobody needs them freed.
@@ -36,15 +37,15 @@ fn words(rt: &(impl Env + AllocGlobal)) -> Result<Vec<String>, RequestError> {
     }
 }
 
-// Does what the words ask for, with workers in threads of `threads`, and answers the exit status and what a script opened.
+// Does what the words ask for, with workers and races in threads of `threads`, and answers the exit status and what a script opened.
 fn serve(
     rt: &HostRuntime,
-    threads: &(impl Threads + Sync),
+    threads: &(impl Threads + Wait + Sync),
     words: &[String],
 ) -> (u8, Option<ScriptState>) {
     let alloc = rt.alloc();
     let Ok(words) = words.iter().map(|word| word.as_str()).collect(alloc) else {
-        return (RequestError::NoMemory.status(), None);
+        return (refusal_status(&RequestError::NoMemory), None);
     };
     let words: Vec<&str> = words;
     let mut input = Device::new(rt.stdin());

@@ -1,0 +1,7 @@
+mod ScriptLaws
+mod Numbering
+mod Writing
+mod Commits
+mod Runs
+mod Crossing
+mod Pairs

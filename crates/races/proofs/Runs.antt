@@ -1,0 +1,26 @@
+-- Programs that run twice.
+use Rattle.std.proofs.Common.{◌≡◌, ◌∙◌, ℕ, List, [], ◌∷◌, ◌++◌, sym, ap, subst, append_assoc, append-nil}
+use mathlib.Core.List.{IsPrefix}
+use Rattle.plans.specs.declared.plan.Plan.{Plan}
+use Rattle.shared_graph.specs.declared.entry.Entry.{Entry}
+use Rattle.races.specs.declared.outcomes.ProgramRuns.{ProgramRuns}
+use Rattle.races.specs.Race.{AllRan, RanTwice}
+
+-- some programs of all ran: what the others give makes up the whole
+abbrev pub IsRunning : (n room turns : ℕ) → List Entry → (all left : List Plan) → List ProgramRuns → Type 0
+IsRunning n room turns told all left runs = (more : List ProgramRuns) → AllRan n room turns told left more → AllRan n room turns told all (runs ++ more)
+
+pub running_starts : (n room turns : ℕ) (told : List Entry) (all : List Plan) (runs : List ProgramRuns) → runs ≡ [] → IsRunning n room turns told all all runs
+running_starts n room turns told all runs none = subst (IsRunning n room turns told all all) (sym none) (λ more ran. ran)
+
+pub running_goes : (n room turns : ℕ) (told : List Entry) (all left : List Plan) (plan : Plan) (runs made : List ProgramRuns) (one : ProgramRuns)
+    → IsRunning n room turns told all (plan ∷ left) runs → RanTwice n room plan turns told one → made ≡ runs ++ one ∷ []
+    → IsRunning n room turns told all left made
+running_goes n room turns told all left plan runs made one running ran is =
+    subst (IsRunning n room turns told all left) (sym is)
+    (λ more rest. subst (AllRan n room turns told all) (sym (append_assoc runs (one ∷ []) more)) (running (one ∷ more) (ran, rest)))
+
+pub running_ends : (n room turns : ℕ) (told : List Entry) (all left : List Plan) (runs : List ProgramRuns) → IsRunning n room turns told all left runs → left ≡ []
+    → AllRan n room turns told all runs
+running_ends n room turns told all left runs running none =
+    subst (AllRan n room turns told all) (append-nil runs) (running [] (subst (λ (l : List Plan). AllRan n room turns told l []) (sym none) tt))

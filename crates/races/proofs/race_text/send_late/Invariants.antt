@@ -1,0 +1,8 @@
+use Rattle.std.proofs.Common.{take}
+use Rattle.replies.specs.Sending.{Sends}
+use Rattle.races.specs.RaceText.{numbered, late_run}
+use Rattle.races.proofs.race_text.send_late.Given as goal
+
+-- those so far are sent
+abbrev pub invariant-runs : goal.invariant-runs
+invariant-runs g l = Sends l.fn.replies l.replies (numbered late_run 1 (take l.place l.all))

@@ -1,0 +1,25 @@
+use Rattle.std.proofs.Common.{List, sym, subst}
+use Rattle.tree_batch.specs.declared.batch.Entry.{Entry as Change}
+use Rattle.version_list.specs.Machine.{opened}
+use Rattle.races.proofs.Commits.{IsCommitting, committing_ends, committing_goes, committing_starts}
+use Rattle.races.proofs.racing.commit_each.Goals as goal
+
+pub loop-batch-init : goal.loop-batch-init
+loop-batch-init g c =
+    let base = opened g.J.Naming.vertices g.J.Naming.room in
+    let given = c.into_iter-batch-iterator.ensures.into_iter_gives.0 in (
+      tt,
+      tt,
+      subst (λ (left : List (List Change)). IsCommitting base c.args.writer.now c.args.batches.items left c.in_ok-versions.versions.items c.args.writer.now) (sym given)
+          (committing_starts base c.args.writer.now c.args.batches.items c.in_ok-versions.versions.items c.in_ok-versions.ensures.items c.requires),
+    )
+
+pub loop-batch-preserved : goal.loop-batch-preserved
+loop-batch-preserved g c =
+    let base = opened g.J.Naming.vertices g.J.Naming.room in (
+      tt,
+      tt,
+      committing_goes base _ c.args.batches.items _ _ _ _ _ _ _
+          (subst (λ (left : List (List Change)). IsCommitting base _ c.args.batches.items left c.loop-batch.versions.items c.loop-batch.writer) c.in-Some.ensures.steps.0 c.loop-batch.invariant.2)
+          c.in_ok-commit.ensures c.in_ok-push.ensures.items,
+    )

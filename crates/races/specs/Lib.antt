@@ -1,0 +1,7 @@
+pub mod Refusal
+pub mod RaceScript
+pub mod Reading
+pub mod ScriptLaw
+pub mod Race
+pub mod RaceText
+pub mod Racing

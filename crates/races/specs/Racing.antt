@@ -1,0 +1,33 @@
+-- For proofs only: how far a race has come.
+use Rattle.std.specs.Prelude.{◌≡◌, ℕ, List, ◌++◌, length, IfOk}
+use Rattle.std.specs.Global.{Vec}
+use Rattle.tree_batch.specs.declared.batch.Entry.{Entry as Change}
+use Rattle.version_list.specs.Machine.{State, opened}
+use Rattle.version_list.specs.Timeline.{IsLegal}
+use Rattle.shared_graph.specs.Histories.{own, steps_of}
+use Rattle.plans.specs.declared.plan.Plan.{Plan}
+use Rattle.shared_graph.specs.declared.entry.Entry.{Entry}
+use Rattle.shared_graph.specs.Passes.{Pass}
+use Rattle.races.specs.declared.entrants.EarlyRun.{EarlyRun}
+use Rattle.races.specs.declared.outcomes.ProgramRuns.{ProgramRuns}
+use Rattle.races.specs.Race.{AllRan, IsRunOn, commits}
+
+-- the run is on the newest version of the history that the reader shows
+abbrev pub RanEarly : {J : Type 0} → ℕ → ℕ → EarlyRun J → Type 0
+RanEarly n turns ran = IfOk ran.run (IsRunOn n ran.plan.now turns ran.reader.shown)
+
+-- the reader's own entries are one more commit of each of the batches, and all that it made is legal
+pub record HasCommitted (base : State) (old : Pass) (batches : List (List Change)) (versions : List ℕ) (new : Pass) : Type 0 where
+  pub number : new.number ≡ old.number
+  pub entries : own old.number new.last ≡ own old.number old.last ++ commits old.number batches versions
+  pub all_committed : length versions ≡ length batches
+  pub legal : IsLegal base (steps_of new.last)
+
+-- what committing and running gave, before it is put together
+pub record IsRaced (n room : ℕ) (batches : List (List Change)) (plans : List Plan) (turns : ℕ) (raced : Vec ℕ × Vec ProgramRuns) : Type 0 where
+  pub writer : ℕ
+  pub history : List Entry
+  pub legal : IsLegal (opened n room) (steps_of history)
+  pub committed : own writer history ≡ commits writer batches raced.0.items
+  pub all_committed : length raced.0.items ≡ length batches
+  pub ran : AllRan n room turns history plans raced.1.items

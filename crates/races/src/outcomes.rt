@@ -1,0 +1,46 @@
+//! What a race gives.
+ghost use Rattle.std.specs.Prelude.{◌≡◌};
+ghost use Rattle.races.specs.Race.{has_faulted, runs_fault};
+
+use algorithm_meaning::Outcome;
+use replies::is_fault;
+
+/// The number of a version, and what a run on it shows.
+#[derive(Drop)]
+pub struct VersionRun {
+    pub version: u64,
+    pub outcome: Outcome,
+}
+
+/// The runs of one program: one beside the commits, and one after them.
+#[derive(Drop)]
+pub struct ProgramRuns {
+    pub early: VersionRun,
+    pub late: VersionRun,
+}
+
+/// A graph of so many vertices, the versions that the commits made, in order, and the runs of each program, in order.
+#[derive(Drop)]
+pub struct Race {
+    pub vertices: u32,
+    pub versions: Vec<u64>,
+    pub runs: Vec<ProgramRuns>,
+}
+
+impl Race {
+    /// Whether some run ended by a fault.
+    pub fn has_faulted(&self) -> bool
+        ensures { result ≡ has_faulted self.now }
+    {
+        self.runs.iter().any(|runs| runs.fault())
+    }
+}
+
+impl ProgramRuns {
+    // Whether one of the two ended by a fault.
+    fn fault(&self) -> bool
+        ensures { result ≡ runs_fault self.now }
+    {
+        is_fault(self.early.outcome.end) || is_fault(self.late.outcome.end)
+    }
+}

@@ -1,0 +1,179 @@
+//! The run of a race, on threads.
+ghost use Rattle.std.specs.Prelude.{◌≡◌, IfOk, length, map, suc};
+ghost use Rattle.std.specs.List.{All};
+ghost use Rattle.version_list.specs.Machine.{opened};
+ghost use Rattle.version_list.specs.Timeline.{IsLegal};
+ghost use Rattle.shared_graph.specs.Histories.{steps_of};
+ghost use Rattle.shared_graph.specs.Passes.{fresh_passes};
+ghost use Rattle.races.specs.Race.{AllRan, IsRace};
+ghost use Rattle.races.specs.Racing.{HasCommitted, IsRaced, RanEarly};
+
+use crate::entrants::{EarlyRun, Entrant, entrants};
+use crate::error::RaceError;
+use crate::outcomes::{ProgramRuns, Race};
+use crate::reading::RaceScript;
+use plans::Plan;
+use shared_graph::{Naming, Opening, Reader, SharedError, SharedGraph, Token};
+use snapshot_runs::LatestRunError;
+use std::alloc::{AllocError, Global};
+use std::marker::Brand;
+use std::sync::Wait;
+use std::thread::{self, Threads, join};
+use tree_batch::Batch;
+
+/// Opens the graph of a script and commits its batches, in order, on one thread, while for each program another runs it on the
+/// newest version, by so many workers, 1 to 64, for at most so many turns. Once all batches are committed, each program runs
+/// again, on the newest version then.
+///
+/// Errors: `NotCommitted` where the graph is not opened, for its vertices (111), for its chunks (103) or for more than 63
+/// programs (124), or where a batch is not committed (111, 123, 900). Else `NotRun` for the first program that is not run
+/// (411, 125, 900), or where memory runs out.
+pub fn race<T: Threads + Wait + Sync>(
+    rt: &T,
+    alloc: Global,
+    script: RaceScript,
+    plans: &[&Plan],
+    workers: usize,
+    turns: u64,
+) -> Result<Race, RaceError>
+    ensures { IfOk result (IsRace script.entry.vertices 16777216 script.entry.batches.items (map (λ p. p.now) plans.now) turns) }
+{
+    race_known::<Brand, T>(rt, alloc, Opening::new(), script, plans, workers, turns)
+}
+
+// The race, on a graph that types know.
+fn race_known<J: Naming + Send + Sync, T: Threads + Wait + Sync>(
+    rt: &T,
+    alloc: Global,
+    opening: Opening,
+    script: RaceScript,
+    plans: &[&Plan],
+    workers: usize,
+    turns: u64,
+) -> Result<Race, RaceError>
+    requires book { opening ≡ J.book }
+    requires vertices { J.vertices ≡ script.vertices }
+    requires room { J.room ≡ 16777216 }
+    ensures { IfOk result (IsRace J.vertices J.room script.entry.batches.items (map (λ p. p.now) plans.now) turns) }
+{
+    let RaceScript {
+        vertices,
+        chunk_size,
+        batches,
+    } = script;
+    let seats = plans.len() + 1;
+    let (graph, readers) = SharedGraph::<J, &T>::open(
+        rt, alloc, opening, vertices, chunk_size, seats,
+    )?;
+    let (versions, runs) = race_on(rt, alloc, &graph, readers, batches, plans, workers, turns)?;
+    Ok(Race {
+        vertices,
+        versions,
+        runs,
+    })
+}
+
+// The versions that the batches made, and the runs of the programs. The last of the readers commits.
+fn race_on<J: Naming + Send + Sync, T: Threads + Wait + Sync>(
+    rt: &T,
+    alloc: Global,
+    graph: &SharedGraph<J, &T>,
+    readers: Vec<Reader<J>>,
+    batches: Vec<Batch>,
+    plans: &[&Plan],
+    workers: usize,
+    turns: u64,
+) -> Result<(Vec<u64>, Vec<ProgramRuns>), RaceError>
+    requires { readers.items ≡ fresh_passes (suc (length plans.now)) }
+    ensures { IfOk result (IsRaced J.vertices J.room batches.entry.items (map (λ p. p.now) plans.now) turns) }
+{
+    let mut readers = readers;
+    let Some(writer) = readers.pop() else {
+        unreachable!()
+    };
+    let entrants = entrants(alloc, readers, plans)?;
+    let (ran, (writer, committed)) = join(
+        rt,
+        move || run_all_early(rt, alloc, entrants, workers, turns),
+        move || commit_all(rt, alloc, graph, writer, batches),
+    );
+    let versions = committed?;
+    let runs = run_all_late(rt, alloc, ran?, &writer.token(), workers, turns)?;
+    Ok((versions, runs))
+}
+
+// Commits the batches in the name of a reader, and gives the reader back with the versions that they made.
+fn commit_all<J: Naming, T: Threads + Wait + Sync>(
+    rt: &T,
+    alloc: Global,
+    graph: &SharedGraph<J, &T>,
+    mut writer: Reader<J>,
+    batches: Vec<Batch>,
+) -> (Reader<J>, Result<Vec<u64>, SharedError>)
+    requires { IsLegal (opened J.vertices J.room) (steps_of writer.last) }
+    ensures { IfOk result.1 (λ versions. HasCommitted (opened J.vertices J.room) writer.entry batches.entry.items versions.items result.0) }
+{
+    let committed = commit_each(rt, alloc, graph, &mut writer, batches);
+    (writer, committed)
+}
+
+fn commit_each<J: Naming, T: Threads + Wait + Sync>(
+    rt: &T,
+    alloc: Global,
+    graph: &SharedGraph<J, &T>,
+    writer: &mut Reader<J>,
+    batches: Vec<Batch>,
+) -> Result<Vec<u64>, SharedError>
+    requires { IsLegal (opened J.vertices J.room) (steps_of writer.old.last) }
+    ensures { IfOk result (λ versions. HasCommitted (opened J.vertices J.room) writer.old batches.entry.items versions.items writer.new) }
+{
+    let mut versions = Vec::with_capacity(alloc, batches.len())?;
+    for batch in batches {
+        versions.push(graph.commit(rt, alloc, writer, batch)?)?;
+    }
+    Ok(versions)
+}
+
+// Runs each program on a thread of its own.
+fn run_all_early<'a, J: Naming + Send + Sync, T: Threads + Sync>(
+    rt: &T,
+    alloc: Global,
+    entrants: Vec<Entrant<'a, J>>,
+    workers: usize,
+    turns: u64,
+) -> Result<Vec<EarlyRun<'a, J>>, AllocError>
+    ensures { IfOk result (λ ran. (map (λ r. r.plan.now) ran.items ≡ map (λ e. e.plan.now) entrants.entry.items)
+        × All (RanEarly J.vertices turns) ran.items) }
+{
+    thread::map_vec(
+        rt,
+        entrants,
+        &|entrant: Entrant<J>| -> EarlyRun<J>
+            ensures { (result.plan ≡ entrant.entry.plan) × RanEarly J.vertices turns result }
+        { entrant.run(rt, alloc, workers, turns) },
+    )
+}
+
+// Runs each program again.
+fn run_all_late<J: Naming, T: Threads + Sync>(
+    rt: &T,
+    alloc: Global,
+    ran: Vec<EarlyRun<'_, J>>,
+    told: &Token<J>,
+    workers: usize,
+    turns: u64,
+) -> Result<Vec<ProgramRuns>, LatestRunError>
+    requires { All (RanEarly J.vertices turns) ran.items }
+    ensures { IfOk result (λ runs. AllRan J.vertices J.room turns told.now (map (λ r. r.plan.now) ran.entry.items) runs.items) }
+{
+    let Ok(mut all) = Vec::with_capacity(alloc, ran.len()) else {
+        return Err(LatestRunError::NoMemory);
+    };
+    for one in ran {
+        let runs = one.run_again(rt, alloc, told, workers, turns)?;
+        if all.push(runs).is_err() {
+            return Err(LatestRunError::NoMemory);
+        }
+    }
+    Ok(all)
+}

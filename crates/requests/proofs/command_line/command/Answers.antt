@@ -1,0 +1,5 @@
+use Rattle.requests.specs.CommandLine.{file_commands, race_command}
+use Rattle.requests.proofs.command_line.command.Goals as goal
+
+pub returns : goal.returns
+returns c = c.with_command.ensures file_commands race_command c.file_commands-program.ensures c.race_command.ensures.app c.race_command.ensures.local

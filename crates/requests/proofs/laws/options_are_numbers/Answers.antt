@@ -1,0 +1,5 @@
+use Rattle.requests.proofs.RaceWords.{race_by_options}
+use Rattle.requests.proofs.laws.options_are_numbers.Goals as goal
+
+pub returns : goal.returns
+returns c = race_by_options

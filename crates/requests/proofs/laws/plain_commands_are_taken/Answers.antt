@@ -1,0 +1,5 @@
+use Rattle.requests.proofs.Operands.{is_quiet}
+use Rattle.requests.proofs.laws.plain_commands_are_taken.Goals as goal
+
+pub returns : goal.returns
+returns c = is_quiet

@@ -1,0 +1,5 @@
+use Rattle.requests.proofs.RaceWords.{plain_race}
+use Rattle.requests.proofs.laws.races_are_asked_for.Goals as goal
+
+pub returns : goal.returns
+returns c = plain_race

@@ -1,0 +1,265 @@
+//! What clap is told: the commands, their files and their options, and the texts of help.
+
+ghost use Rattle.std.specs.Prelude.{◌≡◌, IfOk, codes, false};
+ghost use Rattle.clap.specs.Words.{App, app_of, rule_of, with_rule, with_subcommand};
+ghost use Rattle.clap.specs.declared.builder.command.Command.TheViews.{out-Command as fields_of};
+ghost use Rattle.requests.specs.CommandLine.{command_line, file_command, one_file as file_rule};
+ghost use Rattle.requests.specs.CommandLine.{program as program_alone, script_command, script_files};
+ghost use Rattle.requests.specs.CommandLine.{file_commands as commands_of_files, race_command, race_script as script_rule};
+ghost use Rattle.requests.specs.CommandLine.{race_programs as programs_rule, workers_option, turns_option};
+
+use clap::{Arg, ArgAction, Command, value_parser};
+use std::alloc::{AllocError, Global};
+
+pub(crate) const CHECK: &str = "check";
+
+pub(crate) const PLAN: &str = "plan";
+
+pub(crate) const SCRIPT: &str = "script";
+
+pub(crate) const FILE: &str = "FILE";
+
+/// The command `race`.
+pub(crate) const RACE: &str = "race";
+
+/// The file with the script of a race.
+pub(crate) const RACE_SCRIPT: &str = "SCRIPT";
+
+/// The files with the programs of a race.
+pub(crate) const RACE_PROGRAMS: &str = "PROGRAM";
+
+/// The option of how many workers a run has.
+pub(crate) const WORKERS: &str = "workers";
+
+/// The option of how many turns a run may use.
+pub(crate) const TURNS: &str = "turns";
+
+const SHOWN: &[&str] = &["SCRIPT", "PROGRAM"];
+
+const ABOUT: &str = "Runs graph programs on versions of a graph that a script edits.";
+
+const USAGE: &str =
+    "gsnap\n       gsnap check FILE\n       gsnap plan FILE\n       gsnap script SCRIPT [PROGRAM]..\n       \
+    gsnap race SCRIPT PROGRAM.. [--workers W] [--turns T]";
+
+const HELP: &str =
+    "With no command, the script is read from standard input, and it has no programs.\n\
+    Example: gsnap script examples/squares.script examples/squares.program\n\
+    docs/SCRIPTS.md lists the lines of scripts, and docs/LANGUAGE.md describes programs.";
+
+const CHECK_ABOUT: &str = "Compiles the program in a file, and prints `ok`";
+
+const CHECK_HELP: &str =
+    "Where the text is refused, the number and the place of the first fault are told.\n\
+    Example: gsnap check examples/squares.program";
+
+const PLAN_ABOUT: &str = "Compiles the program in a file, and prints its plan";
+
+const PLAN_HELP: &str =
+    "Each line of the plan is one step of a run, as docs/LANGUAGE.md lists them. A text is refused as by `check`.\n\
+    Example: gsnap plan examples/reachability.program";
+
+const SCRIPT_ABOUT: &str =
+    "Compiles the programs in files, runs the script in a file, and prints its replies";
+
+const SCRIPT_HELP: &str =
+    "A line `run 2 10 1` of the script runs the second PROGRAM, for at most 10 turns, with one worker.\n\
+    Example: gsnap script examples/squares.script examples/squares.program";
+
+const RACE_ABOUT: &str = "Runs programs while a script's batches are committed";
+
+const RACE_HELP: &str =
+    "The script is `vertices`, and then only `add`, `del` and `commit`. Each PROGRAM runs on the version that is the newest when it \
+    begins, and again once all batches are committed.\n\
+    Example: gsnap race examples/race.script examples/reachability.program";
+
+/// All commands.
+pub(crate) fn command<'a>(alloc: Global) -> Result<Command<'a>, AllocError>
+    ensures { IfOk result (λ c. app_of c ≡ command_line) }
+{
+    let program = file_commands(alloc);
+    with_command(program, race_command(alloc))
+}
+
+// The program with the commands that files alone follow.
+fn file_commands<'a>(alloc: Global) -> Result<Command<'a>, AllocError>
+    ensures { IfOk result (λ c. app_of c ≡ commands_of_files) }
+{
+    let program = bare_program(alloc);
+    let program = with_command(program, check_command(alloc));
+    let program = with_command(program, plan_command(alloc));
+    with_command(program, script_command(alloc))
+}
+
+// The program without its commands.
+fn bare_program<'a>(alloc: Global) -> Result<Command<'a>, AllocError>
+    ensures { IfOk result (λ c. app_of c ≡ program_alone) }
+{
+    let program = Command::new(alloc, "gsnap")
+        .bin_name("gsnap")?
+        .no_binary_name(true);
+    Ok(with_texts(program, ABOUT, USAGE, HELP))
+}
+
+// A command with what help tells of it.
+fn with_texts<'a>(
+    command: Command<'a>,
+    about: &'a str,
+    usage: &'a str,
+    help: &'a str,
+) -> Command<'a>
+    ensures app { app_of result ≡ app_of command.entry }
+    ensures local { (fields_of result).has_globals ≡ (fields_of command.entry).has_globals }
+{
+    command.about(about).override_usage(usage).after_help(help)
+}
+
+// The program with one command more, where there is memory for both.
+fn with_command<'a>(
+    program: Result<Command<'a>, AllocError>,
+    command: Result<Command<'a>, AllocError>,
+) -> Result<Command<'a>, AllocError>
+    ensures { (whole app : App) → IfOk program.entry (λ c. app_of c ≡ whole)
+        → IfOk command.entry (λ c. app_of c ≡ app)
+        → IfOk command.entry (λ c. (fields_of c).has_globals ≡ false)
+        → IfOk result (λ p. app_of p ≡ with_subcommand whole app.top) }
+{
+    let program = match program {
+        Ok(program) => program,
+        Err(error) => {
+            drop(command);
+            return Err(error);
+        }
+    };
+    match command {
+        Ok(command) => program.subcommand(command),
+        Err(error) => {
+            drop(program);
+            Err(error)
+        }
+    }
+}
+
+fn check_command<'a>(alloc: Global) -> Result<Command<'a>, AllocError>
+    ensures app { IfOk result (λ c. app_of c ≡ file_command (codes "check")) }
+    ensures local { IfOk result (λ c. (fields_of c).has_globals ≡ false) }
+{
+    let command = Command::new(alloc, CHECK);
+    let command = with_texts(command, CHECK_ABOUT, "gsnap check FILE", CHECK_HELP);
+    let file = one_file(alloc);
+    with_argument(command, file)
+}
+
+fn plan_command<'a>(alloc: Global) -> Result<Command<'a>, AllocError>
+    ensures app { IfOk result (λ c. app_of c ≡ file_command (codes "plan")) }
+    ensures local { IfOk result (λ c. (fields_of c).has_globals ≡ false) }
+{
+    let command = Command::new(alloc, PLAN);
+    let command = with_texts(command, PLAN_ABOUT, "gsnap plan FILE", PLAN_HELP);
+    let program = one_file(alloc);
+    with_argument(command, program)
+}
+
+fn script_command<'a>(alloc: Global) -> Result<Command<'a>, AllocError>
+    ensures app { IfOk result (λ c. app_of c ≡ script_command) }
+    ensures local { IfOk result (λ c. (fields_of c).has_globals ≡ false) }
+{
+    let command = Command::new(alloc, SCRIPT);
+    let command = with_texts(
+        command,
+        SCRIPT_ABOUT,
+        "gsnap script SCRIPT [PROGRAM]..",
+        SCRIPT_HELP,
+    );
+    with_argument(command, all_files(alloc))
+}
+
+// A command with one more argument: names of files, or an option.
+fn with_argument<'a>(command: Command<'a>, argument: Arg<'a>) -> Result<Command<'a>, AllocError>
+    ensures app { argument.entry.global ≡ false → IfOk result (λ c. app_of c ≡ with_rule (app_of command.entry) (rule_of argument.entry)) }
+    ensures local { argument.entry.global ≡ false → (fields_of command.entry).has_globals ≡ false
+        → IfOk result (λ c. (fields_of c).has_globals ≡ false) }
+{
+    command.arg(argument)
+}
+
+// The name of the one file that a command takes.
+fn one_file<'a>(alloc: Global) -> Arg<'a>
+    ensures rule { rule_of result ≡ file_rule }
+    ensures local { result.global ≡ false }
+{
+    Arg::new(alloc, FILE)
+        .required(true)
+        .help("The file with the program")
+}
+
+// The names of the script's file and of its programs'.
+fn all_files<'a>(alloc: Global) -> Arg<'a>
+    ensures rule { rule_of result ≡ script_files }
+    ensures local { result.global ≡ false }
+{
+    Arg::new(alloc, FILE)
+        .required(true)
+        .num_args(1..)
+        .action(ArgAction::Append)
+        .value_names(SHOWN)
+        .help("The file with the script, and then the files with its programs, in order")
+}
+
+fn race_command<'a>(alloc: Global) -> Result<Command<'a>, AllocError>
+    ensures app { IfOk result (λ c. app_of c ≡ race_command) }
+    ensures local { IfOk result (λ c. (fields_of c).has_globals ≡ false) }
+{
+    let command = Command::new(alloc, RACE);
+    let command = with_texts(
+        command,
+        RACE_ABOUT,
+        "gsnap race SCRIPT PROGRAM.. [--workers W] [--turns T]",
+        RACE_HELP,
+    );
+    let command = with_argument(command, race_script(alloc))?;
+    let command = with_argument(command, race_programs(alloc))?;
+    let command = with_argument(command, workers_option(alloc))?;
+    with_argument(command, turns_option(alloc))
+}
+
+// The name of the file with the script of a race.
+fn race_script<'a>(alloc: Global) -> Arg<'a>
+    ensures rule { rule_of result ≡ script_rule }
+    ensures local { result.global ≡ false }
+{
+    Arg::new(alloc, RACE_SCRIPT)
+        .required(true)
+        .help("The file with the script")
+}
+
+// The names of the files with the programs of a race.
+fn race_programs<'a>(alloc: Global) -> Arg<'a>
+    ensures rule { rule_of result ≡ programs_rule }
+    ensures local { result.global ≡ false }
+{
+    Arg::new(alloc, RACE_PROGRAMS)
+        .required(true)
+        .num_args(1..)
+        .help("The files with the programs, in order")
+}
+
+fn workers_option<'a>(alloc: Global) -> Arg<'a>
+    ensures rule { rule_of result ≡ workers_option }
+    ensures local { result.global ≡ false }
+{
+    Arg::new(alloc, WORKERS)
+        .long(WORKERS)
+        .value_parser(value_parser!(usize).range(1..=64))
+        .help("How many workers a run has, 1 to 64; 2 where none are given")
+}
+
+fn turns_option<'a>(alloc: Global) -> Arg<'a>
+    ensures rule { rule_of result ≡ turns_option }
+    ensures local { result.global ≡ false }
+{
+    Arg::new(alloc, TURNS)
+        .long(TURNS)
+        .value_parser(value_parser!(u64))
+        .help("How many turns a run may use; 1000000 where none are given")
+}
