@@ -5,6 +5,7 @@ use Rattle.edge_fold.specs.Between.{edges_between}
 use Rattle.edge_fold.specs.Given.{all_given}
 use Rattle.pull_engine.specs.Pulls.{IsRangeChanged}
 use Rattle.pull_engine.specs.Ranges.{AreChangesFrom}
+use Rattle.pull_engine.specs.declared.ranges.PullRange.{PullRange}
 use Rattle.pull_engine.proofs.Shaped.{shape_gives_only, whole_changes}
 use Rattle.pull_engine.proofs.changes.pull_from.Goals as goal
 
@@ -17,7 +18,8 @@ returns-clause-changes c =
     let count = c.vertices.ensures.count in
     IfOk-weaker c.changes_in.result _ _
     (λ cs told m steps test are vertices starts is.
-    let changed = subst (λ (o : Option ℕ). IfSome o (λ v. IsRangeChanged _ v found.items)) c.in-Some.ensures.some c.in_ok-changes.ensures in
+    let range : PullRange = record { flat = a.flat; context = a.context; from = a.from; to = a.to; low = 0; high = c.vertices.result } in
+    let changed = subst (λ (o : Option ℕ). IfSome o (λ v. IsRangeChanged range v found.items)) c.in-Some.ensures.some c.in_ok-changes.ensures in
     let all : c.vertices.result - 0 ≡ a.flat.now.vertices = omega (arith, count) in
     whole_changes y a.flat.now.vertices (edges_between (passes_words a.from) test edges) m steps found.items cs.vectors.items told
     (λ e. shape_gives_only c.apply_shape-shape.result y m e (all_given m steps e) c.in-Some.ensures.some (c.apply_shape-shape.ensures m a.context.sizes.now steps are.sizes are.kernels e))
