@@ -43,7 +43,12 @@ fn pushes(alloc: Global, workers: usize, gains: &[[i64; 5]]) -> Result<bool, Fai
     let flat = graph_of(alloc, 5, &OUT)?;
     let vectors = vectors_of(alloc, &[0; 5], &[0; 5])?;
     let kernel = kernel_of(alloc, "x[d] += 1;")?;
-    let mut apply = apply_of(&kernel, &flat, &vectors, Parallelization::EdgeAwareDynamicVertex);
+    let mut apply = apply_of(
+        &kernel,
+        &flat,
+        &vectors,
+        Parallelization::EdgeAwareDynamicVertex,
+    );
     apply.direction = Direction::DensePush;
     let mut scratch = Scratch::new(alloc);
     let work = PushWork::new(alloc, &apply, workers, &mut scratch)?;
@@ -61,7 +66,12 @@ fn pulls(alloc: Global, workers: usize, gains: &[[i64; 5]]) -> Result<bool, Fail
     let flat = graph_of(alloc, 5, &INTO)?;
     let vectors = vectors_of(alloc, &[0; 5], &[0; 5])?;
     let kernel = kernel_of(alloc, "x[d] += 1;")?;
-    let apply = apply_of(&kernel, &flat, &vectors, Parallelization::EdgeAwareDynamicVertex);
+    let apply = apply_of(
+        &kernel,
+        &flat,
+        &vectors,
+        Parallelization::EdgeAwareDynamicVertex,
+    );
     let mut scratch = Scratch::new(alloc);
     let work = PullWork::new(alloc, &apply, workers, &mut scratch)?;
     let mut found = pulled_pieces_of(alloc, &work, &mut scratch)?;

@@ -34,11 +34,7 @@ use vertex_sets::{Form, VertexSet};
 /// sources that are members of a list or of flags are put into bits first.
 ///
 /// The only error is out of memory.
-pub fn pull(
-    alloc: Global,
-    apply: &Apply<'_>,
-    scratch: &mut Scratch,
-) -> Result<Changes, AllocError>
+pub fn pull(alloc: Global, apply: &Apply<'_>, scratch: &mut Scratch) -> Result<Changes, AllocError>
     ensures once { IfOk result (λ c. AreApart c.vectors.items) }
     ensures changes { IfOk result (λ c. AreChangesOf apply.now c.vectors.items) }
 {
