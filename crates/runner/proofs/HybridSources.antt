@@ -1,5 +1,5 @@
 -- An apply from the members of a set that has its sources.
-use Rattle.std.proofs.Common.{◌≡◌, ℕ, Bool, List, refl}
+use Rattle.std.proofs.Common.{◌≡◌, ℕ, Bool, List, refl, sym}
 use Rattle.algorithm_meaning.specs.EdgeApply.{is_member}
 use Rattle.algorithm_meaning.specs.State.{StateValue}
 use Rattle.typed_tree.specs.StepTree.{StepsTree}
@@ -26,5 +26,5 @@ changes_from_set a set cs has changes m steps from to vectors sizes kernels is_f
     let g = a.flat.now in
     let is_passing = λ (v : ℕ). is_member v set.members in
     changes_along g.vertices _ _ m steps cs
-    (between_agree g from is_passing to has.graph (λ v l. has.members m from vectors sizes is_from v l))
+    (between_agree g from is_passing to has.graph (λ v l. sym (has.members m from vectors sizes is_from v l)))
     (changes m steps is_passing to vectors sizes kernels (λ v. refl) is_to)
