@@ -19,7 +19,11 @@ loop-batch-preserved g c =
     let base = opened g.J.Naming.vertices g.J.Naming.room in (
       tt,
       tt,
-      committing_goes base _ c.args.batches.items _ _ _ _ _ _ _
-          (subst (λ (left : List (List Change)). IsCommitting base _ c.args.batches.items left c.loop-batch.versions.items c.loop-batch.writer) c.in-Some.ensures.steps.0 c.loop-batch.invariant.2)
+      committing_goes base c.args.writer.now c.args.batches.items _ _ _ c.loop-batch.writer _ _ _
+          (subst (λ (left : List (List Change)). IsCommitting base c.args.writer.now c.args.batches.items left c.loop-batch.versions.items c.loop-batch.writer) c.in-Some.ensures.steps.0 c.loop-batch.invariant.2)
           c.in_ok-commit.ensures c.in_ok-push.ensures.items,
     )
+
+pub returns : goal.returns
+returns g c =
+    committing_ends (opened g.J.Naming.vertices g.J.Naming.room) c.args.writer.now c.args.batches.items c.loop-batch.batch-iterator.rest.items c.loop-batch.versions.items c.loop-batch.writer c.loop-batch.invariant.2 c.in-None.ensures.steps
