@@ -1,4 +1,5 @@
-use Rattle.std.proofs.Common.{List, sym, subst}
+use Rattle.std.proofs.Common.{List, arith, sym, subst}
+use Rattle.std.proofs.lemmas.List.{nil_from_length}
 use Rattle.tree_batch.specs.declared.batch.Entry.{Entry as Change}
 use Rattle.version_list.specs.Machine.{opened}
 use Rattle.races.proofs.Commits.{IsCommitting, committing_ends, committing_goes, committing_starts}
@@ -26,4 +27,5 @@ loop-batch-preserved g c =
 
 pub returns : goal.returns
 returns g c =
-    committing_ends (opened g.J.Naming.vertices g.J.Naming.room) c.args.writer.now c.args.batches.items c.loop-batch.batch-iterator.rest.items c.loop-batch.versions.items c.loop-batch.writer c.loop-batch.invariant.2 c.in-None.ensures.steps
+    committing_ends (opened g.J.Naming.vertices g.J.Naming.room) c.args.writer.now c.args.batches.items c.loop-batch.batch-iterator.rest.items c.loop-batch.versions.items c.loop-batch.writer c.loop-batch.invariant.2
+    (nil_from_length c.loop-batch.batch-iterator.rest.items (omega (arith, c.in-None.ensures.steps.0, c.loop-batch.batch-iterator.rest.ok.0)))

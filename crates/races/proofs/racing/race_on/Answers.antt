@@ -1,5 +1,7 @@
+use denote.Builtin.{u64, usize}
 use denote.Exit.{no}
-use denote.Param.Send.{arg_send, param_send, sendable, shr_send}
+use denote.Param.{param}
+use denote.Param.Send.{IsSend, arg_send, param_send, sendable, shr_send}
 use Rattle.std.proofs.Common.{◌∙◌, length}
 use Rattle.std.proofs.Crossing.{Vec-send, crosses, send as heap_send}
 use Rattle.std.proofs.lemmas.Result.{IfOk-at_ok}
@@ -10,10 +12,16 @@ use Rattle.races.proofs.racing.race_on.Goals as goal
 pub entrants-requires : goal.entrants-requires
 entrants-requires g c = as_many_left (length c.args.plans.now) _ _ _ _ c.requires c.pop.ensures.items c.in-Some.is
 
+size_send : IsSend usize
+size_send = search sendable
+
+number_send : IsSend u64
+number_send = search sendable
+
 -- the programs go to another thread with their readers, and their runs come back
 pub join-ran-requires-send-F : goal.join-ran-requires-send-F
 join-ran-requires-send-F g c κs within =
-    param_send _ _ (arg_send _ no _ (five_send _ _ _ _ _ _ (shr_send _ _ _ c.type_bounds.sync-T) heap_send (Vec-send _ (entrant_send _ _ _)) (search sendable) (search sendable)))
+    param_send _ _ (arg_send _ no _ (five_send _ _ _ _ _ _ (shr_send _ _ _ c.type_bounds.sync-T) heap_send (Vec-send _ (entrant_send _ (param 0 g.row.J) g.J.Naming)) size_send number_send))
 
 pub join-ran-requires-send-A : goal.join-ran-requires-send-A
 join-ran-requires-send-A g c κs within = search (sendable, crosses, early_run_send) depth 30
