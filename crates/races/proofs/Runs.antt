@@ -1,6 +1,5 @@
 -- Programs that run twice.
-use Rattle.std.proofs.Common.{◌≡◌, ◌∙◌, ℕ, List, [], ◌∷◌, ◌++◌, map, sym, ap, subst, append_assoc, append-nil}
-use mathlib.Core.List.{IsPrefix}
+use Rattle.std.proofs.Common.{◌≡◌, ℕ, List, [], ◌∷◌, ◌++◌, map, sym, ap, subst, append_assoc, append-nil}
 use Rattle.plans.specs.declared.plan.Plan.{Plan}
 use Rattle.shared_graph.specs.declared.entry.Entry.{Entry}
 use Rattle.races.specs.declared.entrants.EarlyRun.{EarlyRun}

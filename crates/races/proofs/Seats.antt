@@ -5,9 +5,7 @@ use Rattle.std.proofs.lemmas.List.{same_from_push}
 use Rattle.tree_batch.specs.declared.batch.Entry.{Entry as Change}
 use Rattle.plans.specs.declared.plan.Plan.{Plan}
 use Rattle.version_list.specs.Machine.{opened}
-use Rattle.version_list.specs.Timeline.{IsLegal}
 use Rattle.shared_graph.specs.declared.entry.Entry.{Entry}
-use Rattle.shared_graph.specs.Histories.{steps_of}
 use Rattle.shared_graph.specs.Passes.{Pass, fresh, fresh_passes}
 use Rattle.races.specs.declared.outcomes.ProgramRuns.{ProgramRuns}
 use Rattle.races.specs.Race.{AllRan}
@@ -27,10 +25,6 @@ pass_popped n old new popped writer are cut some =
 pub as_many_left : (n : ℕ) (old new : List Pass) (popped : Option Pass) (writer : Pass) → old ≡ fresh_passes (suc n) → old ≡ new ++ option_to_list popped → popped ≡ Some writer
     → length new ≡ n
 as_many_left n old new popped writer are cut some = ap (λ (l : List Pass). length l) (pass_popped n old new popped writer are cut some).0 ∙ length_passes n
-
--- nothing was made yet
-pub fresh_legal : (n room place : ℕ) (writer : Pass) → writer ≡ fresh place → IsLegal (opened n room) (steps_of writer.last)
-fresh_legal n room place writer is = subst (λ (p : Pass). IsLegal (opened n room) (steps_of p.last)) (sym is) tt
 
 -- the batches are committed, and each program ran before and after
 pub raced : (n room : ℕ) (batches : List (List Change)) (plans : List Plan) (turns place : ℕ) (old new : Pass) (versions : Vec ℕ) (runs : Vec ProgramRuns) (told : List Entry) (ran : List Plan)

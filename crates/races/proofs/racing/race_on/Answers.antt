@@ -6,7 +6,7 @@ use Rattle.std.proofs.Common.{◌∙◌, length}
 use Rattle.std.proofs.Crossing.{Vec-send, crosses, send as heap_send}
 use Rattle.std.proofs.lemmas.Result.{IfOk-at_ok}
 use Rattle.races.proofs.Crossing.{early_run_send, entrant_send, five_send}
-use Rattle.races.proofs.Seats.{as_many_left, fresh_legal, pass_popped, raced}
+use Rattle.races.proofs.Seats.{as_many_left, pass_popped, raced}
 use Rattle.races.proofs.racing.race_on.Goals as goal
 
 pub entrants-requires : goal.entrants-requires
