@@ -20,7 +20,7 @@ pub record IsCommitting (base : State) (old : Pass) (all left : List (List Chang
 
 pub committing_starts : (base : State) (old : Pass) (all : List (List Change)) (made : List ℕ) → made ≡ [] → IsLegal base (steps_of old.last) → IsCommitting base old all all made old
 committing_starts base old all made none legal =
-    subst (λ (v : List ℕ). IsCommitting base old all all v old) (sym none) (record { number = refl; goes_on = λ more. refl; counted = refl; legal = legal })
+    subst (λ (v : List ℕ). IsCommitting base old all all v old) (sym none) (record { number = refl; goes_on = λ more. refl; counted = omega arith; legal = legal })
 
 -- one more is committed
 pub committing_goes : (base : State) (old : Pass) (all left : List (List Change)) (versions made : List ℕ) (now new : Pass) (batch : List Change) (version : ℕ)

@@ -5,3 +5,4 @@ mod Commits
 mod Runs
 mod Crossing
 mod Pairs
+mod Seats

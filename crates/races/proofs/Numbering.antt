@@ -1,5 +1,5 @@
 -- Texts of numbered items, sent one after another.
-use Rattle.std.proofs.Common.{◌≡◌, ◌∙◌, ℕ, suc, ◌+◌, ◌<◌, List, [], ◌∷◌, ◌++◌, length, get_or, take, drop, refl, sym, ap, subst, append_assoc, append-nil, arith}
+use Rattle.std.proofs.Common.{◌≡◌, ◌∙◌, ℕ, suc, ◌+◌, ◌<◌, List, [], ◌∷◌, ◌++◌, length, get_or, take, drop, sym, ap, subst, append_assoc, append-nil, arith}
 use Rattle.std.proofs.lemmas.List.{take-append-drop, drop_more, take_more, length-take-le}
 use Rattle.replies.specs.declared.send_error.SendError.{SendError}
 use Rattle.replies.specs.Sending.{Output, Sends, Fails}

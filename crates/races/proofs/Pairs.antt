@@ -1,6 +1,10 @@
 -- Two lists, place by place.
-use Rattle.std.proofs.Common.{◌≡◌, ◌<◌, ℕ, suc, List, [], ◌∷◌, length, map, refl, ap₂, arith}
-use Rattle.std.specs.List.{slice_index_or}
+use Rattle.std.proofs.Common.{◌≡◌, ◌∙◌, ◌<◌, ℕ, suc, List, [], ◌∷◌, length, map, refl, sym, ap, ap₂, arith, IfOk, Result, Ok, Err, vec_len}
+use Rattle.std.specs.Global.{Vec}
+use Rattle.std.specs.List.{All, slice_index_or}
+use Rattle.races.specs.declared.entrants.EarlyRun.{EarlyRun}
+use Rattle.races.specs.declared.entrants.Entrant.{Entrant}
+use Rattle.races.specs.Racing.{RanEarly}
 
 -- where f of each item of one list is g of the item of the other at its place, all of them are
 pub same_at_places : {A B C : Type 0} (f : B → C) (g : A → C) (xs : List A) (ys : List B) → length ys ≡ length xs
@@ -10,3 +14,24 @@ same_at_places f g [] (y ∷ ys) len each = absurd (omega (arith, len))
 same_at_places f g (x ∷ xs) [] len each = absurd (omega (arith, len))
 same_at_places f g (x ∷ xs) (y ∷ ys) len each =
     ap₂ (λ z zs. z ∷ zs) (each 0 y x (omega arith)) (same_at_places f g xs ys (omega (arith, len)) (λ i d e below. each (suc i) d e (omega (arith, below))))
+
+-- the run at this place is that of the entrant there
+pub record RanAt {J : Type 0} (n turns : ℕ) (jobs : List (Entrant J)) (i : ℕ) (ran : EarlyRun J) : Type 0 where
+  pub job : Entrant J
+  pub is_job : (e : Entrant J) → slice_index_or jobs i e ≡ job
+  pub same : ran.plan ≡ job.plan
+  pub early : RanEarly n turns ran
+
+-- where the run at each place is that of the entrant there, the programs are the same, and each ran
+pub all_early : {J E : Type 0} (n turns : ℕ) (jobs : Vec (Entrant J)) (r : Result (Vec (EarlyRun J)) E) → IfOk r (λ v. vec_len v ≡ vec_len jobs)
+    → IfOk r (λ v. (i : ℕ) (d : EarlyRun J) → i < length jobs.items → RanAt n turns jobs.items i (slice_index_or v.items i d))
+    → IfOk r (λ v. (map (λ (x : EarlyRun J). x.plan.now) v.items ≡ map (λ (e : Entrant J). e.plan.now) jobs.items) × All (RanEarly n turns) v.items)
+all_early {J} n turns jobs (Ok v) len each =
+    let many = v.ok.0 in
+    let known = jobs.ok.0 in
+    let as_many : length v.items ≡ length jobs.items = omega arith in (
+      same_at_places (λ (x : EarlyRun J). x.plan.now) (λ (e : Entrant J). e.plan.now) jobs.items v.items as_many
+          (λ i d e below. let at = each i d below in ap (λ p. p.now) at.same ∙ sym (ap (λ (x : Entrant J). x.plan.now) (at.is_job e))),
+      λ i d below. (each i d (omega (arith, below, as_many))).early,
+    )
+all_early n turns jobs (Err e) len each = tt

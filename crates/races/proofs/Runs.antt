@@ -1,8 +1,8 @@
 -- Programs that run twice.
-use Rattle.std.proofs.Common.{◌≡◌, ◌∙◌, ℕ, List, [], ◌∷◌, ◌++◌, sym, ap, subst, append_assoc, append-nil}
-use mathlib.Core.List.{IsPrefix}
+use Rattle.std.proofs.Common.{◌≡◌, ℕ, List, [], ◌∷◌, ◌++◌, map, sym, ap, subst, append_assoc, append-nil}
 use Rattle.plans.specs.declared.plan.Plan.{Plan}
 use Rattle.shared_graph.specs.declared.entry.Entry.{Entry}
+use Rattle.races.specs.declared.entrants.EarlyRun.{EarlyRun}
 use Rattle.races.specs.declared.outcomes.ProgramRuns.{ProgramRuns}
 use Rattle.races.specs.Race.{AllRan, RanTwice}
 
@@ -24,3 +24,18 @@ pub running_ends : (n room turns : ℕ) (told : List Entry) (all left : List Pla
     → AllRan n room turns told all runs
 running_ends n room turns told all left runs running none =
     subst (AllRan n room turns told all) (append-nil runs) (running [] (subst (λ (l : List Plan). AllRan n room turns told l []) (sym none) tt))
+
+-- the programs of runs that are left
+abbrev pub plans_of : {J : Type 0} → List (EarlyRun J) → List Plan
+plans_of ran = map (λ r. r.plan.now) ran
+
+pub running_goes_on : {J : Type 0} (n room turns : ℕ) (told : List Entry) (all : List Plan) (first : EarlyRun J) (before after : List (EarlyRun J)) (runs made : List ProgramRuns) (one : ProgramRuns)
+    → before ≡ first ∷ after → IsRunning n room turns told all (plans_of before) runs → RanTwice n room first.plan.now turns told one → made ≡ runs ++ one ∷ []
+    → IsRunning n room turns told all (plans_of after) made
+running_goes_on n room turns told all first before after runs made one steps running ran is =
+    running_goes n room turns told all (plans_of after) first.plan.now runs made one
+    (subst (λ ps. IsRunning n room turns told all ps runs) (ap plans_of steps) running) ran is
+
+pub running_ends_at : {J : Type 0} (n room turns : ℕ) (told : List Entry) (all : List Plan) (left : List (EarlyRun J)) (runs : List ProgramRuns) → IsRunning n room turns told all (plans_of left) runs → left ≡ []
+    → AllRan n room turns told all runs
+running_ends_at n room turns told all left runs running none = running_ends n room turns told all (plans_of left) runs running (ap plans_of none)

@@ -1,12 +1,11 @@
 -- What the lines of a race leave and are answered as those of a script.
-use Rattle.std.proofs.Common.{◌≡◌, ◌∙◌, ℕ, true, false, List, [], ◌∷◌, ◌++◌, Option, Some, None, refl, sym, ap, subst, codes}
+use Rattle.std.proofs.Common.{◌≡◌, ℕ, false, List, [], ◌∷◌, ◌++◌, Option, Some, None, refl, sym, ap, subst, codes}
 use Rattle.std.specs.Prelude.{option_map, unwrap_or}
 use Rattle.algorithm_meaning.specs.ProgramTree.{ProgramTree}
 use Rattle.tree_batch.specs.declared.batch.Entry.{Entry}
 use Rattle.tree_batch.specs.declared.batch.Entry.TheVariants as entry
-use Rattle.tree_batch.specs.Digraph.{is_chunk_size, is_vertex_count}
 use Rattle.version_list.specs.declared.step.Step.TheVariants.{Commit}
-use Rattle.version_list.specs.Machine.{State, opened, reply_to, state_after}
+use Rattle.version_list.specs.Machine.{State, opened, reply_to}
 use Rattle.replies.specs.ReplyText.{word_line}
 use Rattle.scripts.specs.declared.commands.Command.{Command}
 use Rattle.scripts.specs.declared.commands.Command.TheVariants as command

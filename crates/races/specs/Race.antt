@@ -7,7 +7,7 @@ use Rattle.replies.specs.OutcomeText.{is_fault}
 use Rattle.plans.specs.declared.plan.Plan.{Plan}
 use Rattle.version_list.specs.declared.step.Step.TheVariants.{Commit}
 use Rattle.version_list.specs.declared.step.Reply.TheVariants.{Version}
-use Rattle.version_list.specs.Machine.{State, opened}
+use Rattle.version_list.specs.Machine.{opened}
 use Rattle.version_list.specs.Timeline.{IsLegal}
 use Rattle.shared_graph.specs.declared.entry.Entry.{Entry}
 use Rattle.shared_graph.specs.Histories.{batches_of, entry, fold_of, own, steps_of}

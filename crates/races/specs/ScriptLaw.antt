@@ -1,5 +1,5 @@
 -- That race scripts are scripts.
-use Rattle.std.specs.Prelude.{◌≡◌, ℕ, true, List, [], ◌∷◌, ◌++◌, Option, Some, None, codes}
+use Rattle.std.specs.Prelude.{◌≡◌, ℕ, true, List, [], ◌∷◌, ◌++◌, Some, None, codes}
 use Rattle.std.specs.Option.{option_map}
 use Rattle.algorithm_meaning.specs.ProgramTree.{ProgramTree}
 use Rattle.tree_batch.specs.declared.batch.Entry.{Entry}
@@ -8,7 +8,7 @@ use Rattle.version_list.specs.declared.step.Step.TheVariants.{Commit}
 use Rattle.version_list.specs.Machine.{State, opened, reply_to, state_after}
 use Rattle.replies.specs.ReplyText.{word_line}
 use Rattle.scripts.specs.Pieces.{lines_of}
-use Rattle.scripts.specs.Replies.{OpenState, replies, state_after_lines, step_line}
+use Rattle.scripts.specs.Replies.{replies, state_after_lines, step_line}
 use Rattle.races.specs.RaceScript.{Order, order_of}
 
 -- the versions after commits of these batches

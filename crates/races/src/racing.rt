@@ -14,7 +14,6 @@ use crate::outcomes::{ProgramRuns, Race};
 use crate::reading::RaceScript;
 use plans::Plan;
 use shared_graph::{Naming, Opening, Reader, SharedError, SharedGraph, Token};
-use snapshot_runs::LatestRunError;
 use std::alloc::{AllocError, Global};
 use std::marker::Brand;
 use std::sync::Wait;
@@ -36,7 +35,7 @@ pub fn race<T: Threads + Wait + Sync>(
     workers: usize,
     turns: u64,
 ) -> Result<Race, RaceError>
-    ensures { IfOk result (IsRace script.entry.vertices 16777216 script.entry.batches.items (map (λ p. p.now) plans.now) turns) }
+    ensures { IfOk result (IsRace script.vertices 16777216 script.batches.items (map (λ p. p.now) plans.now) turns) }
 {
     race_known::<Brand, T>(rt, alloc, Opening::new(), script, plans, workers, turns)
 }
@@ -54,7 +53,7 @@ fn race_known<J: Naming + Send + Sync, T: Threads + Wait + Sync>(
     requires book { opening ≡ J.book }
     requires vertices { J.vertices ≡ script.vertices }
     requires room { J.room ≡ 16777216 }
-    ensures { IfOk result (IsRace J.vertices J.room script.entry.batches.items (map (λ p. p.now) plans.now) turns) }
+    ensures { IfOk result (IsRace J.vertices J.room script.batches.items (map (λ p. p.now) plans.now) turns) }
 {
     let RaceScript {
         vertices,
@@ -85,7 +84,7 @@ fn race_on<J: Naming + Send + Sync, T: Threads + Wait + Sync>(
     turns: u64,
 ) -> Result<(Vec<u64>, Vec<ProgramRuns>), RaceError>
     requires { readers.items ≡ fresh_passes (suc (length plans.now)) }
-    ensures { IfOk result (IsRaced J.vertices J.room batches.entry.items (map (λ p. p.now) plans.now) turns) }
+    ensures { IfOk result (IsRaced J.vertices J.room batches.items (map (λ p. p.now) plans.now) turns) }
 {
     let mut readers = readers;
     let Some(writer) = readers.pop() else {
@@ -94,8 +93,14 @@ fn race_on<J: Naming + Send + Sync, T: Threads + Wait + Sync>(
     let entrants = entrants(alloc, readers, plans)?;
     let (ran, (writer, committed)) = join(
         rt,
-        move || run_all_early(rt, alloc, entrants, workers, turns),
-        move || commit_all(rt, alloc, graph, writer, batches),
+        move || -> Result<Vec<EarlyRun<J>>, AllocError>
+            ensures { IfOk result (λ ran. (map (λ r. r.plan.now) ran.items ≡ map (λ e. e.plan.now) entrants.entry.items)
+                × All (RanEarly J.vertices turns) ran.items) }
+        { run_all_early(rt, alloc, entrants, workers, turns) },
+        move || -> (Reader<J>, Result<Vec<u64>, SharedError>)
+            requires { IsLegal (opened J.vertices J.room) (steps_of writer.last) }
+            ensures { IfOk result.1 (λ versions. HasCommitted (opened J.vertices J.room) writer batches.items versions.items result.0) }
+        { commit_all(rt, alloc, graph, writer, batches) },
     );
     let versions = committed?;
     let runs = run_all_late(rt, alloc, ran?, &writer.token(), workers, turns)?;
@@ -111,7 +116,7 @@ fn commit_all<J: Naming, T: Threads + Wait + Sync>(
     batches: Vec<Batch>,
 ) -> (Reader<J>, Result<Vec<u64>, SharedError>)
     requires { IsLegal (opened J.vertices J.room) (steps_of writer.last) }
-    ensures { IfOk result.1 (λ versions. HasCommitted (opened J.vertices J.room) writer.entry batches.entry.items versions.items result.0) }
+    ensures { IfOk result.1 (λ versions. HasCommitted (opened J.vertices J.room) writer batches.items versions.items result.0) }
 {
     let committed = commit_each(rt, alloc, graph, &mut writer, batches);
     (writer, committed)
@@ -125,7 +130,7 @@ fn commit_each<J: Naming, T: Threads + Wait + Sync>(
     batches: Vec<Batch>,
 ) -> Result<Vec<u64>, SharedError>
     requires { IsLegal (opened J.vertices J.room) (steps_of writer.old.last) }
-    ensures { IfOk result (λ versions. HasCommitted (opened J.vertices J.room) writer.old batches.entry.items versions.items writer.new) }
+    ensures { IfOk result (λ versions. HasCommitted (opened J.vertices J.room) writer.old batches.items versions.items writer.new) }
 {
     let mut versions = Vec::with_capacity(alloc, batches.len())?;
     for batch in batches {
@@ -162,18 +167,13 @@ fn run_all_late<J: Naming, T: Threads + Sync>(
     told: &Token<J>,
     workers: usize,
     turns: u64,
-) -> Result<Vec<ProgramRuns>, LatestRunError>
+) -> Result<Vec<ProgramRuns>, RaceError>
     requires { All (RanEarly J.vertices turns) ran.items }
     ensures { IfOk result (λ runs. AllRan J.vertices J.room turns told.now (map (λ r. r.plan.now) ran.entry.items) runs.items) }
 {
-    let Ok(mut all) = Vec::with_capacity(alloc, ran.len()) else {
-        return Err(LatestRunError::NoMemory);
-    };
+    let mut all = Vec::with_capacity(alloc, ran.len())?;
     for one in ran {
-        let runs = one.run_again(rt, alloc, told, workers, turns)?;
-        if all.push(runs).is_err() {
-            return Err(LatestRunError::NoMemory);
-        }
+        all.push(one.run_again(rt, alloc, told, workers, turns)?)?;
     }
     Ok(all)
 }

@@ -1,4 +1,4 @@
-use Rattle.std.proofs.Common.{◌∙◌, sym, ap, rules}
+use Rattle.std.proofs.Common.{rules}
 use Rattle.scripts.specs.Script.{taken_by}
 use Rattle.races.specs.RaceText.{race_text}
 use Rattle.races.proofs.Writing.{none_written, written_tied}

@@ -1,4 +1,5 @@
-use Rattle.std.proofs.Common.{List, sym, subst}
+use Rattle.std.proofs.Common.{List, arith, sym, subst}
+use Rattle.std.proofs.lemmas.List.{nil_from_length}
 use Rattle.tree_batch.specs.declared.batch.Entry.{Entry as Change}
 use Rattle.version_list.specs.Machine.{opened}
 use Rattle.races.proofs.Commits.{IsCommitting, committing_ends, committing_goes, committing_starts}
@@ -19,7 +20,12 @@ loop-batch-preserved g c =
     let base = opened g.J.Naming.vertices g.J.Naming.room in (
       tt,
       tt,
-      committing_goes base _ c.args.batches.items _ _ _ _ _ _ _
-          (subst (λ (left : List (List Change)). IsCommitting base _ c.args.batches.items left c.loop-batch.versions.items c.loop-batch.writer) c.in-Some.ensures.steps.0 c.loop-batch.invariant.2)
+      committing_goes base c.args.writer.now c.args.batches.items _ _ _ c.loop-batch.writer _ _ _
+          (subst (λ (left : List (List Change)). IsCommitting base c.args.writer.now c.args.batches.items left c.loop-batch.versions.items c.loop-batch.writer) c.in-Some.ensures.steps.0 c.loop-batch.invariant.2)
           c.in_ok-commit.ensures c.in_ok-push.ensures.items,
     )
+
+pub returns : goal.returns
+returns g c =
+    committing_ends (opened g.J.Naming.vertices g.J.Naming.room) c.args.writer.now c.args.batches.items c.loop-batch.batch-iterator.rest.items c.loop-batch.versions.items c.loop-batch.writer c.loop-batch.invariant.2
+    (nil_from_length c.loop-batch.batch-iterator.rest.items (omega (arith, c.in-None.ensures.steps.0, c.loop-batch.batch-iterator.rest.ok.0)))

@@ -1,0 +1,45 @@
+-- The readers of a race, and what it gives.
+use Rattle.std.proofs.Common.{◌≡◌, ◌∙◌, ℕ, zero, suc, ◌+◌, Option, Some, option_to_list, List, [], ◌∷◌, ◌++◌, length, length-append, refl, sym, ap, subst, arith}
+use Rattle.std.specs.Global.{Vec}
+use Rattle.std.proofs.lemmas.List.{same_from_push}
+use Rattle.tree_batch.specs.declared.batch.Entry.{Entry as Change}
+use Rattle.plans.specs.declared.plan.Plan.{Plan}
+use Rattle.version_list.specs.Machine.{opened}
+use Rattle.shared_graph.specs.declared.entry.Entry.{Entry}
+use Rattle.shared_graph.specs.Passes.{Pass, fresh, fresh_passes}
+use Rattle.races.specs.declared.outcomes.ProgramRuns.{ProgramRuns}
+use Rattle.races.specs.Race.{AllRan}
+use Rattle.races.specs.Racing.{HasCommitted, IsRaced}
+
+pub length_passes : (n : ℕ) → length (fresh_passes n) ≡ n
+length_passes zero = refl
+length_passes (suc n) = let one = length-append (fresh_passes n) (fresh n ∷ []) in let rest = length_passes n in omega arith
+
+-- the last reader is taken
+pub pass_popped : (n : ℕ) (old new : List Pass) (popped : Option Pass) (writer : Pass) → old ≡ fresh_passes (suc n) → old ≡ new ++ option_to_list popped → popped ≡ Some writer
+    → (new ≡ fresh_passes n) × (writer ≡ fresh n)
+pass_popped n old new popped writer are cut some =
+    same_from_push new (fresh_passes n) writer (fresh n) (ap (λ (o : Option Pass). new ++ option_to_list o) (sym some) ∙ sym cut ∙ are)
+
+-- there is a reader for each of so many others
+pub as_many_left : (n : ℕ) (old new : List Pass) (popped : Option Pass) (writer : Pass) → old ≡ fresh_passes (suc n) → old ≡ new ++ option_to_list popped → popped ≡ Some writer
+    → length new ≡ n
+as_many_left n old new popped writer are cut some = ap (λ (l : List Pass). length l) (pass_popped n old new popped writer are cut some).0 ∙ length_passes n
+
+-- the batches are committed, and each program ran before and after
+pub raced : (n room : ℕ) (batches : List (List Change)) (plans : List Plan) (turns place : ℕ) (old new : Pass) (versions : Vec ℕ) (runs : Vec ProgramRuns) (told : List Entry) (ran : List Plan)
+    → old ≡ fresh place → HasCommitted (opened n room) old batches versions.items new → told ≡ new.last → ran ≡ plans → AllRan n room turns told ran runs.items
+    → IsRaced n room batches plans turns (versions, runs)
+raced n room batches plans turns place old new versions runs told ran is made learned same all =
+    let m : HasCommitted (opened n room) (fresh place) batches versions.items new = subst (λ (p : Pass). HasCommitted (opened n room) p batches versions.items new) is made in record {
+      writer = place;
+      history = new.last;
+      legal = m.legal;
+      committed = m.entries;
+      all_committed = m.all_committed;
+      ran = subst (λ (h : List Entry). AllRan n room turns h plans runs.items) learned (subst (λ (ps : List Plan). AllRan n room turns told ps runs.items) same all);
+    }
+
+-- a reader more than there are programs
+pub one_more : (n : ℕ) (passes : List Pass) → passes ≡ fresh_passes (n + 1) → passes ≡ fresh_passes (suc n)
+one_more n passes are = let more : n + 1 ≡ suc n = omega arith in are ∙ ap fresh_passes more
