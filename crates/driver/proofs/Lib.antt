@@ -1,2 +1,3 @@
 mod Compiling
 mod Workers
+mod FileRaces

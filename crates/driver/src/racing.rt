@@ -1,11 +1,12 @@
 //! Races of programs in files, beside the commits of a script in a file.
 
-ghost use Rattle.std.specs.Prelude.{◌≡◌, true, map};
+ghost use Rattle.std.specs.Prelude.{◌≡◌, IfOk, true, map};
 ghost use Rattle.requests.specs.Asked.{is_race};
 ghost use Rattle.scripts.specs.Script.{taken_by};
 ghost use Rattle.driver.specs.Endings.{of_race, of_race_script};
 ghost use Rattle.driver.specs.Racing.{RacesFiles, ReadsFile, ServesRace};
 
+use crate::compiled_plan::CompiledPlan;
 use crate::error::ServeError;
 use crate::files::Files;
 use crate::serving::{compiled_files, told};
@@ -15,7 +16,7 @@ use races::{RaceError, RaceScript, RaceScriptError, race, race_script, write_rac
 use requests::Request;
 use shared_graph::SharedError;
 use snapshot_runs::LatestRunError;
-use std::alloc::Global;
+use std::alloc::{AllocError, Global};
 use std::sync::Wait;
 use std::thread::Threads;
 
@@ -80,19 +81,26 @@ fn race_files<'a, T: Threads + Wait + Sync, F: Files, W: Drain>(
     files: &F,
     out: &mut W,
 ) -> Result<bool, ServeError<'a>>
-    ensures { RacesFiles (F.may_hold files.now) (F.may_fail files.now) names.script.now (map (λ p. p.now) names.programs.now) bounds.turns
+    ensures { RacesFiles (F.may_hold files.now) (F.may_fail files.now) names.entry.script.now (map (λ p. p.now) names.entry.programs.now) bounds.turns
         (taken_by (W.taken out.old) (W.failures out.old))
         (taken_by (W.taken out.new) (W.failures out.new)) result }
 {
     let compiled = compiled_files(alloc, names.programs, files)?;
     let order = read_script(alloc, names.script, files)?;
-    let plans: Vec<&Plan> = compiled.iter().map(|one| &one.plan).collect(alloc)?;
+    let plans = plans_of(alloc, &compiled)?;
     let raced = match race(rt, alloc, order, &plans, bounds.workers, bounds.turns) {
         Ok(raced) => raced,
         Err(error) => return Err(of_race(names.script, error)),
     };
     write_race(alloc, &raced, out)?;
     Ok(raced.has_faulted())
+}
+
+// The plans of programs that were compiled.
+fn plans_of<'a>(alloc: Global, compiled: &'a [CompiledPlan]) -> Result<Vec<&'a Plan>, AllocError>
+    ensures { IfOk result (λ plans. map (λ p. p.now) plans.items ≡ map (λ c. c.plan) compiled.now) }
+{
+    compiled.iter().map(|one| &one.plan).collect(alloc)
 }
 
 // The script of a race that the file of this name holds.

@@ -1,0 +1,32 @@
+-- Races of files.
+use Rattle.std.proofs.Common.{◌≡◌, ◌∙◌, ap, ℕ, List, Bor, Err, map, subst}
+use Rattle.scripts.specs.Script.{Taken}
+use Rattle.replies.specs.declared.send_error.SendError.{SendError}
+use Rattle.replies.specs.declared.send_error.SendError.TheVariants.{NoMemory, WriteFailed}
+use Rattle.plans.specs.declared.plan.Plan.{Plan}
+use Rattle.races.specs.Race.{IsRace}
+use Rattle.races.specs.RaceScript.{order_by}
+use Rattle.races.specs.RaceText.{TakesBeginning, Writes}
+use Rattle.races.specs.declared.outcomes.Race.{Race}
+use Rattle.races.specs.declared.reading.RaceScript.{RaceScript}
+use Rattle.driver.specs.declared.compiled_plan.CompiledPlan.{CompiledPlan}
+use Rattle.driver.specs.Programs.{tree_of}
+use Rattle.driver.specs.Racing.{HoldsScript, IsRaceOf}
+use Rattle.driver.specs.Reading.{HoldPrograms}
+
+-- a race of the plans that the files' programs have, which are lent to it, and of the script that a file holds
+pub race_of_files : (holds : List ℕ → List ℕ → Type 0) (file : List ℕ) (names : List (List ℕ)) (turns : ℕ) (programs seen : List CompiledPlan) (plans lent : List (Bor Plan)) (script : RaceScript) (race : Race) → HoldPrograms holds names (map tree_of programs)
+    → HoldsScript (holds file) (order_by script) → seen ≡ programs → map (λ p. p.now) plans ≡ map (λ c. c.plan) seen → lent ≡ plans
+    → IsRace script.vertices 16777216 script.batches.items (map (λ p. p.now) lent) turns race → IsRaceOf holds file names turns race
+race_of_files holds file names turns programs seen plans lent script race compiled held all are same raced = record {
+  programs = programs;
+  compiled = compiled;
+  order = order_by script;
+  held = held;
+  is_race = subst (λ (ps : List Plan). IsRace script.vertices 16777216 script.batches.items ps turns race) (ap (map (λ (p : Bor Plan). p.now)) same ∙ are ∙ ap (map (λ (c : CompiledPlan). c.plan)) all) raced;
+}
+
+-- where writing a text failed, a beginning of it was taken
+pub begins_text : (text : List ℕ) (before after : Taken) (e : SendError) → Writes {A = Unit {0}} text before after (Err e) → TakesBeginning text before after
+begins_text text before after NoMemory begins = begins
+begins_text text before after WriteFailed begins = begins.0
