@@ -1,10 +1,10 @@
 -- Two lists, place by place.
 use Rattle.std.proofs.Common.{◌≡◌, ◌∙◌, ◌<◌, ℕ, suc, List, [], ◌∷◌, length, map, refl, sym, ap, ap₂, arith, IfOk, Result, Ok, Err, vec_len}
 use Rattle.std.specs.Global.{Vec}
-use Rattle.std.specs.List.{All, slice_index_or}
+use Rattle.std.specs.List.{slice_index_or}
 use Rattle.races.specs.declared.entrants.EarlyRun.{EarlyRun}
 use Rattle.races.specs.declared.entrants.Entrant.{Entrant}
-use Rattle.races.specs.Racing.{RanEarly}
+use Rattle.races.specs.Racing.{AllRanEarly, RanEarly}
 
 -- where f of each item of one list is g of the item of the other at its place, all of them are
 pub same_at_places : {A B C : Type 0} (f : B → C) (g : A → C) (xs : List A) (ys : List B) → length ys ≡ length xs
@@ -25,7 +25,7 @@ pub record RanAt {J : Type 0} (n turns : ℕ) (jobs : List (Entrant J)) (i : ℕ
 -- where the run at each place is that of the entrant there, the programs are the same, and each ran
 pub all_early : {J E : Type 0} (n turns : ℕ) (jobs : Vec (Entrant J)) (r : Result (Vec (EarlyRun J)) E) → IfOk r (λ v. vec_len v ≡ vec_len jobs)
     → IfOk r (λ v. (i : ℕ) (d : EarlyRun J) → i < length jobs.items → RanAt n turns jobs.items i (slice_index_or v.items i d))
-    → IfOk r (λ v. (map (λ (x : EarlyRun J). x.plan.now) v.items ≡ map (λ (e : Entrant J). e.plan.now) jobs.items) × All (RanEarly n turns) v.items)
+    → IfOk r (λ v. AllRanEarly n turns jobs.items v.items)
 all_early {J} n turns jobs (Ok v) len each =
     let many = v.ok.0 in
     let known = jobs.ok.0 in

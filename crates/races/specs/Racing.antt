@@ -1,6 +1,7 @@
 -- For proofs only: how far a race has come.
-use Rattle.std.specs.Prelude.{◌≡◌, ℕ, List, ◌++◌, length, IfOk}
+use Rattle.std.specs.Prelude.{◌≡◌, ℕ, List, ◌++◌, length, map, IfOk}
 use Rattle.std.specs.Global.{Vec}
+use Rattle.std.specs.List.{All}
 use Rattle.tree_batch.specs.declared.batch.Entry.{Entry as Change}
 use Rattle.version_list.specs.Machine.{State, opened}
 use Rattle.version_list.specs.Timeline.{IsLegal}
@@ -9,12 +10,17 @@ use Rattle.plans.specs.declared.plan.Plan.{Plan}
 use Rattle.shared_graph.specs.declared.entry.Entry.{Entry}
 use Rattle.shared_graph.specs.Passes.{Pass}
 use Rattle.races.specs.declared.entrants.EarlyRun.{EarlyRun}
+use Rattle.races.specs.declared.entrants.Entrant.{Entrant}
 use Rattle.races.specs.declared.outcomes.ProgramRuns.{ProgramRuns}
 use Rattle.races.specs.Race.{AllRan, IsRunOn, commits}
 
 -- the run is on the newest version of the history that the reader shows
 abbrev pub RanEarly : {J : Type 0} → ℕ → ℕ → EarlyRun J → Type 0
 RanEarly n turns ran = IfOk ran.run (IsRunOn n ran.plan.now turns ran.reader.shown)
+
+-- the programs that ran are those of the entrants, in order, and each ran
+abbrev pub AllRanEarly : {J : Type 0} → ℕ → ℕ → List (Entrant J) → List (EarlyRun J) → Type 0
+AllRanEarly n turns entrants ran = (map (λ r. r.plan.now) ran ≡ map (λ e. e.plan.now) entrants) × All (RanEarly n turns) ran
 
 -- the reader's own entries are one more commit of each of the batches, and all that it made is legal
 pub record HasCommitted (base : State) (old : Pass) (batches : List (List Change)) (versions : List ℕ) (new : Pass) : Type 0 where

@@ -6,7 +6,7 @@ ghost use Rattle.version_list.specs.Timeline.{IsLegal};
 ghost use Rattle.shared_graph.specs.Histories.{steps_of};
 ghost use Rattle.shared_graph.specs.Passes.{fresh_passes};
 ghost use Rattle.races.specs.Race.{AllRan, IsRace};
-ghost use Rattle.races.specs.Racing.{HasCommitted, IsRaced, RanEarly};
+ghost use Rattle.races.specs.Racing.{AllRanEarly, HasCommitted, IsRaced, RanEarly};
 
 use crate::entrants::{EarlyRun, Entrant, entrants};
 use crate::error::RaceError;
@@ -94,8 +94,7 @@ fn race_on<J: Naming + Send + Sync, T: Threads + Wait + Sync>(
     let (ran, (writer, committed)) = join(
         rt,
         move || -> Result<Vec<EarlyRun<J>>, AllocError>
-            ensures { IfOk result (λ ran. (map (λ r. r.plan.now) ran.items ≡ map (λ e. e.plan.now) entrants.entry.items)
-                × All (RanEarly J.vertices turns) ran.items) }
+            ensures { IfOk result (λ ran. AllRanEarly J.vertices turns entrants.entry.items ran.items) }
         { run_all_early(rt, alloc, entrants, workers, turns) },
         move || -> (Reader<J>, Result<Vec<u64>, SharedError>)
             requires { IsLegal (opened J.vertices J.room) (steps_of writer.last) }
@@ -147,8 +146,7 @@ fn run_all_early<'a, J: Naming + Send + Sync, T: Threads + Sync>(
     workers: usize,
     turns: u64,
 ) -> Result<Vec<EarlyRun<'a, J>>, AllocError>
-    ensures { IfOk result (λ ran. (map (λ r. r.plan.now) ran.items ≡ map (λ e. e.plan.now) entrants.entry.items)
-        × All (RanEarly J.vertices turns) ran.items) }
+    ensures { IfOk result (λ ran. AllRanEarly J.vertices turns entrants.entry.items ran.items) }
 {
     thread::map_vec(
         rt,
