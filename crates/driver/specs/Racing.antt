@@ -15,7 +15,7 @@ use Rattle.requests.specs.declared.asked.Request.TheVariants as request
 use Rattle.driver.specs.declared.compiled_plan.CompiledPlan.{CompiledPlan}
 use Rattle.driver.specs.declared.error.ServeError.{ServeError}
 use Rattle.driver.specs.declared.error.ServeError.TheVariants.{NoMemory}
-use Rattle.driver.specs.Endings.{of_race, of_race_script, of_read, status_of_end}
+use Rattle.driver.specs.Endings.{of_race, of_race_script, status_of_end}
 use Rattle.driver.specs.Programs.{tree_of}
 use Rattle.driver.specs.Reading.{FailsRead, HoldPrograms, LacksProgram}
 
