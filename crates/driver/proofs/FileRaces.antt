@@ -1,5 +1,5 @@
 -- Races of files.
-use Rattle.std.proofs.Common.{◌≡◌, ◌∙◌, ap, ℕ, List, Bor, Err, map, subst}
+use Rattle.std.proofs.Common.{◌≡◌, ◌∙◌, ap, ℕ, List, Bor, Err, map, subst, refl, inl, inr}
 use Rattle.scripts.specs.Script.{Taken}
 use Rattle.replies.specs.declared.send_error.SendError.{SendError}
 use Rattle.replies.specs.declared.send_error.SendError.TheVariants.{NoMemory, WriteFailed}
@@ -10,8 +10,9 @@ use Rattle.races.specs.RaceText.{TakesBeginning, Writes}
 use Rattle.races.specs.declared.outcomes.Race.{Race}
 use Rattle.races.specs.declared.reading.RaceScript.{RaceScript}
 use Rattle.driver.specs.declared.compiled_plan.CompiledPlan.{CompiledPlan}
+use Rattle.driver.specs.Endings.{of_send}
 use Rattle.driver.specs.Programs.{tree_of}
-use Rattle.driver.specs.Racing.{HoldsScript, IsRaceOf}
+use Rattle.driver.specs.Racing.{EndsWriting, HoldsScript, IsRaceOf}
 use Rattle.driver.specs.Reading.{HoldPrograms}
 
 -- a race of the plans that the files' programs have, which are lent to it, and of the script that a file holds
@@ -30,3 +31,8 @@ race_of_files holds file names turns programs seen plans lent script race compil
 pub begins_text : (text : List ℕ) (before after : Taken) (e : SendError) → Writes {A = Unit {0}} text before after (Err e) → TakesBeginning text before after
 begins_text text before after NoMemory begins = begins
 begins_text text before after WriteFailed begins = begins.0
+
+-- writing a text fails since memory ran out, or by the writer
+pub ends_writing : (text : List ℕ) (before after : Taken) (e : SendError) → Writes {A = Unit {0}} text before after (Err e) → EndsWriting before after (of_send e)
+ends_writing text before after NoMemory begins = inl refl
+ends_writing text before after WriteFailed begins = inr (refl, begins.1)

@@ -1,5 +1,5 @@
 -- What serving a race comes to.
-use Rattle.std.specs.Prelude.{◌≡◌, ℕ, Bool, List, ◌++◌, ◌⊎◌, Result, Ok, Err, Some, map}
+use Rattle.std.specs.Prelude.{◌≡◌, ℕ, ◌<◌, Bool, List, ◌++◌, ◌⊎◌, Result, Ok, Err, Some, map}
 use Rattle.std.specs.Borrow.{Bor}
 use Rattle.std.specs.declared.io.Error.{Error}
 use Rattle.scripts.specs.Script.{Taken}
@@ -14,7 +14,7 @@ use Rattle.requests.specs.declared.asked.Request.{Request}
 use Rattle.requests.specs.declared.asked.Request.TheVariants as request
 use Rattle.driver.specs.declared.compiled_plan.CompiledPlan.{CompiledPlan}
 use Rattle.driver.specs.declared.error.ServeError.{ServeError}
-use Rattle.driver.specs.declared.error.ServeError.TheVariants.{NoMemory}
+use Rattle.driver.specs.declared.error.ServeError.TheVariants.{NoMemory, WriteFailed}
 use Rattle.driver.specs.Endings.{of_race, of_race_script, status_of_end}
 use Rattle.driver.specs.Programs.{tree_of}
 use Rattle.driver.specs.Reading.{FailsRead, HoldPrograms, LacksProgram}
@@ -55,11 +55,16 @@ pub record TellsRace (holds : List ℕ → List ℕ → Type 0) (script : List �
   pub taken : after.taken ≡ before.taken ++ race_text race
   pub fault : faulted ≡ has_faulted race
 
+-- memory ran out, or the writer failed in this call
+abbrev pub EndsWriting : Taken → Taken → ServeError → Type 0
+EndsWriting before after e = (e ≡ NoMemory) ⊎ ((e ≡ WriteFailed) × (before.failures < after.failures))
+
 -- a beginning of the text of a race was written before memory ran out or the writer failed
-pub record BeginsRace (holds : List ℕ → List ℕ → Type 0) (script : List ℕ) (names : List (List ℕ)) (turns : ℕ) (before after : Taken) : Type 0 where
+pub record BeginsRace (holds : List ℕ → List ℕ → Type 0) (script : List ℕ) (names : List (List ℕ)) (turns : ℕ) (before after : Taken) (e : ServeError) : Type 0 where
   pub race : Race
   pub is_race : IsRaceOf holds script names turns race
   pub part : TakesBeginning (race_text race) before after
+  pub cause : EndsWriting before after e
 
 -- there was no race of the script in this file, for this reason or since memory ran out
 abbrev pub NotRaced : List ℕ → ServeError → Type 0
@@ -74,7 +79,7 @@ pub record TellsNoRace (holds : List ℕ → List ℕ → Type 0) (fails : List 
 abbrev pub RacesFiles : (List ℕ → List ℕ → Type 0) → (List ℕ → Error → Type 0) → List ℕ → List (List ℕ) → ℕ → Taken → Taken → Result Bool ServeError → Type 0
 RacesFiles holds fails script names turns before after (Ok faulted) = TellsRace holds script names turns before after faulted
 RacesFiles holds fails script names turns before after (Err e) =
-    TellsNoRace holds fails script names before after e ⊎ BeginsRace holds script names turns before after
+    TellsNoRace holds fails script names before after e ⊎ BeginsRace holds script names turns before after e
 
 -- a race was done, with this status at the end
 pub record ServesRaceOf (holds : List ℕ → List ℕ → Type 0) (fails : List ℕ → Error → Type 0) (script : List ℕ) (names : List (List ℕ)) (turns : ℕ) (before after : Taken) (status : ℕ) : Type 0 where

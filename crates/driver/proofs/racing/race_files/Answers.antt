@@ -1,6 +1,7 @@
 use Rattle.std.proofs.Common.{inr}
 use Rattle.std.proofs.lemmas.Result.{err_from_is_err_and}
-use Rattle.driver.proofs.FileRaces.{begins_text, race_of_files}
+use Rattle.races.specs.RaceText.{race_text}
+use Rattle.driver.proofs.FileRaces.{begins_text, ends_writing, race_of_files}
 use Rattle.driver.proofs.racing.race_files.Goals as goal
 
 pub returns : goal.returns
@@ -18,4 +19,5 @@ returns-in_err-write_race g c =
       race = c.in-Ok.raced;
       is_race = race_of_files _ _ _ _ c.in_ok-compiled.compiled.items _ c.in_ok-plans.plans.items _ c.in_ok-order.order c.in-Ok.raced c.in_ok-compiled.ensures c.in_ok-order.ensures c.deref.ensures.value c.in_ok-plans.ensures c.deref-2.ensures.value c.in-Ok.ensures;
       part = begins_text _ _ _ c.in_err-write_race.field-0.0 c.in_err-write_race.ensures;
+      cause = ends_writing (race_text c.in-Ok.raced) _ _ c.in_err-write_race.field-0.0 c.in_err-write_race.ensures;
     }))
