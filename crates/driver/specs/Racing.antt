@@ -1,17 +1,16 @@
 -- What serving a race comes to.
-use Rattle.std.specs.Prelude.{◌≡◌, ℕ, ◌<◌, Bool, List, ◌++◌, ◌⊎◌, Result, Ok, Err, Some, map}
+use Rattle.std.specs.Prelude.{◌≡◌, ℕ, ◌<◌, Bool, List, ◌++◌, ◌⊎◌, Result, Ok, Err, Some, length, map}
 use Rattle.std.specs.Borrow.{Bor}
 use Rattle.std.specs.declared.io.Error.{Error}
-use Rattle.scripts.specs.Script.{Taken}
+use Rattle.scripts.specs.Script.{Input, Taken}
 use Rattle.races.specs.RaceScript.{Order, ReadsScript, order_by, order_of}
 use Rattle.races.specs.Race.{IsRace, has_faulted}
+use Rattle.races.specs.Refused.{RefusesRace}
 use Rattle.races.specs.RaceText.{TakesBeginning, race_text}
 use Rattle.races.specs.declared.error.RaceError.{RaceError}
 use Rattle.races.specs.declared.error.RaceScriptError.{RaceScriptError}
 use Rattle.races.specs.declared.outcomes.Race.{Race}
 use Rattle.races.specs.declared.reading.RaceScript.{RaceScript}
-use Rattle.requests.specs.declared.asked.Request.{Request}
-use Rattle.requests.specs.declared.asked.Request.TheVariants as request
 use Rattle.driver.specs.declared.compiled_plan.CompiledPlan.{CompiledPlan}
 use Rattle.driver.specs.declared.error.ServeError.{ServeError}
 use Rattle.driver.specs.declared.error.ServeError.TheVariants.{NoMemory, WriteFailed}
@@ -66,29 +65,37 @@ pub record BeginsRace (holds : List ℕ → List ℕ → Type 0) (script : List 
   pub part : TakesBeginning (race_text race) before after
   pub cause : EndsWriting before after e
 
--- there was no race of the script in this file, for this reason or since memory ran out
-abbrev pub NotRaced : List ℕ → ServeError → Type 0
-NotRaced script e = (e ≡ NoMemory) ⊎ ((name : Bor (List ℕ)) × ((name.now ≡ script) × ((error : RaceError) × (e ≡ of_race name error))))
+-- the files may hold these programs and this script, of which there was no race, for this reason
+pub record RefusesRaceOf (holds : List ℕ → List ℕ → Type 0) (script : List ℕ) (names : List (List ℕ)) (workers : ℕ) (e : ServeError) : Type 0 where
+  pub programs : List CompiledPlan
+  pub compiled : HoldPrograms holds names (map tree_of programs)
+  pub order : Order
+  pub held : HoldsScript (holds script) order
+  pub error : RaceError
+  pub refused : RefusesRace order.vertices order.chunk_size 16777216 order.batches (length programs) workers error
+  pub name : Bor (List ℕ)
+  pub named : name.now ≡ script
+  pub outcome : e ≡ of_race name error
 
--- nothing was written: a file has no program or no script of a race, or there was no race of them, or memory ran out
-pub record TellsNoRace (holds : List ℕ → List ℕ → Type 0) (fails : List ℕ → Error → Type 0) (script : List ℕ) (names : List (List ℕ)) (before after : Taken) (e : ServeError) : Type 0 where
+-- a file has no program or no script of a race, or there was no race of them, or memory ran out
+abbrev pub LacksRace : (List ℕ → List ℕ → Type 0) → (List ℕ → Error → Type 0) → List ℕ → List (List ℕ) → ℕ → ServeError → Type 0
+LacksRace holds fails script names workers e =
+    LacksProgram holds fails names e ⊎ (FailsRead (fails script) e ⊎ (RefusesScript (holds script) script e ⊎ (RefusesRaceOf holds script names workers e ⊎ (e ≡ NoMemory))))
+
+-- nothing was written, since there was no race
+pub record TellsNoRace (holds : List ℕ → List ℕ → Type 0) (fails : List ℕ → Error → Type 0) (script : List ℕ) (names : List (List ℕ)) (workers : ℕ) (before after : Taken) (e : ServeError) : Type 0 where
   pub untouched : after ≡ before
-  pub cause : LacksProgram holds fails names e ⊎ (FailsRead (fails script) e ⊎ (RefusesScript (holds script) script e ⊎ NotRaced script e))
+  pub cause : LacksRace holds fails script names workers e
 
 -- what a race of files comes to
-abbrev pub RacesFiles : (List ℕ → List ℕ → Type 0) → (List ℕ → Error → Type 0) → List ℕ → List (List ℕ) → ℕ → Taken → Taken → Result Bool ServeError → Type 0
-RacesFiles holds fails script names turns before after (Ok faulted) = TellsRace holds script names turns before after faulted
-RacesFiles holds fails script names turns before after (Err e) =
-    TellsNoRace holds fails script names before after e ⊎ BeginsRace holds script names turns before after e
+abbrev pub RacesFiles : (List ℕ → List ℕ → Type 0) → (List ℕ → Error → Type 0) → List ℕ → List (List ℕ) → (workers turns : ℕ) → Taken → Taken → Result Bool ServeError → Type 0
+RacesFiles holds fails script names workers turns before after (Ok faulted) = TellsRace holds script names turns before after faulted
+RacesFiles holds fails script names workers turns before after (Err e) =
+    TellsNoRace holds fails script names workers before after e ⊎ BeginsRace holds script names turns before after e
 
--- a race was done, with this status at the end
-pub record ServesRaceOf (holds : List ℕ → List ℕ → Type 0) (fails : List ℕ → Error → Type 0) (script : List ℕ) (names : List (List ℕ)) (turns : ℕ) (before after : Taken) (status : ℕ) : Type 0 where
+-- the race of the files was done, with this status at the end; the standard input was not read
+pub record ServesRace (holds : List ℕ → List ℕ → Type 0) (fails : List ℕ → Error → Type 0) (script : List ℕ) (names : List (List ℕ)) (workers turns : ℕ) (old new : Input) (before after : Taken) (status : ℕ) : Type 0 where
   pub ended : Result Bool ServeError
-  pub races : RacesFiles holds fails script names turns before after ended
+  pub races : RacesFiles holds fails script names workers turns before after ended
   pub ending : status ≡ status_of_end ended
-
--- what serving a race comes to
-abbrev pub ServesRace : (List ℕ → List ℕ → Type 0) → (List ℕ → Error → Type 0) → Request → Taken → Taken → ℕ → Type 0
-ServesRace holds fails (request.Race script names workers turns) before after status =
-    ServesRaceOf holds fails script.now (map (λ n. n.now) names.items) turns before after status
-ServesRace holds fails other before after status = ⊥
+  pub unread : new ≡ old

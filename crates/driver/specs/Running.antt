@@ -1,27 +1,21 @@
 -- What doing a command line comes to.
-use Rattle.std.specs.Prelude.{◌≡◌, ℕ, true, false, List, [], ◌⊎◌}
+use Rattle.std.specs.Prelude.{◌≡◌, ℕ, List, [], ◌⊎◌}
 use Rattle.std.specs.declared.io.Error.{Error}
 use Rattle.clap.specs.Words.{fault_of}
 use Rattle.requests.specs.CommandLine.{command_line}
-use Rattle.requests.specs.Asked.{IsFaultAmong, asked_by, is_race, request_of}
+use Rattle.requests.specs.Asked.{IsFaultAmong, asked_by, request_of}
 use Rattle.requests.specs.declared.asked.Request.{Request}
 use Rattle.requests.specs.declared.asked.RequestError.{RequestError}
 use Rattle.scripts.specs.Script.{Input, Taken}
 use Rattle.driver.specs.Endings.{refusal_status_of}
-use Rattle.driver.specs.Racing.{ServesRace}
 use Rattle.driver.specs.Serving.{Serves}
-
--- a race was done, and the standard input was not read
-pub record RunsRace (holds : List ℕ → List ℕ → Type 0) (fails : List ℕ → Error → Type 0) (request : Request) (old new : Input) (before after : Taken) (status : ℕ) : Type 0 where
-  pub serves : ServesRace holds fails request before after status
-  pub unread : new ≡ old
 
 -- the words are without a fault, and what they ask for was done
 pub record RunsRequest (holds : List ℕ → List ℕ → Type 0) (fails : List ℕ → Error → Type 0) (words : List (List ℕ)) (old new : Input) (before after : Taken) (status : ℕ) : Type 0 where
   pub request : Request
   pub quiet : fault_of command_line words ≡ []
   pub read : asked_by request ≡ request_of words
-  pub done : ((is_race request ≡ false) × Serves holds fails request old new before after status) ⊎ ((is_race request ≡ true) × RunsRace holds fails request old new before after status)
+  pub done : Serves holds fails request old new before after status
 
 -- the words were refused, for a fault of theirs or since memory ran out, and nothing else was done
 pub record RefusesWords (words : List (List ℕ)) (old new : Input) (before after : Taken) (status : ℕ) : Type 0 where

@@ -10,6 +10,7 @@ use Rattle.scripts.specs.declared.error.ScriptError.{ScriptError}
 use Rattle.scripts.specs.Script.{Input, Taken, RunsScript}
 use Rattle.scripts.specs.Text.{RunsText}
 use Rattle.driver.specs.Endings.{of_script, status_of_end}
+use Rattle.driver.specs.Racing.{ServesRace}
 use Rattle.driver.specs.Reading.{HoldPrograms, HoldsPlan, HoldsProgram, IsNoProgram, LacksProgram, FailsRead}
 use Rattle.driver.specs.declared.error.ServeError.{ServeError}
 use Rattle.driver.specs.declared.error.ServeError.TheVariants.{WriteFailed}
@@ -128,11 +129,12 @@ pub record ServesFiles (holds : List ℕ → List ℕ → Type 0) (fails : List 
   pub ending : status ≡ status_of_end ended
   pub unread : new ≡ old
 
--- what serving a request that is no race comes to
+-- what serving a request comes to
 abbrev pub Serves : (List ℕ → List ℕ → Type 0) → (List ℕ → Error → Type 0) → Request → Input → Input → Taken → Taken → ℕ → Type 0
 Serves holds fails request.Input old new before after status = ServesInput old new before after status
 Serves holds fails (request.Check file) old new before after status = ServesCheck holds fails file.now old new before after status
 Serves holds fails (request.Plan file) old new before after status = ServesPlan holds fails file.now old new before after status
 Serves holds fails (request.Script script names) old new before after status =
     ServesFiles holds fails script.now (map (λ n. n.now) names.items) old new before after status
-Serves holds fails (request.Race script names workers turns) old new before after status = ⊥
+Serves holds fails (request.Race script names workers turns) old new before after status =
+    ServesRace holds fails script.now (map (λ n. n.now) names.items) workers turns old new before after status

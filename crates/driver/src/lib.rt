@@ -1,7 +1,7 @@
 //! What the program `gsnap` does, as a library: it reads a command line and does what that asks for.
 //!
 //! [`run`] reads the words (crate `requests`), does the request over any files, readers and writers, tells a refusal, and answers
-//! the exit status. [`serve`] does each request but a race, and is proved to return; [`serve_race`] does a race, which may wait.
+//! the exit status. [`serve`] does a request.
 //!
 //! Contracts see a request as the words that it stands for, files as a relation between a name and
 //! what a read may answer, and readers and writers by the bytes that they gave and took. The promise
@@ -24,7 +24,6 @@ mod status;
 
 pub use error::ServeError;
 pub use files::{Disk, Files};
-pub use racing::serve_race;
 pub use requests::{Request, RequestError};
 pub use running::{refusal_status, run};
 pub use scripts::ScriptState;

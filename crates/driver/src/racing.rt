@@ -1,87 +1,48 @@
 //! Races of programs in files, beside the commits of a script in a file.
 
-ghost use Rattle.std.specs.Prelude.{◌≡◌, IfOk, true, map};
-ghost use Rattle.requests.specs.Asked.{is_race};
+ghost use Rattle.std.specs.Prelude.{◌≡◌, IfOk, map};
 ghost use Rattle.scripts.specs.Script.{taken_by};
 ghost use Rattle.driver.specs.Endings.{of_race, of_race_script};
-ghost use Rattle.driver.specs.Racing.{RacesFiles, ReadsFile, ServesRace};
+ghost use Rattle.driver.specs.Racing.{RacesFiles, ReadsFile};
 
 use crate::compiled_plan::CompiledPlan;
 use crate::error::ServeError;
 use crate::files::Files;
-use crate::serving::{compiled_files, told};
+use crate::serving::compiled_files;
 use devices::Drain;
 use plans::Plan;
 use races::{RaceError, RaceScript, RaceScriptError, race, race_script, write_race};
-use requests::Request;
 use shared_graph::SharedError;
 use snapshot_runs::LatestRunError;
 use std::alloc::{AllocError, Global};
 use std::sync::Wait;
 use std::thread::Threads;
 
-/// Does a race, and answers the exit status: 0 where all was done, or 3 where some run ended by a fault. `out` has then taken
-/// the text of the race. It may wait, for the threads that commit and run.
-///
-/// Each program is compiled before the next file is read, and the script's file is read last. The status is 1 where a program's
-/// text is refused, where the script is none of a race, or where its graph or a batch is refused; `err` is then told the file,
-/// `refused` and the number. It is 4 where memory runs out, or a run finds nothing published, and 5 where a file cannot be read
-/// or `out` fails; `err` is then told `refused` and the number. `out` takes nothing before all is run.
-pub fn serve_race<T: Threads + Wait + Sync, F: Files, W: Drain, E: Drain>(
+/// The names of a race's files: the script, and the programs.
+#[derive(Clone, Copy)]
+pub(crate) struct RaceFiles<'p, 'a> {
+    pub(crate) script: &'a str,
+    pub(crate) programs: &'p [&'a str],
+}
+
+/// How many workers a run of a race has, and how many turns it may use.
+#[derive(Clone, Copy)]
+pub(crate) struct RaceBounds {
+    pub(crate) workers: usize,
+    pub(crate) turns: u64,
+}
+
+/// Compiles the programs in the files of these names, and then runs the race of the script that a file holds, and
+/// writes its text.
+pub(crate) fn race_files<'a, T: Threads + Wait + Sync, F: Files, W: Drain>(
     rt: &T,
     alloc: Global,
-    request: &Request<'_>,
-    files: &F,
-    out: &mut W,
-    err: &mut E,
-) -> u8
-    requires { is_race request.now ≡ true }
-    ensures { ServesRace (F.may_hold files.now) (F.may_fail files.now) request.now
-        (taken_by (W.taken out.old) (W.failures out.old))
-        (taken_by (W.taken out.new) (W.failures out.new)) result }
-{
-    match request {
-        Request::Race {
-            script,
-            programs,
-            workers,
-            turns,
-        } => {
-            let bounds = Bounds {
-                workers: *workers,
-                turns: *turns,
-            };
-            let names = Names { script, programs };
-            told(race_files(rt, alloc, names, bounds, files, out), err)
-        }
-        _ => unreachable!(),
-    }
-}
-
-// The files of a race.
-#[derive(Clone, Copy)]
-struct Names<'p, 'a> {
-    script: &'a str,
-    programs: &'p [&'a str],
-}
-
-// How many workers a run has, and how many turns it may use.
-#[derive(Clone, Copy)]
-struct Bounds {
-    workers: usize,
-    turns: u64,
-}
-
-// Compiles the programs in the files of these names, and then runs the race of the script that a file holds.
-fn race_files<'a, T: Threads + Wait + Sync, F: Files, W: Drain>(
-    rt: &T,
-    alloc: Global,
-    names: Names<'_, 'a>,
-    bounds: Bounds,
+    names: RaceFiles<'_, 'a>,
+    bounds: RaceBounds,
     files: &F,
     out: &mut W,
 ) -> Result<bool, ServeError<'a>>
-    ensures { RacesFiles (F.may_hold files.now) (F.may_fail files.now) names.entry.script.now (map (λ p. p.now) names.entry.programs.now) bounds.turns
+    ensures { RacesFiles (F.may_hold files.now) (F.may_fail files.now) names.entry.script.now (map (λ p. p.now) names.entry.programs.now) bounds.workers bounds.turns
         (taken_by (W.taken out.old) (W.failures out.old))
         (taken_by (W.taken out.new) (W.failures out.new)) result }
 {

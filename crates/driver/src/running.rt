@@ -6,7 +6,6 @@ ghost use Rattle.driver.specs.Endings.{refusal_status_of};
 ghost use Rattle.driver.specs.Running.{Runs};
 
 use crate::files::Files;
-use crate::racing::serve_race;
 use crate::serving::{TextWriter, serve};
 use crate::status;
 use devices::{Drain, Feed};
@@ -19,9 +18,8 @@ use std::thread::Threads;
 
 /// Reads the words after the program's name, and does what they ask for; the answer is the exit status.
 ///
-/// It is that of `serve` where the words are a request, or that of `serve_race` where they are a race, which may wait. Where they are none, or ask for help, it is 2, and 4
-/// where memory runs out over them; `err` is then told why, and `out` took nothing. With it comes what a script
-/// opened, as by `serve`.
+/// It is that of `serve` where the words are a request. Where they are none, or ask for help, it is 2, and 4 where memory runs
+/// out over them; `err` is then told why, and `out` took nothing. With it comes what a script opened, as by `serve`.
 pub fn run<T: Threads + Wait + Sync, F: Files, R: Feed, W: Drain, E: Drain>(
     rt: &T,
     alloc: Global,
@@ -38,9 +36,6 @@ pub fn run<T: Threads + Wait + Sync, F: Files, R: Feed, W: Drain, E: Drain>(
         (taken_by (W.taken out.new) (W.failures out.new)) result.0 }
 {
     match request(alloc, words) {
-        Ok(request) if request.is_race() => {
-            (serve_race(rt, alloc, &request, files, out, err), None)
-        }
         Ok(request) => serve(rt, alloc, &request, files, input, out, err),
         Err(error) => (refused(&error, err), None),
     }

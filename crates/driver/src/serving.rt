@@ -1,7 +1,6 @@
 //! What the program does for a request.
 
-ghost use Rattle.std.specs.Prelude.{◌≡◌, ◌++◌, false, map, IfOk};
-ghost use Rattle.requests.specs.Asked.{is_race};
+ghost use Rattle.std.specs.Prelude.{◌≡◌, ◌++◌, map, IfOk};
 ghost use Rattle.crew.specs.Outcome.{AreWorkers};
 ghost use Rattle.driver.specs.Programs.{ShowsMeaning};
 ghost use Rattle.scripts.specs.Script.{input as input_of, taken_by, RunsScript};
@@ -13,6 +12,7 @@ use crate::compiled_plan::CompiledPlan;
 use crate::error::ServeError;
 use crate::files::Files;
 use crate::programs::{CompiledPrograms, RunOrder, run_by_workers};
+use crate::racing::{RaceBounds, RaceFiles, race_files};
 use crate::status;
 use algorithm_meaning::Outcome;
 use compiler::{CompileError, compile};
@@ -23,23 +23,24 @@ use scripts::{ScriptError, ScriptState, run_text, script};
 use std::alloc::{AllocError, Global};
 use std::fmt;
 use std::fmt::Write;
+use std::sync::Wait;
 use std::thread::Threads;
 
 // What is told of a program that compiles.
 const OK_LINE: &[u8] = b"ok\n";
 
-/// Does a request that is no race, and answers the exit status: 0 where all was done, or 3 where some run of the script
-/// ended by a fault. `out` has then taken the line `ok` of a check, the text of a plan, or the replies of the
-/// script. With it comes what a script opened, where one was run, for the caller to let go: that takes time in
-/// proportion to the graph.
+/// Does a request, and answers the exit status: 0 where all was done, or 3 where some run ended by a fault. `out` has then
+/// taken the line `ok` of a check, the text of a plan, the replies of a script, or the text of a race. With it comes what a
+/// script opened, where one was run, for the caller to let go: that takes time in proportion to the graph. A race may wait, for
+/// the threads that commit and run; a script may, for those of a run by more than one worker.
 ///
-/// `Check` and `Plan` write once the program is compiled. `Script` compiles each program before it reads the next
-/// file, and reads the script's file last. The status is 1 where a program's text is refused; `err` is
-/// then told the file, `refused`, the number and where the fault stands, if that is known, and `out` took
-/// nothing. It is 4 where memory runs out, and 5 where a file or `input` cannot be read or `out` fails;
-/// `err` is then told `refused` and the number, and `out` took a beginning of that line or text or of the
-/// replies.
-pub fn serve<T: Threads + Sync, F: Files, R: Feed, W: Drain, E: Drain>(
+/// `Check` and `Plan` write once the program is compiled. `Script` and `Race` compile each program before they read the next
+/// file, and read the script's file last. The status is 1 where a program's text is refused, or where the script is none of a
+/// race, or its graph or a batch is refused; `err` is then told the file, `refused`, the number and where the fault stands, if
+/// that is known, and `out` took nothing. It is 4 where memory runs out, or a run of a race finds nothing published, and 5
+/// where a file or `input` cannot be read or `out` fails; `err` is then told `refused` and the number, and `out` took a
+/// beginning of that line or text or of the replies. A race writes nothing before all is run.
+pub fn serve<T: Threads + Wait + Sync, F: Files, R: Feed, W: Drain, E: Drain>(
     rt: &T,
     alloc: Global,
     request: &Request<'_>,
@@ -48,7 +49,6 @@ pub fn serve<T: Threads + Sync, F: Files, R: Feed, W: Drain, E: Drain>(
     out: &mut W,
     err: &mut E,
 ) -> (u8, Option<ScriptState>)
-    requires { is_race request.now ≡ false }
     ensures { Serves (F.may_hold files.now) (F.may_fail files.now) request.now
         (input_of (R.given input.old) (R.ended input.old) (R.failures input.old))
         (input_of (R.given input.new) (R.ended input.new) (R.failures input.new))
@@ -66,13 +66,25 @@ pub fn serve<T: Threads + Sync, F: Files, R: Feed, W: Drain, E: Drain>(
             let (ended, state) = run_files(rt, alloc, script, programs, files, out);
             (told(ended, err), state)
         }
-        Request::Race { .. } => unreachable!(),
+        Request::Race {
+            script,
+            programs,
+            workers,
+            turns,
+        } => {
+            let names = RaceFiles { script, programs };
+            let bounds = RaceBounds {
+                workers: *workers,
+                turns: *turns,
+            };
+            (told(race_files(rt, alloc, names, bounds, files, out), err), None)
+        }
     }
 }
 
 // Tells how a request ended where it was not done, and answers the status. Where telling fails too,
 // the status alone tells.
-pub(crate) fn told<E: Drain>(ended: Result<bool, ServeError<'_>>, err: &mut E) -> u8
+fn told<E: Drain>(ended: Result<bool, ServeError<'_>>, err: &mut E) -> u8
     ensures { result ≡ status_of_end ended.entry }
 {
     match ended {

@@ -15,7 +15,6 @@ mod kernels_of;
 mod pair_loops;
 mod piece_applies;
 mod plan_runs;
-mod run_programs;
 mod samples;
 mod vertex_set_runs;
 

@@ -1,11 +1,10 @@
 //! Runs of programs by their plans, beside the slow run.
 
-use crate::run_programs::{PROGRAMS, SEARCHES_AND_LABELS, Scheduled};
 use crate::samples::Sample;
 use algorithm_meaning::Outcome;
 use measuring::{Benchmark, Random, Turns, print_head, print_rows, rmat_graph};
 use plain_run::plain_run;
-use run_comparison::{TestedProgram, shows_the_same};
+use run_comparison::{PROGRAMS, SEARCHES_AND_LABELS, Scheduled, TestedProgram, shows_the_same};
 use runner::run_alone;
 use std::alloc::{AllocError, Global};
 use std::io;

@@ -27,18 +27,17 @@ pub as_many_left : (n : ℕ) (old new : List Pass) (popped : Option Pass) (write
 as_many_left n old new popped writer are cut some = ap (λ (l : List Pass). length l) (pass_popped n old new popped writer are cut some).0 ∙ length_passes n
 
 -- the batches are committed, and each program ran before and after
-pub raced : (n room : ℕ) (batches : List (List Change)) (plans : List Plan) (turns place : ℕ) (old new : Pass) (versions : Vec ℕ) (runs : Vec ProgramRuns) (told : List Entry) (ran : List Plan)
-    → old ≡ fresh place → HasCommitted (opened n room) old batches versions.items new → told ≡ new.last → ran ≡ plans → AllRan n room turns told ran runs.items
+pub raced : (n room : ℕ) (batches : List (List Change)) (plans : List Plan) (turns : ℕ) (old new : Pass) (versions : Vec ℕ) (runs : Vec ProgramRuns) (told : List Entry) (ran : List Plan)
+    → HasCommitted (opened n room) old.number batches versions.items new → told ≡ new.last → ran ≡ plans → AllRan n room turns told ran runs.items
     → IsRaced n room batches plans turns (versions, runs)
-raced n room batches plans turns place old new versions runs told ran is made learned same all =
-    let m : HasCommitted (opened n room) (fresh place) batches versions.items new = subst (λ (p : Pass). HasCommitted (opened n room) p batches versions.items new) is made in record {
-      writer = place;
-      history = new.last;
-      legal = m.legal;
-      committed = m.entries;
-      all_committed = m.all_committed;
-      ran = subst (λ (h : List Entry). AllRan n room turns h plans runs.items) learned (subst (λ (ps : List Plan). AllRan n room turns told ps runs.items) same all);
-    }
+raced n room batches plans turns old new versions runs told ran made learned same all = record {
+  writer = old.number;
+  history = new.last;
+  legal = made.legal;
+  committed = made.entries;
+  all_committed = made.all_committed;
+  ran = subst (λ (h : List Entry). AllRan n room turns h plans runs.items) learned (subst (λ (ps : List Plan). AllRan n room turns told ps runs.items) same all);
+}
 
 -- a reader more than there are programs
 pub one_more : (n : ℕ) (passes : List Pass) → passes ≡ fresh_passes (n + 1) → passes ≡ fresh_passes (suc n)

@@ -3,5 +3,6 @@ pub mod RaceScript
 pub mod Reading
 pub mod ScriptLaw
 pub mod Race
+pub mod Refused
 pub mod RaceText
 pub mod Racing

@@ -1,9 +1,10 @@
 //! Programs in a race, each with the reader by which it takes a version.
-ghost use Rattle.std.specs.Prelude.{◌≡◌, IfOk, length, map};
+ghost use Rattle.std.specs.Prelude.{◌≡◌, IfErr, IfOk, length, map};
 ghost use Rattle.shared_graph.specs.Passes.{Shows};
 ghost use Rattle.version_list.specs.Machine.{opened};
 ghost use Rattle.races.specs.Race.{IsRunOn, RanTwice};
 ghost use Rattle.races.specs.Racing.{RanEarly};
+ghost use Rattle.races.specs.Refused.{RefusesRun};
 
 use crate::outcomes::{ProgramRuns, VersionRun};
 use crew::Open;
@@ -72,7 +73,7 @@ impl<'a, J: Naming> Entrant<'a, J> {
         turns: u64,
     ) -> EarlyRun<'a, J>
         ensures plan { result.plan ≡ self.entry.plan }
-        ensures ran { RanEarly J.vertices turns result }
+        ensures ran { RanEarly J.vertices turns workers result }
     {
         let Entrant { plan, mut reader } = self;
         let run = run_once(rt, alloc, plan, &mut reader, workers, turns);
@@ -90,8 +91,9 @@ impl<'a, J: Naming> EarlyRun<'a, J> {
         workers: usize,
         turns: u64,
     ) -> Result<ProgramRuns, LatestRunError>
-        requires { RanEarly J.vertices turns self }
-        ensures { IfOk result (RanTwice J.vertices J.room self.entry.plan.now turns told.now) }
+        requires { RanEarly J.vertices turns workers self }
+        ensures ran { IfOk result (RanTwice J.vertices J.room self.entry.plan.now turns told.now) }
+        ensures refused { IfErr result (RefusesRun workers) }
     {
         let EarlyRun {
             plan,
@@ -116,6 +118,7 @@ fn run_once<J: Naming, T: Threads + Sync>(
 ) -> Result<VersionRun, LatestRunError>
     ensures history { IfOk result (λ _. Shows (opened J.vertices J.room) reader.old reader.new) }
     ensures run { IfOk result (IsRunOn J.vertices plan.now turns reader.new.shown) }
+    ensures refused { IfErr result (RefusesRun workers) }
 {
     let (version, outcome) = run_latest(rt, alloc, plan, reader, workers, turns, &Open)?;
     Ok(VersionRun { version, outcome })

@@ -1,12 +1,11 @@
 //! The run of a race, on threads.
-ghost use Rattle.std.specs.Prelude.{◌≡◌, IfOk, length, map, suc};
+ghost use Rattle.std.specs.Prelude.{◌≡◌, [], IfErr, IfOk, length, map, suc};
 ghost use Rattle.std.specs.List.{All};
 ghost use Rattle.version_list.specs.Machine.{opened};
-ghost use Rattle.version_list.specs.Timeline.{IsLegal};
-ghost use Rattle.shared_graph.specs.Histories.{steps_of};
 ghost use Rattle.shared_graph.specs.Passes.{fresh_passes};
 ghost use Rattle.races.specs.Race.{AllRan, IsRace};
-ghost use Rattle.races.specs.Racing.{AllRanEarly, HasCommitted, IsRaced, RanEarly};
+ghost use Rattle.races.specs.Refused.{RefusesCommits, RefusesOnGraph, RefusesRace};
+ghost use Rattle.races.specs.Racing.{AllRanEarly, HasCommitted, IsFresh, IsRaced, RanEarly, RefusesRuns};
 
 use crate::entrants::{EarlyRun, Entrant, entrants};
 use crate::error::RaceError;
@@ -35,7 +34,8 @@ pub fn race<T: Threads + Wait + Sync>(
     workers: usize,
     turns: u64,
 ) -> Result<Race, RaceError>
-    ensures { IfOk result (IsRace script.vertices 16777216 script.batches.items (map (λ p. p.now) plans.now) turns) }
+    ensures race { IfOk result (IsRace script.vertices 16777216 script.batches.items (map (λ p. p.now) plans.now) turns) }
+    ensures refused { IfErr result (RefusesRace script.vertices script.chunk_size 16777216 script.batches.items (length plans.now) workers) }
 {
     race_known::<Brand, T>(rt, alloc, Opening::new(), script, plans, workers, turns)
 }
@@ -53,7 +53,8 @@ fn race_known<J: Naming + Send + Sync, T: Threads + Wait + Sync>(
     requires book { opening ≡ J.book }
     requires vertices { J.vertices ≡ script.vertices }
     requires room { J.room ≡ 16777216 }
-    ensures { IfOk result (IsRace J.vertices J.room script.batches.items (map (λ p. p.now) plans.now) turns) }
+    ensures race { IfOk result (IsRace J.vertices J.room script.batches.items (map (λ p. p.now) plans.now) turns) }
+    ensures refused { IfErr result (RefusesRace J.vertices script.chunk_size J.room script.batches.items (length plans.now) workers) }
 {
     let RaceScript {
         vertices,
@@ -84,7 +85,8 @@ fn race_on<J: Naming + Send + Sync, T: Threads + Wait + Sync>(
     turns: u64,
 ) -> Result<(Vec<u64>, Vec<ProgramRuns>), RaceError>
     requires { readers.items ≡ fresh_passes (suc (length plans.now)) }
-    ensures { IfOk result (IsRaced J.vertices J.room batches.items (map (λ p. p.now) plans.now) turns) }
+    ensures raced { IfOk result (IsRaced J.vertices J.room batches.items (map (λ p. p.now) plans.now) turns) }
+    ensures refused { IfErr result (RefusesOnGraph (opened J.vertices J.room) batches.items workers) }
 {
     let mut readers = readers;
     let Some(writer) = readers.pop() else {
@@ -94,11 +96,12 @@ fn race_on<J: Naming + Send + Sync, T: Threads + Wait + Sync>(
     let (ran, (writer, committed)) = join(
         rt,
         move || -> Result<Vec<EarlyRun<J>>, AllocError>
-            ensures { IfOk result (λ ran. AllRanEarly J.vertices turns entrants.entry.items ran.items) }
+            ensures { IfOk result (λ ran. AllRanEarly J.vertices turns workers entrants.entry.items ran.items) }
         { run_all_early(rt, alloc, entrants, workers, turns) },
         move || -> (Reader<J>, Result<Vec<u64>, SharedError>)
-            requires { IsLegal (opened J.vertices J.room) (steps_of writer.last) }
-            ensures { IfOk result.1 (λ versions. HasCommitted (opened J.vertices J.room) writer batches.items versions.items result.0) }
+            requires { IsFresh writer }
+            ensures committed { IfOk result.1 (λ versions. HasCommitted (opened J.vertices J.room) writer.number batches.items versions.items result.0) }
+            ensures refused { IfErr result.1 (RefusesCommits (opened J.vertices J.room) batches.items) }
         { commit_all(rt, alloc, graph, writer, batches) },
     );
     let versions = committed?;
@@ -114,8 +117,9 @@ fn commit_all<J: Naming, T: Threads + Wait + Sync>(
     mut writer: Reader<J>,
     batches: Vec<Batch>,
 ) -> (Reader<J>, Result<Vec<u64>, SharedError>)
-    requires { IsLegal (opened J.vertices J.room) (steps_of writer.last) }
-    ensures { IfOk result.1 (λ versions. HasCommitted (opened J.vertices J.room) writer batches.items versions.items result.0) }
+    requires { IsFresh writer }
+    ensures committed { IfOk result.1 (λ versions. HasCommitted (opened J.vertices J.room) writer.number batches.items versions.items result.0) }
+    ensures refused { IfErr result.1 (RefusesCommits (opened J.vertices J.room) batches.items) }
 {
     let committed = commit_each(rt, alloc, graph, &mut writer, batches);
     (writer, committed)
@@ -128,8 +132,9 @@ fn commit_each<J: Naming, T: Threads + Wait + Sync>(
     writer: &mut Reader<J>,
     batches: Vec<Batch>,
 ) -> Result<Vec<u64>, SharedError>
-    requires { IsLegal (opened J.vertices J.room) (steps_of writer.old.last) }
-    ensures { IfOk result (λ versions. HasCommitted (opened J.vertices J.room) writer.old batches.items versions.items writer.new) }
+    requires { IsFresh writer.old }
+    ensures committed { IfOk result (λ versions. HasCommitted (opened J.vertices J.room) writer.old.number batches.items versions.items writer.new) }
+    ensures refused { IfErr result (RefusesCommits (opened J.vertices J.room) batches.items) }
 {
     let mut versions = Vec::with_capacity(alloc, batches.len())?;
     for batch in batches {
@@ -146,13 +151,13 @@ fn run_all_early<'a, J: Naming + Send + Sync, T: Threads + Sync>(
     workers: usize,
     turns: u64,
 ) -> Result<Vec<EarlyRun<'a, J>>, AllocError>
-    ensures { IfOk result (λ ran. AllRanEarly J.vertices turns entrants.entry.items ran.items) }
+    ensures { IfOk result (λ ran. AllRanEarly J.vertices turns workers entrants.entry.items ran.items) }
 {
     thread::map_vec(
         rt,
         entrants,
         &|entrant: Entrant<J>| -> EarlyRun<J>
-            ensures { (result.plan ≡ entrant.entry.plan) × RanEarly J.vertices turns result }
+            ensures { (result.plan ≡ entrant.entry.plan) × RanEarly J.vertices turns workers result }
         { entrant.run(rt, alloc, workers, turns) },
     )
 }
@@ -166,8 +171,9 @@ fn run_all_late<J: Naming, T: Threads + Sync>(
     workers: usize,
     turns: u64,
 ) -> Result<Vec<ProgramRuns>, RaceError>
-    requires { All (RanEarly J.vertices turns) ran.items }
-    ensures { IfOk result (λ runs. AllRan J.vertices J.room turns told.now (map (λ r. r.plan.now) ran.entry.items) runs.items) }
+    requires { All (RanEarly J.vertices turns workers) ran.items }
+    ensures ran { IfOk result (λ runs. AllRan J.vertices J.room turns told.now (map (λ r. r.plan.now) ran.entry.items) runs.items) }
+    ensures refused { IfErr result (RefusesRuns workers) }
 {
     let mut all = Vec::with_capacity(alloc, ran.len())?;
     for one in ran {

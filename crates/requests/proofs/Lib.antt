@@ -5,3 +5,7 @@ mod FileWords
 mod ScriptWords
 mod Operands
 mod RaceWords
+mod RaceRows
+mod RaceParts
+mod RaceWalk
+mod RaceLaw

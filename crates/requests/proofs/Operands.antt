@@ -64,12 +64,12 @@ walked_to_script : (word : Text) → bytes_eq (codes "check") word ≡ false →
 unfolding walked
 walked_to_script word no_check no_plan is = rw (no_check, no_plan, is) refl
 
-walked_to_race : (word : Text) → bytes_eq (codes "check") word ≡ false → bytes_eq (codes "plan") word ≡ false → bytes_eq (codes "script") word ≡ false
+pub walked_to_race : (word : Text) → bytes_eq (codes "check") word ≡ false → bytes_eq (codes "plan") word ≡ false → bytes_eq (codes "script") word ≡ false
     → bytes_eq (codes "race") word ≡ true → walked top.rules names (at_start false) word ≡ met (codes "race")
 unfolding walked
 walked_to_race word no_check no_plan no_script is = rw (no_check, no_plan, no_script, is) refl
 
-walk_from_command : (name word : Text) (words : List Text) → walked top.rules names (at_start false) word ≡ met name
+pub walk_from_command : (name word : Text) (words : List Text) → walked top.rules names (at_start false) word ≡ met name
     → walk top.rules names (held None) (word ∷ words) ≡ record (at_start false) { stopped = Some (name, words) }
 walk_from_command name word words first = rw first (gathers top.rules names (at_start false) name [] words)
 

@@ -46,7 +46,7 @@ bad_turns number words bad =
 -- ---- options in front of the files
 
 -- the command `race`, once it is built
-abbrev race : Shape
+abbrev pub race : Shape
 race = slice_index_or (built command_line).subs 3 race_command.top
 
 -- what is found of an option with this number

@@ -168,7 +168,7 @@ not_less a b le = go (nat_lt a b) refl
     go true less = absurd (omega (arith, le, ltb-true a b less))
     go false less = less
 
-range_quiet : (n : ℕ) → 0 < n → n ≤ usize_max → range_kinds 1 usize_max n ≡ []
+pub range_quiet : (n : ℕ) → 0 < n → n ≤ usize_max → range_kinds 1 usize_max n ≡ []
 range_quiet n some few =
     let none : (n == 0) ≡ false = ne_eqb n 0 (λ e. omega (arith, e, some)) in
     rw (none, not_less n 1 (omega (arith, some)), not_less usize_max n few) refl

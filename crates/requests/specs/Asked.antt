@@ -29,11 +29,6 @@ asked_by (Plan file) = a_plan file.now
 asked_by (Script script programs) = a_script script.now (map (λ p. p.now) programs.items)
 asked_by (Race script programs workers turns) = a_race script.now (map (λ p. p.now) programs.items) workers turns
 
--- whether a race is asked for
-abbrev pub is_race : Request → Bool
-is_race (Race script programs workers turns) = true
-is_race request = false
-
 -- the file that was found by this name
 abbrev pub file_of : Text → List Row → Text
 file_of id rows = unwrap_or (first_of id rows) []

@@ -2,7 +2,6 @@
 
 ghost use Rattle.std.specs.Prelude.{◌≡◌};
 ghost use Rattle.clap.specs.Words.{kind_of};
-ghost use Rattle.requests.specs.Asked.{is_race};
 ghost use Rattle.requests.specs.Refusal.{of_fault};
 ghost use Rattle.requests.specs.declared.asked.RequestError.TheVariants.{NoMemory};
 
@@ -36,15 +35,6 @@ pub enum Request<'a> {
         workers: usize,
         turns: u64,
     },
-}
-
-impl Request<'_> {
-    /// Whether a race is asked for.
-    pub fn is_race(&self) -> bool
-        ensures { result ≡ is_race self.now }
-    {
-        matches!(self, Request::Race { .. })
-    }
 }
 
 /// Why a command line is not done. The text is what standard error is told.

@@ -1,6 +1,7 @@
 //! Laws of command lines, each the contract of a call that does nothing.
 
 ghost use Rattle.std.specs.Prelude.{◌≡◌, ◌≤◌, [], ◌∷◌, ◌++◌, List, codes, true, false, length};
+ghost use Rattle.std.specs.List.{AllByRecursion};
 ghost use Rattle.std.specs.Str.Parse.{digits_value, without_leading_plus};
 ghost use Rattle.clap.specs.Lexer.{usize_max};
 ghost use Rattle.clap.specs.ValueTests.{accepts};
@@ -9,7 +10,7 @@ ghost use Rattle.clap.specs.declared.builder.value_parser.ValueParser.TheVariant
 ghost use Rattle.clap.specs.declared.error.kind.ErrorKind.TheVariants.{ValueValidation};
 ghost use Rattle.requests.specs.Asked.{Asks, a_race, request_of};
 ghost use Rattle.requests.specs.CommandLine.{command_line};
-ghost use Rattle.requests.specs.Forms.{HasNoHyphen, HasOperands, IsCommand};
+ghost use Rattle.requests.specs.Forms.{HasNoHyphen, HasOperands, IsCommand, IsTaken, RacePart, files_in, number_given, numbers_in, the_turns, the_workers, words_of};
 
 /// The law that words without a fault which ask for no race ask for what their operands are: no words for the input, and else a
 /// command and its files. The call does nothing.
@@ -47,4 +48,15 @@ pub fn options_are_numbers()
         → accepts false (Unsigned 0 18446744073709551615) turns ≡ true → HasNoHyphen script → HasNoHyphen program
         → Asks (codes "race" ∷ (codes "--workers=" ++ workers) ∷ (codes "--turns=" ++ turns) ∷ script ∷ program ∷ [])
         (a_race script (program ∷ []) (digits_value 10 (without_leading_plus workers)) (digits_value 10 (without_leading_plus turns))) }
+{}
+
+/// The law that `race` with a script and programs, and each option once or not at all, is a race of them, in whatever order files
+/// and options come, and whether an option and its number are joined by `=` or are two words: 2 workers and 1,000,000 turns where
+/// none are given. The call does nothing.
+pub fn races_come_in_any_order()
+    ensures { (parts : List RacePart) (script program : Text) (programs : List Text) → files_in parts ≡ script ∷ program ∷ programs
+        → AllByRecursion HasNoHyphen (files_in parts) → IsTaken the_workers (numbers_in the_workers parts)
+        → IsTaken the_turns (numbers_in the_turns parts) → length parts ≤ usize_max
+        → Asks (codes "race" ∷ words_of parts)
+        (a_race script (program ∷ programs) (number_given 2 (numbers_in the_workers parts)) (number_given 1000000 (numbers_in the_turns parts))) }
 {}

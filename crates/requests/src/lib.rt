@@ -17,6 +17,6 @@ mod reading;
 pub use asked::{Request, RequestError};
 pub use laws::{
     numbers_out_of_range_are_faults, options_are_numbers, plain_commands_are_taken,
-    plain_commands_are_their_operands, races_are_asked_for,
+    plain_commands_are_their_operands, races_are_asked_for, races_come_in_any_order,
 };
 pub use reading::{DEFAULT_TURNS, DEFAULT_WORKERS, MAX_WORKERS, request};

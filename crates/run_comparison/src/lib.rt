@@ -1,9 +1,14 @@
 //! Runs of programs by their plans, compared with the slow run.
 //!
-//! A [`TestedProgram`] has the checked program of a text beside its plan, pass by pass as the compiler makes them.
+//! A [`TestedProgram`] has the checked program of a text beside its plan, pass by pass as the compiler makes them. [`PROGRAMS`]
+//! are some that are run.
 //!
 //! It promises to be safe and to end, and no more; only programs that check or measure stand on it.
 #![tactic(auto)]
+
+mod programs;
+
+pub use programs::{PROGRAMS, SEARCHES_AND_LABELS, Scheduled};
 
 use algorithm_meaning::{NamedSet, NamedVector, Outcome};
 use flat_snapshot::Flat;
@@ -61,7 +66,8 @@ pub fn shows_the_same(
     }
 }
 
-fn are_the_same(one: &Outcome, other: &Outcome) -> bool {
+/// Whether two outcomes are the same: ends, turns, texts, and vectors and sets in order.
+pub fn are_the_same(one: &Outcome, other: &Outcome) -> bool {
     one.end == other.end
         && one.turns == other.turns
         && one.text.as_slice() == other.text.as_slice()

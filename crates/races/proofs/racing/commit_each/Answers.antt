@@ -11,7 +11,7 @@ loop-batch-init g c =
     let given = c.into_iter-batch-iterator.ensures.into_iter_gives.0 in (
       tt,
       tt,
-      subst (λ (left : List (List Change)). IsCommitting base c.args.writer.now c.args.batches.items left c.in_ok-versions.versions.items c.args.writer.now) (sym given)
+      subst (λ (left : List (List Change)). IsCommitting base c.args.writer.now.number c.args.batches.items left c.in_ok-versions.versions.items c.args.writer.now) (sym given)
           (committing_starts base c.args.writer.now c.args.batches.items c.in_ok-versions.versions.items c.in_ok-versions.ensures.items c.requires),
     )
 
@@ -20,12 +20,12 @@ loop-batch-preserved g c =
     let base = opened g.J.Naming.vertices g.J.Naming.room in (
       tt,
       tt,
-      committing_goes base c.args.writer.now c.args.batches.items _ _ _ c.loop-batch.writer _ _ _
-          (subst (λ (left : List (List Change)). IsCommitting base c.args.writer.now c.args.batches.items left c.loop-batch.versions.items c.loop-batch.writer) c.in-Some.ensures.steps.0 c.loop-batch.invariant.2)
+      committing_goes base c.args.writer.now.number c.args.batches.items _ _ _ c.loop-batch.writer _ _ _
+          (subst (λ (left : List (List Change)). IsCommitting base c.args.writer.now.number c.args.batches.items left c.loop-batch.versions.items c.loop-batch.writer) c.in-Some.ensures.steps.0 c.loop-batch.invariant.2)
           c.in_ok-commit.ensures c.in_ok-push.ensures.items,
     )
 
 pub returns : goal.returns
 returns g c =
-    committing_ends (opened g.J.Naming.vertices g.J.Naming.room) c.args.writer.now c.args.batches.items c.loop-batch.batch-iterator.rest.items c.loop-batch.versions.items c.loop-batch.writer c.loop-batch.invariant.2
+    committing_ends (opened g.J.Naming.vertices g.J.Naming.room) c.args.writer.now.number c.args.batches.items c.loop-batch.batch-iterator.rest.items c.loop-batch.versions.items c.loop-batch.writer c.loop-batch.invariant.2
     (nil_from_length c.loop-batch.batch-iterator.rest.items (omega (arith, c.in-None.ensures.steps.0, c.loop-batch.batch-iterator.rest.ok.0)))

@@ -6,4 +6,4 @@ use Rattle.races.proofs.racing.commit_each.Given as goal
 abbrev pub invariant-loop-batch : goal.invariant-loop-batch
 invariant-loop-batch g l =
     (goal.iterator-loop-batch g).can_next l.batch-iterator × (goal.iterator-loop-batch g).is_finite l.batch-iterator
-    × IsCommitting (opened g.J.Naming.vertices g.J.Naming.room) l.initial.writer l.fn.batches.items l.batch-iterator.rest.items l.versions.items l.writer
+    × IsCommitting (opened g.J.Naming.vertices g.J.Naming.room) l.initial.writer.number l.fn.batches.items l.batch-iterator.rest.items l.versions.items l.writer

@@ -28,8 +28,7 @@ join-ran-requires-send-A g c κs within = search (sendable, crosses, early_run_s
 
 pub returns : goal.returns
 returns g c =
-    let passes = pass_popped (length c.args.plans.now) _ _ _ _ c.requires c.pop.ensures.items c.in-Some.is in
     let ran = IfOk-at_ok _ c.in_ok-ran.was c.join-ran.ensures.first in
-    let made = IfOk-at_ok _ c.in_ok-versions.was c.join-ran.ensures.second in
-    raced g.J.Naming.vertices g.J.Naming.room c.args.batches.items _ c.args.turns (length c.args.plans.now) c.in-Some.writer _ c.in_ok-versions.versions c.in_ok-runs.runs _ _ passes.1 made c.token.ensures
+    let made = IfOk-at_ok _ c.in_ok-versions.was c.join-ran.ensures.second.0 in
+    raced g.J.Naming.vertices g.J.Naming.room c.args.batches.items _ c.args.turns c.in-Some.writer _ c.in_ok-versions.versions c.in_ok-runs.runs _ _ made c.token.ensures
     (ran.0 ∙ c.in_ok-entrants.ensures) c.in_ok-runs.ensures

@@ -1,0 +1,85 @@
+//! Batches of random changes, and the edges after some of them.
+
+use measuring::Random;
+use std::alloc::{AllocError, Global};
+use std::io;
+use tree_batch::{Batch, Entry};
+
+/// How many vertices the graph has.
+pub const VERTICES: u32 = 48;
+
+/// How many batches are committed.
+pub const COMMITS: usize = 2_000;
+
+// How many entries a batch has.
+const CHANGES: usize = 3;
+
+/// The entries of all batches, in order.
+pub struct Changes {
+    entries: Vec<Entry>,
+}
+
+impl Drop for Changes {
+    fn drop(self) {
+        let Changes { entries: _ } = self;
+    }
+}
+
+impl Changes {
+    /// Random entries, the same for each seed: of five, two remove an edge.
+    pub fn new(alloc: Global, seed: u64) -> Result<Changes, AllocError> {
+        let mut random = Random::new(seed);
+        let mut entries = Vec::with_capacity(alloc, COMMITS * CHANGES)?;
+        for _ in 0..COMMITS * CHANGES {
+            let from = random.below(u64::from(VERTICES)) as u32;
+            let to = random.below(u64::from(VERTICES)) as u32;
+            let entry = match random.below(5) {
+                0 | 1 => Entry::Remove(from, to),
+                _ => Entry::Add(from, to),
+            };
+            entries.push(entry)?;
+        }
+        Ok(Changes { entries })
+    }
+
+    /// The batches, in order.
+    pub fn batches(&self, alloc: Global) -> io::Result<Vec<Batch>> {
+        let mut batches = Vec::with_capacity(alloc, COMMITS)?;
+        for entries in self.entries.chunks(CHANGES) {
+            batches.push(batch_of(alloc, entries)?)?;
+        }
+        Ok(batches)
+    }
+
+    /// The edges after the first batches, ascending: each pair of vertices whose last entry adds it.
+    pub fn edges_after(&self, alloc: Global, batches: usize) -> Result<Vec<(u32, u32)>, AllocError> {
+        let count = batches.min(COMMITS) * CHANGES;
+        let mut there = vec![in alloc; false; (VERTICES * VERTICES) as usize]?;
+        for entry in self.entries.iter().take(count) {
+            let (from, to) = entry.edge();
+            if let Some(place) = there.get_mut((from * VERTICES + to) as usize) {
+                *place = matches!(entry, Entry::Add(_, _));
+            }
+        }
+        edges_of(alloc, &there)
+    }
+}
+
+fn batch_of(alloc: Global, entries: &[Entry]) -> io::Result<Batch> {
+    let mut batch = Batch::new(alloc);
+    for entry in entries {
+        batch.push(*entry).map_err(measuring::told)?;
+    }
+    Ok(batch)
+}
+
+// The pairs that are there.
+fn edges_of(alloc: Global, there: &[bool]) -> Result<Vec<(u32, u32)>, AllocError> {
+    let mut edges = Vec::new(alloc);
+    for (place, is_there) in there.iter().enumerate() {
+        if *is_there {
+            edges.push((place as u32 / VERTICES, place as u32 % VERTICES))?;
+        }
+    }
+    Ok(edges)
+}
