@@ -6,7 +6,7 @@ use std::io;
 use tree_batch::{Batch, Entry};
 
 /// How many vertices the graph has.
-pub const VERTICES: u32 = 48;
+pub const VERTICES: u32 = 24;
 
 /// How many batches are committed.
 pub const COMMITS: usize = 2_000;

@@ -8,12 +8,12 @@ use std::marker::Model;
 
 /// The lines of a text that are not read yet. A contract sees them as their list.
 #[derive(Drop)]
-pub(crate) struct Lines<'a> {
+pub(crate) struct ScriptLines<'a> {
     // What stands after the line feed of the last line that was read, or `None` after the last line.
     rest: Option<&'a [u8]>,
 }
 
-impl<'a> Model for Lines<'a> {
+impl<'a> Model for ScriptLines<'a> {
     ghost use Rattle.std.specs.Prelude.{ℕ, List};
     ghost use Rattle.races.specs.Reading.{lines_left};
 
@@ -22,12 +22,12 @@ impl<'a> Model for Lines<'a> {
     ghost view = { λ lines. lines_left lines.rest };
 }
 
-impl<'a> Lines<'a> {
+impl<'a> ScriptLines<'a> {
     /// All lines of a text.
-    pub(crate) fn new(text: &'a [u8]) -> Lines<'a>
+    pub(crate) fn new(text: &'a [u8]) -> ScriptLines<'a>
         ensures { result ≡ lines_of text.now }
     {
-        Lines { rest: Some(text) }
+        ScriptLines { rest: Some(text) }
     }
 
     /// Reads the next line, if there is one.

@@ -7,7 +7,7 @@ ghost use Rattle.races.specs.Reading.{Opens, ReadsBatches, Takes};
 ghost use Rattle.races.specs.declared.error.RaceScriptError.TheVariants.{NoMemory};
 
 use crate::error::RaceScriptError;
-use crate::lines::Lines;
+use crate::lines::ScriptLines;
 use scripts::{Command, command};
 use std::alloc::Global;
 use std::marker::Model;
@@ -30,7 +30,7 @@ pub struct RaceScript {
 pub fn race_script(alloc: Global, text: &[u8]) -> Result<RaceScript, RaceScriptError>
     ensures { ReadsScript text.now result }
 {
-    let mut lines = Lines::new(text);
+    let mut lines = ScriptLines::new(text);
     let Some((vertices, chunk_size)) = opening(&mut lines) else {
         return Err(RaceScriptError::NoRace);
     };
@@ -43,7 +43,7 @@ pub fn race_script(alloc: Global, text: &[u8]) -> Result<RaceScript, RaceScriptE
 }
 
 // The numbers of the first line that is not empty, which is to be `vertices`.
-fn opening(lines: &mut Lines<'_>) -> Option<(u32, u32)>
+fn opening(lines: &mut ScriptLines<'_>) -> Option<(u32, u32)>
     ensures { MatchOption result (order_in lines.old ≡ None)
         (λ numbers. order_in lines.old ≡ option_map (order numbers.0 numbers.1) (batches_in [] lines.new)) }
 {
@@ -71,7 +71,7 @@ fn opened(line: &[u8]) -> Option<(u32, u32)>
 }
 
 // The batches of all lines.
-fn batches(alloc: Global, lines: &mut Lines<'_>) -> Result<Vec<Batch>, RaceScriptError>
+fn batches(alloc: Global, lines: &mut ScriptLines<'_>) -> Result<Vec<Batch>, RaceScriptError>
     ensures { ReadsBatches (batches_in [] lines.old) result }
 {
     let mut committed = Committed::new(alloc);
