@@ -1,5 +1,6 @@
 -- Races of files.
-use Rattle.std.proofs.Common.{◌≡◌, ◌∙◌, ap, ℕ, List, Bor, Err, map, subst, refl, inl, inr}
+use Rattle.std.proofs.Common.{◌≡◌, ◌∙◌, ap, sym, ℕ, List, Bor, Err, length, map, subst, refl, inl, inr}
+use Rattle.std.proofs.lemmas.List.{length-map}
 use Rattle.scripts.specs.Script.{Taken}
 use Rattle.replies.specs.declared.send_error.SendError.{SendError}
 use Rattle.replies.specs.declared.send_error.SendError.TheVariants.{NoMemory, WriteFailed}
@@ -7,12 +8,15 @@ use Rattle.plans.specs.declared.plan.Plan.{Plan}
 use Rattle.races.specs.Race.{IsRace}
 use Rattle.races.specs.RaceScript.{order_by}
 use Rattle.races.specs.RaceText.{TakesBeginning, Writes}
+use Rattle.races.specs.Refused.{RefusesRace}
+use Rattle.races.specs.declared.error.RaceError.{RaceError}
 use Rattle.races.specs.declared.outcomes.Race.{Race}
 use Rattle.races.specs.declared.reading.RaceScript.{RaceScript}
 use Rattle.driver.specs.declared.compiled_plan.CompiledPlan.{CompiledPlan}
-use Rattle.driver.specs.Endings.{of_send}
+use Rattle.driver.specs.declared.error.ServeError.{ServeError}
+use Rattle.driver.specs.Endings.{of_race, of_send}
 use Rattle.driver.specs.Programs.{tree_of}
-use Rattle.driver.specs.Racing.{EndsWriting, HoldsScript, IsRaceOf}
+use Rattle.driver.specs.Racing.{EndsWriting, HoldsScript, IsRaceOf, RefusesRaceOf}
 use Rattle.driver.specs.Reading.{HoldPrograms}
 
 -- a race of the plans that the files' programs have, which are lent to it, and of the script that a file holds
@@ -25,6 +29,23 @@ race_of_files holds file names turns programs seen plans lent script race compil
   order = order_by script;
   held = held;
   is_race = subst (λ (ps : List Plan). IsRace script.vertices 16777216 script.batches.items ps turns race) (ap (map (λ (p : Bor Plan). p.now)) same ∙ are ∙ ap (map (λ (c : CompiledPlan). c.plan)) all) raced;
+}
+
+-- there is no race of the plans that the files' programs have, which are lent to it, and of the script that a file holds
+pub refused_race_of_files : (holds : List ℕ → List ℕ → Type 0) (file : List ℕ) (names : List (List ℕ)) (workers : ℕ) (programs seen : List CompiledPlan) (plans lent : List (Bor Plan)) (script : RaceScript) (error : RaceError) (name : Bor (List ℕ)) (e : ServeError)
+    → HoldPrograms holds names (map tree_of programs) → HoldsScript (holds file) (order_by script) → seen ≡ programs → map (λ p. p.now) plans ≡ map (λ c. c.plan) seen → lent ≡ plans
+    → RefusesRace script.vertices script.chunk_size 16777216 script.batches.items (length lent) workers error → name.now ≡ file → e ≡ of_race name error → RefusesRaceOf holds file names workers e
+refused_race_of_files holds file names workers programs seen plans lent script error name e compiled held all are same refused named is = record {
+  programs = programs;
+  compiled = compiled;
+  order = order_by script;
+  held = held;
+  error = error;
+  refused = subst (λ (n : ℕ). RefusesRace script.vertices script.chunk_size 16777216 script.batches.items n workers error)
+      (ap (λ (ps : List (Bor Plan)). length ps) same ∙ sym (length-map plans (λ p. p.now)) ∙ ap (λ (ps : List Plan). length ps) are ∙ length-map seen (λ c. c.plan) ∙ ap (λ (ps : List CompiledPlan). length ps) all) refused;
+  name = name;
+  named = named;
+  outcome = is;
 }
 
 -- where writing a text failed, a beginning of it was taken

@@ -19,8 +19,8 @@ use Rattle.races.specs.Refused.{AreCommitted, RefusesBatch, RefusesCommits}
 commits_append : (by : ℕ) (batches : List (List Change)) (versions : List ℕ) (batch : List Change) (version : ℕ) → length versions ≡ length batches
     → commits by (batches ++ batch ∷ []) (versions ++ version ∷ []) ≡ commits by batches versions ++ entry by (Commit batch) (Version version) ∷ []
 commits_append by [] [] batch version same = refl
-commits_append by [] (v ∷ versions) batch version same = omega (arith, same)
-commits_append by (b ∷ batches) [] batch version same = omega (arith, same)
+commits_append by [] (v ∷ versions) batch version same = absurd (omega (arith, same))
+commits_append by (b ∷ batches) [] batch version same = absurd (omega (arith, same))
 commits_append by (b ∷ batches) (v ∷ versions) batch version same =
     let fewer : length versions ≡ length batches = omega (arith, same) in
     ap (λ (es : List Entry). entry by (Commit b) (Version v) ∷ es) (commits_append by batches versions batch version fewer)
@@ -65,7 +65,7 @@ committing_goes base number all left versions made now new batch version c one i
     })
 
 -- what is committed so far
-made_so_far : (base : State) (number : ℕ) (all left : List (List Change)) (versions : List ℕ) (now : Pass) → (c : IsCommitting base number all left versions now) → AreCommitted base c.done
+abbrev made_so_far : (base : State) (number : ℕ) (all left : List (List Change)) (versions : List ℕ) (now : Pass) → (c : IsCommitting base number all left versions now) → AreCommitted base c.done
 made_so_far base number all left versions now c = record {
   writer = number;
   versions = versions;
@@ -88,35 +88,25 @@ committing_ends base number all left versions now c none =
 -- the next is refused with this number
 refused_next : (base : State) (number : ℕ) (all left : List (List Change)) (versions : List ℕ) (now new : Pass) (batch : List Change) (code : ℕ)
     → IsCommitting base number all (batch ∷ left) versions now → IsRefused base now (Commit batch) code new → RefusesBatch base all code
-refused_next base number all left versions now new batch code c no = record {
+refused_next base number all left versions now new batch code c met = record {
   before = c.done;
   batch = batch;
   after = left;
   parts = c.parts;
   made = made_so_far base number all (batch ∷ left) versions now c;
   history = new.shown;
-  goes_on = (no.shows.shown.0, ap (λ (h : List Entry). h ++ no.shows.shown.0) (sym c.shown) ∙ no.shows.shown.1);
-  legal = no.shows.legal;
-  is_answer = no.is_answer;
+  goes_on = (met.shows.shown.0, ap (λ (h : List Entry). h ++ met.shows.shown.0) (sym c.shown) ∙ met.shows.shown.1);
+  legal = met.shows.legal;
+  is_answer = met.is_answer;
 }
 
 -- the next is not committed
 pub not_committed : (base : State) (number : ℕ) (all left : List (List Change)) (versions : List ℕ) (now new : Pass) (batch : List Change) (error : SharedError)
     → IsCommitting base number all (batch ∷ left) versions now → Refuses base now (Commit batch) error new → RefusesCommits base all error
-not_committed base number all left versions now new batch shared.NoMemory c no = tt
-not_committed base number all left versions now new batch shared.VertexRange c no = refused_next base number all left versions now new batch 111 c no
-not_committed base number all left versions now new batch shared.BadChunkSize c no = refused_next base number all left versions now new batch 103 c no
-not_committed base number all left versions now new batch shared.NotKept c no = refused_next base number all left versions now new batch 121 c no
-not_committed base number all left versions now new batch shared.NotHeld c no = refused_next base number all left versions now new batch 122 c no
-not_committed base number all left versions now new batch shared.HistoryFull c no = refused_next base number all left versions now new batch 123 c no
-
--- all are committed, and that is all of the race that is known
-pub all_made : (base : State) (number : ℕ) (all : List (List Change)) (versions : List ℕ) (new : Pass) → HasCommitted base number all versions new → AreCommitted base all
-all_made base number all versions new made = record {
-  writer = number;
-  versions = versions;
-  history = new.last;
-  legal = made.legal;
-  committed = made.entries;
-  all_committed = made.all_committed;
-}
+not_committed base number all left versions now new batch shared.NoMemory c met = tt
+not_committed base number all left versions now new batch shared.VertexRange c met = refused_next base number all left versions now new batch 111 c met
+not_committed base number all left versions now new batch shared.BadChunkSize c met = refused_next base number all left versions now new batch 103 c met
+not_committed base number all left versions now new batch shared.NotKept c met = refused_next base number all left versions now new batch 121 c met
+not_committed base number all left versions now new batch shared.NotHeld c met = refused_next base number all left versions now new batch 122 c met
+not_committed base number all left versions now new batch shared.HistoryFull c met = refused_next base number all left versions now new batch 123 c met
+not_committed base number all left versions now new batch shared.BadSeats c met = elim met [ ]

@@ -16,17 +16,17 @@ same_at_places f g (x ∷ xs) (y ∷ ys) len each =
     ap₂ (λ z zs. z ∷ zs) (each 0 y x (omega arith)) (same_at_places f g xs ys (omega (arith, len)) (λ i d e below. each (suc i) d e (omega (arith, below))))
 
 -- the run at this place is that of the entrant there
-pub record RanAt {J : Type 0} (n turns : ℕ) (jobs : List (Entrant J)) (i : ℕ) (ran : EarlyRun J) : Type 0 where
+pub record RanAt {J : Type 0} (n turns workers : ℕ) (jobs : List (Entrant J)) (i : ℕ) (ran : EarlyRun J) : Type 0 where
   pub job : Entrant J
   pub is_job : (e : Entrant J) → slice_index_or jobs i e ≡ job
   pub same : ran.plan ≡ job.plan
-  pub early : RanEarly n turns ran
+  pub early : RanEarly n turns workers ran
 
 -- where the run at each place is that of the entrant there, the programs are the same, and each ran
-pub all_early : {J E : Type 0} (n turns : ℕ) (jobs : Vec (Entrant J)) (r : Result (Vec (EarlyRun J)) E) → IfOk r (λ v. vec_len v ≡ vec_len jobs)
-    → IfOk r (λ v. (i : ℕ) (d : EarlyRun J) → i < length jobs.items → RanAt n turns jobs.items i (slice_index_or v.items i d))
-    → IfOk r (λ v. AllRanEarly n turns jobs.items v.items)
-all_early {J} n turns jobs (Ok v) len each =
+pub all_early : {J E : Type 0} (n turns workers : ℕ) (jobs : Vec (Entrant J)) (r : Result (Vec (EarlyRun J)) E) → IfOk r (λ v. vec_len v ≡ vec_len jobs)
+    → IfOk r (λ v. (i : ℕ) (d : EarlyRun J) → i < length jobs.items → RanAt n turns workers jobs.items i (slice_index_or v.items i d))
+    → IfOk r (λ v. AllRanEarly n turns workers jobs.items v.items)
+all_early {J} n turns workers jobs (Ok v) len each =
     let many = v.ok.0 in
     let known = jobs.ok.0 in
     let as_many : length v.items ≡ length jobs.items = omega arith in (
@@ -34,4 +34,4 @@ all_early {J} n turns jobs (Ok v) len each =
           (λ i d e below. let at = each i d below in ap (λ p. p.now) at.same ∙ sym (ap (λ (x : Entrant J). x.plan.now) (at.is_job e))),
       λ i d below. (each i d (omega (arith, below, as_many))).early,
     )
-all_early n turns jobs (Err e) len each = tt
+all_early n turns workers jobs (Err e) len each = tt

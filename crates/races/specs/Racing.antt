@@ -1,5 +1,5 @@
 -- For proofs only: how far a race has come.
-use Rattle.std.specs.Prelude.{◌≡◌, ℕ, List, [], length, map, IfErr, IfOk}
+use Rattle.std.specs.Prelude.{◌≡◌, ℕ, List, [], length, map, Result, Ok, Err, IfErr, IfOk}
 use Rattle.std.specs.Global.{Vec}
 use Rattle.std.specs.List.{All}
 use Rattle.tree_batch.specs.declared.batch.Entry.{Entry as Change}
@@ -8,6 +8,7 @@ use Rattle.version_list.specs.Timeline.{IsLegal}
 use Rattle.shared_graph.specs.Histories.{own, steps_of}
 use Rattle.plans.specs.declared.plan.Plan.{Plan}
 use Rattle.shared_graph.specs.declared.entry.Entry.{Entry}
+use Rattle.shared_graph.specs.declared.error.SharedError.{SharedError}
 use Rattle.shared_graph.specs.Passes.{Pass}
 use Rattle.races.specs.declared.entrants.EarlyRun.{EarlyRun}
 use Rattle.races.specs.declared.entrants.Entrant.{Entrant}
@@ -15,7 +16,7 @@ use Rattle.races.specs.declared.outcomes.ProgramRuns.{ProgramRuns}
 use Rattle.races.specs.declared.error.RaceError.{RaceError}
 use Rattle.races.specs.declared.error.RaceError.TheVariants.{NotCommitted, NotRun}
 use Rattle.races.specs.Race.{AllRan, IsRunOn, commits}
-use Rattle.races.specs.Refused.{RefusesRun}
+use Rattle.races.specs.Refused.{RefusesCommits, RefusesRun}
 
 -- a reader that has shown nothing
 abbrev pub IsFresh : Pass → Type 0
@@ -34,6 +35,11 @@ pub record HasCommitted (base : State) (number : ℕ) (batches : List (List Chan
   pub entries : own number new.last ≡ commits number batches versions
   pub all_committed : length versions ≡ length batches
   pub legal : IsLegal base (steps_of new.last)
+
+-- all batches are committed, or one is refused
+abbrev pub CommitsAll : State → ℕ → List (List Change) → Result (Vec ℕ) SharedError → Pass → Type 0
+CommitsAll base number batches (Ok versions) new = HasCommitted base number batches versions.items new
+CommitsAll base number batches (Err error) new = RefusesCommits base batches error
 
 -- programs are not run again, for a refusal of a run; or memory ran out
 abbrev pub RefusesRuns : ℕ → RaceError → Type 0

@@ -1,5 +1,5 @@
 -- Why there was no race.
-use Rattle.std.specs.Prelude.{◌≡◌, ¬◌, ℕ, ◌+◌, true, List, [], ◌∷◌, ◌++◌, ◌⊎◌, Err, length}
+use Rattle.std.specs.Prelude.{◌≡◌, ℕ, ◌+◌, true, List, [], ◌∷◌, ◌++◌, ◌⊎◌, Err, length}
 use mathlib.Core.List.{IsPrefix}
 use Rattle.tree_batch.specs.declared.batch.Entry.{Entry as Change}
 use Rattle.tree_batch.specs.Digraph.{is_vertex_count, is_chunk_size}

@@ -4,8 +4,8 @@ ghost use Rattle.std.specs.List.{All};
 ghost use Rattle.version_list.specs.Machine.{opened};
 ghost use Rattle.shared_graph.specs.Passes.{fresh_passes};
 ghost use Rattle.races.specs.Race.{AllRan, IsRace};
-ghost use Rattle.races.specs.Refused.{RefusesCommits, RefusesOnGraph, RefusesRace};
-ghost use Rattle.races.specs.Racing.{AllRanEarly, HasCommitted, IsFresh, IsRaced, RanEarly, RefusesRuns};
+ghost use Rattle.races.specs.Refused.{RefusesOnGraph, RefusesRace};
+ghost use Rattle.races.specs.Racing.{AllRanEarly, CommitsAll, IsFresh, IsRaced, RanEarly, RefusesRuns};
 
 use crate::entrants::{EarlyRun, Entrant, entrants};
 use crate::error::RaceError;
@@ -100,8 +100,7 @@ fn race_on<J: Naming + Send + Sync, T: Threads + Wait + Sync>(
         { run_all_early(rt, alloc, entrants, workers, turns) },
         move || -> (Reader<J>, Result<Vec<u64>, SharedError>)
             requires { IsFresh writer }
-            ensures committed { IfOk result.1 (λ versions. HasCommitted (opened J.vertices J.room) writer.number batches.items versions.items result.0) }
-            ensures refused { IfErr result.1 (RefusesCommits (opened J.vertices J.room) batches.items) }
+            ensures { CommitsAll (opened J.vertices J.room) writer.number batches.items result.1 result.0 }
         { commit_all(rt, alloc, graph, writer, batches) },
     );
     let versions = committed?;
@@ -118,8 +117,7 @@ fn commit_all<J: Naming, T: Threads + Wait + Sync>(
     batches: Vec<Batch>,
 ) -> (Reader<J>, Result<Vec<u64>, SharedError>)
     requires { IsFresh writer }
-    ensures committed { IfOk result.1 (λ versions. HasCommitted (opened J.vertices J.room) writer.number batches.items versions.items result.0) }
-    ensures refused { IfErr result.1 (RefusesCommits (opened J.vertices J.room) batches.items) }
+    ensures { CommitsAll (opened J.vertices J.room) writer.number batches.items result.1 result.0 }
 {
     let committed = commit_each(rt, alloc, graph, &mut writer, batches);
     (writer, committed)
@@ -133,8 +131,7 @@ fn commit_each<J: Naming, T: Threads + Wait + Sync>(
     batches: Vec<Batch>,
 ) -> Result<Vec<u64>, SharedError>
     requires { IsFresh writer.old }
-    ensures committed { IfOk result (λ versions. HasCommitted (opened J.vertices J.room) writer.old.number batches.items versions.items writer.new) }
-    ensures refused { IfErr result (RefusesCommits (opened J.vertices J.room) batches.items) }
+    ensures { CommitsAll (opened J.vertices J.room) writer.old.number batches.items result writer.new }
 {
     let mut versions = Vec::with_capacity(alloc, batches.len())?;
     for batch in batches {

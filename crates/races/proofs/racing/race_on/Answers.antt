@@ -6,7 +6,7 @@ use Rattle.std.proofs.Common.{◌∙◌, length}
 use Rattle.std.proofs.Crossing.{Vec-send, crosses, send as heap_send}
 use Rattle.std.proofs.lemmas.Result.{IfOk-at_ok}
 use Rattle.races.proofs.Crossing.{early_run_send, entrant_send, five_send}
-use Rattle.races.proofs.Seats.{as_many_left, pass_popped, raced}
+use Rattle.races.proofs.Seats.{as_many_left, committed_all, raced}
 use Rattle.races.proofs.racing.race_on.Goals as goal
 
 pub entrants-requires : goal.entrants-requires
@@ -26,9 +26,9 @@ join-ran-requires-send-F g c κs within =
 pub join-ran-requires-send-A : goal.join-ran-requires-send-A
 join-ran-requires-send-A g c κs within = search (sendable, crosses, early_run_send) depth 30
 
-pub returns : goal.returns
-returns g c =
+pub returns-clause-raced : goal.returns-clause-raced
+returns-clause-raced g c =
     let ran = IfOk-at_ok _ c.in_ok-ran.was c.join-ran.ensures.first in
-    let made = IfOk-at_ok _ c.in_ok-versions.was c.join-ran.ensures.second.0 in
+    let made = committed_all _ _ _ _ _ _ c.in_ok-versions.was c.join-ran.ensures.second in
     raced g.J.Naming.vertices g.J.Naming.room c.args.batches.items _ c.args.turns c.in-Some.writer _ c.in_ok-versions.versions c.in_ok-runs.runs _ _ made c.token.ensures
-    (ran.0 ∙ c.in_ok-entrants.ensures) c.in_ok-runs.ensures
+    (ran.0 ∙ c.in_ok-entrants.ensures) c.in_ok-runs.ensures.ran

@@ -13,7 +13,7 @@ map_vec-requires-send-X g c κs within = search (sendable, early_run_send) depth
 
 pub returns : goal.returns
 returns g c =
-    all_early g.J.Naming.vertices c.args.turns c.args.entrants c.map_vec.result c.map_vec.ensures.len
+    all_early g.J.Naming.vertices c.args.turns c.args.workers c.args.entrants c.map_vec.result c.map_vec.ensures.len
     (IfOk-weaker c.map_vec.result _ _
     (λ v each i d below. let at = (each i d below).1 in record { job = at.job; is_job = at.job_is; same = at.call.met.0; early = at.call.met.1 })
     c.map_vec.ensures.each)

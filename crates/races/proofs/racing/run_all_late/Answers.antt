@@ -10,12 +10,12 @@ loop-one-preserved g c =
     let steps = c.in-Some.ensures.steps.0 in (
       tt,
       tt,
-      All-rest (RanEarly g.J.Naming.vertices c.args.turns) c.in-Some.one c.next.new.self.rest.items c.loop-one.one-iterator.rest.items steps c.loop-one.invariant.2,
+      All-rest (RanEarly g.J.Naming.vertices c.args.turns c.args.workers) c.in-Some.one c.next.new.self.rest.items c.loop-one.one-iterator.rest.items steps c.loop-one.invariant.2,
       running_goes_on g.J.Naming.vertices g.J.Naming.room c.args.turns c.args.told.now (map (λ r. r.plan.now) c.args.ran.items) c.in-Some.one c.loop-one.one-iterator.rest.items c.next.new.self.rest.items _ _ _ steps
-          c.loop-one.invariant.3 c.in_ok-run_again.ensures c.in_ok-push.ensures.items,
+          c.loop-one.invariant.3 c.in_ok-run_again.ensures.ran c.in_ok-push.ensures.items,
     )
 
-pub returns : goal.returns
-returns g c =
+pub returns-clause-ran : goal.returns-clause-ran
+returns-clause-ran g c =
     running_ends_at g.J.Naming.vertices g.J.Naming.room c.args.turns c.args.told.now (map (λ r. r.plan.now) c.args.ran.items) c.loop-one.one-iterator.rest.items _ c.loop-one.invariant.3
     (nil_from_length c.loop-one.one-iterator.rest.items (omega (arith, c.in-None.ensures.steps.0, c.loop-one.one-iterator.rest.ok.0)))

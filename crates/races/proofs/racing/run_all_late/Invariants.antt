@@ -8,5 +8,5 @@ use Rattle.races.proofs.racing.run_all_late.Given as goal
 abbrev pub invariant-loop-one : goal.invariant-loop-one
 invariant-loop-one g l =
     (goal.iterator-loop-one g).can_next l.one-iterator × (goal.iterator-loop-one g).is_finite l.one-iterator
-    × All (RanEarly g.J.Naming.vertices l.fn.turns) l.one-iterator.rest.items
+    × All (RanEarly g.J.Naming.vertices l.fn.turns l.fn.workers) l.one-iterator.rest.items
     × IsRunning g.J.Naming.vertices g.J.Naming.room l.fn.turns l.fn.told (map (λ r. r.plan.now) l.fn.ran.items) (map (λ r. r.plan.now) l.one-iterator.rest.items) l.all.items
