@@ -77,7 +77,10 @@ pub fn serve<T: Threads + Wait + Sync, F: Files, R: Feed, W: Drain, E: Drain>(
                 workers: *workers,
                 turns: *turns,
             };
-            (told(race_files(rt, alloc, names, bounds, files, out), err), None)
+            (
+                told(race_files(rt, alloc, names, bounds, files, out), err),
+                None,
+            )
         }
     }
 }

@@ -52,7 +52,11 @@ impl Changes {
     }
 
     /// The edges after the first batches, ascending: each pair of vertices whose last entry adds it.
-    pub fn edges_after(&self, alloc: Global, batches: usize) -> Result<Vec<(u32, u32)>, AllocError> {
+    pub fn edges_after(
+        &self,
+        alloc: Global,
+        batches: usize,
+    ) -> Result<Vec<(u32, u32)>, AllocError> {
         let count = batches.min(COMMITS) * CHANGES;
         let mut there = vec![in alloc; false; (VERTICES * VERTICES) as usize]?;
         for entry in self.entries.iter().take(count) {
@@ -76,9 +80,9 @@ fn batch_of(alloc: Global, entries: &[Entry]) -> io::Result<Batch> {
 // The pairs that are there.
 fn edges_of(alloc: Global, there: &[bool]) -> Result<Vec<(u32, u32)>, AllocError> {
     let mut edges = Vec::new(alloc);
-    for (place, is_there) in there.iter().enumerate() {
+    for (place, is_there) in (0..VERTICES * VERTICES).zip(there) {
         if *is_there {
-            edges.push((place as u32 / VERTICES, place as u32 % VERTICES))?;
+            edges.push((place / VERTICES, place % VERTICES))?;
         }
     }
     Ok(edges)

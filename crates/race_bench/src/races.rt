@@ -41,7 +41,9 @@ pub fn print_outcome<T: AllocGlobal + Threads + Wait + Sync>(
     }
     drop(programs);
     let Tally { runs, same } = tally;
-    println!(rt; "{RACES} races of {ENTRANTS} programs beside {COMMITS} commits: {same} of {runs} runs show what the slow run shows")
+    println!(rt;
+        "{RACES} races of {ENTRANTS} programs beside {COMMITS} commits: {same} of {runs} runs show what the slow run shows"
+    )
 }
 
 // The programs of a race, some of them twice.
@@ -103,7 +105,9 @@ fn compared(
     for (program, ran) in programs.iter().zip(&raced.runs) {
         for run in [&ran.early, &ran.late] {
             runs = runs.saturating_add(1);
-            same = same.saturating_add(u64::from(shows_the_slow_run(alloc, program, changes, run)?));
+            same = same.saturating_add(u64::from(shows_the_slow_run(
+                alloc, program, changes, run,
+            )?));
         }
     }
     Ok(Tally { runs, same })

@@ -1,5 +1,5 @@
 -- Batches that are committed one after another.
-use Rattle.std.proofs.Common.{◌≡◌, ◌∙◌, ℕ, ◌+◌, List, [], ◌∷◌, ◌++◌, length, length-append, refl, sym, ap, subst, append_assoc, append-nil, arith}
+use Rattle.std.proofs.Common.{◌≡◌, ◌∙◌, ℕ, List, [], ◌∷◌, ◌++◌, length, length-append, refl, sym, ap, subst, append_assoc, append-nil, arith}
 use Rattle.tree_batch.specs.declared.batch.Entry.{Entry as Change}
 use Rattle.version_list.specs.declared.step.Step.TheVariants.{Commit}
 use Rattle.version_list.specs.declared.step.Reply.TheVariants.{Version}

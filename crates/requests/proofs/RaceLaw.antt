@@ -1,16 +1,14 @@
 -- Races whose parts come in any order.
-use Rattle.std.proofs.Common.{◌≡◌, ◌∙◌, ◌++◌, ◌+◌, ◌<◌, ◌≤◌, ◌==◌, ◌||◌, ℕ, Bool, true, false, List, [], ◌∷◌, length, length-append, Option, Some, None, refl, sym, ap, subst, codes, arith, append_assoc, append-nil}
-use Rattle.std.proofs.Math.Bool.{or-true}
+use Rattle.std.proofs.Common.{◌≡◌, ◌∙◌, ◌++◌, ◌+◌, ◌<◌, ◌≤◌, ◌==◌, ◌||◌, ℕ, Bool, true, false, List, [], ◌∷◌, length, length-append, refl, sym, ap, subst, codes, arith, append_assoc, append-nil}
 use Rattle.std.specs.Prelude.{fold, if◌then◌else◌}
 use Rattle.std.specs.List.{AllByRecursion}
 use Rattle.std.specs.Str.{bytes_eq}
 use Rattle.clap.proofs.FaultLemmas.{stopped_fault}
 use Rattle.clap.specs.Lexer.{usize_max}
-use Rattle.clap.specs.Kinds.{Kinds, or_else}
 use Rattle.clap.specs.ValueTests.{accepts}
 use Rattle.clap.specs.Words.{Row, Rule, Text, fault_of}
-use Rattle.clap.specs.Faults.{check_fault, default_fault, defaults_fault, given_default_fault, level_fault, settle_fault, turn_fault, walk_fault}
-use Rattle.clap.specs.Walk.{Walk, default_rows, finished, has_row, nothing_held, reading_by, rows_after, walked, with_default}
+use Rattle.clap.specs.Faults.{check_fault, default_fault, defaults_fault, given_default_fault, level_fault, walk_fault}
+use Rattle.clap.specs.Walk.{Walk, default_rows, has_row, nothing_held, reading_by, rows_after, walked, with_default}
 use Rattle.requests.specs.Asked.{Asks, a_race, race_of, request_of}
 use Rattle.requests.specs.CommandLine.{command_line}
 use Rattle.requests.specs.Forms.{HasNoHyphen, IsTaken, NumberOption, RacePart, a_file, apart, files_in, joined, number_given, numbers_in, numbers_of, option_word, the_turns, the_workers, words_of}

@@ -1,16 +1,13 @@
 -- The parts of a race, in any order.
-use Rattle.std.proofs.Common.{◌≡◌, ◌∙◌, ◌++◌, ◌+◌, ◌<◌, ◌≤◌, ℕ, Bool, true, false, List, [], ◌∷◌, length, length-append, Option, Some, None, refl, sym, ap, ap₂, subst, codes, arith, append_assoc, append-nil}
-use Rattle.std.specs.Prelude.{fold}
-use Rattle.std.specs.List.{AllByRecursion}
-use Rattle.clap.specs.Lexer.{strip_byte, usize_max}
+use Rattle.std.proofs.Common.{◌≡◌, ◌∙◌, ◌++◌, ◌<◌, ◌≤◌, ℕ, true, false, List, [], ◌∷◌, length, Option, Some, None, refl, sym, ap, subst, codes, arith, append-nil}
+use Rattle.clap.specs.Lexer.{usize_max}
 use Rattle.clap.specs.ValueTests.{accepts}
 use Rattle.clap.specs.Words.{Row, Text}
 use Rattle.clap.specs.Faults.{settle_fault, values_fault}
 use Rattle.clap.specs.Simple.{filled}
 use Rattle.clap.specs.Walk.{Waiting, Walk, idle, positional, settled_rows}
 use Rattle.requests.specs.CommandLine.{race_programs}
-use Rattle.requests.specs.Forms.{HasNoHyphen, IsTaken, NumberOption, RacePart, a_file, apart, files_in, joined, number_for, numbers_in, numbers_of, option_name, option_word, the_turns, the_workers, words_of}
-use Rattle.requests.proofs.Flags.{no_dashes}
+use Rattle.requests.specs.Forms.{NumberOption, number_for, numbers_of, option_name, the_turns, the_workers}
 use Rattle.requests.proofs.RaceRows.{found_row, given, look, look_kept, look_more, look_new, no_row, without_none}
 use Rattle.requests.proofs.RaceWords.{race}
 use Rattle.requests.proofs.ScriptWords.{range_quiet}

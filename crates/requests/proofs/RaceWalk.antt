@@ -1,16 +1,14 @@
 -- The walk over the parts of a race, in any order.
-use Rattle.std.proofs.Common.{◌≡◌, ◌∙◌, ◌++◌, ◌+◌, ◌<◌, ◌≤◌, ◌==◌, ◌&&◌, ℕ, Bool, true, false, List, [], ◌∷◌, length, length-append, Option, Some, None, refl, sym, ap, ap₂, subst, codes, arith, append_assoc, append-nil}
+use Rattle.std.proofs.Common.{◌≡◌, ◌++◌, ◌==◌, ◌&&◌, ℕ, Bool, true, false, List, [], ◌∷◌, length, Some, None, refl, sym, subst}
 use Rattle.std.proofs.lemmas.Bool.{eqb-true, true≢false}
-use Rattle.std.specs.Prelude.{fold, nat_lt}
-use Rattle.std.specs.List.{AllByRecursion}
-use Rattle.clap.specs.Lexer.{strip_byte, usize_max}
+use Rattle.std.specs.Prelude.{nat_lt}
 use Rattle.clap.specs.ValueTests.{accepts, is_numeral}
 use Rattle.clap.specs.Words.{Row, Text}
-use Rattle.clap.specs.Faults.{settle_fault, turn_fault, walk_fault}
-use Rattle.clap.specs.Walk.{Held, Walk, has_row, option, walked}
-use Rattle.requests.specs.Forms.{HasNoHyphen, IsTaken, NumberOption, RacePart, a_file, apart, files_in, joined, number_for, numbers_in, numbers_of, option_name, option_word, the_turns, the_workers, words_of}
+use Rattle.clap.specs.Faults.{settle_fault, turn_fault}
+use Rattle.clap.specs.Walk.{Walk, option, walked}
+use Rattle.requests.specs.Forms.{HasNoHyphen, NumberOption, numbers_of, option_name, option_word, the_turns, the_workers}
 use Rattle.requests.proofs.Flags.{no_dashes}
-use Rattle.requests.proofs.RaceParts.{AreRows, Follows, Pending, a_number, a_script, all_used, nothing, pending_files, pending_numbers, pending_of, position_after, settled_at, some_programs, use_quiet, walk_at}
+use Rattle.requests.proofs.RaceParts.{Pending, a_number, a_script, nothing, pending_of, settled_at, some_programs, walk_at}
 use Rattle.requests.proofs.RaceWords.{race}
 
 -- a word leads the walk from one place to another without a fault

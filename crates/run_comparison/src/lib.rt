@@ -8,14 +8,13 @@
 
 mod programs;
 
-pub use programs::{PROGRAMS, SEARCHES_AND_LABELS, Scheduled};
-
 use algorithm_meaning::{NamedSet, NamedVector, Outcome};
 use flat_snapshot::Flat;
 use lowering::lower;
 use parser::parse;
 use plain_run::plain_run;
 use plans::Plan;
+pub use programs::{PROGRAMS, SEARCHES_AND_LABELS, Scheduled};
 use runner::run_alone;
 use schedule::accept;
 use std::alloc::{AllocError, Global};

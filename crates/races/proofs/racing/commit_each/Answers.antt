@@ -36,5 +36,5 @@ returns-in_err-commit g c =
     let base = opened g.J.Naming.vertices g.J.Naming.room in
     let p = err_from_is_err_and c.from_residual-in_err-commit.result c.from_residual-in_err-commit.ensures.1 in
     rw (p.1, p.2) (not_committed base c.args.writer.now.number c.args.batches.items _ _ c.loop-batch.writer _ _ c.in_err-commit.field-0.0
-        (subst (λ (left : List (List Change)). IsCommitting base c.args.writer.now.number c.args.batches.items left c.loop-batch.versions.items c.loop-batch.writer) c.in-Some.ensures.steps.0 c.loop-batch.invariant.2)
-        c.in_err-commit.ensures)
+    (subst (λ (left : List (List Change)). IsCommitting base c.args.writer.now.number c.args.batches.items left c.loop-batch.versions.items c.loop-batch.writer) c.in-Some.ensures.steps.0 c.loop-batch.invariant.2)
+    c.in_err-commit.ensures)
