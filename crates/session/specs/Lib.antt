@@ -1,0 +1,4 @@
+pub mod Refusal
+pub mod World
+pub mod Standing
+pub mod Attempts
