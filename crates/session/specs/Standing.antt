@@ -12,7 +12,7 @@ use Rattle.session.specs.declared.error.SessionError.{SessionError}
 use Rattle.session.specs.declared.error.SessionError.TheVariants.{VertexRange, BadChunkSize, NotKept, NotHeld, HistoryFull, NoProgram, NoJob, NoMemory}
 use Rattle.session.specs.declared.step.SessionStep.{SessionStep}
 use Rattle.session.specs.declared.step.SessionReply.{SessionReply}
-use Rattle.session.specs.World.{ScheduledProgram, WorldJob, World, place_of, answer, replies_to, world_after}
+use Rattle.session.specs.World.{ScheduledProgram, WorldJob, World, Answer, place_of, replies_to, world_after}
 
 -- the plans of the programs, the state of the versions, and the jobs in the order in which they were started
 pub record SessionValue : Type 0 where
@@ -48,12 +48,12 @@ Opens n b plans (Err HistoryFull) = ⊥
 Opens n b plans (Err NoProgram) = ⊥
 Opens n b plans (Err NoJob) = ⊥
 
--- a session that stood where the world stands answers the step as the world does, and stands where the world stands after it
-pub record Takes (programs : List ScheduledProgram) (w : World) (step : SessionStep) (reply : SessionReply) (new : SessionValue) : Type 0 where
-  pub reply_is : reply ≡ (answer programs w step).reply
-  pub stands : IsAt programs (answer programs w step).world new
+-- the reply is the answer's, and the session stands where the answer's world stands
+pub record Takes (programs : List ScheduledProgram) (a : Answer) (reply : SessionReply) (s : SessionValue) : Type 0 where
+  pub reply_is : reply ≡ a.reply
+  pub stands : IsAt programs a.world s
 
--- So it does with steps, one after another, where replies is the list that the call gives. Where memory runs out it may stop before a step, after those in front of it.
+-- So it is with steps, one after another, where replies is the list that the call gives. Where memory runs out the call may stop before a step, after those in front of it.
 abbrev pub Runs : {A : Type 0} → List ScheduledProgram → World → List SessionStep → (A → List SessionReply) → Result A SessionError → SessionValue → Type 0
 Runs programs w steps replies (Ok x) new = (replies x ≡ replies_to programs w steps) × IsAt programs (world_after programs w steps) new
 Runs programs w steps replies (Err NoMemory) new = (k : ℕ) × (k < length steps) × IsAt programs (world_after programs w (take k steps)) new

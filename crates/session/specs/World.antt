@@ -1,5 +1,5 @@
 -- The world of a session: the versions of a graph and jobs beside them, what each step replies in it, and the world after the step.
-use Rattle.std.specs.Prelude.{ℕ, zero, suc, ◌+◌, ◌-◌, List, [], ◌∷◌, ◌++◌, length, Option, Some, None, slice_get, slice_set}
+use Rattle.std.specs.Prelude.{ℕ, zero, suc, ◌+◌, List, [], ◌∷◌, ◌++◌, length, Option, Some, None, slice_get, slice_set}
 use Rattle.typed_tree.specs.ProgramTree.{ProgramTree}
 use Rattle.apply_options.specs.ScheduleTree.{ScheduleTree}
 use Rattle.algorithm_meaning.specs.Meaning.{opening}
@@ -57,6 +57,11 @@ abbrev pub numbered : {A : Type 0} → List A → ℕ → Option A
 numbered xs zero = None
 numbered xs (suc place) = slice_get xs place
 
+-- the list with another item at this number
+abbrev pub with_numbered : {A : Type 0} → List A → ℕ → A → List A
+with_numbered xs zero x = xs
+with_numbered xs (suc place) x = slice_set xs place x
+
 -- what a step is answered, and the world after it
 pub record Answer : Type 0 where
   pub reply : SessionReply
@@ -84,7 +89,7 @@ abbrev pub job_step : World → (number : ℕ) → Option WorldJob → Answer
 job_step w number None = refused w 413
 job_step w number (Some job) = record {
   reply = Stands (stand_of (place_of (after_its_step job)));
-  world = record w { jobs = slice_set w.jobs (number - 1) (after_its_step job) };
+  world = record w { jobs = with_numbered w.jobs number (after_its_step job) };
 }
 
 -- what a step is answered where the programs are these

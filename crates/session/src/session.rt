@@ -5,16 +5,15 @@ ghost use Rattle.std.specs.Option.{option_copied};
 ghost use Rattle.plans.specs.Kernels.{ArePairwise};
 ghost use Rattle.version_list.specs.declared.step.Step.TheVariants as versions;
 ghost use Rattle.session.specs.declared.error.SessionError.TheVariants.{NoMemory};
-ghost use Rattle.session.specs.declared.step.SessionStep.TheVariants as step;
-ghost use Rattle.session.specs.declared.step.SessionReply.TheVariants as reply;
-ghost use Rattle.session.specs.World.{ScheduledProgram, World, first_world, numbered};
+ghost use Rattle.session.specs.declared.step.SessionStep.TheVariants.{Start, JobStep};
+ghost use Rattle.session.specs.World.{ScheduledProgram, World, answer, first_world, numbered};
 ghost use Rattle.session.specs.Standing.{IsAt, IsPlanOf, Opens, Runs, Takes};
 ghost use Rattle.session.specs.Attempts.{Attempts, StepsVersions};
 
 use crate::error::SessionError;
 use crate::step::{SessionReply, SessionStep};
 use plans::Plan;
-use runner::{Alone, Job, Stand};
+use runner::{Alone, Job};
 use std::alloc::Global;
 use std::marker::Model;
 use std::sync::Arc;
@@ -96,7 +95,7 @@ impl Session {
     /// The only error is `NoMemory`, and then nothing is changed.
     pub fn step(&mut self, alloc: Global, step: SessionStep) -> Result<SessionReply, SessionError>
         ensures takes { IfOk result (λ reply. (programs : List ScheduledProgram) (w : World)
-            → IsAt programs w self.old → Takes programs w step reply self.new) }
+            → IsAt programs w self.old → Takes programs (answer programs w step) reply self.new) }
         ensures err { OnErr result (self.new ≡ self.old) }
         ensures only_memory { IfErr result (λ e. e ≡ NoMemory) }
     {
@@ -142,43 +141,41 @@ impl Session {
         step: SessionStep,
     ) -> Result<SessionReply, SessionError>
         ensures attempts { (programs : List ScheduledProgram) (w : World) → IsAt programs w self.old
-            → Attempts programs w step self.old (λ reply. reply) result self.new }
+            → Attempts programs w (answer programs w step) self.old result self.new }
         ensures err { OnErr result (self.new ≡ self.old) }
     {
         match step {
-            SessionStep::Commit(batch) => self.commit(alloc, batch).map(SessionReply::Of),
-            SessionStep::Acquire(which) => self.acquire(which).map(SessionReply::Of),
-            SessionStep::Release(ticket) => self.release(ticket).map(SessionReply::Of),
+            SessionStep::Commit(batch) => self.commit(alloc, batch),
+            SessionStep::Acquire(which) => self.acquire(which),
+            SessionStep::Release(ticket) => self.release(ticket),
             SessionStep::Start {
                 program,
                 ticket,
                 turns,
-            } => self
-                .start(alloc, program, ticket, turns)
-                .map(SessionReply::Job),
-            SessionStep::JobStep(job) => self.step_job(alloc, job).map(SessionReply::Stands),
+            } => self.start(alloc, program, ticket, turns),
+            SessionStep::JobStep(job) => self.step_job(alloc, job),
         }
     }
 
-    fn commit(&mut self, alloc: Global, batch: Batch) -> Result<Reply, SessionError>
+    fn commit(&mut self, alloc: Global, batch: Batch) -> Result<SessionReply, SessionError>
         ensures { StepsVersions self.old (versions.Commit batch) result self.new }
     {
         let (before, _) = self.versions.newest();
         let number = self.versions.commit(alloc, batch)?;
         self.flats.let_go(&self.versions, before);
-        Ok(Reply::Version(number))
+        Ok(SessionReply::Of(Reply::Version(number)))
     }
 
-    fn acquire(&mut self, which: Which) -> Result<Reply, SessionError>
+    fn acquire(&mut self, which: Which) -> Result<SessionReply, SessionError>
         ensures { StepsVersions self.old (versions.Acquire which) result self.new }
     {
         let prepared = self.versions.prepare_acquire(which)?;
         let version = prepared.version;
         let (ticket, _) = self.versions.finish_acquire(prepared);
-        Ok(Reply::Ticket(ticket.number, version))
+        Ok(SessionReply::Of(Reply::Ticket(ticket.number, version)))
     }
 
-    fn release(&mut self, number: u64) -> Result<Reply, SessionError>
+    fn release(&mut self, number: u64) -> Result<SessionReply, SessionError>
         ensures { StepsVersions self.old (versions.Release number) result self.new }
     {
         let ticket = Ticket { number };
@@ -187,19 +184,19 @@ impl Session {
         };
         self.versions.release(ticket)?;
         self.flats.let_go(&self.versions, version);
-        Ok(Reply::Released)
+        Ok(SessionReply::Of(Reply::Released))
     }
 
-    /// Starts a job, and gives its number. It shares the plan, and the flat snapshot of its version.
+    /// Starts a job. It shares the plan, and the flat snapshot of its version.
     fn start(
         &mut self,
         alloc: Global,
         program: u64,
         ticket: u64,
         turns: u64,
-    ) -> Result<u64, SessionError>
+    ) -> Result<SessionReply, SessionError>
         ensures attempts { (programs : List ScheduledProgram) (w : World) → IsAt programs w self.old
-            → Attempts programs w (step.Start program ticket turns) self.old reply.Job result self.new }
+            → Attempts programs w (answer programs w (Start program ticket turns)) self.old result self.new }
         ensures err { OnErr result (self.new ≡ self.old) }
     {
         let Some(plan) = numbered_in(&self.plans, program) else {
@@ -211,13 +208,13 @@ impl Session {
         let flat = self.flats.flat(alloc, version, graph)?;
         let job = Job::new(alloc, plan.clone()?, flat, turns)?;
         self.jobs.push(job)?;
-        Ok(self.jobs.len() as u64)
+        Ok(SessionReply::Job(self.jobs.len() as u64))
     }
 
     /// Does one instruction of a job, and tells how the job stands after it.
-    fn step_job(&mut self, alloc: Global, number: u64) -> Result<Stand, SessionError>
+    fn step_job(&mut self, alloc: Global, number: u64) -> Result<SessionReply, SessionError>
         ensures attempts { (programs : List ScheduledProgram) (w : World) → IsAt programs w self.old
-            → Attempts programs w (step.JobStep number) self.old reply.Stands result self.new }
+            → Attempts programs w (answer programs w (JobStep number)) self.old result self.new }
         ensures err { OnErr result (self.new ≡ self.old) }
     {
         let Some(place) = place_of(number) else {
@@ -227,7 +224,7 @@ impl Session {
             return Err(SessionError::NoJob);
         };
         let stand = job.step(alloc, &mut self.alone)?;
-        Ok(stand)
+        Ok(SessionReply::Stands(stand))
     }
 }
 
