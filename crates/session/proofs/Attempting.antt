@@ -49,6 +49,12 @@ pairwise_set R (a ∷ xs) [] place x y all one = absurd all
 pairwise_set R (a ∷ xs) (b ∷ ys) zero x y all one = (one, all.1)
 pairwise_set R (a ∷ xs) (b ∷ ys) (suc place) x y all one = (all.0, pairwise_set R xs ys place x y all.1 one)
 
+pairwise_turned : {A B : Type 0} (R : A → B → Type 0) (xs : List A) (ys : List B) → ArePairwise R xs ys → ArePairwise (λ y x. R x y) ys xs
+pairwise_turned R [] [] all = tt
+pairwise_turned R [] (y ∷ ys) all = absurd all
+pairwise_turned R (x ∷ xs) [] all = absurd all
+pairwise_turned R (x ∷ xs) (y ∷ ys) all = (all.0, pairwise_turned R xs ys all.1)
+
 numbered_partner : {A B : Type 0} (R : A → B → Type 0) (xs : List A) (ys : List B) (number : ℕ) (x : A) → ArePairwise R xs ys → numbered xs number ≡ Some x → HasPartner R x (numbered ys number)
 numbered_partner R xs ys zero x all is = absurd (none_is x is)
   where
@@ -59,6 +65,10 @@ numbered_partner R xs ys (suc place) x all is = partner_at R xs ys place x all i
 numbered_none : {A B : Type 0} (R : A → B → Type 0) (xs : List A) (ys : List B) (number : ℕ) → ArePairwise R xs ys → numbered xs number ≡ None → numbered ys number ≡ None
 numbered_none R xs ys zero all is = refl
 numbered_none R xs ys (suc place) all is = none_at R xs ys place all is
+
+-- the job of a session that stands where the world's job of a number stands
+pub numbered_job : (js : List JobValue) (jobs : List WorldJob) (number : ℕ) (job : WorldJob) → ArePairwise StandsAt js jobs → numbered jobs number ≡ Some job → HasPartner (λ job j. StandsAt j job) job (numbered js number)
+numbered_job js jobs number job all is = numbered_partner (λ job j. StandsAt j job) jobs js number job (pairwise_turned StandsAt js jobs all) is
 
 -- steps of the versions
 
@@ -149,7 +159,7 @@ stand_kept None place loops s = refl
 stand_kept (Some i) place loops s = refl
 
 -- how a job stands does not depend on what it forgets where it rests
-stand_resting : (is : List Instruction) (c : Configuration) → stand_of (resting is c) ≡ stand_of c
+pub stand_resting : (is : List Instruction) (c : Configuration) → stand_of (resting is c) ≡ stand_of c
 stand_resting is (At place loops s) = stand_kept (slice_get is place) place loops s
 stand_resting is (Ended s end) = refl
 

@@ -1,5 +1,6 @@
 -- Versions are the folds of the batches that steps commit.
 use Rattle.std.proofs.Common.{◌≡◌, ℕ, ◌+◌, List, [], ◌∷◌, ◌++◌, Option, Some, None, length, take, refl, sym, ap, ◌∙◌, append_assoc}
+use Rattle.std.specs.Option.{option_map}
 use Rattle.std.proofs.lemmas.List.{append-nil}
 use Rattle.flat_snapshot.specs.Digraph.{Digraph}
 use Rattle.tree_batch.specs.declared.batch.Entry.{Entry}
@@ -8,7 +9,7 @@ use Rattle.version_list.specs.declared.step.Which.{Which}
 use Rattle.version_list.specs.declared.step.Step.TheVariants as versions
 use Rattle.version_list.specs.declared.step.Reply.{Reply}
 use Rattle.version_list.specs.declared.step.Reply.TheVariants.{Version, Ticket, Released, Refused}
-use Rattle.version_list.specs.Machine.{State, changed, reply_to, ticket_graph}
+use Rattle.version_list.specs.Machine.{State, changed, reply_to, ticket_graph, ticket_version, version_graph}
 use Rattle.session.specs.declared.step.SessionStep.{SessionStep}
 use Rattle.session.specs.declared.step.SessionStep.TheVariants.{Commit, Acquire, Release, Start, JobStep}
 use Rattle.session.specs.declared.step.SessionReply.TheVariants.{Of}
@@ -71,12 +72,20 @@ steps_add programs w (step ∷ steps) =
           ∙ append_assoc w.versions.batches (committed_by step (answer programs w step).reply) (batches_of programs (answer programs w step).world steps);
     }
 
+-- a version that a ticket holds, where the versions are folds
+held_are : (f g : ℕ → Digraph) → ((k : ℕ) → f k ≡ g k) → (version : Option ℕ) → option_map f version ≡ option_map g version
+held_are f g same None = refl
+held_are f g same (Some k) = ap Some (same k)
+
 -- from the first world on, the batches of the versions are those of the steps
 pub versions_are_folds : (programs : List ScheduledProgram) (n : ℕ) (steps : List SessionStep) → HasFolds n (batches_of programs (first_world n) steps) (world_after programs (first_world n) steps)
 versions_are_folds programs n steps =
     let w = world_after programs (first_world n) steps in
     let all = steps_add programs (first_world n) steps in
+    let graph : (k : ℕ) → version_graph w.versions k ≡ graph_through (empty_graph n) (take k (batches_of programs (first_world n) steps)) = λ k.
+    ap (λ (d : Digraph). graph_through d (take k w.versions.batches)) all.opening ∙ ap (λ (bs : List (List Entry)). graph_through (empty_graph n) (take k bs)) all.batches in
     record {
       number = ap length all.batches;
-      graph = λ k. ap (λ (d : Digraph). graph_through d (take k w.versions.batches)) all.opening ∙ ap (λ (bs : List (List Entry)). graph_through (empty_graph n) (take k bs)) all.batches;
+      graph = graph;
+      held = λ ticket. held_are _ _ graph (ticket_version w.versions.open_tickets ticket);
     }

@@ -1,4 +1,5 @@
-pub mod Refusal
 pub mod World
 pub mod Standing
+pub mod Laws
+pub mod Refusal
 pub mod Attempts

@@ -16,9 +16,14 @@
 #![tactic(auto)]
 
 mod error;
+mod laws;
 mod session;
 mod step;
 
 pub use error::SessionError;
+pub use laws::{
+    compiled_plans_have_their_programs, jobs_go_by_their_own_steps, jobs_show_their_own_runs,
+    steps_of_jobs_change_places, versions_are_folds_of_their_batches,
+};
 pub use session::Session;
 pub use step::{SessionReply, SessionStep};

@@ -1,0 +1,7 @@
+pub mod Numbered
+pub mod Alone
+pub mod Places
+pub mod Folds
+pub mod Attempting
+pub mod OwnRuns
+pub mod Running
