@@ -1,7 +1,9 @@
-//! Programs, graphs and sessions of the tests.
+//! Programs, graphs and sessions of the tests, and what jobs show.
 
+use algorithm_meaning::{End, Outcome};
 use plans::Plan;
-use session::{Session, SessionStep};
+use runner::Stand;
+use session::{Session, SessionReply, SessionStep};
 use std::alloc::{AllocError, Global};
 use std::test::Fail;
 use tree_batch::{Batch, Entry};
@@ -30,6 +32,18 @@ pub(crate) const FORK: &[Entry] = &[
     Entry::Add(3, 4),
 ];
 
+/// How many vertices the graphs have.
+pub(crate) const VERTICES: u32 = 6;
+
+/// How the job of a step stands that goes on.
+pub(crate) const GOING: SessionReply = SessionReply::Stands(Stand::Going);
+
+/// How a job stands that has ended so.
+pub(crate) const fn ended(end: End) -> SessionReply {
+    SessionReply::Stands(Stand::Ended(end))
+}
+
+/// The batch of these entries.
 pub(crate) fn batch_of(alloc: Global, entries: &[Entry]) -> Result<Batch, AllocError> {
     let mut batch = Batch::new(alloc);
     for entry in entries {
@@ -40,6 +54,7 @@ pub(crate) fn batch_of(alloc: Global, entries: &[Entry]) -> Result<Batch, AllocE
     Ok(batch)
 }
 
+/// The step that commits these entries.
 pub(crate) fn commit(alloc: Global, entries: &[Entry]) -> Result<SessionStep, AllocError> {
     Ok(SessionStep::Commit(batch_of(alloc, entries)?))
 }
@@ -55,5 +70,54 @@ pub(crate) fn plans(alloc: Global) -> Result<Vec<Plan>, Fail> {
 
 /// A session of six vertices with these programs.
 pub(crate) fn session(alloc: Global) -> Result<Session, Fail> {
-    Ok(Session::new(alloc, 6, 64, plans(alloc)?)?)
+    Ok(Session::new(alloc, VERTICES, 64, plans(alloc)?)?)
+}
+
+/// What a job of a search shows: its parents, its frontier, its end and its turns.
+#[derive(Clone, Copy)]
+pub(crate) struct Shown<'a> {
+    pub(crate) parents: &'a [i64],
+    pub(crate) frontier: &'a [u32],
+    pub(crate) end: End,
+    pub(crate) turns: u64,
+}
+
+/// Whether an outcome is that.
+pub(crate) fn is_shown(outcome: &Outcome, wanted: Shown<'_>) -> bool {
+    let parents = match outcome.vectors.as_slice().first() {
+        Some(vector) => vector.entries.as_slice() == wanted.parents,
+        None => false,
+    };
+    let frontier = match outcome.sets.as_slice().first() {
+        Some(set) => set.members.as_slice() == wanted.frontier,
+        None => false,
+    };
+    parents && frontier && outcome.end == wanted.end && outcome.turns == wanted.turns
+}
+
+/// Whether the job of this number shows that.
+pub(crate) fn shows(
+    alloc: Global,
+    session: &Session,
+    number: u64,
+    wanted: Shown<'_>,
+) -> Result<bool, AllocError> {
+    match session.job(number) {
+        None => Ok(false),
+        Some(job) => Ok(is_shown(&job.outcome(alloc)?, wanted)),
+    }
+}
+
+/// Takes so many steps of a job, and gives the last reply.
+pub(crate) fn stepped(
+    alloc: Global,
+    session: &mut Session,
+    number: u64,
+    count: u32,
+) -> Result<Option<SessionReply>, Fail> {
+    let mut last = None;
+    for _step in 0..count {
+        last = Some(session.step(alloc, SessionStep::JobStep(number))?);
+    }
+    Ok(last)
 }

@@ -1,16 +1,16 @@
-//! A job beside a commit and a release, and refusals.
+//! A search beside a commit and a release.
 
-use crate::programs::{FORK, commit, session};
-use algorithm_meaning::{End, Outcome};
-use runner::Stand;
+use crate::programs::{FORK, GOING, Shown, commit, ended, session, shows, stepped};
+use algorithm_meaning::End;
 use session::{Session, SessionReply, SessionStep};
 use std::alloc::{AllocError, Global};
 use std::test::Fail;
 use tree_batch::Entry;
 use version_list::{Reply, Which};
 
-// A search that is started on the fork, taken seven steps, and then the last edge is removed and the version let go.
-fn beside_a_commit(alloc: Global) -> Result<Vec<SessionStep>, AllocError> {
+// A search that is started on the fork and taken seven steps; then the last edge is removed and the version is let go; then
+// so many steps more.
+fn beside_a_commit(alloc: Global, more: u32) -> Result<Vec<SessionStep>, AllocError> {
     let mut steps = Vec::new(alloc);
     steps.push(commit(alloc, FORK)?)?;
     steps.push(SessionStep::Acquire(Which::Newest))?;
@@ -19,17 +19,19 @@ fn beside_a_commit(alloc: Global) -> Result<Vec<SessionStep>, AllocError> {
         ticket: 1,
         turns: 10,
     })?;
-    for _step in 0..7 {
+    for _step in 0..7u32 {
         steps.push(SessionStep::JobStep(1))?;
     }
     steps.push(commit(alloc, &[Entry::Remove(3, 4)])?)?;
     steps.push(SessionStep::Release(1))?;
+    for _step in 0..more {
+        steps.push(SessionStep::JobStep(1))?;
+    }
     Ok(steps)
 }
 
-const GOING: SessionReply = SessionReply::Stands(Stand::Going);
-
-const REPLIES: [SessionReply; 12] = [
+// What these steps are answered, up to the fourteenth behind the release, at which the search ends.
+const REPLIES: [SessionReply; 26] = [
     SessionReply::Of(Reply::Version(1)),
     SessionReply::Of(Reply::Ticket(1, 1)),
     SessionReply::Job(1),
@@ -42,7 +44,37 @@ const REPLIES: [SessionReply; 12] = [
     GOING,
     SessionReply::Of(Reply::Version(2)),
     SessionReply::Of(Reply::Released),
+    GOING,
+    GOING,
+    GOING,
+    GOING,
+    GOING,
+    GOING,
+    GOING,
+    GOING,
+    GOING,
+    GOING,
+    GOING,
+    GOING,
+    GOING,
+    SessionReply::Stands(runner::Stand::Ended(End::Finished)),
 ];
+
+// Where the search stands after seven steps.
+const HALFWAY: Shown<'static> = Shown {
+    parents: &[0, 0, 0, -1, -1, -1],
+    frontier: &[1, 2],
+    end: End::TurnsOver,
+    turns: 1,
+};
+
+// What it shows at its end, on the version that it was started on.
+const WHOLE: Shown<'static> = Shown {
+    parents: &[0, 0, 0, 2, 3, -1],
+    frontier: &[],
+    end: End::Finished,
+    turns: 4,
+};
 
 // The replies to steps that are taken one by one.
 fn taken(
@@ -57,65 +89,106 @@ fn taken(
     Ok(replies)
 }
 
-// What a job shows so far.
-fn shown(alloc: Global, session: &Session, number: u64) -> Result<Option<Outcome>, AllocError> {
-    match session.job(number) {
-        None => Ok(None),
-        Some(job) => Ok(Some(job.outcome(alloc)?)),
-    }
-}
-
-// Whether a job shows these parents, this frontier, the end and the turns.
-fn shows(
-    alloc: Global,
-    session: &Session,
-    number: u64,
-    wanted: (&[i64], &[u32], End, u64),
-) -> Result<bool, AllocError> {
-    let (parents, frontier, end, turns) = wanted;
-    let Some(outcome) = shown(alloc, session, number)? else {
-        return Ok(false);
-    };
-    let entries = match outcome.vectors.as_slice().first() {
-        Some(vector) => vector.entries.as_slice() == parents,
-        None => false,
-    };
-    let members = match outcome.sets.as_slice().first() {
-        Some(set) => set.members.as_slice() == frontier,
-        None => false,
-    };
-    Ok(entries && members && outcome.end == end && outcome.turns == turns)
-}
-
 #[test]
 fn a_job_keeps_its_version_beside_a_commit(rt: HostRuntime) -> Result<(), Fail> {
     let alloc = rt.alloc();
     let mut session = session(alloc)?;
-    let replies = taken(alloc, &mut session, beside_a_commit(alloc)?)?;
-    let halfway = shows(
-        alloc,
-        &session,
-        1,
-        (&[0, 0, 0, -1, -1, -1], &[1, 2], End::TurnsOver, 1),
-    )?;
-    for _step in 7..20 {
-        let reply = session.step(alloc, SessionStep::JobStep(1))?;
-        assert_eq!(rt; reply, GOING);
-    }
-    let last = session.step(alloc, SessionStep::JobStep(1))?;
-    let after = session.step(alloc, SessionStep::JobStep(1))?;
-    let end = shows(
-        alloc,
-        &session,
-        1,
-        (&[0, 0, 0, 2, 3, -1], &[], End::Finished, 4),
-    )?;
+    let replies = taken(alloc, &mut session, beside_a_commit(alloc, 0)?)?;
+    let halfway = shows(alloc, &session, 1, HALFWAY)?;
+    let twentieth = stepped(alloc, &mut session, 1, 13)?;
+    let last = stepped(alloc, &mut session, 1, 1)?;
+    let whole = shows(alloc, &session, 1, WHOLE)?;
+    let after = stepped(alloc, &mut session, 1, 3)?;
+    let stays = shows(alloc, &session, 1, WHOLE)?;
     drop(session);
-    let ended = SessionReply::Stands(Stand::Ended(End::Finished));
+    assert_eq!(rt; replies.as_slice(), &REPLIES[..12]);
     assert!(rt; halfway);
-    assert!(rt; end);
-    assert_eq!(rt; last, ended);
-    assert_eq!(rt; after, ended);
+    assert_eq!(rt; twentieth, Some(GOING));
+    assert_eq!(rt; last, Some(ended(End::Finished)));
+    assert!(rt; whole);
+    assert_eq!(rt; after, last);
+    assert!(rt; stays);
+    Ok(())
+}
+
+#[test]
+fn all_steps_at_once_are_answered_alike(rt: HostRuntime) -> Result<(), Fail> {
+    let alloc = rt.alloc();
+    let mut session = session(alloc)?;
+    let replies = session.run(alloc, &beside_a_commit(alloc, 14)?)?;
+    let whole = shows(alloc, &session, 1, WHOLE)?;
+    drop(session);
     assert_eq!(rt; replies.as_slice(), REPLIES.as_slice());
+    assert!(rt; whole);
+    Ok(())
+}
+
+// A session with a search of the fork that may take so many turns, as job 1, and the faulty program on the fork, as job 2.
+fn two_jobs(alloc: Global, turns: u64) -> Result<Session, Fail> {
+    let mut session = session(alloc)?;
+    let mut steps = Vec::new(alloc);
+    steps.push(commit(alloc, FORK)?)?;
+    steps.push(SessionStep::Acquire(Which::At(1)))?;
+    for program in &[1, 2] {
+        steps.push(SessionStep::Start {
+            program: *program,
+            ticket: 1,
+            turns,
+        })?;
+    }
+    drop(session.run(alloc, &steps)?);
+    Ok(session)
+}
+
+#[test]
+fn a_job_stays_where_its_turns_are_over(rt: HostRuntime) -> Result<(), Fail> {
+    let alloc = rt.alloc();
+    let mut session = two_jobs(alloc, 1)?;
+    let before = stepped(alloc, &mut session, 1, 8)?;
+    let over = stepped(alloc, &mut session, 1, 1)?;
+    let shown = shows(alloc, &session, 1, HALFWAY)?;
+    let after = stepped(alloc, &mut session, 1, 2)?;
+    let stays = shows(alloc, &session, 1, HALFWAY)?;
+    drop(session);
+    assert_eq!(rt; before, Some(GOING));
+    assert_eq!(rt; over, Some(ended(End::TurnsOver)));
+    assert!(rt; shown);
+    assert_eq!(rt; after, over);
+    assert!(rt; stays);
+    Ok(())
+}
+
+// Whether a job has ended by the fault of its second statement, and has printed what stands before it.
+fn is_at_its_fault(alloc: Global, session: &Session, number: u64) -> Result<bool, AllocError> {
+    match session.job(number) {
+        None => Ok(false),
+        Some(job) => {
+            let outcome = job.outcome(alloc)?;
+            Ok(outcome.end == End::Fault(401, 2)
+                && outcome.turns == 0
+                && outcome.text.as_slice() == b"1\n".as_slice())
+        }
+    }
+}
+
+#[test]
+fn a_job_stays_at_its_fault(rt: HostRuntime) -> Result<(), Fail> {
+    let alloc = rt.alloc();
+    let mut session = two_jobs(alloc, 5)?;
+    let before = stepped(alloc, &mut session, 2, 1)?;
+    let fault = stepped(alloc, &mut session, 2, 1)?;
+    let shown = is_at_its_fault(alloc, &session, 2)?;
+    let after = stepped(alloc, &mut session, 2, 2)?;
+    let stays = is_at_its_fault(alloc, &session, 2)?;
+    let other = stepped(alloc, &mut session, 1, 7)?;
+    let halfway = shows(alloc, &session, 1, HALFWAY)?;
+    drop(session);
+    assert_eq!(rt; before, Some(GOING));
+    assert_eq!(rt; fault, Some(ended(End::Fault(401, 2))));
+    assert!(rt; shown);
+    assert_eq!(rt; after, fault);
+    assert!(rt; stays);
+    assert_eq!(rt; other, Some(GOING));
+    assert!(rt; halfway);
     Ok(())
 }
