@@ -226,3 +226,19 @@ refuses programs w a old NotHeld is = (is, refl)
 refuses programs w a old HistoryFull is = (is, refl)
 refuses programs w a old NoProgram is = (is, refl)
 refuses programs w a old NoJob is = (is, refl)
+
+-- a refusal that is told as a reply
+refused_takes : (programs : List ScheduledProgram) (w : World) (a : Answer) (old new : SessionValue) (number : ℕ) → IsAt programs w old → a ≡ refused w number → new ≡ old → Takes programs a (Of (Refused number)) new
+refused_takes programs w a old new number at is same =
+    subst (λ (b : Answer). Takes programs b (Of (Refused number)) new) (sym is) (record { reply_is = refl; stands = subst (IsAt programs w) (sym same) at })
+
+pub refusal_takes : (programs : List ScheduledProgram) (w : World) (a : Answer) (old new : SessionValue) (e : SessionError) → IsAt programs w old → (e ≡ NoMemory → ⊥) → Attempts programs w a old (Err e) new
+    → Takes programs a (Of (Refused (number_of e))) new
+refusal_takes programs w a old new NoMemory at other is = absurd (other refl)
+refusal_takes programs w a old new VertexRange at other is = refused_takes programs w a old new 111 at is.0 is.1
+refusal_takes programs w a old new BadChunkSize at other is = refused_takes programs w a old new 103 at is.0 is.1
+refusal_takes programs w a old new NotKept at other is = refused_takes programs w a old new 121 at is.0 is.1
+refusal_takes programs w a old new NotHeld at other is = refused_takes programs w a old new 122 at is.0 is.1
+refusal_takes programs w a old new HistoryFull at other is = refused_takes programs w a old new 123 at is.0 is.1
+refusal_takes programs w a old new NoProgram at other is = refused_takes programs w a old new 412 at is.0 is.1
+refusal_takes programs w a old new NoJob at other is = refused_takes programs w a old new 413 at is.0 is.1

@@ -3,5 +3,6 @@ pub mod Alone
 pub mod Places
 pub mod Folds
 pub mod Attempting
+pub mod Versions
 pub mod OwnRuns
 pub mod Running

@@ -46,9 +46,13 @@ impl Drop for Session {
 impl Model for Session {
     ghost use Rattle.std.specs.Prelude.{map};
     ghost use Rattle.std.specs.Arc.{arc_value};
+    ghost use Rattle.std.specs.Coded.{codes};
+    ghost use Rattle.plans.specs.contracts.plan.Plan as plan_contract;
     ghost use Rattle.session.specs.Standing.{SessionValue};
 
     ghost Value = { SessionValue };
+
+    ghost coded = { Prim.hlevel (codes, plan_contract.the_row.coded) };
 
     ghost view = { λ s. record {
       plans = map arc_value s.plans.items;
@@ -179,7 +183,7 @@ impl Session {
         ensures { StepsVersions self.old (versions.Release number) result self.new }
     {
         let ticket = Ticket { number };
-        let Some(version) = self.versions.version(ticket) else {
+        let Some((version, _)) = self.versions.kept(ticket) else {
             return Err(SessionError::NotHeld);
         };
         self.versions.release(ticket)?;
@@ -234,7 +238,7 @@ fn shared(alloc: Global, plans: Vec<Plan>) -> Result<Vec<Arc<Plan>>, SessionErro
 {
     let mut shared = Vec::with_capacity(alloc, plans.len())?;
     for plan in plans {
-        shared.push_reserved(Arc::new(alloc, plan)?);
+        shared.push(Arc::new(alloc, plan)?)?;
     }
     Ok(shared)
 }
