@@ -1,6 +1,7 @@
 -- A session that stands where a world stands takes a step as the world does.
-use Rattle.std.proofs.Common.{◌≡◌, ℕ, zero, suc, ◌+◌, List, [], ◌∷◌, ◌++◌, Option, Some, None, Result, Ok, Err, slice_get, length, refl, sym, ap, ◌∙◌, subst}
+use Rattle.std.proofs.Common.{◌≡◌, ℕ, zero, suc, ◌+◌, List, [], ◌∷◌, ◌++◌, Option, Some, None, Result, Ok, Err, IfOk, OnErr, slice_get, length, refl, sym, ap, ◌∙◌, subst}
 use Rattle.std.specs.Prelude.{slice_set}
+use Rattle.std.specs.Result.{IfErr}
 use Rattle.algorithm_meaning.specs.Meaning.{opening}
 use Rattle.algorithm_meaning.specs.State.{StateValue}
 use Rattle.algorithm_meaning.specs.declared.state.LoopCounter.{LoopCounter}
@@ -28,10 +29,11 @@ use Rattle.session.specs.declared.error.SessionError.{SessionError}
 use Rattle.session.specs.declared.error.SessionError.TheVariants.{VertexRange, BadChunkSize, NotKept, NotHeld, HistoryFull, NoProgram, NoJob, NoMemory}
 use Rattle.session.specs.declared.step.SessionReply.{SessionReply}
 use Rattle.session.specs.declared.step.SessionReply.TheVariants.{Of, Job, Stands}
+use Rattle.session.specs.declared.step.SessionStep.{SessionStep}
 use Rattle.session.specs.Refusal.{number_of}
-use Rattle.session.specs.World.{ScheduledProgram, WorldJob, World, Answer, place_after, place_of, after_its_step, numbered, with_numbered, refused, on_versions, start, job_step}
+use Rattle.session.specs.World.{ScheduledProgram, WorldJob, World, Answer, place_after, place_of, after_its_step, numbered, with_numbered, refused, on_versions, start, job_step, answer}
 use Rattle.session.specs.Standing.{SessionValue, IsPlanOf, StandsAt, IsAt, Takes}
-use Rattle.session.specs.Attempts.{StepsVersions, Attempts}
+use Rattle.session.specs.Attempts.{StepsVersions, Attempts, told_of}
 use Rattle.session.proofs.Alone.{more_instructions, steps_once}
 
 -- lists that agree place by place are as long as each other
@@ -215,30 +217,42 @@ steps_job programs w old new number j k at found next after =
     } in
     subst (λ (o : Option WorldJob). Takes programs (job_step w number o) (Stands (stand_of k.stands)) new) (sym partner.is_there) stepped
 
--- attempts that are refused, or for which memory runs out
-
-pub refuses : (programs : List ScheduledProgram) (w : World) (a : Answer) (old : SessionValue) (e : SessionError) → a ≡ refused w (number_of e) → Attempts programs w a old (Err e) old
-refuses programs w a old NoMemory is = refl
-refuses programs w a old VertexRange is = (is, refl)
-refuses programs w a old BadChunkSize is = (is, refl)
-refuses programs w a old NotKept is = (is, refl)
-refuses programs w a old NotHeld is = (is, refl)
-refuses programs w a old HistoryFull is = (is, refl)
-refuses programs w a old NoProgram is = (is, refl)
-refuses programs w a old NoJob is = (is, refl)
-
 -- a refusal that is told as a reply
 refused_takes : (programs : List ScheduledProgram) (w : World) (a : Answer) (old new : SessionValue) (number : ℕ) → IsAt programs w old → a ≡ refused w number → new ≡ old → Takes programs a (Of (Refused number)) new
 refused_takes programs w a old new number at is same =
     subst (λ (b : Answer). Takes programs b (Of (Refused number)) new) (sym is) (record { reply_is = refl; stands = subst (IsAt programs w) (sym same) at })
 
-pub refusal_takes : (programs : List ScheduledProgram) (w : World) (a : Answer) (old new : SessionValue) (e : SessionError) → IsAt programs w old → (e ≡ NoMemory → ⊥) → Attempts programs w a old (Err e) new
-    → Takes programs a (Of (Refused (number_of e))) new
-refusal_takes programs w a old new NoMemory at other is = absurd (other refl)
-refusal_takes programs w a old new VertexRange at other is = refused_takes programs w a old new 111 at is.0 is.1
-refusal_takes programs w a old new BadChunkSize at other is = refused_takes programs w a old new 103 at is.0 is.1
-refusal_takes programs w a old new NotKept at other is = refused_takes programs w a old new 121 at is.0 is.1
-refusal_takes programs w a old new NotHeld at other is = refused_takes programs w a old new 122 at is.0 is.1
-refusal_takes programs w a old new HistoryFull at other is = refused_takes programs w a old new 123 at is.0 is.1
-refusal_takes programs w a old new NoProgram at other is = refused_takes programs w a old new 412 at is.0 is.1
-refusal_takes programs w a old new NoJob at other is = refused_takes programs w a old new 413 at is.0 is.1
+-- what is told of an attempt at a step
+pub told_takes : (step : SessionStep) (old new : SessionValue) (result : Result SessionReply SessionError) → ((programs : List ScheduledProgram) (w : World) → IsAt programs w old → Attempts programs w (answer programs w step) old result new)
+    → IfOk (told_of result) (λ reply. (programs : List ScheduledProgram) (w : World) → IsAt programs w old → Takes programs (answer programs w step) reply new)
+told_takes step old new (Ok reply) is = is
+told_takes step old new (Err NoMemory) is = tt
+told_takes step old new (Err VertexRange) is = λ programs w at. let no = is programs w at in refused_takes programs w (answer programs w step) old new 111 at no.0 no.1
+told_takes step old new (Err BadChunkSize) is = λ programs w at. let no = is programs w at in refused_takes programs w (answer programs w step) old new 103 at no.0 no.1
+told_takes step old new (Err NotKept) is = λ programs w at. let no = is programs w at in refused_takes programs w (answer programs w step) old new 121 at no.0 no.1
+told_takes step old new (Err NotHeld) is = λ programs w at. let no = is programs w at in refused_takes programs w (answer programs w step) old new 122 at no.0 no.1
+told_takes step old new (Err HistoryFull) is = λ programs w at. let no = is programs w at in refused_takes programs w (answer programs w step) old new 123 at no.0 no.1
+told_takes step old new (Err NoProgram) is = λ programs w at. let no = is programs w at in refused_takes programs w (answer programs w step) old new 412 at no.0 no.1
+told_takes step old new (Err NoJob) is = λ programs w at. let no = is programs w at in refused_takes programs w (answer programs w step) old new 413 at no.0 no.1
+
+pub told_err : (P : Type 0) (result : Result SessionReply SessionError) → OnErr result P → OnErr (told_of result) P
+told_err P (Ok reply) is = tt
+told_err P (Err NoMemory) is = is
+told_err P (Err VertexRange) is = tt
+told_err P (Err BadChunkSize) is = tt
+told_err P (Err NotKept) is = tt
+told_err P (Err NotHeld) is = tt
+told_err P (Err HistoryFull) is = tt
+told_err P (Err NoProgram) is = tt
+told_err P (Err NoJob) is = tt
+
+pub told_only_memory : (result : Result SessionReply SessionError) → IfErr (told_of result) (λ e. e ≡ NoMemory)
+told_only_memory (Ok reply) = tt
+told_only_memory (Err NoMemory) = refl
+told_only_memory (Err VertexRange) = tt
+told_only_memory (Err BadChunkSize) = tt
+told_only_memory (Err NotKept) = tt
+told_only_memory (Err NotHeld) = tt
+told_only_memory (Err HistoryFull) = tt
+told_only_memory (Err NoProgram) = tt
+told_only_memory (Err NoJob) = tt

@@ -3,6 +3,8 @@ pub mod Alone
 pub mod Places
 pub mod Folds
 pub mod Attempting
+pub mod Taking
 pub mod Versions
+pub mod Flats
 pub mod OwnRuns
 pub mod Running

@@ -56,6 +56,20 @@ does_not_step s t old new st versions.NotHeld here after is = refused_by s t old
 does_not_step s t old new st versions.HistoryFull here after is = refused_by s t old new st 123 here after is.is_answer is.unchanged
 does_not_step s t old new st versions.NoMemory here after is = stays s t old new here after is.1
 
+unchanged : (old new : Timeline) (st : Step) (e : VersionError) → DoesNotStep old st e new → new ≡ old
+unchanged old new st versions.VertexRange is = is.unchanged
+unchanged old new st versions.BadChunkSize is = is.unchanged
+unchanged old new st versions.NotKept is = is.unchanged
+unchanged old new st versions.NotHeld is = is.unchanged
+unchanged old new st versions.HistoryFull is = is.unchanged
+unchanged old new st versions.NoMemory is = is.1
+
+pub unchanged_answered : {A : Type 0} (old new : Timeline) (st : Step) (reply : A → Reply) (e : VersionError) → Answers old st reply (Err e) new → new ≡ old
+unchanged_answered old new st reply e is = unchanged old new st e (answered old new st reply e is)
+
+pub unchanged_prepared : {A : Type 0} (old new : Timeline) (st : Step) (n : ℕ) (IsReady : Timeline → A → Type 0) (e : VersionError) → Prepares old st n IsReady (Err e) new → new ≡ old
+unchanged_prepared old new st n IsReady e is = unchanged old new st e (prepared old new st n IsReady e is)
+
 -- a call that answers a step, and one that prepares it, where it ends by an error
 pub refuses_answered : {A : Type 0} (s t : SessionValue) (old new : Timeline) (st : Step) (reply : A → Reply) (e : VersionError) → s.versions ≡ old.state → t ≡ record s { versions = new.state }
     → Answers old st reply (Err e) new → StepsVersions s st (Err (of_versions e)) t

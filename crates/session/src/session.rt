@@ -8,7 +8,7 @@ ghost use Rattle.session.specs.declared.error.SessionError.TheVariants.{NoMemory
 ghost use Rattle.session.specs.declared.step.SessionStep.TheVariants.{Start, JobStep};
 ghost use Rattle.session.specs.World.{ScheduledProgram, World, answer, first_world, numbered};
 ghost use Rattle.session.specs.Standing.{IsAt, IsPlanOf, Opens, Runs, Takes};
-ghost use Rattle.session.specs.Attempts.{Attempts, StepsVersions};
+ghost use Rattle.session.specs.Attempts.{Attempts, StepsVersions, told_of};
 
 use crate::error::SessionError;
 use crate::step::{SessionReply, SessionStep};
@@ -103,11 +103,7 @@ impl Session {
         ensures err { OnErr result (self.new ≡ self.old) }
         ensures only_memory { IfErr result (λ e. e ≡ NoMemory) }
     {
-        match self.attempt(alloc, step) {
-            Ok(reply) => Ok(reply),
-            Err(SessionError::NoMemory) => Err(SessionError::NoMemory),
-            Err(refusal) => Ok(SessionReply::Of(Reply::Refused(refusal.number()))),
-        }
+        told(self.attempt(alloc, step))
     }
 
     /// Takes steps one after another, and answers what each is answered. A step that is refused changes nothing, and the next
@@ -232,9 +228,21 @@ impl Session {
     }
 }
 
-/// The plans, each to be shared.
+/// What is told of a step: a refusal is a reply, and want of memory none.
+fn told(answer: Result<SessionReply, SessionError>) -> Result<SessionReply, SessionError>
+    ensures { result ≡ told_of answer }
+{
+    match answer {
+        Ok(reply) => Ok(reply),
+        Err(SessionError::NoMemory) => Err(SessionError::NoMemory),
+        Err(refusal) => Ok(SessionReply::Of(Reply::Refused(refusal.number()))),
+    }
+}
+
+/// The plans, each to be shared. The only error is out of memory.
 fn shared(alloc: Global, plans: Vec<Plan>) -> Result<Vec<Arc<Plan>>, SessionError>
-    ensures { IfOk result (λ shared. map arc_value shared.items ≡ plans.items) }
+    ensures plans { IfOk result (λ shared. map arc_value shared.items ≡ plans.items) }
+    ensures only_memory { IfErr result (λ e. e ≡ NoMemory) }
 {
     let mut shared = Vec::with_capacity(alloc, plans.len())?;
     for plan in plans {
