@@ -78,25 +78,25 @@ at_a_job_step : (w : World) (stepped number : ℕ) (found : Option WorldJob) (jo
     → IsSomeAnd (numbered (job_step w stepped found).world.jobs number) (GoesOnAlone job (cond (stepped == number) 1 0))
 at_a_job_step w stepped number None job found is =
     elim (cases_eq stepped number) [
-    | inl same ↦ absurd (none_is (numbered w.jobs number) job (ap (numbered w.jobs) (sym same) ∙ found) is)
-    | inr apart ↦
-        let no : (stepped == number) ≡ false = ne_eqb stepped number apart in
-        subst (λ (b : Bool). IsSomeAnd (numbered w.jobs number) (GoesOnAlone job (cond b 1 0))) (sym no) (some_and (GoesOnAlone job 0) _ job is (stays_there job))
+      | inl same ↦ absurd (none_is (numbered w.jobs number) job (ap (numbered w.jobs) (sym same) ∙ found) is)
+      | inr apart ↦
+          let no : (stepped == number) ≡ false = ne_eqb stepped number apart in
+          subst (λ (b : Bool). IsSomeAnd (numbered w.jobs number) (GoesOnAlone job (cond b 1 0))) (sym no) (some_and (GoesOnAlone job 0) _ job is (stays_there job))
     ]
 at_a_job_step w stepped number (Some old) job found is =
     elim (cases_eq stepped number) [
-    | inl same ↦
-        let yes : (stepped == number) ≡ true = eq-eqb stepped number same in
-        let this : job ≡ old = some_is (numbered w.jobs number) job old is (ap (numbered w.jobs) (sym same) ∙ found) in
-        let there : numbered (job_step w stepped (Some old)).world.jobs number ≡ Some (after_its_step old) =
-        ap (numbered (job_step w stepped (Some old)).world.jobs) (sym same) ∙ numbered_same w.jobs stepped old (after_its_step old) found in
-        subst (λ (b : Bool). IsSomeAnd (numbered (job_step w stepped (Some old)).world.jobs number) (GoesOnAlone job (cond b 1 0))) (sym yes)
-        (some_and (GoesOnAlone job 1) _ (after_its_step old) there (subst (λ (j : WorldJob). GoesOnAlone j 1 (after_its_step old)) (sym this) (steps_once old (place_of old) refl)))
-    | inr apart ↦
-        let no : (stepped == number) ≡ false = ne_eqb stepped number apart in
-        let there = numbered_other w.jobs stepped number (after_its_step old) apart ∙ is in
-        subst (λ (b : Bool). IsSomeAnd (numbered (job_step w stepped (Some old)).world.jobs number) (GoesOnAlone job (cond b 1 0))) (sym no)
-        (some_and (GoesOnAlone job 0) _ job there (stays_there job))
+      | inl same ↦
+          let yes : (stepped == number) ≡ true = eq-eqb stepped number same in
+          let this : job ≡ old = some_is (numbered w.jobs number) job old is (ap (numbered w.jobs) (sym same) ∙ found) in
+          let there : numbered (job_step w stepped (Some old)).world.jobs number ≡ Some (after_its_step old) =
+          ap (numbered (job_step w stepped (Some old)).world.jobs) (sym same) ∙ numbered_same w.jobs stepped old (after_its_step old) found in
+          subst (λ (b : Bool). IsSomeAnd (numbered (job_step w stepped (Some old)).world.jobs number) (GoesOnAlone job (cond b 1 0))) (sym yes)
+          (some_and (GoesOnAlone job 1) _ (after_its_step old) there (subst (λ (j : WorldJob). GoesOnAlone j 1 (after_its_step old)) (sym this) (steps_once old (place_of old) refl)))
+      | inr apart ↦
+          let no : (stepped == number) ≡ false = ne_eqb stepped number apart in
+          let there = numbered_other w.jobs stepped number (after_its_step old) apart ∙ is in
+          subst (λ (b : Bool). IsSomeAnd (numbered (job_step w stepped (Some old)).world.jobs number) (GoesOnAlone job (cond b 1 0))) (sym no)
+          (some_and (GoesOnAlone job 0) _ job there (stays_there job))
     ]
 
 -- one step, of this job or not

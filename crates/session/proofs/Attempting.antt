@@ -60,8 +60,8 @@ pairwise_turned R (x ∷ xs) (y ∷ ys) all = (all.0, pairwise_turned R xs ys al
 numbered_partner : {A B : Type 0} (R : A → B → Type 0) (xs : List A) (ys : List B) (number : ℕ) (x : A) → ArePairwise R xs ys → numbered xs number ≡ Some x → HasPartner R x (numbered ys number)
 numbered_partner R xs ys zero x all is = absurd (none_is x is)
   where
-  none_is : {A : Type 0} (x : A) → None ≡ Some x → ⊥
-  none_is x e = cc
+    none_is : {A : Type 0} (x : A) → None ≡ Some x → ⊥
+    none_is x e = cc
 numbered_partner R xs ys (suc place) x all is = partner_at R xs ys place x all is
 
 numbered_none : {A B : Type 0} (R : A → B → Type 0) (xs : List A) (ys : List B) (number : ℕ) → ArePairwise R xs ys → numbered xs number ≡ None → numbered ys number ≡ None

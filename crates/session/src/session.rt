@@ -135,11 +135,7 @@ impl Session {
     }
 
     /// Takes a step; a refusal is an error, and changes nothing.
-    fn attempt(
-        &mut self,
-        alloc: Global,
-        step: SessionStep,
-    ) -> Result<SessionReply, SessionError>
+    fn attempt(&mut self, alloc: Global, step: SessionStep) -> Result<SessionReply, SessionError>
         ensures attempts { (programs : List ScheduledProgram) (w : World) → IsAt programs w self.old
             → Attempts programs w (answer programs w step) self.old result self.new }
         ensures err { OnErr result (self.new ≡ self.old) }

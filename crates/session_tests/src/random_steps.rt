@@ -16,10 +16,13 @@ use version_list::Which;
 const LISTS: u64 = 40;
 const STEPS: u32 = 80;
 
+// A vertex; one in 43 is none.
+fn random_vertex(random: &mut Random) -> u32 {
+    (random.below(43) / 7) as u32
+}
+
 fn random_entry(random: &mut Random) -> Entry {
-    // One entry in forty names a vertex that there is not.
-    let bound = if random.below(40) == 0 { 7 } else { 6 };
-    let (source, destination) = (random.below(bound) as u32, random.below(bound) as u32);
+    let (source, destination) = (random_vertex(random), random_vertex(random));
     match random.below(3) {
         0 => Entry::Remove(source, destination),
         _ => Entry::Add(source, destination),

@@ -11,19 +11,23 @@ use Rattle.session.proofs.Taking.{starts_no_program, starts_no_ticket, starts_th
 use Rattle.session.proofs.session.Session.start.Goals as goal
 
 pub returns-in_default-clause-attempts : goal.returns-in_default-clause-attempts
-returns-in_default-clause-attempts c = λ programs w at.
-    (starts_no_program arc_value c.self.inside.plans.items c.deref.result.now programs w c.args.self.now c.args.program c.args.turns (ticket_graph w.versions c.args.ticket) at
-    (ap (λ (v : SessionValue). v.plans) (sym c.self.view_is)) c.deref.ensures.value (subst (λ found. option_copied found ≡ numbered c.deref.result.now c.args.program) c.in_default.is c.numbered_in.ensures), refl)
+returns-in_default-clause-attempts c = λ programs w at. (
+  starts_no_program arc_value c.self.inside.plans.items c.deref.result.now programs w c.args.self.now c.args.program c.args.turns (ticket_graph w.versions c.args.ticket) at
+      (ap (λ (v : SessionValue). v.plans) (sym c.self.view_is)) c.deref.ensures.value (subst (λ found. option_copied found ≡ numbered c.deref.result.now c.args.program) c.in_default.is c.numbered_in.ensures),
+  refl,
+)
 
 pub returns-in_default-kept-clause-attempts : goal.returns-in_default-kept-clause-attempts
 returns-in_default-kept-clause-attempts c = λ programs w at.
     let s = c.self.inside.versions.state in
     let ticket = c.args.ticket in
     let none : ticket_version s.open_tickets ticket ≡ None =
-    subst (λ (found : Option (ℕ × Bor Digraph)). MatchOption found (ticket_version s.open_tickets ticket ≡ None) (λ v. IsHeld s ticket v.0 v.1.now)) c.in_default-kept.is c.kept.ensures in
-    (starts_no_ticket arc_value c.self.inside.plans.items c.deref.result.now programs w c.args.self.now s c.args.program ticket c.args.turns c.in-Some.plan.now at
-    (ap (λ (v : SessionValue). v.plans) (sym c.self.view_is)) c.deref.ensures.value (subst (λ found. option_copied found ≡ numbered c.deref.result.now c.args.program) c.in-Some.is c.numbered_in.ensures)
-    (ap (λ (v : SessionValue). v.versions) (sym c.self.view_is)) none, refl)
+    subst (λ (found : Option (ℕ × Bor Digraph)). MatchOption found (ticket_version s.open_tickets ticket ≡ None) (λ v. IsHeld s ticket v.0 v.1.now)) c.in_default-kept.is c.kept.ensures in (
+      starts_no_ticket arc_value c.self.inside.plans.items c.deref.result.now programs w c.args.self.now s c.args.program ticket c.args.turns c.in-Some.plan.now at
+          (ap (λ (v : SessionValue). v.plans) (sym c.self.view_is)) c.deref.ensures.value (subst (λ found. option_copied found ≡ numbered c.deref.result.now c.args.program) c.in-Some.is c.numbered_in.ensures)
+          (ap (λ (v : SessionValue). v.versions) (sym c.self.view_is)) none,
+      refl,
+    )
 
 pub invariant_of-self-in_err-job : goal.invariant_of-self-in_err-job
 invariant_of-self-in_err-job c =
