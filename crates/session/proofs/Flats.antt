@@ -1,6 +1,5 @@
 -- The flats of a session after a step of its versions.
-use Rattle.std.proofs.Common.{◌≡◌, ◌≢◌, ℕ, ◌≤◌, ◌==◌, ◌||◌, Bool, true, List, [], ◌∷◌, ◌++◌, refl, sym, ap, ◌∙◌, subst, arith, inl, inr}
-use Rattle.std.specs.List.{list_any}
+use Rattle.std.proofs.Common.{◌≡◌, ℕ, ◌==◌, true, List, refl, sym, ap, ◌∙◌, arith, inl, inr}
 use Rattle.std.proofs.lemmas.Bool.{cases_Bool, or_left, or_right}
 use Rattle.std.proofs.lemmas.List.Folds.{list_any-append}
 use Rattle.tree_batch.specs.declared.batch.Entry.{Entry}
@@ -11,7 +10,7 @@ use Rattle.version_list.specs.declared.step.Reply.{Reply}
 use Rattle.version_list.specs.declared.step.Reply.TheVariants.{Version, Ticket, Released, Refused}
 use Rattle.version_list.specs.Machine.{State, changed, state_after, reply_to, newest_number, version_graph, is_kept}
 use Rattle.version_list.specs.Kept.{IsHeld}
-use Rattle.version_flats.specs.VersionFlats.{IsKept, AreOf, Follows}
+use Rattle.version_flats.specs.VersionFlats.{AreOf, Follows}
 use Rattle.version_flats.specs.declared.version_flats.VersionFlats.{VersionFlats}
 use Rattle.version_flats.proofs.Following.{follows_commit}
 

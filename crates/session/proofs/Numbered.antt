@@ -1,5 +1,5 @@
 -- Lists whose items are counted from 1.
-use Rattle.std.proofs.Common.{◌≡◌, ◌≢◌, ℕ, zero, suc, ◌+◌, ◌<◌, List, [], ◌∷◌, ◌++◌, Option, Some, None, slice_get, length, refl, sym, ap, ◌∙◌, arith}
+use Rattle.std.proofs.Common.{◌≡◌, ◌≢◌, ℕ, zero, suc, List, [], ◌∷◌, ◌++◌, Some, None, slice_get, length, refl, ap}
 use Rattle.std.specs.Prelude.{slice_set}
 use Rattle.session.specs.World.{numbered, with_numbered}
 

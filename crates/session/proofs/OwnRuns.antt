@@ -1,18 +1,13 @@
 -- What the jobs of a session are, and what they show, is said by the world.
-use Rattle.std.proofs.Common.{◌≡◌, ℕ, suc, ◌+◌, List, [], ◌∷◌, Option, Some, None, count_by, refl, sym, ap, ◌∙◌, subst, arith}
+use Rattle.std.proofs.Common.{◌≡◌, ℕ, suc, List, [], ◌∷◌, Option, Some, None, count_by, refl, sym, ap, ◌∙◌, subst, arith}
 use Rattle.std.specs.Prelude.{All}
 use Rattle.std.specs.Option.{IsSomeAnd}
 use Rattle.algorithm_meaning.specs.declared.outcome.End.{End}
-use Rattle.algorithm_meaning.specs.Meaning.{opening}
-use Rattle.algorithm_meaning.specs.Shown.{meaning}
 use Rattle.flat_snapshot.specs.Digraph.{Digraph}
 use Rattle.plans.specs.declared.plan.Plan.{Plan}
-use Rattle.plans.specs.Kernels.{ArePairwise}
-use Rattle.plans.specs.Machine.{Configuration, At, Ended, first_configuration}
-use Rattle.plans.specs.Plan.{plan_of}
+use Rattle.plans.specs.Machine.{Configuration, At, Ended}
 use Rattle.plans.specs.PlanOf.{IsCompiled, program_of}
 use Rattle.run_state.specs.State.{graph_value}
-use Rattle.runner.specs.declared.job.Stand.{Stand}
 use Rattle.runner.specs.declared.job.Stand.TheVariants as stand
 use Rattle.runner.specs.Job.{stand_of}
 use Rattle.runner.specs.Resting.{JobValue, job_value, resting}
@@ -20,7 +15,7 @@ use Rattle.runner.proofs.Partners.{HasPartner}
 use Rattle.runner.proofs.Resting.{outcome_resting}
 use Rattle.runner.proofs.Running.{HasEnded, means}
 use Rattle.session.specs.declared.step.SessionStep.{SessionStep}
-use Rattle.session.specs.World.{ScheduledProgram, WorldJob, World, place_after, place_of, numbered, world_after}
+use Rattle.session.specs.World.{ScheduledProgram, WorldJob, World, place_of, numbered, world_after}
 use Rattle.session.specs.Standing.{SessionValue, IsPlanOf, StandsAt, IsAt}
 use Rattle.session.specs.Laws.{is_step_of, GoesOnAlone, RunsAlone, shown_at, ShowsItsOwnRun, HasPrograms}
 use Rattle.session.proofs.Alone.{jobs_go_alone}

@@ -1,6 +1,6 @@
 -- Steps that may change places.
-use Rattle.std.proofs.Common.{◌≡◌, ◌≢◌, ℕ, ◌+◌, ◌==◌, true, false, List, [], ◌∷◌, ◌++◌, Option, Some, None, length, refl, sym, ap, ◌∙◌, subst}
-use Rattle.std.proofs.lemmas.Bool.{eqb-false, ne_eqb, both_ways, eq-eqb}
+use Rattle.std.proofs.Common.{◌≡◌, ◌≢◌, ℕ, ◌+◌, false, List, [], ◌∷◌, Option, Some, None, refl, sym, ap, ◌∙◌, subst}
+use Rattle.std.proofs.lemmas.Bool.{eqb-false, ne_eqb}
 use Rattle.flat_snapshot.specs.Digraph.{Digraph}
 use Rattle.version_list.specs.declared.step.Step.{Step}
 use Rattle.version_list.specs.declared.step.Step.TheVariants as versions
@@ -8,9 +8,9 @@ use Rattle.version_list.specs.Machine.{ticket_graph}
 use Rattle.session.specs.declared.step.SessionStep.{SessionStep}
 use Rattle.session.specs.declared.step.SessionStep.TheVariants.{Commit, Acquire, Release, Start, JobStep}
 use Rattle.session.specs.declared.step.SessionReply.TheVariants.{Job}
-use Rattle.session.specs.World.{ScheduledProgram, WorldJob, World, Answer, after_its_step, numbered, with_numbered, on_versions, start, job_step, answer}
+use Rattle.session.specs.World.{ScheduledProgram, WorldJob, World, Answer, after_its_step, numbered, on_versions, start, job_step, answer}
 use Rattle.session.specs.Laws.{is_step_of, MayChangePlaces}
-use Rattle.session.proofs.Numbered.{numbered_same, numbered_other, numbered_append, with_numbered_append, with_numbered_twice, with_numbered_length}
+use Rattle.session.proofs.Numbered.{numbered_other, numbered_append, with_numbered_append, with_numbered_twice, with_numbered_length}
 
 -- the answers of two steps taken in either order
 record ChangePlaces (one one_later other other_later : Answer) : Type 0 where

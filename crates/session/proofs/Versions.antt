@@ -1,5 +1,5 @@
 -- The versions of a session are stepped, or refuse.
-use Rattle.std.proofs.Common.{◌≡◌, ℕ, Bool, Option, None, is_some, Result, Ok, Err, OnErr, if◌then◌else◌, refl, sym, ap, ◌∙◌, subst}
+use Rattle.std.proofs.Common.{◌≡◌, ℕ, Bool, None, is_some, Result, Ok, Err, OnErr, if◌then◌else◌, refl, sym, ap, ◌∙◌}
 use Rattle.version_list.specs.declared.error.VersionError.{VersionError}
 use Rattle.version_list.specs.declared.error.VersionError.TheVariants as versions
 use Rattle.version_list.specs.declared.step.Step.{Step}

@@ -1,5 +1,5 @@
 -- Laws of the world, in plain words.
-use Rattle.std.specs.Prelude.{◌≡◌, ℕ, ◌+◌, ◌==◌, Bool, false, List, [], ◌∷◌, ◌++◌, length, take, count_by}
+use Rattle.std.specs.Prelude.{◌≡◌, ℕ, ◌+◌, ◌==◌, Bool, false, List, [], ◌∷◌, ◌++◌, length, take}
 use Rattle.std.specs.Option.{option_map}
 use Rattle.algorithm_meaning.specs.declared.outcome.End.{End}
 use Rattle.algorithm_meaning.specs.declared.outcome.Outcome.{Outcome}
@@ -21,7 +21,7 @@ use Rattle.session.specs.declared.step.SessionStep.{SessionStep}
 use Rattle.session.specs.declared.step.SessionStep.TheVariants.{Commit, JobStep}
 use Rattle.session.specs.declared.step.SessionReply.{SessionReply}
 use Rattle.session.specs.declared.step.SessionReply.TheVariants.{Of}
-use Rattle.session.specs.World.{ScheduledProgram, WorldJob, World, place_after, place_of, answer, world_after, first_world}
+use Rattle.session.specs.World.{ScheduledProgram, WorldJob, World, place_after, place_of, answer, world_after}
 use Rattle.session.specs.Standing.{IsPlanOf}
 
 -- whether it is a step of the job of this number

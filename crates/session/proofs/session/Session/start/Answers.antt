@@ -1,4 +1,4 @@
-use Rattle.std.proofs.Common.{◌≡◌, ℕ, Bor, map, List, ◌∷◌, [], ◌++◌, ◌+◌, Option, None, Some, length, refl, ap, sym, ◌∙◌, subst}
+use Rattle.std.proofs.Common.{◌≡◌, ℕ, Bor, map, List, ◌∷◌, [], ◌++◌, ◌+◌, Option, None, length, refl, ap, sym, ◌∙◌, subst}
 use Rattle.std.specs.Arc.{arc_value}
 use Rattle.std.specs.Option.{MatchOption, option_copied}
 use Rattle.runner.specs.Resting.{JobValue}

@@ -1,4 +1,4 @@
-use Rattle.std.proofs.Common.{◌≡◌, ℕ, List, Option, MutBor, ap, sym, ◌∙◌, subst}
+use Rattle.std.proofs.Common.{List, Option, MutBor, ap, sym, subst}
 use Rattle.std.specs.List.{IsItemAtMut}
 use Rattle.std.specs.Prelude.{slice_set}
 use Rattle.runner.specs.Resting.{JobValue}
