@@ -1,0 +1,10 @@
+pub mod Numbered
+pub mod Alone
+pub mod Places
+pub mod Folds
+pub mod Attempting
+pub mod Taking
+pub mod Versions
+pub mod Flats
+pub mod OwnRuns
+pub mod Running

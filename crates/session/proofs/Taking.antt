@@ -1,0 +1,78 @@
+-- Steps of jobs and starts, in the words of the session's lists.
+use Rattle.std.proofs.Common.{◌≡◌, ℕ, zero, suc, ◌+◌, ◌<◌, ◌≤◌, List, [], ◌∷◌, ◌++◌, Option, Some, None, map, length, get_or, slice_get, refl, sym, ap, ◌∙◌, subst, arith}
+use Rattle.std.specs.Prelude.{slice_set}
+use Rattle.std.specs.Option.{option_map}
+use Rattle.std.proofs.lemmas.Option.{slice_get_past, slice_get_read, slice_get-map}
+use Rattle.flat_snapshot.specs.Digraph.{Digraph}
+use Rattle.plans.specs.declared.plan.Plan.{Plan}
+use Rattle.runner.specs.declared.job.Stand.{Stand}
+use Rattle.runner.specs.Job.{stand_of}
+use Rattle.runner.specs.Resting.{JobValue}
+use Rattle.version_list.specs.Machine.{State, version_graph, ticket_version, ticket_graph}
+use Rattle.session.specs.declared.step.SessionReply.TheVariants.{Job, Stands}
+use Rattle.session.specs.World.{ScheduledProgram, World, numbered, with_numbered, refused, start, job_step}
+use Rattle.session.specs.Standing.{SessionValue, IsAt, Takes}
+use Rattle.session.proofs.Attempting.{IsNewJob, IsNextOf, no_program, no_ticket, starts, no_job, steps_job}
+
+-- a number is one more than its place
+numbered_at : {A : Type 0} (xs : List A) (number place : ℕ) → number ≡ place + 1 → numbered xs number ≡ slice_get xs place
+numbered_at xs number place is = let next : number ≡ suc place = omega (arith, is) in ap (numbered xs) next
+
+with_numbered_at : {A : Type 0} (xs : List A) (number place : ℕ) (x : A) → number ≡ place + 1 → with_numbered xs number x ≡ slice_set xs place x
+with_numbered_at xs number place x is = let next : number ≡ suc place = omega (arith, is) in ap (λ (n : ℕ). with_numbered xs n x) next
+
+numbered_map : {A B : Type 0} (f : A → B) (xs : List A) (number : ℕ) → numbered (map f xs) number ≡ option_map f (numbered xs number)
+numbered_map f xs zero = refl
+numbered_map f xs (suc place) = slice_get-map f xs place
+
+-- the plan of a program, among plans that are shared
+plan_found : {A : Type 0} (plan_in : A → Plan) (plans : List Plan) (shared lent : List A) (program : ℕ) (found : Option A) → plans ≡ map plan_in shared → lent ≡ shared → found ≡ numbered lent program
+    → numbered plans program ≡ option_map plan_in found
+plan_found plan_in plans shared lent program found are lies is =
+    ap (λ (ps : List Plan). numbered ps program) are ∙ numbered_map plan_in shared program
+    ∙ ap (option_map plan_in) (ap (λ l. numbered l program) (sym lies) ∙ sym is)
+
+pub starts_no_program : {A : Type 0} (plan_in : A → Plan) (shared lent : List A) (programs : List ScheduledProgram) (w : World) (old : SessionValue) (program turns : ℕ) (graph : Option Digraph) → IsAt programs w old
+    → old.plans ≡ map plan_in shared → lent ≡ shared → None ≡ numbered lent program → start w turns (numbered programs program) graph ≡ refused w 412
+starts_no_program plan_in shared lent programs w old program turns graph at are lies is =
+    no_program programs w old program turns graph at (plan_found plan_in old.plans shared lent program None are lies is)
+
+-- the graph of a ticket, in the world
+graph_there : (programs : List ScheduledProgram) (w : World) (old : SessionValue) (s : State) (ticket : ℕ) (version : Option ℕ) → IsAt programs w old → old.versions ≡ s → ticket_version s.open_tickets ticket ≡ version
+    → ticket_graph w.versions ticket ≡ option_map (version_graph s) version
+graph_there programs w old s ticket version at here is =
+    ap (λ (v : State). ticket_graph v ticket) (sym at.versions ∙ here) ∙ ap (option_map (version_graph s)) is
+
+pub starts_no_ticket : {A : Type 0} (plan_in : A → Plan) (shared lent : List A) (programs : List ScheduledProgram) (w : World) (old : SessionValue) (s : State) (program ticket turns : ℕ) (plan : A) → IsAt programs w old
+    → old.plans ≡ map plan_in shared → lent ≡ shared → Some plan ≡ numbered lent program → old.versions ≡ s → ticket_version s.open_tickets ticket ≡ None
+    → start w turns (numbered programs program) (ticket_graph w.versions ticket) ≡ refused w 122
+starts_no_ticket plan_in shared lent programs w old s program ticket turns plan at are lies is here none =
+    no_ticket programs w old program turns (plan_in plan) (ticket_graph w.versions ticket) at (plan_found plan_in old.plans shared lent program (Some plan) are lies is)
+    (graph_there programs w old s ticket None at here none)
+
+-- a new job of a plan on a graph is one of an equal plan on an equal graph
+new_of : (p q : Plan) (g h : Digraph) (turns : ℕ) (j : JobValue) → p ≡ q → g ≡ h → IsNewJob p g turns j → IsNewJob q h turns j
+new_of p q g h turns j plans graphs new = subst (λ (r : Plan). IsNewJob r h turns j) plans (subst (λ (d : Digraph). IsNewJob p d turns j) graphs new)
+
+pub starts_there : {A : Type 0} (plan_in : A → Plan) (shared lent : List A) (programs : List ScheduledProgram) (w : World) (old new : SessionValue) (s : State) (program ticket version turns : ℕ) (plan : A) (graph flat : Digraph) (own : Plan) (j : JobValue)
+    (number : ℕ) → IsAt programs w old → old.plans ≡ map plan_in shared → lent ≡ shared → Some plan ≡ numbered lent program → old.versions ≡ s → ticket_version s.open_tickets ticket ≡ Some version → graph ≡ version_graph s version
+    → own ≡ plan_in plan → flat ≡ graph → IsNewJob own flat turns j → new ≡ record old { jobs = old.jobs ++ j ∷ [] } → number ≡ length old.jobs + 1
+    → Takes programs (start w turns (numbered programs program) (ticket_graph w.versions ticket)) (Job number) new
+starts_there plan_in shared lent programs w old new s program ticket version turns plan graph flat own j number at are lies is here held graph_is own_is flat_is new_is after count =
+    subst (λ (n : ℕ). Takes programs (start w turns (numbered programs program) (ticket_graph w.versions ticket)) (Job n) new) (sym count)
+    (starts programs w old new program turns (plan_in plan) graph (ticket_graph w.versions ticket) j at (plan_found plan_in old.plans shared lent program (Some plan) are lies is)
+    (graph_there programs w old s ticket (Some version) at here held ∙ ap Some (sym graph_is)) (new_of own (plan_in plan) flat graph turns j own_is flat_is new_is) after)
+
+pub no_job_there : (programs : List ScheduledProgram) (w : World) (old : SessionValue) (jobs : List JobValue) (number place : ℕ) → IsAt programs w old → old.jobs ≡ jobs → number ≡ place + 1 → length jobs ≤ place
+    → job_step w number (numbered w.jobs number) ≡ refused w 413
+no_job_there programs w old jobs number place at are is past =
+    no_job programs w old number at (ap (λ (js : List JobValue). numbered js number) are ∙ numbered_at jobs number place is ∙ slice_get_past jobs place past)
+
+pub steps_job_there : (programs : List ScheduledProgram) (w : World) (old new : SessionValue) (jobs : List JobValue) (number place : ℕ) (j k : JobValue) (stand : Stand) → IsAt programs w old → old.jobs ≡ jobs → number ≡ place + 1
+    → place < length jobs → ((d : JobValue) → j ≡ get_or jobs place d) → IsNextOf j k → stand ≡ stand_of k.stands → new ≡ record old { jobs = slice_set jobs place k }
+    → Takes programs (job_step w number (numbered w.jobs number)) (Stands stand) new
+steps_job_there programs w old new jobs number place j k stand at are is within there next stands after =
+    let found : numbered old.jobs number ≡ Some j = ap (λ (js : List JobValue). numbered js number) are ∙ numbered_at jobs number place is ∙ slice_get_read jobs (length jobs) place j refl within (there j) in
+    let put : slice_set jobs place k ≡ with_numbered old.jobs number k = sym (ap (λ (js : List JobValue). with_numbered js number k) are ∙ with_numbered_at jobs number place k is) in
+    subst (λ (st : Stand). Takes programs (job_step w number (numbered w.jobs number)) (Stands st) new) (sym stands)
+    (steps_job programs w old new number j k at found next (after ∙ ap (λ (js : List JobValue). record old { jobs = js }) put))

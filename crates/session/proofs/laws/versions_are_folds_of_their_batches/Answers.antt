@@ -1,0 +1,5 @@
+use Rattle.session.proofs.Folds.{versions_are_folds}
+use Rattle.session.proofs.laws.versions_are_folds_of_their_batches.Goals as goal
+
+pub returns : goal.returns
+returns c = versions_are_folds

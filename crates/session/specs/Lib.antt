@@ -1,0 +1,5 @@
+pub mod World
+pub mod Standing
+pub mod Laws
+pub mod Refusal
+pub mod Attempts

@@ -1,0 +1,60 @@
+-- What a session is to a contract, and how it stands where a world stands.
+use Rattle.std.specs.Prelude.{◌≡◌, ℕ, ◌<◌, true, false, List, [], length, take, Result, Ok, Err}
+use Rattle.plans.specs.declared.plan.Plan.{Plan}
+use Rattle.plans.specs.Kernels.{ArePairwise}
+use Rattle.plans.specs.Plan.{plan_of}
+use Rattle.plans.specs.PlanOf.{IsPlan}
+use Rattle.plans.specs.Reducing.{AppliesReduce}
+use Rattle.runner.specs.Resting.{JobValue, job_value}
+use Rattle.tree_batch.specs.Digraph.{is_vertex_count, is_chunk_size}
+use Rattle.version_list.specs.Machine.{State, opened}
+use Rattle.session.specs.declared.error.SessionError.{SessionError}
+use Rattle.session.specs.declared.error.SessionError.TheVariants.{VertexRange, BadChunkSize, NotKept, NotHeld, HistoryFull, NoProgram, NoJob, NoMemory}
+use Rattle.session.specs.declared.step.SessionStep.{SessionStep}
+use Rattle.session.specs.declared.step.SessionReply.{SessionReply}
+use Rattle.session.specs.World.{ScheduledProgram, WorldJob, World, Answer, place_of, replies_to, world_after}
+
+-- the plans of the programs, the state of the versions, and the jobs in the order in which they were started
+pub record SessionValue : Type 0 where
+  pub plans : List Plan
+  pub versions : State
+  pub jobs : List JobValue
+
+-- the plan is that of the program under its schedule, and each edge apply of it gives a vector numbers by one reduction
+pub record IsPlanOf (plan : Plan) (program : ScheduledProgram) : Type 0 where
+  pub planned : IsPlan plan program.tree program.schedule
+  pub reducing : AppliesReduce program.tree (plan_of program.tree program.schedule)
+
+-- the job runs a plan of the world's program on the world's graph, and stands where the machine stands after the world's count of instructions
+pub record StandsAt (j : JobValue) (job : WorldJob) : Type 0 where
+  pub plan : IsPlanOf j.plan job.program
+  pub is : j ≡ job_value j.plan job.graph job.turns (place_of job)
+
+-- the session has plans of these programs, and stands where the world stands
+pub record IsAt (programs : List ScheduledProgram) (w : World) (s : SessionValue) : Type 0 where
+  pub plans : ArePairwise IsPlanOf s.plans programs
+  pub versions : s.versions ≡ w.versions
+  pub jobs : ArePairwise StandsAt s.jobs w.jobs
+
+-- a session that is opened with these plans, or the first refusal
+abbrev pub Opens : (n b : ℕ) → List Plan → Result SessionValue SessionError → Type 0
+Opens n b plans (Ok s) = (is_vertex_count n ≡ true) × (is_chunk_size b ≡ true) × (s ≡ record { plans = plans; versions = opened n 16777216; jobs = [] })
+Opens n b plans (Err VertexRange) = is_vertex_count n ≡ false
+Opens n b plans (Err BadChunkSize) = (is_vertex_count n ≡ true) × (is_chunk_size b ≡ false)
+Opens n b plans (Err NoMemory) = (is_vertex_count n ≡ true) × (is_chunk_size b ≡ true)
+Opens n b plans (Err NotKept) = ⊥
+Opens n b plans (Err NotHeld) = ⊥
+Opens n b plans (Err HistoryFull) = ⊥
+Opens n b plans (Err NoProgram) = ⊥
+Opens n b plans (Err NoJob) = ⊥
+
+-- the reply is the answer's, and the session stands where the answer's world stands
+pub record Takes (programs : List ScheduledProgram) (a : Answer) (reply : SessionReply) (s : SessionValue) : Type 0 where
+  pub reply_is : reply ≡ a.reply
+  pub stands : IsAt programs a.world s
+
+-- So it is with steps, one after another, where replies is the list that the call gives. Where memory runs out the call may stop before a step, after those in front of it.
+abbrev pub Runs : {A : Type 0} → List ScheduledProgram → World → List SessionStep → (A → List SessionReply) → Result A SessionError → SessionValue → Type 0
+Runs programs w steps replies (Ok x) new = (replies x ≡ replies_to programs w steps) × IsAt programs (world_after programs w steps) new
+Runs programs w steps replies (Err NoMemory) new = (k : ℕ) × (k < length steps) × IsAt programs (world_after programs w (take k steps)) new
+Runs programs w steps replies (Err e) new = ⊥

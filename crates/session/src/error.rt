@@ -1,0 +1,78 @@
+//! Refusals of sessions.
+ghost use Rattle.std.specs.Prelude.{◌≡◌};
+ghost use Rattle.session.specs.Refusal.{number_of, of_versions};
+ghost use Rattle.session.specs.declared.error.SessionError.TheVariants.{NoMemory};
+
+use std::alloc::{AllocError, AllocFailed};
+use thiserror::Error;
+use version_list::VersionError;
+
+/// Why a session was not opened, or a step was refused.
+#[derive(Clone, Copy, Debug, PartialEq, Eq, Error)]
+pub enum SessionError {
+    #[error("a graph has 1 to 16777216 vertices, and an entry names two of them")]
+    VertexRange,
+    #[error("a chunk size is a power of two from 1 to 256")]
+    BadChunkSize,
+    #[error("the version is neither the newest nor held")]
+    NotKept,
+    #[error("the ticket is not open")]
+    NotHeld,
+    #[error("the history has no room for the step")]
+    HistoryFull,
+    #[error("no program has this number")]
+    NoProgram,
+    #[error("no job has this number")]
+    NoJob,
+    #[error("out of memory")]
+    NoMemory,
+}
+
+impl SessionError {
+    /// The number by which users know the refusal: 111, 103, 121, 122, 123, 412, 413 or 900.
+    pub fn number(self) -> u16
+        ensures { result ≡ number_of self }
+    {
+        match self {
+            SessionError::VertexRange => 111,
+            SessionError::BadChunkSize => 103,
+            SessionError::NotKept => 121,
+            SessionError::NotHeld => 122,
+            SessionError::HistoryFull => 123,
+            SessionError::NoProgram => 412,
+            SessionError::NoJob => 413,
+            SessionError::NoMemory => 900,
+        }
+    }
+}
+
+impl From<VersionError> for SessionError {
+    ghost from_gives = { λ error e. e ≡ of_versions error };
+
+    fn from(error: VersionError) -> SessionError {
+        match error {
+            VersionError::VertexRange => SessionError::VertexRange,
+            VersionError::BadChunkSize => SessionError::BadChunkSize,
+            VersionError::NotKept => SessionError::NotKept,
+            VersionError::NotHeld => SessionError::NotHeld,
+            VersionError::HistoryFull => SessionError::HistoryFull,
+            VersionError::NoMemory => SessionError::NoMemory,
+        }
+    }
+}
+
+impl From<AllocError> for SessionError {
+    ghost from_gives = { λ _ e. e ≡ NoMemory };
+
+    fn from(_error: AllocError) -> SessionError {
+        SessionError::NoMemory
+    }
+}
+
+impl<T: Drop> From<AllocFailed<T>> for SessionError {
+    ghost from_gives = { λ _ e. e ≡ NoMemory };
+
+    fn from(_error: AllocFailed<T>) -> SessionError {
+        SessionError::NoMemory
+    }
+}

@@ -1,0 +1,16 @@
+//! Tests of sessions: jobs beside commits, whose places were worked out by hand, two jobs in every order of their first
+//! steps, and random steps beside a plain world.
+#![tactic(auto)]
+
+#[cfg(test)]
+mod interleavings;
+#[cfg(test)]
+mod plain_world;
+#[cfg(test)]
+mod programs;
+#[cfg(test)]
+mod random_steps;
+#[cfg(test)]
+mod refusals;
+#[cfg(test)]
+mod rows;

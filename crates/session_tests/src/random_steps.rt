@@ -1,0 +1,140 @@
+//! Random steps, beside a plain world.
+
+use crate::plain_world::PlainWorld;
+use crate::programs::{batch_of, plans, session};
+use algorithm_meaning::Outcome;
+use measuring::Random;
+use plans::Plan;
+use session::{Session, SessionStep};
+use std::alloc::{AllocError, Global};
+use std::sync::Arc;
+use std::test::Fail;
+use tree_batch::Entry;
+use version_list::Which;
+
+// How many lists of steps there are, and how long each is.
+const LISTS: u64 = 40;
+const STEPS: u32 = 80;
+
+// A vertex; one in 43 is none.
+fn random_vertex(random: &mut Random) -> u32 {
+    (random.below(43) / 7) as u32
+}
+
+fn random_entry(random: &mut Random) -> Entry {
+    let (source, destination) = (random_vertex(random), random_vertex(random));
+    match random.below(3) {
+        0 => Entry::Remove(source, destination),
+        _ => Entry::Add(source, destination),
+    }
+}
+
+fn random_step(alloc: Global, random: &mut Random) -> Result<SessionStep, AllocError> {
+    Ok(match random.below(16) {
+        0 | 1 => {
+            let entries = [random_entry(random), random_entry(random), random_entry(random)];
+            SessionStep::Commit(batch_of(alloc, &entries)?)
+        }
+        2 => SessionStep::Acquire(Which::Newest),
+        3 => SessionStep::Acquire(Which::At(random.below(8))),
+        4 => SessionStep::Release(random.below(6)),
+        5 | 6 => SessionStep::Start {
+            program: random.below(4),
+            ticket: random.below(6),
+            turns: random.below(5),
+        },
+        _ => SessionStep::JobStep(random.below(6)),
+    })
+}
+
+// The plans of the programs, each to be shared.
+fn shared(alloc: Global) -> Result<Vec<Arc<Plan>>, Fail> {
+    let mut shared = Vec::new(alloc);
+    for plan in plans(alloc)? {
+        shared.push(Arc::new(alloc, plan).map_err(|_| AllocError)?)?;
+    }
+    Ok(shared)
+}
+
+// Whether two outcomes show the same.
+fn is_alike(one: &Outcome, other: &Outcome) -> bool {
+    let vectors = one
+        .vectors
+        .as_slice()
+        .iter()
+        .zip(other.vectors.as_slice())
+        .all(|(one, other)| one.entries.as_slice() == other.entries.as_slice());
+    let sets = one
+        .sets
+        .as_slice()
+        .iter()
+        .zip(other.sets.as_slice())
+        .all(|(one, other)| one.members.as_slice() == other.members.as_slice());
+    let counts = one.vectors.as_slice().len() == other.vectors.as_slice().len()
+        && one.sets.as_slice().len() == other.sets.as_slice().len();
+    let text = one.text.as_slice() == other.text.as_slice();
+    vectors && sets && counts && text && one.end == other.end && one.turns == other.turns
+}
+
+// Whether the job of this number shows what it shows when it is run afresh, or is there in neither.
+fn is_job_alike(
+    alloc: Global,
+    session: &Session,
+    world: &PlainWorld,
+    plans: &[Arc<Plan>],
+    number: u64,
+) -> Result<bool, Fail> {
+    let afresh = world.afresh(alloc, plans, number)?;
+    match (session.job(number), afresh) {
+        (Some(job), Some((_stand, wanted))) => Ok(is_alike(&job.outcome(alloc)?, &wanted)),
+        (None, None) => Ok(true),
+        _ => Ok(false),
+    }
+}
+
+// Whether a session answers a random list of steps as the plain world does, one by one and all at once, and its jobs show
+// the same afterwards.
+fn is_list_alike(alloc: Global, plans: &[Arc<Plan>], seed: u64) -> Result<bool, Fail> {
+    let mut random = Random::new(seed);
+    let mut steps = Vec::new(alloc);
+    for _step in 0..STEPS {
+        steps.push(random_step(alloc, &mut random)?)?;
+    }
+    let mut session = session(alloc)?;
+    let mut world = PlainWorld::new(alloc)?;
+    let mut replies = Vec::new(alloc);
+    let mut alike = true;
+    for step in &steps {
+        let reply = session.step(alloc, step.clone()?)?;
+        let wanted = world.answer(alloc, plans, step)?;
+        alike = alike && reply == wanted;
+        replies.push(wanted)?;
+    }
+    for number in 0..8u64 {
+        alike = alike && is_job_alike(alloc, &session, &world, plans, number)?;
+    }
+    Ok(alike && is_run_alike(alloc, &steps, &replies)?)
+}
+
+fn is_run_alike(
+    alloc: Global,
+    steps: &[SessionStep],
+    wanted: &[session::SessionReply],
+) -> Result<bool, Fail> {
+    let mut session = session(alloc)?;
+    let replies = session.run(alloc, steps)?;
+    Ok(replies.as_slice() == wanted)
+}
+
+#[test]
+fn sessions_stand_where_a_plain_world_stands(rt: HostRuntime) -> Result<(), Fail> {
+    let alloc = rt.alloc();
+    let plans = shared(alloc)?;
+    let mut alike = 0u64;
+    for seed in 0..LISTS {
+        alike = alike.wrapping_add(u64::from(is_list_alike(alloc, &plans, seed)?));
+    }
+    drop(plans);
+    assert_eq!(rt; alike, LISTS);
+    Ok(())
+}
