@@ -16,7 +16,7 @@ use version_list::Which;
 const MOST_READS: u32 = 1_000_000;
 
 // Commits an empty batch, and answers its number or why it was refused.
-fn commit_nothing<J: Naming, W: Wait + Drop, R: Threads + Wait + Sync>(
+pub(crate) fn commit_nothing<J: Naming, W: Wait + Drop, R: Threads + Wait + Sync>(
     rt: &R,
     alloc: Global,
     graph: &SharedGraph<J, W>,
@@ -27,7 +27,7 @@ fn commit_nothing<J: Naming, W: Wait + Drop, R: Threads + Wait + Sync>(
 }
 
 // Commits one edge.
-fn add<J: Naming, W: Wait + Drop, R: Threads + Wait + Sync>(
+pub(crate) fn add<J: Naming, W: Wait + Drop, R: Threads + Wait + Sync>(
     rt: &R,
     alloc: Global,
     graph: &SharedGraph<J, W>,
@@ -47,7 +47,7 @@ fn newest<J: Naming>(reader: &mut Reader<J>) -> Result<Snapshot, SharedError> {
 }
 
 // The number of the newest version, and how many edges it has.
-fn look<J: Naming>(reader: &mut Reader<J>) -> Result<(u64, usize), SharedError> {
+pub(crate) fn look<J: Naming>(reader: &mut Reader<J>) -> Result<(u64, usize), SharedError> {
     let newest = newest(reader)?;
     Ok((newest.number, newest.graph.edge_count()))
 }
@@ -61,7 +61,7 @@ fn has_edge<J: Naming>(
     Ok(newest(reader)?.graph.contains(source, destination))
 }
 
-fn next<J: Naming>(readers: &mut Vec<Reader<J>>) -> Result<Reader<J>, SharedError> {
+pub(crate) fn next<J: Naming>(readers: &mut Vec<Reader<J>>) -> Result<Reader<J>, SharedError> {
     readers.pop().ok_or(SharedError::BadSeats)
 }
 
@@ -95,7 +95,7 @@ fn release_held<J: Naming, W: Wait + Drop, R: Wait>(
 }
 
 // The number of the version that is held, which is released; or why it is not held.
-fn hold_and_release<J: Naming, W: Wait + Drop, R: Wait>(
+pub(crate) fn hold_and_release<J: Naming, W: Wait + Drop, R: Wait>(
     rt: &R,
     alloc: Global,
     graph: &SharedGraph<J, W>,

@@ -1,0 +1,106 @@
+//! A shared graph of little room that is trimmed again and again, and the memory that it takes.
+
+ghost use Rattle.std.specs.Prelude.{◌≡◌};
+
+use shared_graph::{Naming, Opening, Reader, SharedError, SharedGraph};
+use std::alloc::{AllocError, Global};
+use std::io::{self, Error};
+use std::marker::Brand;
+use std::sync::Wait;
+use std::thread::Threads;
+use std::fs;
+use tree_batch::{Batch, Entry};
+
+const VERTICES: u32 = 1024;
+
+const ROOM: u64 = 10;
+
+// How many trims a row has, each after eight commits.
+const TRIMS: u32 = 1250;
+
+// How many rows there are, of 10,000 commits each.
+const ROWS: u64 = 10;
+
+/// Prints the number of the version and the pages of memory that are in use after each 10,000 commits.
+pub fn print_memory<R: AllocGlobal + Threads + Wait + Sync>(
+    rt: &HostRuntime,
+    threads: &R,
+) -> io::Result<()> {
+    print_rows::<Brand, R>(rt, threads, Opening::new())
+}
+
+fn print_rows<J: Naming, R: AllocGlobal + Threads + Wait + Sync>(
+    rt: &HostRuntime,
+    threads: &R,
+    opening: Opening,
+) -> io::Result<()>
+    requires book { opening ≡ J.book }
+    requires vertices { J.vertices ≡ 1024 }
+    requires room { J.room ≡ 10 }
+{
+    let opened = SharedGraph::<J, &R>::open_with_room(
+        threads,
+        rt.alloc(),
+        opening,
+        VERTICES,
+        64,
+        1,
+        ROOM,
+    );
+    let (graph, mut readers) = opened.map_err(told)?;
+    let [me] = readers.as_mut_slice() else {
+        return Ok(());
+    };
+    for _ in 0..ROWS {
+        let last = commit_and_trim(threads, rt.alloc(), &graph, me).map_err(told)?;
+        let statm = fs::read(rt, "/proc/self/statm")?;
+        println!(rt; "version {last}, memory {}", String::from_utf8_lossy(&statm))?;
+    }
+    Ok(())
+}
+
+// Commits and trims so often, and answers the last version.
+fn commit_and_trim<J: Naming, W: Wait + Drop, R: Threads + Wait + Sync>(
+    rt: &R,
+    alloc: Global,
+    graph: &SharedGraph<J, W>,
+    me: &mut Reader<J>,
+) -> Result<u64, SharedError> {
+    let mut last = 0;
+    for step in 0..TRIMS {
+        last = eight_commits(rt, alloc, graph, me, step)?;
+        if graph.trim(rt, me)? != 8 {
+            return Err(SharedError::HistoryFull);
+        }
+    }
+    Ok(last)
+}
+
+// Commits eight edges, and answers the last version.
+fn eight_commits<J: Naming, W: Wait + Drop, R: Threads + Wait + Sync>(
+    rt: &R,
+    alloc: Global,
+    graph: &SharedGraph<J, W>,
+    me: &mut Reader<J>,
+    step: u32,
+) -> Result<u64, SharedError> {
+    let mut last = 0;
+    for turn in 0..8u32 {
+        let batch = one_edge(alloc, step % 128 * 8 + turn)?;
+        last = graph.commit(rt, alloc, me, batch)?;
+    }
+    Ok(last)
+}
+
+// The batch of one edge.
+fn one_edge(alloc: Global, source: u32) -> Result<Batch, AllocError> {
+    let mut batch = Batch::new(alloc);
+    match batch.push(Entry::Add(source, source / 2)) {
+        Ok(()) => Ok(batch),
+        Err(_) => Err(AllocError),
+    }
+}
+
+fn told(_: SharedError) -> Error {
+    Error::other("the shared graph refused")
+}
