@@ -4,11 +4,11 @@ ghost use Rattle.std.specs.Prelude.{◌≡◌};
 
 use shared_graph::{Naming, Opening, Reader, SharedError, SharedGraph};
 use std::alloc::{AllocError, Global};
+use std::fs;
 use std::io::{self, Error};
 use std::marker::Brand;
 use std::sync::Wait;
 use std::thread::Threads;
-use std::fs;
 use tree_batch::{Batch, Entry};
 
 const VERTICES: u32 = 1024;
@@ -53,10 +53,19 @@ fn print_rows<J: Naming, R: AllocGlobal + Threads + Wait + Sync>(
     };
     for _ in 0..ROWS {
         let last = commit_and_trim(threads, rt.alloc(), &graph, me).map_err(told)?;
-        let statm = fs::read(rt, "/proc/self/statm")?;
-        println!(rt; "version {last}, memory {}", String::from_utf8_lossy(&statm))?;
+        println!(rt; "version {last}: {} pages of memory", pages(rt)?)?;
     }
     Ok(())
+}
+
+// How many pages of memory this process has, as Linux tells.
+fn pages(rt: &HostRuntime) -> io::Result<u64> {
+    let told = String::from_utf8_lossy(rt.alloc(), &fs::read(rt, "/proc/self/statm")?)?;
+    let pages = told.split(' ').nth(1).map(|word| word.parse::<u64>());
+    match pages {
+        Some(Ok(pages)) => Ok(pages),
+        _ => Err(Error::other("the memory is not told")),
+    }
 }
 
 // Commits and trims so often, and answers the last version.

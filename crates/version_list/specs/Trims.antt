@@ -1,7 +1,9 @@
 -- Trims: the entries of a history are dropped, and it begins anew in the present state.
-use Rattle.std.specs.Prelude.{◌≡◌, ℕ, ◌+◌, Result, Ok, Err, length}
-use Rattle.version_list.specs.declared.step.Step.TheVariants.{Trim}
+use Rattle.std.specs.Prelude.{◌≡◌, ℕ, ◌+◌, Result, Ok, Err, List, [], ◌∷◌, length}
+use Rattle.version_list.specs.declared.step.Step.{Step}
+use Rattle.version_list.specs.declared.step.Step.TheVariants.{Commit, Acquire, Release, Trim}
 use Rattle.version_list.specs.declared.step.Reply.TheVariants.{Trimmed, Refused}
+use Rattle.version_list.specs.declared.step.Done.{Done}
 use Rattle.version_list.specs.declared.error.VersionError.{VersionError}
 use Rattle.version_list.specs.declared.error.VersionError.TheVariants.{NoMemory, VertexRange, BadChunkSize, NotKept, NotHeld, HistoryFull}
 use Rattle.version_list.specs.declared.prepared.PreparedTrim.{PreparedTrim}
@@ -34,3 +36,15 @@ PreparesTrim t (Err BadChunkSize) = ⊥
 PreparesTrim t (Err NotKept) = ⊥
 PreparesTrim t (Err NotHeld) = ⊥
 PreparesTrim t (Err NoMemory) = ⊥
+
+-- how many entries there are since the last trim after a step, where there were n before
+abbrev pub entries_with : ℕ → Step → ℕ
+entries_with n (Commit batch) = n + 1
+entries_with n (Acquire which) = n + 1
+entries_with n (Release number) = n + 1
+entries_with n Trim = 0
+
+-- how many entries a history has since its last trim, where there were n at its beginning
+abbrev pub entries_since_trim : ℕ → List Done → ℕ
+entries_since_trim n [] = n
+entries_since_trim n (done ∷ history) = entries_since_trim (entries_with n done.step) history

@@ -3,7 +3,7 @@ ghost use Rattle.std.specs.Prelude.{◌≡◌};
 ghost use Rattle.std.specs.Borrow.{ftrue};
 ghost use Rattle.version_list.specs.Machine.{State};
 
-use std::fmt;
+use std::fmt::{self, Formatter, Write};
 use std::marker::Model;
 use std::mem::size_of;
 
@@ -32,7 +32,7 @@ impl Base {
 }
 
 impl fmt::Debug for Base {
-    fn fmt(&self, f: &mut fmt::Formatter<'_>) -> fmt::Result {
+    fn fmt<W: Write>(&self, f: &mut Formatter<W>) -> fmt::Result {
         f.write_str("Base")
     }
 }

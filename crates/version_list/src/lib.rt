@@ -10,11 +10,13 @@
 mod base;
 mod error;
 mod held;
+mod laws;
 mod prepared;
 mod step;
 mod versions;
 
 pub use error::VersionError;
+pub use laws::histories_are_counted;
 pub use prepared::{Prepared, PreparedAcquire, PreparedTrim};
 pub use step::{Done, Reply, Step, Ticket, Which};
 pub use versions::{MAX_HISTORY, Versions};

@@ -18,9 +18,8 @@ use sound.WpLaws.{WpFn-mono}
 use types.Kit.{‵, raw, ◌⊛◌, ◌$◌, ◌∵◌, !, qed, move, keep, split, join, fjoin, use0, suffices, done}
 use types.Run.{no_more, and_then, unit_lit, returns, enter}
 use types.Part.{agg}
-use types.ByLocal.{alloc_all, pass_all, free_all, look_at, get, sets, env}
+use types.ByLocal.{alloc_all, pass_all, free_all, look_at, sets}
 use denote.RattleType.{RattleType, owns}
-use denote.Memory.{mem}
 use denote.Exit.{yes}
 use denote.Laws.{Are, Ises, owns_show, showss}
 use denote.Param.{param, layouts}

@@ -1,4 +1,4 @@
-use Rattle.std.proofs.Common.{◌<◌, length, refl, sym, subst, arith}
+use Rattle.std.proofs.Common.{◌+◌, ◌<◌, length, refl, sym, subst, arith}
 use Rattle.version_list.specs.declared.step.Step.TheVariants.{Acquire}
 use Rattle.version_list.specs.declared.step.Reply.TheVariants.{Ticket}
 use Rattle.version_list.specs.declared.versions.Versions.TheInside.{Inside}

@@ -1,4 +1,4 @@
-use Rattle.std.proofs.Common.{◌≡◌, ◌∙◌, false, Some, is_some, nat_eq, refl, sym, ap, subst}
+use Rattle.std.proofs.Common.{◌≡◌, ◌+◌, ◌∙◌, false, Some, is_some, nat_eq, refl, sym, ap, subst}
 use Rattle.indexmap.specs.IndexMap.{get}
 use Rattle.version_list.specs.declared.step.Step.TheVariants.{Release}
 use Rattle.version_list.specs.declared.step.Reply.TheVariants.{Released, Refused}
