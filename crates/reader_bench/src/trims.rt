@@ -2,16 +2,14 @@
 
 ghost use Rattle.std.specs.Prelude.{◌≡◌};
 
+use crate::readers::{VERTICES, commit_one, told_shared};
 use shared_graph::{Naming, Opening, Reader, SharedError, SharedGraph};
-use std::alloc::{AllocError, Global};
+use std::alloc::Global;
 use std::fs;
 use std::io::{self, Error};
 use std::marker::Brand;
 use std::sync::Wait;
 use std::thread::Threads;
-use tree_batch::{Batch, Entry};
-
-const VERTICES: u32 = 1024;
 
 const ROOM: u64 = 10;
 
@@ -47,12 +45,12 @@ fn print_rows<J: Naming, R: AllocGlobal + Threads + Wait + Sync>(
         1,
         ROOM,
     );
-    let (graph, mut readers) = opened.map_err(told)?;
+    let (graph, mut readers) = opened.map_err(told_shared)?;
     let [me] = readers.as_mut_slice() else {
         return Ok(());
     };
     for _ in 0..ROWS {
-        let last = commit_and_trim(threads, rt.alloc(), &graph, me).map_err(told)?;
+        let last = commit_and_trim(threads, rt.alloc(), &graph, me).map_err(told_shared)?;
         println!(rt; "version {last}: {} pages of memory", pages(rt)?)?;
     }
     Ok(())
@@ -95,21 +93,7 @@ fn eight_commits<J: Naming, W: Wait + Drop, R: Threads + Wait + Sync>(
 ) -> Result<u64, SharedError> {
     let mut last = 0;
     for turn in 0..8u32 {
-        let batch = one_edge(alloc, step % 128 * 8 + turn)?;
-        last = graph.commit(rt, alloc, me, batch)?;
+        last = commit_one(rt, alloc, graph, me, step % 128 * 8 + turn)?;
     }
     Ok(last)
-}
-
-// The batch of one edge.
-fn one_edge(alloc: Global, source: u32) -> Result<Batch, AllocError> {
-    let mut batch = Batch::new(alloc);
-    match batch.push(Entry::Add(source, source / 2)) {
-        Ok(()) => Ok(batch),
-        Err(_) => Err(AllocError),
-    }
-}
-
-fn told(_: SharedError) -> Error {
-    Error::other("the shared graph refused")
 }

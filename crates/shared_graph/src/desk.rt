@@ -24,9 +24,7 @@ use std::marker::Model;
 use std::sync::{Arc, Wait};
 use std::thread::Threads;
 use tree_batch::{Batch, Graph};
-use version_list::{
-    Done, Prepared, PreparedAcquire, Reply, Step, VersionError, Versions, Which,
-};
+use version_list::{Done, Prepared, PreparedAcquire, Reply, Step, VersionError, Versions, Which};
 
 /// From how many entries on a batch is worth the start of threads.
 const MANY_ENTRIES: usize = 4096;
@@ -167,11 +165,7 @@ impl<J: Naming, R: Wait + Drop> Desk<J, R> {
 
     /// Drops the entries that the versions have, in the name of a reader, and answers how many. All
     /// growth comes before the step.
-    pub(crate) fn trim<T: Wait>(
-        &mut self,
-        rt: &T,
-        me: &mut Reader<J>,
-    ) -> Result<u64, SharedError>
+    pub(crate) fn trim<T: Wait>(&mut self, rt: &T, me: &mut Reader<J>) -> Result<u64, SharedError>
         ensures answer { Answers (opened J.vertices J.room) me.old Trim reply.Trimmed result me.new }
         ensures log { IfOk result (λ _. me.new.shown ≡ self.new) }
         ensures err { IfErr result (λ _. self.new ≡ self.old) }

@@ -47,7 +47,7 @@ fn newest<J: Naming>(reader: &mut Reader<J>) -> Result<Snapshot, SharedError> {
 }
 
 // The number of the newest version, and how many edges it has.
-pub(crate) fn look<J: Naming>(reader: &mut Reader<J>) -> Result<(u64, usize), SharedError> {
+fn look<J: Naming>(reader: &mut Reader<J>) -> Result<(u64, usize), SharedError> {
     let newest = newest(reader)?;
     Ok((newest.number, newest.graph.edge_count()))
 }
@@ -61,7 +61,7 @@ fn has_edge<J: Naming>(
     Ok(newest(reader)?.graph.contains(source, destination))
 }
 
-pub(crate) fn next<J: Naming>(readers: &mut Vec<Reader<J>>) -> Result<Reader<J>, SharedError> {
+fn next<J: Naming>(readers: &mut Vec<Reader<J>>) -> Result<Reader<J>, SharedError> {
     readers.pop().ok_or(SharedError::BadSeats)
 }
 
@@ -308,7 +308,7 @@ fn read_beside<
         || add_all(rt, alloc, graph, &mut writer),
         || read_all(rt, readers),
     );
-    let at_end = reads_rise(rt, &mut writer);
+    let at_end = reads_rise(rt, &mut writer, COMMITS);
     drop(writer);
     Ok(added? && risen? && at_end?)
 }
@@ -321,21 +321,25 @@ fn read_all<J: Naming + Send + Sync, R: Threads + Clock + Sync>(
     let risen = thread::map_vec(
         rt,
         readers,
-        &|mut reader: Reader<J>| { reads_rise(rt, &mut reader) },
+        &|mut reader: Reader<J>| { reads_rise(rt, &mut reader, COMMITS) },
     )?;
     Ok(risen.iter().all(|it| *it == Ok(true)))
 }
 
 // Whether the numbers never fall until the last version comes, and each snapshot has as many edges as its
 // number says.
-fn reads_rise<J: Naming, C: Clock>(clock: &C, reader: &mut Reader<J>) -> Result<bool, SharedError> {
+pub(crate) fn reads_rise<J: Naming, C: Clock>(
+    clock: &C,
+    reader: &mut Reader<J>,
+    last: u64,
+) -> Result<bool, SharedError> {
     let mut seen = 0;
     for _ in 0..MOST_READS {
         let (number, edges) = look(reader)?;
         if number < seen || edges as u64 != number {
             return Ok(false);
         }
-        if number == COMMITS {
+        if number == last {
             return Ok(true);
         }
         seen = number;

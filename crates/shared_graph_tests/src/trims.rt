@@ -1,19 +1,15 @@
 //! Trims of a shared graph, alone and beside readers and commits on threads.
 ghost use Rattle.std.specs.Prelude.{◌≡◌};
 
-use crate::rows::{add, commit_nothing, hold_and_release, look, next};
+use crate::rows::{add, commit_nothing, hold_and_release, reads_rise};
 use shared_graph::{Naming, Opening, Reader, SharedError, SharedGraph};
 use std::alloc::Global;
 use std::marker::Brand;
 use std::rt::Clock;
 use std::sync::Wait;
 use std::test::Fail;
-use std::thread::{self, Threads, join};
-use std::time::Duration;
+use std::thread::{Threads, join};
 use version_list::Which;
-
-// How often a reader looks whether the last version has come.
-const MOST_READS: u32 = 1_000_000;
 
 #[test]
 fn a_trim_between_two_commits(rt: HostRuntime) -> Result<(), Fail> {
@@ -167,7 +163,9 @@ fn commit_beside<
         || trim_and_read(rt, alloc, graph, other, reader),
     );
     let (theirs, risen) = beside?;
-    let all = mine?.wrapping_add(theirs).wrapping_add(graph.trim(rt, other)?);
+    let all = mine?
+        .wrapping_add(theirs)
+        .wrapping_add(graph.trim(rt, other)?);
     Ok(risen && all == COMMITS + 2 * HOLDS)
 }
 
@@ -205,7 +203,7 @@ fn trim_and_read<
     let (dropped, risen) = join(
         rt,
         || hold_and_trim(rt, alloc, graph, other),
-        || reads_rise(rt, reader),
+        || reads_rise(rt, reader, COMMITS),
     );
     Ok((dropped?, risen?))
 }
@@ -226,22 +224,4 @@ fn hold_and_trim<J: Naming, W: Wait + Drop, R: Threads + Wait + Sync>(
         dropped = dropped.wrapping_add(graph.trim(rt, me)?);
     }
     Ok(dropped)
-}
-
-// Whether the numbers never fall until the last version comes, and each snapshot has as many edges as its
-// number says.
-fn reads_rise<J: Naming, C: Clock>(clock: &C, reader: &mut Reader<J>) -> Result<bool, SharedError> {
-    let mut seen = 0;
-    for _ in 0..MOST_READS {
-        let (number, edges) = look(reader)?;
-        if number < seen || edges as u64 != number {
-            return Ok(false);
-        }
-        if number == COMMITS {
-            return Ok(true);
-        }
-        seen = number;
-        thread::sleep(clock, Duration::from_micros(200));
-    }
-    Ok(false)
 }
