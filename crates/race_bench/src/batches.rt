@@ -61,7 +61,7 @@ impl Changes {
         let mut there = vec![in alloc; false; (VERTICES * VERTICES) as usize]?;
         for entry in self.entries.iter().take(count) {
             let (from, to) = entry.edge();
-            if let Some(place) = there.get_mut((from * VERTICES + to) as usize) {
+            if let Some(place) = there.get_mut(from as usize * VERTICES as usize + to as usize) {
                 *place = matches!(entry, Entry::Add(_, _));
             }
         }

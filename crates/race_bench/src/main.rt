@@ -6,7 +6,7 @@
 #![tactic(auto)]
 
 mod batches;
-mod races;
+mod rounds;
 
 use measuring::{is_printed, status_of, words_of};
 use std::io;
@@ -30,7 +30,7 @@ fn print<T: AllocGlobal + Threads + Wait + Sync>(
     option: &str,
 ) -> io::Result<bool> {
     match option {
-        "" => is_printed(races::print_outcome(rt, threads)),
+        "" => is_printed(rounds::print_outcome(rt, threads)),
         _ => Ok(false),
     }
 }
