@@ -28,4 +28,6 @@ mod token_spans;
 #[cfg(test)]
 mod version_steps;
 #[cfg(test)]
+mod version_trims;
+#[cfg(test)]
 mod written_sources;

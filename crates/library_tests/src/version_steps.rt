@@ -1,6 +1,6 @@
 //! Steps of versions whose history has little room, in one run.
-use Asked::{Acquire, Commit, Release};
-use Reply::{Refused, Released, Ticket, Version};
+use Asked::{Acquire, Commit, Release, Trim};
+use Reply::{Refused, Released, Ticket, Trimmed, Version};
 use std::alloc::Global;
 use std::test::Fail;
 use tree_batch::Batch;
@@ -12,6 +12,7 @@ enum Asked {
     Commit,
     Acquire(Which),
     Release(u64),
+    Trim,
 }
 
 impl Asked {
@@ -20,12 +21,13 @@ impl Asked {
             Commit => Step::Commit(Batch::new(alloc)),
             Acquire(which) => Step::Acquire(which),
             Release(number) => Step::Release(number),
+            Trim => Step::Trim,
         }
     }
 }
 
 fn replies_to(alloc: Global, room: u64, asked: &[Asked]) -> Result<Vec<Reply>, VersionError> {
-    let mut versions = Versions::with_room(alloc, 2, 64, room)?;
+    let mut versions = Versions::with_room(alloc, 3, 64, room)?;
     let mut steps = Vec::new(alloc);
     for step in asked {
         steps.push(step.step(alloc))?;
@@ -82,5 +84,36 @@ const LONG_REPLIES: [Reply; 12] = [
 fn a_full_history_releases_all_tickets(rt: HostRuntime) -> Result<(), Fail> {
     let replies = replies_to(rt.alloc(), 7, &LONG)?;
     assert!(rt; replies.as_slice() == LONG_REPLIES.as_slice());
+    Ok(())
+}
+
+const TRIMMED: [Asked; 9] = [
+    HOLD,
+    Commit,
+    Commit,
+    Trim,
+    Commit,
+    Commit,
+    Commit,
+    Release(1),
+    Release(1),
+];
+
+const TRIMMED_REPLIES: [Reply; 9] = [
+    Ticket(1, 0),
+    Version(1),
+    FULL,
+    Trimmed(2),
+    Version(2),
+    Version(3),
+    FULL,
+    Released,
+    Refused(122),
+];
+
+#[test]
+fn a_trim_makes_room_but_for_releases(rt: HostRuntime) -> Result<(), Fail> {
+    let replies = replies_to(rt.alloc(), 3, &TRIMMED)?;
+    assert!(rt; replies.as_slice() == TRIMMED_REPLIES.as_slice());
     Ok(())
 }

@@ -312,13 +312,17 @@ fn race_two<J: Naming + Send + Sync, W: Wait + Drop + Send + Sync, R: Threads + 
     [committed, ran, last]
 }
 
+// Whether all commits are made, and a trim after each eighth drops these eight.
 fn commit_all<J: Naming, W: Wait + Drop, R: Threads + Wait + Sync>(
     rt: &R,
     alloc: Global,
     graph: &SharedGraph<J, W>,
     me: &mut Reader<J>,
 ) -> bool {
-    (1..=COMMITS).all(|number| commit(rt, alloc, graph, me, number) == Ok(number))
+    (1..=COMMITS).all(|number| {
+        commit(rt, alloc, graph, me, number) == Ok(number)
+            && (number % 8 != 0 || graph.trim(rt, me) == Ok(8))
+    })
 }
 
 // Whether each of so many runs is of its version, and no version is older than the one before.
