@@ -7,7 +7,7 @@ use Rattle.tree_batch.specs.Digraph.{Digraph}
 use Rattle.version_list.specs.declared.step.Which.{Which}
 use Rattle.version_list.specs.declared.step.Step.TheVariants.{Commit, Acquire, Release}
 use Rattle.version_list.specs.declared.step.Reply.{Reply}
-use Rattle.version_list.specs.declared.step.Reply.TheVariants.{Version, Ticket, Released, Refused}
+use Rattle.version_list.specs.declared.step.Reply.TheVariants.{Version, Ticket, Released, Trimmed, Refused}
 use Rattle.version_list.specs.Machine.{State, changed, state_after, reply_to, newest_number, version_graph, is_kept}
 use Rattle.version_list.specs.Kept.{IsHeld}
 use Rattle.version_flats.specs.VersionFlats.{AreOf, Follows}
@@ -22,12 +22,14 @@ newest_stays : (s : State) (ticket : ℕ) (reply : Reply) → newest_number (cha
 newest_stays s ticket (Version number) = refl
 newest_stays s ticket (Ticket number version) = refl
 newest_stays s ticket Released = refl
+newest_stays s ticket (Trimmed count) = refl
 newest_stays s ticket (Refused number) = refl
 
 graph_stays : (s : State) (ticket : ℕ) (reply : Reply) (k : ℕ) → version_graph (changed s (Release ticket) reply) k ≡ version_graph s k
 graph_stays s ticket (Version number) k = refl
 graph_stays s ticket (Ticket number version) k = refl
 graph_stays s ticket Released k = refl
+graph_stays s ticket (Trimmed count) k = refl
 graph_stays s ticket (Refused number) k = refl
 
 -- after a release the ticket's version may go
@@ -49,18 +51,21 @@ kept_by_a_hold s which (Ticket number version) k kept = elim (cases_Bool (k == n
   | inr older ↦ or_right _ _ (list_any-append (λ t. t.version == k) s.open_tickets _ ∙ or_left _ _ (rw (older) at kept))
 ]
 kept_by_a_hold s which Released k kept = kept
+kept_by_a_hold s which (Trimmed count) k kept = kept
 kept_by_a_hold s which (Refused number) k kept = kept
 
 newest_by_a_hold : (s : State) (which : Which) (reply : Reply) → newest_number (changed s (Acquire which) reply) ≡ newest_number s
 newest_by_a_hold s which (Version number) = refl
 newest_by_a_hold s which (Ticket number version) = refl
 newest_by_a_hold s which Released = refl
+newest_by_a_hold s which (Trimmed count) = refl
 newest_by_a_hold s which (Refused number) = refl
 
 graph_by_a_hold : (s : State) (which : Which) (reply : Reply) (k : ℕ) → version_graph (changed s (Acquire which) reply) k ≡ version_graph s k
 graph_by_a_hold s which (Version number) k = refl
 graph_by_a_hold s which (Ticket number version) k = refl
 graph_by_a_hold s which Released k = refl
+graph_by_a_hold s which (Trimmed count) k = refl
 graph_by_a_hold s which (Refused number) k = refl
 
 pub flats_after_a_hold : (s t : State) (which : Which) (flats : VersionFlats) → AreOf s flats → t ≡ state_after s (Acquire which) → AreOf t flats

@@ -8,7 +8,7 @@ use Rattle.tree_batch.specs.Digraph.{empty_graph, graph_through}
 use Rattle.version_list.specs.declared.step.Which.{Which}
 use Rattle.version_list.specs.declared.step.Step.TheVariants as versions
 use Rattle.version_list.specs.declared.step.Reply.{Reply}
-use Rattle.version_list.specs.declared.step.Reply.TheVariants.{Version, Ticket, Released, Refused}
+use Rattle.version_list.specs.declared.step.Reply.TheVariants.{Version, Ticket, Released, Trimmed, Refused}
 use Rattle.version_list.specs.Machine.{State, changed, reply_to, ticket_graph, ticket_version, version_graph}
 use Rattle.session.specs.declared.step.SessionStep.{SessionStep}
 use Rattle.session.specs.declared.step.SessionStep.TheVariants.{Commit, Acquire, Release, Start, JobStep}
@@ -29,18 +29,21 @@ commit_adds : (s : State) (batch : List Entry) (reply : Reply) → Adds s (chang
 commit_adds s batch (Version number) = record { opening = refl; batches = refl }
 commit_adds s batch (Ticket number version) = adds_none s
 commit_adds s batch Released = adds_none s
+commit_adds s batch (Trimmed count) = adds_none s
 commit_adds s batch (Refused number) = adds_none s
 
 acquire_adds : (s : State) (which : Which) (reply : Reply) → Adds s (changed s (versions.Acquire which) reply) []
 acquire_adds s which (Version number) = adds_none s
 acquire_adds s which (Ticket number version) = record { opening = refl; batches = sym (append-nil s.batches) }
 acquire_adds s which Released = adds_none s
+acquire_adds s which (Trimmed count) = adds_none s
 acquire_adds s which (Refused number) = adds_none s
 
 release_adds : (s : State) (ticket : ℕ) (reply : Reply) → Adds s (changed s (versions.Release ticket) reply) []
 release_adds s ticket (Version number) = adds_none s
 release_adds s ticket (Ticket number version) = adds_none s
 release_adds s ticket Released = record { opening = refl; batches = sym (append-nil s.batches) }
+release_adds s ticket (Trimmed count) = adds_none s
 release_adds s ticket (Refused number) = adds_none s
 
 start_adds : (w : World) (turns : ℕ) (program : Option ScheduledProgram) (graph : Option Digraph) → Adds w.versions (start w turns program graph).world.versions []
