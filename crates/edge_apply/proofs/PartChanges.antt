@@ -61,9 +61,6 @@ named_push x (d ∷ vs) c none =
     let rest = named_push x vs c parts.1 in
     (ap₂ (λ (p q : Bool). p || q) parts.0 rest.0, rest.1)
 
-
-
-
 other_at : (v x : ℕ) (vs : List VectorChanges) (b : Bool) → (v == x) ≡ b → is_named v vs ≡ true → is_named x vs ≡ false → b ≡ false
 other_at v x vs true is there none = absurd (false≢true (sym none ∙ ap (λ (y : ℕ). is_named y vs) (sym (same v x is)) ∙ there))
 other_at v x vs false is there none = refl

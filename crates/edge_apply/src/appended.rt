@@ -11,10 +11,7 @@ use std::alloc::{AllocError, Global};
 use vectors::{Changes, EntryChange, VectorChanges};
 
 /// For each vector its changes in all parts, one part after the other. The only error is out of memory.
-pub(crate) fn append_changes(
-    alloc: Global,
-    parts: &[Found<Changes>],
-) -> Result<Changes, AllocError>
+pub(crate) fn append_changes(alloc: Global, parts: &[Found<Changes>]) -> Result<Changes, AllocError>
     ensures once { IfOk result (λ c. AreApart c.vectors.items) }
     ensures changes { IfOk result (λ c. (x : ℕ) → changes_of x c.vectors.items ≡ changes_in_parts x parts.now) }
 {

@@ -12,8 +12,8 @@ ghost use Rattle.edge_apply.specs.Applied.{AreChangesOn};
 ghost use Rattle.edge_apply.specs.Merged.{IsMerged};
 ghost use Rattle.edge_apply.specs.Pieces.{EachAscending, EachGathered};
 
-use crate::apply::Apply;
 use crate::appended::append_changes;
+use crate::apply::Apply;
 use crate::joining::join_between;
 use crate::range_merge::RangeMerge;
 use apply_options::Parallelization;
