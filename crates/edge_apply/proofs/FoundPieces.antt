@@ -7,8 +7,8 @@ use Rattle.kernels.specs.State.{StateValue}
 use Rattle.crew.specs.declared.piece_results.Found.{Found}
 use Rattle.crew.specs.Pieces.{pieces_of}
 use Rattle.edge_fold.specs.declared.gathered.Gathered.{Gathered}
-use Rattle.edge_fold.specs.Gathered.{AreGathered}
-use Rattle.edge_apply.specs.Pieces.{EachGathered}
+use Rattle.edge_fold.specs.Gathered.{AreAscending, AreGathered}
+use Rattle.edge_apply.specs.Pieces.{EachAscending, EachGathered}
 
 -- what is found of one piece more
 pub gathered_at : (n : ℕ) (m : StateValue) (steps : List StepsTree) (edges_of : ℕ → List (ℕ × ℕ)) (fs : List (Found Gathered)) (i : ℕ) (f : Found Gathered)
@@ -26,3 +26,8 @@ pub next_piece : (edges_of : ℕ → List (ℕ × ℕ)) (fs : List (Found Gather
     → flat_map edges_of (pieces_of (take i fs)) ++ edges_of f.piece ≡ flat_map edges_of (pieces_of (take (i + 1) fs))
 next_piece edges_of fs i f l is =
     sym (ap (λ gs. flat_map edges_of (pieces_of gs)) (take_more fs i f l ∙ ap (λ (g : Found Gathered). take i fs ++ g ∷ []) (sym is)) ∙ pieces_of-push edges_of (take i fs) f)
+
+pub ascending_at : (fs : List (Found Gathered)) (i : ℕ) (f : Found Gathered) → EachAscending fs → i < length fs → f ≡ get_or fs i f → AreAscending f.out.vectors.items
+ascending_at [] i f each l is = absurd (omega (arith, l))
+ascending_at (g ∷ fs) zero f each l is = subst (λ (h : Found Gathered). AreAscending h.out.vectors.items) (sym is) each.0
+ascending_at (g ∷ fs) (suc i) f each l is = ascending_at fs i f each.1 (omega (arith, l)) is

@@ -5,3 +5,5 @@ pub mod Differences
 pub mod Listed
 pub mod FoundPieces
 pub mod Crossing
+pub mod Told
+pub mod PartChanges

@@ -4,3 +4,4 @@ pub mod Contexts
 pub mod Applied
 pub mod Pieces
 pub mod Propositions
+pub mod Merged

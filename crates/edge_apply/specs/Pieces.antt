@@ -4,9 +4,14 @@ use Rattle.kernels.specs.StepTree.{StepsTree}
 use Rattle.kernels.specs.State.{StateValue}
 use Rattle.crew.specs.declared.piece_results.Found.{Found}
 use Rattle.edge_fold.specs.declared.gathered.Gathered.{Gathered}
-use Rattle.edge_fold.specs.Gathered.{AreGathered}
+use Rattle.edge_fold.specs.Gathered.{AreAscending, AreGathered}
 
 -- what is found of pieces is what these edges give
 abbrev pub EachGathered : (vertices : ℕ) → StateValue → List StepsTree → (edges_of : ℕ → List (ℕ × ℕ)) → List (Found Gathered) → Type 0
 EachGathered n m steps edges_of [] = Unit {0}
 EachGathered n m steps edges_of (f ∷ fs) = AreGathered n m steps (edges_of f.piece) f.out × EachGathered n m steps edges_of fs
+
+-- the numbers that each piece gave stand by ascending vertices
+abbrev pub EachAscending : List (Found Gathered) → Type 0
+EachAscending [] = Unit {0}
+EachAscending (f ∷ fs) = AreAscending f.out.vectors.items × EachAscending fs

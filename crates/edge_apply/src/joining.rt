@@ -1,11 +1,12 @@
 //! What the pieces of an apply have found, put together.
 ghost use Rattle.std.specs.Prelude.{◌≡◌, ℕ, ◌≤◌, List, [], length, slice_range, OnOk};
-ghost use Rattle.std.specs.List.{flat_map};
+ghost use Rattle.std.specs.List.{filter, flat_map};
 ghost use Rattle.crew.specs.Pieces.{pieces_of};
 ghost use Rattle.kernels.specs.StepTree.{StepsTree};
 ghost use Rattle.kernels.specs.State.{StateValue};
 ghost use Rattle.edge_fold.specs.Folded.{IsContextOf, HasFolded};
-ghost use Rattle.edge_apply.specs.Pieces.{EachGathered};
+ghost use Rattle.edge_fold.specs.Gathered.{is_between};
+ghost use Rattle.edge_apply.specs.Pieces.{EachAscending, EachGathered};
 
 use crew::Found;
 use edge_fold::{ApplyContext, Gathered, Scratch};
@@ -32,6 +33,26 @@ pub fn join_all(
 {
     'found: for one in found {
         scratch.join_gathered(alloc, context, &one.out)?;
+    }
+    Ok(())
+}
+
+/// Folds of those edges the ones to the vertices from `low` on up to `high`, where the numbers that the pieces gave stand
+/// by ascending vertices. The only error is out of memory.
+pub(crate) fn join_between(
+    alloc: Global,
+    context: ApplyContext<'_>,
+    found: &[Found<Gathered>],
+    low: u32,
+    high: u32,
+    scratch: &mut Scratch,
+) -> Result<(), AllocError>
+    ensures { OnOk result ((m : StateValue) (steps : List StepsTree) (edges_of : ℕ → List (ℕ × ℕ)) → EachAscending found.now → EachGathered context.entry.vertices m steps edges_of found.now
+        → HasFolded context.entry m steps [] scratch.old → HasFolded context.entry m steps (filter (λ e. is_between low high e.1) (flat_map edges_of (pieces_of found.now))) scratch.new) }
+{
+    'found: for one in found {
+        let part = one.out.between(alloc, low, high)?;
+        scratch.join_gathered(alloc, context, &part)?;
     }
     Ok(())
 }

@@ -32,7 +32,7 @@ pub fn apply_modified(
 }
 
 /// The changes in a vector.
-fn changes_in(changes: &Changes, vector: usize) -> &[EntryChange]
+pub(crate) fn changes_in(changes: &Changes, vector: usize) -> &[EntryChange]
     ensures { result.now ≡ changes_of vector changes.now.vectors.items }
 {
     'vectors: for of_vector in &changes.vectors {

@@ -26,7 +26,7 @@ same m n h = grind (arith, nat_tests)
 abbrev pub onto : Reduction → Accumulator → ℕ → ℤ → ℤ
 onto r a v h = held_with (combined start.Unit r) a v h
 
-numbers_of-append : (cs ds : List EntryChange) → numbers_of (cs ++ ds) ≡ numbers_of cs ++ numbers_of ds
+pub numbers_of-append : (cs ds : List EntryChange) → numbers_of (cs ++ ds) ≡ numbers_of cs ++ numbers_of ds
 numbers_of-append [] ds = refl
 numbers_of-append (c ∷ cs) ds = ap (λ (gs : List (ℕ × ℤ)). (c.vertex, c.number) ∷ gs) (numbers_of-append cs ds)
 

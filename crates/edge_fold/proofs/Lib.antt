@@ -11,3 +11,4 @@ pub mod Gathering
 pub mod Meaning
 pub mod Orders
 pub mod Walks
+pub mod Ascending

@@ -1,5 +1,6 @@
 -- What a piece of an apply gives.
-use Rattle.std.specs.Prelude.{◌≡◌, ℕ, ◌<◌, ℤ, pos, ◌==◌, if◌then◌else◌, List, [], ◌∷◌, ◌++◌, slice_index_or}
+use Rattle.std.specs.Prelude.{◌≡◌, ℕ, ◌<◌, ℤ, pos, ◌==◌, ◌&&◌, nat_le, nat_lt, Bool, if◌then◌else◌, List, [], ◌∷◌, ◌++◌, slice_index_or}
+use Rattle.std.specs.List.Sorted.{IsNonDecreasingBy}
 use Rattle.apply_options.specs.declared.reduction.Reduction.{Reduction}
 use Rattle.typed_tree.specs.StepTree.{StepsTree}
 use Rattle.algorithm_meaning.specs.State.{StateValue}
@@ -38,3 +39,16 @@ pub record AreGatheredFor (vertices : ℕ) (m : StateValue) (steps : List StepsT
 -- so it is for each such vector
 abbrev pub AreGathered : (vertices : ℕ) → StateValue → List StepsTree → List (ℕ × ℕ) → Gathered → Type 0
 AreGathered vertices m steps edges g = (x : ℕ) (r : Reduction) → IsReducedBy r x m steps → AreGatheredFor vertices m steps edges g x r
+
+-- the vertices of the numbers do not fall
+abbrev pub IsAscending : List EntryChange → Type 0
+IsAscending cs = IsNonDecreasingBy (λ c. c.vertex) cs
+
+-- so it is for each vector
+abbrev pub AreAscending : List GatheredIn → Type 0
+AreAscending [] = Unit {0}
+AreAscending (g ∷ gs) = IsAscending g.numbers.items × AreAscending gs
+
+-- a vertex is one from a number on up to another
+abbrev pub is_between : (low high : ℕ) → ℕ → Bool
+is_between low high v = nat_le low v && nat_lt v high

@@ -100,7 +100,7 @@ fn push_once(found: VectorChanges, vectors: &mut Vec<VectorChanges>) -> Result<(
 }
 
 /// Whether the changes of a vector are there.
-fn has_vector(vectors: &[VectorChanges], vector: usize) -> bool
+pub fn has_vector(vectors: &[VectorChanges], vector: usize) -> bool
     ensures { result ≡ is_named vector vectors.now }
 {
     'vectors: for of_vector in vectors {

@@ -9,7 +9,7 @@ ghost use Rattle.kernels.specs.Cells.{HasSizes};
 ghost use Rattle.edge_fold.specs.declared.apply_context.FoldStart.TheVariants.{Unit as FromUnit};
 ghost use Rattle.edge_fold.specs.Ends.{IsEndTest};
 ghost use Rattle.edge_fold.specs.Folded.{IsContextOf, HasFolded};
-ghost use Rattle.edge_fold.specs.Gathered.{AreGathered, IsGatheredBy, gathered_for, number_at, numbers_of};
+ghost use Rattle.edge_fold.specs.Gathered.{AreAscending, AreGathered, IsAscending, IsGatheredBy, gathered_for, number_at, numbers_of};
 ghost use Rattle.edge_fold.specs.Given.{reduced_at};
 ghost use Rattle.edge_fold.specs.Held.{held_with};
 ghost use Rattle.edge_fold.specs.FoldStarts.{combined};
@@ -48,15 +48,16 @@ impl Drop for Gathered {
 
 impl Scratch {
     /// What the edges that were folded give, at the vertices that an end lets through; one that is not given lets all
-    /// through. It promises so where new entries began with the unit. The next call must be `begin`. The only error is
-    /// out of memory.
+    /// through. It promises so where new entries began with the unit. The numbers for a vector stand by ascending
+    /// vertices. The next call must be `begin`. The only error is out of memory.
     pub fn gathered(
         &mut self,
         alloc: Global,
         context: ApplyContext<'_>,
         to: Option<EndpointFilter<'_>>,
     ) -> Result<Gathered, AllocError>
-        ensures { IfOk result (λ g. (m : StateValue) (steps : List StepsTree) (edges : List (ℕ × ℕ)) (test : ℕ → Bool) → IsContextOf context.entry m steps → IsEndTest to.entry m test
+        ensures ascending { IfOk result (λ g. AreAscending g.vectors.items) }
+        ensures given { IfOk result (λ g. (m : StateValue) (steps : List StepsTree) (edges : List (ℕ × ℕ)) (test : ℕ → Bool) → IsContextOf context.entry m steps → IsEndTest to.entry m test
             → HasFolded context.entry m steps edges self.old → context.entry.start ≡ FromUnit → AreGathered context.entry.vertices m steps (filter (λ e. test e.1) edges) g) }
     {
         self.flush(alloc, context)?;
@@ -88,6 +89,7 @@ fn gathered_in_slots(
     slots: &VectorAccumulators,
     block: &mut Block,
 ) -> Result<Gathered, AllocError>
+    ensures ascending { IfOk result (λ g. AreAscending g.vectors.items) }
     ensures reduction { IfOk result (λ g. (x : ℕ) (r : Reduction) → reduction_in (active slots.now) x r ≡ r → IsGatheredBy r x g.vectors.items) }
     ensures numbers { IfOk result (λ g. (m : StateValue) (test : ℕ → Bool) → context.entry.vectors.now.vectors ≡ m.vectors → HasSizes context.entry.sizes.now m → IsEndTest to.entry m test
         → (x v : ℕ) (r : Reduction) (h : ℤ) → v < context.entry.vertices → reduced_at r v h (gathered_for x g.vectors.items)
@@ -117,7 +119,8 @@ fn numbers_in_slot(
     slot: &VectorAccumulator,
     block: &mut Block,
 ) -> Result<Vec<EntryChange>, AllocError>
-    ensures { IfOk result (λ cs. (m : StateValue) (test : ℕ → Bool) → context.entry.vectors.now.vectors ≡ m.vectors → HasSizes context.entry.sizes.now m → IsEndTest to.entry m test
+    ensures ascending { IfOk result (λ cs. IsAscending cs.items) }
+    ensures given { IfOk result (λ cs. (m : StateValue) (test : ℕ → Bool) → context.entry.vectors.now.vectors ≡ m.vectors → HasSizes context.entry.sizes.now m → IsEndTest to.entry m test
         → (r : Reduction) (v : ℕ) (h : ℤ) → v < context.entry.vertices
         → reduced_at r v h (numbers_of cs.items) ≡ (if test v then held_with (combined FromUnit r) slot.now.entries v h else h)) }
 {
@@ -146,7 +149,8 @@ impl Accumulator {
         kept: &[u32],
         vertices: u32,
     ) -> Result<Vec<EntryChange>, AllocError>
-        ensures { IsNonDecreasing kept.now → (r : Reduction) (h : ℤ) (new : ℕ → ℤ) → ((v : ℕ) → Contains kept.now v → new v ≡ held_with (combined FromUnit r) self.now v h)
+        ensures ascending { IfOk result (λ cs. IsAscending cs.items) }
+        ensures given { IsNonDecreasing kept.now → (r : Reduction) (h : ℤ) (new : ℕ → ℤ) → ((v : ℕ) → Contains kept.now v → new v ≡ held_with (combined FromUnit r) self.now v h)
             → ((v : ℕ) → v < vertices → ¬ Contains kept.now v → new v ≡ h)
             → IfOk result (λ cs. (v : ℕ) → v < vertices → reduced_at r v h (numbers_of cs.items) ≡ new v) }
     {

@@ -7,7 +7,8 @@
 //!
 //! A worker that does a piece of an apply lets new entries begin with the unit of the reduction ([`FoldStart`]).
 //! [`Scratch::gathered`] then says what its edges give, as numbers for vertices, and [`Scratch::join_gathered`] joins that
-//! to the entries of the whole, piece by piece in any order.
+//! to the entries of the whole, piece by piece in any order. [`Gathered::between`] cuts out what goes to a range of vertices,
+//! so that several workers may join what pieces give, each for its own range.
 //!
 //! `HasFolded` (`specs/Folded.antt`) says which edges a scratch has folded: for each vector to which the functions give
 //! by one reduction, the new entries, reduced with what the edges that still wait give, are the old entries reduced with
@@ -36,6 +37,7 @@ mod apply_context;
 mod by_destination;
 mod changes;
 mod gathered;
+mod gathered_ranges;
 mod initial_entries;
 mod joins;
 mod pairs;
@@ -48,6 +50,7 @@ mod source_numbers;
 mod vector_accumulator;
 mod vector_accumulators;
 
+pub use apply_changes::has_vector;
 pub use apply_context::{ApplyContext, FoldStart};
 pub use changes::push_change;
 pub use gathered::{Gathered, GatheredIn};

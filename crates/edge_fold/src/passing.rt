@@ -1,15 +1,20 @@
 //! Endpoint tests: the vertices that an end of an edge lets through.
 ghost use Rattle.std.specs.Prelude.{◌≡◌, ℕ, ◌<◌, ◌≤◌, ◌++◌, ◌∷◌, [], Bool, if◌then◌else◌, length, slice_index_or, OnOk};
 ghost use Rattle.std.specs.List.{filter};
+ghost use Rattle.algorithm_meaning.specs.Arithmetic.{compared};
 ghost use Rattle.algorithm_meaning.specs.EdgeApply.{is_member};
 ghost use Rattle.algorithm_meaning.specs.State.{StateValue};
 ghost use Rattle.kernels.specs.Cells.{HasSizes};
 ghost use Rattle.kernels.specs.Kernels.{passes_at};
 ghost use Rattle.edge_fold.specs.Ends.{IsFilterTest, IsTest};
+ghost use Rattle.vectors.specs.Lanes.{lane_entry};
 
 use crate::apply_context::ApplyContext;
-use kernels::{Block, BlockInput, EndpointFilter, FilterKernel};
+use algorithm_meaning::compare;
+use kernels::{Block, BlockInput, EndpointFilter, FilterKernel, FilterShape};
 use std::alloc::AllocError;
+use typed_tree::ComparisonOperator;
+use vectors::Lane;
 use vertex_sets::VertexSet;
 
 /// Adds those vertices that an end lets through, in their order. The only error is out of memory.
@@ -39,8 +44,45 @@ fn keep_members(set: &VertexSet, vertices: &[u32], kept: &mut Vec<u32>) -> Resul
     Ok(())
 }
 
-/// Those that a filter lets through.
+/// Those that a filter lets through, in one loop where it compares the entries of a vector with a constant.
 fn keep_filtered(
+    context: ApplyContext<'_>,
+    kernel: &FilterKernel,
+    vertices: &[u32],
+    block: &mut Block,
+    kept: &mut Vec<u32>,
+) -> Result<(), AllocError>
+    ensures { OnOk result ((m : StateValue) (test : ℕ → Bool) → context.entry.vectors.now.vectors ≡ m.vectors → HasSizes context.entry.sizes.now m → IsFilterTest kernel.now m test
+        → kept.new.items ≡ kept.old.items ++ filter test vertices.now) }
+{
+    match kernel.shape() {
+        FilterShape::Compare(vector, comparison, number) => {
+            let lane = context.vectors.lane(vector);
+            keep_compared(lane, comparison, number, vertices, kept)
+        }
+        FilterShape::Other => keep_in_parts(context, kernel, vertices, block, kept),
+    }
+}
+
+/// Those whose entry compares so with a number.
+fn keep_compared(
+    lane: Lane<'_>,
+    comparison: ComparisonOperator,
+    number: i64,
+    vertices: &[u32],
+    kept: &mut Vec<u32>,
+) -> Result<(), AllocError>
+    ensures { OnOk result (kept.new.items ≡ kept.old.items ++ filter (λ v. compared comparison (lane_entry lane.entry v) number) vertices.now) }
+{
+    'vertices: for vertex in vertices {
+        let entry = lane.get(*vertex as usize);
+        keep_where(compare(comparison, entry, number), *vertex, kept)?;
+    }
+    Ok(())
+}
+
+/// Those that a filter of any shape lets through, 128 at a time.
+fn keep_in_parts(
     context: ApplyContext<'_>,
     kernel: &FilterKernel,
     vertices: &[u32],

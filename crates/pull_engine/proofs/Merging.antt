@@ -36,7 +36,7 @@ use Rattle.edge_fold.specs.Given.{IsReducedBy}
 use Rattle.pull_engine.specs.Pieces.{Answers, AnswersFor, GathersPiece, edges_into_piece}
 use Rattle.pull_engine.specs.Ranges.{entry_after, shape_vector}
 use Rattle.pull_engine.proofs.FoundParts.{ListParts}
-use Rattle.pull_engine.proofs.Told.{told_in_piece}
+use Rattle.edge_apply.proofs.Told.{told_in_piece}
 use Rattle.pull_engine.proofs.ColumnFolds.{columns-append, folded_columns}
 use Rattle.edge_apply.proofs.Filtered.{has_first, has_later}
 

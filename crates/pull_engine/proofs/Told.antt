@@ -49,11 +49,6 @@ unfolding changed_from
 told_in_row old new v zero = refl
 told_in_row old new v (suc n) = ap (λ cs. change_at old new v ++ cs) (told_in_row old new (v + 1) n)
 
--- a range that begins
-pub range_begun : (old new : ℕ → ℤ) (low : ℕ) → [] ≡ changed_from old new low (low - low)
-unfolding changed_from
-range_begun old new low = ap (λ n. changed_from old new low n) (let none : 0 ≡ low - low = omega arith in none)
-
 -- a range, and those vertices of the next part that pass
 pub range_more : (r : Reduction) (number : ℕ → ℤ) (lane old : ℕ → ℤ) (from to : ℕ → Bool) (es : List (ℕ × ℕ)) (low next stop : ℕ) (part kept : List ℕ) (found more : List EntryChange) → low ≤ next → next ≤ stop
     → ((v : ℕ) → lane v ≡ old v) → part ≡ range_with_len next (stop - next) → kept ≡ filter to part → more ≡ found ++ changes_at lane (pulled r number lane from es) kept
@@ -72,31 +67,3 @@ range_more r number lane old from to es low next stop part kept found more l k s
     ∙ ap (λ u. changed_from old (new old) low (next - low) ++ changed_from old (new old) u (stop - next)) place
     ∙ sym (changed_from-append old (new old) low (next - low) (stop - next))
     ∙ ap (λ n. changed_from old (new old) low n) whole
-
--- the changes of the pieces, one after the other
-abbrev pub told_in_piece : (old new : ℕ → ℤ) → (ends : List ℕ) → ℕ → List EntryChange
-told_in_piece old new ends k = changed_from old new (end_of ends (k - 1)) (end_of ends k - end_of ends (k - 1))
-
-told_from : (old new : ℕ → ℤ) (ends : List ℕ) (n j s : ℕ) (es : List ℕ) → drop j (0 ∷ ends) ≡ s ∷ es → AreEnds s n es
-    → flat_map (told_in_piece old new ends) (range_with_len (j + 1) (length es)) ≡ changed_from old new s (n - s)
-told_from old new ends n j s [] at are = range_begun old new s ∙ ap (λ k. changed_from old new s (k - s)) are
-told_from old new ends n j s (e ∷ es) at are =
-    let all = 0 ∷ ends in
-    let start : end_of ends (j + 1 - 1) ≡ s = ap (λ k. get_or all k 0) (let q : j + 1 - 1 ≡ j + 0 = omega arith in q) ∙ sym (get_or-drop j all 0 0) ∙ ap (λ ys. get_or ys 0 0) at in
-    let end : end_of ends (j + 1) ≡ e = sym (get_or-drop j all 1 0) ∙ ap (λ ys. get_or ys 1 0) at in
-    let next : drop (j + 1) all ≡ e ∷ es = sym (drop-drop 1 j all) ∙ ap (drop 1) at in
-    let low = are.0 in
-    let high = last_end e n es are.1 in
-    let whole : e - s + (n - e) ≡ n - s = omega (arith, low, high) in
-    let place : e ≡ s + (e - s) = omega (arith, low) in
-    ap (λ cs. cs ++ flat_map (told_in_piece old new ends) (range_with_len (j + 1 + 1) (length es)))
-    (ap (λ k. changed_from old new k (end_of ends (j + 1) - k)) start ∙ ap (λ k. changed_from old new s (k - s)) end)
-    ∙ ap (λ cs. changed_from old new s (e - s) ++ cs) (told_from old new ends n (j + 1) e es next are.1)
-    ∙ ap (λ k. changed_from old new s (e - s) ++ changed_from old new k (n - e)) place
-    ∙ sym (changed_from-append old new s (e - s) (n - e))
-    ∙ ap (λ k. changed_from old new s k) whole
-
-pub told_in_pieces : (old new : ℕ → ℤ) (ends : List ℕ) (n : ℕ) → AreEnds 0 n ends → flat_map (told_in_piece old new ends) (range_with_len 1 (length ends)) ≡ changed_from old new 0 n
-told_in_pieces old new ends n are =
-    let none : n - 0 ≡ n = omega arith in
-    told_from old new ends n 0 0 ends refl are ∙ ap (λ k. changed_from old new 0 k) none

@@ -4,6 +4,7 @@ use denote.Param.Send.{IsSync, sendable}
 use denote.Param.SendFields.{declared_sync}
 use Rattle.std.proofs.Crossing.{crosses}
 use Rattle.edge_apply.proofs.Crossing.{apply_sync}
+use Rattle.vertex_sets.proofs.set.VertexSet.TheSendSync.{the_sync as set_sync}
 use Rattle.crew.proofs.partition.Partition.TheSendSync.{the_sync as partition_sync}
 use Rattle.push_engine.specs.contracts.work.PushWork as work
 
@@ -14,7 +15,7 @@ work_sync lft = declared_sync (work.the_type lft) (
     search (sendable, crosses) depth 12,
     (
       search (sendable, crosses) depth 12,
-      (search (sendable, crosses, partition_sync) depth 12, tt),
+      (search (sendable, crosses, partition_sync) depth 12, (search (sendable, crosses, set_sync) depth 12, tt)),
     ),
   ),
 )

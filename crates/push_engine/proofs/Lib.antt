@@ -3,4 +3,5 @@ pub mod Walked
 pub mod SourceLists
 pub mod Merging
 pub mod Answered
+pub mod GatheredAlike
 pub mod Crossing

@@ -15,8 +15,7 @@ use Rattle.edge_fold.specs.Between.{edges_between}
 use Rattle.edge_fold.specs.Folded.{HasFolded}
 use Rattle.edge_fold.specs.Gathered.{AreGathered}
 use Rattle.edge_fold.specs.Given.{all_given, given_on, reduced_at}
-use Rattle.edge_fold.proofs.Orders.{folded_alike, folded_in_any_order}
-use Rattle.edge_fold.proofs.Walks.{folded_along}
+use Rattle.edge_fold.proofs.Orders.{folded_alike, groups_in_any_order}
 use Rattle.crew.specs.Partition.{AreEnds, piece_of}
 use Rattle.crew.proofs.PieceLists.{pieces_are_the_list}
 use Rattle.crew.specs.Pieces.{pieces_of}
@@ -63,13 +62,21 @@ all_alike r x v g edges tested from to us are n =
     let ks = passing_in tested from us in
     rows_to_are_edges r x v g from to ks (rises_passing tested from us (rising 0 us are.ascending)) edges (agree_on_rows from ks edges are.passing) n
 
+-- what is found of the pieces, in whatever order, is what the edges between the ends give
+pub merged_alike : (r : Reduction) (x v : ℕ) (g : ℕ × ℕ → List (ℕ × Reduction × ℤ)) (edges : List (ℕ × ℕ)) (tested : Bool) (from to : ℕ → Bool) (ends us ks : List ℕ) → AreEnds 0 (length us) ends → AreSources edges from tested us
+    → IsPermutation ks (range_with_len 1 (length ends)) → (n : ℤ)
+    → reduced_at r v n (given_on x g (flat_map (λ k. edges_in edges tested from to (piece_of ends us k)) ks)) ≡ reduced_at r v n (given_on x g (edges_between from to edges))
+merged_alike r x v g edges tested from to ends us ks whole are same n =
+    let part = piece_of ends us in
+    let edges_of = λ (k : ℕ). edges_in edges tested from to (part k) in
+    let all = edges_of_all edges tested from to part (range_with_len 1 (length ends)) ∙ ap (edges_in edges tested from to) (pieces_are_the_list ends us whole) in
+    groups_in_any_order r x v g edges_of ks (range_with_len 1 (length ends)) same n
+    ∙ ap (λ (es : List (ℕ × ℕ)). reduced_at r v n (given_on x g es)) all
+    ∙ all_alike r x v g edges tested from to us are n
+
 pub merged : (f : ApplyContext) (m : StateValue) (steps : List StepsTree) (edges : List (ℕ × ℕ)) (tested : Bool) (from to : ℕ → Bool) (ends us ks : List ℕ) (s : Scratch) → AreEnds 0 (length us) ends → AreSources edges from tested us
     → IsPermutation ks (range_with_len 1 (length ends))
     → HasFolded f m steps (flat_map (λ k. edges_in edges tested from to (piece_of ends us k)) ks) s → HasFolded f m steps (edges_between from to edges) s
 merged f m steps edges tested from to ends us ks s whole are same has =
-    let part = piece_of ends us in
-    let edges_of = λ (k : ℕ). edges_in edges tested from to (part k) in
-    let all = edges_of_all edges tested from to part (range_with_len 1 (length ends)) ∙ ap (edges_in edges tested from to) (pieces_are_the_list ends us whole) in
-    folded_alike f m steps (edges_in edges tested from to us) (edges_between from to edges) s (λ x v r n. all_alike r x v (all_given m steps) edges tested from to us are n)
-    (folded_along f m steps (flat_map edges_of (range_with_len 1 (length ends))) (edges_in edges tested from to us) s all
-    (folded_in_any_order f m steps edges_of ks (range_with_len 1 (length ends)) s same has))
+    let edges_of = λ (k : ℕ). edges_in edges tested from to (piece_of ends us k) in
+    folded_alike f m steps (flat_map edges_of ks) (edges_between from to edges) s (λ x v r n. merged_alike r x v (all_given m steps) edges tested from to ends us ks whole are same n) has

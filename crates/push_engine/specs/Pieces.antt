@@ -1,5 +1,5 @@
 -- What the pieces of an apply answer.
-use Rattle.std.specs.Prelude.{◌≡◌, ℕ, Bool, List, [], ◌∷◌}
+use Rattle.std.specs.Prelude.{◌≡◌, ℕ, Bool, List}
 use Rattle.std.specs.List.{filter}
 use Rattle.kernels.specs.StepTree.{StepsTree}
 use Rattle.kernels.specs.State.{StateValue}
@@ -8,7 +8,7 @@ use Rattle.crew.specs.declared.piece_results.Found.{Found}
 use Rattle.edge_fold.specs.declared.gathered.Gathered.{Gathered}
 use Rattle.edge_fold.specs.Ends.{IsEndTest}
 use Rattle.edge_fold.specs.Folded.{AreKernels}
-use Rattle.edge_fold.specs.Gathered.{AreGathered}
+use Rattle.edge_fold.specs.Gathered.{AreAscending, AreGathered}
 use Rattle.crew.specs.Partition.{piece_of}
 use Rattle.push_engine.specs.declared.work.PushWork.{PushWork}
 use Rattle.push_engine.specs.Rows.{rows}
@@ -18,8 +18,12 @@ use Rattle.push_engine.specs.Sources.{passing_in}
 abbrev pub edges_of_piece : PushWork → (from to : ℕ → Bool) → (piece : ℕ) → List (ℕ × ℕ)
 edges_of_piece w from to k = filter (λ e. to e.1) (rows w.apply.flat.now.edges (passing_in w.tested from (piece_of w.cuts w.sources.items k)))
 
--- a piece answers what its edges give
-abbrev pub Answers : PushWork → (piece : ℕ) → Gathered → Type 0
-Answers w k g = (m : StateValue) (steps : List StepsTree) (from to : ℕ → Bool) → w.apply.vectors.now.vectors ≡ m.vectors → HasSizes w.apply.sizes.now m
+-- what is gathered is what the edges of a piece give
+abbrev pub GivesPiece : PushWork → (piece : ℕ) → Gathered → Type 0
+GivesPiece w k g = (m : StateValue) (steps : List StepsTree) (from to : ℕ → Bool) → w.apply.vectors.now.vectors ≡ m.vectors → HasSizes w.apply.sizes.now m
     → AreKernels w.apply.first.now w.apply.second steps → IsEndTest w.apply.from m from → IsEndTest w.apply.to m to
     → AreGathered w.apply.flat.now.vertices m steps (edges_of_piece w from to k) g
+
+-- a piece answers what its edges give, by ascending vertices
+abbrev pub Answers : PushWork → (piece : ℕ) → Gathered → Type 0
+Answers w k g = AreAscending g.vectors.items × GivesPiece w k g

@@ -48,7 +48,7 @@ pub fn push(alloc: Global, apply: &Apply<'_>, scratch: &mut Scratch) -> Result<C
 }
 
 /// Whether destinations are tested as they come, and not at the end.
-fn is_tested_first(apply: &Apply<'_>, to: EndpointFilter<'_>) -> bool {
+pub(crate) fn is_tested_first(apply: &Apply<'_>, to: EndpointFilter<'_>) -> bool {
     if let EndpointFilter::Members(set) = to {
         if set.words().is_some() {
             return true;

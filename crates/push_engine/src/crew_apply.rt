@@ -16,7 +16,8 @@ use vectors::Changes;
 /// What an apply of edge functions changes, as [`crate::push`] tells it, done in pieces by so many workers, 1 to 64, of whom
 /// the caller is worker 1: however the pieces fall to them, the changes are the same. The pieces are those of
 /// [`PushWork`]: static ones are fixed to their workers, and others are claimed. `gate` is told of each piece before it is
-/// done.
+/// done. Where the pieces have found much, the workers put it together too, each for its own ranges of destinations, of which
+/// the gate is told nothing.
 ///
 /// A worker takes its scratch from `states`, and after the apply the scratches of all workers are there, for the next one.
 /// `scratch` is that of the caller's own work, before and after the pieces, and serves any apply after this one, whatever
@@ -46,6 +47,6 @@ pub fn push_crew<R: Threads + Sync, G: Gate + Sync>(
     }
     let assignment = PieceAssignment::of(apply.parallelization);
     let found = run_pieces(rt, alloc, pieces, workers, assignment, gate, &work, states)?;
-    let changes = work.merge(alloc, &found, scratch)?;
+    let changes = work.merge_by_crew(rt, workers, alloc, &found, scratch, states)?;
     Ok(changes)
 }

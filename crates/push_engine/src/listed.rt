@@ -1,6 +1,7 @@
-//! The sources of an apply, listed.
-ghost use Rattle.std.specs.Prelude.{◌≡◌, ℕ, Bool, Some, false, List, length, map, IfOk};
+//! The sources of an apply, listed, and its destinations as bits.
+ghost use Rattle.std.specs.Prelude.{◌≡◌, ℕ, ◌<◌, Bool, Some, false, List, length, map, IfOk, IfSome};
 ghost use Rattle.std.specs.List.{filter, range_with_len};
+ghost use Rattle.kernels.specs.EdgeApply.{is_member};
 ghost use Rattle.kernels.specs.State.{StateValue};
 ghost use Rattle.apply_options.specs.declared.apply_schedule.Parallelization.TheVariants.{EdgeAwareDynamicVertex};
 ghost use Rattle.kernels.specs.Cells.{HasSizes};
@@ -12,16 +13,18 @@ ghost use Rattle.flat_snapshot.specs.Digraph.{IsDigraph};
 ghost use Rattle.flat_snapshot.specs.Neighbours.{destinations_of};
 ghost use Rattle.vertex_sets.specs.VertexSet.{IsVertexSet};
 ghost use Rattle.edge_apply.specs.Lists.{AscendsFrom, IsEndOf};
+ghost use Rattle.edge_apply.specs.Words.{is_set};
 ghost use Rattle.push_engine.specs.Sources.{AreSources, cut_list};
 
+use crate::apply::is_tested_first;
 use apply_options::{Direction, Parallelization};
 use crew::Partition;
-use edge_apply::{Apply, all_vertices};
+use edge_apply::{Apply, all_vertices, passing_set};
 use edge_fold::{FoldStart, Scratch};
 use flat_snapshot::Flat;
 use kernels::EndpointFilter;
 use std::alloc::{AllocError, Global};
-use vertex_sets::VertexSet;
+use vertex_sets::{Form, VertexSet};
 
 /// Sources, ascending, and whether each piece is to test its own.
 #[derive(Drop)]
@@ -163,4 +166,71 @@ fn degrees_of(alloc: Global, flat: &Flat, sources: &[u32]) -> Result<Vec<u32>, A
         degrees.push(flat.out_degree(*source))?;
     }
     Ok(degrees)
+}
+
+/// The destinations that an end lets through, as bits, where they are tested as edges come and are not kept so already.
+/// The only error is out of memory.
+pub(crate) fn destination_bits(
+    alloc: Global,
+    apply: &Apply<'_>,
+    scratch: &mut Scratch,
+) -> Result<Option<VertexSet>, AllocError>
+    ensures form { IfOk result (λ b. IfSome b (λ s. s.form ≡ Form.Bits)) }
+    ensures passing { IfOk result (λ b. IfSome b (λ s. (m : StateValue) (to : ℕ → Bool) → apply.now.vectors.now.vectors ≡ m.vectors → HasSizes apply.now.sizes.now m → IsEndTest apply.now.to m to
+        → (v : ℕ) → v < apply.now.flat.now.vertices → is_member v s.members ≡ to v)) }
+{
+    let Some(end) = apply.to else {
+        return Ok(None);
+    };
+    if !is_tested_first(apply, end) {
+        return Ok(None);
+    }
+    bits_of_end(alloc, apply, end, scratch)
+}
+
+/// The same of an end, whenever they are tested.
+fn bits_of_end(
+    alloc: Global,
+    apply: &Apply<'_>,
+    to: EndpointFilter<'_>,
+    scratch: &mut Scratch,
+) -> Result<Option<VertexSet>, AllocError>
+    ensures form { IfOk result (λ b. IfSome b (λ s. s.form ≡ Form.Bits)) }
+    ensures passing { IfOk result (λ b. IfSome b (λ s. (m : StateValue) (test : ℕ → Bool) → apply.now.vectors.now.vectors ≡ m.vectors → HasSizes apply.now.sizes.now m → IsTest to.entry m test
+        → (v : ℕ) → v < apply.now.flat.now.vertices → is_member v s.members ≡ test v)) }
+{
+    match to {
+        EndpointFilter::Members(set) => {
+            if set.words().is_some() {
+                return Ok(None);
+            }
+            let bits = set.to_form(alloc, Form::Bits)?;
+            Ok(Some(bits))
+        }
+        EndpointFilter::Filter(_) => {
+            let context = apply.context(FoldStart::Unit);
+            let bits = passing_set(alloc, context, to, scratch)?;
+            Ok(Some(bits))
+        }
+    }
+}
+
+/// The words of the set of an end, where it is kept as bits.
+pub(crate) fn words_of_end<'a>(end: Option<EndpointFilter<'a>>) -> Option<&'a [u64]>
+    ensures { IfSome result (λ words. (m : StateValue) (test : ℕ → Bool) → IsEndTest end.entry m test → (v : ℕ) → is_set words.now v ≡ test v) }
+{
+    match end {
+        None => None,
+        Some(to) => words_of(to),
+    }
+}
+
+/// The same of an end that is given.
+fn words_of<'a>(to: EndpointFilter<'a>) -> Option<&'a [u64]>
+    ensures { IfSome result (λ words. (m : StateValue) (test : ℕ → Bool) → IsTest to.entry m test → (v : ℕ) → is_set words.now v ≡ test v) }
+{
+    match to {
+        EndpointFilter::Members(set) => set.words(),
+        EndpointFilter::Filter(_) => None,
+    }
 }

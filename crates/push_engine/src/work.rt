@@ -1,5 +1,6 @@
 //! Work of an apply by push, in pieces.
-ghost use Rattle.std.specs.Prelude.{◌≡◌, ℕ, Bool, Err, length, map, vec_len, IfOk};
+ghost use Rattle.std.specs.Prelude.{◌≡◌, ℕ, ◌<◌, Bool, Err, length, map, vec_len, IfOk, IfSome};
+ghost use Rattle.kernels.specs.EdgeApply.{is_member};
 ghost use Rattle.kernels.specs.State.{StateValue};
 ghost use Rattle.kernels.specs.Cells.{HasSizes};
 ghost use Rattle.crew.specs.declared.error.CrewError.TheVariants.{BadWorkers, NoMemory};
@@ -11,24 +12,31 @@ ghost use Rattle.flat_snapshot.specs.Neighbours.{destinations_of};
 ghost use Rattle.std.proofs.Props.{props};
 ghost use Rattle.edge_apply.specs.Propositions.{AreEnds-prop, AscendsFrom-prop};
 ghost use Rattle.edge_apply.specs.Lists.{IsEndOf};
+ghost use Rattle.vertex_sets.specs.declared.form.Form.TheVariants as Form;
 ghost use Rattle.push_engine.specs.Sources.{AreSources, cut_list};
 
-use crate::listed::{cut_sources, list_sources};
+use crate::listed::{cut_sources, destination_bits, list_sources};
 use crew::{CrewError, Partition, is_crew};
 use edge_apply::Apply;
 use edge_fold::Scratch;
 use std::alloc::Global;
+use vertex_sets::VertexSet;
 
 /// An apply in pieces, which workers may do side by side: the sources are cut as its schedule says, and a piece answers
-/// what the edges from its sources give. [`PushWork::merge`] makes the changes of the whole apply of it.
+/// what the edges from its sources give, where destinations are tested as by a push: as they come, by bits that are made
+/// once, or at the end. [`PushWork::merge`] makes the changes of the whole apply of it.
 pub struct PushWork<'a> {
     pub(crate) apply: Apply<'a>,
     pub(crate) sources: Vec<u32>,
     pub(crate) tested: bool,
     pub(crate) cuts: Partition,
+    pub(crate) bits: Option<VertexSet>,
     ghost whole: { AreEnds 0 (length sources.items) cuts } by { AreEnds-prop 0 (length sources.items) cuts },
     ghost passing: { (m : StateValue) (from : ℕ → Bool) → apply.vectors.now.vectors ≡ m.vectors → HasSizes apply.sizes.now m → IsEndTest apply.from m from
         → AreSources apply.flat.now.edges from tested sources.items } by { Prim.hlevel (AscendsFrom-prop, props) },
+    ghost form: { IfSome bits (λ s. s.form ≡ Form.Bits) } by { Prim.hlevel (props) },
+    ghost destinations: { IfSome bits (λ s. (m : StateValue) (to : ℕ → Bool) → apply.vectors.now.vectors ≡ m.vectors → HasSizes apply.sizes.now m → IsEndTest apply.to m to
+        → (v : ℕ) → v < apply.flat.now.vertices → is_member v s.members ≡ to v) } by { Prim.hlevel (props) },
 }
 
 impl Drop for PushWork<'_> {
@@ -38,6 +46,7 @@ impl Drop for PushWork<'_> {
             sources: _,
             tested: _,
             cuts: _,
+            bits: _,
         } = self;
     }
 }
@@ -45,8 +54,9 @@ impl Drop for PushWork<'_> {
 impl<'a> PushWork<'a> {
     /// The pieces of an apply for so many workers, 1 to 64. What is cut is the list of the vertices that its end lets
     /// through, and by the direction `DensePush` that of all vertices. Where the schedule cuts by edges, their degrees are
-    /// read. It takes time in proportion to the list, and where a filter is to be run, to the vertices. The scratch serves
-    /// any apply after this one.
+    /// read. Destinations that are tested as edges come are put into bits, where they are not kept so. It takes time in
+    /// proportion to the list, and to the vertices where a filter is to be run or bits are made. The scratch serves any
+    /// apply after this one.
     ///
     /// Errors: `BadWorkers` where the number of workers is not 1 to 64, else `NoMemory`.
     pub fn new(
@@ -68,11 +78,13 @@ impl<'a> PushWork<'a> {
         }
         let listed = list_sources(alloc, apply, scratch)?;
         let cuts = cut_sources(alloc, apply, workers, &listed.sources)?;
+        let bits = destination_bits(alloc, apply, scratch)?;
         Ok(PushWork {
             apply: *apply,
             sources: listed.sources,
             tested: listed.tested,
             cuts,
+            bits,
         })
     }
 }

@@ -3,10 +3,11 @@ use Rattle.std.proofs.lemmas.List.{length-take-le, take_more}
 use Rattle.edge_fold.specs.declared.apply_context.FoldStart.TheVariants as start
 use Rattle.edge_fold.specs.declared.gathered.GatheredIn.{GatheredIn}
 use Rattle.edge_fold.specs.declared.vector_accumulator.VectorAccumulator.{VectorAccumulator}
-use Rattle.edge_fold.specs.Gathered.{IsGatheredBy, gathered_for}
+use Rattle.edge_fold.specs.Gathered.{AreAscending, IsGatheredBy, gathered_for}
 use Rattle.edge_fold.specs.Given.{reduced_at}
 use Rattle.edge_fold.specs.FoldStarts.{combined}
 use Rattle.edge_fold.specs.VectorAccumulators.{held_in_with, place_in, reduction_in}
+use Rattle.edge_fold.proofs.Ascending.{ascending_push}
 use Rattle.edge_fold.proofs.Gathering.{gathered_by_more, gathered_more, hidden_slot, onto}
 use Rattle.edge_fold.proofs.gathered.gathered_in_slots.Goals as goal
 
@@ -22,6 +23,7 @@ slots-preserved-then-find-place c =
     let place : c.find.result ≡ place_in s.vector ts = search rules in
     let before : place_in s.vector ts < length ts = omega (arith, place, long, c.if-find-place.true) in
     record {
+      ascending = c.slots.invariant.ascending;
       reduction = λ x r now. c.slots.invariant.reduction x r (sym (ap (λ ss. reduction_in ss x r) step ∙ hidden_slot (λ t. t.reduction) ts s x r before) ∙ now);
       numbers = λ m test vectors sizes is x v r h l.
           c.slots.invariant.numbers m test vectors sizes is x v r h l
@@ -43,9 +45,10 @@ slots-preserved c =
     let g : GatheredIn = record { vector = s.vector; reduction = s.reduction; numbers = c.in_ok-numbers.numbers } in
     let more = c.in_ok-push.ensures.items in
     record {
+      ascending = subst (λ (gs : List GatheredIn). AreAscending gs) (sym more) (ascending_push vs g c.slots.invariant.ascending c.in_ok-numbers.ensures.ascending);
       reduction = λ x r now. subst (λ (gs : List GatheredIn). IsGatheredBy r x gs) (sym more) (gathered_by_more r x ts s vs g refl refl first (c.slots.invariant.reduction x r) (sym (ap (λ ss. reduction_in ss x r) step) ∙ now));
       numbers = λ m test vectors sizes is x v r h l.
           ap (λ (gs : List GatheredIn). reduced_at r v h (gathered_for x gs)) more
-          ∙ gathered_more r x v h (test v) ts s vs g refl first (c.slots.invariant.numbers m test vectors sizes is x v r h l) (λ n. c.in_ok-numbers.ensures m test vectors sizes is r v n l)
+          ∙ gathered_more r x v h (test v) ts s vs g refl first (c.slots.invariant.numbers m test vectors sizes is x v r h l) (λ n. c.in_ok-numbers.ensures.given m test vectors sizes is r v n l)
           ∙ ap (λ ss. if test v then held_in_with (combined start.Unit r) ss x v h else h) (sym step);
     }

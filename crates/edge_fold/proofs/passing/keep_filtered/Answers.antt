@@ -1,24 +1,26 @@
-use Rattle.std.proofs.Common.{rules, ◌≡◌, ◌++◌, ℕ, List, [], ◌∷◌, length, refl, sym, ap, ◌∙◌, append_assoc, arith}
-use Rattle.std.proofs.lemmas.List.{append-nil}
-use Rattle.std.proofs.lemmas.List.Elements.{filter-append}
-use Rattle.std.specs.List.{filter}
+use Rattle.std.proofs.Common.{rules, ◌++◌, ℕ, ℤ, List, FitsSigned, to_z, of_z, w64, sym, ap, ◌∙◌, subst}
+use Rattle.std.proofs.lemmas.Int.{to_z-of_z}
+use Rattle.std.proofs.lemmas.List.Elements.{filter_agree}
+use Rattle.std.proofs.lemmas.Result.{on_ok_weaker}
+use Rattle.algorithm_meaning.specs.Arithmetic.{compared}
+use Rattle.algorithm_meaning.specs.Filter.{result_of}
+use Rattle.algorithm_meaning.specs.Value.{entry}
+use Rattle.kernels.specs.Shapes.{HasFilterShape}
+use Rattle.kernels.specs.declared.shape.FilterShape.{FilterShape}
+use Rattle.vectors.specs.Lanes.{lane_entry}
 use Rattle.edge_fold.proofs.passing.keep_filtered.Goals as goal
 
-pub parts-preserved : goal.parts-preserved
-parts-preserved c m test vectors sizes is =
-    let part = c.split_at.result.0.now in
-    let more = c.split_at.result.1.now in
-    ap (λ (ks : List ℕ). ks ++ filter test more) (c.in_ok-keep_part.ensures m test vectors sizes is)
-    ∙ append_assoc c.parts.kept.items (filter test part) (filter test more)
-    ∙ ap (λ (ks : List ℕ). c.parts.kept.items ++ ks) (sym (filter-append test part more) ∙ ap (filter test) (sym c.split_at.ensures.by_index.0))
-    ∙ c.parts.invariant m test vectors sizes is
-
-empty : (xs : List ℕ) → length xs ≡ 0 → xs ≡ []
-empty [] e = refl
-empty (x ∷ xs) e = absurd (omega (arith, e))
-
-pub returns : goal.returns
-returns c m test vectors sizes is =
-    let none : length c.parts.rest.now ≡ 0 = search rules in
-    let kept = c.parts.kept.items in
-    sym (append-nil kept) ∙ ap (λ (ks : List ℕ). kept ++ filter test ks) (sym (empty c.parts.rest.now none)) ∙ c.parts.invariant m test vectors sizes is
+pub returns-in-Compare : goal.returns-in-Compare
+returns-in-Compare c =
+    let x = c.in-Compare.vector in
+    let o = c.in-Compare.comparison in
+    let n = c.in-Compare.number in
+    let vs = c.args.vertices.now in
+    let fits : FitsSigned w64 n = search rules in
+    on_ok_weaker c.keep_compared.result
+    (λ kept m test vectors sizes is.
+    let shape = λ (v : ℕ). subst (λ (s : FilterShape). HasFilterShape s m v (result_of is.steps m.sets m.vectors v)) c.in-Compare.is (c.shape.ensures is.steps m c.args.context.sizes.now v is.of sizes) in
+    kept ∙ ap (λ (ks : List ℕ). c.args.kept.now.items ++ ks)
+    (filter_agree (λ v. compared o (lane_entry c.lane-lane.result v) (to_z w64 (of_z w64 n))) test
+    (λ v. ap (λ (e : ℤ). compared o (lane_entry c.lane-lane.result v) e) (to_z-of_z w64 n fits) ∙ ap (λ (e : ℤ). compared o e n) (c.lane-lane.ensures v ∙ ap (λ (ls : List (List ℤ)). entry ls x v) vectors) ∙ sym (shape v) ∙ sym (is.result v)) vs))
+    c.keep_compared.ensures

@@ -4,7 +4,8 @@ use Rattle.vectors.specs.Lanes.{lane_entry}
 use Rattle.edge_apply.specs.Words.{passes_words}
 use Rattle.edge_fold.specs.Changed.{changed_from}
 use Rattle.pull_engine.specs.Ranges.{pulled_to}
-use Rattle.pull_engine.proofs.Told.{range_begun, range_more}
+use Rattle.edge_apply.proofs.Told.{range_begun}
+use Rattle.pull_engine.proofs.Told.{range_more}
 use Rattle.pull_engine.proofs.ranges.pull_vertices.Goals as goal
 
 pub parts-init : goal.parts-init

@@ -4,6 +4,7 @@ use Rattle.apply_options.specs.declared.reduction.Reduction.{Reduction}
 use Rattle.vectors.specs.declared.changes.EntryChange.{EntryChange}
 use Rattle.edge_fold.specs.Gathered.{numbers_of}
 use Rattle.edge_fold.specs.Given.{reduced_at}
+use Rattle.edge_fold.proofs.Ascending.{ascends_more, no_numbers}
 use Rattle.edge_fold.proofs.ChangedRows.{between_kept}
 use Rattle.edge_fold.proofs.Gathering.{all_found, found_step, left_step, one_number_more, onto}
 use Rattle.edge_fold.proofs.accumulator.Accumulator.numbers.Goals as goal
@@ -14,6 +15,7 @@ kept-init c = record {
   passed = λ up i l. absurd (omega (arith, l));
   found = λ up r h new here there v l. absurd (omega (arith, l));
   left = λ r v h l. ap (λ (cs : List EntryChange). reduced_at r v h (numbers_of cs)) c.new-numbers.ensures.items;
+  ascends = no_numbers 0 c.new-numbers.result.items c.new-numbers.ensures.items;
 }
 
 pub kept-preserved : goal.kept-preserved
@@ -39,10 +41,11 @@ kept-preserved c =
           (λ own. here v (subst (λ (u : ℕ). Contains kept u) own (Contains-get_or kept index 0 inside)))
           (λ b d. there v (omega (arith, d, c.if-vertices-vertex.false)) (between_kept kept index next a.vertices v up (c.kept.invariant.passed up) b (omega (arith, d, c.if-vertices-vertex.false)) (λ _. d)));
       left = λ r v h l. more r v h ∙ left_step (λ n. onto r a.self.now v n) (reduced_at r v h (numbers_of was)) h k v l (c.kept.invariant.left r v h (omega (arith, from, l)));
+      ascends = ascends_more a.self.now next k was c.push_number.new.numbers.items from c.in_ok-push_number.ensures c.kept.invariant.ascends;
     }
 
-pub returns : goal.returns
-returns c up r h new here there v l =
+pub returns-clause-given : goal.returns-clause-given
+returns-clause-given c up r h new here there v l =
     let a = c.args in
     let kept = a.kept.now in
     let index = c.kept.vertex-index in

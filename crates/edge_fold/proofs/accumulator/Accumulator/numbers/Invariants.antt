@@ -3,6 +3,7 @@ use Rattle.std.specs.List.Sorted.{IsNonDecreasing}
 use Rattle.apply_options.specs.declared.reduction.Reduction.{Reduction}
 use Rattle.edge_fold.specs.Gathered.{numbers_of}
 use Rattle.edge_fold.specs.Given.{reduced_at}
+use Rattle.edge_fold.proofs.Ascending.{AscendBelow}
 use Rattle.edge_fold.proofs.Gathering.{onto}
 use Rattle.edge_fold.proofs.accumulator.Accumulator.numbers.Given as goal
 
@@ -14,4 +15,5 @@ invariant-kept l = record {
   found : IsNonDecreasing l.kept → (r : Reduction) (h : ℤ) (new : ℕ → ℤ) → ((v : ℕ) → Contains l.kept v → new v ≡ onto r l.self v h) → ((v : ℕ) → v < l.vertices → ¬ Contains l.kept v → new v ≡ h)
       → (v : ℕ) → v < l.next → reduced_at r v h (numbers_of l.numbers.items) ≡ new v;
   left : (r : Reduction) (v : ℕ) (h : ℤ) → l.next ≤ v → reduced_at r v h (numbers_of l.numbers.items) ≡ h;
+  ascends : AscendBelow l.next l.numbers.items;
 }

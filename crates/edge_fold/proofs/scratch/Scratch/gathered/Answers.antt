@@ -8,8 +8,8 @@ use Rattle.edge_fold.proofs.JoinedSlots.{unit_entries}
 use Rattle.edge_fold.proofs.Meaning.{filtered_edges}
 use Rattle.edge_fold.proofs.scratch.Scratch.gathered.Goals as goal
 
-pub returns : goal.returns
-returns c m steps edges test are is has unit x r by =
+pub returns-clause-given : goal.returns-clause-given
+returns-clause-given c m steps edges test are is has unit x r by =
     let flushed = c.flush.new.self in
     let f = c.args.context in
     let g = all_given m steps in

@@ -13,7 +13,7 @@ use Rattle.edge_fold.specs.declared.apply_context.ApplyContext.{ApplyContext}
 use Rattle.edge_fold.specs.Folded.{IsContextOf}
 use Rattle.pull_engine.proofs.Merging.{gathers_pieces, pulled_parts}
 use Rattle.pull_engine.proofs.Shaped.{shape_gives_only, whole_changes}
-use Rattle.pull_engine.proofs.Told.{told_in_piece, told_in_pieces}
+use Rattle.edge_apply.proofs.Told.{told_in_piece, told_in_pieces}
 use Rattle.pull_engine.proofs.work.PullWork.merge.Goals as goal
 
 pub returns-in_ok-changes-in-Some-clause-changes : goal.returns-in_ok-changes-in-Some-clause-changes

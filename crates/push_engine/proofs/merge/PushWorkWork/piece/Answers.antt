@@ -1,44 +1,33 @@
-use Rattle.std.proofs.Common.{◌-◌, ℕ, List, length, slice_range, refl, sym, ap, ◌∙◌, subst, arith}
-use Rattle.std.specs.List.{filter}
-use Rattle.edge_fold.specs.Gathered.{AreGatheredFor}
-use Rattle.crew.specs.Partition.{end_of, piece_of}
+use Rattle.std.proofs.Common.{ℕ, List, true, refl}
+use Rattle.crew.specs.Partition.{piece_of}
+use Rattle.edge_apply.specs.Words.{is_set}
 use Rattle.push_engine.specs.Rows.{rows}
 use Rattle.push_engine.specs.Sources.{passing_in}
-use Rattle.edge_apply.proofs.Listed.{piece_inside}
-use Rattle.edge_fold.specs.declared.apply_context.ApplyContext.{ApplyContext}
-use Rattle.edge_fold.specs.Folded.{IsContextOf}
+use Rattle.push_engine.proofs.GatheredAlike.{gathered_first, gathered_second, gathered_where}
 use Rattle.push_engine.proofs.merge.PushWorkWork.piece.Goals as goal
 
-pub part_between-part-requires-clause-order : goal.part_between-part-requires-clause-order
-part_between-part-requires-clause-order c =
+pub returns-in_ok-gathered-in-Some-clause-out : goal.returns-in_ok-gathered-in-Some-clause-out
+returns-in_ok-gathered-in-Some-clause-out c =
     let w = c.args.self.now in
-    let inside = piece_inside (length w.sources.items) w.cuts c.args.piece w.whole c.requires.piece.0 c.requires.piece.1 in
-    let order = inside.0 in
-    let start = c.piece-places.ensures.start in
-    let end = c.piece-places.ensures.end in
-    omega (arith, order, start, end)
+    let n = w.apply.flat.now.vertices in
+    let words = c.in-Some.words.now in
+    let g = c.in_ok-gathered-in-Some.gathered in
+    let found = c.in_ok-gathered-in-Some.ensures in (
+      found.ascending,
+      λ m steps from to vectors sizes kernels is_from is_to.
+          let es = rows w.apply.flat.now.edges (passing_in w.tested from (piece_of w.cuts w.sources.items c.args.piece)) in
+          gathered_where n m steps (is_set words) to es g (c.in-Some.ensures m to vectors sizes is_to)
+          (gathered_first n m steps (is_set words) es g (found.given m steps from (λ _. true) vectors sizes kernels is_from (λ v. refl))),
+    )
 
-pub part_between-part-requires-clause-inside : goal.part_between-part-requires-clause-inside
-part_between-part-requires-clause-inside c =
+pub returns-in_ok-gathered-in-None-clause-out : goal.returns-in_ok-gathered-in-None-clause-out
+returns-in_ok-gathered-in-None-clause-out c =
     let w = c.args.self.now in
-    let inside = piece_inside (length w.sources.items) w.cuts c.args.piece w.whole c.requires.piece.0 c.requires.piece.1 in
-    let last = inside.1 in
-    let end = c.piece-places.ensures.end in
-    let long = ap length c.deref.ensures.value in
-    omega (arith, last, end, long)
-
-pub returns-clause-out : goal.returns-clause-out
-returns-clause-out c m steps from to vectors sizes kernels is_from is_to x r by =
-    let w = c.args.self.now in
-    let edges = w.apply.flat.now.edges in
-    let k = c.args.piece in
-    let g = c.in_ok-gathered.gathered in
-    let part = c.part_between-part.ensures
-    ∙ ap (λ (us : List ℕ). slice_range us c.piece-places.result.start c.piece-places.result.end) c.deref.ensures.value
-    ∙ ap (λ (s : ℕ). slice_range w.sources.items s c.piece-places.result.end) c.piece-places.ensures.start
-    ∙ ap (λ (e : ℕ). slice_range w.sources.items (end_of w.cuts (k - 1)) e) c.piece-places.ensures.end in
-    let reads = subst (λ (f : ApplyContext). IsContextOf f m steps) (sym c.context-context.ensures.context) (record { vectors = vectors; sizes = sizes; kernels = kernels }) in
-    let has = c.in_ok-fold_part.ensures m steps from reads is_from (c.begin.ensures _ m steps) in
-    let gathered = c.in_ok-gathered.ensures m steps (rows edges (passing_in w.tested from c.part_between-part.result.now)) to reads is_to has (ap (λ (f : ApplyContext). f.start) c.context-context.ensures.context) x r by in
-    subst (λ (n : ℕ). AreGatheredFor n m steps (filter (λ e. to e.1) (rows edges (passing_in w.tested from (piece_of w.cuts w.sources.items k)))) g x r) (ap (λ (f : ApplyContext). f.vertices) c.context-context.ensures.context)
-    (subst (λ (us : List ℕ). AreGatheredFor c.context-context.result.vertices m steps (filter (λ e. to e.1) (rows edges (passing_in w.tested from us))) g x r) part gathered)
+    let n = w.apply.flat.now.vertices in
+    let g = c.in_ok-gathered-in-None.gathered in
+    let found = c.in_ok-gathered-in-None.ensures in (
+      found.ascending,
+      λ m steps from to vectors sizes kernels is_from is_to.
+          let es = rows w.apply.flat.now.edges (passing_in w.tested from (piece_of w.cuts w.sources.items c.args.piece)) in
+          gathered_second n m steps to es g (found.given m steps from to vectors sizes kernels is_from is_to),
+    )

@@ -3,7 +3,7 @@ use Rattle.std.specs.List.{filter}
 use Rattle.algorithm_meaning.specs.State.{StateValue}
 use Rattle.kernels.specs.Cells.{HasSizes}
 use Rattle.edge_fold.specs.Ends.{IsFilterTest}
-use Rattle.edge_fold.proofs.passing.keep_filtered.Given as goal
+use Rattle.edge_fold.proofs.passing.keep_in_parts.Given as goal
 
 -- those that are kept, with those that pass among the rest, are all that pass
 abbrev pub invariant-parts : goal.invariant-parts

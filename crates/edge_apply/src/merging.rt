@@ -1,0 +1,116 @@
+//! Merges by ranges of vertices, which workers do side by side.
+ghost use Rattle.std.specs.Prelude.{◌≡◌, ℕ, List, length, IfOk};
+ghost use Rattle.std.specs.List.{flat_map};
+ghost use Rattle.kernels.specs.StepTree.{StepsTree};
+ghost use Rattle.kernels.specs.State.{StateValue};
+ghost use Rattle.kernels.specs.Cells.{HasSizes};
+ghost use Rattle.crew.specs.Outcome.{AreWorkers};
+ghost use Rattle.crew.specs.Pieces.{pieces_of};
+ghost use Rattle.edge_fold.specs.Changed.{AreApart};
+ghost use Rattle.edge_fold.specs.Folded.{AreKernels};
+ghost use Rattle.edge_apply.specs.Applied.{AreChangesOn};
+ghost use Rattle.edge_apply.specs.Merged.{IsMerged};
+ghost use Rattle.edge_apply.specs.Pieces.{EachAscending, EachGathered};
+
+use crate::appended::append_changes;
+use crate::apply::Apply;
+use crate::joining::join_between;
+use crate::range_merge::RangeMerge;
+use apply_options::Parallelization;
+use crew::{Found, Open, Partition, PieceAssignment, Work, run_pieces};
+use edge_fold::{FoldStart, Gathered, GatheredIn, Scratch};
+use std::alloc::{AllocError, Global};
+use std::thread::Threads;
+use vectors::Changes;
+
+impl<'a> Work for RangeMerge<'a> {
+    type Out = Changes;
+
+    type State = Scratch;
+
+    ghost pieces = { λ w. length w.ranges };
+
+    ghost keeps = { λ _ _. Unit {0} };
+
+    ghost answers = { IsMerged };
+
+    fn state(&self, alloc: Global) -> Result<Scratch, AllocError> {
+        Ok(Scratch::new(alloc))
+    }
+
+    fn piece(
+        &self,
+        alloc: Global,
+        scratch: &mut Scratch,
+        piece: usize,
+    ) -> Result<Changes, AllocError> {
+        let context = self.apply.context(FoldStart::OldEntry);
+        let range = self.ranges.piece(piece);
+        let low = range.start as u32;
+        let high = range.end as u32;
+        scratch.begin();
+        join_between(alloc, context, self.found, low, high, scratch)?;
+        let changes = scratch.changes(alloc, context, None)?;
+        Ok(changes)
+    }
+}
+
+/// What an apply changes by the edges of which pieces have gathered what they give, where the numbers that they gave stand
+/// by ascending vertices: so many workers put them together, of whom the caller is worker 1, four ranges of vertices for
+/// each. The scratches of workers are taken from `states`, and are there again after it.
+///
+/// The only error is out of memory.
+pub fn merge_by_ranges<R: Threads + Sync>(
+    rt: &R,
+    workers: usize,
+    alloc: Global,
+    apply: &Apply<'_>,
+    found: &[Found<Gathered>],
+    states: &mut Vec<Scratch>,
+) -> Result<Changes, AllocError>
+    requires { AreWorkers workers }
+    ensures once { IfOk result (λ c. AreApart c.vectors.items) }
+    ensures changes { IfOk result (λ c. (m : StateValue) (steps : List StepsTree) (edges_of : ℕ → List (ℕ × ℕ)) → apply.now.vectors.now.vectors ≡ m.vectors → HasSizes apply.now.sizes.now m
+        → AreKernels apply.now.first.now apply.now.second steps → EachAscending found.now → EachGathered apply.now.flat.now.vertices m steps edges_of found.now
+        → AreChangesOn apply.now.flat.now.vertices (flat_map edges_of (pieces_of found.now)) m steps c.vectors.items) }
+{
+    let count = apply.flat.vertices() as usize;
+    let ranges = Partition::of(alloc, Parallelization::DynamicVertex, workers, count, &[])?;
+    let pieces = ranges.pieces();
+    // A graph has fewer vertices.
+    if pieces > u32::MAX as usize {
+        return Err(AllocError);
+    }
+    let work = RangeMerge {
+        apply: *apply,
+        found,
+        ranges,
+    };
+    let claimed = PieceAssignment::Claimed;
+    match run_pieces(rt, alloc, pieces, workers, claimed, &Open, &work, states) {
+        Ok(parts) => append_changes(alloc, &parts),
+        Err(_) => Err(AllocError),
+    }
+}
+
+// The numbers for which a merge is worth the threads of more than one worker.
+const MANY_NUMBERS: usize = 16_384;
+
+/// Whether pieces have gathered so many numbers, 16,384 or more, that to put them together is worth several workers. No
+/// result depends on it.
+pub fn is_worth_workers(found: &[Found<Gathered>]) -> bool {
+    let mut numbers = 0usize;
+    'found: for one in found {
+        numbers = numbers.saturating_add(count_numbers(&one.out.vectors));
+    }
+    MANY_NUMBERS <= numbers
+}
+
+/// How many numbers there are for all vectors.
+fn count_numbers(vectors: &[GatheredIn]) -> usize {
+    let mut numbers = 0usize;
+    'vectors: for of_vector in vectors {
+        numbers = numbers.saturating_add(of_vector.numbers.len());
+    }
+    numbers
+}
