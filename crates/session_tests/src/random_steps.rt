@@ -14,6 +14,7 @@ use version_list::Which;
 
 // How many lists of steps there are, and how long each is.
 const LISTS: u64 = 40;
+
 const STEPS: u32 = 80;
 
 // A vertex; one in 43 is none.
@@ -32,7 +33,11 @@ fn random_entry(random: &mut Random) -> Entry {
 fn random_step(alloc: Global, random: &mut Random) -> Result<SessionStep, AllocError> {
     Ok(match random.below(16) {
         0 | 1 => {
-            let entries = [random_entry(random), random_entry(random), random_entry(random)];
+            let entries = [
+                random_entry(random),
+                random_entry(random),
+                random_entry(random),
+            ];
             SessionStep::Commit(batch_of(alloc, &entries)?)
         }
         2 => SessionStep::Acquire(Which::Newest),
@@ -64,12 +69,10 @@ fn is_alike(one: &Outcome, other: &Outcome) -> bool {
         .iter()
         .zip(other.vectors.as_slice())
         .all(|(one, other)| one.entries.as_slice() == other.entries.as_slice());
-    let sets = one
-        .sets
+    let sets = one.sets.as_slice().iter().zip(other.sets.as_slice()).all(|(one, other)| one
+        .members
         .as_slice()
-        .iter()
-        .zip(other.sets.as_slice())
-        .all(|(one, other)| one.members.as_slice() == other.members.as_slice());
+        == other.members.as_slice());
     let counts = one.vectors.as_slice().len() == other.vectors.as_slice().len()
         && one.sets.as_slice().len() == other.sets.as_slice().len();
     let text = one.text.as_slice() == other.text.as_slice();

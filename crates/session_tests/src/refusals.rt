@@ -83,11 +83,7 @@ fn refusals_of_the_versions_are_replies(rt: HostRuntime) -> Result<(), Fail> {
 }
 
 // Why a session is not opened.
-fn why_not(
-    alloc: Global,
-    vertices: u32,
-    chunk_size: u32,
-) -> Result<Option<SessionError>, Fail> {
+fn why_not(alloc: Global, vertices: u32, chunk_size: u32) -> Result<Option<SessionError>, Fail> {
     match Session::new(alloc, vertices, chunk_size, plans(alloc)?) {
         Ok(session) => {
             drop(session);

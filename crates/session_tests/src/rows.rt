@@ -164,9 +164,11 @@ fn is_at_its_fault(alloc: Global, session: &Session, number: u64) -> Result<bool
         None => Ok(false),
         Some(job) => {
             let outcome = job.outcome(alloc)?;
-            Ok(outcome.end == End::Fault(401, 2)
-                && outcome.turns == 0
-                && outcome.text.as_slice() == b"1\n".as_slice())
+            Ok(
+                outcome.end == End::Fault(401, 2)
+                    && outcome.turns == 0
+                    && outcome.text.as_slice() == b"1\n".as_slice(),
+            )
         }
     }
 }
