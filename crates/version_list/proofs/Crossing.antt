@@ -20,6 +20,7 @@ use Rattle.tree_batch.proofs.Crossing.{graph_send}
 use Rattle.version_list.proofs.step.Done.TheSendSync.{the_send as done_send}
 use Rattle.version_list.specs.contracts.held.HeldVersion as held_version
 use Rattle.version_list.specs.contracts.held.HeldVersions as held
+use Rattle.version_list.specs.contracts.base.Base as start
 use Rattle.version_list.specs.contracts.step.Done as done
 use Rattle.version_list.specs.contracts.versions.Versions as versions
 use Rattle.version_list.specs.contracts.versions.Versions.TheInside as inside
@@ -41,8 +42,11 @@ held_send =
     let b : IsSend (numbered held_version.the_row).row = map_send held_version.the_row held_version_send in
     search sendable depth 20
 
+base_send : IsSend start.the_row
+base_send = record { owned = λ d vs. ((λ vss. (tt, (tt, tt))), tt); leaving = λ k f vs. tt }
+
 pub versions_send : IsSend versions.the_row
 versions_send =
     let n : IsSend u64 = search sendable in
     let h : IsSend (vec.the_row done.the_row heap.the_row alloc.ghosts) = Vec-send done.the_row done_send in
-    view_send _ _ _ _ _ (declared_send inside.the_type (graph_send, (n, (n, (h, (n, (held_send, (n, tt))))))))
+    view_send _ _ _ _ _ (declared_send inside.the_type (graph_send, (n, (n, (base_send, (h, (n, (n, (held_send, (n, tt))))))))))

@@ -119,20 +119,20 @@ kept_is_made s tickets k kept = elim (cases_eq k (newest_number s)) [
 ]
 
 module _ (s : State) (tickets : AreTickets s) where
-  pub tickets_committed : (batch : List Entry) (used : ℕ) → AreTickets (record s { batches = s.batches ++ batch ∷ []; used = used })
-  tickets_committed batch used = record {
+  pub tickets_committed : (batch : List Entry) (used steps : ℕ) → AreTickets (record s { batches = s.batches ++ batch ∷ []; used = used; steps = steps })
+  tickets_committed batch used steps = record {
     distinct = tickets.distinct;
     given = tickets.given;
     made = λ k past. tickets.made k (omega (arith, past, length-append s.batches (batch ∷ [])));
   }
 
-  pub holds_committed : (kept : HeldVersions) (batch : List Entry) (used : ℕ) → Holds kept s.open_tickets (version_graph s) → Holds kept s.open_tickets (version_graph (record s { batches = s.batches ++ batch ∷ []; used = used }))
-  holds_committed kept batch used =
-      holds_graphs kept s.open_tickets (version_graph s) (version_graph (record s { batches = s.batches ++ batch ∷ []; used = used }))
+  pub holds_committed : (kept : HeldVersions) (batch : List Entry) (used steps : ℕ) → Holds kept s.open_tickets (version_graph s) → Holds kept s.open_tickets (version_graph (record s { batches = s.batches ++ batch ∷ []; used = used; steps = steps }))
+  holds_committed kept batch used steps =
+      holds_graphs kept s.open_tickets (version_graph s) (version_graph (record s { batches = s.batches ++ batch ∷ []; used = used; steps = steps }))
       (λ k held. ap (graph_through s.opening) (sym (take-append-le k s.batches (batch ∷ []) (held_is_made s tickets k held))))
 
-  pub tickets_opened : (version used : ℕ) → version ≤ newest_number s → AreTickets (record s { open_tickets = s.open_tickets ++ record { number = s.given + 1; version = version } ∷ []; given = s.given + 1; used = used })
-  tickets_opened version used made =
+  pub tickets_opened : (version used steps : ℕ) → version ≤ newest_number s → AreTickets (record s { open_tickets = s.open_tickets ++ record { number = s.given + 1; version = version } ∷ []; given = s.given + 1; used = used; steps = steps })
+  tickets_opened version used steps made =
       let x : OpenTicket = record { number = s.given + 1; version = version } in
       let new : ticket_version s.open_tickets (s.given + 1) ≡ None = tickets.given (s.given + 1) (omega arith) in
       record {
@@ -145,8 +145,8 @@ module _ (s : State) (tickets : AreTickets s) where
             holder_count-push s.open_tickets x k ∙ rw (apart) (omega (arith, tickets.made k past));
       }
 
-  pub tickets_closed : (number version used : ℕ) → ticket_version s.open_tickets number ≡ Some version → AreTickets (record s { open_tickets = others number s.open_tickets; used = used })
-  tickets_closed number version used is_open = record {
+  pub tickets_closed : (number version used steps : ℕ) → ticket_version s.open_tickets number ≡ Some version → AreTickets (record s { open_tickets = others number s.open_tickets; used = used; steps = steps })
+  tickets_closed number version used steps is_open = record {
     distinct = AreDistinct-others s.open_tickets number tickets.distinct;
     given = λ n past. ticket_version-others s.open_tickets number n ∙ elim (cases_Bool (number == n)) [ inl is ↦ rw (is) refl | inr other ↦ rw (other) (tickets.given n past) ];
     made = λ k past. omega (arith, tickets.made k past, holder_count-others s.open_tickets number version k tickets.distinct is_open);

@@ -13,7 +13,7 @@ use Rattle.version_list.proofs.Keeping.{held_is_made}
 
 module _ (s : State) (tickets : AreTickets s) (number k : ℕ) (is : ticket_version s.open_tickets number ≡ Some k) where
   -- the state after the ticket's release
-  released : state_after s (Release number) ≡ record s { open_tickets = others number s.open_tickets; used = s.used + 1 }
+  released : state_after s (Release number) ≡ record s { open_tickets = others number s.open_tickets; used = s.used + 1; steps = s.steps + 1 }
   released = ap (λ (b : Bool). changed s (Release number) (if b then Released else Refused 122)) (is_open_is s.open_tickets number ∙ ap is_some is)
 
   -- the others have as many holders as before

@@ -5,3 +5,4 @@ pub mod Running
 pub mod Crossing
 pub mod Kept
 pub mod Commits
+pub mod Counting

@@ -1,9 +1,9 @@
 -- Steps that are taken one after another.
 use Rattle.std.proofs.Common.{◌≡◌, ℕ, List, [], ◌∷◌, ◌++◌, refl, sym, ap, ◌∙◌}
 use Rattle.version_list.specs.declared.step.Step.{Step}
-use Rattle.version_list.specs.declared.step.Step.TheVariants.{Commit, Acquire, Release}
+use Rattle.version_list.specs.declared.step.Step.TheVariants.{Commit, Acquire, Release, Trim}
 use Rattle.version_list.specs.declared.step.Reply.{Reply}
-use Rattle.version_list.specs.declared.step.Reply.TheVariants.{Version, Ticket, Released, Refused}
+use Rattle.version_list.specs.declared.step.Reply.TheVariants.{Version, Ticket, Released, Trimmed, Refused}
 use Rattle.version_list.specs.Machine.{State, reply_to, changed, state_after}
 use Rattle.version_list.specs.Timeline.{Timeline, replies_to, with_reply, advanced, advanced_through}
 
@@ -12,11 +12,13 @@ changed-refused : (s : State) (step : Step) (number : ℕ) → changed s step (R
 changed-refused s (Commit batch) number = refl
 changed-refused s (Acquire which) number = refl
 changed-refused s (Release ticket) number = refl
+changed-refused s Trim number = refl
 
 state-with_reply : (t : Timeline) (step : Step) (reply : Reply) → reply_to t.state step ≡ reply → (with_reply t step reply).state ≡ state_after t.state step
 state-with_reply t step (Version number) is = refl
 state-with_reply t step (Ticket number version) is = refl
 state-with_reply t step Released is = refl
+state-with_reply t step (Trimmed count) is = refl
 state-with_reply t step (Refused number) is = sym (ap (changed t.state step) is ∙ changed-refused t.state step number)
 
 state-advanced : (t : Timeline) (step : Step) → (advanced t step).state ≡ state_after t.state step

@@ -1,6 +1,6 @@
 -- What an accepted step does to a timeline, and to the fields that stand for its state.
 use Rattle.std.proofs.Common.{◌≡◌, ℕ, ◌+◌, ◌≤◌, ◌==◌, nat_eq, true, false, if◌then◌else◌, Option, Some, None, IfSome, is_some, List, [], ◌∷◌, ◌++◌, length, vec_capacity, inl, inr, refl, sym, ap, ◌∙◌, subst, arith, length-append}
-use Rattle.std.proofs.lemmas.Bool.{cases_Bool, ltb-false}
+use Rattle.std.proofs.lemmas.Bool.{cases_Bool, ltb-false, or_parts}
 use Rattle.indexmap.specs.IndexMap.{get, index_map_len}
 use Rattle.std.proofs.Math.Seq.{take-length}
 use Rattle.tree_batch.specs.declared.batch.Entry.{Entry}
@@ -15,7 +15,7 @@ use Rattle.version_list.specs.declared.step.Done.{Done}
 use Rattle.version_list.specs.declared.prepared.Prepared.{Prepared}
 use Rattle.version_list.specs.declared.prepared.PreparedAcquire.{PreparedAcquire}
 use Rattle.version_list.specs.declared.versions.Versions.TheInside.{Inside}
-use Rattle.version_list.specs.Machine.{State, OpenTicket, opened, reply_to, changed, state_after, newest_number, lacks_room, version_graph, number_asked, is_kept, kept_graph, is_open, ticket_version}
+use Rattle.version_list.specs.Machine.{State, OpenTicket, reply_to, changed, state_after, newest_number, lacks_room, version_graph, number_asked, is_kept, kept_graph, is_open, ticket_version}
 use Rattle.version_list.specs.Timeline.{Timeline, IsLegal, IsAccepted, replay, Accepts}
 use Rattle.version_list.specs.Prepared.{IsPrepared, IsPreparedAcquire}
 use Rattle.version_list.specs.Held.{AreTickets, Holds, HasRoom, one_more}
@@ -42,12 +42,9 @@ pub newest_graph : (s : State) → version_graph s (newest_number s) ≡ graph_t
 newest_graph s = ap (graph_through s.opening) (take-length s.batches)
 
 module _ (a b : Inside) (kept : IsFaithful a) (step : Step) (reply : Reply) (answer : reply_to (timeline a).state step ≡ reply) (accepted : IsAccepted reply)
-    (vertices : b.newest.vertices ≡ a.newest.vertices) (same_room : b.room ≡ a.room) (history : b.history.items ≡ a.history.items ++ record { step = step; reply = reply } ∷ []) (unreserved : b.reserved ≡ 0) where
+    (same_base : base b ≡ base a) (history : b.history.items ≡ a.history.items ++ record { step = step; reply = reply } ∷ []) (unreserved : b.reserved ≡ 0) where
   abbrev done : Done
   done = record { step = step; reply = reply }
-
-  same_base : base b ≡ base a
-  same_base = ap (λ n. opened n b.room) vertices ∙ ap (opened a.newest.vertices) same_room
 
   state_is : (timeline b).state ≡ state_after (timeline a).state step
   state_is = ap (λ t. replay t b.history.items) same_base ∙ ap (replay (base a)) history ∙ replay-pushed (base a) a.history.items done
@@ -66,7 +63,7 @@ module _ (s : State) (batch : List Entry) (inside : names_outside s.opening.vert
   pub commit_reply : reply_to s (Commit batch) ≡ Version (newest_number s + 1)
   commit_reply = rw (inside, has_room) refl
 
-  pub commit_after : state_after s (Commit batch) ≡ record s { batches = s.batches ++ batch ∷ []; used = s.used + 1 }
+  pub commit_after : state_after s (Commit batch) ≡ record s { batches = s.batches ++ batch ∷ []; used = s.used + 1; steps = s.steps + 1 }
   commit_after = ap (changed s (Commit batch)) commit_reply
 
 module _ (s : State) (which : Which) (kept : is_kept s (number_asked s which) ≡ true) (has_room : lacks_room s 2 ≡ false) where
@@ -74,7 +71,7 @@ module _ (s : State) (which : Which) (kept : is_kept s (number_asked s which) �
   pub acquire_reply : reply_to s (Acquire which) ≡ Ticket (s.given + 1) (number_asked s which)
   acquire_reply = rw (kept, has_room) refl
 
-  pub acquire_after : state_after s (Acquire which) ≡ record s { open_tickets = s.open_tickets ++ record { number = s.given + 1; version = number_asked s which } ∷ []; given = s.given + 1; used = s.used + 1 }
+  pub acquire_after : state_after s (Acquire which) ≡ record s { open_tickets = s.open_tickets ++ record { number = s.given + 1; version = number_asked s which } ∷ []; given = s.given + 1; used = s.used + 1; steps = s.steps + 1 }
   acquire_after = ap (changed s (Acquire which)) acquire_reply
 
 module _ (s : State) (number version : ℕ) (held : ticket_version s.open_tickets number ≡ Some version) where
@@ -82,10 +79,18 @@ module _ (s : State) (number version : ℕ) (held : ticket_version s.open_ticket
   pub release_reply : reply_to s (Release number) ≡ Released
   release_reply = let is : is_open s number ≡ true = is_open_is s.open_tickets number ∙ ap is_some held in rw (is) refl
 
-  pub release_after : state_after s (Release number) ≡ record s { open_tickets = others number s.open_tickets; used = s.used + 1 }
+  pub release_after : state_after s (Release number) ≡ record s { open_tickets = others number s.open_tickets; used = s.used + 1; steps = s.steps + 1 }
   release_after = ap (changed s (Release number)) release_reply
 
-module _ (a b : Inside) (s : State) (shows : Shows a s) (done : Done) (same_room : b.room ≡ a.room) (history : b.history.items ≡ a.history.items ++ done ∷ []) (unreserved : b.reserved ≡ 0) where
+-- where there is room for so many more entries and steps
+module _ (s : State) (n : ℕ) (has_room : lacks_room s n ≡ false) where
+  pub has_entries : s.used + length s.open_tickets + n ≤ s.room
+  has_entries = ltb-false s.room (s.used + length s.open_tickets + n) (or_parts _ _ has_room).0
+
+  pub has_steps : s.steps + length s.open_tickets + n ≤ 18446744073709551615
+  has_steps = ltb-false 18446744073709551615 (s.steps + length s.open_tickets + n) (or_parts _ _ has_room).1
+
+module _ (a b : Inside) (s : State) (shows : Shows a s) (done : Done) (same_room : b.room ≡ a.room) (history : b.history.items ≡ a.history.items ++ done ∷ []) (more_steps : b.steps ≡ a.steps + 1) (unreserved : b.reserved ≡ 0) where
   count : length b.history.items ≡ length a.history.items + 1
   count = ap length history ∙ length-append a.history.items (done ∷ [])
 
@@ -93,19 +98,21 @@ module _ (a b : Inside) (s : State) (shows : Shows a s) (done : Done) (same_room
   no_ticket_room two = absurd (omega (arith, two, unreserved))
 
   pub shows_committed : (batch : List Entry) → lacks_room s 1 ≡ false → b.newest ≡ graph_after a.newest batch → b.number ≡ a.number + 1 → b.given ≡ a.given → b.held ≡ a.held
-      → length b.history.items + length s.open_tickets ≤ vec_capacity b.history → Shows b (record s { batches = s.batches ++ batch ∷ []; used = s.used + 1 })
+      → length b.history.items + length s.open_tickets ≤ vec_capacity b.history → Shows b (record s { batches = s.batches ++ batch ∷ []; used = s.used + 1; steps = s.steps + 1 })
   shows_committed batch has_room newest number given held reserved = record {
     opening = shows.opening ∙ ap (λ (g : Digraph). empty_graph g.vertices) (sym newest);
     number = number ∙ ap (λ n. n + 1) shows.number ∙ sym (length-append s.batches (batch ∷ []));
     newest = newest ∙ ap (λ g. graph_after g batch) shows.newest ∙ sym (graph_through-pushed s.opening s.batches batch);
     given = given ∙ shows.given;
-    held = rw (held) (holds_committed s shows.tickets a.held batch (s.used + 1) shows.held);
-    tickets = tickets_committed s shows.tickets batch (s.used + 1);
+    held = rw (held) (holds_committed s shows.tickets a.held batch (s.used + 1) (s.steps + 1) shows.held);
+    tickets = tickets_committed s shows.tickets batch (s.used + 1) (s.steps + 1);
     used = ap (λ n. n + 1) shows.used ∙ sym count;
     room = shows.room ∙ sym same_room;
     within_room = omega (arith, shows.within_room, same_room);
-    few = omega (arith, shows.few, number, given, count);
-    fits = omega (arith, ltb-false s.room (s.used + length s.open_tickets + 1) has_room, shows.used, shows.room, same_room, count);
+    steps = more_steps ∙ ap (λ n. n + 1) shows.steps;
+    few = omega (arith, shows.few, number, given, more_steps);
+    counted = omega (arith, has_steps s 1 has_room, shows.steps, more_steps);
+    fits = omega (arith, has_entries s 1 has_room, shows.used, shows.room, same_room, count);
     reserved = omega (arith, reserved, unreserved);
     ticket_room = no_ticket_room;
   }
@@ -113,7 +120,7 @@ module _ (a b : Inside) (s : State) (shows : Shows a s) (done : Done) (same_room
   pub shows_acquired : (version : ℕ) → version ≤ newest_number s → lacks_room s 2 ≡ false → b.newest ≡ a.newest → b.number ≡ a.number → b.given ≡ a.given + 1
       → Holds b.held (s.open_tickets ++ record { number = s.given + 1; version = version } ∷ []) (version_graph s)
       → length b.history.items + length s.open_tickets + 1 ≤ vec_capacity b.history
-      → Shows b (record s { open_tickets = s.open_tickets ++ record { number = s.given + 1; version = version } ∷ []; given = s.given + 1; used = s.used + 1 })
+      → Shows b (record s { open_tickets = s.open_tickets ++ record { number = s.given + 1; version = version } ∷ []; given = s.given + 1; used = s.used + 1; steps = s.steps + 1 })
   shows_acquired version made has_room newest number given held reserved =
       let open_count = length-append s.open_tickets (record { number = s.given + 1; version = version } ∷ []) in
       record {
@@ -122,19 +129,21 @@ module _ (a b : Inside) (s : State) (shows : Shows a s) (done : Done) (same_room
         newest = newest ∙ shows.newest;
         given = given ∙ ap (λ n. n + 1) shows.given;
         held = held;
-        tickets = tickets_opened s shows.tickets version (s.used + 1) made;
+        tickets = tickets_opened s shows.tickets version (s.used + 1) (s.steps + 1) made;
         used = ap (λ n. n + 1) shows.used ∙ sym count;
         room = shows.room ∙ sym same_room;
         within_room = omega (arith, shows.within_room, same_room);
-        few = omega (arith, shows.few, number, given, count);
-        fits = omega (arith, ltb-false s.room (s.used + length s.open_tickets + 2) has_room, shows.used, shows.room, same_room, count, open_count);
+        steps = more_steps ∙ ap (λ n. n + 1) shows.steps;
+        few = omega (arith, shows.few, number, given, more_steps);
+        counted = omega (arith, has_steps s 2 has_room, shows.steps, more_steps, open_count);
+        fits = omega (arith, has_entries s 2 has_room, shows.used, shows.room, same_room, count, open_count);
         reserved = omega (arith, reserved, open_count, unreserved);
         ticket_room = no_ticket_room;
       }
 
   pub shows_released : (number version : ℕ) → ticket_version s.open_tickets number ≡ Some version → b.newest ≡ a.newest → b.number ≡ a.number → b.given ≡ a.given
       → Holds b.held (others number s.open_tickets) (version_graph s) → vec_capacity b.history ≡ vec_capacity a.history
-      → Shows b (record s { open_tickets = others number s.open_tickets; used = s.used + 1 })
+      → Shows b (record s { open_tickets = others number s.open_tickets; used = s.used + 1; steps = s.steps + 1 })
   shows_released number version is_open newest same_number given held capacity =
       let one_fewer = length-others s.open_tickets number version shows.tickets.distinct is_open in
       record {
@@ -143,11 +152,13 @@ module _ (a b : Inside) (s : State) (shows : Shows a s) (done : Done) (same_room
         newest = newest ∙ shows.newest;
         given = given ∙ shows.given;
         held = held;
-        tickets = tickets_closed s shows.tickets number version (s.used + 1) is_open;
+        tickets = tickets_closed s shows.tickets number version (s.used + 1) (s.steps + 1) is_open;
         used = ap (λ n. n + 1) shows.used ∙ sym count;
         room = shows.room ∙ sym same_room;
         within_room = omega (arith, shows.within_room, same_room);
-        few = omega (arith, shows.few, same_number, given, count);
+        steps = more_steps ∙ ap (λ n. n + 1) shows.steps;
+        few = omega (arith, shows.few, same_number, given, more_steps);
+        counted = omega (arith, shows.counted, more_steps, one_fewer);
         fits = omega (arith, shows.fits, same_room, count, one_fewer);
         reserved = omega (arith, shows.reserved, capacity, count, one_fewer, unreserved);
         ticket_room = no_ticket_room;
@@ -155,9 +166,9 @@ module _ (a b : Inside) (s : State) (shows : Shows a s) (done : Done) (same_room
 
 -- memory is reserved for n entries more
 module _ (a b : Inside) (kept : IsFaithful a) (newest : b.newest ≡ a.newest) (number : b.number ≡ a.number) (same_room : b.room ≡ a.room) (given : b.given ≡ a.given)
-    (history : b.history.items ≡ a.history.items) where
+    (same_base : base b ≡ base a) (history : b.history.items ≡ a.history.items) (same_steps : b.steps ≡ a.steps) where
   pub same_timeline : timeline b ≡ record (timeline a) { reserved = b.reserved }
-  same_timeline = λ i. record { base = opened (newest i).vertices (same_room i); history = history i; state = replay (opened (newest i).vertices (same_room i)) (history i); reserved = b.reserved }
+  same_timeline = λ i. record { base = same_base i; history = history i; state = replay (same_base i) (history i); reserved = b.reserved }
 
   pub kept_reserved : Holds b.held (timeline a).state.open_tickets (version_graph (timeline a).state) → length a.history.items + length (timeline a).state.open_tickets + b.reserved ≤ vec_capacity b.history
       → (2 ≤ b.reserved → HasRoom b.held) → IsFaithful b
@@ -178,7 +189,9 @@ module _ (a b : Inside) (kept : IsFaithful a) (newest : b.newest ≡ a.newest) (
           used = shows.used ∙ sym count;
           room = shows.room ∙ sym same_room;
           within_room = omega (arith, shows.within_room, same_room);
-          few = omega (arith, shows.few, number, given, count);
+          steps = same_steps ∙ shows.steps;
+          few = omega (arith, shows.few, number, given, same_steps);
+          counted = omega (arith, shows.counted, same_steps);
           fits = omega (arith, shows.fits, same_room, count);
           reserved = omega (arith, reserved, count);
           ticket_room = ticket_room;
@@ -196,7 +209,7 @@ commit_room s batch number is = elim (cases_Bool (names_outside s.opening.vertic
 pub next_version : (s : State) (batch : List Entry) (number : ℕ) → reply_to s (Commit batch) ≡ Version number
     → (newest_number (state_after s (Commit batch)) ≡ newest_number s + 1) × (version_graph (state_after s (Commit batch)) (newest_number s + 1) ≡ graph_after (version_graph s (newest_number s)) batch)
 next_version s batch number is =
-    let after : State = record s { batches = s.batches ++ batch ∷ []; used = s.used + 1 } in
+    let after : State = record s { batches = s.batches ++ batch ∷ []; used = s.used + 1; steps = s.steps + 1 } in
     let after_is : state_after s (Commit batch) ≡ after = ap (changed s (Commit batch)) is in
     let count : newest_number after ≡ newest_number s + 1 = length-append s.batches (batch ∷ []) in (
       ap newest_number after_is ∙ count,
@@ -233,7 +246,7 @@ found_is_made s tickets k (Some g) is = elim (cases_Bool (is_kept s k)) [
 
 -- a commit that was prepared is finished
 module _ (a b : Inside) (kept : IsFaithful a) (batch : List Entry) (p : Prepared) (ready : IsPrepared (timeline a) batch p) (newest : b.newest ≡ p.graph) (number : b.number ≡ p.number)
-    (same_room : b.room ≡ a.room) (given : b.given ≡ a.given) (held : b.held ≡ a.held) (history : b.history.items ≡ a.history.items ++ p.done ∷ [])
+    (same_room : b.room ≡ a.room) (given : b.given ≡ a.given) (held : b.held ≡ a.held) (same_base : base b ≡ base a) (history : b.history.items ≡ a.history.items ++ p.done ∷ []) (more_steps : b.steps ≡ a.steps + 1)
     (capacity : vec_capacity b.history ≡ vec_capacity a.history) (unreserved : b.reserved ≡ 0) where
   abbrev before : State
   before = (timeline a).state
@@ -247,28 +260,25 @@ module _ (a b : Inside) (kept : IsFaithful a) (batch : List Entry) (p : Prepared
   items : b.history.items ≡ a.history.items ++ entry ∷ []
   items = history ∙ ap (λ (d : Done). a.history.items ++ d ∷ []) ready.done
 
-  same_vertices : b.newest.vertices ≡ a.newest.vertices
-  same_vertices = ap (λ (g : Digraph). g.vertices) next_is
-
   fits : length b.history.items + length before.open_tickets ≤ vec_capacity b.history
   fits = omega (arith, kept.state.reserved, ready.reserved, capacity, ap length items, length-append a.history.items (entry ∷ []))
 
   pub kept_commit : IsFaithful b
-  kept_commit = kept_step a b kept (Commit batch) (Version (newest_number before + 1)) ready.is_answer tt same_vertices same_room items unreserved
+  kept_commit = kept_step a b kept (Commit batch) (Version (newest_number before + 1)) ready.is_answer tt same_base items unreserved
       (subst (Shows b) (sym (ap (changed before (Commit batch)) ready.is_answer))
-      (shows_committed a b before kept.state entry same_room items unreserved batch (commit_room before batch (newest_number before + 1) ready.is_answer) next_is (number ∙ ready.number ∙ ap (λ n. n + 1) (sym kept.state.number)) given held fits))
+      (shows_committed a b before kept.state entry same_room items more_steps unreserved batch (commit_room before batch (newest_number before + 1) ready.is_answer) next_is (number ∙ ready.number ∙ ap (λ n. n + 1) (sym kept.state.number)) given held fits))
 
   pub accepts_commit : Accepts (timeline a) p.done.step p.done.reply (timeline b)
   accepts_commit = subst (λ (d : Done). Accepts (timeline a) d.step d.reply (timeline b)) (sym ready.done)
-      (accepts_step a b kept (Commit batch) (Version (newest_number before + 1)) ready.is_answer tt same_vertices same_room items unreserved)
+      (accepts_step a b kept (Commit batch) (Version (newest_number before + 1)) ready.is_answer tt same_base items unreserved)
 
 -- a hold that was prepared is finished
 module _ (a b : Inside) (kept : IsFaithful a) (p : PreparedAcquire) (ready : IsPreparedAcquire (timeline a) p.which p) (newest : b.newest ≡ a.newest) (number : b.number ≡ a.number)
-    (same_room : b.room ≡ a.room) (given : b.given ≡ p.ticket.number)
+    (same_room : b.room ≡ a.room) (given : b.given ≡ p.ticket.number) (same_base : base b ≡ base a)
     (tickets : (q : ℕ) → get nat_eq b.held.tickets q ≡ (if p.ticket.number == q then Some p.version else get nat_eq a.held.tickets q))
     (count : get nat_eq a.held.tickets p.ticket.number ≡ None → index_map_len b.held.tickets ≡ index_map_len a.held.tickets + 1)
     (versions : (q : ℕ) → get nat_eq b.held.versions q ≡ (if p.version == q then Some (one_more p.kept (get nat_eq a.held.versions p.version)) else get nat_eq a.held.versions q))
-    (history : b.history.items ≡ a.history.items ++ record { step = Acquire p.which; reply = Ticket p.ticket.number p.version } ∷ [])
+    (history : b.history.items ≡ a.history.items ++ record { step = Acquire p.which; reply = Ticket p.ticket.number p.version } ∷ []) (more_steps : b.steps ≡ a.steps + 1)
     (capacity : vec_capacity b.history ≡ vec_capacity a.history) (unreserved : b.reserved ≡ 0) where
   abbrev held_state : State
   held_state = (timeline a).state
@@ -300,11 +310,11 @@ module _ (a b : Inside) (kept : IsFaithful a) (p : PreparedAcquire) (ready : IsP
   hold_fits = omega (arith, kept.state.reserved, ready.reserved, capacity, ap length history, length-append a.history.items (hold_entry ∷ []))
 
   pub kept_acquire : IsFaithful b
-  kept_acquire = kept_step a b kept (Acquire p.which) (Ticket p.ticket.number p.version) hold_answer tt (ap (λ (g : Digraph). g.vertices) newest) same_room history unreserved
+  kept_acquire = kept_step a b kept (Acquire p.which) (Ticket p.ticket.number p.version) hold_answer tt same_base history unreserved
       (subst (Shows b) (sym (acquire_after held_state p.which allowed.0 allowed.1))
-      (shows_acquired a b held_state kept.state hold_entry same_room history unreserved (number_asked held_state p.which) (kept_is_made held_state kept.state.tickets (number_asked held_state p.which) allowed.0) allowed.1 newest number
+      (shows_acquired a b held_state kept.state hold_entry same_room history more_steps unreserved (number_asked held_state p.which) (kept_is_made held_state kept.state.tickets (number_asked held_state p.which) allowed.0) allowed.1 newest number
       (given ∙ ready.ticket ∙ ap (λ n. n + 1) (sym kept.state.given))
       (subst (λ (t : OpenTicket). Holds b.held (held_state.open_tickets ++ t ∷ []) (version_graph held_state)) ticket_is opened_holds) hold_fits))
 
   pub accepts_acquire : Accepts (timeline a) (Acquire p.which) (Ticket p.ticket.number p.version) (timeline b)
-  accepts_acquire = accepts_step a b kept (Acquire p.which) (Ticket p.ticket.number p.version) hold_answer tt (ap (λ (g : Digraph). g.vertices) newest) same_room history unreserved
+  accepts_acquire = accepts_step a b kept (Acquire p.which) (Ticket p.ticket.number p.version) hold_answer tt same_base history unreserved

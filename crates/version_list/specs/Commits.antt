@@ -2,7 +2,7 @@
 use Rattle.std.specs.Prelude.{List, [], ◌∷◌, ◌++◌}
 use Rattle.tree_batch.specs.declared.batch.Entry.{Entry}
 use Rattle.version_list.specs.declared.step.Step.{Step}
-use Rattle.version_list.specs.declared.step.Step.TheVariants.{Commit, Acquire, Release}
+use Rattle.version_list.specs.declared.step.Step.TheVariants.{Commit, Acquire, Release, Trim}
 use Rattle.version_list.specs.declared.step.Done.{Done}
 
 -- the batch that a step commits
@@ -10,6 +10,7 @@ abbrev pub committed_by : Step → List (List Entry)
 committed_by (Commit batch) = batch ∷ []
 committed_by (Acquire which) = []
 committed_by (Release number) = []
+committed_by Trim = []
 
 -- the batches that the steps of a history commit, in order
 abbrev pub commits_of : List Done → List (List Entry)

@@ -2,13 +2,13 @@
 use Rattle.std.specs.Prelude.{◌≡◌, ◌+◌, ◌≤◌, length, vec_capacity}
 use Rattle.tree_batch.specs.Digraph.{empty_graph, graph_through}
 use Rattle.version_list.specs.declared.versions.Versions.TheInside.{Inside}
-use Rattle.version_list.specs.Machine.{State, opened, newest_number, version_graph}
+use Rattle.version_list.specs.Machine.{State, newest_number, version_graph}
 use Rattle.version_list.specs.Timeline.{Timeline, IsLegal, replay}
 use Rattle.version_list.specs.Held.{Holds, AreTickets, HasRoom}
 
--- the state in which the versions began
+-- the state in which the history begins
 abbrev pub base : Inside → State
-base a = opened a.newest.vertices a.room
+base a = a.base.state
 
 -- the timeline that the fields stand for
 abbrev pub timeline : Inside → Timeline
@@ -25,7 +25,9 @@ pub record Shows (a : Inside) (s : State) : Type 0 where
   pub used : s.used ≡ length a.history.items
   pub room : s.room ≡ a.room
   pub within_room : a.room ≤ 16777216
-  pub few : a.number + a.given ≤ length a.history.items
+  pub steps : a.steps ≡ s.steps
+  pub few : a.number + a.given ≤ a.steps
+  pub counted : a.steps + length s.open_tickets ≤ 18446744073709551615
   pub fits : length a.history.items + length s.open_tickets ≤ a.room
   pub reserved : length a.history.items + length s.open_tickets + a.reserved ≤ vec_capacity a.history
   pub ticket_room : 2 ≤ a.reserved → HasRoom a.held

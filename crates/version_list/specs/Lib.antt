@@ -1,6 +1,7 @@
 pub mod Machine
 pub mod Timeline
 pub mod Prepared
+pub mod Trims
 pub mod Held
 pub mod Fields
 pub mod Refusal

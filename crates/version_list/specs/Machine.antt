@@ -8,16 +8,16 @@ use Rattle.tree_batch.specs.Digraph.{Digraph, empty_graph, graph_through}
 use Rattle.version_list.specs.declared.step.Which.{Which}
 use Rattle.version_list.specs.declared.step.Which.TheVariants.{Newest, At}
 use Rattle.version_list.specs.declared.step.Step.{Step}
-use Rattle.version_list.specs.declared.step.Step.TheVariants.{Commit, Acquire, Release}
+use Rattle.version_list.specs.declared.step.Step.TheVariants.{Commit, Acquire, Release, Trim}
 use Rattle.version_list.specs.declared.step.Reply.{Reply}
-use Rattle.version_list.specs.declared.step.Reply.TheVariants.{Version, Ticket, Released, Refused}
+use Rattle.version_list.specs.declared.step.Reply.TheVariants.{Version, Ticket, Released, Trimmed, Refused}
 
 -- a ticket that is open: its number, and the number of the version that it holds
 pub record OpenTicket : Type 0 where
   pub number : ℕ
   pub version : ℕ
 
--- the graph of version 0, the batches since, the open tickets, how many tickets were given, how many history entries are used, and for how many there is room
+-- the graph of version 0, the batches since, the open tickets, how many tickets were given, how many history entries are used since the opening or the last trim, for how many there is room, and how many steps were accepted since the opening
 pub record State : Type 0 where
   pub opening : Digraph
   pub batches : List (List Entry)
@@ -25,10 +25,11 @@ pub record State : Type 0 where
   pub given : ℕ
   pub used : ℕ
   pub room : ℕ
+  pub steps : ℕ
 
 -- a graph of n vertices without edges as version 0, with room for at most 16,777,216 entries
 abbrev pub opened : ℕ → ℕ → State
-opened n room = record { opening = empty_graph n; batches = []; open_tickets = []; given = 0; used = 0; room = min room 16777216 }
+opened n room = record { opening = empty_graph n; batches = []; open_tickets = []; given = 0; used = 0; room = min room 16777216; steps = 0 }
 
 -- the number of the newest version
 abbrev pub newest_number : State → ℕ
@@ -64,9 +65,13 @@ ticket_version (t ∷ ts) number = if t.number == number then Some t.version els
 abbrev pub ticket_graph : State → ℕ → Option Digraph
 ticket_graph s number = option_map (version_graph s) (ticket_version s.open_tickets number)
 
--- whether so many more entries, beside one for the release of each open ticket, are more than there is room for
+-- whether so many more steps, beside the release of each open ticket, are more than can be counted: 2^64 - 1 in all
+abbrev pub lacks_steps : State → ℕ → Bool
+lacks_steps s more = nat_lt 18446744073709551615 (s.steps + length s.open_tickets + more)
+
+-- whether so many more entries, beside one for the release of each open ticket, are more than there is room for, or more steps than can be counted
 abbrev pub lacks_room : State → ℕ → Bool
-lacks_room s more = nat_lt s.room (s.used + length s.open_tickets + more)
+lacks_room s more = nat_lt s.room (s.used + length s.open_tickets + more) || lacks_steps s more
 
 -- what a step is answered
 abbrev pub reply_to : State → Step → Reply
@@ -79,13 +84,15 @@ reply_to s (Acquire which) =
     else (if lacks_room s 2 then Refused 123
     else Ticket (s.given + 1) (number_asked s which))
 reply_to s (Release number) = if is_open s number then Released else Refused 122
+reply_to s Trim = if lacks_steps s 1 then Refused 123 else Trimmed s.used
 
 -- the state after a step that was answered so; a refusal changes nothing
 abbrev pub changed : State → Step → Reply → State
-changed s (Commit batch) (Version number) = record s { batches = s.batches ++ batch ∷ []; used = s.used + 1 }
+changed s (Commit batch) (Version number) = record s { batches = s.batches ++ batch ∷ []; used = s.used + 1; steps = s.steps + 1 }
 changed s (Acquire which) (Ticket number version) =
-    record s { open_tickets = s.open_tickets ++ record { number = number; version = version } ∷ []; given = number; used = s.used + 1 }
-changed s (Release number) Released = record s { open_tickets = filter (λ t. not (t.number == number)) s.open_tickets; used = s.used + 1 }
+    record s { open_tickets = s.open_tickets ++ record { number = number; version = version } ∷ []; given = number; used = s.used + 1; steps = s.steps + 1 }
+changed s (Release number) Released = record s { open_tickets = filter (λ t. not (t.number == number)) s.open_tickets; used = s.used + 1; steps = s.steps + 1 }
+changed s Trim (Trimmed count) = record s { used = 0; steps = s.steps + 1 }
 changed s step reply = s
 
 -- the state after a step

@@ -3,7 +3,7 @@ use Rattle.std.specs.Prelude.{◌≡◌, ℕ, ◌<◌, true, false, Result, Ok, 
 use Rattle.tree_batch.specs.Digraph.{is_vertex_count, is_chunk_size}
 use Rattle.version_list.specs.declared.step.Step.{Step}
 use Rattle.version_list.specs.declared.step.Reply.{Reply}
-use Rattle.version_list.specs.declared.step.Reply.TheVariants.{Version, Ticket, Released, Refused}
+use Rattle.version_list.specs.declared.step.Reply.TheVariants.{Version, Ticket, Released, Trimmed, Refused}
 use Rattle.version_list.specs.declared.step.Done.{Done}
 use Rattle.version_list.specs.declared.error.VersionError.{VersionError}
 use Rattle.version_list.specs.declared.error.VersionError.TheVariants.{NoMemory, VertexRange, BadChunkSize, NotKept, NotHeld, HistoryFull}
@@ -15,6 +15,7 @@ abbrev pub IsAccepted : Reply → Type 0
 IsAccepted (Version number) = Unit {0}
 IsAccepted (Ticket number version) = Unit {0}
 IsAccepted Released = Unit {0}
+IsAccepted (Trimmed count) = Unit {0}
 IsAccepted (Refused number) = ⊥
 
 -- from the state on, each entry is a step that was accepted, with the reply that the machine gives at that point
@@ -27,7 +28,7 @@ abbrev pub replay : State → List Done → State
 replay s [] = s
 replay s (done ∷ history) = replay (state_after s done.step) history
 
--- the state in which the versions began, the history since, the state now, and for how many entries beside those of releases memory is reserved
+-- the base, in which the history begins, at the opening or after the last trim; the history since, the state now, and for how many entries beside those of releases memory is reserved
 pub record Timeline : Type 0 where
   pub base : State
   pub history : List Done
@@ -38,7 +39,7 @@ pub record Timeline : Type 0 where
 abbrev pub beginning : State → Timeline
 beginning s = record { base = s; history = []; state = s; reserved = 0 }
 
--- the machine answers the step so and accepts it, and the new timeline is the old one with the step at its end
+-- the machine answers the step, which is no trim, so and accepts it, and the new timeline is the old one with the step at its end
 pub record Accepts (old : Timeline) (step : Step) (reply : Reply) (new : Timeline) : Type 0 where
   pub is_answer : reply_to old.state step ≡ reply
   pub accepted : IsAccepted reply
@@ -62,9 +63,10 @@ Answers old step reply (Err NotKept) new = Refuses old step NotKept new
 Answers old step reply (Err NotHeld) new = Refuses old step NotHeld new
 Answers old step reply (Err HistoryFull) new = Refuses old step HistoryFull new
 
--- the timeline after a step that was answered so
+-- the timeline after a step that was answered so; after a trim it begins anew
 abbrev pub with_reply : Timeline → Step → Reply → Timeline
 with_reply t step (Refused number) = t
+with_reply t step (Trimmed count) = beginning (state_after t.state step)
 with_reply t step reply = record { base = t.base; history = t.history ++ record { step = step; reply = reply } ∷ []; state = state_after t.state step; reserved = 0 }
 
 -- what the steps are answered, one after another
@@ -72,7 +74,7 @@ abbrev pub replies_to : State → List Step → List Reply
 replies_to s [] = []
 replies_to s (step ∷ steps) = reply_to s step ∷ replies_to (state_after s step) steps
 
--- the timeline after a step: one that is accepted stands at the end of the history, with its reply
+-- the timeline after a step: one that is accepted stands at the end of the history, with its reply; after a trim the history has no entries
 abbrev pub advanced : Timeline → Step → Timeline
 advanced t step = with_reply t step (reply_to t.state step)
 

@@ -10,6 +10,13 @@ pub struct Prepared {
     pub graph: Graph,
 }
 
+/// A trim that would be accepted, of [`Versions::prepare_trim`](crate::Versions::prepare_trim): how
+/// many entries it drops.
+#[derive(Debug, Drop)]
+pub struct PreparedTrim {
+    pub count: u64,
+}
+
 /// A hold whose memory is taken, of
 /// [`Versions::prepare_acquire`](crate::Versions::prepare_acquire): which version was asked for, the
 /// ticket, the number of the version, and its graph, once to hand out and once to keep.

@@ -14,21 +14,24 @@ pub struct Ticket {
     pub number: u64,
 }
 
-/// What is asked of the versions: a batch to commit, a version to hold, or a ticket to give back.
+/// What is asked of the versions: a batch to commit, a version to hold, a ticket to give back, or to
+/// drop the entries of the history.
 #[derive(Debug, Drop)]
 pub enum Step {
     Commit(Batch),
     Acquire(Which),
     Release(u64),
+    Trim,
 }
 
 /// What a step is answered: the number of the new version, a ticket's number and its version,
-/// that the ticket is closed, or the number of a refusal.
+/// that the ticket is closed, how many entries were dropped, or the number of a refusal.
 #[derive(Clone, Copy, Debug, PartialEq, Eq)]
 pub enum Reply {
     Version(u64),
     Ticket(u64, u64),
     Released,
+    Trimmed(u64),
     Refused(u16),
 }
 

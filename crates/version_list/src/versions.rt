@@ -1,4 +1,4 @@
-ghost use Rattle.std.specs.Prelude.{◌≡◌, ◌+◌, ◌^◌, ◌≤◌, ◌<◌, if◌then◌else◌, IfOk, IfErr, IfSome, MatchOption, None, OnOk, List, length, vec_len, vec_capacity};
+ghost use Rattle.std.specs.Prelude.{◌≡◌, Ok, ◌+◌, ◌^◌, ◌≤◌, ◌<◌, if◌then◌else◌, IfOk, IfErr, IfSome, MatchOption, None, OnOk, List, length, vec_len, vec_capacity};
 ghost use Rattle.std.specs.Option.{option_copied};
 ghost use Rattle.indexmap.specs.IndexMap.{IsUnchanged, index_map_len};
 ghost use Rattle.tree_batch.specs.declared.batch.Entry.{Entry};
@@ -7,15 +7,17 @@ ghost use Rattle.tree_batch.specs.Digraph.{graph_after};
 ghost use Rattle.version_list.specs.declared.error.VersionError.TheVariants.{VertexRange, NotHeld, HistoryFull, NoMemory};
 ghost use Rattle.version_list.specs.declared.step.Step.TheVariants.{Commit, Acquire, Release};
 ghost use Rattle.version_list.specs.declared.step.Reply.TheVariants as reply;
-ghost use Rattle.version_list.specs.Machine.{lacks_room, newest_number, number_asked, version_graph, is_kept, kept_graph, ticket_graph, ticket_version, is_open, reply_to};
+ghost use Rattle.version_list.specs.Machine.{lacks_room, lacks_steps, newest_number, number_asked, version_graph, is_kept, kept_graph, ticket_graph, ticket_version, is_open, reply_to};
 ghost use Rattle.version_list.specs.Timeline.{IsLegal, replay, Opens, Accepts, Answers, Takes, Runs};
 ghost use Rattle.version_list.specs.Prepared.{IsPrepared, IsPreparedAcquire, Prepares};
+ghost use Rattle.version_list.specs.Trims.{PreparesTrim, Trims};
 ghost use Rattle.version_list.specs.Held.{HasRoom};
 ghost use Rattle.version_list.specs.Kept.{IsHeld};
 
+use crate::base::Base;
 use crate::error::VersionError;
 use crate::held::HeldVersions;
-use crate::prepared::{Prepared, PreparedAcquire};
+use crate::prepared::{Prepared, PreparedAcquire, PreparedTrim};
 use crate::step::{Done, Reply, Step, Ticket, Which};
 use std::alloc::{AllocError, Global};
 use std::marker::Model;
@@ -25,13 +27,20 @@ use tree_batch::{Batch, Graph, Quiet};
 /// The greatest number of entries that a history may have.
 pub const MAX_HISTORY: u64 = 16_777_216;
 
-/// The versions of a graph that are kept, and the history of the accepted steps.
+/// The versions of a graph that are kept, and the history of the steps that were accepted since the
+/// opening or since the last trim. All accepted steps since the opening are counted, trims too: a step
+/// after which that count, with the releases of the open tickets, would pass 2^64 - 1 is refused as one
+/// for which the history has no room.
 #[derive(Debug)]
 pub struct Versions {
     newest: Graph,
     number: u64,
     room: u64,
+    /// The state in which the history begins.
+    base: Base,
     history: Vec<Done>,
+    /// How many steps were accepted since the opening.
+    steps: u64,
     given: u64,
     held: HeldVersions,
     /// For how many entries memory is reserved, beside those of releases: 1 for a commit that was
@@ -45,7 +54,9 @@ impl Drop for Versions {
             newest: _,
             number: _,
             room: _,
+            base: _,
             history: _,
+            steps: _,
             given: _,
             held: _,
             reserved: _,
@@ -91,7 +102,9 @@ impl Versions {
             newest: Graph::new(vertices, chunk_size)?,
             number: 0,
             room: room.min(MAX_HISTORY),
+            base: Base::at(&(vertices, room)),
             history: Vec::new(alloc),
+            steps: 0,
             given: 0,
             held: HeldVersions::new(alloc),
             reserved: 0,
@@ -167,6 +180,7 @@ impl Versions {
         self.history.push_reserved(done);
         self.newest = graph;
         self.number = number;
+        self.steps += 1;
         self.reserved = 0;
         number
     }
@@ -241,6 +255,7 @@ impl Versions {
             reply: Reply::Ticket(ticket.number, version),
         });
         self.given = ticket.number;
+        self.steps += 1;
         self.reserved = 0;
         (ticket, graph)
     }
@@ -263,8 +278,51 @@ impl Versions {
             step: Step::Release(ticket.number),
             reply: Reply::Released,
         });
+        self.steps += 1;
         self.reserved = 0;
         Ok(())
+    }
+
+    /// Drops the entries of the history, and answers how many there were. What is kept stays as it is:
+    /// the versions, their numbers and graphs, the open tickets, and the room and the memory for their
+    /// releases. The history begins anew in the present state, with room for as many entries as at the
+    /// opening. Takes no memory.
+    ///
+    /// Errors: `HistoryFull` where no more steps can be counted, and then nothing is changed. Want of
+    /// room in the history is no reason.
+    pub fn trim(&mut self) -> Result<u64, VersionError>
+        ensures { Trims self.old result self.new }
+    {
+        let prepared = self.prepare_trim()?;
+        Ok(self.finish_trim(prepared))
+    }
+
+    /// Asks for a trim, without a change before [`Versions::finish_trim`]. Takes no memory.
+    ///
+    /// Errors: those of [`Versions::trim`].
+    pub fn prepare_trim(&self) -> Result<PreparedTrim, VersionError>
+        ensures { PreparesTrim self.now result }
+    {
+        if self.lacks_steps(1) {
+            return Err(VersionError::HistoryFull);
+        }
+        Ok(PreparedTrim {
+            count: self.history.len() as u64,
+        })
+    }
+
+    /// Makes the trim that was prepared, where no step was accepted since, and answers how many entries
+    /// were dropped. Takes no memory, and cannot be refused.
+    pub fn finish_trim(&mut self, prepared: PreparedTrim) -> u64
+        requires { PreparesTrim self.old (Ok prepared) }
+        ensures count { result ≡ prepared.count }
+        ensures trimmed { Trims self.old (Ok prepared.count) self.new }
+    {
+        self.base = Base::at(&*self);
+        self.history.clear();
+        self.steps += 1;
+        self.reserved = 0;
+        prepared.count
     }
 
     /// Takes steps one after another, and answers what each is answered. A step that is refused
@@ -337,8 +395,8 @@ impl Versions {
         (self.number, &self.newest)
     }
 
-    /// The accepted steps in order, each with its reply: a legal history, whose replay is the
-    /// state. Takes no memory.
+    /// The steps that were accepted since the opening or the last trim in order, each with its reply: a
+    /// legal history, whose replay from the base is the state. Takes no memory.
     pub fn history(&self) -> &[Done]
         ensures entries { result.now ≡ self.now.history }
         ensures legal { IsLegal self.now.base result.now }
@@ -365,6 +423,7 @@ impl Versions {
                 let ticket = Ticket { number: *number };
                 self.release(ticket).map(|()| Reply::Released)
             }
+            Step::Trim => self.trim().map(Reply::Trimmed),
         };
         match answer {
             Err(VersionError::NoMemory) => Err(VersionError::NoMemory),
@@ -416,13 +475,22 @@ impl Versions {
         }
     }
 
-    /// Whether the history has no room for so many more entries, beside the release of each
-    /// open ticket.
+    /// Whether the history has no room for so many more entries beside the release of each open
+    /// ticket, or so many more steps cannot be counted.
     fn lacks_room(&self, more: u64) -> bool
         requires { more ≤ 2 }
         ensures { result ≡ lacks_room self.now.state more }
     {
-        self.history.len() as u64 + self.held.ticket_count() as u64 + more > self.room
+        let used = self.history.len() as u64 + self.held.ticket_count() as u64;
+        used + more > self.room || self.lacks_steps(more)
+    }
+
+    /// Whether so many more steps beside the release of each open ticket cannot be counted.
+    fn lacks_steps(&self, more: u64) -> bool
+        requires { more ≤ 2 }
+        ensures { result ≡ lacks_steps self.now.state more }
+    {
+        u64::MAX - self.steps < self.held.ticket_count() as u64 + more
     }
 }
 

@@ -14,5 +14,5 @@ invariant_of-self-2 c =
     let shows = c.self.invariant.state in
     let holds = holds_unchanged old.held new.held s.open_tickets (version_graph s) c.in_ok-reserve_ticket.ensures.tickets c.in_ok-reserve_ticket.ensures.versions shows.held in
     let items : new.history.items ≡ old.history.items = c.in_ok-reserve_ticket.ensures.entries in
-    kept_reserved old new c.self.invariant refl refl refl refl items holds
+    kept_reserved old new c.self.invariant refl refl refl refl refl items refl holds
     (omega (arith, c.in_ok-reserve_ticket.ensures.entry_room, ap length items, holds.count)) (λ two. c.in_ok-reserve_ticket.ensures.room)

@@ -8,5 +8,5 @@ invariant_of-self-2 c =
     let old : Inside = c.self.inside in
     let new : Inside = record old { history = c.reserve.new.self; reserved = 1 } in
     let shows = c.self.invariant.state in
-    kept_reserved old new c.self.invariant refl refl refl refl c.in_ok-reserve.ensures.items shows.held
+    kept_reserved old new c.self.invariant refl refl refl refl refl c.in_ok-reserve.ensures.items refl shows.held
     (omega (arith, c.in_ok-reserve.ensures.ok, c.in_ok-reserve.ensures.len, c.ticket_count.ensures, shows.held.count)) (λ two. absurd (omega (arith, two)))
