@@ -1,12 +1,13 @@
 -- Histories with one more entry, and a reader's own entries in them.
-use Rattle.std.proofs.Common.{◌≡◌, ℕ, ◌≤◌, ◌==◌, true, false, List, [], ◌∷◌, ◌++◌, length, inl, inr, refl, sym, ap, ◌∙◌, subst, arith, length-append}
+use Rattle.std.proofs.Common.{◌≡◌, ℕ, ◌+◌, ◌≤◌, ◌==◌, true, false, List, [], ◌∷◌, ◌++◌, length, inl, inr, refl, sym, ap, ◌∙◌, subst, arith, length-append}
 use Rattle.std.proofs.lemmas.Bool.{cases_Bool, eq-eqb, ne_eqb}
 use Rattle.std.proofs.lemmas.List.{append-nil}
 use mathlib.Core.List.{IsPrefix}
 use Rattle.version_list.specs.declared.step.Done.{Done}
-use Rattle.version_list.specs.Machine.{State, state_after}
+use Rattle.version_list.specs.Machine.{State, opened, state_after}
 use Rattle.version_list.specs.Timeline.{IsLegal, replay}
 use Rattle.version_list.proofs.Stepping.{replay-pushed, legal_pushed}
+use Rattle.version_list.proofs.Counting.{opened_counts}
 use Rattle.shared_graph.specs.declared.entry.Entry.{Entry}
 use Rattle.shared_graph.specs.Histories.{steps_of, own, state_at, MayFollow}
 
@@ -23,6 +24,16 @@ legal-push base log e legal may = subst (IsLegal base) (sym (steps_of-push log e
 
 pub state_at-push : (base : State) (log : List Entry) (e : Entry) → state_at base (log ++ e ∷ []) ≡ state_after (state_at base log) e.done.step
 state_at-push base log e = ap (replay base) (steps_of-push log e) ∙ replay-pushed base (steps_of log) e.done
+
+-- the entries of a history that is legal from the opening can be counted
+pub legal_few : (n room : ℕ) (log : List Entry) → IsLegal (opened n room) (steps_of log) → length log ≤ 18446744073709551615
+legal_few n room log legal = omega (arith, opened_counts n room (steps_of log) legal, length-steps_of log)
+
+-- and so they can with a step that may follow
+pub next_few : (n room : ℕ) (log : List Entry) (done : Done) → IsLegal (opened n room) (steps_of log) → MayFollow (opened n room) log done → length log + 1 ≤ 18446744073709551615
+next_few n room log done legal may =
+    let e : Entry = record { by = 0; done = done } in
+    omega (arith, legal_few n room (log ++ e ∷ []) (legal-push (opened n room) log e legal may), length-append log (e ∷ []))
 
 pub own-append : (p : ℕ) (xs ys : List Entry) → own p (xs ++ ys) ≡ own p xs ++ own p ys
 own-append p [] ys = refl

@@ -1,12 +1,12 @@
 -- What an accepted step does to the ledger and to the reader that made it, and what a refusal shows.
-use Rattle.std.proofs.Common.{◌≡◌, ℕ, ◌+◌, ◌<◌, Result, Ok, Err, IfErr, List, [], ◌∷◌, ◌++◌, length, slice_index, slice_set, get_or-set_same, get_or-set_other, inl, inr, refl, sym, ap, ◌∙◌, subst, arith, length-append}
+use Rattle.std.proofs.Common.{◌≡◌, ℕ, ◌+◌, ◌<◌, Result, Ok, Err, IfErr, List, [], ◌∷◌, ◌++◌, length, slice_index, slice_set, get_or-set_same, get_or-set_other, inl, inr, refl, sym, ap, ◌∙◌, subst, arith, length-append, append_assoc}
 use Rattle.std.proofs.lemmas.Bool.{cases_eq}
-use Rattle.std.proofs.lemmas.List.{length-set}
+use Rattle.std.proofs.lemmas.List.{append-nil, length-set}
 use mathlib.Core.List.{IsPrefix}
 use Rattle.tree_batch.specs.declared.batch.Entry.{Entry as Change}
 use Rattle.tree_batch.specs.Digraph.{Digraph}
 use Rattle.version_list.specs.declared.step.Step.{Step}
-use Rattle.version_list.specs.declared.step.Step.TheVariants.{Commit, Acquire, Release}
+use Rattle.version_list.specs.declared.step.Step.TheVariants.{Commit, Acquire, Release, Trim}
 use Rattle.version_list.specs.declared.step.Reply.TheVariants.{Released, Refused}
 use Rattle.version_list.specs.declared.step.Which.{Which}
 use Rattle.version_list.specs.declared.step.Which.TheVariants.{Newest, At}
@@ -16,7 +16,7 @@ use Rattle.version_list.specs.declared.step.Done.{Done}
 use Rattle.version_list.specs.declared.error.VersionError.{VersionError}
 use Rattle.version_list.specs.declared.error.VersionError.TheVariants.{VertexRange, BadChunkSize, NotKept, NotHeld, HistoryFull, NoMemory}
 use Rattle.version_list.specs.Machine.{State, reply_to, state_after, newest_number, version_graph, number_asked}
-use Rattle.version_list.specs.Timeline.{Timeline, IsLegal, Accepts, Answers as TimelineAnswers}
+use Rattle.version_list.specs.Timeline.{Timeline, IsLegal, Accepts, beginning, Answers as TimelineAnswers}
 use Rattle.version_list.specs.Prepared.{Prepares, IsPrepared, IsPreparedAcquire}
 use Rattle.version_list.proofs.Stepping.{next_version, held_versions}
 use Rattle.shared_graph.specs.declared.entry.Entry.{Entry}
@@ -59,15 +59,32 @@ counts_push log e counts place are by within p lt =
 -- the versions follow the history by an accepted step
 pub timeline_push : (base : State) (log : List Entry) (e : Entry) (old new : Timeline) → IsTimelineOf base log old → Accepts old e.done.step e.done.reply new → IsTimelineOf base (log ++ e ∷ []) new
 timeline_push base log e old new is acc = record {
+  earlier = is.earlier;
+  recent = is.recent ++ e ∷ [];
+  parts = ap (λ (l : List Entry). l ++ e ∷ []) is.parts ∙ append_assoc is.earlier is.recent (e ∷ []);
   base_is = acc.base ∙ is.base_is;
-  history = acc.history ∙ ap (λ (h : List Done). h ++ e.done ∷ []) is.history ∙ sym (steps_of-push log e);
+  history = acc.history ∙ ap (λ (h : List Done). h ++ e.done ∷ []) is.history ∙ sym (steps_of-push is.recent e);
   state = acc.state ∙ ap (λ (s : State). state_after s e.done.step) is.state ∙ sym (state_at-push base log e);
 }
+
+-- after a trim the versions have no entries, and begin where the history ends
+pub timeline_trimmed : (base : State) (log : List Entry) (e : Entry) (old new : Timeline) → IsTimelineOf base log old → e.done.step ≡ Trim → new ≡ beginning (state_after old.state Trim) → IsTimelineOf base (log ++ e ∷ []) new
+timeline_trimmed base log e old new is trims begins =
+    let all : List Entry = log ++ e ∷ [] in
+    let now : state_after old.state Trim ≡ state_at base all = ap (λ (s : State). state_after s Trim) is.state ∙ ap (state_after (state_at base log)) (sym trims) ∙ sym (state_at-push base log e) in
+    record {
+      earlier = all;
+      recent = [];
+      parts = sym (append-nil all);
+      base_is = ap (λ (t : Timeline). t.base) begins ∙ now;
+      history = ap (λ (t : Timeline). t.history) begins;
+      state = ap (λ (t : Timeline). t.state) begins ∙ now;
+    }
 
 -- a step that is prepared or refused is not in the history
 pub timeline_kept : {A : Type 0} (base : State) (log : List Entry) (old new : Timeline) (step : Step) (n : ℕ) (IsReady : Timeline → A → Type 0) (r : Result A VersionError)
     → IsTimelineOf base log old → Prepares old step n IsReady r new → IsTimelineOf base log new
-timeline_kept base log old new step n IsReady (Ok x) is p = subst (IsTimelineOf base log) (sym p.0) (record { base_is = is.base_is; history = is.history; state = is.state })
+timeline_kept base log old new step n IsReady (Ok x) is p = subst (IsTimelineOf base log) (sym p.0) (record { earlier = is.earlier; recent = is.recent; parts = is.parts; base_is = is.base_is; history = is.history; state = is.state })
 timeline_kept base log old new step n IsReady (Err NoMemory) is p = subst (IsTimelineOf base log) (sym p.1) is
 timeline_kept base log old new step n IsReady (Err VertexRange) is p = subst (IsTimelineOf base log) (sym p.unchanged) is
 timeline_kept base log old new step n IsReady (Err BadChunkSize) is p = subst (IsTimelineOf base log) (sym p.unchanged) is

@@ -1,5 +1,5 @@
 -- For proofs only: what lies under the lock.
-use Rattle.std.specs.Prelude.{ℕ, ◌≡◌, ◌<◌, List, length, slice_index}
+use Rattle.std.specs.Prelude.{ℕ, ◌≡◌, ◌<◌, List, ◌++◌, length, slice_index}
 use Rattle.version_list.specs.Machine.{State}
 use Rattle.version_list.specs.Timeline.{Timeline}
 use Rattle.version_list.specs.declared.error.VersionError.{VersionError}
@@ -8,10 +8,13 @@ use Rattle.shared_graph.specs.Passes.{Pass, Shows}
 use Rattle.shared_graph.specs.declared.entry.Entry.{Entry}
 use Rattle.shared_graph.specs.Histories.{steps_of, own, state_at}
 
--- the versions have this history, and stand in its replay
+-- the versions have the last entries of this history, those since the last trim, begin in its replay up to these, and stand in its replay
 pub record IsTimelineOf (base : State) (log : List Entry) (t : Timeline) : Type 0 where
-  pub base_is : t.base ≡ base
-  pub history : t.history ≡ steps_of log
+  pub earlier : List Entry
+  pub recent : List Entry
+  pub parts : log ≡ earlier ++ recent
+  pub base_is : t.base ≡ state_at base earlier
+  pub history : t.history ≡ steps_of recent
   pub state : t.state ≡ state_at base log
 
 -- each count is that of a reader's entries

@@ -1,7 +1,7 @@
 //! What lies under the lock.
 
 ghost use Rattle.std.specs.Prelude.{◌≡◌, [], IfOk, IfErr, true};
-ghost use Rattle.version_list.specs.declared.step.Step.TheVariants.{Commit, Acquire, Release};
+ghost use Rattle.version_list.specs.declared.step.Step.TheVariants.{Commit, Acquire, Release, Trim};
 ghost use Rattle.version_list.specs.declared.step.Reply.TheVariants as reply;
 ghost use Rattle.std.specs.Arc.{arc_value};
 ghost use Rattle.version_list.specs.Machine.{opened, is_open};
@@ -24,9 +24,7 @@ use std::marker::Model;
 use std::sync::{Arc, Wait};
 use std::thread::Threads;
 use tree_batch::{Batch, Graph};
-use version_list::{
-    Done, MAX_HISTORY, Prepared, PreparedAcquire, Reply, Step, VersionError, Versions, Which,
-};
+use version_list::{Done, Prepared, PreparedAcquire, Reply, Step, VersionError, Versions, Which};
 
 /// From how many entries on a batch is worth the start of threads.
 const MANY_ENTRIES: usize = 4096;
@@ -34,8 +32,8 @@ const MANY_ENTRIES: usize = 4096;
 /// At how many levels such a batch goes by halves on two threads.
 const FORKS: u32 = 2;
 
-/// The versions, which stand in the replay of their history, and the history as the ledger has it,
-/// which is the same. Contracts see it as the history.
+/// The history as the ledger has it, and the versions, which stand in its replay, and whose own
+/// history has its last entries, those since the last trim. Contracts see it as the history.
 pub(crate) struct Desk<J: Naming, R: Wait + Drop> {
     versions: Versions,
     ledger: Ledger<J, R>,
@@ -84,7 +82,6 @@ impl<J: Naming, R: Wait + Drop> Desk<J, R> {
         ensures log { IfOk result (λ _. me.new.shown ≡ self.new) }
         ensures err { IfErr result (λ _. self.new ≡ self.old) }
     {
-        prove!(self.versions.history().len() as u64 <= MAX_HISTORY);
         let (prepared, graph) = prepare_commit(
             &mut self.versions,
             &self.ledger,
@@ -112,7 +109,6 @@ impl<J: Naming, R: Wait + Drop> Desk<J, R> {
         ensures log { IfOk result (λ _. me.new.shown ≡ self.new) }
         ensures err { IfErr result (λ _. self.new ≡ self.old) }
     {
-        prove!(self.versions.history().len() as u64 <= MAX_HISTORY);
         let (prepared, newest, graph) = prepare_hold(
             &mut self.versions,
             &self.ledger,
@@ -144,7 +140,6 @@ impl<J: Naming, R: Wait + Drop> Desk<J, R> {
         ensures err { IfErr result (λ _. self.new ≡ self.old) }
         ensures memory { IfErr result (λ u. u.error ≡ NoMemory → is_open (state_at (opened J.vertices J.room) self.old) held.ticket ≡ true) }
     {
-        prove!(self.versions.history().len() as u64 <= MAX_HISTORY);
         let ticket = held.ticket();
         if !self.versions.is_open(ticket) {
             let error = self.ledger.refuse(rt, me, VersionError::NotHeld);
@@ -166,6 +161,26 @@ impl<J: Naming, R: Wait + Drop> Desk<J, R> {
         self.versions.release(ticket).unwrap();
         held.into_snapshot();
         Ok(())
+    }
+
+    /// Drops the entries that the versions have, in the name of a reader, and answers how many. All
+    /// growth comes before the step.
+    pub(crate) fn trim<T: Wait>(&mut self, rt: &T, me: &mut Reader<J>) -> Result<u64, SharedError>
+        ensures answer { Answers (opened J.vertices J.room) me.old Trim reply.Trimmed result me.new }
+        ensures log { IfOk result (λ _. me.new.shown ≡ self.new) }
+        ensures err { IfErr result (λ _. self.new ≡ self.old) }
+    {
+        let prepared = match self.versions.prepare_trim() {
+            Ok(prepared) => prepared,
+            Err(error) => return Err(self.ledger.refuse(rt, me, error)),
+        };
+        let Snapshot { number, graph } = self.ledger.newest()?;
+        let done = Done {
+            step: Step::Trim,
+            reply: Reply::Trimmed(prepared.count),
+        };
+        self.ledger.record(rt, me, &done, number, graph);
+        Ok(self.versions.finish_trim(prepared))
     }
 }
 

@@ -1,6 +1,6 @@
 //! Beginnings of the shared history.
 
-ghost use Rattle.std.specs.Prelude.{◌≡◌, ◌<◌, ◌^◌, ◌++◌, ◌∷◌, [], length, MatchBool};
+ghost use Rattle.std.specs.Prelude.{◌≡◌, ◌++◌, ◌∷◌, [], length, MatchBool};
 ghost use mathlib.Core.List.{IsPrefix};
 ghost use Rattle.version_list.specs.Machine.{opened};
 ghost use Rattle.version_list.specs.Timeline.{IsLegal};
@@ -126,7 +126,6 @@ impl<J: Naming> Front<J> {
     /// Adds a reader's step to all that was seen, and says whether it did. It did not where the
     /// history is longer.
     pub(crate) fn add(&mut self, book: &Book<J>, by: u64, done: &Done) -> bool
-        requires room { length self.old < 2 ^ 62 }
         requires follows { MayFollow (opened J.vertices J.room) self.old done.now }
         ensures { MatchBool result (self.new ≡ self.old ++ record { by = by; done = done.now } ∷ [])
             (self.new ≡ self.old) }
@@ -139,14 +138,15 @@ impl<J: Naming> Front<J> {
         let mut offer: Offer<Entry, u64, Law, Nothing> = seen.plain::<Nothing, Added, Add>(&added);
         let mut pen = seen.no_pen();
         let count = self.count;
+        let next = count + 1;
         let found = book
             .count
-            .compare_exchange::<Add, Nothing>(count, count + 1, &mut seen, &mut offer, &mut pen);
+            .compare_exchange::<Add, Nothing>(count, next, &mut seen, &mut offer, &mut pen);
         if found != count {
             return false;
         }
         self.seen = seen;
-        self.count = count + 1;
+        self.count = next;
         true
     }
 }

@@ -134,7 +134,6 @@ impl<J: Naming, R: Wait + Drop> Ledger<J, R> {
         number: u64,
         graph: Arc<Graph>,
     )
-        requires few { length self.old ≤ 16777216 }
         requires follows { MayFollow (opened J.vertices J.room) self.old done.now }
         requires newest { IsNewest (state_after (state_at (opened J.vertices J.room) self.old) done.now.step) number (arc_value graph) }
         ensures log { self.new ≡ self.old ++ record { by = me.old.number; done = done.now } ∷ [] }
@@ -199,7 +198,6 @@ fn make_step<J: Naming, T: Wait>(
     me: &Reader<J>,
     done: &Done,
 )
-    requires few { length front.old ≤ 16777216 }
     requires follows { MayFollow (opened J.vertices J.room) front.old done.now }
     requires counts { AreCounts front.old counts.old.items }
     ensures front { front.new ≡ front.old ++ record { by = me.now.number; done = done.now } ∷ [] }
@@ -220,7 +218,6 @@ fn extend<J: Naming, T: Wait>(
     reader: usize,
     done: &Done,
 )
-    requires few { length front.old ≤ 16777216 }
     requires follows { MayFollow (opened J.vertices J.room) front.old done.now }
     ensures { front.new ≡ front.old ++ record { by = reader; done = done.now } ∷ [] }
 {

@@ -1,16 +1,17 @@
-//! A graph that many threads read while some commit, hold and release.
+//! A graph that many threads read while some commit, hold, release and trim.
 //!
 //! A [`SharedGraph`] has the versions of a graph under a lock and publishes the newest one. It is
 //! opened with 1 to 64 [`Reader`]s. A reader takes the newest version by [`Reader::latest`], which
-//! takes no lock and waits for nobody, and it is the one in whose name its owner commits, holds and
-//! releases.
+//! takes no lock and waits for nobody, and it is the one in whose name its owner commits, holds,
+//! releases and trims.
 //!
 //! A contract sees a reader as what it shows: a history of accepted steps, each with its reply and
 //! the reader that made it, which only grows at its end (`specs/Passes.antt`). After a step the
 //! history shown ends in that step; a refusal is the version machine's at the end of the history
 //! shown; a snapshot has the fold of its batches. What one reader showed another takes in by a
 //! [`Token`]. A contract sees what lies under the lock as the history, of which the versions are the
-//! replay, and which is the one that was published.
+//! replay, and which is the one that was published. The versions have its entries since the last trim
+//! alone: a trim drops those before it there, and in no history that a reader shows.
 //!
 //! The history itself stands in the proofs alone (`logbook`): threads share its length, one word, and
 //! each reader has a beginning of it. The newest version is published in two copies, of which readers

@@ -1,7 +1,7 @@
 //! Graphs that threads share.
 
 ghost use Rattle.std.specs.Prelude.{◌≡◌, IfOk};
-ghost use Rattle.version_list.specs.declared.step.Step.TheVariants.{Commit, Acquire};
+ghost use Rattle.version_list.specs.declared.step.Step.TheVariants.{Commit, Acquire, Trim};
 ghost use Rattle.version_list.specs.declared.step.Reply.TheVariants as reply;
 ghost use Rattle.version_list.specs.Machine.{opened};
 ghost use Rattle.shared_graph.specs.Histories.{state_at};
@@ -150,5 +150,20 @@ impl<J: Naming, R: Wait + Drop> SharedGraph<J, R> {
         ensures { AnswersRelease (opened J.vertices J.room) me.old held result me.new }
     {
         self.desk.lock(rt).release(rt, me, held)
+    }
+
+    /// Drops the entries that the versions keep under the lock, in the name of a reader, and answers
+    /// how many there were: the accepted steps since the last trim or since the opening. Versions,
+    /// their numbers and tickets stay as they are, and there is room for as many entries as at the
+    /// opening. The history that the reader shows afterwards has all entries; it extends the one before
+    /// and ends in this trim. May wait for readers.
+    ///
+    /// Errors: `HistoryFull` where no more steps can be counted, at the end of the history that the
+    /// reader then shows; else `NoMemory`, where the newest graph cannot be shared once more, and then
+    /// graph and reader are as they were.
+    pub fn trim<T: Wait>(&self, rt: &T, me: &mut Reader<J>) -> Result<u64, SharedError>
+        ensures { Answers (opened J.vertices J.room) me.old Trim reply.Trimmed result me.new }
+    {
+        self.desk.lock(rt).trim(rt, me)
     }
 }

@@ -2,12 +2,12 @@ use Rattle.std.proofs.Common.{◌≡◌, ◌∷◌, ◌++◌, [], List, sym, ap,
 use Rattle.version_list.specs.Machine.{State, opened}
 use Rattle.shared_graph.specs.declared.entry.Entry.{Entry}
 use Rattle.shared_graph.specs.Passes.{HasMade}
-use Rattle.shared_graph.proofs.Growing.{length-own}
+use Rattle.shared_graph.proofs.Growing.{length-own, next_few}
 use Rattle.shared_graph.proofs.Steps.{made}
 use Rattle.shared_graph.proofs.ledger.make_step.Goals as goal
 
 pub overflow_add-steps : goal.overflow_add-steps
-overflow_add-steps g c = omega (arith, c.meet-place.ensures.steps.0, length-own c.args.me.now.number c.args.front.now, c.requires.few)
+overflow_add-steps g c = omega (arith, c.meet-place.ensures.steps.0, length-own c.args.me.now.number c.args.front.now, next_few g.J.Naming.vertices g.J.Naming.room c.args.front.now c.args.done.now c.meet-place.ensures.legal c.requires.follows)
 
 pub returns-clause-made : goal.returns-clause-made
 returns-clause-made g c =

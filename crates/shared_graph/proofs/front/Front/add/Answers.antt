@@ -5,8 +5,14 @@ use Rattle.version_list.specs.Timeline.{IsLegal}
 use Rattle.shared_graph.specs.declared.entry.Entry.{Entry}
 use Rattle.shared_graph.specs.Histories.{steps_of, MayFollow}
 use Rattle.shared_graph.proofs.Adding.{adds_moves}
-use Rattle.shared_graph.proofs.Growing.{legal-push}
+use Rattle.shared_graph.proofs.Growing.{legal-push, next_few}
 use Rattle.shared_graph.proofs.front.Front.add.Goals as goal
+
+pub overflow_add-next : goal.overflow_add-next
+overflow_add-next g c =
+    let log = c.self.inside.seen.log in
+    let may : MayFollow (opened g.J.Naming.vertices g.J.Naming.room) log c.args.done.now = rw c.self.view_is c.requires.follows in
+    omega (arith, c.self.invariant.0, next_few g.J.Naming.vertices g.J.Naming.room log c.args.done.now c.self.invariant.2 may)
 
 pub compare_exchange-found-requires : goal.compare_exchange-found-requires
 compare_exchange-found-requires g c =

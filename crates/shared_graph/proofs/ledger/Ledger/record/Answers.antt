@@ -1,9 +1,10 @@
-use Rattle.std.proofs.Common.{◌≡◌, ◌∙◌, ◌∷◌, [], List, length, sym, ap, subst, arith, length-append}
+use Rattle.std.proofs.Common.{◌≡◌, ◌∙◌, ◌∷◌, ◌++◌, [], List, sym, ap, subst, arith}
 use Rattle.version_list.specs.Machine.{State, opened, state_after}
 use Rattle.shared_graph.specs.declared.entry.Entry.{Entry}
 use Rattle.shared_graph.specs.Histories.{state_at, IsNewest}
+use Rattle.shared_graph.specs.Publishing.{Published}
 use Rattle.std.specs.Arc.{arc_value}
-use Rattle.shared_graph.proofs.Growing.{state_at-push, length-own}
+use Rattle.shared_graph.proofs.Growing.{state_at-push, length-own, legal_few}
 use Rattle.shared_graph.proofs.ledger.Ledger.record.Goals as goal
 
 pub new-shown-requires-clause-newest : goal.new-shown-requires-clause-newest
@@ -17,6 +18,15 @@ new-shown-requires-clause-newest g c =
 
 pub has_made-requires-clause-few : goal.has_made-requires-clause-few
 has_made-requires-clause-few g c =
-    let log : List Entry = c.self.inside.front in
+    omega (arith, length-own c.args.me.now.number c.make_step.new.front, legal_few g.J.Naming.vertices g.J.Naming.room c.make_step.new.front c.make_step.ensures.made.legal)
+
+pub publish-requires : goal.publish-requires
+publish-requires g c =
     let e : Entry = record { by = c.args.me.now.number; done = c.args.done.now } in
-    omega (arith, length-own c.args.me.now.number c.make_step.new.front, ap length c.make_step.ensures.front, length-append log (e ∷ []), ap length c.self.view_is, c.requires.few)
+    let was = c.self.invariant.2 in
+    let now = c.new-shown.ensures in
+    record {
+      book = ap (λ (p : Published). p.book) now ∙ sym (ap (λ (p : Published). p.book) was);
+      base = ap (λ (p : Published). p.base) now ∙ sym (ap (λ (p : Published). p.base) was);
+      log = (e ∷ [], ap (λ (p : Published). p.log ++ e ∷ []) was ∙ sym c.make_step.ensures.front ∙ sym (ap (λ (p : Published). p.log) now));
+    }
