@@ -58,7 +58,7 @@ joined o e = record {
   text = [];
 }
 
--- the line of the reply to a step; `Released` is the reply to a release alone
+-- the line of the reply to a step; `Released` is the reply to a release alone, and no line of a script trims
 abbrev pub step_line : Step → Reply → List ℕ
 step_line asked (reply.Version number) = word_line (codes "version") number
 step_line asked (reply.Ticket ticket version) = ticket_line ticket version
@@ -66,6 +66,8 @@ step_line asked (reply.Refused number) = word_line (codes "refused") number
 step_line (step.Release ticket) reply.Released = word_line (codes "released") ticket
 step_line (step.Acquire asked) reply.Released = []
 step_line (step.Commit batch) reply.Released = []
+step_line step.Trim reply.Released = []
+step_line asked (reply.Trimmed count) = []
 
 -- a step is taken on the versions, and these entries are pending afterwards
 abbrev pub stepping : OpenState → Step → List Entry → Answer OpenState

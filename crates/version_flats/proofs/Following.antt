@@ -7,7 +7,7 @@ use Rattle.tree_batch.specs.declared.batch.Entry.{Entry}
 use Rattle.tree_batch.specs.Digraph.{graph_through}
 use Rattle.version_list.specs.declared.step.Step.TheVariants.{Commit}
 use Rattle.version_list.specs.declared.step.Reply.{Reply}
-use Rattle.version_list.specs.declared.step.Reply.TheVariants.{Version, Ticket, Released, Refused}
+use Rattle.version_list.specs.declared.step.Reply.TheVariants.{Version, Ticket, Released, Trimmed, Refused}
 use Rattle.version_list.specs.Machine.{State, changed, state_after, reply_to, newest_number}
 use Rattle.version_flats.specs.VersionFlats.{Follows}
 
@@ -27,6 +27,7 @@ follows_reply s batch (Version number) = record {
 }
 follows_reply s batch (Ticket number version) = follows_same s (newest_number s)
 follows_reply s batch Released = follows_same s (newest_number s)
+follows_reply s batch (Trimmed count) = follows_same s (newest_number s)
 follows_reply s batch (Refused number) = follows_same s (newest_number s)
 
 pub follows_commit : (s : State) (batch : List Entry) → Follows s (state_after s (Commit batch)) (newest_number s)

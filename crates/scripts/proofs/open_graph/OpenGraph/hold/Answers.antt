@@ -1,0 +1,16 @@
+use Rattle.std.proofs.Common.{sym, subst}
+use Rattle.version_list.specs.Timeline.{Timeline}
+use Rattle.version_flats.specs.VersionFlats.{AreOf}
+use Rattle.scripts.proofs.HoldLaws.{hold_keeps, hold_refused}
+use Rattle.scripts.proofs.open_graph.OpenGraph.hold.Goals as goal
+
+pub invariant_of-self : goal.invariant_of-self
+invariant_of-self c =
+    let same = hold_refused c.self.inside.versions c.prepare_acquire.new.self c.map_or-which.result c.in-Err.error c.in-Err.ensures in
+    subst (λ (t : Timeline). AreOf t.state c.self.inside.flats) (sym same) c.self.invariant
+
+pub invariant_of-self-2 : goal.invariant_of-self-2
+invariant_of-self-2 c =
+    let p = c.in-Ok.prepared in
+    let ready = subst (λ (t : Timeline). AreOf t.state c.self.inside.flats) (sym c.in-Ok.ensures.0) c.self.invariant in
+    hold_keeps c.prepare_acquire.new.self c.finish_acquire.new.self p.which p.ticket.number p.version c.self.inside.flats c.finish_acquire.ensures.accepted ready
