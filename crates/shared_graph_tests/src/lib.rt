@@ -6,3 +6,5 @@
 
 #[cfg(test)]
 mod rows;
+#[cfg(test)]
+mod trims;

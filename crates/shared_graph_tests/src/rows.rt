@@ -16,7 +16,7 @@ use version_list::Which;
 const MOST_READS: u32 = 1_000_000;
 
 // Commits an empty batch, and answers its number or why it was refused.
-fn commit_nothing<J: Naming, W: Wait + Drop, R: Threads + Wait + Sync>(
+pub(crate) fn commit_nothing<J: Naming, W: Wait + Drop, R: Threads + Wait + Sync>(
     rt: &R,
     alloc: Global,
     graph: &SharedGraph<J, W>,
@@ -27,7 +27,7 @@ fn commit_nothing<J: Naming, W: Wait + Drop, R: Threads + Wait + Sync>(
 }
 
 // Commits one edge.
-fn add<J: Naming, W: Wait + Drop, R: Threads + Wait + Sync>(
+pub(crate) fn add<J: Naming, W: Wait + Drop, R: Threads + Wait + Sync>(
     rt: &R,
     alloc: Global,
     graph: &SharedGraph<J, W>,
@@ -95,7 +95,7 @@ fn release_held<J: Naming, W: Wait + Drop, R: Wait>(
 }
 
 // The number of the version that is held, which is released; or why it is not held.
-fn hold_and_release<J: Naming, W: Wait + Drop, R: Wait>(
+pub(crate) fn hold_and_release<J: Naming, W: Wait + Drop, R: Wait>(
     rt: &R,
     alloc: Global,
     graph: &SharedGraph<J, W>,
@@ -308,7 +308,7 @@ fn read_beside<
         || add_all(rt, alloc, graph, &mut writer),
         || read_all(rt, readers),
     );
-    let at_end = reads_rise(rt, &mut writer);
+    let at_end = reads_rise(rt, &mut writer, COMMITS);
     drop(writer);
     Ok(added? && risen? && at_end?)
 }
@@ -321,21 +321,25 @@ fn read_all<J: Naming + Send + Sync, R: Threads + Clock + Sync>(
     let risen = thread::map_vec(
         rt,
         readers,
-        &|mut reader: Reader<J>| { reads_rise(rt, &mut reader) },
+        &|mut reader: Reader<J>| { reads_rise(rt, &mut reader, COMMITS) },
     )?;
     Ok(risen.iter().all(|it| *it == Ok(true)))
 }
 
 // Whether the numbers never fall until the last version comes, and each snapshot has as many edges as its
 // number says.
-fn reads_rise<J: Naming, C: Clock>(clock: &C, reader: &mut Reader<J>) -> Result<bool, SharedError> {
+pub(crate) fn reads_rise<J: Naming, C: Clock>(
+    clock: &C,
+    reader: &mut Reader<J>,
+    last: u64,
+) -> Result<bool, SharedError> {
     let mut seen = 0;
     for _ in 0..MOST_READS {
         let (number, edges) = look(reader)?;
         if number < seen || edges as u64 != number {
             return Ok(false);
         }
-        if number == COMMITS {
+        if number == last {
             return Ok(true);
         }
         seen = number;
