@@ -1,11 +1,13 @@
 //! The benchmark of versions: how long snapshots and commits of a shared graph take, alone and beside each other.
 //!
 //! With no word it commits a few edges to versions alone and prints what came of it, the same on every
-//! machine. With `--time` and a subject it prints a table of times. It promises to be safe and to end, and
-//! no more. Nothing stands on this crate.
+//! machine. With `--time` and a subject it prints a table of times, and with `--check trims` it commits to a
+//! graph of little room, trims it again and again, and prints what memory that takes. It promises to be safe
+//! and to end, and no more. Nothing stands on this crate.
 #![tactic(auto)]
 
 mod readers;
+mod trims;
 
 use measuring::{is_printed, status_of, words_of};
 use std::io;
@@ -15,7 +17,7 @@ use std::rt::Clock;
 use std::sync::Wait;
 use std::thread::Threads;
 
-const USAGE: &str = "reader_bench [--time readers]";
+const USAGE: &str = "reader_bench [--time readers | --check trims]";
 
 fn main(rt: HostRuntime) -> io::Result<ExitCode> {
     let words = words_of(&rt)?;
@@ -34,6 +36,7 @@ fn print<T: AllocGlobal + Clock + Threads + Wait + Sync>(
     match option {
         "" => is_printed(readers::print_outcome(rt)),
         "--time" => is_printed(print_times(rt, threads, subject)),
+        "--check" => is_printed(check(rt, threads, subject)),
         _ => Ok(false),
     }
 }
@@ -47,5 +50,17 @@ fn print_times<T: AllocGlobal + Clock + Threads + Wait + Sync>(
     match subject {
         "readers" => readers::print_times(rt, threads),
         _ => Err(Error::other("nothing of this name is timed")),
+    }
+}
+
+// Checks a subject at its whole size.
+fn check<T: AllocGlobal + Threads + Wait + Sync>(
+    rt: &HostRuntime,
+    threads: &T,
+    subject: &str,
+) -> io::Result<()> {
+    match subject {
+        "trims" => trims::print_memory(rt, threads),
+        _ => Err(Error::other("nothing of this name is checked")),
     }
 }

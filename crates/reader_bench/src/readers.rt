@@ -28,7 +28,8 @@ const READS: u32 = 1_000_000;
 // How many readers there are beside a committing thread.
 const BESIDE: u64 = 3;
 
-const VERTICES: u32 = 1024;
+/// How many vertices the graphs have.
+pub const VERTICES: u32 = 1024;
 
 // The batch of one edge, another one for each step.
 fn one_edge(alloc: Global, step: u32) -> Result<Batch, AllocError> {
@@ -48,8 +49,8 @@ fn take<J: Naming>(reader: &mut Reader<J>, reads: u32) -> Result<u64, LatestErro
     Ok(sum)
 }
 
-// Commits an edge.
-fn commit_one<J: Naming, W: Wait + Drop, R: Threads + Wait + Sync>(
+/// Commits an edge, another one for each step.
+pub fn commit_one<J: Naming, W: Wait + Drop, R: Threads + Wait + Sync>(
     rt: &R,
     alloc: Global,
     graph: &SharedGraph<J, W>,
@@ -87,7 +88,8 @@ fn told(_: VersionError) -> Error {
     Error::other("the versions refused")
 }
 
-fn told_shared(_: SharedError) -> Error {
+/// That a shared graph refused.
+pub fn told_shared(_: SharedError) -> Error {
     Error::other("the shared graph refused")
 }
 
