@@ -15,19 +15,19 @@ pub const COMMITS: usize = 2_000;
 const CHANGES: usize = 3;
 
 /// The entries of all batches, in order.
-pub struct Changes {
+pub struct RandomBatches {
     entries: Vec<Entry>,
 }
 
-impl Drop for Changes {
+impl Drop for RandomBatches {
     fn drop(self) {
-        let Changes { entries: _ } = self;
+        let RandomBatches { entries: _ } = self;
     }
 }
 
-impl Changes {
+impl RandomBatches {
     /// Random entries, the same for each seed: of five, two remove an edge.
-    pub fn new(alloc: Global, seed: u64) -> Result<Changes, AllocError> {
+    pub fn new(alloc: Global, seed: u64) -> Result<RandomBatches, AllocError> {
         let mut random = Random::new(seed);
         let mut entries = Vec::with_capacity(alloc, COMMITS * CHANGES)?;
         for _ in 0..COMMITS * CHANGES {
@@ -39,7 +39,7 @@ impl Changes {
             };
             entries.push(entry)?;
         }
-        Ok(Changes { entries })
+        Ok(RandomBatches { entries })
     }
 
     /// The batches, in order.

@@ -1,6 +1,6 @@
 //! Races whose runs are compared with the slow run.
 
-use crate::batches::{COMMITS, Changes, VERTICES};
+use crate::batches::{COMMITS, RandomBatches, VERTICES};
 use plain_run::plain_run;
 use plans::Plan;
 use races::{Race, RaceError, RaceScript, VersionRun, race};
@@ -74,7 +74,7 @@ fn race_once<T: Threads + Wait + Sync>(
     seed: u64,
     tally: Tally,
 ) -> io::Result<Tally> {
-    let changes = Changes::new(alloc, seed)?;
+    let changes = RandomBatches::new(alloc, seed)?;
     let script = RaceScript {
         vertices: VERTICES,
         chunk_size: CHUNK_SIZE,
@@ -97,7 +97,7 @@ fn told(_: RaceError) -> Error {
 fn compared(
     alloc: Global,
     programs: &[TestedProgram],
-    changes: &Changes,
+    changes: &RandomBatches,
     raced: &Race,
     tally: Tally,
 ) -> Result<Tally, AllocError> {
@@ -117,7 +117,7 @@ fn compared(
 fn shows_the_slow_run(
     alloc: Global,
     program: &TestedProgram,
-    changes: &Changes,
+    changes: &RandomBatches,
     run: &VersionRun,
 ) -> Result<bool, AllocError> {
     let edges = changes.edges_after(alloc, run.version as usize)?;

@@ -1,6 +1,6 @@
 //! Two searches side by side on two versions, in every order of their first six steps.
 
-use crate::programs::{FORK, Shown, commit, session, shows};
+use crate::programs::{FORK, ShownRun, commit, session, shows};
 use algorithm_meaning::End;
 use session::{Session, SessionStep};
 use std::alloc::Global;
@@ -9,7 +9,7 @@ use tree_batch::Entry;
 use version_list::Which;
 
 // Where a search of the fork stands after six steps.
-const ON_THE_FORK: Shown<'static> = Shown {
+const ON_THE_FORK: ShownRun<'static> = ShownRun {
     parents: &[0, 0, 0, -1, -1, -1],
     frontier: &[1, 2],
     end: End::TurnsOver,
@@ -17,7 +17,7 @@ const ON_THE_FORK: Shown<'static> = Shown {
 };
 
 // Where it stands where the fork has one branch.
-const ON_ONE_BRANCH: Shown<'static> = Shown {
+const ON_ONE_BRANCH: ShownRun<'static> = ShownRun {
     parents: &[0, 0, -1, -1, -1, -1],
     frontier: &[1],
     end: End::TurnsOver,

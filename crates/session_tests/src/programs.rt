@@ -75,7 +75,7 @@ pub(crate) fn session(alloc: Global) -> Result<Session, Fail> {
 
 /// What a job of a search shows: its parents, its frontier, its end and its turns.
 #[derive(Clone, Copy)]
-pub(crate) struct Shown<'a> {
+pub(crate) struct ShownRun<'a> {
     pub(crate) parents: &'a [i64],
     pub(crate) frontier: &'a [u32],
     pub(crate) end: End,
@@ -83,7 +83,7 @@ pub(crate) struct Shown<'a> {
 }
 
 /// Whether an outcome is that.
-pub(crate) fn is_shown(outcome: &Outcome, wanted: Shown<'_>) -> bool {
+pub(crate) fn is_shown(outcome: &Outcome, wanted: ShownRun<'_>) -> bool {
     let parents = match outcome.vectors.as_slice().first() {
         Some(vector) => vector.entries.as_slice() == wanted.parents,
         None => false,
@@ -100,7 +100,7 @@ pub(crate) fn shows(
     alloc: Global,
     session: &Session,
     number: u64,
-    wanted: Shown<'_>,
+    wanted: ShownRun<'_>,
 ) -> Result<bool, AllocError> {
     match session.job(number) {
         None => Ok(false),

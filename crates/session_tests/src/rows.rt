@@ -1,6 +1,6 @@
 //! A search beside a commit and a release.
 
-use crate::programs::{FORK, GOING, Shown, commit, ended, session, shows, stepped};
+use crate::programs::{FORK, GOING, ShownRun, commit, ended, session, shows, stepped};
 use algorithm_meaning::End;
 use session::{Session, SessionReply, SessionStep};
 use std::alloc::{AllocError, Global};
@@ -61,7 +61,7 @@ const REPLIES: [SessionReply; 26] = [
 ];
 
 // Where the search stands after seven steps.
-const HALFWAY: Shown<'static> = Shown {
+const HALFWAY: ShownRun<'static> = ShownRun {
     parents: &[0, 0, 0, -1, -1, -1],
     frontier: &[1, 2],
     end: End::TurnsOver,
@@ -69,7 +69,7 @@ const HALFWAY: Shown<'static> = Shown {
 };
 
 // What it shows at its end, on the version that it was started on.
-const WHOLE: Shown<'static> = Shown {
+const WHOLE: ShownRun<'static> = ShownRun {
     parents: &[0, 0, 0, 2, 3, -1],
     frontier: &[],
     end: End::Finished,
