@@ -7,4 +7,3 @@ pub mod RunReplies
 pub mod TextLaws
 pub mod TicketLaws
 pub mod StepLaws
-pub mod HoldLaws

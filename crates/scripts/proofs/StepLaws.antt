@@ -1,20 +1,13 @@
 -- Steps on the versions of an open graph.
-use Rattle.std.proofs.Common.{◌≡◌, ℕ, Bool, None, is_some, List, if◌then◌else◌, ap, sym, ◌∙◌}
-use Rattle.tree_batch.specs.declared.batch.Entry.{Entry}
+use Rattle.std.proofs.Common.{◌≡◌, ℕ, Bool, None, is_some, if◌then◌else◌, ap, sym, ◌∙◌}
 use Rattle.version_list.specs.declared.step.Step.TheVariants as step
 use Rattle.version_list.specs.declared.step.Reply.{Reply}
 use Rattle.version_list.specs.declared.step.Reply.TheVariants as reply
-use Rattle.version_list.specs.Machine.{State, newest_number, changed, state_after, reply_to, ticket_version}
+use Rattle.version_list.specs.Machine.{changed, reply_to, ticket_version}
 use Rattle.version_list.proofs.Holding.{is_open_is}
-use Rattle.version_flats.specs.VersionFlats.{Follows}
-use Rattle.version_flats.proofs.Following.{follows_commit}
 use Rattle.replies.specs.declared.line_reply.LineReply.TheVariants as line_reply
 use Rattle.scripts.specs.Replies.{OpenState, stepping, step_line}
 use Rattle.scripts.specs.Stepping.{IsAnswered}
-
--- after a commit the newest version before it may go
-pub follows_after : (s t : State) (version : ℕ) (batch : List Entry) → version ≡ newest_number s → t ≡ state_after s (step.Commit batch) → Follows s t version
-follows_after s t version batch newest is = rw (is, newest) (follows_commit s batch)
 
 -- a release of a ticket that is not open is refused
 pub not_held : (o : OpenState) (number : ℕ) → ticket_version o.versions.open_tickets number ≡ None → IsAnswered o (stepping o (step.Release number) o.pending) (line_reply.Refused 122)

@@ -67,9 +67,6 @@ unchanged old new st versions.NoMemory is = is.1
 pub unchanged_answered : {A : Type 0} (old new : Timeline) (st : Step) (reply : A → Reply) (e : VersionError) → Answers old st reply (Err e) new → new ≡ old
 unchanged_answered old new st reply e is = unchanged old new st e (answered old new st reply e is)
 
-pub unchanged_prepared : {A : Type 0} (old new : Timeline) (st : Step) (n : ℕ) (IsReady : Timeline → A → Type 0) (e : VersionError) → Prepares old st n IsReady (Err e) new → new ≡ old
-unchanged_prepared old new st n IsReady e is = unchanged old new st e (prepared old new st n IsReady e is)
-
 -- a call that answers a step, and one that prepares it, where it ends by an error
 pub refuses_answered : {A : Type 0} (s t : SessionValue) (old new : Timeline) (st : Step) (reply : A → Reply) (e : VersionError) → s.versions ≡ old.state → t ≡ record s { versions = new.state }
     → Answers old st reply (Err e) new → StepsVersions s st (Err (of_versions e)) t

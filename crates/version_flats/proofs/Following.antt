@@ -30,5 +30,9 @@ follows_reply s batch Released = follows_same s (newest_number s)
 follows_reply s batch (Trimmed count) = follows_same s (newest_number s)
 follows_reply s batch (Refused number) = follows_same s (newest_number s)
 
-pub follows_commit : (s : State) (batch : List Entry) → Follows s (state_after s (Commit batch)) (newest_number s)
+follows_commit : (s : State) (batch : List Entry) → Follows s (state_after s (Commit batch)) (newest_number s)
 follows_commit s batch = follows_reply s batch (reply_to s (Commit batch))
+
+-- after a commit the newest version before it may go
+pub follows_a_commit : (s t : State) (version : ℕ) (batch : List Entry) → version ≡ newest_number s → t ≡ state_after s (Commit batch) → Follows s t version
+follows_a_commit s t version batch newest is = rw (is, newest) (follows_commit s batch)

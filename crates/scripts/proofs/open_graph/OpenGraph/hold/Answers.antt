@@ -1,7 +1,7 @@
 use Rattle.std.proofs.Common.{sym, subst}
 use Rattle.version_list.specs.Timeline.{Timeline}
 use Rattle.version_flats.specs.VersionFlats.{AreOf}
-use Rattle.scripts.proofs.HoldLaws.{hold_keeps, hold_refused}
+use Rattle.version_flats.proofs.Holds.{hold_keeps, hold_refused}
 use Rattle.scripts.proofs.open_graph.OpenGraph.hold.Goals as goal
 
 pub invariant_of-self : goal.invariant_of-self

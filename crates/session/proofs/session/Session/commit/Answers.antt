@@ -3,7 +3,7 @@ use Rattle.version_list.specs.declared.step.Step.TheVariants.{Commit}
 use Rattle.version_list.specs.declared.step.Reply.TheVariants.{Version}
 use Rattle.version_list.specs.Timeline.{Timeline}
 use Rattle.version_flats.specs.VersionFlats.{AreOf}
-use Rattle.session.proofs.Flats.{follows_a_commit}
+use Rattle.version_flats.proofs.Following.{follows_a_commit}
 use Rattle.session.proofs.Versions.{unchanged_answered}
 use Rattle.session.proofs.session.Session.commit.Goals as goal
 

@@ -1,4 +1,4 @@
--- Holds on the versions of an open graph let no version go.
+-- A hold lets no version go.
 use Rattle.std.proofs.Common.{◌≡◌, ℕ, ◌==◌, true, Err, List, [], ◌∷◌, ◌++◌, inl, inr, sym, ap, ◌∙◌, subst}
 use Rattle.std.proofs.lemmas.Bool.{false≢true, or_cases, or_left, or_right}
 use Rattle.std.specs.List.{list_any}
