@@ -3,7 +3,7 @@ use Rattle.std.specs.Prelude.{◌≡◌, ℕ, nat_le, nat_eq, Bool, true, ◌&&�
 use Rattle.std.specs.List.{filter, list_any}
 use Rattle.tree_batch.specs.declared.batch.Entry.{Entry}
 use Rattle.tree_batch.specs.Edge.{Edge, has_edge, all_edges, IsWithin, IsAscending}
-use Rattle.tree_batch.specs.Entry.{is_edge_after}
+use Rattle.tree_batch.specs.Entry.{vertices_after, is_edge_after}
 
 -- a directed graph: how many vertices it has, and its edges in ascending order
 pub record Digraph : Type 0 where
@@ -31,9 +31,10 @@ pub record IsDigraph (g : Digraph) : Type 0 where
 abbrev pub empty_graph : ℕ → Digraph
 empty_graph n = record { vertices = n; edges = [] }
 
--- the graph after a batch: of all the edges that its vertices may have, those that are there after it
+-- the graph after a batch: it may have grown, and of all the edges that its vertices may have those are there that are after the batch
 abbrev pub graph_after : Digraph → List Entry → Digraph
-graph_after g batch = record { vertices = g.vertices; edges = filter (is_edge_after g.edges batch) (all_edges g.vertices) }
+graph_after g batch = let n = vertices_after g.vertices batch in
+    record { vertices = n; edges = filter (is_edge_after g.edges batch) (all_edges n) }
 
 -- the graph after batches, one after another
 abbrev pub graph_through : Digraph → List (List Entry) → Digraph

@@ -3,7 +3,7 @@ use Rattle.std.specs.Prelude.{◌≡◌, ℕ, true, false, Result, Ok, Err, List
 use Rattle.tree_batch.specs.declared.error.GraphError.{GraphError}
 use Rattle.tree_batch.specs.declared.error.GraphError.TheVariants.{VertexRange, BadChunkSize, NoMemory}
 use Rattle.tree_batch.specs.declared.batch.Entry.{Entry}
-use Rattle.tree_batch.specs.Entry.{names_outside}
+use Rattle.tree_batch.specs.Entry.{misfits}
 use Rattle.tree_batch.specs.Digraph.{Digraph, empty_graph, graph_after, is_vertex_count, is_chunk_size}
 
 -- a graph of n vertices in chunks of b without edges, or the first refusal
@@ -13,9 +13,9 @@ Opens n b (Err VertexRange) = is_vertex_count n ≡ false
 Opens n b (Err BadChunkSize) = (is_vertex_count n ≡ true) × (is_chunk_size b ≡ false)
 Opens n b (Err NoMemory) = (is_vertex_count n ≡ true) × (is_chunk_size b ≡ true)
 
--- the graph after a batch, or the refusal of a batch that names a vertex outside
+-- the graph after a batch, or the refusal of a batch that does not fit
 abbrev pub Applies : Digraph → List Entry → Result Digraph GraphError → Type 0
-Applies g batch (Ok new) = (names_outside g.vertices batch ≡ false) × (new ≡ graph_after g batch)
-Applies g batch (Err VertexRange) = names_outside g.vertices batch ≡ true
+Applies g batch (Ok new) = (misfits g.vertices batch ≡ false) × (new ≡ graph_after g batch)
+Applies g batch (Err VertexRange) = misfits g.vertices batch ≡ true
 Applies g batch (Err BadChunkSize) = ⊥
-Applies g batch (Err NoMemory) = names_outside g.vertices batch ≡ false
+Applies g batch (Err NoMemory) = misfits g.vertices batch ≡ false

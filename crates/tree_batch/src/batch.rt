@@ -1,44 +1,55 @@
 ghost use Rattle.std.specs.Prelude.{◌≡◌, ◌++◌, [], ◌∷◌, IfErr, OnOk, OnErr};
 ghost use Rattle.tree_batch.specs.declared.error.GraphError.TheVariants.{NoMemory};
-ghost use Rattle.tree_batch.specs.Entry.{edge_of, names_outside, entry_names_outside};
+ghost use Rattle.tree_batch.specs.Entry.{edge_of, entry_misfits, vertices_after, misfits};
 
 use crate::error::GraphError;
+use crate::graph::MAX_VERTICES;
 use std::alloc::{AllocError, Global};
 use std::marker::Model;
 
-/// One change of a batch: an edge, by its source and its destination, to add or to remove.
+/// One change of a batch: an edge, by its source and its destination, to add or to remove, or how
+/// many vertices the graph has from then on.
 #[derive(Clone, Copy, Debug, PartialEq, Eq)]
 pub enum Entry {
     Add(u32, u32),
     Remove(u32, u32),
+    Grow(u32),
 }
 
 impl Entry {
-    /// The source and the destination of the edge that the entry names.
-    pub fn edge(self) -> (u32, u32)
+    /// The source and the destination of the edge that the entry names, or `None` where it names none.
+    pub fn edge(self) -> Option<(u32, u32)>
         ensures { result ≡ edge_of self }
     {
         match self {
             Entry::Add(source, destination) | Entry::Remove(source, destination) => {
-                (source, destination)
+                Some((source, destination))
             }
+            Entry::Grow(_) => None,
         }
     }
 
-    /// Whether an end of the edge is no vertex of a graph with this many.
-    fn names_outside(self, vertices: u32) -> bool
-        ensures { result ≡ entry_names_outside vertices self }
+    /// Whether the entry does not fit a batch by which a graph of `before` vertices gets `after`.
+    fn misfits(self, before: u32, after: u32) -> bool
+        ensures { result ≡ entry_misfits before after self }
     {
-        let (source, destination) = self.edge();
-        source >= vertices || destination >= vertices
+        match self {
+            Entry::Add(source, destination) | Entry::Remove(source, destination) => {
+                source >= after || destination >= after
+            }
+            Entry::Grow(vertices) => vertices < before || vertices > MAX_VERTICES,
+        }
     }
 }
 
 /// Changes that are made together. For each edge that a batch names, its last entry that names
-/// the edge decides.
+/// the edge decides. Of the numbers of vertices that it asks for, the greatest counts, wherever it
+/// stands.
 #[derive(Debug, Drop)]
 pub struct Batch {
     entries: Vec<Entry>,
+    /// The most vertices that an entry asks for, or 0.
+    most_asked: u32,
 }
 
 impl Model for Batch {
@@ -47,7 +58,12 @@ impl Model for Batch {
 
     ghost Value = { List Entry };
 
+    ghost use Rattle.std.specs.Prelude.{◌≡◌};
+    ghost use Rattle.tree_batch.specs.Entry.{most_asked};
+
     ghost view = { λ b. b.entries.items };
+
+    ghost invariant = { λ b. b.most_asked ≡ most_asked b.entries.items };
 }
 
 impl Clone for Batch {
@@ -57,6 +73,7 @@ impl Clone for Batch {
     fn clone(&self) -> Result<Batch, AllocError> {
         Ok(Batch {
             entries: Vec::from_slice(*self.entries.allocator(), &self.entries)?,
+            most_asked: self.most_asked,
         })
     }
 }
@@ -68,6 +85,7 @@ impl Batch {
     {
         Batch {
             entries: Vec::new(alloc),
+            most_asked: 0,
         }
     }
 
@@ -78,6 +96,9 @@ impl Batch {
         ensures no_memory { IfErr result (λ e. e ≡ NoMemory) }
     {
         self.entries.push(entry)?;
+        if let Entry::Grow(vertices) = entry {
+            self.most_asked = self.most_asked.max(vertices);
+        }
         Ok(())
     }
 
@@ -88,12 +109,22 @@ impl Batch {
         &self.entries
     }
 
-    /// Whether an entry names a vertex that a graph with this many vertices does not have.
-    pub fn names_outside(&self, vertices: u32) -> bool
-        ensures { result ≡ names_outside vertices self.now }
+    /// How many vertices a graph with this many has after the batch. It takes constant time.
+    pub fn vertices_after(&self, vertices: u32) -> u32
+        ensures { result ≡ vertices_after vertices self.now }
     {
+        vertices.max(self.most_asked)
+    }
+
+    /// Whether a graph with this many vertices refuses the batch: an entry names a vertex that the graph
+    /// does not have after the batch, or asks for fewer vertices than there are or for more than
+    /// 16,777,216.
+    pub fn misfits(&self, vertices: u32) -> bool
+        ensures { result ≡ misfits vertices self.now }
+    {
+        let after = self.vertices_after(vertices);
         self.entries
             .iter()
-            .any(|entry| entry.names_outside(vertices))
+            .any(|entry| entry.misfits(vertices, after))
     }
 }

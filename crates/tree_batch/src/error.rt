@@ -8,7 +8,7 @@ use thiserror::Error;
 /// Why a graph or a batch was not made.
 #[derive(Clone, Copy, Debug, PartialEq, Eq, Error)]
 pub enum GraphError {
-    #[error("a graph has 1 to 16777216 vertices, and an entry names two of them")]
+    #[error("a graph has 1 to 16777216 vertices and no fewer than before, and an entry names two of them")]
     VertexRange,
     #[error("a chunk size is a power of two from 1 to 256")]
     BadChunkSize,

@@ -94,17 +94,18 @@ impl Graph {
         })
     }
 
-    /// The graph after a batch: for each edge that the batch names, its last entry that names the
-    /// edge decides, and every other edge is there as before. The graph itself stays as it is, and
-    /// the new one shares with it what the batch does not reach. For k entries and m edges it takes
-    /// time in proportion to `k log(k + m)`.
+    /// The graph after a batch: it has as many vertices as the entry that asks for most, or as many as
+    /// before; for each edge that the batch names, its last entry that names the edge decides, and every
+    /// other edge is there as before. The graph itself stays as it is, and the new one shares with it
+    /// what the batch does not reach. For k entries and m edges it takes time in proportion to
+    /// `k log(k + m)`, however much the graph grows.
     ///
-    /// Errors: `VertexRange` where an entry names a vertex that the graph does not have, else
-    /// `NoMemory`.
+    /// Errors: `VertexRange` where an entry names a vertex that the new graph does not have, or asks for
+    /// fewer vertices than there are or for more than 16,777,216, else `NoMemory`.
     pub fn apply(&self, alloc: Global, batch: &Batch) -> Result<Graph, GraphError>
         ensures { Applies self.now batch.now result }
     {
-        if batch.names_outside(self.vertices) {
+        if batch.misfits(self.vertices) {
             return Err(GraphError::VertexRange);
         }
         let size = self.chunk_size;
@@ -114,7 +115,7 @@ impl Graph {
         let turned = turned(updates, scratch)?;
         let into = changed(alloc, &self.incoming, &turned, size)?;
         Ok(Graph {
-            vertices: self.vertices,
+            vertices: batch.vertices_after(self.vertices),
             chunk_size: self.chunk_size,
             edge_count: self.edge_count.wrapping_add(out.growth),
             outgoing: out.tree,
@@ -129,8 +130,7 @@ impl Graph {
     /// halves. The answer is that of `apply` whatever `forks` is. `fork` is told of each half that
     /// begins, first of those of the edges by source and then of those by destination.
     ///
-    /// Errors: `VertexRange` where an entry names a vertex that the graph does not have, else
-    /// `NoMemory`.
+    /// Errors: those of [`Graph::apply`].
     pub fn apply_forked<R: Threads + Sync, F: Fork + Sync>(
         &self,
         rt: &R,
@@ -144,7 +144,7 @@ impl Graph {
         if forks == 0 {
             return self.apply(alloc, batch);
         }
-        if batch.names_outside(self.vertices) {
+        if batch.misfits(self.vertices) {
             return Err(GraphError::VertexRange);
         }
         let (size, most) = (self.chunk_size, forks.min(MOST_FORKS));
@@ -155,7 +155,7 @@ impl Graph {
         let tree = &self.incoming;
         let ins = change_forked(rt, alloc, tree, &turned, size, most, 1, fork)?;
         Ok(Graph {
-            vertices: self.vertices,
+            vertices: batch.vertices_after(self.vertices),
             chunk_size: self.chunk_size,
             edge_count: self.edge_count.wrapping_add(outs.growth),
             outgoing: outs.tree,

@@ -1,4 +1,4 @@
-//! Directed graphs, and batches of edges to add and to remove.
+//! Directed graphs, and batches of edges to add and to remove and of vertices to grow to.
 //!
 //! A contract sees a [`Graph`] as its number of vertices and the ascending list of its edges, and
 //! a [`Batch`] as the list of its entries. A graph is kept as two trees of [`VertexBlock`]s, each block
@@ -7,7 +7,8 @@
 //! neither. [`NeighbourSet`] is how a graph lends the neighbours of one vertex.
 //!
 //! `Graph::apply` makes the graph after a batch, in which the last entry that names an edge decides
-//! whether it is there, and leaves the old graph as it is. The entries are sorted by source and
+//! whether it is there, and the greatest number of vertices that is asked for counts, and leaves the old
+//! graph as it is. The entries are sorted by source and
 //! destination, and the last of each edge is kept. These updates are cut by blocks, where they lie, and
 //! made in one pass over the tree; turned and sorted again, they are made the other way round.
 //! `Graph::apply_forked` gives the same graph, with halves of the updates on two threads. What a batch
@@ -34,6 +35,6 @@ pub use batch::{Batch, Entry};
 pub use edges::EdgeIter;
 pub use error::GraphError;
 pub use graph::{Graph, MAX_VERTICES};
-pub use laws::{directions_are_converse, edges_ascend, last_entry_decides};
+pub use laws::{directions_are_converse, edges_ascend, graphs_never_shrink, last_entry_decides};
 pub use set_ops::{Fork, Quiet};
 pub use vertex_blocks::{NeighbourIter, NeighbourSet, VertexBlock};

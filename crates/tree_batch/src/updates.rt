@@ -1,10 +1,10 @@
 //! What a batch says of edges, as updates.
 
-ghost use Rattle.std.specs.Prelude.{◌≡◌, false, IfOk};
-ghost use Rattle.edge_updates.specs.EdgeUpdate.{vertex_of, neighbour_of, adds};
+ghost use Rattle.std.specs.Prelude.{◌≡◌, IfOk};
+ghost use Rattle.std.specs.List.{All};
 ghost use Rattle.edge_updates.specs.Updates.{decided, Ascend, NamesOnce};
-ghost use Rattle.tree_batch.specs.Edge.{Edge, IsWithin};
-ghost use Rattle.tree_batch.specs.Entry.{edge_of, is_add, decision, names_outside};
+ghost use Rattle.tree_batch.specs.Edge.{Edge};
+ghost use Rattle.tree_batch.specs.Entry.{decision, NamesWithin, IsUpdateOf};
 
 use crate::batch::Entry;
 use edge_updates::{EdgeUpdate, keep_last, sort, sort_forked};
@@ -18,7 +18,7 @@ pub(crate) fn updates(
     entries: &[Entry],
     scratch: &mut Vec<EdgeUpdate>,
 ) -> Result<Vec<EdgeUpdate>, AllocError>
-    requires { names_outside 16777216 entries.now ≡ false }
+    requires { All (NamesWithin 16777216) entries.now }
     ensures order { IfOk result (λ v. Ascend v.items) }
     ensures once { IfOk result (λ v. NamesOnce v.items) }
     ensures same { IfOk result (λ v. (e : Edge) → decided v.items e ≡ decision entries.now e) }
@@ -35,7 +35,7 @@ pub(crate) fn updates_forked<R: Threads + Sync>(
     alloc: Global,
     entries: &[Entry],
 ) -> Result<Vec<EdgeUpdate>, AllocError>
-    requires inside { names_outside 16777216 entries.now ≡ false }
+    requires inside { All (NamesWithin 16777216) entries.now }
     ensures order { IfOk result (λ v. Ascend v.items) }
     ensures once { IfOk result (λ v. NamesOnce v.items) }
     ensures same { IfOk result (λ v. (e : Edge) → decided v.items e ≡ decision entries.now e) }
@@ -48,23 +48,24 @@ pub(crate) fn updates_forked<R: Threads + Sync>(
 
 /// What entries say of edges, in their order.
 fn unsorted(alloc: Global, entries: &[Entry]) -> Result<Vec<EdgeUpdate>, AllocError>
-    requires { names_outside 16777216 entries.now ≡ false }
+    requires { All (NamesWithin 16777216) entries.now }
     ensures { IfOk result (λ v. (e : Edge) → decided v.items e ≡ decision entries.now e) }
 {
     let mut updates = Vec::with_capacity(alloc, entries.len())?;
     for entry in entries {
-        updates.push_reserved(update(*entry));
+        if let Some(update) = update(*entry) {
+            updates.push_reserved(update);
+        }
     }
     Ok(updates)
 }
 
-/// What an entry says of its edge.
-fn update(entry: Entry) -> EdgeUpdate
-    requires { IsWithin 16777216 (edge_of entry) }
-    ensures source { vertex_of result ≡ (edge_of entry).0 }
-    ensures destination { neighbour_of result ≡ (edge_of entry).1 }
-    ensures is_added { adds result ≡ is_add entry }
+/// What an entry says of its edge, where it names one.
+fn update(entry: Entry) -> Option<EdgeUpdate>
+    requires { NamesWithin 16777216 entry }
+    ensures { IsUpdateOf entry result }
 {
-    let (source, destination) = entry.edge();
-    EdgeUpdate::new(source, destination, matches!(entry, Entry::Add(_, _)))
+    let (source, destination) = entry.edge()?;
+    let is_added = matches!(entry, Entry::Add(_, _));
+    Some(EdgeUpdate::new(source, destination, is_added))
 }

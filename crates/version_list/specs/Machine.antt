@@ -3,7 +3,7 @@ use Rattle.std.specs.Prelude.{ℕ, ◌+◌, ◌==◌, nat_lt, min, Bool, not, �
 use Rattle.std.specs.Option.{option_map}
 use Rattle.std.specs.List.{filter, list_any}
 use Rattle.tree_batch.specs.declared.batch.Entry.{Entry}
-use Rattle.tree_batch.specs.Entry.{names_outside}
+use Rattle.tree_batch.specs.Entry.{misfits}
 use Rattle.tree_batch.specs.Digraph.{Digraph, empty_graph, graph_through}
 use Rattle.version_list.specs.declared.step.Which.{Which}
 use Rattle.version_list.specs.declared.step.Which.TheVariants.{Newest, At}
@@ -34,6 +34,10 @@ opened n room = record { opening = empty_graph n; batches = []; open_tickets = [
 -- the number of the newest version
 abbrev pub newest_number : State → ℕ
 newest_number s = length s.batches
+
+-- the graph of the newest version: the opening's, taken through the batches
+abbrev pub newest_graph : State → Digraph
+newest_graph s = graph_through s.opening s.batches
 
 -- the graph of version k: the opening's, taken through the first k batches
 abbrev pub version_graph : State → ℕ → Digraph
@@ -76,7 +80,7 @@ lacks_room s more = nat_lt s.room (s.used + length s.open_tickets + more) || lac
 -- what a step is answered
 abbrev pub reply_to : State → Step → Reply
 reply_to s (Commit batch) =
-    if names_outside s.opening.vertices batch then Refused 111
+    if misfits (newest_graph s).vertices batch then Refused 111
     else (if lacks_room s 1 then Refused 123
     else Version (newest_number s + 1))
 reply_to s (Acquire which) =
