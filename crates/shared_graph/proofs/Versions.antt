@@ -9,7 +9,7 @@ use Rattle.version_list.specs.declared.step.Which.{Which}
 use Rattle.version_list.specs.Machine.{State, opened, newest_number, version_graph}
 use Rattle.version_list.specs.Timeline.{IsLegal}
 use Rattle.version_list.specs.Commits.{commits_of}
-use Rattle.version_list.proofs.Stepping.{newest_graph}
+use Rattle.version_list.proofs.Stepping.{newest_graph_is}
 use Rattle.version_list.proofs.Commits.{commits_append, replay_commits, replay_opening}
 use Rattle.shared_graph.specs.declared.entry.Entry.{Entry}
 use Rattle.shared_graph.specs.Histories.{steps_of, state_at, batches_of, fold_of, fold_of_first, IsNewest, IsVersionOf}
@@ -50,7 +50,7 @@ graph_at n room log k legal =
 pub fold_at : (n room : ℕ) (log : List Entry) → IsLegal (opened n room) (steps_of log) → version_graph (state_at (opened n room) log) (newest_number (state_at (opened n room) log)) ≡ fold_of n log
 fold_at n room log legal =
     let s : State = state_at (opened n room) log in
-    newest_graph s ∙ ap (λ (g : Digraph). graph_through g s.batches) (opening_at n room log)
+    newest_graph_is s ∙ ap (λ (g : Digraph). graph_through g s.batches) (opening_at n room log)
     ∙ ap (λ (bs : List (List Change)). graph_through (empty_graph n) bs) (batches_at n room log legal)
 
 -- the newest version of a legal history has all its batches

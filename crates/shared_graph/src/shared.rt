@@ -98,7 +98,7 @@ impl<J: Naming, R: Wait + Drop> SharedGraph<J, R> {
     /// its number. The history that the reader shows afterwards extends the one before and ends in
     /// this commit.
     ///
-    /// Errors: `VertexRange` where an entry names a vertex that the graph does not have, else
+    /// Errors: `VertexRange` where the newest version's graph refuses the batch (see [`Graph::apply`]), else
     /// `HistoryFull` where the history has no room, at the end of the history that the reader then
     /// shows; else `NoMemory`, and then graph and reader are as they were. The batch is gone.
     pub fn commit<T: Threads + Wait + Sync>(

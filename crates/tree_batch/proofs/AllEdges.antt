@@ -4,10 +4,10 @@ use Rattle.std.proofs.lemmas.Bool.{cases_Bool, cases_lt, and_parts, or_left, or_
 use Rattle.std.specs.List.{filter, flat_map}
 use Rattle.tree_batch.specs.declared.batch.Entry.{Entry}
 use Rattle.tree_batch.specs.Edge.{Edge, place, edge_eq, has_edge, Rises, IsAscending, IsWithin, numbers_from, edges_from, all_edges}
-use Rattle.tree_batch.specs.Entry.{decision, is_edge_after, names_outside, AreEdgesAfter}
+use Rattle.tree_batch.specs.Entry.{decision, vertices_after, misfits, is_edge_after, AreEdgesAfter}
 use Rattle.tree_batch.specs.Digraph.{Digraph, IsDigraph, is_vertex_count, graph_after}
 use Rattle.tree_batch.proofs.Rising.{edge_eq-refl, edge_eq-true, has_edge-append, rises_from, rises_wider, rises_joined, same_edges}
-use Rattle.tree_batch.proofs.Deciding.{decided_within}
+use Rattle.tree_batch.proofs.Deciding.{decided_within, batch_within, count_after}
 
 -- a row of edges rises
 rises_row : (u a k : ℕ) → a + k ≤ 2 ^ 32 → Rises (place (u, a)) (place (u, a) + k) (edges_from u (numbers_from a k))
@@ -85,30 +85,33 @@ has_edge-filter p (x ∷ xs) e = elim (cases_Bool (edge_eq x e)) [
 pub few_vertices : (n : ℕ) → is_vertex_count n ≡ true → n ≤ 16777216
 few_vertices n h = let parts = and_parts (leb 1 n) (leb n 16777216) h in leb-true n 16777216 parts.1
 
--- an edge that is there after a batch is within the graph
-pub after_within : (g : Digraph) (batch : List Entry) (e : Edge) → IsDigraph g → names_outside g.vertices batch ≡ false → is_edge_after g.edges batch e ≡ true → IsWithin g.vertices e
-after_within g batch e ok inside there = by_decision (decision batch e) refl there
+-- an edge that is there after a batch is within the graph after it
+pub after_within : (g : Digraph) (batch : List Entry) (e : Edge) → IsDigraph g → misfits g.vertices batch ≡ false → is_edge_after g.edges batch e ≡ true → IsWithin (vertices_after g.vertices batch) e
+after_within g batch e ok fit there = by_decision (decision batch e) refl there
   where
-    by_decision : (o : Option Bool) → decision batch e ≡ o → is_edge_after g.edges batch e ≡ true → IsWithin g.vertices e
-    by_decision None is there = ok.within e (rw (is) at there)
-    by_decision (Some b) is there = decided_within g.vertices batch e b inside is
+    by_decision : (o : Option Bool) → decision batch e ≡ o → is_edge_after g.edges batch e ≡ true → IsWithin (vertices_after g.vertices batch) e
+    by_decision None is there =
+        let before : IsWithin g.vertices e = ok.within e (rw (is) at there) in
+        (omega (arith, before.0), omega (arith, before.1))
+    by_decision (Some b) is there = decided_within (vertices_after g.vertices batch) batch e b (batch_within g.vertices batch fit) is
 
 -- the edges after a batch that are found in any way are those of the definition
-pub edges_after_are : (g : Digraph) (batch : List Entry) (new : List Edge) → IsDigraph g → names_outside g.vertices batch ≡ false → AreEdgesAfter g.edges batch new → new ≡ (graph_after g batch).edges
-edges_after_are g batch new ok inside are =
+pub edges_after_are : (g : Digraph) (batch : List Entry) (new : List Edge) → IsDigraph g → misfits g.vertices batch ≡ false → AreEdgesAfter g.edges batch new → new ≡ (graph_after g batch).edges
+edges_after_are g batch new ok fit are =
+    let n : ℕ = vertices_after g.vertices batch in
     let p = is_edge_after g.edges batch in
-    let all = all_edges g.vertices in
+    let all = all_edges n in
     let passing : (e : Edge) → (has_edge all e && p e) ≡ p e = λ e. elim (cases_Bool (p e)) [
-      | inl there ↦ rw (there, in_all g.vertices e (after_within g batch e ok inside there)) refl
+      | inl there ↦ rw (there, in_all n e (after_within g batch e ok fit there)) refl
       | inr absent ↦ rw (absent) (grind (arith))
     ] in
-    same_edges 0 0 (2 ^ 64) (2 ^ 64) new (filter p all) are.ascending (rises_filter p 0 (2 ^ 64) all (rises_all g.vertices (omega (arith, few_vertices g.vertices ok.count))))
+    same_edges 0 0 (2 ^ 64) (2 ^ 64) new (filter p all) are.ascending (rises_filter p 0 (2 ^ 64) all (rises_all n (omega (arith, few_vertices n (count_after g.vertices batch ok.count fit)))))
     (λ e. are.members e ∙ sym (has_edge-filter p all e ∙ passing e))
 
 -- and they are a graph's
-pub digraph_after : (g : Digraph) (batch : List Entry) (new : List Edge) → IsDigraph g → names_outside g.vertices batch ≡ false → AreEdgesAfter g.edges batch new → IsDigraph (record { vertices = g.vertices; edges = new })
-digraph_after g batch new ok inside are = record {
-  count = ok.count;
+pub digraph_after : (g : Digraph) (batch : List Entry) (new : List Edge) → IsDigraph g → misfits g.vertices batch ≡ false → AreEdgesAfter g.edges batch new → IsDigraph (record { vertices = vertices_after g.vertices batch; edges = new })
+digraph_after g batch new ok fit are = record {
+  count = count_after g.vertices batch ok.count fit;
   ascending = are.ascending;
-  within = λ e there. after_within g batch e ok inside (sym (are.members e) ∙ there);
+  within = λ e there. after_within g batch e ok fit (sym (are.members e) ∙ there);
 }

@@ -13,18 +13,13 @@ use Rattle.pages.proofs.UpdateRuns.{ascend_in_page}
 use Rattle.vertex_blocks.specs.Changes.{BlockChange}
 use Rattle.tree_batch.specs.declared.batch.Entry.{Entry}
 use Rattle.tree_batch.specs.Edge.{Edge}
-use Rattle.tree_batch.specs.Entry.{edge_of, is_add, entry_decision, decision}
+use Rattle.tree_batch.specs.Entry.{edge_of, is_add, is_edge, entry_decision, decision, IsUpdateOf}
 use Rattle.tree_batch.specs.BlockCuts.{IsCutAt, block_decided, AreCut, BeginsElsewhere, BeginsFrom, AreCutSoFar}
 use Rattle.tree_batch.proofs.Deciding.{option_or-none, option_or-assoc, decision-pushed}
 
--- an update that says what an entry says
-pub record Says (u : EdgeUpdate) (x : Entry) : Type 0 where
-  pub source : vertex_of u ≡ (edge_of x).0
-  pub destination : neighbour_of u ≡ (edge_of x).1
-  pub is_added : adds u ≡ is_add x
-
-one_says : (u : EdgeUpdate) (x : Entry) (e : Edge) → Says u x → one_decided u e ≡ entry_decision x e
-one_says u x e says = rw (says.source, says.destination, says.is_added) refl
+-- an update says of edges what its entry says
+one_says : (u : EdgeUpdate) (x : Entry) (e : Edge) → IsUpdateOf x (Some u) → one_decided u e ≡ entry_decision x e
+one_says u x e says = rw (says.0, says.1) refl
 
 -- an update at the end decides before the others
 decided_pushed : (ds : List EdgeUpdate) (d : EdgeUpdate) (e : Edge) → decided (ds ++ d ∷ []) e ≡ option_or (one_decided d e) (decided ds e)
@@ -32,15 +27,19 @@ decided_pushed [] d e = sym (option_or-none (one_decided d e))
 decided_pushed (x ∷ xs) d e =
     ap (λ o. option_or o (one_decided x e)) (decided_pushed xs d e) ∙ option_or-assoc (one_decided d e) (decided xs e) (one_decided x e)
 
--- updates of the first entries, and of one more
-pub decided_more : (xs : List Entry) (i : ℕ) (d : Entry) (us : List EdgeUpdate) (u : EdgeUpdate) → i < length xs → Says u (get_or xs i d) → ((e : Edge) → decided us e ≡ decision (take i xs) e) → (e : Edge) → decided (us ++ u ∷ []) e ≡ decision (take (i + 1) xs) e
-decided_more xs i d us u lt says same e =
+-- updates of the first entries, and what one more says
+pub decided_more : (xs : List Entry) (i : ℕ) (d : Entry) (us vs : List EdgeUpdate) (o : Option EdgeUpdate) → i < length xs → IsUpdateOf (get_or xs i d) o → vs ≡ us ++ option_to_list o → ((e : Edge) → decided us e ≡ decision (take i xs) e) → (e : Edge) → decided vs e ≡ decision (take (i + 1) xs) e
+decided_more xs i d us vs o lt says is same e =
     let x = get_or xs i d in
     let more : take (i + 1) xs ≡ take i xs ++ x ∷ [] = take_more xs i d lt in
-    decided_pushed us u e
-    ∙ ap (λ o. option_or o (decided us e)) (one_says u x e says)
-    ∙ ap (λ o. option_or (entry_decision x e) o) (same e)
+    ap (λ ws. decided ws e) is
+    ∙ by_update o says
+    ∙ ap (λ r. option_or (entry_decision x e) r) (same e)
     ∙ sym (ap (λ ys. decision ys e) more ∙ decision-pushed (take i xs) x e)
+  where
+    by_update : (o : Option EdgeUpdate) → IsUpdateOf (get_or xs i d) o → decided (us ++ option_to_list o) e ≡ option_or (entry_decision (get_or xs i d) e) (decided us e)
+    by_update None says = rw (says, append-[] us) refl
+    by_update (Some u) says = decided_pushed us u e ∙ ap (λ r. option_or r (decided us e)) (one_says u (get_or xs i d) e says)
 
 -- later updates decide before earlier ones
 pub decided_append : (xs ys : List EdgeUpdate) (e : Edge) → decided (xs ++ ys) e ≡ option_or (decided ys e) (decided xs e)

@@ -13,7 +13,7 @@ use Rattle.vertex_blocks.specs.Blocks.{Block, IsBlock, vertices_at, lists_of}
 use Rattle.vertex_blocks.specs.Changes.{BlockChange, IsBlockAfter}
 use Rattle.tree_batch.specs.declared.batch.Entry.{Entry}
 use Rattle.tree_batch.specs.Edge.{Edge, IsAscending}
-use Rattle.tree_batch.specs.Entry.{decision, names_outside, AreEdgesAfter}
+use Rattle.tree_batch.specs.Entry.{decision, vertices_after, misfits, AreEdgesAfter}
 use Rattle.tree_batch.specs.Digraph.{Digraph, digraph, graph_after, is_chunk_size}
 use Rattle.tree_batch.specs.Neighbours.{has_number, edges_of, has_neighbour, sources_of}
 use Rattle.tree_batch.specs.VertexBlocks.{AreGraphBlocks, IsGraph}
@@ -84,7 +84,7 @@ module _ (n count : ℕ) (out into : List (ℕ × Block)) (ok : IsGraph n count 
       (neighbours_ascend v (lists_of into) (neighbour_lists into ok.into.blocks))
       (λ u. has_source (edges_of (lists_of out)) u v ∙ has_edges 0 (2 ^ 24) (lists_of out) (u, v) (graph_rises out ok.out) ∙ sym (ok.converse u v))
 
-  module _ (batch : List Entry) (inside : names_outside n batch ≡ false) (us turned : List EdgeUpdate) (same : (e : Edge) → decided us e ≡ decision batch e) (turns : (e : Edge) → decided turned e ≡ decided us (e.1, e.0)) (outs ins : Changed VertexBlock) (out_made : IsChangedTree us out outs) (into_made : IsChangedTree turned into ins) where
+  module _ (batch : List Entry) (inside : misfits n batch ≡ false) (us turned : List EdgeUpdate) (same : (e : Edge) → decided us e ≡ decision batch e) (turns : (e : Edge) → decided turned e ≡ decided us (e.1, e.0)) (outs ins : Changed VertexBlock) (out_made : IsChangedTree us out outs) (into_made : IsChangedTree turned into ins) where
     abbrev out' : List (ℕ × Block)
     out' = outs.tree.entries
 
@@ -112,14 +112,14 @@ module _ (n count : ℕ) (out into : List (ℕ × Block)) (ok : IsGraph n count 
     }
 
     -- the new edges are those after the batch
-    pub graph_is_after : digraph n (edges_of (lists_of out')) ≡ graph_after old batch
-    graph_is_after = ap (λ es. digraph n es) (edges_after_are old batch (edges_of (lists_of out')) ok.graph inside edges_after)
+    pub graph_is_after : digraph (vertices_after n batch) (edges_of (lists_of out')) ≡ graph_after old batch
+    graph_is_after = ap (λ es. digraph (vertices_after n batch) es) (edges_after_are old batch (edges_of (lists_of out')) ok.graph inside edges_after)
 
     few : length (edges_of (lists_of out')) ≤ 2 ^ 56
     few = omega (arith, rises_room 0 (2 ^ 24 * 2 ^ 32) (edges_of (lists_of out')) (rises_edges 0 (2 ^ 24) (lists_of out') (graph_rises out' out_ok) (neighbour_lists out' out_ok.blocks)))
 
     -- the new graph is one
-    pub graph_made : (new_count : ℕ) → new_count ≡ (count + outs.growth) % 2 ^ 64 → IsGraph n new_count out' into'
+    pub graph_made : (new_count : ℕ) → new_count ≡ (count + outs.growth) % 2 ^ 64 → IsGraph (vertices_after n batch) new_count out' into'
     graph_made new_count is = record {
       graph = digraph_after old batch (edges_of (lists_of out')) ok.graph inside edges_after;
       out = out_ok;

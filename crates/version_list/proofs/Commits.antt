@@ -3,19 +3,19 @@ use Rattle.std.proofs.Common.{◌≡◌, ℕ, List, [], ◌∷◌, ◌++◌, inl
 use Rattle.std.proofs.lemmas.Bool.{cases_Bool}
 use Rattle.std.proofs.lemmas.List.{append-nil}
 use Rattle.tree_batch.specs.declared.batch.Entry.{Entry}
-use Rattle.tree_batch.specs.Entry.{names_outside}
+use Rattle.tree_batch.specs.Entry.{misfits}
 use Rattle.version_list.specs.declared.step.Step.{Step}
 use Rattle.version_list.specs.declared.step.Which.{Which}
 use Rattle.version_list.specs.declared.step.Step.TheVariants.{Commit, Acquire, Release, Trim}
 use Rattle.version_list.specs.declared.step.Reply.{Reply}
 use Rattle.version_list.specs.declared.step.Reply.TheVariants.{Version, Ticket, Released, Trimmed, Refused}
 use Rattle.version_list.specs.declared.step.Done.{Done}
-use Rattle.version_list.specs.Machine.{State, changed, lacks_room, reply_to, state_after}
+use Rattle.version_list.specs.Machine.{State, changed, lacks_room, newest_graph, reply_to, state_after}
 use Rattle.version_list.specs.Timeline.{IsAccepted, IsLegal, replay}
 use Rattle.version_list.specs.Commits.{committed_by, commits_of}
 
 commit_adds : (s : State) (batch : List Entry) → IsAccepted (reply_to s (Commit batch)) → (state_after s (Commit batch)).batches ≡ s.batches ++ batch ∷ []
-commit_adds s batch accepted = elim (cases_Bool (names_outside s.opening.vertices batch)) [
+commit_adds s batch accepted = elim (cases_Bool (misfits (newest_graph s).vertices batch)) [
   | inl outside ↦ absurd (rw (outside) at accepted)
   | inr inside ↦ elim (cases_Bool (lacks_room s 1)) [ inl full ↦ absurd (rw (inside, full) at accepted) | inr room ↦ rw (inside, room) refl ]
 ]

@@ -2,14 +2,14 @@
 use Rattle.std.proofs.Common.{◌≡◌, ℕ, ◌+◌, ◌≤◌, ◌==◌, true, List, [], ◌∷◌, length, inl, inr, refl, sym, ap, ◌∙◌, subst, arith, length-append}
 use Rattle.std.specs.List.{list_any}
 use Rattle.std.proofs.lemmas.Bool.{false≢true, cases_Bool, ltb-false}
-use Rattle.tree_batch.specs.Entry.{names_outside}
+use Rattle.tree_batch.specs.Entry.{misfits}
 use Rattle.version_list.specs.declared.step.Step.{Step}
 use Rattle.version_list.specs.declared.step.Step.TheVariants.{Commit, Acquire, Release, Trim}
 use Rattle.version_list.specs.declared.step.Reply.TheVariants.{Trimmed, Refused}
 use Rattle.version_list.specs.declared.step.Done.{Done}
 use Rattle.version_list.specs.declared.step.Which.{Which}
 use Rattle.tree_batch.specs.declared.batch.Entry.{Entry}
-use Rattle.version_list.specs.Machine.{OpenTicket, State, opened, reply_to, state_after, number_asked, lacks_room, lacks_steps, is_kept, is_open}
+use Rattle.version_list.specs.Machine.{OpenTicket, State, opened, reply_to, state_after, number_asked, lacks_room, newest_graph, lacks_steps, is_kept, is_open}
 use Rattle.version_list.specs.Timeline.{IsAccepted, IsLegal, replay}
 use Rattle.version_list.specs.Trims.{entries_with, entries_since_trim}
 use Rattle.version_list.proofs.Holding.{others}
@@ -26,7 +26,7 @@ pub record Counts (old : State) (step : Step) (new : State) : Type 0 where
   pub fits : Fits new
 
 commit_counts : (s : State) (batch : List Entry) → IsAccepted (reply_to s (Commit batch)) → Counts s (Commit batch) (state_after s (Commit batch))
-commit_counts s batch accepted = elim (cases_Bool (names_outside s.opening.vertices batch)) [
+commit_counts s batch accepted = elim (cases_Bool (misfits (newest_graph s).vertices batch)) [
   | inl outside ↦ absurd (rw (outside) at accepted)
   | inr inside ↦ elim (cases_Bool (lacks_room s 1)) [
     | inl full ↦ absurd (rw (inside, full) at accepted)

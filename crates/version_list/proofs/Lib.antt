@@ -6,3 +6,4 @@ pub mod Crossing
 pub mod Kept
 pub mod Commits
 pub mod Counting
+pub mod Shrinking

@@ -4,8 +4,8 @@ use Rattle.std.proofs.lemmas.Bool.{cases_Bool, ltb-false, or_parts}
 use Rattle.indexmap.specs.IndexMap.{get, index_map_len}
 use Rattle.std.proofs.Math.Seq.{take-length}
 use Rattle.tree_batch.specs.declared.batch.Entry.{Entry}
-use Rattle.tree_batch.specs.Entry.{names_outside}
-use Rattle.tree_batch.specs.Digraph.{Digraph, graph_after, graph_through, empty_graph}
+use Rattle.tree_batch.specs.Entry.{misfits}
+use Rattle.tree_batch.specs.Digraph.{Digraph, graph_after, graph_through}
 use Rattle.version_list.specs.declared.step.Step.{Step}
 use Rattle.version_list.specs.declared.step.Step.TheVariants.{Commit, Acquire, Release}
 use Rattle.version_list.specs.declared.step.Reply.{Reply}
@@ -15,7 +15,7 @@ use Rattle.version_list.specs.declared.step.Done.{Done}
 use Rattle.version_list.specs.declared.prepared.Prepared.{Prepared}
 use Rattle.version_list.specs.declared.prepared.PreparedAcquire.{PreparedAcquire}
 use Rattle.version_list.specs.declared.versions.Versions.TheInside.{Inside}
-use Rattle.version_list.specs.Machine.{State, OpenTicket, reply_to, changed, state_after, newest_number, lacks_room, version_graph, number_asked, is_kept, kept_graph, is_open, ticket_version}
+use Rattle.version_list.specs.Machine.{State, OpenTicket, reply_to, changed, state_after, newest_number, lacks_room, newest_graph, version_graph, number_asked, is_kept, kept_graph, is_open, ticket_version}
 use Rattle.version_list.specs.Timeline.{Timeline, IsLegal, IsAccepted, replay, Accepts}
 use Rattle.version_list.specs.Prepared.{IsPrepared, IsPreparedAcquire}
 use Rattle.version_list.specs.Held.{AreTickets, Holds, HasRoom, one_more}
@@ -38,8 +38,8 @@ graph_through-pushed g [] batch = refl
 graph_through-pushed g (first ∷ rest) batch = graph_through-pushed (graph_after g first) rest batch
 
 -- the newest version's graph is taken through all batches
-pub newest_graph : (s : State) → version_graph s (newest_number s) ≡ graph_through s.opening s.batches
-newest_graph s = ap (graph_through s.opening) (take-length s.batches)
+pub newest_graph_is : (s : State) → version_graph s (newest_number s) ≡ newest_graph s
+newest_graph_is s = ap (graph_through s.opening) (take-length s.batches)
 
 module _ (a b : Inside) (kept : IsFaithful a) (step : Step) (reply : Reply) (answer : reply_to (timeline a).state step ≡ reply) (accepted : IsAccepted reply)
     (same_base : base b ≡ base a) (history : b.history.items ≡ a.history.items ++ record { step = step; reply = reply } ∷ []) (unreserved : b.reserved ≡ 0) where
@@ -58,7 +58,7 @@ module _ (a b : Inside) (kept : IsFaithful a) (step : Step) (reply : Reply) (ans
     state = subst (Shows b) (sym state_is) shows;
   }
 
-module _ (s : State) (batch : List Entry) (inside : names_outside s.opening.vertices batch ≡ false) (has_room : lacks_room s 1 ≡ false) where
+module _ (s : State) (batch : List Entry) (inside : misfits (newest_graph s).vertices batch ≡ false) (has_room : lacks_room s 1 ≡ false) where
   -- a commit that is not refused
   pub commit_reply : reply_to s (Commit batch) ≡ Version (newest_number s + 1)
   commit_reply = rw (inside, has_room) refl
@@ -100,7 +100,6 @@ module _ (a b : Inside) (s : State) (shows : Shows a s) (done : Done) (same_room
   pub shows_committed : (batch : List Entry) → lacks_room s 1 ≡ false → b.newest ≡ graph_after a.newest batch → b.number ≡ a.number + 1 → b.given ≡ a.given → b.held ≡ a.held
       → length b.history.items + length s.open_tickets ≤ vec_capacity b.history → Shows b (record s { batches = s.batches ++ batch ∷ []; used = s.used + 1; steps = s.steps + 1 })
   shows_committed batch has_room newest number given held reserved = record {
-    opening = shows.opening ∙ ap (λ (g : Digraph). empty_graph g.vertices) (sym newest);
     number = number ∙ ap (λ n. n + 1) shows.number ∙ sym (length-append s.batches (batch ∷ []));
     newest = newest ∙ ap (λ g. graph_after g batch) shows.newest ∙ sym (graph_through-pushed s.opening s.batches batch);
     given = given ∙ shows.given;
@@ -124,7 +123,6 @@ module _ (a b : Inside) (s : State) (shows : Shows a s) (done : Done) (same_room
   shows_acquired version made has_room newest number given held reserved =
       let open_count = length-append s.open_tickets (record { number = s.given + 1; version = version } ∷ []) in
       record {
-        opening = shows.opening ∙ ap (λ (g : Digraph). empty_graph g.vertices) (sym newest);
         number = number ∙ shows.number;
         newest = newest ∙ shows.newest;
         given = given ∙ ap (λ n. n + 1) shows.given;
@@ -147,7 +145,6 @@ module _ (a b : Inside) (s : State) (shows : Shows a s) (done : Done) (same_room
   shows_released number version is_open newest same_number given held capacity =
       let one_fewer = length-others s.open_tickets number version shows.tickets.distinct is_open in
       record {
-        opening = shows.opening ∙ ap (λ (g : Digraph). empty_graph g.vertices) (sym newest);
         number = same_number ∙ shows.number;
         newest = newest ∙ shows.newest;
         given = given ∙ shows.given;
@@ -180,7 +177,6 @@ module _ (a b : Inside) (kept : IsFaithful a) (newest : b.newest ≡ a.newest) (
       record {
         legal = subst (λ (t : Timeline). IsLegal t.base t.history) (sym same_timeline) kept.legal;
         state = subst (Shows b) (sym state_is) (record {
-          opening = shows.opening ∙ ap (λ (g : Digraph). empty_graph g.vertices) (sym newest);
           number = number ∙ shows.number;
           newest = newest ∙ shows.newest;
           given = given ∙ shows.given;
@@ -200,7 +196,7 @@ module _ (a b : Inside) (kept : IsFaithful a) (newest : b.newest ≡ a.newest) (
 
 -- a commit that was answered with a version was neither outside nor without room
 pub commit_room : (s : State) (batch : List Entry) (number : ℕ) → reply_to s (Commit batch) ≡ Version number → lacks_room s 1 ≡ false
-commit_room s batch number is = elim (cases_Bool (names_outside s.opening.vertices batch)) [
+commit_room s batch number is = elim (cases_Bool (misfits (newest_graph s).vertices batch)) [
   | inl outside ↦ let no : Refused 111 ≡ Version number = rw (outside) at is in absurd cc
   | inr inside ↦ elim (cases_Bool (lacks_room s 1)) [ inl full ↦ let no : Refused 123 ≡ Version number = rw (inside, full) at is in absurd cc | inr room ↦ room ]
 ]
@@ -213,8 +209,8 @@ next_version s batch number is =
     let after_is : state_after s (Commit batch) ≡ after = ap (changed s (Commit batch)) is in
     let count : newest_number after ≡ newest_number s + 1 = length-append s.batches (batch ∷ []) in (
       ap newest_number after_is ∙ count,
-      ap (λ (t : State). version_graph t (newest_number s + 1)) after_is ∙ ap (version_graph after) (sym count) ∙ newest_graph after
-          ∙ graph_through-pushed s.opening s.batches batch ∙ ap (λ (g : Digraph). graph_after g batch) (sym (newest_graph s)),
+      ap (λ (t : State). version_graph t (newest_number s + 1)) after_is ∙ ap (version_graph after) (sym count) ∙ newest_graph_is after
+          ∙ graph_through-pushed s.opening s.batches batch ∙ ap (λ (g : Digraph). graph_after g batch) (sym (newest_graph_is s)),
     )
 
 -- a hold changes no version
@@ -255,7 +251,7 @@ module _ (a b : Inside) (kept : IsFaithful a) (batch : List Entry) (p : Prepared
   entry = record { step = Commit batch; reply = Version (newest_number before + 1) }
 
   next_is : b.newest ≡ graph_after a.newest batch
-  next_is = newest ∙ ready.graph ∙ ap (λ (g : Digraph). graph_after g batch) (newest_graph before ∙ sym kept.state.newest)
+  next_is = newest ∙ ready.graph ∙ ap (λ (g : Digraph). graph_after g batch) (newest_graph_is before ∙ sym kept.state.newest)
 
   items : b.history.items ≡ a.history.items ++ entry ∷ []
   items = history ∙ ap (λ (d : Done). a.history.items ++ d ∷ []) ready.done

@@ -1,8 +1,7 @@
 -- For proofs only: what the fields of versions stand for, and what is true of them.
 use Rattle.std.specs.Prelude.{◌≡◌, ◌+◌, ◌≤◌, length, vec_capacity}
-use Rattle.tree_batch.specs.Digraph.{empty_graph, graph_through}
 use Rattle.version_list.specs.declared.versions.Versions.TheInside.{Inside}
-use Rattle.version_list.specs.Machine.{State, newest_number, version_graph}
+use Rattle.version_list.specs.Machine.{State, newest_number, newest_graph, version_graph}
 use Rattle.version_list.specs.Timeline.{Timeline, IsLegal, replay}
 use Rattle.version_list.specs.Held.{Holds, AreTickets, HasRoom}
 
@@ -16,9 +15,8 @@ timeline a = record { base = base a; history = a.history.items; state = replay (
 
 -- the fields are those of the state, and memory is kept for the release of each open ticket, and for what is reserved beside: with two entries room for a ticket
 pub record Shows (a : Inside) (s : State) : Type 0 where
-  pub opening : s.opening ≡ empty_graph a.newest.vertices
   pub number : a.number ≡ newest_number s
-  pub newest : a.newest ≡ graph_through s.opening s.batches
+  pub newest : a.newest ≡ newest_graph s
   pub given : a.given ≡ s.given
   pub held : Holds a.held s.open_tickets (version_graph s)
   pub tickets : AreTickets s

@@ -3,7 +3,7 @@ ghost use Rattle.std.specs.Prelude.{◌≡◌, ◌≤◌, ℕ, List, length};
 ghost use Rattle.version_list.specs.declared.step.Done as done;
 ghost use Rattle.version_list.specs.declared.step.Step.TheVariants.{Trim};
 ghost use Rattle.version_list.specs.declared.step.Reply.TheVariants.{Trimmed};
-ghost use Rattle.version_list.specs.Machine.{opened, reply_to};
+ghost use Rattle.version_list.specs.Machine.{State, opened, reply_to, version_graph};
 ghost use Rattle.version_list.specs.Timeline.{IsLegal, replay};
 ghost use Rattle.version_list.specs.Trims.{entries_since_trim};
 
@@ -14,4 +14,10 @@ pub fn histories_are_counted()
         → length history ≤ 18446744073709551615 }
     ensures trims { (n room count : ℕ) (history : List done.Done) → IsLegal (opened n room) history
         → reply_to (replay (opened n room) history) Trim ≡ Trimmed count → count ≡ entries_since_trim 0 history }
+{}
+
+/// The law of growing versions: of two versions of one state, the later has no fewer vertices. The call
+/// does nothing.
+pub fn versions_never_shrink()
+    ensures { (s : State) (j k : ℕ) → j ≤ k → (version_graph s j).vertices ≤ (version_graph s k).vertices }
 {}

@@ -16,7 +16,7 @@ mod step;
 mod versions;
 
 pub use error::VersionError;
-pub use laws::histories_are_counted;
+pub use laws::{histories_are_counted, versions_never_shrink};
 pub use prepared::{Prepared, PreparedAcquire, PreparedTrim};
 pub use step::{Done, Reply, Step, Ticket, Which};
 pub use versions::{MAX_HISTORY, Versions};

@@ -2,7 +2,7 @@ ghost use Rattle.std.specs.Prelude.{◌≡◌, Ok, ◌+◌, ◌^◌, ◌≤◌, 
 ghost use Rattle.std.specs.Option.{option_copied};
 ghost use Rattle.indexmap.specs.IndexMap.{IsUnchanged, index_map_len};
 ghost use Rattle.tree_batch.specs.declared.batch.Entry.{Entry};
-ghost use Rattle.tree_batch.specs.Entry.{names_outside};
+ghost use Rattle.tree_batch.specs.Entry.{misfits};
 ghost use Rattle.tree_batch.specs.Digraph.{graph_after};
 ghost use Rattle.version_list.specs.declared.error.VersionError.TheVariants.{VertexRange, NotHeld, HistoryFull, NoMemory};
 ghost use Rattle.version_list.specs.declared.step.Step.TheVariants.{Commit, Acquire, Release};
@@ -113,7 +113,7 @@ impl Versions {
 
     /// Makes the next version by a batch, also by an empty one, and answers its number.
     ///
-    /// Errors: `VertexRange` where an entry names a vertex that the graph does not have, else
+    /// Errors: `VertexRange` where the newest version's graph refuses the batch (see [`Graph::apply`]), else
     /// `HistoryFull` where the history has no room, else `NoMemory`. After an error the versions
     /// and the history are as before, and the batch is gone.
     pub fn commit(&mut self, alloc: Global, batch: Batch) -> Result<u64, VersionError>
@@ -512,9 +512,9 @@ fn reserve_ticket(history: &mut Vec<Done>, held: &mut HeldVersions) -> Result<()
 
 /// Why a commit is refused where the history is full.
 fn refusal_when_full(batch: &Batch, vertices: u32) -> VersionError
-    ensures { result ≡ (if names_outside vertices batch.now then VertexRange else HistoryFull) }
+    ensures { result ≡ (if misfits vertices batch.now then VertexRange else HistoryFull) }
 {
-    if batch.names_outside(vertices) {
+    if batch.misfits(vertices) {
         VersionError::VertexRange
     } else {
         VersionError::HistoryFull

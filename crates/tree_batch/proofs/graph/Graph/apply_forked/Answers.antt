@@ -1,21 +1,21 @@
 use Rattle.std.proofs.Common.{◌≡◌, false, sym, refl}
-use Rattle.tree_batch.specs.Entry.{names_outside}
+use Rattle.tree_batch.specs.Entry.{misfits}
 use Rattle.tree_batch.proofs.AllEdges.{few_vertices}
 use Rattle.tree_batch.proofs.Deciding.{all_inside}
 use Rattle.tree_batch.proofs.Neighbourhoods.{graph_made, graph_is_after}
 use Rattle.tree_batch.proofs.graph.Graph.apply_forked.Goals as goal
 
 pub updates_forked-requires-clause-inside : goal.updates_forked-requires-clause-inside
-updates_forked-requires-clause-inside g c = rw c.entries.ensures (λ κs within. all_inside c.self.inside.vertices c.args.batch.now (few_vertices c.self.inside.vertices c.self.invariant.graph.count) c.if-names_outside.ensures)
+updates_forked-requires-clause-inside g c = rw c.entries.ensures (λ κs within. all_inside c.self.inside.vertices c.args.batch.now (few_vertices c.self.inside.vertices c.self.invariant.graph.count) (sym c.if-misfits.ensures))
 
 pub invariant_of-result : goal.invariant_of-result
 invariant_of-result g c =
     let h = c.self.inside in
-    let inside : names_outside h.vertices c.args.batch.now ≡ false = sym c.if-names_outside.ensures in
+    let inside : misfits h.vertices c.args.batch.now ≡ false = sym c.if-misfits.ensures in
     graph_made h.vertices h.edge_count h.outgoing.entries h.incoming.entries c.self.invariant c.args.batch.now inside c.in_ok-updates.updates.items c.in_ok-turned.turned.items (rw c.entries.ensures at c.in_ok-updates.ensures.same) c.in_ok-turned.ensures.same c.in_ok-outs.outs c.in_ok-ins.ins (rw c.deref.ensures.value at c.in_ok-outs.ensures) (rw c.deref-2.ensures.value at c.in_ok-ins.ensures) _ refl
 
 pub returns : goal.returns
 returns g c =
     let h = c.self.inside in
-    let inside : names_outside h.vertices c.args.batch.now ≡ false = sym c.if-names_outside.ensures in
+    let inside : misfits h.vertices c.args.batch.now ≡ false = sym c.if-misfits.ensures in
     rw (← c.self.view_is) (inside, graph_is_after h.vertices h.edge_count h.outgoing.entries h.incoming.entries c.self.invariant c.args.batch.now inside c.in_ok-updates.updates.items c.in_ok-turned.turned.items (rw c.entries.ensures at c.in_ok-updates.ensures.same) c.in_ok-turned.ensures.same c.in_ok-outs.outs c.in_ok-ins.ins (rw c.deref.ensures.value at c.in_ok-outs.ensures) (rw c.deref-2.ensures.value at c.in_ok-ins.ensures))
