@@ -89,8 +89,8 @@ fn remove(words: Words<'_>) -> Option<Command>
 fn grow(mut words: Words<'_>) -> Option<Command>
     ensures { result ≡ grow_of words.entry }
 {
-    let vertices = words.take_short_number()?;
-    words.is_empty().then_some(Command::Grow { vertices })
+    let count = words.take_short_number()?;
+    words.is_empty().then_some(Command::Grow { vertices: count })
 }
 
 /// No word may follow `commit`.
