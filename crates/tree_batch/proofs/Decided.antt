@@ -1,19 +1,19 @@
 -- What decides on edges when updates are made of entries and cut by blocks.
-use Rattle.std.proofs.Common.{◌≡◌, ◌≢◌, ℕ, ◌+◌, ◌/◌, ◌^◌, ◌<◌, ◌≤◌, Some, None, inl, inr, List, [], ◌∷◌, ◌++◌, length, get_or, take, drop, refl, sym, ap, ◌∙◌, subst, arith, length-append, length-drop}
+use Rattle.std.proofs.Common.{◌≡◌, ◌≢◌, ℕ, ◌+◌, ◌/◌, ◌^◌, ◌<◌, ◌≤◌, Option, option_to_list, Some, None, inl, inr, List, [], ◌∷◌, ◌++◌, length, get_or, take, drop, refl, sym, ap, ◌∙◌, subst, arith, length-append, length-drop}
 use Rattle.std.specs.Option.{option_or}
 use Rattle.std.proofs.lemmas.Bool.{cases_eq, ne_eqb}
-use Rattle.std.proofs.lemmas.List.{take_more, drop_more}
+use Rattle.std.proofs.lemmas.List.{append-nil, take_more, drop_more}
 use Rattle.shared_tree.specs.Entries.{Rises, lookup}
 use Rattle.shared_tree.proofs.Order.{rises_to, rises_joined, lookup_here}
 use Rattle.edge_updates.specs.declared.edge_update.EdgeUpdate.{EdgeUpdate}
-use Rattle.edge_updates.specs.EdgeUpdate.{vertex_of, neighbour_of, adds}
+use Rattle.edge_updates.specs.EdgeUpdate.{vertex_of}
 use Rattle.edge_updates.specs.Updates.{one_decided, decided, FollowAscending, Ascend}
 use Rattle.pages.specs.Updates.{AreOfBlock, EdgesAscend}
 use Rattle.pages.proofs.UpdateRuns.{ascend_in_page}
 use Rattle.vertex_blocks.specs.Changes.{BlockChange}
 use Rattle.tree_batch.specs.declared.batch.Entry.{Entry}
 use Rattle.tree_batch.specs.Edge.{Edge}
-use Rattle.tree_batch.specs.Entry.{edge_of, is_add, is_edge, entry_decision, decision, IsUpdateOf}
+use Rattle.tree_batch.specs.Entry.{entry_decision, decision, IsUpdateOf}
 use Rattle.tree_batch.specs.BlockCuts.{IsCutAt, block_decided, AreCut, BeginsElsewhere, BeginsFrom, AreCutSoFar}
 use Rattle.tree_batch.proofs.Deciding.{option_or-none, option_or-assoc, decision-pushed}
 
@@ -38,7 +38,7 @@ decided_more xs i d us vs o lt says is same e =
     ∙ sym (ap (λ ys. decision ys e) more ∙ decision-pushed (take i xs) x e)
   where
     by_update : (o : Option EdgeUpdate) → IsUpdateOf (get_or xs i d) o → decided (us ++ option_to_list o) e ≡ option_or (entry_decision (get_or xs i d) e) (decided us e)
-    by_update None says = rw (says, append-[] us) refl
+    by_update None says = rw (says, append-nil us) refl
     by_update (Some u) says = decided_pushed us u e ∙ ap (λ r. option_or r (decided us e)) (one_says u (get_or xs i d) e says)
 
 -- later updates decide before earlier ones

@@ -6,7 +6,7 @@ use Rattle.std.specs.Option.{option_or}
 use Rattle.std.specs.List.{list_any, All, Contains}
 use Rattle.tree_batch.specs.declared.batch.Entry.{Entry}
 use Rattle.tree_batch.specs.declared.batch.Entry.TheVariants.{Add, Remove, Grow}
-use Rattle.tree_batch.specs.Edge.{Edge, edge_eq, IsWithin}
+use Rattle.tree_batch.specs.Edge.{Edge, IsWithin}
 use Rattle.tree_batch.specs.Entry.{edge_of, is_add, count_asked, most_asked, vertices_after, entry_misfits, misfits, is_edge, entry_decision, decision, NoneNames, NamesWithin}
 use Rattle.tree_batch.specs.Digraph.{is_vertex_count}
 use Rattle.tree_batch.proofs.Rising.{edge_eq-refl, edge_eq-true}
@@ -101,10 +101,23 @@ all_inside n xs le fit k d lt =
     let few : vertices_after n xs ≤ 16777216 = omega (arith, most_few n (vertices_after n xs) xs fit) in
     within_more (vertices_after n xs) 16777216 _ few (batch_within n xs fit k d lt)
 
--- an entry at the end asks for more, or it does not
-pub most_pushed : (xs : List Entry) (x : Entry) → most_asked (xs ++ x ∷ []) ≡ max (most_asked xs) (count_asked x)
+-- with an entry at the end the most that is asked for is the greater of both
+most_pushed : (xs : List Entry) (x : Entry) → most_asked (xs ++ x ∷ []) ≡ max (most_asked xs) (count_asked x)
 most_pushed [] x = omega arith
 most_pushed (y ∷ ys) x = omega (arith, most_pushed ys x)
+
+-- growth at the end counts
+pub most_with_growth : (xs ys : List Entry) (x : Entry) (n most : ℕ) → ys ≡ xs ++ x ∷ [] → x ≡ Grow n → most ≡ most_asked xs → max most n ≡ most_asked ys
+most_with_growth xs ys x n most pushed is was = omega (arith, ap most_asked pushed, most_pushed xs x, ap count_asked is, was)
+
+-- another entry at the end does not
+pub most_without : (xs ys : List Entry) (x : Entry) (most : ℕ) → ys ≡ xs ++ x ∷ [] → ((n : ℕ) → x ≡ Grow n → ⊥) → most ≡ most_asked xs → most ≡ most_asked ys
+most_without xs ys x most pushed none was = omega (arith, ap most_asked pushed, most_pushed xs x, asks_none x none, was)
+  where
+    asks_none : (x : Entry) → ((n : ℕ) → x ≡ Grow n → ⊥) → count_asked x ≡ 0
+    asks_none (Add u v) none = refl
+    asks_none (Remove u v) none = refl
+    asks_none (Grow n) none = absurd (none n refl)
 
 -- no entry asks for more than the most
 pub asked_most : (xs : List Entry) (n k : ℕ) → k < length xs → slice_index_or xs k (Grow n) ≡ Grow n → n ≤ most_asked xs

@@ -11,3 +11,4 @@ pub mod Neighbourhoods
 pub mod Crossing
 pub mod BlocksOf
 pub mod Walking
+pub mod Lacking

@@ -1,14 +1,12 @@
 -- The vertices of blocks and their lists.
-use Rattle.std.proofs.Common.{◌≡◌, ◌≢◌, ℕ, ◌+◌, ◌*◌, ◌/◌, ◌%◌, ◌<◌, ◌≤◌, inl, inr, Option, Some, None, List, [], ◌∷◌, ◌++◌, length, refl, sym, ◌∙◌, subst, arith}
+use Rattle.std.proofs.Common.{◌≡◌, ℕ, ◌+◌, ◌<◌, inl, inr, Option, Some, None, List, [], ◌∷◌, ◌++◌, length, refl, subst, arith}
 use Rattle.std.proofs.lemmas.Bool.{cases_eq, ne_eqb, eq-eqb}
 use Rattle.shared_tree.specs.Entries as entries
 use Rattle.shared_tree.specs.Entries.{lookup}
 use Rattle.shared_tree.proofs.Order.{lookup_below}
 use Rattle.pages.specs.Lists.{AscendsFrom}
-use Rattle.pages.specs.Vertices.{Rises, neighbours_of}
-use Rattle.pages.proofs.Ranks.{none_below}
-use Rattle.pages.proofs.Order.{rises_from, rises_append}
-use Rattle.vertex_blocks.specs.Blocks.{Block, IsBlock, AreNeighbourLists, vertices_at, numbered, lists_of, AreBlocks}
+use Rattle.pages.specs.Vertices.{neighbours_of}
+use Rattle.vertex_blocks.specs.Blocks.{Block, IsBlock, AreNeighbourLists, numbered, lists_of, AreBlocks}
 
 -- their lists are lists of neighbours
 numbered_lists : (k : ℕ) (es : Block) (rest : List (ℕ × List ℕ)) → AreNeighbourLists es → AreNeighbourLists rest → AreNeighbourLists (numbered k es ++ rest)

@@ -14,7 +14,7 @@ use Rattle.vertex_blocks.specs.Changes.{BlockChange, IsBlockAfter}
 use Rattle.tree_batch.specs.declared.batch.Entry.{Entry}
 use Rattle.tree_batch.specs.Edge.{Edge, IsAscending}
 use Rattle.tree_batch.specs.Entry.{decision, vertices_after, misfits, AreEdgesAfter}
-use Rattle.tree_batch.specs.Digraph.{Digraph, digraph, graph_after, is_chunk_size}
+use Rattle.tree_batch.specs.Digraph.{Digraph, digraph, IsDigraph, graph_after, is_chunk_size}
 use Rattle.tree_batch.specs.Neighbours.{has_number, edges_of, has_neighbour, sources_of}
 use Rattle.tree_batch.specs.VertexBlocks.{AreGraphBlocks, IsGraph}
 use Rattle.tree_batch.specs.BlockCuts.{block_decided}
@@ -112,16 +112,16 @@ module _ (n count : ℕ) (out into : List (ℕ × Block)) (ok : IsGraph n count 
     }
 
     -- the new edges are those after the batch
-    pub graph_is_after : digraph (vertices_after n batch) (edges_of (lists_of out')) ≡ graph_after old batch
-    graph_is_after = ap (λ es. digraph (vertices_after n batch) es) (edges_after_are old batch (edges_of (lists_of out')) ok.graph inside edges_after)
+    pub graph_is_after : (m : ℕ) → m ≡ vertices_after n batch → digraph m (edges_of (lists_of out')) ≡ graph_after old batch
+    graph_is_after m grown = λ i. digraph (grown i) (edges_after_are old batch (edges_of (lists_of out')) ok.graph inside edges_after i)
 
     few : length (edges_of (lists_of out')) ≤ 2 ^ 56
     few = omega (arith, rises_room 0 (2 ^ 24 * 2 ^ 32) (edges_of (lists_of out')) (rises_edges 0 (2 ^ 24) (lists_of out') (graph_rises out' out_ok) (neighbour_lists out' out_ok.blocks)))
 
     -- the new graph is one
-    pub graph_made : (new_count : ℕ) → new_count ≡ (count + outs.growth) % 2 ^ 64 → IsGraph (vertices_after n batch) new_count out' into'
-    graph_made new_count is = record {
-      graph = digraph_after old batch (edges_of (lists_of out')) ok.graph inside edges_after;
+    pub graph_made : (m new_count : ℕ) → m ≡ vertices_after n batch → new_count ≡ (count + outs.growth) % 2 ^ 64 → IsGraph m new_count out' into'
+    graph_made m new_count grown is = record {
+      graph = subst (λ k. IsDigraph (digraph k (edges_of (lists_of out')))) (sym grown) (digraph_after old batch (edges_of (lists_of out')) ok.graph inside edges_after);
       out = out_ok;
       into = blocks_changed turned into ins ok.into into_made;
       converse = λ u v. into_members (v, u) ∙ ap (λ h. unwrap_or (decided us (u, v)) h) (ok.converse u v) ∙ sym (out_members (u, v));

@@ -1,7 +1,7 @@
 -- What the entries of a batch say of vertices and of edges.
 use Rattle.std.specs.Prelude.{◌≡◌, ℕ, nat_le, nat_lt, max, Bool, true, false, ◌||◌, Option, Some, None, MatchOption, unwrap_or, if◌then◌else◌, List, [], ◌∷◌}
 use Rattle.std.specs.Option.{option_or}
-use Rattle.std.specs.List.{list_any, All}
+use Rattle.std.specs.List.{list_any}
 use Rattle.edge_updates.specs.declared.edge_update.EdgeUpdate.{EdgeUpdate}
 use Rattle.edge_updates.specs.EdgeUpdate.{vertex_of, neighbour_of, adds}
 use Rattle.tree_batch.specs.declared.batch.Entry.{Entry}

@@ -49,21 +49,19 @@ impl Entry {
 pub struct Batch {
     entries: Vec<Entry>,
     /// The most vertices that an entry asks for, or 0.
-    most_asked: u32,
+    asked: u32,
 }
 
 impl Model for Batch {
-    ghost use Rattle.std.specs.Prelude.{List};
+    ghost use Rattle.std.specs.Prelude.{◌≡◌, List};
     ghost use Rattle.tree_batch.specs.declared.batch.Entry.{Entry};
+    ghost use Rattle.tree_batch.specs.Entry.{most_asked};
 
     ghost Value = { List Entry };
 
-    ghost use Rattle.std.specs.Prelude.{◌≡◌};
-    ghost use Rattle.tree_batch.specs.Entry.{most_asked};
-
     ghost view = { λ b. b.entries.items };
 
-    ghost invariant = { λ b. b.most_asked ≡ most_asked b.entries.items };
+    ghost invariant = { λ b. b.asked ≡ most_asked b.entries.items };
 }
 
 impl Clone for Batch {
@@ -73,7 +71,7 @@ impl Clone for Batch {
     fn clone(&self) -> Result<Batch, AllocError> {
         Ok(Batch {
             entries: Vec::from_slice(*self.entries.allocator(), &self.entries)?,
-            most_asked: self.most_asked,
+            asked: self.asked,
         })
     }
 }
@@ -85,7 +83,7 @@ impl Batch {
     {
         Batch {
             entries: Vec::new(alloc),
-            most_asked: 0,
+            asked: 0,
         }
     }
 
@@ -97,7 +95,7 @@ impl Batch {
     {
         self.entries.push(entry)?;
         if let Entry::Grow(vertices) = entry {
-            self.most_asked = self.most_asked.max(vertices);
+            self.asked = self.asked.max(vertices);
         }
         Ok(())
     }
@@ -113,7 +111,7 @@ impl Batch {
     pub fn vertices_after(&self, vertices: u32) -> u32
         ensures { result ≡ vertices_after vertices self.now }
     {
-        vertices.max(self.most_asked)
+        vertices.max(self.asked)
     }
 
     /// Whether a graph with this many vertices refuses the batch: an entry names a vertex that the graph

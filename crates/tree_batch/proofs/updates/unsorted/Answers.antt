@@ -1,18 +1,25 @@
-use Rattle.std.proofs.Common.{rules}
+use Rattle.std.proofs.Common.{Some, None, vec_len, vec_capacity, sym, ap, ◌∙◌, arith}
+use Rattle.std.proofs.lemmas.List.{append-nil}
 use Rattle.tree_batch.proofs.Decided.{decided_more}
-use Rattle.tree_batch.proofs.Deciding.{named_within}
+use Rattle.tree_batch.proofs.updates.unsorted.Goals.{in-Some, in_default}
 use Rattle.tree_batch.proofs.updates.unsorted.Goals as goal
-
-pub update-requires : goal.update-requires
-update-requires c = named_within 16777216 c.args.entries.now c.loop-entry.entry-index _ c.loop-entry-test.true c.requires
 
 pub loop-entry-preserved : goal.loop-entry-preserved
 loop-entry-preserved c =
-    let says = c.update.ensures in
-    let same = decided_more c.args.entries.now c.loop-entry.entry-index _ c.loop-entry.updates.items c.update.result c.loop-entry-test.true
-    (record { source = says.source; destination = says.destination; is_added = says.is_added }) c.loop-entry.invariant.same in
-    record {
-      same = rw c.push_reserved.ensures.items same;
-      len = search rules;
-      room = search rules;
-    }
+    let entries = c.args.entries.now in
+    let index = c.loop-entry.entry-index in
+    let before = c.loop-entry.updates in
+    let after = c.match-update.updates in
+    let known = c.loop-entry.invariant in
+    elim c.match-update.branch [
+      | in-Some w ↦ record {
+        same = decided_more entries index _ before.items after.items (Some w.in-Some.update) c.loop-entry-test.true w.in-Some.ensures (ap (λ v. v.items) w.updates-is ∙ w.push_reserved.ensures.items) known.same;
+        len = omega (arith, ap (λ v. vec_len v) w.updates-is, w.push_reserved.ensures.len, known.len);
+        room = omega (arith, ap (λ v. vec_capacity v) w.updates-is, w.push_reserved.ensures.capacity, known.room);
+      }
+      | in_default w ↦ record {
+        same = decided_more entries index _ before.items after.items None c.loop-entry-test.true w.in_default.ensures (ap (λ v. v.items) w.updates-is ∙ sym (append-nil before.items)) known.same;
+        len = omega (arith, ap (λ v. vec_len v) w.updates-is, known.len);
+        room = omega (arith, ap (λ v. vec_capacity v) w.updates-is, known.room);
+      }
+    ]

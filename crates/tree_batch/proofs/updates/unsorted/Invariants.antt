@@ -8,6 +8,6 @@ use Rattle.tree_batch.proofs.updates.unsorted.Given as goal
 abbrev pub invariant-loop-entry : goal.invariant-loop-entry
 invariant-loop-entry l = record {
   same : (e : Edge) → decided l.updates.items e ≡ decision (take l.entry-index l.entries) e;
-  len : vec_len l.updates ≡ l.entry-index;
+  len : vec_len l.updates ≤ l.entry-index;
   room : length l.entries ≤ vec_capacity l.updates;
 }
