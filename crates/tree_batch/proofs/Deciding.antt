@@ -69,6 +69,7 @@ all_within n m (x ∷ xs) fit =
 
 -- they are within what a batch that fits makes of a graph
 pub batch_within : (n : ℕ) (xs : List Entry) → misfits n xs ≡ false → All (NamesWithin (vertices_after n xs)) xs
+unfolding misfits
 batch_within n xs fit = all_within n (vertices_after n xs) xs fit
 
 within_more : (n m : ℕ) (x : Entry) → n ≤ m → NamesWithin n x → NamesWithin m x
@@ -89,6 +90,7 @@ most_few n m (x ∷ xs) fit =
 
 -- after a batch that fits a graph has as many vertices as a graph may have
 pub count_after : (n : ℕ) (xs : List Entry) → is_vertex_count n ≡ true → misfits n xs ≡ false → is_vertex_count (vertices_after n xs) ≡ true
+unfolding misfits
 count_after n xs count fit =
     let parts = and_parts (leb 1 n) (leb n 16777216) count in
     let some : 1 ≤ vertices_after n xs = omega (arith, leb-true 1 n parts.0) in
@@ -97,6 +99,7 @@ count_after n xs count fit =
 
 -- entries that fit a graph name edges that some graph has
 pub all_inside : (n : ℕ) (xs : List Entry) → n ≤ 16777216 → misfits n xs ≡ false → All (NamesWithin 16777216) xs
+unfolding misfits
 all_inside n xs le fit k d lt =
     let few : vertices_after n xs ≤ 16777216 = omega (arith, most_few n (vertices_after n xs) xs fit) in
     within_more (vertices_after n xs) 16777216 _ few (batch_within n xs fit k d lt)

@@ -42,7 +42,7 @@ entry_misfits n m (Remove u v) = nat_le m u || nat_le m v
 entry_misfits n m (Grow k) = nat_lt k n || nat_lt 16777216 k
 
 -- whether an entry of a batch does not fit a graph of n vertices
-abbrev pub misfits : ℕ → List Entry → Bool
+unfoldable pub misfits : ℕ → List Entry → Bool
 misfits n batch = list_any (entry_misfits n (vertices_after n batch)) batch
 
 -- whether it is this edge

@@ -9,7 +9,7 @@ use tree_batch::GraphError;
 /// Why a step was refused, or versions were not opened.
 #[derive(Clone, Copy, Debug, PartialEq, Eq, Error)]
 pub enum VersionError {
-    #[error("a graph has 1 to 16777216 vertices, and an entry names two of them")]
+    #[error("a graph has 1 to 16777216 vertices and no fewer than before, and an entry names two of them")]
     VertexRange,
     #[error("a chunk size is a power of two from 1 to 256")]
     BadChunkSize,
