@@ -90,7 +90,9 @@ fn grow(mut words: Words<'_>) -> Option<Command>
     ensures { result ≡ grow_of words.entry }
 {
     let count = words.take_short_number()?;
-    words.is_empty().then_some(Command::Grow { vertices: count })
+    words
+        .is_empty()
+        .then_some(Command::Grow { vertices: count })
 }
 
 /// No word may follow `commit`.
