@@ -60,8 +60,11 @@ impl RandomBatches {
         let count = batches.min(COMMITS) * CHANGES;
         let mut there = vec![in alloc; false; (VERTICES * VERTICES) as usize]?;
         for entry in self.entries.iter().take(count) {
-            let (from, to) = entry.edge();
-            if let Some(place) = there.get_mut(from as usize * VERTICES as usize + to as usize) {
+            if let Some((from, to)) = entry.edge()
+                && let Some(place) = there.get_mut(
+                    from as usize * VERTICES as usize + to as usize,
+                )
+            {
                 *place = matches!(entry, Entry::Add(_, _));
             }
         }

@@ -49,6 +49,7 @@ changed : (programs : List ProgramTree) (lines : List (List ℕ)) → Leaves pro
 changed programs lines leaves None o bs e = absurd (none≢some bs e)
 changed programs lines leaves (Some (command.Add source destination)) o bs e = leaves (joined o (entry.Add source destination)).state bs e
 changed programs lines leaves (Some (command.Remove source destination)) o bs e = leaves (joined o (entry.Remove source destination)).state bs e
+changed programs lines leaves (Some (command.Grow vertices)) o bs e = leaves (joined o (entry.Grow vertices)).state bs e
 changed programs lines leaves (Some command.Commit) o bs e = committed programs lines leaves o bs (batches_in [] lines) refl e
 changed programs lines leaves (Some (command.Vertices n b)) o bs e = absurd (none≢some bs e)
 changed programs lines leaves (Some (command.Hold version)) o bs e = absurd (none≢some bs e)
@@ -92,6 +93,7 @@ first_line programs lines None o e may = absurd (none≢some o e)
 first_line programs lines (Some (command.Vertices n b)) o e may = opened_by programs lines n b o (batches_in [] lines) refl e may
 first_line programs lines (Some (command.Add source destination)) o e may = absurd (none≢some o e)
 first_line programs lines (Some (command.Remove source destination)) o e may = absurd (none≢some o e)
+first_line programs lines (Some (command.Grow vertices)) o e may = absurd (none≢some o e)
 first_line programs lines (Some command.Commit) o e may = absurd (none≢some o e)
 first_line programs lines (Some (command.Hold version)) o e may = absurd (none≢some o e)
 first_line programs lines (Some (command.Release ticket)) o e may = absurd (none≢some o e)

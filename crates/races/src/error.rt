@@ -13,7 +13,7 @@ use thiserror::Error;
 /// Why a text was not read as the script of a race.
 #[derive(Clone, Copy, Debug, PartialEq, Eq, Error)]
 pub enum RaceScriptError {
-    #[error("a race is `vertices`, and then only `add`, `del` and `commit`")]
+    #[error("a race is `vertices`, and then only `add`, `del`, `grow` and `commit`")]
     NoRace,
     #[error("out of memory")]
     NoMemory,

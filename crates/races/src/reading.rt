@@ -23,8 +23,8 @@ pub struct RaceScript {
     pub batches: Vec<Batch>,
 }
 
-/// Reads a text as the script of a race. Its lines are those of scripts: first `vertices`, and then only `add`, `del` and
-/// `commit`. Empty lines are passed over, and what stands after the last `commit` is in no batch. The numbers are not looked at.
+/// Reads a text as the script of a race. Its lines are those of scripts: first `vertices`, and then only `add`, `del`,
+/// `grow` and `commit`. Empty lines are passed over, and what stands after the last `commit` is in no batch. The numbers are not looked at.
 ///
 /// Errors: `NoRace` for any other text, else `NoMemory`.
 pub fn race_script(alloc: Global, text: &[u8]) -> Result<RaceScript, RaceScriptError>
@@ -125,6 +125,7 @@ impl Committed {
                     destination,
                 },
             ) => self.push(Entry::Remove(source, destination)),
+            Some(Command::Grow { vertices }) => self.push(Entry::Grow(vertices)),
             Some(Command::Commit) => self.commit(alloc),
             _ => Err(RaceScriptError::NoRace),
         }

@@ -69,7 +69,7 @@ const SCRIPT_HELP: &str =
 const RACE_ABOUT: &str = "Runs programs while a script's batches are committed";
 
 const RACE_HELP: &str =
-    "The script is `vertices`, and then only `add`, `del` and `commit`. Each PROGRAM runs on the version that is the newest when it \
+    "The script is `vertices`, and then only `add`, `del`, `grow` and `commit`. Each PROGRAM runs on the version that is the newest when it \
     begins, and again once all batches are committed.\n\
     Example: gsnap race examples/race.script examples/reachability.program";
 

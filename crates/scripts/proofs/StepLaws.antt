@@ -1,9 +1,13 @@
 -- Steps on the versions of an open graph.
-use Rattle.std.proofs.Common.{◌≡◌, ℕ, Bool, None, is_some, if◌then◌else◌, ap, sym, ◌∙◌}
+use Rattle.std.proofs.Common.{◌≡◌, ℕ, Bool, None, Err, is_some, if◌then◌else◌, ap, sym, ◌∙◌}
+use Rattle.version_list.specs.declared.error.VersionError.{VersionError}
+use Rattle.version_list.specs.declared.error.VersionError.TheVariants as refusal
+use Rattle.version_list.specs.declared.step.Step.{Step}
 use Rattle.version_list.specs.declared.step.Step.TheVariants as step
 use Rattle.version_list.specs.declared.step.Reply.{Reply}
 use Rattle.version_list.specs.declared.step.Reply.TheVariants as reply
 use Rattle.version_list.specs.Machine.{changed, reply_to, ticket_version}
+use Rattle.version_list.specs.Timeline.{Answers, Timeline}
 use Rattle.version_list.proofs.Holding.{is_open_is}
 use Rattle.replies.specs.declared.line_reply.LineReply.TheVariants as line_reply
 use Rattle.scripts.specs.Replies.{OpenState, stepping, step_line}
@@ -17,3 +21,12 @@ not_held o number none =
       state = sym (ap (λ (r : Reply). record o { versions = changed o.versions (step.Release number) r }) refused);
       text = sym (ap (step_line (step.Release number)) refused);
     }
+
+-- a step that is refused, or lacks memory, changes nothing
+pub unchanged : {A : Type 0} (old new : Timeline) (asked : Step) (told : A → Reply) (e : VersionError) → Answers old asked told (Err e) new → new ≡ old
+unchanged old new asked told refusal.NoMemory is = is.1
+unchanged old new asked told refusal.VertexRange is = is.unchanged
+unchanged old new asked told refusal.BadChunkSize is = is.unchanged
+unchanged old new asked told refusal.NotKept is = is.unchanged
+unchanged old new asked told refusal.NotHeld is = is.unchanged
+unchanged old new asked told refusal.HistoryFull is = is.unchanged

@@ -3,7 +3,7 @@ use Rattle.std.specs.Prelude.{ℕ, ◌^◌, Bool, List, [], ◌∷◌, Option, S
 use Rattle.std.specs.Option.{option_and_then, option_map}
 use Rattle.std.specs.Str.{bytes_eq}
 use Rattle.scripts.specs.declared.commands.Command.{Command}
-use Rattle.scripts.specs.declared.commands.Command.TheVariants.{Vertices, Add, Remove, Commit, Hold, Release, Edges, EdgesOf, Run}
+use Rattle.scripts.specs.declared.commands.Command.TheVariants.{Vertices, Add, Remove, Grow, Commit, Hold, Release, Edges, EdgesOf, Run}
 use Rattle.decimal.specs.Numbers.{number_of}
 use Rattle.scripts.specs.Pieces.{words_of}
 
@@ -27,6 +27,11 @@ vertices_of _ = None
 abbrev pub edge_of : (ℕ → ℕ → Command) → List (List ℕ) → Option Command
 edge_of make (source ∷ destination ∷ []) = with_numbers make source destination
 edge_of make _ = None
+
+-- "grow N"
+abbrev pub grow_of : List (List ℕ) → Option Command
+grow_of (vertices ∷ []) = option_map Grow (number_of (2 ^ 32) vertices)
+grow_of _ = None
 
 -- the number below 2 ^ 64 that one word is
 abbrev pub one_number : List (List ℕ) → Option ℕ
@@ -68,6 +73,7 @@ command_of_words (name ∷ words) =
     if name is codes "vertices" then vertices_of words else
     if name is codes "add" then edge_of Add words else
     if name is codes "del" then edge_of Remove words else
+    if name is codes "grow" then grow_of words else
     if name is codes "commit" then alone Commit words else
     if name is codes "hold" then hold_of words else
     if name is codes "release" then option_map Release (one_number words) else

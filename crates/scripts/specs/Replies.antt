@@ -126,6 +126,7 @@ abbrev pub on_open : List ProgramTree → OpenState → Command → Answer OpenS
 on_open programs o (command.Vertices n b) = refused o 801
 on_open programs o (command.Add source destination) = joined o (entry.Add source destination)
 on_open programs o (command.Remove source destination) = joined o (entry.Remove source destination)
+on_open programs o (command.Grow vertices) = joined o (entry.Grow vertices)
 on_open programs o command.Commit = stepping o (step.Commit o.pending) []
 on_open programs o (command.Hold version) = stepping o (step.Acquire (which_of version)) o.pending
 on_open programs o (command.Release ticket) = stepping o (step.Release ticket) o.pending

@@ -21,6 +21,10 @@ pub enum Command {
         source: u32,
         destination: u32,
     },
+    /// `grow N`: a number of vertices to grow to.
+    Grow {
+        vertices: u32,
+    },
     /// `commit`
     Commit,
     /// `hold` or `hold at K`: the newest version, or the one of this number, to hold by a ticket.

@@ -109,6 +109,7 @@ impl OpenGraph {
                 source,
                 destination,
             } => self.join(Entry::Remove(source, destination)),
+            Command::Grow { vertices } => self.join(Entry::Grow(vertices)),
             Command::Commit => {
                 let reply = self.commit(host.alloc)?;
                 replies.send_line(reply)

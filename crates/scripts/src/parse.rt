@@ -2,14 +2,14 @@
 ghost use Rattle.std.specs.Prelude.{◌≡◌, ◌∷◌};
 ghost use Rattle.std.specs.Option.{option_map};
 ghost use Rattle.scripts.specs.declared.commands.Command.TheVariants.{Add, Remove, Commit, Release};
-ghost use Rattle.scripts.specs.Commands.{command_of, command_of_words, vertices_of, edge_of, alone, hold_of, edges_of, run_of, ticket_of, one_number};
+ghost use Rattle.scripts.specs.Commands.{command_of, command_of_words, vertices_of, edge_of, grow_of, alone, hold_of, edges_of, run_of, ticket_of, one_number};
 ghost use Rattle.scripts.specs.Parsing.{two_numbers};
 
 use crate::commands::{Command, DEFAULT_CHUNK_SIZE};
 use crate::words::Words;
 
 /// The command of a line without its line feed, or `None` where the line is no command. The numbers
-/// of `vertices`, `add` and `del` are below 2^32, the others below 2^64. The line is a command as it
+/// of `vertices`, `add`, `del` and `grow` are below 2^32, the others below 2^64. The line is a command as it
 /// stands, byte for byte: a space more, a tab, a carriage return, a sign or another case makes it
 /// none, and so the empty line is none.
 pub fn command(line: &[u8]) -> Option<Command>
@@ -30,6 +30,8 @@ fn named(name: &[u8], words: Words<'_>) -> Option<Command>
         add(words)
     } else if name == b"del".as_slice() {
         remove(words)
+    } else if name == b"grow".as_slice() {
+        grow(words)
     } else if name == b"commit".as_slice() {
         commit(words)
     } else if name == b"hold".as_slice() {
@@ -81,6 +83,16 @@ fn remove(words: Words<'_>) -> Option<Command>
         source,
         destination,
     })
+}
+
+/// A number of vertices to grow to.
+fn grow(mut words: Words<'_>) -> Option<Command>
+    ensures { result ≡ grow_of words.entry }
+{
+    let count = words.take_short_number()?;
+    words
+        .is_empty()
+        .then_some(Command::Grow { vertices: count })
 }
 
 /// No word may follow `commit`.

@@ -10,7 +10,7 @@ use version_list::VersionError;
 /// Why a session was not opened, or a step was refused.
 #[derive(Clone, Copy, Debug, PartialEq, Eq, Error)]
 pub enum SessionError {
-    #[error("a graph has 1 to 16777216 vertices, and an entry names two of them")]
+    #[error("a graph has 1 to 16777216 vertices and no fewer than before, and an entry names two of them")]
     VertexRange,
     #[error("a chunk size is a power of two from 1 to 256")]
     BadChunkSize,

@@ -1,7 +1,9 @@
-//! Tests of sessions: jobs beside commits, whose places were worked out by hand, two jobs in every order of their first
-//! steps, and random steps beside a plain world.
+//! Tests of sessions: jobs beside commits and growth, whose places were worked out by hand, two jobs in every order of their
+//! first steps, and random steps beside a plain world.
 #![tactic(auto)]
 
+#[cfg(test)]
+mod growth;
 #[cfg(test)]
 mod interleavings;
 #[cfg(test)]

@@ -1,5 +1,5 @@
-//! The world of a session, as a plain program: a version is a table of pairs, and a job a count of steps that are done afresh
-//! each time.
+//! The world of a session, as a plain program: a version is a number of vertices and a table of pairs, and a job a count of
+//! steps that are done afresh each time.
 
 use crate::programs::VERTICES;
 use algorithm_meaning::Outcome;
@@ -13,6 +13,16 @@ use std::test::Fail;
 use tree_batch::{Batch, Entry, Graph};
 use version_list::{Reply, Which};
 
+/// The most vertices that a graph grows to.
+pub(crate) const MOST_VERTICES: u32 = 12;
+
+// A version: how many vertices it has, and which pairs are edges.
+#[derive(Drop)]
+struct PlainVersion {
+    vertices: u32,
+    table: Vec<bool>,
+}
+
 // A job: the place of its program, the number of its version, its turns, and how many steps were asked of it.
 #[derive(Clone, Copy)]
 struct PlainJob {
@@ -22,10 +32,10 @@ struct PlainJob {
     count: u32,
 }
 
-/// The tables of all versions, the versions that tickets hold, and the jobs.
+/// All versions, those that tickets hold, and the jobs.
 #[derive(Drop)]
 pub(crate) struct PlainWorld {
-    versions: Vec<Vec<bool>>,
+    versions: Vec<PlainVersion>,
     tickets: Vec<Option<usize>>,
     jobs: Vec<PlainJob>,
 }
@@ -36,21 +46,51 @@ const fn refused(number: u16) -> SessionReply {
 
 // Where a table tells of an edge.
 fn cell_of(source: u32, destination: u32) -> usize {
-    source.wrapping_mul(VERTICES).wrapping_add(destination) as usize
+    source.wrapping_mul(MOST_VERTICES).wrapping_add(destination) as usize
 }
 
-// The graph of a table.
-fn graph_of(alloc: Global, table: &[bool]) -> Result<Flat, Fail> {
+// The graph of a version, which never grew.
+fn graph_of(alloc: Global, version: &PlainVersion) -> Result<Flat, Fail> {
     let mut batch = Batch::new(alloc);
-    for source in 0..VERTICES {
-        for destination in 0..VERTICES {
-            if table.get(cell_of(source, destination)) == Some(&true) {
+    for source in 0..version.vertices {
+        for destination in 0..version.vertices {
+            if version.table.get(cell_of(source, destination)) == Some(&true) {
                 batch.push(Entry::Add(source, destination))?;
             }
         }
     }
-    let graph = Graph::new(VERTICES, 64)?.apply(alloc, &batch)?;
+    let graph = Graph::new(version.vertices, 64)?.apply(alloc, &batch)?;
     Ok(Flat::of(alloc, &graph)?)
+}
+
+// How many vertices there are after entries.
+fn vertices_after(before: u32, entries: &[Entry]) -> u32 {
+    let mut after = before;
+    for entry in entries {
+        if let Entry::Grow(vertices) = *entry {
+            after = after.max(vertices);
+        }
+    }
+    after
+}
+
+// Whether an entry may be one of those by which so many vertices become so many.
+fn fits(entry: Entry, before: u32, after: u32) -> bool {
+    match entry {
+        Entry::Add(source, destination) | Entry::Remove(source, destination) => {
+            source < after && destination < after
+        }
+        Entry::Grow(vertices) => vertices >= before,
+    }
+}
+
+// Notes an entry in a table.
+fn note(table: &mut [bool], entry: Entry) {
+    if let Some((source, destination)) = entry.edge()
+        && let Some(cell) = table.get_mut(cell_of(source, destination))
+    {
+        *cell = entry == Entry::Add(source, destination);
+    }
 }
 
 // The place of what has this number, which counts from 1.
@@ -61,9 +101,12 @@ fn place_of(number: u64) -> Option<usize> {
 impl PlainWorld {
     /// Version 0, with no edge, and no job.
     pub(crate) fn new(alloc: Global) -> Result<PlainWorld, AllocError> {
-        let cells = VERTICES.wrapping_mul(VERTICES) as usize;
+        let cells = MOST_VERTICES.wrapping_mul(MOST_VERTICES) as usize;
         let mut versions = Vec::new(alloc);
-        versions.push(vec![in alloc; false; cells]?)?;
+        versions.push(PlainVersion {
+            vertices: VERTICES,
+            table: vec![in alloc; false; cells]?,
+        })?;
         Ok(PlainWorld {
             versions,
             tickets: Vec::new(alloc),
@@ -105,17 +148,16 @@ impl PlainWorld {
         let Some(old) = self.versions.get(newest) else {
             return Ok(refused(801));
         };
-        let mut table = old.clone()?;
-        for entry in entries {
-            let (source, destination) = entry.edge();
-            if source >= VERTICES || destination >= VERTICES {
-                return Ok(refused(111));
-            }
-            if let Some(cell) = table.get_mut(cell_of(source, destination)) {
-                *cell = *entry == Entry::Add(source, destination);
-            }
+        let before = old.vertices;
+        let vertices = vertices_after(before, entries);
+        if !entries.iter().all(|entry| fits(*entry, before, vertices)) {
+            return Ok(refused(111));
         }
-        self.versions.push(table)?;
+        let mut table = old.table.clone()?;
+        for entry in entries {
+            note(&mut table, *entry);
+        }
+        self.versions.push(PlainVersion { vertices, table })?;
         Ok(SessionReply::Of(Reply::Version(self.newest() as u64)))
     }
 
@@ -198,11 +240,13 @@ impl PlainWorld {
         let Some(asked) = self.jobs.get(place) else {
             return Ok(None);
         };
-        let (Some(plan), Some(table)) = (plans.get(asked.program), self.versions.get(asked.version))
-        else {
+        let (Some(plan), Some(version)) = (
+            plans.get(asked.program),
+            self.versions.get(asked.version),
+        ) else {
             return Ok(None);
         };
-        let graph = Arc::new(alloc, graph_of(alloc, table)?).map_err(|_| AllocError)?;
+        let graph = Arc::new(alloc, graph_of(alloc, version)?).map_err(|_| AllocError)?;
         let mut job = Job::new(alloc, plan.clone()?, graph, asked.turns)?;
         let mut alone = Alone::new(alloc);
         let mut stand = Stand::Going;

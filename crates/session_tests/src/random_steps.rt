@@ -1,6 +1,6 @@
 //! Random steps, beside a plain world.
 
-use crate::plain_world::PlainWorld;
+use crate::plain_world::{MOST_VERTICES, PlainWorld};
 use crate::programs::{batch_of, plans, session};
 use algorithm_meaning::Outcome;
 use measuring::Random;
@@ -17,15 +17,19 @@ const LISTS: u64 = 40;
 
 const STEPS: u32 = 80;
 
-// A vertex; one in 43 is none.
+// A vertex; now and then it is one that there is only after growth.
 fn random_vertex(random: &mut Random) -> u32 {
-    (random.below(43) / 7) as u32
+    match random.below(16) {
+        0 => random.below(u64::from(MOST_VERTICES)) as u32,
+        _ => (random.below(43) / 7) as u32,
+    }
 }
 
 fn random_entry(random: &mut Random) -> Entry {
     let (source, destination) = (random_vertex(random), random_vertex(random));
-    match random.below(3) {
-        0 => Entry::Remove(source, destination),
+    match random.below(12) {
+        0 => Entry::Grow(random.below(u64::from(MOST_VERTICES) + 1) as u32),
+        1 | 2 | 3 => Entry::Remove(source, destination),
         _ => Entry::Add(source, destination),
     }
 }

@@ -5,6 +5,8 @@
 #![tactic(auto)]
 
 #[cfg(test)]
+mod growth;
+#[cfg(test)]
 mod rows;
 #[cfg(test)]
 mod trims;

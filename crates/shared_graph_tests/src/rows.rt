@@ -13,7 +13,7 @@ use tree_batch::{Batch, Entry};
 use version_list::Which;
 
 // How often a reader looks whether the last version has come.
-const MOST_READS: u32 = 1_000_000;
+pub(crate) const MOST_READS: u32 = 1_000_000;
 
 // Commits an empty batch, and answers its number or why it was refused.
 pub(crate) fn commit_nothing<J: Naming, W: Wait + Drop, R: Threads + Wait + Sync>(
@@ -42,7 +42,7 @@ pub(crate) fn add<J: Naming, W: Wait + Drop, R: Threads + Wait + Sync>(
 }
 
 // The newest version. Why there is none does not matter to a row.
-fn newest<J: Naming>(reader: &mut Reader<J>) -> Result<Snapshot, SharedError> {
+pub(crate) fn newest<J: Naming>(reader: &mut Reader<J>) -> Result<Snapshot, SharedError> {
     reader.latest().map_err(|_| SharedError::NoMemory)
 }
 
@@ -66,7 +66,7 @@ fn next<J: Naming>(readers: &mut Vec<Reader<J>>) -> Result<Reader<J>, SharedErro
 }
 
 // Why a release was refused; the held version is then left as it is.
-fn release<J: Naming, W: Wait + Drop, R: Wait>(
+pub(crate) fn release<J: Naming, W: Wait + Drop, R: Wait>(
     rt: &R,
     graph: &SharedGraph<J, W>,
     me: &mut Reader<J>,

@@ -2,6 +2,8 @@
 #![tactic(auto)]
 
 #[cfg(test)]
+mod growth;
+#[cfg(test)]
 mod paths;
 #[cfg(test)]
 mod runs;

@@ -17,7 +17,7 @@ use text_runs::{TextRunError, run_text_on_latest};
 use version_list::Which;
 
 // The most turns of a run.
-const TURNS: u64 = 9;
+pub(crate) const TURNS: u64 = 9;
 
 // How many versions a writer makes beside the runs of a reader.
 const COMMITS: u64 = 200;
@@ -56,7 +56,7 @@ fn searches_held<J: Naming, R: Threads + Sync>(
 }
 
 // Whether a release is accepted; else the version is left as it is.
-fn is_released<J: Naming, W: Wait + Drop, R: Wait>(
+pub(crate) fn is_released<J: Naming, W: Wait + Drop, R: Wait>(
     rt: &R,
     graph: &SharedGraph<J, W>,
     me: &mut Reader<J>,

@@ -110,12 +110,10 @@ fn random_entry(random: &mut Random) -> Entry {
 // Does the entries one after another.
 fn put_all(table: &mut [bool], entries: &[Entry]) {
     for entry in entries {
-        let ((source, destination), is_there) = match *entry {
-            Entry::Add(source, destination) => ((source, destination), true),
-            Entry::Remove(source, destination) => ((source, destination), false),
-        };
-        if let Some(cell) = table.get_mut(cell_of(source, destination)) {
-            *cell = is_there;
+        if let Some((source, destination)) = entry.edge()
+            && let Some(cell) = table.get_mut(cell_of(source, destination))
+        {
+            *cell = matches!(entry, Entry::Add(_, _));
         }
     }
 }

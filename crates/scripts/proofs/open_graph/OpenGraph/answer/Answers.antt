@@ -15,6 +15,11 @@ returns-in-Remove-clause-emits g c =
     let text = ap (λ (k : Command). (on_open (g.P.Programs.trees c.args.host.now.programs.now) c.args.self.now k).text) c.in-Remove.is in
     emits_as _ _ _ _ _ (emits_nothing _ c.join-in-Remove.result c.join-in-Remove.ensures.err) text
 
+pub returns-in-Grow-clause-emits : goal.returns-in-Grow-clause-emits
+returns-in-Grow-clause-emits g c =
+    let text = ap (λ (k : Command). (on_open (g.P.Programs.trees c.args.host.now.programs.now) c.args.self.now k).text) c.in-Grow.is in
+    emits_as _ _ _ _ _ (emits_nothing _ c.join-in-Grow.result c.join-in-Grow.ensures.err) text
+
 pub returns-in_err-reply-in-Commit-clause-emits : goal.returns-in_err-reply-in-Commit-clause-emits
 returns-in_err-reply-in-Commit-clause-emits g c = emits_none _ _ _ c.from_residual.ensures.1
 
