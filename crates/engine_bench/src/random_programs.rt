@@ -47,7 +47,7 @@ pub fn random_program(alloc: Global, random: &mut Random) -> io::Result<String> 
     add_function(&mut text, random, "f", &FIRST_READS, ("x", "y"))?;
     add_function(&mut text, random, "g", &SECOND_READS, ("z", "z"))?;
     let is_fused = random.below(4) == 0;
-    add_main(&mut text, random, is_fused)?;
+    add_main(alloc, &mut text, random, is_fused)?;
     add_schedule(&mut text, random, is_fused)?;
     Ok(text)
 }
@@ -124,8 +124,13 @@ fn add_ends(text: &mut String, random: &mut Random) -> io::Result<()> {
 }
 
 // Two applies that are fused have the same ends, and none of these is the set that the first one changes.
-fn add_main(text: &mut String, random: &mut Random, is_fused: bool) -> io::Result<()> {
-    let mut ends = String::new(text.allocator());
+fn add_main(
+    alloc: Global,
+    text: &mut String,
+    random: &mut Random,
+    is_fused: bool,
+) -> io::Result<()> {
+    let mut ends = String::new(alloc);
     add_ends(&mut ends, random)?;
     let set = if is_fused { "changed" } else { "t" };
     write!(
