@@ -3,7 +3,7 @@ use Rattle.std.proofs.lemmas.Int.{to_z-of_z}
 use Rattle.vectors.specs.Lanes.{lane_entry}
 use Rattle.vertex_marks.specs.Marks.{is_marked}
 use Rattle.edge_fold.proofs.Entries.{filled_new}
-use Rattle.edge_fold.proofs.old_entries.Accumulator.fill_at.Goals as goal
+use Rattle.edge_fold.proofs.accumulator.Accumulator.fill_at.Goals as goal
 
 pub returns : goal.returns
 returns c r v h =

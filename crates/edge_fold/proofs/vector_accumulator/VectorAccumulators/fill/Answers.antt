@@ -2,7 +2,7 @@ use Rattle.std.proofs.Common.{rules, ◌≤◌, ℕ, List, [], length, refl}
 use Rattle.edge_fold.specs.declared.vector_accumulator.VectorAccumulator.{VectorAccumulator}
 use Rattle.edge_fold.specs.FoldStarts.{start_of}
 use Rattle.edge_fold.proofs.JoinedSlots.{along, equal, joined_slot}
-use Rattle.edge_fold.proofs.old_entries.VectorAccumulators.fill.Goals as goal
+use Rattle.edge_fold.proofs.vector_accumulator.VectorAccumulators.fill.Goals as goal
 
 pub returns : goal.returns
 returns c x r own =
