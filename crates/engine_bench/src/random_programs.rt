@@ -28,7 +28,12 @@ const RELATIONS: [&str; 4] = ["<", "==", "!=", ">="];
 
 const ENDS: [&str; 4] = ["", "t", "some", "low"];
 
-const DIRECTIONS: [&str; 4] = ["SparsePush", "DensePush", "DensePull", "DensePull-SparsePush"];
+const DIRECTIONS: [&str; 4] = [
+    "SparsePush",
+    "DensePush",
+    "DensePull",
+    "DensePull-SparsePush",
+];
 
 const SHARES: [&str; 4] = [
     "serial",
@@ -67,7 +72,11 @@ fn add_function(
     (first, second): (&str, &str),
 ) -> io::Result<()> {
     let by = pick(random, &REDUCTIONS);
-    let other = if first == second { by } else { pick(random, &REDUCTIONS) };
+    let other = if first == second {
+        by
+    } else {
+        pick(random, &REDUCTIONS)
+    };
     let relation = pick(random, &RELATIONS);
     write!(text, "func {name}(s : Vertex, d : Vertex) ")?;
     let is_tested = random.below(3) == 0;

@@ -40,7 +40,9 @@ pub fn print_random_runs<T: Threads + Sync>(rt: &HostRuntime, threads: &T) -> io
     for (vertices, edges) in &GRAPHS {
         let sample = Sample::new(rt.alloc(), &mut random, *vertices, *edges)?;
         let count = compare_random(rt.alloc(), threads, &sample, &mut random)?;
-        println!(rt; "{vertices} vertices: {count} runs of random programs by workers as by the slow run")?;
+        println!(rt;
+            "{vertices} vertices: {count} runs of random programs by workers as by the slow run"
+        )?;
     }
     Ok(())
 }

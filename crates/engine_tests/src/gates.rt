@@ -70,7 +70,16 @@ fn is_told_first<R: Threads + AllocGlobal + Sync>(
 ) -> Result<bool, Fail> {
     let (alloc, told) = (rt.alloc(), Told(AtomicU64::new(0)));
     let (witness, mut states) = (Witness(&told), Vec::new(alloc));
-    let found = run_pieces(rt, alloc, PIECES, workers, share, &told, &witness, &mut states)?;
+    let found = run_pieces(
+        rt,
+        alloc,
+        PIECES,
+        workers,
+        share,
+        &told,
+        &witness,
+        &mut states,
+    )?;
     let most = workers as u64;
     let known = found.iter().all(|one| 1 <= one.out && one.out <= most);
     let own = states.iter().all(|state| *state <= most);
