@@ -1,5 +1,4 @@
 //! Of what a gate is told, and when: before a piece begins, by the worker that does it.
-ghost use Rattle.std.specs.Prelude.{Unit};
 
 use crate::rows::graph_of;
 use crew::{Gate, PieceAssignment, Work, run_pieces};
