@@ -1,5 +1,5 @@
 -- The changes of ranges of vertices, one range after the other.
-use Rattle.std.proofs.Common.{◌≡◌, ◌⊎◌, inl, inr, ℕ, zero, suc, ◌+◌, ◌-◌, ◌<◌, ◌≤◌, ◌&&◌, ℤ, Bool, true, false, cond, nat_le, nat_lt, List, [], ◌∷◌, ◌++◌, length, drop, get_or, slice_index_or, refl, sym, ap, ◌∙◌, arith}
+use Rattle.std.proofs.Common.{◌≡◌, ◌⊎◌, inl, inr, ℕ, zero, suc, ◌+◌, ◌-◌, ◌<◌, ◌≤◌, ℤ, Bool, true, false, cond, List, [], ◌∷◌, ◌++◌, length, drop, get_or, slice_index_or, refl, sym, ap, ◌∙◌, arith}
 use Rattle.std.proofs.lemmas.Bool.Decides.{nat_tests}
 use Rattle.std.proofs.lemmas.List.{append-nil, drop-drop, get_or-drop}
 use Rattle.std.specs.List.{filter, flat_map, range_with_len}
@@ -14,6 +14,7 @@ use Rattle.crew.specs.Partition.{AreEnds, end_of}
 use Rattle.edge_fold.specs.Changed.{change_at, changed, changed_from}
 use Rattle.edge_fold.specs.Gathered.{is_between}
 use Rattle.edge_fold.specs.Given.{all_given, given_on, reduced_at}
+use Rattle.edge_fold.proofs.Ascending.{within_test}
 use Rattle.edge_fold.proofs.ChangedRows.{changed_from-append, nothing_changed}
 use Rattle.edge_fold.proofs.Meaning.{entries_after}
 use Rattle.edge_apply.proofs.Listed.{filter_all, last_end}
@@ -61,9 +62,6 @@ changed_alike old a b v (suc n) same =
 
 outside_test : (low high v : ℕ) → (v < low) ⊎ (high ≤ v) → is_between low high v ≡ false
 outside_test low high v out = grind (arith, nat_tests)
-
-within_test : (low high v : ℕ) → low ≤ v → v < high → is_between low high v ≡ true
-within_test low high v l k = grind (arith, nat_tests)
 
 three_ranges : (old new : ℕ → ℤ) (low high n : ℕ) → low ≤ high → high ≤ n
     → changed_from old new 0 n ≡ changed_from old new 0 low ++ (changed_from old new low (high - low) ++ changed_from old new high (n - high))

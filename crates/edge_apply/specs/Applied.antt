@@ -1,5 +1,5 @@
 -- What an apply of edge functions changes.
-use Rattle.std.specs.Prelude.{◌≡◌, ℕ, ◌≤◌, ℤ, Bool, List, [], length, slice_index_or}
+use Rattle.std.specs.Prelude.{◌≡◌, ℕ, ◌≤◌, Bool, List, [], length, slice_index_or}
 use Rattle.apply_options.specs.declared.reduction.Reduction.{Reduction}
 use Rattle.kernels.specs.StepTree.{StepsTree}
 use Rattle.kernels.specs.EdgeApply.{after_edges}
@@ -7,7 +7,6 @@ use Rattle.kernels.specs.Laws.{IsGivenBy}
 use Rattle.kernels.specs.State.{StateValue}
 use Rattle.kernels.specs.Value.{entry}
 use Rattle.kernels.specs.Cells.{HasSizes}
-use Rattle.flat_snapshot.specs.Digraph.{Digraph}
 use Rattle.vectors.specs.declared.changes.VectorChanges.{VectorChanges}
 use Rattle.edge_fold.specs.Between.{edges_between}
 use Rattle.edge_fold.specs.Changed.{changed, changes_of}

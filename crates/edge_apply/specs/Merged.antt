@@ -1,5 +1,5 @@
 -- What is put together of the pieces of an apply, range by range.
-use Rattle.std.specs.Prelude.{◌≡◌, ℕ, ◌-◌, ◌≤◌, ℤ, List, [], ◌∷◌, ◌++◌, length, slice_index_or}
+use Rattle.std.specs.Prelude.{◌≡◌, ℕ, ◌-◌, ◌≤◌, List, [], ◌∷◌, ◌++◌, length, slice_index_or}
 use Rattle.std.specs.List.{flat_map}
 use Rattle.apply_options.specs.declared.reduction.Reduction.{Reduction}
 use Rattle.kernels.specs.StepTree.{StepsTree}
@@ -13,7 +13,7 @@ use Rattle.crew.specs.Partition.{end_of}
 use Rattle.crew.specs.Pieces.{pieces_of}
 use Rattle.vectors.specs.declared.changes.Changes.{Changes}
 use Rattle.vectors.specs.declared.changes.EntryChange.{EntryChange}
-use Rattle.edge_fold.specs.Changed.{AreApart, changed_from, changes_of}
+use Rattle.edge_fold.specs.Changed.{changed_from, changes_of}
 use Rattle.edge_fold.specs.Folded.{AreKernels}
 use Rattle.edge_apply.specs.Pieces.{EachAscending, EachGathered}
 use Rattle.edge_apply.specs.declared.range_merge.RangeMerge.{RangeMerge}

@@ -7,13 +7,33 @@ ghost use Rattle.kernels.specs.Cells.{HasSizes};
 ghost use Rattle.edge_fold.specs.Ends.{IsTest};
 
 use crate::vertices::number_between;
-use edge_fold::{ApplyContext, Scratch};
+use edge_fold::{ApplyContext, Scratch, compared_set};
 use kernels::EndpointFilter;
 use std::alloc::{AllocError, Global};
 use vertex_sets::{Form, VertexSet};
 
-/// The vertices that an end lets through, as bits. Each vertex is tested once. The only error is out of memory.
+/// The vertices that an end lets through, as bits. Each vertex is tested once, in one loop where a filter compares the
+/// entries of a vector with a constant. The only error is out of memory.
 pub fn passing_set(
+    alloc: Global,
+    context: ApplyContext<'_>,
+    end: EndpointFilter<'_>,
+    scratch: &mut Scratch,
+) -> Result<VertexSet, AllocError>
+    ensures form { IfOk result (λ s. s.form ≡ Form.Bits) }
+    ensures members { IfOk result (λ s. (m : StateValue) (test : ℕ → Bool) → context.entry.vectors.now.vectors ≡ m.vectors → HasSizes context.entry.sizes.now m → IsTest end.entry m test
+        → (v : ℕ) → v < context.entry.vertices → is_member v s.members ≡ test v) }
+{
+    if let EndpointFilter::Filter(kernel) = end {
+        if let Some(set) = compared_set(alloc, context, kernel)? {
+            return Ok(set);
+        }
+    }
+    tested_set(alloc, context, end, scratch)
+}
+
+/// The same of any end, 128 vertices at a time.
+fn tested_set(
     alloc: Global,
     context: ApplyContext<'_>,
     end: EndpointFilter<'_>,

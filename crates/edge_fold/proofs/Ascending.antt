@@ -69,7 +69,7 @@ skipped r v h (c ∷ cs) other =
 inside_test : (low high v : ℕ) → is_between low high v ≡ true → (low ≤ v) × (v < high)
 inside_test low high v is = (grind (arith, nat_tests), grind (arith, nat_tests))
 
-within_test : (low high k : ℕ) → low ≤ k → k < high → is_between low high k ≡ true
+pub within_test : (low high k : ℕ) → low ≤ k → k < high → is_between low high k ≡ true
 within_test low high k l b = grind (arith, nat_tests)
 
 -- those of a range stand between those before it and those after it

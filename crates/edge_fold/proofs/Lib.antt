@@ -12,3 +12,4 @@ pub mod Meaning
 pub mod Orders
 pub mod Walks
 pub mod Ascending
+pub mod Answered

@@ -154,7 +154,7 @@ impl Accumulator {
             → ((v : ℕ) → v < vertices → ¬ Contains kept.now v → new v ≡ h)
             → IfOk result (λ cs. (v : ℕ) → v < vertices → reduced_at r v h (numbers_of cs.items) ≡ new v) }
     {
-        let mut numbers = Vec::new(alloc);
+        let mut numbers = Vec::with_capacity(alloc, kept.len())?;
         let mut next = 0u32;
         'kept: for vertex in kept {
             if *vertex < next || vertices <= *vertex {

@@ -30,7 +30,7 @@ impl VectorAccumulators {
 
     /// The place of a vector's slot. One that is new has this reduction, and no entry yet. The only error is out of
     /// memory, after which the entries are as they were.
-    fn place(
+    pub(crate) fn place(
         &mut self,
         alloc: Global,
         vector: usize,

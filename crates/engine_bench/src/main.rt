@@ -15,8 +15,10 @@ mod kernels_of;
 mod pair_loops;
 mod piece_applies;
 mod plan_runs;
+mod random_programs;
 mod samples;
 mod vertex_set_runs;
+mod worker_runs;
 
 use measuring::{is_printed, status_of, words_of};
 use std::io;
@@ -25,7 +27,7 @@ use std::process::ExitCode;
 use std::thread::Threads;
 
 const USAGE: &str =
-    "engine_bench [--time flats|vertices|kernels|crew|applies|runs | --check crew|applies|runs]";
+    "engine_bench [--time flats|vertices|kernels|crew|applies|runs | --check crew|applies|runs|workers|random]";
 
 fn main(rt: HostRuntime) -> io::Result<ExitCode> {
     let words = words_of(&rt)?;
@@ -42,7 +44,7 @@ fn print<T: Threads + Sync>(
     subject: &str,
 ) -> io::Result<bool> {
     match option {
-        "" => is_printed(print_agreement(rt)),
+        "" => is_printed(print_agreement(rt, threads)),
         "--check" => print_check(rt, threads, subject),
         "--time" => is_printed(print_times(rt, threads, subject)),
         _ => Ok(false),
@@ -50,9 +52,10 @@ fn print<T: Threads + Sync>(
 }
 
 // Prints how many edge applies and how many runs of programs agree with the slow run.
-fn print_agreement(rt: &HostRuntime) -> io::Result<()> {
+fn print_agreement<T: Threads + Sync>(rt: &HostRuntime, threads: &T) -> io::Result<()> {
     applies::print_agreement(rt)?;
-    plan_runs::print_agreement(rt)
+    plan_runs::print_agreement(rt)?;
+    worker_runs::print_random_runs(rt, threads)
 }
 
 // Prints what comes of a check.
@@ -65,6 +68,8 @@ fn print_check<T: Threads + Sync>(
         "applies" => is_printed(applies::print_agreement(rt)),
         "runs" => is_printed(plan_runs::print_agreement(rt)),
         "crew" => is_printed(crew_runs::print_found(rt, threads)),
+        "workers" => is_printed(worker_runs::print_known_runs(rt, threads)),
+        "random" => is_printed(worker_runs::print_random_runs(rt, threads)),
         _ => Ok(false),
     }
 }

@@ -1,5 +1,6 @@
 //! Runs by workers: the same outcome by any number of them, and of whom a gate is told.
 
+use crate::rows::graph_of;
 use algorithm_meaning::Outcome;
 use crew::{Gate, Open};
 use flat_snapshot::Flat;
@@ -8,7 +9,6 @@ use std::alloc::Global;
 use std::sync::atomic::{AtomicBool, AtomicU64, Ordering};
 use std::test::Fail;
 use std::thread::Threads;
-use tree_batch::{Batch, Entry, Graph};
 
 const SEARCH: &str = "element Vertex end element Edge end \
     const edges : edgeset{Edge}(Vertex, Vertex) = load(argv[1]); const parent : vector{Vertex}(int) = -1; \
@@ -97,16 +97,6 @@ impl Gate for Holding {
             }
         }
     }
-}
-
-// The graph of these edges.
-fn graph_of(alloc: Global, vertices: u32, edges: &[(u32, u32)]) -> Result<Flat, Fail> {
-    let mut batch = Batch::new(alloc);
-    for (source, destination) in edges {
-        batch.push(Entry::Add(*source, *destination))?;
-    }
-    let graph = Graph::new(vertices, 64)?.apply(alloc, &batch)?;
-    Ok(Flat::of(alloc, &graph)?)
 }
 
 // What a program shows with this schedule, by so many workers.

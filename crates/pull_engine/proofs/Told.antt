@@ -67,3 +67,30 @@ range_more r number lane old from to es low next stop part kept found more l k s
     ∙ ap (λ u. changed_from old (new old) low (next - low) ++ changed_from old (new old) u (stop - next)) place
     ∙ sym (changed_from-append old (new old) low (next - low) (stop - next))
     ∙ ap (λ n. changed_from old (new old) low n) whole
+
+-- a range, and the next vertex where it passes
+vertex_more : (r : Reduction) (number : ℕ → ℤ) (lane old : ℕ → ℤ) (from to : ℕ → Bool) (es : List (ℕ × ℕ)) (low v : ℕ) (found more : List EntryChange) → low ≤ v
+    → ((u : ℕ) → lane u ≡ old u) → more ≡ found ++ changes_at lane (pulled r number lane from es) (cond (to v) (v ∷ []) [])
+    → found ≡ changed_from old (pulled_to r number old from to es) low (v - low)
+    → more ≡ changed_from old (pulled_to r number old from to es) low (v + 1 - low)
+vertex_more r number lane old from to es low v found more l same is was =
+    let one : 1 ≡ v + 1 - v = omega arith in
+    range_more r number lane old from to es low v (v + 1) (v ∷ []) (filter to (v ∷ [])) found more l (omega arith) same (ap (range_with_len v) one) refl is was
+
+pub passed_more : (r : Reduction) (number : ℕ → ℤ) (lane old : ℕ → ℤ) (from to : ℕ → Bool) (es : List (ℕ × ℕ)) (low v : ℕ) (found more : List EntryChange) → low ≤ v
+    → ((u : ℕ) → lane u ≡ old u) → to v ≡ true → more ≡ found ++ change_at lane (pulled r number lane from es) v
+    → found ≡ changed_from old (pulled_to r number old from to es) low (v - low)
+    → more ≡ changed_from old (pulled_to r number old from to es) low (v + 1 - low)
+passed_more r number lane old from to es low v found more l same passes is was =
+    let new = pulled r number lane from es in
+    vertex_more r number lane old from to es low v found more l same
+    (is ∙ ap (λ cs. found ++ cs) (sym (append-nil (change_at lane new v))) ∙ ap (λ (b : Bool). found ++ changes_at lane new (cond b (v ∷ []) [])) (sym passes)) was
+
+pub left_more : (r : Reduction) (number : ℕ → ℤ) (lane old : ℕ → ℤ) (from to : ℕ → Bool) (es : List (ℕ × ℕ)) (low v : ℕ) (found : List EntryChange) → low ≤ v
+    → ((u : ℕ) → lane u ≡ old u) → to v ≡ false
+    → found ≡ changed_from old (pulled_to r number old from to es) low (v - low)
+    → found ≡ changed_from old (pulled_to r number old from to es) low (v + 1 - low)
+left_more r number lane old from to es low v found l same fails was =
+    let new = pulled r number lane from es in
+    vertex_more r number lane old from to es low v found found l same
+    (sym (append-nil found) ∙ ap (λ (b : Bool). found ++ changes_at lane new (cond b (v ∷ []) [])) (sym fails)) was

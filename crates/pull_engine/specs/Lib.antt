@@ -5,3 +5,4 @@ pub mod Ranges
 pub mod Pulls
 pub mod Propositions
 pub mod Pieces
+pub mod EntryTests

@@ -5,7 +5,8 @@
 //! (`after_edges`): the same as a push. Nothing is written: the functions read the vectors that are lent.
 //!
 //! A destination is tested once, and before its sources are read. Sources are tested in bits: those of a set that is
-//! kept so, or bits that are made once for an apply. A filter is run over blocks of 128 vertices, once for each vertex.
+//! kept so, or bits that are made once for an apply. A filter is run over blocks of 128 vertices, once for each vertex; one
+//! that compares entries with a constant is tested as destinations come, where the function has one of the shapes below.
 //! Sources are read in blocks of 128, and what passes goes to `edge_fold`, where each destination has one writer.
 //!
 //! One function that gives a vector by its sources alone, in one of the shapes of `kernels`, needs no scratch: a pull of
@@ -29,6 +30,7 @@ mod changes;
 mod crew_apply;
 mod destinations;
 mod early_sources;
+mod entry_tests;
 mod listed;
 mod pieces;
 mod ranges;

@@ -7,9 +7,11 @@ ghost use Rattle.edge_apply.specs.Words.{passes_words};
 ghost use Rattle.edge_fold.specs.Changed.{change_at};
 ghost use Rattle.edge_fold.specs.Ends.{IsEndTest};
 ghost use Rattle.vectors.specs.Lanes.{lane_entry};
+ghost use Rattle.pull_engine.specs.EntryTests.{IsTestOf};
 ghost use Rattle.pull_engine.specs.Pulls.{IsRangePulled, IsWholeTo};
 ghost use Rattle.pull_engine.specs.Ranges.{changes_at, pulled};
 
+use crate::entry_tests::{EntryTest, entry_test};
 use crate::source_folds::SourceFold;
 use edge_apply::number_between;
 use edge_fold::{ApplyContext, Scratch, push_change};
@@ -61,10 +63,44 @@ pub(crate) fn pull_range<F: SourceFold>(
     requires { range.low ≤ range.high }
     ensures { IfOk result (λ cs. IsRangePulled range.entry vector (F.reduction fold.now) (F.number fold.now) cs.items) }
 {
-    match range.destination_set() {
-        Some(set) => pull_members(alloc, range, set, vector, fold),
+    if let Some(set) = range.destination_set() {
+        return pull_members(alloc, range, set, vector, fold);
+    }
+    match entry_test(range) {
+        Some(test) => pull_tested(alloc, range, vector, fold, test),
         None => pull_vertices(alloc, range, vector, fold, scratch),
     }
+}
+
+/// The same over those vertices of the range whose entries pass a test.
+fn pull_tested<F: SourceFold>(
+    alloc: Global,
+    range: PullRange<'_>,
+    vector: usize,
+    fold: &F,
+    test: EntryTest<'_>,
+) -> Result<Vec<EntryChange>, AllocError>
+    requires order { range.low ≤ range.high }
+    requires test { IsTestOf range test }
+    ensures { IfOk result (λ cs. IsRangePulled range.entry vector (F.reduction fold.now) (F.number fold.now) cs.items) }
+{
+    let old = range.context.vectors.lane(vector);
+    let mut block = [0u32; 128];
+    let mut changes = Vec::new(alloc);
+    'vertices: for vertex in range.low..range.high {
+        if test.passes(vertex) {
+            pull_one(
+                range.flat,
+                fold,
+                range.from,
+                old,
+                vertex,
+                &mut block,
+                &mut changes,
+            )?;
+        }
+    }
+    Ok(changes)
 }
 
 /// The same over the members of a set.

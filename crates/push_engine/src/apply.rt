@@ -54,7 +54,14 @@ pub(crate) fn is_tested_first(apply: &Apply<'_>, to: EndpointFilter<'_>) -> bool
             return true;
         }
     }
-    let limit = apply.flat.vertices() as usize / 8;
+    has_work_above(apply, apply.flat.vertices() as usize / 8)
+}
+
+/// Whether the sources of an apply and the edges from them are more than a limit, where they are members of a set, and
+/// else all edges.
+fn has_work_above(apply: &Apply<'_>, limit: usize) -> bool
+    requires { limit < 2 ^ 63 }
+{
     match apply.from {
         Some(EndpointFilter::Members(set)) => is_work_above(apply.flat, set, limit),
         _ => apply.flat.edge_count() > limit,
@@ -131,10 +138,26 @@ fn push_to(
         → AreChangesOn apply.now.flat.now.vertices (edges_between from (λ v. passes_words words.entry v && test v) apply.now.flat.now.edges) m steps c.vectors.items) }
 {
     let context = apply.context(FoldStart::OldEntry);
-    scratch.begin();
+    begin(alloc, apply, context, scratch)?;
     fold_from(alloc, apply, context, words, scratch)?;
     let changes = scratch.changes(alloc, context, to)?;
     Ok(changes)
+}
+
+/// Begins the apply, with the old entries of all vertices where there are more edges from the sources than vertices.
+fn begin(
+    alloc: Global,
+    apply: &Apply<'_>,
+    context: ApplyContext<'_>,
+    scratch: &mut Scratch,
+) -> Result<(), AllocError>
+    ensures { OnOk result ((m : StateValue) (steps : List StepsTree) → IsContextOf context.entry m steps → HasFolded context.entry m steps [] scratch.new) }
+{
+    if has_work_above(apply, apply.flat.vertices() as usize) {
+        return scratch.begin_whole(alloc, context);
+    }
+    scratch.begin();
+    Ok(())
 }
 
 /// Folds the edges from the sources that pass to the destinations whose bits are set; words that are not given let all

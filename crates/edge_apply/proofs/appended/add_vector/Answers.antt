@@ -1,4 +1,4 @@
-use Rattle.std.proofs.Common.{rules, ◌≡◌, true, false, List, refl, sym, ap, ◌∙◌, subst}
+use Rattle.std.proofs.Common.{rules, ◌≡◌, true, false, List, sym, ap, ◌∙◌, subst}
 use Rattle.vectors.specs.declared.changes.VectorChanges.{VectorChanges}
 use Rattle.edge_fold.specs.Changed.{AreApart, changes_or, is_named}
 use Rattle.edge_fold.proofs.Findings.{apart_push}

@@ -1,4 +1,4 @@
-use Rattle.std.proofs.Common.{◌≡◌, ℕ, ◌≤◌, ◌==◌, false, [], List, length, sym, ap, ◌∙◌}
+use Rattle.std.proofs.Common.{◌≤◌, length, sym, ap, ◌∙◌}
 use Rattle.std.proofs.lemmas.List.{take_all}
 use Rattle.edge_fold.specs.Changed.{changes_of}
 use Rattle.edge_apply.proofs.PartChanges.{others_next}

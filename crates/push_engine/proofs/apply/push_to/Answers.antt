@@ -20,7 +20,7 @@ returns-clause-changes c m steps from test reads is_from is_to x r by long =
     let edges = edges_between from bits g.edges in
     let old = entry m.vectors x in
     let new = λ (es : List (ℕ × ℕ)). entry (after_edges steps m.sets m.vectors es m.vectors) x in
-    let has = c.in_ok-fold_from.ensures m steps from are is_from (c.begin.ensures _ m steps) in
+    let has = c.in_ok-fold_from.ensures m steps from are is_from (c.in_ok-begin.ensures m steps are) in
     c.in_ok-changes.ensures.changes m steps edges test are is_to has starts x r by (omega (arith, count, long))
     ∙ ap (λ (n : ℕ). changed n old (new (filter (λ e. test e.1) edges))) count
     ∙ ap (λ (es : List (ℕ × ℕ)). changed g.vertices old (new es)) (between_tested from bits test g.edges)

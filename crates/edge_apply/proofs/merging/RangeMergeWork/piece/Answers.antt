@@ -1,4 +1,4 @@
-use Rattle.std.proofs.Common.{◌≡◌, ◌-◌, ◌<◌, ◌≤◌, ℕ, ℤ, true, List, refl, sym, ap, ◌∙◌, subst, arith}
+use Rattle.std.proofs.Common.{◌-◌, ◌≤◌, ℕ, true, List, refl, sym, ap, ◌∙◌, subst, arith}
 use Rattle.std.specs.List.{filter, flat_map}
 use Rattle.kernels.specs.EdgeApply.{after_edges}
 use Rattle.kernels.specs.Value.{entry}

@@ -14,8 +14,8 @@ kept-init c = record {
   inside = omega arith;
   passed = λ up i l. absurd (omega (arith, l));
   found = λ up r h new here there v l. absurd (omega (arith, l));
-  left = λ r v h l. ap (λ (cs : List EntryChange). reduced_at r v h (numbers_of cs)) c.new-numbers.ensures.items;
-  ascends = no_numbers 0 c.new-numbers.result.items c.new-numbers.ensures.items;
+  left = λ r v h l. ap (λ (cs : List EntryChange). reduced_at r v h (numbers_of cs)) c.in_ok-numbers.ensures.items;
+  ascends = no_numbers 0 c.in_ok-numbers.numbers.items c.in_ok-numbers.ensures.items;
 }
 
 pub kept-preserved : goal.kept-preserved

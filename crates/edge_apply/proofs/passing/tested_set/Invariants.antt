@@ -4,7 +4,7 @@ use Rattle.kernels.specs.State.{StateValue}
 use Rattle.edge_fold.specs.Ends.{IsTest}
 use Rattle.kernels.specs.Cells.{HasSizes}
 use Rattle.vertex_sets.specs.declared.form.Form.TheVariants as form
-use Rattle.edge_apply.proofs.passing.passing_set.Given as goal
+use Rattle.edge_apply.proofs.passing.tested_set.Given as goal
 
 -- those that pass among the numbers below the next are members
 abbrev pub invariant-parts : goal.invariant-parts

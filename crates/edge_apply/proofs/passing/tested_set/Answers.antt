@@ -3,7 +3,7 @@ use Rattle.std.proofs.lemmas.Bool.Decides.{nat_tests}
 use Rattle.std.specs.List.{filter}
 use Rattle.kernels.specs.EdgeApply.{is_member}
 use Rattle.edge_apply.proofs.Bits.{passing_more}
-use Rattle.edge_apply.proofs.passing.passing_set.Goals as goal
+use Rattle.edge_apply.proofs.passing.tested_set.Goals as goal
 
 pub parts-preserved : goal.parts-preserved
 parts-preserved c =
