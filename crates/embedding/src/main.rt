@@ -15,6 +15,7 @@ use version_list::{Versions, Which};
 
 // A graph of this many vertices, in chunks of the usual size.
 const VERTICES: u32 = 6;
+
 const CHUNK_SIZE: u32 = 64;
 
 // No path of the graph has more edges.
