@@ -1,0 +1,17 @@
+//! What a refusal of a program's text is told with, behind its first line: where it stands, with the source line and a caret, what
+//! its number means, and what to do.
+//!
+//! [`place_of`] is the line and the column of an offset, and its contract says so. [`explanation`] makes the lines. It answers for
+//! any text, offset and number, and promises nothing of its words but that they come: they are for people, who may be told
+//! otherwise tomorrow. Of a text outside the grammar (211) it guesses the cause by what stands at the place and before it.
+#![tactic(auto)]
+
+mod cause;
+mod lines;
+mod meaning;
+mod place;
+#[cfg(test)]
+mod tests;
+
+pub use lines::explanation;
+pub use place::{Place, line_at, place_of};

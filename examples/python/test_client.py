@@ -1,0 +1,68 @@
+#!/usr/bin/env python3
+"""Tests gsnap_client. GSNAP names the program, `gsnap` at the top of the repository where it is not set."""
+import os
+import sys
+import unittest
+
+from gsnap_client import Failed, Graph, Refused, parse
+
+HERE = os.path.dirname(os.path.realpath(__file__))
+EXAMPLES = os.path.dirname(HERE)
+GSNAP = os.environ.get("GSNAP") or os.path.join(EXAMPLES, "..", "gsnap")
+
+
+class Replies(unittest.TestCase):
+    def test_each_kind(self):
+        lines = "open 3;version 1;ticket 1 version 1;edges 1;0 2;true;-5;end fault 401 statement 2 turns 7;vector x: 1 -2 3;"
+        lines += "set s:;released 1;refused 801;edges 0;early 1 version 0;end finished turns 0"
+        told = list(parse(line + "\n" for line in lines.split(";")))
+        kinds = "open version ticket edges run released refused edges early run"
+        self.assertEqual([it["reply"] for it in told], kinds.split())
+        self.assertEqual(told[3]["edges"], [(0, 2)])
+        run = {"reply": "run", "end": "fault", "turns": 7, "statement": 2, "text": ["true", "-5"]}
+        self.assertEqual(told[4], run | {"vectors": {"x": [1, -2, 3]}, "sets": {"s": []}})
+
+
+class Calls(unittest.TestCase):
+    def graph(self, *programs):
+        return Graph(6, [os.path.join(EXAMPLES, name) for name in programs], GSNAP)
+
+    def test_two_versions(self):
+        graph = self.graph("reachability.program", "distances.program")
+        for edge in ((0, 1), (0, 2), (1, 3), (2, 3), (3, 4)):
+            graph.add(*edge)
+        graph.commit()
+        held = graph.hold()
+        graph.remove(1, 3)
+        graph.remove(2, 3)
+        graph.commit()
+        now = graph.run(1, turns=6)
+        then = graph.run(1, turns=6, workers=2, ticket=held)
+        cut = graph.run(2, turns=1, ticket=held)
+        edges = graph.edges()
+        self.assertEqual(now["vectors"]["parent"], [0, 0, 0, -1, -1, -1])
+        self.assertEqual(then["vectors"]["parent"], [0, 0, 0, 2, 3, -1])
+        self.assertEqual((cut["end"], cut["turns"], cut["sets"]["frontier"]), ("turns-over", 1, [1, 2]))
+        self.assertEqual(edges["edges"], [(0, 1), (0, 2), (3, 4)])
+        self.assertEqual(graph.release(held)["ticket"], 1)
+
+    def test_a_refused_line(self):
+        graph = self.graph()
+        graph.add(0, 6)
+        commit = graph.commit()
+        version = graph.commit()
+        self.assertEqual(version["version"], 1)
+        with self.assertRaises(Refused) as told:
+            commit.get()
+        self.assertEqual(told.exception.number, 111)
+
+    def test_a_program_that_is_none(self):
+        graph = self.graph("README.md")
+        with self.assertRaises(Failed) as told:
+            graph.commit().get()
+        self.assertEqual(told.exception.args[0], 1)
+        self.assertIn("refused 201", told.exception.args[1])
+
+
+if __name__ == "__main__":
+    sys.exit(unittest.main())
