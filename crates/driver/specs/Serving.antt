@@ -1,5 +1,6 @@
 -- What serving a request comes to.
-use Rattle.std.specs.Prelude.{◌≡◌, ℕ, ◌<◌, Bool, false, List, [], ◌∷◌, ◌++◌, ◌⊎◌, Result, Ok, Err, map, codes}
+use Rattle.std.specs.Prelude.{◌≡◌, ℕ, ◌<◌, Bool, true, false, List, [], ◌∷◌, ◌++◌, ◌⊎◌, Result, Ok, Err, map, codes}
+use Rattle.std.specs.Str.{bytes_eq}
 use Rattle.std.specs.declared.io.Error.{Error}
 use Rattle.devices.specs.Drain.{TakesPart}
 use Rattle.plans.specs.declared.plan.Plan.{Plan}
@@ -102,6 +103,26 @@ RunsFiles holds fails script names before after (Ok faulted) = RunsScriptOf hold
 RunsFiles holds fails script names before after (Err e) =
     RunsNone holds fails script names before after e ⊎ RunsScriptOf holds script names before after (Err e)
 
+-- the files may hold these programs, and the standard input was run as a script with them, which ended so
+pub record RunsStreamOf (holds : List ℕ → List ℕ → Type 0) (names : List (List ℕ)) (old new : Input) (before after : Taken) (ended : Result Bool ServeError) : Type 0 where
+  pub programs : List ProgramTree
+  pub compiled : HoldPrograms holds names programs
+  pub script_ended : Result Bool ScriptError
+  pub runs : RunsScript programs old new before after script_ended
+  pub ending : ended ≡ end_of script_ended
+
+-- nothing was read from the standard input or written, since some file has no program
+pub record RunsNoStream (holds : List ℕ → List ℕ → Type 0) (fails : List ℕ → Error → Type 0) (names : List (List ℕ)) (old new : Input) (before after : Taken) (e : ServeError) : Type 0 where
+  pub unread : new ≡ old
+  pub untouched : after ≡ before
+  pub cause : LacksProgram holds fails names e
+
+-- what running the standard input, with the programs in files, comes to
+abbrev pub RunsStream : (List ℕ → List ℕ → Type 0) → (List ℕ → Error → Type 0) → List (List ℕ) → Input → Input → Taken → Taken → Result Bool ServeError → Type 0
+RunsStream holds fails names old new before after (Ok faulted) = RunsStreamOf holds names old new before after (Ok faulted)
+RunsStream holds fails names old new before after (Err e) =
+    RunsNoStream holds fails names old new before after e ⊎ RunsStreamOf holds names old new before after (Err e)
+
 -- the standard input was run, with this status at the end
 pub record ServesInput (old new : Input) (before after : Taken) (status : ℕ) : Type 0 where
   pub ended : Result Bool ServeError
@@ -129,12 +150,23 @@ pub record ServesFiles (holds : List ℕ → List ℕ → Type 0) (fails : List 
   pub ending : status ≡ status_of_end ended
   pub unread : new ≡ old
 
+-- the standard input was run with the programs in files, with this status at the end
+pub record ServesStream (holds : List ℕ → List ℕ → Type 0) (fails : List ℕ → Error → Type 0) (names : List (List ℕ)) (old new : Input) (before after : Taken) (status : ℕ) : Type 0 where
+  pub ended : Result Bool ServeError
+  pub runs : RunsStream holds fails names old new before after ended
+  pub ending : status ≡ status_of_end ended
+
+-- what running a script comes to: that of the name `-` is the standard input, another one is a file
+abbrev pub ServesScript : (is_stream : Bool) → (List ℕ → List ℕ → Type 0) → (List ℕ → Error → Type 0) → List ℕ → List (List ℕ) → Input → Input → Taken → Taken → ℕ → Type 0
+ServesScript true holds fails script names old new before after status = ServesStream holds fails names old new before after status
+ServesScript false holds fails script names old new before after status = ServesFiles holds fails script names old new before after status
+
 -- what serving a request comes to
 abbrev pub Serves : (List ℕ → List ℕ → Type 0) → (List ℕ → Error → Type 0) → Request → Input → Input → Taken → Taken → ℕ → Type 0
 Serves holds fails request.Input old new before after status = ServesInput old new before after status
 Serves holds fails (request.Check file) old new before after status = ServesCheck holds fails file.now old new before after status
 Serves holds fails (request.Plan file) old new before after status = ServesPlan holds fails file.now old new before after status
 Serves holds fails (request.Script script names) old new before after status =
-    ServesFiles holds fails script.now (map (λ n. n.now) names.items) old new before after status
+    ServesScript (bytes_eq script.now (codes "-")) holds fails script.now (map (λ n. n.now) names.items) old new before after status
 Serves holds fails (request.Race script names workers turns) old new before after status =
     ServesRace holds fails script.now (map (λ n. n.now) names.items) workers turns old new before after status

@@ -6,8 +6,9 @@ ghost use Rattle.driver.specs.Endings.{refusal_status_of};
 ghost use Rattle.driver.specs.Running.{Runs};
 
 use crate::files::Files;
-use crate::serving::{TextWriter, serve};
+use crate::serving::serve;
 use crate::status;
+use crate::telling::TextWriter;
 use devices::{Drain, Feed};
 use requests::{RequestError, request};
 use scripts::ScriptState;

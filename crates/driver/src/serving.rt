@@ -1,19 +1,18 @@
 //! What the program does for a request.
 
-ghost use Rattle.std.specs.Prelude.{◌≡◌, ◌++◌, map, IfOk};
+ghost use Rattle.std.specs.Prelude.{◌≡◌, map, IfOk};
 ghost use Rattle.crew.specs.Outcome.{AreWorkers};
 ghost use Rattle.driver.specs.Programs.{ShowsMeaning};
 ghost use Rattle.scripts.specs.Script.{input as input_of, taken_by, RunsScript};
-ghost use Rattle.driver.specs.Endings.{status_of_end};
 ghost use Rattle.driver.specs.Reading.{CompilesFile, CompilesFiles};
-ghost use Rattle.driver.specs.Serving.{end_of, ChecksFile, PrintsPlan, RunsFiles, RunsInput, Serves};
+ghost use Rattle.driver.specs.Serving.{end_of, ChecksFile, PrintsPlan, RunsFiles, RunsInput, RunsStream, Serves};
 
 use crate::compiled_plan::CompiledPlan;
 use crate::error::ServeError;
 use crate::files::Files;
 use crate::programs::{CompiledPrograms, RunOrder, run_by_workers};
 use crate::racing::{RaceBounds, RaceFiles, race_files};
-use crate::status;
+use crate::telling::told;
 use algorithm_meaning::Outcome;
 use compiler::{CompileError, compile};
 use devices::{Drain, Feed, write_all};
@@ -21,13 +20,14 @@ use plans::Plan;
 use requests::Request;
 use scripts::{ScriptError, ScriptState, run_text, script};
 use std::alloc::{AllocError, Global};
-use std::fmt;
-use std::fmt::Write;
 use std::sync::Wait;
 use std::thread::Threads;
 
 // What is told of a program that compiles.
 const OK_LINE: &[u8] = b"ok\n";
+
+// The name of a script that stands for the standard input.
+const STREAM: &str = "-";
 
 /// Does a request, and answers the exit status: 0 where all was done, or 3 where some run ended by a fault. `out` has then
 /// taken the line `ok` of a check, the text of a plan, the replies of a script, or the text of a race. With it comes what a
@@ -35,9 +35,9 @@ const OK_LINE: &[u8] = b"ok\n";
 /// the threads that commit and run; a script may, for those of a run by more than one worker.
 ///
 /// `Check` and `Plan` write once the program is compiled. `Script` and `Race` compile each program before they read the next
-/// file, and read the script's file last. The status is 1 where a program's text is refused, or where the script is none of a
+/// file, and read the script's file last; a script of the name `-` is `input`, whose lines are answered as they come. The status is 1 where a program's text is refused, or where the script is none of a
 /// race, or its graph or a batch is refused; `err` is then told the file, `refused`, the number and where the fault stands, if
-/// that is known, and `out` took nothing. It is 4 where memory runs out, or a run of a race finds nothing published, and 5
+/// that is known, and for a program's text the source line, what the number means and what to do; `out` took nothing. It is 4 where memory runs out, or a run of a race finds nothing published, and 5
 /// where a file or `input` cannot be read or `out` fails; `err` is then told `refused` and the number, and `out` took a
 /// beginning of that line or text or of the replies. A race writes nothing before all is run.
 pub fn serve<T: Threads + Wait + Sync, F: Files, R: Feed, W: Drain, E: Drain>(
@@ -58,13 +58,23 @@ pub fn serve<T: Threads + Wait + Sync, F: Files, R: Feed, W: Drain, E: Drain>(
     match request {
         Request::Input => {
             let (ended, state) = run_input(rt, alloc, input, out);
-            (told(ended, err), Some(state))
+            (told(alloc, ended, files, err), Some(state))
         }
-        Request::Check { file } => (told(check_file(alloc, file, files, out), err), None),
-        Request::Plan { file } => (told(print_plan(alloc, file, files, out), err), None),
+        Request::Check { file } => {
+            let ended = check_file(alloc, file, files, out);
+            (told(alloc, ended, files, err), None)
+        }
+        Request::Plan { file } => {
+            let ended = print_plan(alloc, file, files, out);
+            (told(alloc, ended, files, err), None)
+        }
         Request::Script { script, programs } => {
-            let (ended, state) = run_files(rt, alloc, script, programs, files, out);
-            (told(ended, err), state)
+            let (ended, state) = if *script == STREAM {
+                run_stream(rt, alloc, programs, files, input, out)
+            } else {
+                run_files(rt, alloc, script, programs, files, out)
+            };
+            (told(alloc, ended, files, err), state)
         }
         Request::Race {
             script,
@@ -77,25 +87,8 @@ pub fn serve<T: Threads + Wait + Sync, F: Files, R: Feed, W: Drain, E: Drain>(
                 workers: *workers,
                 turns: *turns,
             };
-            (
-                told(race_files(rt, alloc, names, bounds, files, out), err),
-                None,
-            )
-        }
-    }
-}
-
-// Tells how a request ended where it was not done, and answers the status. Where telling fails too,
-// the status alone tells.
-fn told<E: Drain>(ended: Result<bool, ServeError<'_>>, err: &mut E) -> u8
-    ensures { result ≡ status_of_end ended.entry }
-{
-    match ended {
-        Ok(false) => status::DONE,
-        Ok(true) => status::FAULTED,
-        Err(error) => {
-            let _ = writeln!(TextWriter(err), "{error}");
-            error.status()
+            let ended = race_files(rt, alloc, names, bounds, files, out);
+            (told(alloc, ended, files, err), None)
         }
     }
 }
@@ -203,6 +196,36 @@ fn run_files<'a, T: Threads + Sync, F: Files, W: Drain>(
     (ended_as(ended), Some(state))
 }
 
+// Compiles the programs in the files of these names, and then runs the standard input as a script with them.
+fn run_stream<'a, T: Threads + Sync, F: Files, R: Feed, W: Drain>(
+    rt: &T,
+    alloc: Global,
+    programs: &[&'a str],
+    files: &F,
+    input: &mut R,
+    out: &mut W,
+) -> (Result<bool, ServeError<'a>>, Option<ScriptState>)
+    ensures { RunsStream (F.may_hold files.now) (F.may_fail files.now) (map (λ p. p.now) programs.entry.now)
+        (input_of (R.given input.old) (R.ended input.old) (R.failures input.old))
+        (input_of (R.given input.new) (R.ended input.new) (R.failures input.new))
+        (taken_by (W.taken out.old) (W.failures out.old))
+        (taken_by (W.taken out.new) (W.failures out.new)) result.0 }
+{
+    let plans = match compiled_files(alloc, programs, files) {
+        Ok(plans) => plans,
+        Err(error) => return (Err(error), None),
+    };
+    let programs = CompiledPrograms::new(
+        plans,
+        |alloc: Global, order: RunOrder<'_>| -> Result<Outcome, AllocError>
+            requires { AreWorkers order.workers }
+            ensures { IfOk result (ShowsMeaning order.entry) }
+        { run_by_workers(rt, alloc, order) },
+    );
+    let (ended, state) = script(alloc, &programs, input, out);
+    (ended_as(ended), Some(state))
+}
+
 // The programs in the files of these names.
 pub(crate) fn compiled_files<'a, F: Files>(
     alloc: Global,
@@ -232,17 +255,5 @@ fn compiled_file<'a, F: Files>(
         Ok(plan) => Ok(plan),
         Err(CompileError::NoMemory) => Err(ServeError::NoMemory),
         Err(error) => Err(ServeError::Refused { file, error }),
-    }
-}
-
-// Takes text for a writer of bytes.
-#[derive(Drop)]
-pub(crate) struct TextWriter<'a, E: Drain>(pub &'a mut E);
-
-impl<E: Drain> fmt::Write for TextWriter<'_, E> {
-    ghost write_str_gives = { λ old text new. E.taken new.0.now ≡ E.taken old.0.now ++ text };
-
-    fn write_str(&mut self, text: &str) -> fmt::Result {
-        write_all(self.0, text.as_bytes()).map_err(|_| fmt::Error)
     }
 }

@@ -54,6 +54,7 @@ fn cause_of_sign(before: &[u8], shown: &[u8], behind: &[u8]) -> Option<&'static 
 
 fn begins_script(text: &[u8]) -> bool {
     begins_with(text, b"vertices ")
+        || begins_with(text, b"grow ")
         || begins_with(text, b"add ")
         || begins_with(text, b"del ")
         || begins_with(text, b"commit")

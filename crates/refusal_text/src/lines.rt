@@ -6,6 +6,11 @@ use crate::place::{line_at, place_of};
 use decimal::push_number;
 use std::alloc::{AllocError, Global};
 
+// How many bytes of a line are shown before a place, and in all.
+const MOST_BEFORE: usize = 80;
+
+const MOST_SHOWN: usize = 120;
+
 // The number of a text outside the grammar.
 const SYNTAX: u16 = 211;
 
@@ -34,7 +39,8 @@ pub fn explanation(
     Ok(lines)
 }
 
-// Adds the file, the line and the column, the source line, and a caret below the byte. A byte that is no ASCII stands as it is.
+// Adds the file, the line and the column, what is shown of the source line, and a caret below the byte. A byte that is no ASCII
+// stands as it is.
 fn push_place(lines: &mut Vec<u8>, file: &str, text: &[u8], at: usize) -> Result<(), AllocError> {
     let place = place_of(text, at);
     lines.extend_from_slice(b" --> ")?;
@@ -44,12 +50,21 @@ fn push_place(lines: &mut Vec<u8>, file: &str, text: &[u8], at: usize) -> Result
     lines.push(b':')?;
     push_number(lines, place.column as u64)?;
     lines.extend_from_slice(b"\n  | ")?;
-    lines.extend_from_slice(line_at(text, at))?;
+    let (shown, before) = shown_part(line_at(text, at), place.column.saturating_sub(1));
+    lines.extend_from_slice(shown)?;
     lines.extend_from_slice(b"\n  | ")?;
-    'columns: for _ in 1..place.column {
-        lines.push(b' ')?;
+    'columns: for byte in shown.iter().take(before) {
+        lines.push(if *byte == b'\t' { b'\t' } else { b' ' })?;
     }
     lines.extend_from_slice(b"^\n")
+}
+
+// What is shown of a line with so many bytes before a place in it, and how many of these are shown: of a long line a part
+// around the place.
+fn shown_part(line: &[u8], before: usize) -> (&[u8], usize) {
+    let start = before.saturating_sub(MOST_BEFORE).min(line.len());
+    let end = start.saturating_add(MOST_SHOWN).min(line.len());
+    (&line[start..end], before.saturating_sub(start))
 }
 
 fn push_told(lines: &mut Vec<u8>, told: &str) -> Result<(), AllocError> {
