@@ -19,7 +19,7 @@ const SEED: u64 = 2028;
 const GRAPHS: [(u32, u32); 6] = [(1, 2), (3, 4), (64, 60), (65, 900), (130, 400), (300, 2500)];
 
 // How many random programs run on each graph.
-const PROGRAMS_EACH: u64 = 100;
+const PROGRAMS_EACH: u64 = 50;
 
 const WORKERS: [usize; 4] = [1, 2, 3, 7];
 
