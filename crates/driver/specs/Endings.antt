@@ -16,7 +16,7 @@ use Rattle.replies.specs.declared.send_error.SendError.TheVariants as send
 use Rattle.races.specs.declared.error.RaceScriptError.{RaceScriptError}
 use Rattle.races.specs.declared.error.RaceScriptError.TheVariants as race_script
 use Rattle.races.specs.declared.error.RaceError.{RaceError}
-use Rattle.races.specs.declared.error.RaceError.TheVariants.{NotCommitted, NotRun}
+use Rattle.races.specs.declared.error.RaceError.TheVariants.{NotOpened, NotRun}
 use Rattle.shared_graph.specs.Refusal.{number_of as shared_number_of}
 use Rattle.shared_graph.specs.declared.error.SharedError.TheVariants as shared
 use Rattle.snapshot_runs.specs.declared.error.LatestRunError.TheVariants as run
@@ -68,8 +68,8 @@ of_race_script file race_script.NoRace = RaceRefused file 801
 
 -- what becomes of a refusal of a race of the script in this file
 abbrev pub of_race : Bor (List ℕ) → RaceError → ServeError
-of_race file (NotCommitted shared.NoMemory) = NoMemory
-of_race file (NotCommitted error) = RaceRefused file (shared_number_of error)
+of_race file (NotOpened shared.NoMemory) = NoMemory
+of_race file (NotOpened error) = RaceRefused file (shared_number_of error)
 of_race file (NotRun run.NoMemory) = NoMemory
 of_race file (NotRun run.Closed) = Closed
 of_race file (NotRun run.BadWorkers) = RaceRefused file 411

@@ -1,5 +1,6 @@
 -- Batches that are committed one after another.
-use Rattle.std.proofs.Common.{◌≡◌, ◌∙◌, ℕ, List, [], ◌∷◌, ◌++◌, length, length-append, refl, sym, ap, subst, append_assoc, append-nil, arith}
+use Rattle.std.proofs.Common.{◌≡◌, ◌∙◌, ℕ, List, [], ◌∷◌, ◌++◌, Result, Ok, Err, refl, sym, ap, subst, append_assoc, append-nil}
+use Rattle.std.specs.declared.alloc.AllocError.{AllocError}
 use Rattle.tree_batch.specs.declared.batch.Entry.{Entry as Change}
 use Rattle.version_list.specs.declared.step.Step.TheVariants.{Commit}
 use Rattle.version_list.specs.declared.step.Reply.TheVariants.{Version}
@@ -8,105 +9,101 @@ use Rattle.version_list.specs.Timeline.{IsLegal}
 use Rattle.shared_graph.specs.declared.entry.Entry.{Entry}
 use Rattle.shared_graph.specs.declared.error.SharedError.{SharedError}
 use Rattle.shared_graph.specs.declared.error.SharedError.TheVariants as shared
-use Rattle.shared_graph.specs.Histories.{entry, own, steps_of}
-use Rattle.shared_graph.specs.Outcome.{Refuses}
-use Rattle.shared_graph.specs.Passes.{HasMade, IsRefused, Pass}
-use Rattle.races.specs.Race.{commits}
-use Rattle.races.specs.Racing.{HasCommitted, IsFresh}
-use Rattle.races.specs.Refused.{AreCommitted, RefusesBatch, RefusesCommits}
+use Rattle.shared_graph.specs.Histories.{own, steps_of}
+use Rattle.shared_graph.specs.Outcome.{Answers}
+use Rattle.shared_graph.specs.Passes.{Pass}
+use Rattle.races.specs.declared.outcomes.CommitReply.{CommitReply}
+use Rattle.races.specs.declared.outcomes.CommitReply.TheVariants as answer
+use Rattle.races.specs.Race.{AreAnswered, IsAnswered, commits, entries_of}
+use Rattle.races.specs.Racing.{RepliesTo}
 
--- one more commit of one reader
-commits_append : (by : ℕ) (batches : List (List Change)) (versions : List ℕ) (batch : List Change) (version : ℕ) → length versions ≡ length batches
-    → commits by (batches ++ batch ∷ []) (versions ++ version ∷ []) ≡ commits by batches versions ++ entry by (Commit batch) (Version version) ∷ []
-commits_append by [] [] batch version same = refl
-commits_append by [] (v ∷ versions) batch version same = absurd (omega (arith, same))
-commits_append by (b ∷ batches) [] batch version same = absurd (omega (arith, same))
-commits_append by (b ∷ batches) (v ∷ versions) batch version same =
-    let fewer : length versions ≡ length batches = omega (arith, same) in
-    ap (λ (es : List Entry). entry by (Commit b) (Version v) ∷ es) (commits_append by batches versions batch version fewer)
+-- some batches of all are answered: what the others are answered makes up the whole
+abbrev pub IsAnswering : State → Pass → (all left : List (List Change)) → List CommitReply → Pass → Type 0
+IsAnswering base old all left replies now = (more : List CommitReply) (new : Pass) → AreAnswered base now left more new → AreAnswered base old all (replies ++ more) new
 
--- some batches of all are committed, with these versions, by a reader that had shown nothing before
-pub record IsCommitting (base : State) (number : ℕ) (all left : List (List Change)) (versions : List ℕ) (now : Pass) : Type 0 where
-  pub number_is : now.number ≡ number
-  pub done : List (List Change)
-  pub parts : all ≡ done ++ left
-  pub entries : own number now.last ≡ commits number done versions
-  pub counted : length versions ≡ length done
-  pub legal : IsLegal base (steps_of now.last)
-  pub shown : now.shown ≡ now.last
+pub answering_starts : (base : State) (old : Pass) (all : List (List Change)) (replies : List CommitReply) → replies ≡ [] → IsAnswering base old all all replies old
+answering_starts base old all replies none = subst (λ (rs : List CommitReply). IsAnswering base old all all rs old) (sym none) (λ more new rest. rest)
 
-pub committing_starts : (base : State) (old : Pass) (all : List (List Change)) (made : List ℕ) → made ≡ [] → IsFresh old → IsCommitting base old.number all all made old
-committing_starts base old all made none fresh =
-    subst (λ (v : List ℕ). IsCommitting base old.number all all v old) (sym none) (record {
-      number_is = refl;
-      done = [];
-      parts = refl;
-      entries = ap (own old.number) fresh.1;
-      counted = refl;
-      legal = subst (λ (h : List Entry). IsLegal base (steps_of h)) (sym fresh.1) tt;
-      shown = fresh.0 ∙ sym fresh.1;
-    })
+-- one more is answered
+pub answering_goes : (base : State) (old : Pass) (all left : List (List Change)) (batch : List Change) (replies made : List CommitReply) (reply : CommitReply) (now next : Pass)
+    → IsAnswering base old all (batch ∷ left) replies now → IsAnswered base now batch reply next → made ≡ replies ++ reply ∷ []
+    → IsAnswering base old all left made next
+answering_goes base old all left batch replies made reply now next so_far one is =
+    subst (λ (rs : List CommitReply). IsAnswering base old all left rs next) (sym is)
+    (λ more new rest. subst (λ (rs : List CommitReply). AreAnswered base old all rs new) (sym (append_assoc replies (reply ∷ []) more)) (so_far (reply ∷ more) new (next, one, rest)))
 
--- one more is committed
-pub committing_goes : (base : State) (number : ℕ) (all left : List (List Change)) (versions made : List ℕ) (now new : Pass) (batch : List Change) (version : ℕ)
-    → IsCommitting base number all (batch ∷ left) versions now → HasMade base now (Commit batch) (Version version) new → made ≡ versions ++ version ∷ []
-    → IsCommitting base number all left made new
-committing_goes base number all left versions made now new batch version c one is =
-    subst (λ (v : List ℕ). IsCommitting base number all left v new) (sym is) (record {
-      number_is = one.number ∙ c.number_is;
-      done = c.done ++ batch ∷ [];
-      parts = c.parts ∙ sym (append_assoc c.done (batch ∷ []) left);
-      entries =
-          ap (own number) one.last ∙ subst (λ (n : ℕ). own n new.shown ≡ own n now.last ++ entry n (Commit batch) (Version version) ∷ []) c.number_is one.own_entries
-          ∙ ap (λ (es : List Entry). es ++ entry number (Commit batch) (Version version) ∷ []) c.entries ∙ sym (commits_append number c.done versions batch version c.counted);
-      counted = let v = length-append versions (version ∷ []) in let d = length-append c.done (batch ∷ []) in let k = c.counted in omega arith;
-      legal = subst (λ (h : List Entry). IsLegal base (steps_of h)) (sym one.last) one.legal;
-      shown = sym one.last;
-    })
+-- all are answered
+pub answering_ends : (base : State) (old : Pass) (all left : List (List Change)) (replies : List CommitReply) (now : Pass) → IsAnswering base old all left replies now → left ≡ []
+    → AreAnswered base old all replies now
+answering_ends base old all left replies now so_far none =
+    subst (λ (rs : List CommitReply). AreAnswered base old all rs now) (append-nil replies)
+    (so_far [] now (subst (λ (l : List (List Change)). AreAnswered base now l [] now) (sym none) refl))
 
--- what is committed so far
-abbrev made_so_far : (base : State) (number : ℕ) (all left : List (List Change)) (versions : List ℕ) (now : Pass) → (c : IsCommitting base number all left versions now) → AreCommitted base c.done
-made_so_far base number all left versions now c = record {
-  writer = number;
-  versions = versions;
-  history = now.last;
-  legal = c.legal;
-  committed = c.entries;
-  all_committed = c.counted;
+-- the reply of a result, or another
+abbrev taken : CommitReply → Result CommitReply AllocError → CommitReply
+taken other (Ok reply) = reply
+taken other (Err error) = other
+
+err≢ok : (error : AllocError) (reply : CommitReply) → Err error ≡ Ok reply → ⊥
+err≢ok error reply e = cc
+
+same_reply : (base : State) (old new : Pass) (batch : List Change) (result : Result CommitReply AllocError) (told reply : CommitReply) → result ≡ Ok told → result ≡ Ok reply
+    → IsAnswered base old batch told new → IsAnswered base old batch reply new
+same_reply base old new batch result told reply gives is met = subst (λ (r : CommitReply). IsAnswered base old batch r new) (ap (taken reply) (sym gives ∙ is)) met
+
+-- what a commit gives is told by its reply
+pub is_answered : (base : State) (old new : Pass) (batch : List Change) (committed : Result ℕ SharedError) (result : Result CommitReply AllocError) (reply : CommitReply)
+    → Answers base old (Commit batch) Version committed new → RepliesTo committed result → result ≡ Ok reply → IsAnswered base old batch reply new
+is_answered base old new batch (Ok version) result reply met gives is = same_reply base old new batch result (answer.Version version) reply gives is met
+is_answered base old new batch (Err shared.NoMemory) result reply met gives is = absurd (err≢ok _ reply (sym gives ∙ is))
+is_answered base old new batch (Err shared.VertexRange) result reply met gives is = same_reply base old new batch result (answer.Refused 111) reply gives is met
+is_answered base old new batch (Err shared.BadChunkSize) result reply met gives is = same_reply base old new batch result (answer.Refused 103) reply gives is met
+is_answered base old new batch (Err shared.NotKept) result reply met gives is = same_reply base old new batch result (answer.Refused 121) reply gives is met
+is_answered base old new batch (Err shared.NotHeld) result reply met gives is = same_reply base old new batch result (answer.Refused 122) reply gives is met
+is_answered base old new batch (Err shared.HistoryFull) result reply met gives is = same_reply base old new batch result (answer.Refused 123) reply gives is met
+is_answered base old new batch (Err shared.BadSeats) result reply met gives is = elim met [ ]
+
+-- what one reply says of the reader's history
+record GoesOn (base : State) (batch : List Change) (reply : CommitReply) (old new : Pass) : Type 0 where
+  pub number : new.number ≡ old.number
+  pub own_entries : own old.number new.last ≡ own old.number old.last ++ entries_of old.number batch reply
+  pub legal : IsLegal base (steps_of old.last) → IsLegal base (steps_of new.last)
+
+goes_on : (base : State) (batch : List Change) (reply : CommitReply) (old new : Pass) → IsAnswered base old batch reply new → GoesOn base batch reply old new
+goes_on base batch (answer.Version version) old new met = record {
+  number = met.number;
+  own_entries = ap (own old.number) met.last ∙ met.own_entries;
+  legal = λ before. subst (λ (h : List Entry). IsLegal base (steps_of h)) (sym met.last) met.legal;
+}
+goes_on base batch (answer.Refused number) old new met = record {
+  number = met.shows.number;
+  own_entries = ap (own old.number) met.shows.last ∙ sym (append-nil (own old.number old.last));
+  legal = λ before. subst (λ (h : List Entry). IsLegal base (steps_of h)) (sym met.shows.last) before;
 }
 
--- all are committed
-pub committing_ends : (base : State) (number : ℕ) (all left : List (List Change)) (versions : List ℕ) (now : Pass) → IsCommitting base number all left versions now → left ≡ []
-    → HasCommitted base number all versions now
-committing_ends base number all left versions now c none =
-    let whole : c.done ≡ all = sym (c.parts ∙ ap (λ (l : List (List Change)). c.done ++ l) none ∙ append-nil c.done) in record {
-      entries = subst (λ (d : List (List Change)). own number now.last ≡ commits number d versions) whole c.entries;
-      all_committed = subst (λ (d : List (List Change)). length versions ≡ length d) whole c.counted;
-      legal = c.legal;
+-- after batches that are answered the reader's history has just the commits that were not refused
+pub record HasCommits (base : State) (batches : List (List Change)) (replies : List CommitReply) (old new : Pass) : Type 0 where
+  pub number : new.number ≡ old.number
+  pub own_entries : own old.number new.last ≡ own old.number old.last ++ commits old.number batches replies
+  pub legal : IsLegal base (steps_of old.last) → IsLegal base (steps_of new.last)
+
+pub has_commits : (base : State) (batches : List (List Change)) (replies : List CommitReply) (old new : Pass) → AreAnswered base old batches replies new
+    → HasCommits base batches replies old new
+has_commits base [] [] old new is = record {
+  number = ap (λ (p : Pass). p.number) is;
+  own_entries = ap (λ (p : Pass). own old.number p.last) is ∙ sym (append-nil (own old.number old.last));
+  legal = λ before. subst (λ (p : Pass). IsLegal base (steps_of p.last)) (sym is) before;
+}
+has_commits base [] (reply ∷ replies) old new is = elim is [ ]
+has_commits base (batch ∷ batches) [] old new is = elim is [ ]
+has_commits base (batch ∷ batches) (reply ∷ replies) old new is =
+    let next : Pass = is.0 in
+    let one = goes_on base batch reply old next is.1 in
+    let rest = has_commits base batches replies next new is.2 in record {
+      number = rest.number ∙ one.number;
+      own_entries =
+          subst (λ (n : ℕ). own n new.last ≡ own n next.last ++ commits n batches replies) one.number rest.own_entries
+          ∙ ap (λ (es : List Entry). es ++ commits old.number batches replies) one.own_entries
+          ∙ append_assoc (own old.number old.last) (entries_of old.number batch reply) (commits old.number batches replies);
+      legal = λ before. rest.legal (one.legal before);
     }
-
--- the next is refused with this number
-refused_next : (base : State) (number : ℕ) (all left : List (List Change)) (versions : List ℕ) (now new : Pass) (batch : List Change) (code : ℕ)
-    → IsCommitting base number all (batch ∷ left) versions now → IsRefused base now (Commit batch) code new → RefusesBatch base all code
-refused_next base number all left versions now new batch code c met = record {
-  before = c.done;
-  batch = batch;
-  after = left;
-  parts = c.parts;
-  made = made_so_far base number all (batch ∷ left) versions now c;
-  history = new.shown;
-  goes_on = (met.shows.shown.0, ap (λ (h : List Entry). h ++ met.shows.shown.0) (sym c.shown) ∙ met.shows.shown.1);
-  legal = met.shows.legal;
-  is_answer = met.is_answer;
-}
-
--- the next is not committed
-pub not_committed : (base : State) (number : ℕ) (all left : List (List Change)) (versions : List ℕ) (now new : Pass) (batch : List Change) (error : SharedError)
-    → IsCommitting base number all (batch ∷ left) versions now → Refuses base now (Commit batch) error new → RefusesCommits base all error
-not_committed base number all left versions now new batch shared.NoMemory c met = tt
-not_committed base number all left versions now new batch shared.VertexRange c met = refused_next base number all left versions now new batch 111 c met
-not_committed base number all left versions now new batch shared.BadChunkSize c met = refused_next base number all left versions now new batch 103 c met
-not_committed base number all left versions now new batch shared.NotKept c met = refused_next base number all left versions now new batch 121 c met
-not_committed base number all left versions now new batch shared.NotHeld c met = refused_next base number all left versions now new batch 122 c met
-not_committed base number all left versions now new batch shared.HistoryFull c met = refused_next base number all left versions now new batch 123 c met
-not_committed base number all left versions now new batch shared.BadSeats c met = elim met [ ]

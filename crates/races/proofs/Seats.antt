@@ -1,17 +1,22 @@
 -- The readers of a race, and what it gives.
 use Rattle.std.proofs.Common.{◌≡◌, ◌∙◌, ℕ, zero, suc, ◌+◌, Option, Some, Result, Ok, Err, option_to_list, List, [], ◌∷◌, ◌++◌, length, length-append, refl, sym, ap, subst, arith}
 use Rattle.std.specs.Global.{Vec}
+use Rattle.std.specs.declared.alloc.AllocError.{AllocError}
 use Rattle.std.proofs.lemmas.List.{same_from_push}
 use Rattle.tree_batch.specs.declared.batch.Entry.{Entry as Change}
 use Rattle.plans.specs.declared.plan.Plan.{Plan}
 use Rattle.version_list.specs.Machine.{State, opened}
-use Rattle.shared_graph.specs.declared.error.SharedError.{SharedError}
 use Rattle.shared_graph.specs.declared.entry.Entry.{Entry}
 use Rattle.shared_graph.specs.Passes.{Pass, fresh, fresh_passes}
 use Rattle.races.specs.declared.outcomes.ProgramRuns.{ProgramRuns}
-use Rattle.races.specs.Race.{AllRan}
-use Rattle.races.specs.Racing.{CommitsAll, HasCommitted, IsRaced}
-use Rattle.races.specs.Refused.{RefusesCommits}
+use Rattle.races.specs.declared.outcomes.CommitReply.{CommitReply}
+use Rattle.races.specs.declared.error.RaceError.{RaceError}
+use Rattle.races.specs.declared.error.RaceError.TheVariants.{NotOpened, NotRun}
+use Rattle.snapshot_runs.specs.declared.error.LatestRunError.TheVariants as run
+use Rattle.races.specs.Race.{AllRan, AreAnswered}
+use Rattle.races.specs.Racing.{AnswersAll, IsRaced, RefusesRuns}
+use Rattle.races.specs.Refused.{AllAnswered, RefusesOnGraph}
+use Rattle.races.proofs.Commits.{has_commits}
 
 pub length_passes : (n : ℕ) → length (fresh_passes n) ≡ n
 length_passes zero = refl
@@ -28,28 +33,42 @@ pub as_many_left : (n : ℕ) (old new : List Pass) (popped : Option Pass) (write
     → length new ≡ n
 as_many_left n old new popped writer are cut some = ap (λ (l : List Pass). length l) (pass_popped n old new popped writer are cut some).0 ∙ length_passes n
 
--- where versions come back, all batches are committed
-pub committed_all : (base : State) (number : ℕ) (batches : List (List Change)) (result : Result (Vec ℕ) SharedError) (versions : Vec ℕ) (new : Pass) → result ≡ Ok versions
-    → CommitsAll base number batches result new → HasCommitted base number batches versions.items new
-committed_all base number batches result versions new is commits = subst (λ (r : Result (Vec ℕ) SharedError). CommitsAll base number batches r new) is commits
+-- where replies come back, all batches are answered
+pub answered_all : (base : State) (old new : Pass) (batches : List (List Change)) (result : Result (Vec CommitReply) AllocError) (replies : Vec CommitReply) → result ≡ Ok replies
+    → AnswersAll base old batches result new → AreAnswered base old batches replies.items new
+answered_all base old new batches result replies is answers = subst (λ (r : Result (Vec CommitReply) AllocError). AnswersAll base old batches r new) is answers
 
--- where an error comes back, a batch is refused
-pub refused_one : (base : State) (number : ℕ) (batches : List (List Change)) (result : Result (Vec ℕ) SharedError) (error : SharedError) (new : Pass) → result ≡ Err error
-    → CommitsAll base number batches result new → RefusesCommits base batches error
-refused_one base number batches result error new is commits = subst (λ (r : Result (Vec ℕ) SharedError). CommitsAll base number batches r new) is commits
+-- the batches are answered, and each program ran before and after
+pub raced : (n room writer : ℕ) (batches : List (List Change)) (plans : List Plan) (turns : ℕ) (old new : Pass) (replies : Vec CommitReply) (runs : Vec ProgramRuns) (told : List Entry) (ran : List Plan)
+    → old ≡ fresh writer → AreAnswered (opened n room) old batches replies.items new → told ≡ new.last → ran ≡ plans → AllRan n room turns told ran runs.items
+    → IsRaced n room batches plans turns (replies, runs)
+raced n room writer batches plans turns old new replies runs told ran is answers learned same all =
+    let answered = subst (λ (p : Pass). AreAnswered (opened n room) p batches replies.items new) is answers in
+    let made = has_commits (opened n room) batches replies.items (fresh writer) new answered in record {
+      writer = writer;
+      after = new;
+      answered = answered;
+      legal = made.legal tt;
+      committed = made.own_entries;
+      ran = subst (λ (h : List Entry). AllRan n room turns h plans runs.items) learned (subst (λ (ps : List Plan). AllRan n room turns told ps runs.items) same all);
+    }
 
--- the batches are committed, and each program ran before and after
-pub raced : (n room : ℕ) (batches : List (List Change)) (plans : List Plan) (turns : ℕ) (old new : Pass) (versions : Vec ℕ) (runs : Vec ProgramRuns) (told : List Entry) (ran : List Plan)
-    → HasCommitted (opened n room) old.number batches versions.items new → told ≡ new.last → ran ≡ plans → AllRan n room turns told ran runs.items
-    → IsRaced n room batches plans turns (versions, runs)
-raced n room batches plans turns old new versions runs told ran made learned same all = record {
-  writer = old.number;
-  history = new.last;
-  legal = made.legal;
-  committed = made.entries;
-  all_committed = made.all_committed;
-  ran = subst (λ (h : List Entry). AllRan n room turns h plans runs.items) learned (subst (λ (ps : List Plan). AllRan n room turns told ps runs.items) same all);
+all_answered : (base : State) (writer : ℕ) (batches : List (List Change)) (old new : Pass) (replies : List CommitReply) → old ≡ fresh writer → AreAnswered base old batches replies new
+    → AllAnswered base batches
+all_answered base writer batches old new replies is answers = record {
+  writer = writer;
+  replies = replies;
+  after = new;
+  answered = subst (λ (p : Pass). AreAnswered base p batches replies new) is answers;
 }
+
+-- a program is not run again
+pub refused_run : (base : State) (writer : ℕ) (batches : List (List Change)) (workers : ℕ) (old new : Pass) (replies : List CommitReply) (error : RaceError)
+    → old ≡ fresh writer → AreAnswered base old batches replies new → RefusesRuns workers error → RefusesOnGraph base batches workers error
+refused_run base writer batches workers old new replies (NotOpened error) is answers refuses = elim refuses [ ]
+refused_run base writer batches workers old new replies (NotRun run.NoMemory) is answers refuses = tt
+refused_run base writer batches workers old new replies (NotRun run.Closed) is answers refuses = (all_answered base writer batches old new replies is answers, refuses)
+refused_run base writer batches workers old new replies (NotRun run.BadWorkers) is answers refuses = (all_answered base writer batches old new replies is answers, refuses)
 
 -- a reader more than there are programs
 pub one_more : (n : ℕ) (passes : List Pass) → passes ≡ fresh_passes (n + 1) → passes ≡ fresh_passes (suc n)

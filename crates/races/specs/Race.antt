@@ -1,5 +1,5 @@
 -- What a race of a script and programs is: commits of one history, and runs on versions of it.
-use Rattle.std.specs.Prelude.{◌≡◌, ℕ, Bool, ◌||◌, List, [], ◌∷◌, length}
+use Rattle.std.specs.Prelude.{◌≡◌, ℕ, Bool, ◌||◌, List, [], ◌∷◌, ◌++◌, length}
 use Rattle.std.specs.List.{list_any}
 use mathlib.Core.List.{IsPrefix}
 use Rattle.tree_batch.specs.declared.batch.Entry.{Entry as Change}
@@ -7,20 +7,40 @@ use Rattle.replies.specs.OutcomeText.{is_fault}
 use Rattle.plans.specs.declared.plan.Plan.{Plan}
 use Rattle.version_list.specs.declared.step.Step.TheVariants.{Commit}
 use Rattle.version_list.specs.declared.step.Reply.TheVariants.{Version}
-use Rattle.version_list.specs.Machine.{opened}
+use Rattle.version_list.specs.Machine.{State, opened}
 use Rattle.version_list.specs.Timeline.{IsLegal}
 use Rattle.shared_graph.specs.declared.entry.Entry.{Entry}
 use Rattle.shared_graph.specs.Histories.{batches_of, entry, fold_of, own, steps_of}
+use Rattle.shared_graph.specs.Passes.{Pass, fresh, HasMade, IsRefused}
 use Rattle.snapshot_runs.specs.Outcome.{IsOutcomeOn}
+use Rattle.races.specs.declared.outcomes.CommitReply.{CommitReply}
+use Rattle.races.specs.declared.outcomes.CommitReply.TheVariants as answer
 use Rattle.races.specs.declared.outcomes.VersionRun.{VersionRun}
 use Rattle.races.specs.declared.outcomes.ProgramRuns.{ProgramRuns}
 use Rattle.races.specs.declared.outcomes.Race.{Race}
 
--- the commits of these batches by one reader, each with the version that it made
-abbrev pub commits : ℕ → List (List Change) → List ℕ → List Entry
-commits by [] versions = []
+-- a reader's commit of the batch made this version; or the machine refuses it, by this number, at the end of the history that the reader then shows
+abbrev pub IsAnswered : State → Pass → List Change → CommitReply → Pass → Type 0
+IsAnswered base old batch (answer.Version version) new = HasMade base old (Commit batch) (Version version) new
+IsAnswered base old batch (answer.Refused number) new = IsRefused base old (Commit batch) number new
+
+-- a reader gave these batches to be committed, one after another, and was answered so
+abbrev pub AreAnswered : State → Pass → List (List Change) → List CommitReply → Pass → Type 0
+AreAnswered base old [] [] new = new ≡ old
+AreAnswered base old [] (reply ∷ replies) new = ⊥
+AreAnswered base old (batch ∷ batches) [] new = ⊥
+AreAnswered base old (batch ∷ batches) (reply ∷ replies) new = (next : Pass) × IsAnswered base old batch reply next × AreAnswered base next batches replies new
+
+-- the entry of a commit that was answered so, if it is one of the history
+abbrev pub entries_of : ℕ → List Change → CommitReply → List Entry
+entries_of by batch (answer.Version version) = entry by (Commit batch) (Version version) ∷ []
+entries_of by batch (answer.Refused number) = []
+
+-- the commits of these batches by one reader that made a version
+abbrev pub commits : ℕ → List (List Change) → List CommitReply → List Entry
+commits by [] replies = []
 commits by (batch ∷ batches) [] = []
-commits by (batch ∷ batches) (version ∷ versions) = entry by (Commit batch) (Version version) ∷ commits by batches versions
+commits by (batch ∷ batches) (reply ∷ replies) = entries_of by batch reply ++ commits by batches replies
 
 -- the run is on the newest version of the history: its number is the count of the commits, and its outcome what the plan's program means on the fold of their batches
 pub record IsRunOn (n : ℕ) (plan : Plan) (turns : ℕ) (history : List Entry) (run : VersionRun) : Type 0 where
@@ -44,15 +64,18 @@ AllRan n room turns told [] (runs ∷ more) = ⊥
 AllRan n room turns told (plan ∷ plans) [] = ⊥
 AllRan n room turns told (plan ∷ plans) (runs ∷ more) = RanTwice n room plan turns told runs × AllRan n room turns told plans more
 
--- One reader of a graph of n vertices, whose history has so much room, made just the commits of these batches, with these versions, in a history that the late run of each program knows whole.
-pub record IsRace (n room : ℕ) (batches : List (List Change)) (plans : List Plan) (turns : ℕ) (race : Race) : Type 0 where
-  pub vertices : race.vertices ≡ n
+-- One reader of a graph of n vertices, whose history has so much room, gave these batches to be committed, in order, and was answered so. In the history after its last commit it made just those that were not refused, and the late run of each program knows that history whole.
+pub record AreRaced (n room : ℕ) (batches : List (List Change)) (replies : List CommitReply) (plans : List Plan) (turns : ℕ) (runs : List ProgramRuns) : Type 0 where
   pub writer : ℕ
-  pub history : List Entry
-  pub legal : IsLegal (opened n room) (steps_of history)
-  pub committed : own writer history ≡ commits writer batches race.versions.items
-  pub all_committed : length race.versions.items ≡ length batches
-  pub ran : AllRan n room turns history plans race.runs.items
+  pub after : Pass
+  pub answered : AreAnswered (opened n room) (fresh writer) batches replies after
+  pub legal : IsLegal (opened n room) (steps_of after.last)
+  pub committed : own writer after.last ≡ commits writer batches replies
+  pub ran : AllRan n room turns after.last plans runs
+
+-- a race on a graph of n vertices
+abbrev pub IsRace : (n room : ℕ) → List (List Change) → List Plan → ℕ → Race → Type 0
+IsRace n room batches plans turns race = (race.vertices ≡ n) × AreRaced n room batches race.replies.items plans turns race.runs.items
 
 -- whether one of a program's two runs ended by a fault
 abbrev pub runs_fault : ProgramRuns → Bool

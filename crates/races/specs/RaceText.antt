@@ -6,13 +6,20 @@ use Rattle.replies.specs.ReplyText.{word_line}
 use Rattle.replies.specs.OutcomeText.{outcome_text}
 use Rattle.replies.specs.declared.send_error.SendError.{SendError}
 use Rattle.replies.specs.declared.send_error.SendError.TheVariants.{NoMemory, WriteFailed}
+use Rattle.races.specs.declared.outcomes.CommitReply.{CommitReply}
+use Rattle.races.specs.declared.outcomes.CommitReply.TheVariants.{Version, Refused}
 use Rattle.races.specs.declared.outcomes.VersionRun.{VersionRun}
 use Rattle.races.specs.declared.outcomes.ProgramRuns.{ProgramRuns}
 use Rattle.races.specs.declared.outcomes.Race.{Race}
 
+-- the line of what a commit is answered
+abbrev pub reply_line : CommitReply → List ℕ
+reply_line (Version version) = word_line (codes "version") version
+reply_line (Refused number) = word_line (codes "refused") number
+
 -- the replies of the commits
-abbrev pub versions_text : List ℕ → List ℕ
-versions_text versions = flat_map (λ version. word_line (codes "version") version) versions
+abbrev pub replies_text : List CommitReply → List ℕ
+replies_text replies = flat_map reply_line replies
 
 -- when the program of this number ran, and on which version
 abbrev pub run_line : List ℕ → ℕ → ℕ → List ℕ
@@ -46,7 +53,7 @@ late_text all = numbered late_run 1 all
 -- the reply of the opening, those of the commits, and the early and the late runs, each in order
 abbrev pub race_text : Race → List ℕ
 race_text race =
-    word_line (codes "open") race.vertices ++ (versions_text race.versions.items ++ (early_text race.runs.items ++ late_text race.runs.items))
+    word_line (codes "open") race.vertices ++ (replies_text race.replies.items ++ (early_text race.runs.items ++ late_text race.runs.items))
 
 -- of the text a beginning was taken
 abbrev pub TakesBeginning : List ℕ → Taken → Taken → Type 0

@@ -1,26 +1,24 @@
 -- For proofs only: how far a race has come.
-use Rattle.std.specs.Prelude.{◌≡◌, ℕ, List, [], length, map, Result, Ok, Err, IfErr, IfOk}
+use Rattle.std.specs.Prelude.{◌≡◌, ℕ, List, map, Result, Ok, Err, IfErr, IfOk, alloc_error}
+use Rattle.std.specs.declared.alloc.AllocError.{AllocError}
 use Rattle.std.specs.Global.{Vec}
 use Rattle.std.specs.List.{All}
 use Rattle.tree_batch.specs.declared.batch.Entry.{Entry as Change}
-use Rattle.version_list.specs.Machine.{State, opened}
-use Rattle.version_list.specs.Timeline.{IsLegal}
-use Rattle.shared_graph.specs.Histories.{own, steps_of}
+use Rattle.version_list.specs.Machine.{State}
 use Rattle.plans.specs.declared.plan.Plan.{Plan}
-use Rattle.shared_graph.specs.declared.entry.Entry.{Entry}
 use Rattle.shared_graph.specs.declared.error.SharedError.{SharedError}
+use Rattle.shared_graph.specs.declared.error.SharedError.TheVariants as shared
 use Rattle.shared_graph.specs.Passes.{Pass}
+use Rattle.shared_graph.specs.Refusal.{number_of}
 use Rattle.races.specs.declared.entrants.EarlyRun.{EarlyRun}
 use Rattle.races.specs.declared.entrants.Entrant.{Entrant}
+use Rattle.races.specs.declared.outcomes.CommitReply.{CommitReply}
+use Rattle.races.specs.declared.outcomes.CommitReply.TheVariants as answer
 use Rattle.races.specs.declared.outcomes.ProgramRuns.{ProgramRuns}
 use Rattle.races.specs.declared.error.RaceError.{RaceError}
-use Rattle.races.specs.declared.error.RaceError.TheVariants.{NotCommitted, NotRun}
-use Rattle.races.specs.Race.{AllRan, IsRunOn, commits}
-use Rattle.races.specs.Refused.{RefusesCommits, RefusesRun}
-
--- a reader that has shown nothing
-abbrev pub IsFresh : Pass → Type 0
-IsFresh reader = (reader.shown ≡ []) × (reader.last ≡ [])
+use Rattle.races.specs.declared.error.RaceError.TheVariants.{NotOpened, NotRun}
+use Rattle.races.specs.Race.{AreAnswered, AreRaced, IsRunOn}
+use Rattle.races.specs.Refused.{RefusesRun}
 
 -- the run is on the newest version of the history that the reader shows, or refused
 abbrev pub RanEarly : {J : Type 0} → ℕ → ℕ → ℕ → EarlyRun J → Type 0
@@ -30,27 +28,22 @@ RanEarly n turns workers ran = IfOk ran.run (IsRunOn n ran.plan.now turns ran.re
 abbrev pub AllRanEarly : {J : Type 0} → ℕ → ℕ → ℕ → List (Entrant J) → List (EarlyRun J) → Type 0
 AllRanEarly n turns workers entrants ran = (map (λ r. r.plan.now) ran ≡ map (λ e. e.plan.now) entrants) × All (RanEarly n turns workers) ran
 
--- the entries of the reader of this number are one commit of each of the batches, and all that it made is legal
-pub record HasCommitted (base : State) (number : ℕ) (batches : List (List Change)) (versions : List ℕ) (new : Pass) : Type 0 where
-  pub entries : own number new.last ≡ commits number batches versions
-  pub all_committed : length versions ≡ length batches
-  pub legal : IsLegal base (steps_of new.last)
+-- all batches are answered so; or memory ran out
+abbrev pub AnswersAll : State → Pass → List (List Change) → Result (Vec CommitReply) AllocError → Pass → Type 0
+AnswersAll base old batches (Ok replies) new = AreAnswered base old batches replies.items new
+AnswersAll base old batches (Err error) new = Unit {0}
 
--- all batches are committed, or one is refused
-abbrev pub CommitsAll : State → ℕ → List (List Change) → Result (Vec ℕ) SharedError → Pass → Type 0
-CommitsAll base number batches (Ok versions) new = HasCommitted base number batches versions.items new
-CommitsAll base number batches (Err error) new = RefusesCommits base batches error
+-- what a commit gave is answered so; or memory ran out
+abbrev pub RepliesTo : Result ℕ SharedError → Result CommitReply AllocError → Type 0
+RepliesTo (Ok version) result = result ≡ Ok (answer.Version version)
+RepliesTo (Err shared.NoMemory) result = result ≡ Err alloc_error
+RepliesTo (Err error) result = result ≡ Ok (answer.Refused (number_of error))
 
 -- programs are not run again, for a refusal of a run; or memory ran out
 abbrev pub RefusesRuns : ℕ → RaceError → Type 0
-RefusesRuns workers (NotCommitted error) = ⊥
+RefusesRuns workers (NotOpened error) = ⊥
 RefusesRuns workers (NotRun error) = RefusesRun workers error
 
 -- what committing and running gave, before it is put together
-pub record IsRaced (n room : ℕ) (batches : List (List Change)) (plans : List Plan) (turns : ℕ) (raced : Vec ℕ × Vec ProgramRuns) : Type 0 where
-  pub writer : ℕ
-  pub history : List Entry
-  pub legal : IsLegal (opened n room) (steps_of history)
-  pub committed : own writer history ≡ commits writer batches raced.0.items
-  pub all_committed : length raced.0.items ≡ length batches
-  pub ran : AllRan n room turns history plans raced.1.items
+abbrev pub IsRaced : (n room : ℕ) → List (List Change) → List Plan → ℕ → Vec CommitReply × Vec ProgramRuns → Type 0
+IsRaced n room batches plans turns raced = AreRaced n room batches raced.0.items plans turns raced.1.items

@@ -1,7 +1,7 @@
 //! Why there was no race.
 ghost use Rattle.std.specs.Prelude.{◌≡◌};
 ghost use Rattle.races.specs.Refusal.{number_of, script_number_of};
-ghost use Rattle.races.specs.declared.error.RaceError.TheVariants.{NotCommitted, NotRun};
+ghost use Rattle.races.specs.declared.error.RaceError.TheVariants.{NotOpened, NotRun};
 ghost use Rattle.races.specs.declared.error.RaceScriptError.TheVariants as script;
 ghost use Rattle.snapshot_runs.specs.declared.error.LatestRunError.TheVariants as run;
 
@@ -50,9 +50,9 @@ impl<T: Drop> From<AllocFailed<T>> for RaceScriptError {
 /// Why a race was not opened, or did not come to its end.
 #[derive(Clone, Copy, Debug, PartialEq, Eq, Error)]
 pub enum RaceError {
-    /// The graph was not opened, or a batch was not committed.
+    /// The graph was not opened.
     #[error("{0}")]
-    NotCommitted(SharedError),
+    NotOpened(SharedError),
     /// A program was not run.
     #[error("{0}")]
     NotRun(LatestRunError),
@@ -64,17 +64,17 @@ impl RaceError {
         ensures { result ≡ number_of self }
     {
         match self {
-            RaceError::NotCommitted(error) => error.number(),
+            RaceError::NotOpened(error) => error.number(),
             RaceError::NotRun(error) => error.number(),
         }
     }
 }
 
 impl From<SharedError> for RaceError {
-    ghost from_gives = { λ error e. e ≡ NotCommitted error };
+    ghost from_gives = { λ error e. e ≡ NotOpened error };
 
     fn from(error: SharedError) -> RaceError {
-        RaceError::NotCommitted(error)
+        RaceError::NotOpened(error)
     }
 }
 

@@ -19,11 +19,18 @@ pub struct ProgramRuns {
     pub late: VersionRun,
 }
 
-/// A graph of so many vertices, the versions that the commits made, in order, and the runs of each program, in order.
+/// What a commit is answered: the version that it made, or the number by which it is refused.
+#[derive(Clone, Copy, Debug, PartialEq, Eq)]
+pub enum CommitReply {
+    Version(u64),
+    Refused(u16),
+}
+
+/// A graph of so many vertices, the replies of the commits, in order, and the runs of each program, in order.
 #[derive(Drop)]
 pub struct Race {
     pub vertices: u32,
-    pub versions: Vec<u64>,
+    pub replies: Vec<CommitReply>,
     pub runs: Vec<ProgramRuns>,
 }
 

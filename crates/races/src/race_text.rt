@@ -1,10 +1,11 @@
 //! The text of a race.
 ghost use Rattle.std.specs.Prelude.{◌≡◌, [], IfOk};
+ghost use Rattle.replies.specs.ReplyText.{line_text};
 ghost use Rattle.replies.specs.Sending.{Emits};
 ghost use Rattle.scripts.specs.Script.{taken_by};
-ghost use Rattle.races.specs.RaceText.{Writes, early_text, late_text, race_text, run_line, run_text, versions_text};
+ghost use Rattle.races.specs.RaceText.{Writes, early_text, late_text, race_text, replies_text, reply_line, run_line, run_text};
 
-use crate::outcomes::{ProgramRuns, Race, VersionRun};
+use crate::outcomes::{CommitReply, ProgramRuns, Race, VersionRun};
 use decimal::push_number;
 use devices::Drain;
 use replies::{BLOCK, LineReply, ReplyWriter, SendError};
@@ -59,21 +60,31 @@ fn send_race<W: Drain>(
     ensures { Emits replies.old replies.new (race_text race.now) result }
 {
     replies.send_line(LineReply::Open(race.vertices))?;
-    send_versions(&race.versions, replies)?;
+    send_replies(&race.replies, replies)?;
     send_early(alloc, &race.runs, replies)?;
     send_late(alloc, &race.runs, replies)
 }
 
-fn send_versions<W: Drain>(
-    versions: &[u64],
+fn send_replies<W: Drain>(
+    commits: &[CommitReply],
     replies: &mut ReplyWriter<'_, W>,
 ) -> Result<(), SendError>
-    ensures { Emits replies.old replies.new (versions_text versions.now) result }
+    ensures { Emits replies.old replies.new (replies_text commits.now) result }
 {
-    'versions: for version in versions {
-        replies.send_line(LineReply::Version(*version))?;
+    'commits: for commit in commits {
+        replies.send_line(line_of(*commit))?;
     }
     Ok(())
+}
+
+// The line of what a commit is answered.
+fn line_of(commit: CommitReply) -> LineReply
+    ensures { line_text result ≡ reply_line commit }
+{
+    match commit {
+        CommitReply::Version(version) => LineReply::Version(version),
+        CommitReply::Refused(number) => LineReply::Refused(number),
+    }
 }
 
 fn send_early<W: Drain>(

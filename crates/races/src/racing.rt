@@ -5,11 +5,11 @@ ghost use Rattle.version_list.specs.Machine.{opened};
 ghost use Rattle.shared_graph.specs.Passes.{fresh_passes};
 ghost use Rattle.races.specs.Race.{AllRan, IsRace};
 ghost use Rattle.races.specs.Refused.{RefusesOnGraph, RefusesRace};
-ghost use Rattle.races.specs.Racing.{AllRanEarly, CommitsAll, IsFresh, IsRaced, RanEarly, RefusesRuns};
+ghost use Rattle.races.specs.Racing.{AllRanEarly, AnswersAll, IsRaced, RanEarly, RefusesRuns, RepliesTo};
 
 use crate::entrants::{EarlyRun, Entrant, entrants};
 use crate::error::RaceError;
-use crate::outcomes::{ProgramRuns, Race};
+use crate::outcomes::{CommitReply, ProgramRuns, Race};
 use crate::reading::RaceScript;
 use plans::Plan;
 use shared_graph::{Naming, Opening, Reader, SharedError, SharedGraph, Token};
@@ -20,12 +20,12 @@ use std::thread::{self, Threads, join};
 use tree_batch::Batch;
 
 /// Opens the graph of a script and commits its batches, in order, on one thread, while for each program another runs it on the
-/// newest version, by so many workers, 1 to 64, for at most so many turns. Once all batches are committed, each program runs
-/// again, on the newest version then.
+/// newest version, by so many workers, 1 to 64, for at most so many turns. A batch that is refused (111, 123) is told by its
+/// reply, and the next is committed. Once all batches have their replies, each program runs again, on the newest version then.
 ///
-/// Errors: `NotCommitted` where the graph is not opened, for its vertices (111), for its chunks (103) or for more than 63
-/// programs (124), or where a batch is not committed (111, 123, 900). Else `NotRun` for the first program that is not run
-/// (411, 125, 900), or where memory runs out.
+/// Errors: `NotOpened` where the graph is not opened, for its vertices (111), for its chunks (103) or for more than 63
+/// programs (124), or memory runs out for it (900). Else `NotRun` for the first program that is not run (411, 125, 900), or
+/// where memory runs out.
 pub fn race<T: Threads + Wait + Sync>(
     rt: &T,
     alloc: Global,
@@ -65,15 +65,15 @@ fn race_known<J: Naming + Send + Sync, T: Threads + Wait + Sync>(
     let (graph, readers) = SharedGraph::<J, &T>::open(
         rt, alloc, opening, vertices, chunk_size, seats,
     )?;
-    let (versions, runs) = race_on(rt, alloc, &graph, readers, batches, plans, workers, turns)?;
+    let (replies, runs) = race_on(rt, alloc, &graph, readers, batches, plans, workers, turns)?;
     Ok(Race {
         vertices,
-        versions,
+        replies,
         runs,
     })
 }
 
-// The versions that the batches made, and the runs of the programs. The last of the readers commits.
+// The replies of the commits, and the runs of the programs. The last of the readers commits.
 fn race_on<J: Naming + Send + Sync, T: Threads + Wait + Sync>(
     rt: &T,
     alloc: Global,
@@ -83,7 +83,7 @@ fn race_on<J: Naming + Send + Sync, T: Threads + Wait + Sync>(
     plans: &[&Plan],
     workers: usize,
     turns: u64,
-) -> Result<(Vec<u64>, Vec<ProgramRuns>), RaceError>
+) -> Result<(Vec<CommitReply>, Vec<ProgramRuns>), RaceError>
     requires { readers.items ≡ fresh_passes (suc (length plans.now)) }
     ensures raced { IfOk result (IsRaced J.vertices J.room batches.items (map (λ p. p.now) plans.now) turns) }
     ensures refused { IfErr result (RefusesOnGraph (opened J.vertices J.room) batches.items workers) }
@@ -93,34 +93,32 @@ fn race_on<J: Naming + Send + Sync, T: Threads + Wait + Sync>(
         unreachable!()
     };
     let entrants = entrants(alloc, readers, plans)?;
-    let (ran, (writer, committed)) = join(
+    let (ran, (writer, answered)) = join(
         rt,
         move || -> Result<Vec<EarlyRun<J>>, AllocError>
             ensures { IfOk result (λ ran. AllRanEarly J.vertices turns workers entrants.entry.items ran.items) }
         { run_all_early(rt, alloc, entrants, workers, turns) },
-        move || -> (Reader<J>, Result<Vec<u64>, SharedError>)
-            requires { IsFresh writer }
-            ensures { CommitsAll (opened J.vertices J.room) writer.number batches.items result.1 result.0 }
+        move || -> (Reader<J>, Result<Vec<CommitReply>, AllocError>)
+            ensures { AnswersAll (opened J.vertices J.room) writer batches.items result.1 result.0 }
         { commit_all(rt, alloc, graph, writer, batches) },
     );
-    let versions = committed?;
+    let replies = answered?;
     let runs = run_all_late(rt, alloc, ran?, &writer.token(), workers, turns)?;
-    Ok((versions, runs))
+    Ok((replies, runs))
 }
 
-// Commits the batches in the name of a reader, and gives the reader back with the versions that they made.
+// Commits the batches in the name of a reader, and gives the reader back with the replies. The only error is out of memory.
 fn commit_all<J: Naming, T: Threads + Wait + Sync>(
     rt: &T,
     alloc: Global,
     graph: &SharedGraph<J, &T>,
     mut writer: Reader<J>,
     batches: Vec<Batch>,
-) -> (Reader<J>, Result<Vec<u64>, SharedError>)
-    requires { IsFresh writer }
-    ensures { CommitsAll (opened J.vertices J.room) writer.number batches.items result.1 result.0 }
+) -> (Reader<J>, Result<Vec<CommitReply>, AllocError>)
+    ensures { AnswersAll (opened J.vertices J.room) writer batches.items result.1 result.0 }
 {
-    let committed = commit_each(rt, alloc, graph, &mut writer, batches);
-    (writer, committed)
+    let answered = commit_each(rt, alloc, graph, &mut writer, batches);
+    (writer, answered)
 }
 
 fn commit_each<J: Naming, T: Threads + Wait + Sync>(
@@ -129,15 +127,26 @@ fn commit_each<J: Naming, T: Threads + Wait + Sync>(
     graph: &SharedGraph<J, &T>,
     writer: &mut Reader<J>,
     batches: Vec<Batch>,
-) -> Result<Vec<u64>, SharedError>
-    requires { IsFresh writer.old }
-    ensures { CommitsAll (opened J.vertices J.room) writer.old.number batches.items result writer.new }
+) -> Result<Vec<CommitReply>, AllocError>
+    ensures { AnswersAll (opened J.vertices J.room) writer.old batches.items result writer.new }
 {
-    let mut versions = Vec::with_capacity(alloc, batches.len())?;
+    let mut replies = Vec::with_capacity(alloc, batches.len())?;
     for batch in batches {
-        versions.push(graph.commit(rt, alloc, writer, batch)?)?;
+        let committed = graph.commit(rt, alloc, writer, batch);
+        replies.push(reply(committed)?)?;
     }
-    Ok(versions)
+    Ok(replies)
+}
+
+// What a commit is answered. The only error is out of memory.
+fn reply(committed: Result<u64, SharedError>) -> Result<CommitReply, AllocError>
+    ensures { RepliesTo committed result }
+{
+    match committed {
+        Ok(version) => Ok(CommitReply::Version(version)),
+        Err(SharedError::NoMemory) => Err(AllocError),
+        Err(error) => Ok(CommitReply::Refused(error.number())),
+    }
 }
 
 // Runs each program on a thread of its own.

@@ -5,8 +5,9 @@ use denote.Param.Send.{IsSend, arg_send, param_send, sendable, shr_send}
 use Rattle.std.proofs.Common.{◌∙◌, length}
 use Rattle.std.proofs.Crossing.{Vec-send, crosses, send as heap_send}
 use Rattle.std.proofs.lemmas.Result.{IfOk-at_ok}
+use Rattle.version_list.specs.Machine.{opened}
 use Rattle.races.proofs.Crossing.{early_run_send, entrant_send, five_send}
-use Rattle.races.proofs.Seats.{as_many_left, committed_all, raced}
+use Rattle.races.proofs.Seats.{answered_all, as_many_left, pass_popped, raced}
 use Rattle.races.proofs.racing.race_on.Goals as goal
 
 pub entrants-requires : goal.entrants-requires
@@ -29,6 +30,8 @@ join-ran-requires-send-A g c κs within = search (sendable, crosses, early_run_s
 pub returns-clause-raced : goal.returns-clause-raced
 returns-clause-raced g c =
     let ran = IfOk-at_ok _ c.in_ok-ran.was c.join-ran.ensures.first in
-    let made = committed_all _ _ _ _ _ _ c.in_ok-versions.was c.join-ran.ensures.second in
-    raced g.J.Naming.vertices g.J.Naming.room c.args.batches.items _ c.args.turns c.in-Some.writer _ c.in_ok-versions.versions c.in_ok-runs.runs _ _ made c.token.ensures
+    let base = opened g.J.Naming.vertices g.J.Naming.room in
+    let fresh = (pass_popped (length c.args.plans.now) _ _ _ _ c.requires c.pop.ensures.items c.in-Some.is).1 in
+    let answered = answered_all base c.in-Some.writer _ c.args.batches.items _ _ c.in_ok-replies.was c.join-ran.ensures.second in
+    raced g.J.Naming.vertices g.J.Naming.room _ c.args.batches.items _ c.args.turns c.in-Some.writer _ c.in_ok-replies.replies c.in_ok-runs.runs _ _ fresh answered c.token.ensures
     (ran.0 ∙ c.in_ok-entrants.ensures) c.in_ok-runs.ensures.ran
