@@ -165,6 +165,9 @@ class Graph:
     def remove(self, source, destination):
         self.lines.append(f"del {source} {destination}")
 
+    def grow(self, vertices):
+        self.lines.append(f"grow {vertices}")
+
     def commit(self):
         return self.ask("commit")
 
