@@ -211,19 +211,19 @@ fn run_stream<'a, T: Threads + Sync, F: Files, R: Feed, W: Drain>(
         (taken_by (W.taken out.old) (W.failures out.old))
         (taken_by (W.taken out.new) (W.failures out.new)) result.0 }
 {
-    let plans = match compiled_files(alloc, programs, files) {
-        Ok(plans) => plans,
+    let compiled = match compiled_files(alloc, programs, files) {
+        Ok(compiled) => compiled,
         Err(error) => return (Err(error), None),
     };
     let programs = CompiledPrograms::new(
-        plans,
+        compiled,
         |alloc: Global, order: RunOrder<'_>| -> Result<Outcome, AllocError>
             requires { AreWorkers order.workers }
             ensures { IfOk result (ShowsMeaning order.entry) }
         { run_by_workers(rt, alloc, order) },
     );
-    let (ended, state) = script(alloc, &programs, input, out);
-    (ended_as(ended), Some(state))
+    let (done, state) = script(alloc, &programs, input, out);
+    (ended_as(done), Some(state))
 }
 
 // The programs in the files of these names.
