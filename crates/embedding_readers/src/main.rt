@@ -7,11 +7,11 @@
 ghost use Rattle.std.specs.Prelude.{◌≡◌};
 
 use algorithm_meaning::Outcome;
-use anyhow::{Result, anyhow};
+use anyhow::Result;
 use compiler::compile;
 use crew::Open;
 use plans::Plan;
-use shared_graph::{Naming, Opening, Reader, SharedGraph};
+use shared_graph::{Naming, Opening, Reader, SharedError, SharedGraph};
 use snapshot_runs::run_latest;
 use std::alloc::Global;
 use std::marker::Brand;
@@ -45,7 +45,7 @@ fn main(rt: HostRuntime) -> Result<()> {
     share::<Brand, _>(&rt, &rt, Opening::new(), &plan)
 }
 
-// Opens a graph for two readers, and has one of them commit beside the other's runs.
+// Opens a graph for two readers.
 fn share<J: Naming + Send + Sync, T: Threads + Wait + Sync>(
     rt: &HostRuntime,
     threads: &T,
@@ -57,21 +57,40 @@ fn share<J: Naming + Send + Sync, T: Threads + Wait + Sync>(
     requires room { J.room ≡ 16777216 }
 {
     let alloc = rt.alloc();
-    let (graph, mut readers) =
-        SharedGraph::<J, &T>::open(threads, alloc, opening, VERTICES, 64, 2)?;
-    let [writer, reader] = readers.as_mut_slice() else {
-        return Err(anyhow!("there are two readers"));
-    };
+    let (graph, mut readers) = SharedGraph::<J, &T>::open(
+        threads, alloc, opening, VERTICES, 64, 2,
+    )?;
+    let mut writer = readers.pop().ok_or(SharedError::BadSeats)?;
+    let mut reader = readers.pop().ok_or(SharedError::BadSeats)?;
+    run_beside(rt, threads, &graph, plan, &mut writer, &mut reader)
+}
+
+// Has the one commit in one thread while the other runs the plan in a second, and then runs it once more.
+fn run_beside<J: Naming + Send + Sync, W: Wait + Drop + Send + Sync, T: Threads + Wait + Sync>(
+    rt: &HostRuntime,
+    threads: &T,
+    graph: &SharedGraph<J, W>,
+    plan: &Plan,
+    writer: &mut Reader<J>,
+    reader: &mut Reader<J>,
+) -> Result<()> {
+    let alloc = rt.alloc();
     let (committed, right) = join(
         threads,
-        || commit_all(threads, alloc, &graph, writer),
+        || commit_all(threads, alloc, graph, writer),
         || count_right(threads, alloc, plan, reader),
     );
     println!(rt; "the newest version is {}", committed?)?;
-    println!(rt; "{} of {RUNS} runs beside the commits were of their version", right?)?;
+    println!(rt;
+        "{} of {RUNS} runs beside the commits were of their version",
+        right?
+    )?;
     reader.learn(&writer.token());
     let (version, outcome) = run_latest(threads, alloc, plan, reader, 2, TURNS, &Open)?;
-    println!(rt; "the last run is on version {version} and reaches {} vertices", reached(&outcome))?;
+    println!(rt;
+        "the last run is on version {version} and reaches {} vertices",
+        reached(&outcome)
+    )?;
     Ok(())
 }
 
