@@ -23,7 +23,7 @@ pub enum ServeError<'a> {
     WriteFailed,
     /// The text in the file of this name is no program. The error is never that memory ran out.
     Refused { file: &'a str, error: CompileError },
-    /// The script in the file of this name is none of a race, or its graph or a batch is refused, by this number.
+    /// The script in the file of this name is none of a race, or its graph is refused, by this number.
     RaceRefused { file: &'a str, number: u16 },
     /// A race found nothing published.
     Closed,
