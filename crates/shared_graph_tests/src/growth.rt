@@ -36,6 +36,9 @@ fn commit<J: Naming, W: Wait + Drop, R: Threads + Wait + Sync>(
     graph.commit(rt, alloc, me, batch)
 }
 
+// The greatest number that names a vertex.
+const MOST: u64 = 4_294_967_295;
+
 // Makes the version of this number, its edge before its vertex.
 fn grow_to<J: Naming, W: Wait + Drop, R: Threads + Wait + Sync>(
     rt: &R,
@@ -44,7 +47,7 @@ fn grow_to<J: Naming, W: Wait + Drop, R: Threads + Wait + Sync>(
     me: &mut Reader<J>,
     number: u64,
 ) -> Result<u64, SharedError> {
-    let vertex = number as u32;
+    let vertex = number.min(MOST) as u32;
     let entries = [Entry::Add(vertex, 0), Entry::Grow(vertex.wrapping_add(1))];
     commit(rt, alloc, graph, me, &entries)
 }
