@@ -97,8 +97,8 @@ fn of_race<'a>(file: &'a str, error: RaceError) -> ServeError<'a>
     ensures { result ≡ of_race file.entry error }
 {
     match error {
-        RaceError::NotOpened(SharedError::NoMemory)
-        | RaceError::NotRun(LatestRunError::NoMemory) => ServeError::NoMemory,
+        RaceError::NotOpened(SharedError::NoMemory) | RaceError::NotRun(LatestRunError::NoMemory) =>
+            ServeError::NoMemory,
         RaceError::NotRun(LatestRunError::Closed) => ServeError::Closed,
         _ => ServeError::RaceRefused {
             file,
