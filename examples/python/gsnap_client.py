@@ -1,22 +1,22 @@
-"""Plays scripts by the program gsnap, and turns its replies into dictionaries.
+"""Asks the program gsnap by a pipe, and turns its replies into dictionaries.
 
     from gsnap_client import Graph
 
-    graph = Graph(6, programs=["examples/reachability.program"])
-    graph.add(0, 1)
-    graph.add(1, 2)
-    graph.commit()
-    held = graph.hold()
-    graph.remove(1, 2)
-    graph.commit()
-    now = graph.run(1, turns=6)
-    then = graph.run(1, turns=6, ticket=held)
-    print(now["vectors"]["parent"])    # [0, 0, -1, -1, -1, -1]
-    print(then["vectors"]["parent"])   # [0, 0, 1, -1, -1, -1]
+    with Graph(6, programs=["examples/reachability.program"]) as graph:
+        graph.add(0, 1)
+        graph.add(1, 2)
+        graph.commit()
+        held = graph.hold()["ticket"]
+        graph.remove(1, 2)
+        graph.commit()
+        now = graph.run(1, turns=6)
+        then = graph.run(1, turns=6, ticket=held)
+        print(now["vectors"]["parent"])    # [0, 0, -1, -1, -1, -1]
+        print(then["vectors"]["parent"])   # [0, 0, 1, -1, -1, -1]
 
-A call that asks for something gives an Answer at once; nothing is run before an answer is looked at. Then all lines so
-far are played in one process, from the beginning: replies depend on the lines alone, so those that were known stay the
-same. So ask for all, and look afterwards. A refused line raises Refused where its answer is looked at.
+One process of gsnap goes along with a Graph, and each call that has a reply is answered before it returns. A refused line
+raises Refused, and the graph goes on; where gsnap ends, Failed is raised. What is added, removed or grown has no reply, so
+many edges go as fast as they can be written; `load` does that, and shows on a terminal how far it is.
 """
 import os
 import re
@@ -129,44 +129,59 @@ def parse(lines):
         yield last
 
 
-class Answer:
-    """The reply to one line. Looking at it plays the script, where that is not done yet."""
+# A line that is no command. It is refused by 801 and changes nothing, so the reply to a run before it has ended there.
+MARK = "?"
 
-    def __init__(self, graph, line):
-        self.graph = graph
-        self.line = line
-        self.reply = None
-
-    def get(self):
-        """Returns the reply as a dictionary, or raises Refused."""
-        if self.reply is None:
-            self.graph.play()
-        if self.reply["reply"] == "refused":
-            raise Refused(self.reply["number"], self.line)
-        return self.reply
-
-    def __getitem__(self, key):
-        return self.get()[key]
+# How many edges are loaded from one look at the terminal to the next.
+STRIDE = 100_000
 
 
 class Graph:
-    """A script that grows by calls, with the programs that it runs, numbered from 1."""
+    """A graph in a process of gsnap, with the programs that it runs, numbered from 1."""
 
     def __init__(self, vertices, programs=(), gsnap="gsnap"):
-        self.command = [gsnap]
-        self.programs = [os.fspath(program) for program in programs]
-        self.lines = []
-        self.answers = []
-        self.ask(f"vertices {vertices}")
+        words = [gsnap, "script", "-", *map(os.fspath, programs)]
+        self.said = tempfile.TemporaryFile("w+")
+        self.process = subprocess.Popen(words, stdin=subprocess.PIPE, stdout=subprocess.PIPE, stderr=self.said, text=True)
+        try:
+            self.ask(f"vertices {vertices}")
+        except Exception:
+            self.process.kill()
+            self.close()
+            raise
+
+    def __enter__(self):
+        return self
+
+    def __exit__(self, *_):
+        self.close()
+
+    def close(self):
+        """Ends the script, and with it the process; its exit status is the answer."""
+        try:
+            self.process.communicate()
+        except BrokenPipeError:
+            self.process.wait()
+        self.said.close()
+        return self.process.returncode
 
     def add(self, source, destination):
-        self.lines.append(f"add {source} {destination}")
+        self.send(f"add {source} {destination}")
 
     def remove(self, source, destination):
-        self.lines.append(f"del {source} {destination}")
+        self.send(f"del {source} {destination}")
 
     def grow(self, vertices):
-        self.lines.append(f"grow {vertices}")
+        self.send(f"grow {vertices}")
+
+    def load(self, edges):
+        """Adds all edges of a sequence, and shows on a terminal how many they are so far."""
+        count = 0
+        for count, (source, destination) in enumerate(edges, 1):
+            self.send(f"add {source} {destination}")
+            if count % STRIDE == 0:
+                tell(f"\r{count} edges")
+        tell(f"\r{count} edges\n")
 
     def commit(self):
         return self.ask("commit")
@@ -175,7 +190,7 @@ class Graph:
         return self.ask("hold" if version is None else f"hold at {version}")
 
     def release(self, ticket):
-        return self.ask(f"release {number_of(ticket)}")
+        return self.ask(f"release {ticket}")
 
     def edges(self, ticket=None):
         return self.ask(f"edges{place(ticket)}")
@@ -184,37 +199,59 @@ class Graph:
         return self.ask(f"run {program} {turns} {workers}{place(ticket)}")
 
     def ask(self, line):
-        """Adds a line that has a reply."""
-        self.lines.append(line)
-        self.answers.append(Answer(self, line))
-        return self.answers[-1]
+        """Sends a line that has a reply, and returns the reply as a dictionary, or raises Refused."""
+        is_run = line.startswith("run ")
+        self.send(line)
+        if is_run:
+            self.send(MARK)
+        try:
+            self.process.stdin.flush()
+        except BrokenPipeError:
+            self.fail()
+        (reply,) = parse(self.read_run() if is_run else self.read_lines())
+        if reply["reply"] == "refused":
+            raise Refused(reply["number"], line)
+        return reply
 
-    def play(self):
-        """Plays all lines, and fills in the answers. On a terminal it shows how many are there."""
-        with tempfile.NamedTemporaryFile("w", suffix=".script") as script, tempfile.TemporaryFile("w+") as said:
-            script.writelines(line + "\n" for line in self.lines)
-            script.flush()
-            words = self.command + ["script", script.name] + self.programs
-            with subprocess.Popen(words, stdout=subprocess.PIPE, stderr=said, text=True) as process:
-                known = 0
-                for answer, reply in zip(self.answers, parse(process.stdout)):
-                    answer.reply = reply
-                    known += 1
-                    tell(known, len(self.answers))
-            said.seek(0)
-            if known < len(self.answers) or process.returncode not in (0, 3):
-                raise Failed(process.returncode, said.read().strip())
+    def send(self, line):
+        """Sends a line, which may wait in the buffer until something is asked."""
+        try:
+            self.process.stdin.write(line + "\n")
+        except BrokenPipeError:
+            self.fail()
 
+    def read_line(self):
+        line = self.process.stdout.readline()
+        if not line:
+            self.fail()
+        return line
 
-def number_of(ticket):
-    """Returns the number of a ticket, which may be the answer of a hold."""
-    return ticket["ticket"] if isinstance(ticket, Answer) else ticket
+    def read_lines(self):
+        """Returns the lines of a reply that is none of a run: one, or as many as the first says."""
+        first = self.read_line()
+        word, *more = first.split()
+        return [first] + [self.read_line() for _ in range(int(more[0]) if word == "edges" else 0)]
+
+    def read_run(self):
+        """Returns the lines of the reply to a run, and passes over the reply to the mark behind it."""
+        lines = [self.read_line()]
+        if lines[0].startswith("refused"):
+            self.read_line()
+            return lines
+        while lines[-1] != "refused 801\n":
+            lines.append(self.read_line())
+        return lines[:-1]
+
+    def fail(self):
+        status = self.process.wait()
+        self.said.seek(0)
+        raise Failed(status, self.said.read().strip())
 
 
 def place(ticket):
-    return "" if ticket is None else f" {number_of(ticket)}"
+    return "" if ticket is None else f" {ticket}"
 
 
-def tell(known, count):
+def tell(text):
     if sys.stderr.isatty():
-        print(f"\r{known} of {count} answers", end="" if known < count else "\n", file=sys.stderr)
+        print(text, end="", file=sys.stderr, flush=True)

@@ -28,38 +28,47 @@ class Calls(unittest.TestCase):
         return Graph(6, [os.path.join(EXAMPLES, name) for name in programs], GSNAP)
 
     def test_two_versions(self):
-        graph = self.graph("reachability.program", "distances.program")
-        for edge in ((0, 1), (0, 2), (1, 3), (2, 3), (3, 4)):
-            graph.add(*edge)
-        graph.commit()
-        held = graph.hold()
-        graph.remove(1, 3)
-        graph.remove(2, 3)
-        graph.commit()
-        now = graph.run(1, turns=6)
-        then = graph.run(1, turns=6, workers=2, ticket=held)
-        cut = graph.run(2, turns=1, ticket=held)
-        edges = graph.edges()
-        self.assertEqual(now["vectors"]["parent"], [0, 0, 0, -1, -1, -1])
-        self.assertEqual(then["vectors"]["parent"], [0, 0, 0, 2, 3, -1])
-        self.assertEqual((cut["end"], cut["turns"], cut["sets"]["frontier"]), ("turns-over", 1, [1, 2]))
-        self.assertEqual(edges["edges"], [(0, 1), (0, 2), (3, 4)])
-        self.assertEqual(graph.release(held)["ticket"], 1)
+        with self.graph("reachability.program", "distances.program") as graph:
+            graph.load([(0, 1), (0, 2), (1, 3), (2, 3), (3, 4)])
+            self.assertEqual(graph.commit()["version"], 1)
+            held = graph.hold()["ticket"]
+            graph.remove(1, 3)
+            graph.remove(2, 3)
+            graph.commit()
+            now = graph.run(1, turns=6)
+            then = graph.run(1, turns=6, workers=2, ticket=held)
+            cut = graph.run(2, turns=1, ticket=held)
+            self.assertEqual(now["vectors"]["parent"], [0, 0, 0, -1, -1, -1])
+            self.assertEqual(then["vectors"]["parent"], [0, 0, 0, 2, 3, -1])
+            self.assertEqual((cut["end"], cut["turns"], cut["sets"]["frontier"]), ("turns-over", 1, [1, 2]))
+            self.assertEqual(graph.edges()["edges"], [(0, 1), (0, 2), (3, 4)])
+            self.assertEqual(graph.release(held)["ticket"], held)
 
-    def test_a_refused_line(self):
-        graph = self.graph()
-        graph.add(0, 6)
-        commit = graph.commit()
-        version = graph.commit()
-        self.assertEqual(version["version"], 1)
-        with self.assertRaises(Refused) as told:
-            commit.get()
-        self.assertEqual(told.exception.number, 111)
+    def test_refused_lines(self):
+        with self.graph("reachability.program") as graph:
+            for ask, number in (
+                (lambda: (graph.add(0, 6), graph.commit()), 111),
+                (lambda: graph.run(2, turns=1), 412),
+                (lambda: graph.run(1, turns=1, workers=65), 411),
+                (lambda: graph.ask("run 1"), 801),
+                (lambda: graph.edges(ticket=7), 122),
+            ):
+                with self.assertRaises(Refused) as told:
+                    ask()
+                self.assertEqual(told.exception.number, number)
+            self.assertEqual(graph.commit()["version"], 1)
+            self.assertEqual(graph.run(1, turns=1)["end"], "finished")
+
+    def test_a_run_that_faults(self):
+        graph = self.graph("refused/faults/index.program")
+        run = graph.run(1, turns=9)
+        self.assertEqual((run["end"], run["statement"] is None), ("fault", False))
+        self.assertEqual(graph.commit()["version"], 1)
+        self.assertEqual(graph.close(), 3)
 
     def test_a_program_that_is_none(self):
-        graph = self.graph("README.md")
         with self.assertRaises(Failed) as told:
-            graph.commit().get()
+            self.graph("README.md")
         self.assertEqual(told.exception.args[0], 1)
         self.assertIn("refused 201", told.exception.args[1])
 

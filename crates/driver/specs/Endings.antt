@@ -8,7 +8,7 @@ use Rattle.std.specs.declared.io.ErrorKind.TheVariants.{OutOfMemory}
 use Rattle.scripts.specs.declared.error.ScriptError.{ScriptError}
 use Rattle.scripts.specs.declared.error.ScriptError.TheVariants as script
 use Rattle.driver.specs.declared.error.ServeError.{ServeError}
-use Rattle.driver.specs.declared.error.ServeError.TheVariants.{NoMemory, ReadFailed, WriteFailed, Refused, RaceRefused, Closed}
+use Rattle.driver.specs.declared.error.ServeError.TheVariants.{NoMemory, ReadFailed, FileFailed, WriteFailed, Refused, RaceRefused, Closed}
 use Rattle.requests.specs.declared.asked.RequestError.{RequestError}
 use Rattle.requests.specs.declared.asked.RequestError.TheVariants as request
 use Rattle.replies.specs.declared.send_error.SendError.{SendError}
@@ -21,14 +21,14 @@ use Rattle.shared_graph.specs.Refusal.{number_of as shared_number_of}
 use Rattle.shared_graph.specs.declared.error.SharedError.TheVariants as shared
 use Rattle.snapshot_runs.specs.declared.error.LatestRunError.TheVariants as run
 
--- what becomes of a kind of failed read
-abbrev pub of_kind : ErrorKind → ServeError
-of_kind OutOfMemory = NoMemory
-of_kind _ = ReadFailed
+-- what becomes of a read of this file that failed for this reason
+abbrev pub of_kind : Bor (List ℕ) → ErrorKind → ServeError
+of_kind file OutOfMemory = NoMemory
+of_kind file kind = FileFailed file kind
 
--- what becomes of a failed read
-abbrev pub of_read : Error → ServeError
-of_read error = of_kind (error_kind error)
+-- what becomes of a failed read of this file
+abbrev pub of_file_read : Bor (List ℕ) → Error → ServeError
+of_file_read file error = of_kind file (error_kind error)
 
 -- what becomes of an error of a script
 abbrev pub of_script : ScriptError → ServeError
@@ -40,6 +40,7 @@ of_script script.WriteFailed = WriteFailed
 abbrev pub status_of : ServeError → ℕ
 status_of NoMemory = 4
 status_of ReadFailed = 5
+status_of (FileFailed file kind) = 5
 status_of WriteFailed = 5
 status_of (Refused file error) = 1
 status_of (RaceRefused file number) = 1

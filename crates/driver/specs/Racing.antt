@@ -2,6 +2,7 @@
 use Rattle.std.specs.Prelude.{◌≡◌, ℕ, ◌<◌, Bool, List, ◌++◌, ◌⊎◌, Result, Ok, Err, Some, length, map}
 use Rattle.std.specs.Borrow.{Bor}
 use Rattle.std.specs.declared.io.Error.{Error}
+use Rattle.algorithm_meaning.specs.ProgramTree.{ProgramTree}
 use Rattle.scripts.specs.Script.{Input, Taken}
 use Rattle.races.specs.RaceScript.{Order, ReadsScript, order_by, order_of}
 use Rattle.races.specs.Race.{IsRace, has_faulted}
@@ -37,7 +38,7 @@ pub record RefusesScript (holds : List ℕ → Type 0) (file : List ℕ) (e : Se
 -- what is made of the file with the script
 abbrev pub ReadsFile : (List ℕ → Type 0) → (Error → Type 0) → List ℕ → Result RaceScript ServeError → Type 0
 ReadsFile holds fails file (Ok script) = HoldsScript holds (order_by script)
-ReadsFile holds fails file (Err e) = FailsRead fails e ⊎ RefusesScript holds file e
+ReadsFile holds fails file (Err e) = FailsRead fails file e ⊎ RefusesScript holds file e
 
 -- the files may hold these programs and this script, and this is a race of them
 pub record IsRaceOf (holds : List ℕ → List ℕ → Type 0) (script : List ℕ) (names : List (List ℕ)) (turns : ℕ) (race : Race) : Type 0 where
@@ -77,10 +78,16 @@ pub record RefusesRaceOf (holds : List ℕ → List ℕ → Type 0) (script : Li
   pub named : name.now ≡ script
   pub outcome : e ≡ of_race name error
 
+-- the files of these names may hold programs, and the one of the script cannot be read or holds no script of a race
+pub record LacksRaceScript (holds : List ℕ → List ℕ → Type 0) (fails : List ℕ → Error → Type 0) (script : List ℕ) (names : List (List ℕ)) (e : ServeError) : Type 0 where
+  pub programs : List ProgramTree
+  pub compiled : HoldPrograms holds names programs
+  pub cause : FailsRead (fails script) script e ⊎ RefusesScript (holds script) script e
+
 -- a file has no program or no script of a race, or there was no race of them, or memory ran out
 abbrev pub LacksRace : (List ℕ → List ℕ → Type 0) → (List ℕ → Error → Type 0) → List ℕ → List (List ℕ) → ℕ → ServeError → Type 0
 LacksRace holds fails script names workers e =
-    LacksProgram holds fails names e ⊎ (FailsRead (fails script) e ⊎ (RefusesScript (holds script) script e ⊎ (RefusesRaceOf holds script names workers e ⊎ (e ≡ NoMemory))))
+    LacksProgram holds fails names e ⊎ (LacksRaceScript holds fails script names e ⊎ (RefusesRaceOf holds script names workers e ⊎ (e ≡ NoMemory)))
 
 -- nothing was written, since there was no race
 pub record TellsNoRace (holds : List ℕ → List ℕ → Type 0) (fails : List ℕ → Error → Type 0) (script : List ℕ) (names : List (List ℕ)) (workers : ℕ) (before after : Taken) (e : ServeError) : Type 0 where

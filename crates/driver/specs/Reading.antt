@@ -1,5 +1,6 @@
 -- What files hold, and what is made of them.
 use Rattle.std.specs.Prelude.{◌≡◌, ◌≢◌, ℕ, List, [], ◌∷◌, ◌⊎◌, Result, Ok, Err, map}
+use Rattle.std.specs.Borrow.{Bor}
 use Rattle.std.specs.Global.{Vec}
 use Rattle.std.specs.declared.io.Error.{Error}
 use Rattle.compiler.specs.declared.error.CompileError.{CompileError}
@@ -7,11 +8,11 @@ use Rattle.compiler.specs.declared.error.CompileError.TheVariants as compiler
 use Rattle.compiler.specs.Outcome.{Compiles, IsPlanOfText, IsProgram}
 use Rattle.plans.specs.declared.plan.Plan.{Plan}
 use Rattle.algorithm_meaning.specs.ProgramTree.{ProgramTree}
-use Rattle.driver.specs.Endings.{of_read}
+use Rattle.driver.specs.Endings.{of_file_read}
 use Rattle.driver.specs.declared.error.ServeError.{ServeError}
 use Rattle.driver.specs.declared.compiled_plan.CompiledPlan.{CompiledPlan}
 use Rattle.driver.specs.Programs.{tree_of}
-use Rattle.driver.specs.declared.error.ServeError.TheVariants.{NoMemory, ReadFailed, WriteFailed, Refused, RaceRefused, Closed}
+use Rattle.driver.specs.declared.error.ServeError.TheVariants.{NoMemory, ReadFailed, FileFailed, WriteFailed, Refused, RaceRefused, Closed}
 
 -- a read answered with bytes that the file may hold, or failed as it may fail
 abbrev pub AnswersRead : (List ℕ → Type 0) → (Error → Type 0) → Result (Vec ℕ) Error → Type 0
@@ -37,16 +38,24 @@ pub record HoldsRefused (holds : List ℕ → Type 0) (error : CompileError) : T
   pub refused : Compiles text (Err error)
   pub cause : error ≢ compiler.NoMemory
 
--- a file that may fail to be read, with this outcome
-pub record FailsRead (fails : Error → Type 0) (e : ServeError) : Type 0 where
+-- the file of this name may fail to be read, with this outcome
+pub record FailsRead (fails : Error → Type 0) (name : List ℕ) (e : ServeError) : Type 0 where
   pub error : Error
   pub failed : fails error
-  pub outcome : e ≡ of_read error
+  pub file : Bor (List ℕ)
+  pub named : file.now ≡ name
+  pub outcome : e ≡ of_file_read file error
+
+-- what is read of the file of this name
+abbrev pub ReadsWhole : (List ℕ → Type 0) → (Error → Type 0) → List ℕ → Result (Vec ℕ) ServeError → Type 0
+ReadsWhole holds fails name (Ok bytes) = holds bytes.items
+ReadsWhole holds fails name (Err e) = FailsRead fails name e
 
 -- The file of this name is no program: it cannot be read, or its text is refused. Nothing is said where memory runs out.
 abbrev pub IsNoProgram : (List ℕ → Type 0) → (Error → Type 0) → List ℕ → ServeError → Type 0
 IsNoProgram holds fails name NoMemory = Unit {0}
-IsNoProgram holds fails name ReadFailed = FailsRead fails ReadFailed
+IsNoProgram holds fails name ReadFailed = ⊥
+IsNoProgram holds fails name (FileFailed file kind) = FailsRead fails name (FileFailed file kind)
 IsNoProgram holds fails name WriteFailed = ⊥
 IsNoProgram holds fails name (Refused file error) = (file.now ≡ name) × HoldsRefused holds error
 IsNoProgram holds fails name (RaceRefused file number) = ⊥
@@ -69,6 +78,12 @@ abbrev pub LacksProgram : (List ℕ → List ℕ → Type 0) → (List ℕ → E
 LacksProgram holds fails [] e = e ≡ NoMemory
 LacksProgram holds fails (name ∷ names) e =
     IsNoProgram (holds name) (fails name) name e ⊎ ((p : ProgramTree) × (HoldsProgram (holds name) p × LacksProgram holds fails names e))
+
+-- the files of these names may hold programs, and the one of the script cannot be read
+pub record LacksScript (holds : List ℕ → List ℕ → Type 0) (fails : List ℕ → Error → Type 0) (script : List ℕ) (names : List (List ℕ)) (e : ServeError) : Type 0 where
+  pub programs : List ProgramTree
+  pub compiled : HoldPrograms holds names programs
+  pub failed : FailsRead (fails script) script e
 
 -- what is made of the files of these names
 abbrev pub CompilesFiles : (List ℕ → List ℕ → Type 0) → (List ℕ → Error → Type 0) → List (List ℕ) → Result (Vec CompiledPlan) ServeError → Type 0

@@ -12,7 +12,7 @@ use Rattle.scripts.specs.Script.{Input, Taken, RunsScript}
 use Rattle.scripts.specs.Text.{RunsText}
 use Rattle.driver.specs.Endings.{of_script, status_of_end}
 use Rattle.driver.specs.Racing.{ServesRace}
-use Rattle.driver.specs.Reading.{HoldPrograms, HoldsPlan, HoldsProgram, IsNoProgram, LacksProgram, FailsRead}
+use Rattle.driver.specs.Reading.{HoldPrograms, HoldsPlan, HoldsProgram, IsNoProgram, LacksProgram, LacksScript}
 use Rattle.driver.specs.declared.error.ServeError.{ServeError}
 use Rattle.driver.specs.declared.error.ServeError.TheVariants.{WriteFailed}
 use Rattle.requests.specs.declared.asked.Request.{Request}
@@ -95,7 +95,7 @@ pub record RunsScriptOf (holds : List ℕ → List ℕ → Type 0) (script : Lis
 -- no script was run, and nothing was written, since some file has no program, or that of the script cannot be read
 pub record RunsNone (holds : List ℕ → List ℕ → Type 0) (fails : List ℕ → Error → Type 0) (script : List ℕ) (names : List (List ℕ)) (before after : Taken) (e : ServeError) : Type 0 where
   pub untouched : after ≡ before
-  pub cause : LacksProgram holds fails names e ⊎ FailsRead (fails script) e
+  pub cause : LacksProgram holds fails names e ⊎ LacksScript holds fails script names e
 
 -- what running the script in a file, with the programs in files, comes to
 abbrev pub RunsFiles : (List ℕ → List ℕ → Type 0) → (List ℕ → Error → Type 0) → List ℕ → List (List ℕ) → Taken → Taken → Result Bool ServeError → Type 0

@@ -1,7 +1,7 @@
 //! Why a request is not done to its end.
 
 ghost use Rattle.std.specs.Prelude.{◌≡◌};
-ghost use Rattle.driver.specs.Endings.{of_read, of_script, of_send, status_of};
+ghost use Rattle.driver.specs.Endings.{of_file_read, of_script, of_send, status_of};
 ghost use Rattle.driver.specs.declared.error.ServeError.TheVariants.{NoMemory};
 
 use crate::status;
@@ -9,16 +9,19 @@ use compiler::CompileError;
 use replies::SendError;
 use scripts::ScriptError;
 use std::alloc::{AllocError, AllocFailed};
+use std::fmt;
+use std::io;
 use std::io::ErrorKind;
-use std::{fmt, io};
 
 /// Why a request is not done to its end. The text is what standard error is told.
 #[derive(Clone, Copy, Debug)]
 pub enum ServeError<'a> {
     /// Memory ran out.
     NoMemory,
-    /// A file, or the standard input, cannot be read.
+    /// The standard input cannot be read.
     ReadFailed,
+    /// The file of this name cannot be read, for this reason.
+    FileFailed { file: &'a str, kind: ErrorKind },
     /// The output cannot be written.
     WriteFailed,
     /// The text in the file of this name is no program. The error is never that memory ran out.
@@ -37,7 +40,9 @@ impl ServeError<'_> {
     {
         match self {
             ServeError::NoMemory | ServeError::Closed => status::NO_MEMORY,
-            ServeError::ReadFailed | ServeError::WriteFailed => status::DEVICE_FAILED,
+            ServeError::ReadFailed | ServeError::FileFailed { .. } | ServeError::WriteFailed => {
+                status::DEVICE_FAILED
+            }
             ServeError::Refused { .. } | ServeError::RaceRefused { .. } => status::REFUSED,
         }
     }
@@ -47,7 +52,7 @@ impl fmt::Display for ServeError<'_> {
     fn fmt<W: fmt::Write>(&self, f: &mut fmt::Formatter<W>) -> fmt::Result {
         match self {
             ServeError::NoMemory => f.write_str("refused 900"),
-            ServeError::ReadFailed => f.write_str("refused 901"),
+            ServeError::ReadFailed | ServeError::FileFailed { .. } => f.write_str("refused 901"),
             ServeError::WriteFailed => f.write_str("refused 902"),
             ServeError::Refused { file, error } => match error.at() {
                 Some(at) => write!(f, "{file}: refused {} at {at}", error.number()),
@@ -75,14 +80,13 @@ impl<T: Drop> From<AllocFailed<T>> for ServeError<'_> {
     }
 }
 
-impl From<io::Error> for ServeError<'_> {
-    ghost from_gives = { λ error e. e ≡ of_read error };
-
-    fn from(error: io::Error) -> Self {
-        match error.kind() {
-            ErrorKind::OutOfMemory => ServeError::NoMemory,
-            _ => ServeError::ReadFailed,
-        }
+// What becomes of a failed read of the file of this name.
+pub(crate) fn of_file_read<'a>(file: &'a str, error: io::Error) -> ServeError<'a>
+    ensures { result ≡ of_file_read file.entry error }
+{
+    match error.kind() {
+        ErrorKind::OutOfMemory => ServeError::NoMemory,
+        kind => ServeError::FileFailed { file, kind },
     }
 }
 

@@ -2,8 +2,9 @@
 
 ghost use Rattle.std.specs.Prelude.{List, ℕ};
 ghost use Rattle.std.specs.declared.io.Error.{Error};
-ghost use Rattle.driver.specs.Reading.{AnswersRead};
+ghost use Rattle.driver.specs.Reading.{AnswersRead, ReadsWhole};
 
+use crate::error::{ServeError, of_file_read};
 use std::alloc::Global;
 use std::{fs, io, rt};
 
@@ -33,5 +34,19 @@ impl<R: rt::Files + AllocGlobal> Files for Disk<R> {
 
     fn read(&self, _alloc: Global, name: &str) -> io::Result<Vec<u8>> {
         fs::read(&self.0, name)
+    }
+}
+
+/// What the file of this name holds. The error tells the file, and for which reason it cannot be read.
+pub(crate) fn read_file<'a, F: Files>(
+    alloc: Global,
+    file: &'a str,
+    files: &F,
+) -> Result<Vec<u8>, ServeError<'a>>
+    ensures { ReadsWhole (F.may_hold files.now file.entry.now) (F.may_fail files.now file.entry.now) file.entry.now result }
+{
+    match files.read(alloc, file) {
+        Ok(bytes) => Ok(bytes),
+        Err(error) => Err(of_file_read(file, error)),
     }
 }

@@ -18,6 +18,7 @@
 mod compiled_plan;
 mod error;
 mod files;
+mod first_fault;
 mod programs;
 mod racing;
 mod running;

@@ -4,6 +4,7 @@ ghost use Rattle.crew.specs.Outcome.{AreWorkers};
 ghost use Rattle.driver.specs.Programs.{tree_of, ShowsMeaning};
 
 use crate::compiled_plan::CompiledPlan;
+use crate::first_fault::FirstFault;
 use algorithm_meaning::Outcome;
 use crew::Open;
 use flat_snapshot::Flat;
@@ -16,17 +17,20 @@ use std::thread::Threads;
 /// The run of a plan on a snapshot of a graph, for at most so many turns, by so many workers.
 #[derive(Clone, Copy)]
 pub(crate) struct RunOrder<'a> {
+    // The place of the program among those of the request.
+    pub(crate) program: usize,
     pub(crate) plan: &'a Plan,
     pub(crate) graph: &'a Flat,
     pub(crate) turns: u64,
     pub(crate) workers: usize,
 }
 
-/// Does a run that is ordered. The only error is out of memory.
+/// Does a run that is ordered, and notes a fault that is the first. The only error is out of memory.
 pub(crate) fn run_by_workers<T: Threads + Sync>(
     rt: &T,
     alloc: Global,
     order: RunOrder<'_>,
+    first_fault: &FirstFault,
 ) -> Result<Outcome, AllocError>
     requires { AreWorkers order.workers }
     ensures { IfOk result (ShowsMeaning order.entry) }
@@ -41,7 +45,10 @@ pub(crate) fn run_by_workers<T: Threads + Sync>(
         &Open,
     );
     match done {
-        Ok(outcome) => Ok(outcome),
+        Ok(outcome) => {
+            first_fault.see(order.program, outcome.end);
+            Ok(outcome)
+        }
         Err(RunError::NoMemory) => Err(AllocError),
         Err(RunError::BadWorkers) => unreachable!(),
     }
@@ -88,6 +95,7 @@ impl<F: Fn(Global, RunOrder<'_>) -> Result<Outcome, AllocError>> Programs for Co
         workers: u64,
     ) -> Result<Outcome, AllocError> {
         let order = RunOrder {
+            program: place,
             plan: &self.plans[place].plan,
             graph,
             turns,

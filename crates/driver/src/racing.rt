@@ -7,22 +7,23 @@ ghost use Rattle.driver.specs.Racing.{RacesFiles, ReadsFile};
 
 use crate::compiled_plan::CompiledPlan;
 use crate::error::ServeError;
-use crate::files::Files;
+use crate::files::{Files, read_file};
+use crate::first_fault::{FirstFault, ProgramFiles};
 use crate::serving::compiled_files;
 use devices::Drain;
 use plans::Plan;
-use races::{RaceError, RaceScript, RaceScriptError, race, race_script, write_race};
+use races::{Race, RaceError, RaceScript, RaceScriptError, race, race_script, write_race};
 use shared_graph::SharedError;
 use snapshot_runs::LatestRunError;
 use std::alloc::{AllocError, Global};
 use std::sync::Wait;
 use std::thread::Threads;
 
-/// The names of a race's files: the script, and the programs.
+/// The files of a race: the script, and the programs.
 #[derive(Clone, Copy)]
 pub(crate) struct RaceFiles<'p, 'a> {
     pub(crate) script: &'a str,
-    pub(crate) programs: &'p [&'a str],
+    pub(crate) programs: ProgramFiles<'p, 'a>,
 }
 
 /// How many workers a run of a race has, and how many turns it may use.
@@ -42,11 +43,11 @@ pub(crate) fn race_files<'a, T: Threads + Wait + Sync, F: Files, W: Drain>(
     files: &F,
     out: &mut W,
 ) -> Result<bool, ServeError<'a>>
-    ensures { RacesFiles (F.may_hold files.now) (F.may_fail files.now) names.entry.script.now (map (λ p. p.now) names.entry.programs.now) bounds.workers bounds.turns
+    ensures { RacesFiles (F.may_hold files.now) (F.may_fail files.now) names.entry.script.now (map (λ p. p.now) names.entry.programs.names.now) bounds.workers bounds.turns
         (taken_by (W.taken out.old) (W.failures out.old))
         (taken_by (W.taken out.new) (W.failures out.new)) result }
 {
-    let compiled = compiled_files(alloc, names.programs, files)?;
+    let compiled = compiled_files(alloc, names.programs.names, files)?;
     let order = read_script(alloc, names.script, files)?;
     let plans = plans_of(alloc, &compiled)?;
     let raced = match race(rt, alloc, order, &plans, bounds.workers, bounds.turns) {
@@ -54,7 +55,16 @@ pub(crate) fn race_files<'a, T: Threads + Wait + Sync, F: Files, W: Drain>(
         Err(error) => return Err(of_race(names.script, error)),
     };
     write_race(alloc, &raced, out)?;
+    note_faults(&raced, names.programs.first_fault);
     Ok(raced.has_faulted())
+}
+
+// Shows how the runs of a race ended, program by program.
+fn note_faults(raced: &Race, first_fault: &FirstFault) {
+    'programs: for (program, runs) in raced.runs.iter().enumerate() {
+        first_fault.see(program, runs.early.outcome.end);
+        first_fault.see(program, runs.late.outcome.end);
+    }
 }
 
 // The plans of programs that were compiled.
@@ -72,7 +82,7 @@ fn read_script<'a, F: Files>(
 ) -> Result<RaceScript, ServeError<'a>>
     ensures { ReadsFile (F.may_hold files.now file.entry.now) (F.may_fail files.now file.entry.now) file.entry.now result }
 {
-    let text = files.read(alloc, file)?;
+    let text = read_file(alloc, file, files)?;
     match race_script(alloc, &text) {
         Ok(order) => Ok(order),
         Err(error) => Err(of_race_script(file, error)),

@@ -9,7 +9,8 @@ ghost use Rattle.driver.specs.Serving.{end_of, ChecksFile, PrintsPlan, RunsFiles
 
 use crate::compiled_plan::CompiledPlan;
 use crate::error::ServeError;
-use crate::files::Files;
+use crate::files::{Files, read_file};
+use crate::first_fault::{FirstFault, ProgramFiles};
 use crate::programs::{CompiledPrograms, RunOrder, run_by_workers};
 use crate::racing::{RaceBounds, RaceFiles, race_files};
 use crate::telling::told;
@@ -55,40 +56,52 @@ pub fn serve<T: Threads + Wait + Sync, F: Files, R: Feed, W: Drain, E: Drain>(
         (taken_by (W.taken out.old) (W.failures out.old))
         (taken_by (W.taken out.new) (W.failures out.new)) result.0 }
 {
+    let first_fault = &FirstFault::new();
     match request {
         Request::Input => {
             let (ended, state) = run_input(rt, alloc, input, out);
-            (told(alloc, ended, files, err), Some(state))
+            (told(alloc, ended, None, files, err), Some(state))
         }
         Request::Check { file } => {
             let ended = check_file(alloc, file, files, out);
-            (told(alloc, ended, files, err), None)
+            (told(alloc, ended, None, files, err), None)
         }
         Request::Plan { file } => {
             let ended = print_plan(alloc, file, files, out);
-            (told(alloc, ended, files, err), None)
+            (told(alloc, ended, None, files, err), None)
         }
-        Request::Script { script, programs } => {
+        Request::Script {
+            script,
+            programs: names,
+        } => {
+            let programs = ProgramFiles { names, first_fault };
             let (ended, state) = if *script == STREAM {
                 run_stream(rt, alloc, programs, files, input, out)
             } else {
                 run_files(rt, alloc, script, programs, files, out)
             };
-            (told(alloc, ended, files, err), state)
+            (told(alloc, ended, Some(programs), files, err), state)
         }
         Request::Race {
             script,
-            programs,
+            programs: names,
             workers,
             turns,
         } => {
-            let names = RaceFiles { script, programs };
+            let programs = ProgramFiles { names, first_fault };
             let bounds = RaceBounds {
                 workers: *workers,
                 turns: *turns,
             };
-            let ended = race_files(rt, alloc, names, bounds, files, out);
-            (told(alloc, ended, files, err), None)
+            let ended = race_files(
+                rt,
+                alloc,
+                RaceFiles { script, programs },
+                bounds,
+                files,
+                out,
+            );
+            (told(alloc, ended, Some(programs), files, err), None)
         }
     }
 }
@@ -106,12 +119,13 @@ fn run_input<'a, T: Threads + Sync, R: Feed, W: Drain>(
         (taken_by (W.taken out.old) (W.failures out.old))
         (taken_by (W.taken out.new) (W.failures out.new)) result.0 }
 {
+    let first_fault = &FirstFault::new();
     let programs = CompiledPrograms::new(
         Vec::new(alloc),
         |alloc: Global, order: RunOrder<'_>| -> Result<Outcome, AllocError>
             requires { AreWorkers order.workers }
             ensures { IfOk result (ShowsMeaning order.entry) }
-        { run_by_workers(rt, alloc, order) },
+        { run_by_workers(rt, alloc, order, first_fault) },
     );
     let (ended, state) = script(alloc, &programs, input, out);
     (ended_as(ended), state)
@@ -168,29 +182,30 @@ fn print_plan<'a, F: Files, W: Drain>(
 fn run_files<'a, T: Threads + Sync, F: Files, W: Drain>(
     rt: &T,
     alloc: Global,
-    script: &str,
-    programs: &[&'a str],
+    script: &'a str,
+    programs: ProgramFiles<'_, 'a>,
     files: &F,
     out: &mut W,
 ) -> (Result<bool, ServeError<'a>>, Option<ScriptState>)
-    ensures { RunsFiles (F.may_hold files.now) (F.may_fail files.now) script.now (map (λ p. p.now) programs.entry.now)
+    ensures { RunsFiles (F.may_hold files.now) (F.may_fail files.now) script.entry.now (map (λ p. p.now) programs.entry.names.now)
         (taken_by (W.taken out.old) (W.failures out.old))
         (taken_by (W.taken out.new) (W.failures out.new)) result.0 }
 {
-    let plans = match compiled_files(alloc, programs, files) {
+    let plans = match compiled_files(alloc, programs.names, files) {
         Ok(plans) => plans,
         Err(error) => return (Err(error), None),
     };
-    let text = match files.read(alloc, script) {
+    let text = match read_file(alloc, script, files) {
         Ok(text) => text,
-        Err(error) => return (Err(ServeError::from(error)), None),
+        Err(error) => return (Err(error), None),
     };
+    let first_fault = programs.first_fault;
     let programs = CompiledPrograms::new(
         plans,
         |alloc: Global, order: RunOrder<'_>| -> Result<Outcome, AllocError>
             requires { AreWorkers order.workers }
             ensures { IfOk result (ShowsMeaning order.entry) }
-        { run_by_workers(rt, alloc, order) },
+        { run_by_workers(rt, alloc, order, first_fault) },
     );
     let (ended, state) = run_text(alloc, &programs, &text, out);
     (ended_as(ended), Some(state))
@@ -200,27 +215,28 @@ fn run_files<'a, T: Threads + Sync, F: Files, W: Drain>(
 fn run_stream<'a, T: Threads + Sync, F: Files, R: Feed, W: Drain>(
     rt: &T,
     alloc: Global,
-    programs: &[&'a str],
+    programs: ProgramFiles<'_, 'a>,
     files: &F,
     input: &mut R,
     out: &mut W,
 ) -> (Result<bool, ServeError<'a>>, Option<ScriptState>)
-    ensures { RunsStream (F.may_hold files.now) (F.may_fail files.now) (map (λ p. p.now) programs.entry.now)
+    ensures { RunsStream (F.may_hold files.now) (F.may_fail files.now) (map (λ p. p.now) programs.entry.names.now)
         (input_of (R.given input.old) (R.ended input.old) (R.failures input.old))
         (input_of (R.given input.new) (R.ended input.new) (R.failures input.new))
         (taken_by (W.taken out.old) (W.failures out.old))
         (taken_by (W.taken out.new) (W.failures out.new)) result.0 }
 {
-    let compiled = match compiled_files(alloc, programs, files) {
+    let compiled = match compiled_files(alloc, programs.names, files) {
         Ok(compiled) => compiled,
         Err(error) => return (Err(error), None),
     };
+    let first_fault = programs.first_fault;
     let programs = CompiledPrograms::new(
         compiled,
         |alloc: Global, order: RunOrder<'_>| -> Result<Outcome, AllocError>
             requires { AreWorkers order.workers }
             ensures { IfOk result (ShowsMeaning order.entry) }
-        { run_by_workers(rt, alloc, order) },
+        { run_by_workers(rt, alloc, order, first_fault) },
     );
     let (done, state) = script(alloc, &programs, input, out);
     (ended_as(done), Some(state))
@@ -250,7 +266,7 @@ fn compiled_file<'a, F: Files>(
 ) -> Result<Plan, ServeError<'a>>
     ensures { CompilesFile (F.may_hold files.now file.entry.now) (F.may_fail files.now file.entry.now) file.entry.now result }
 {
-    let text = files.read(alloc, file)?;
+    let text = read_file(alloc, file, files)?;
     match compile(alloc, &text) {
         Ok(plan) => Ok(plan),
         Err(CompileError::NoMemory) => Err(ServeError::NoMemory),

@@ -1,21 +1,24 @@
-//! What standard error is told of a request that is not done.
+//! What standard error is told of a request that is not done, and of a run that ends by a fault.
 
 ghost use Rattle.std.specs.Prelude.{◌≡◌, ◌++◌};
 ghost use Rattle.driver.specs.Endings.{status_of_end};
 
 use crate::error::ServeError;
 use crate::files::Files;
+use crate::first_fault::ProgramFiles;
 use crate::status;
 use devices::{Drain, write_all};
-use refusal_text::explanation;
-use std::alloc::Global;
+use refusal_text::{explanation, fault_explanation};
+use std::alloc::{AllocError, Global};
 use std::fmt;
 use std::fmt::Write;
 
-/// Tells how a request ended where it was not done, and answers the status. Where telling fails too, the status alone tells.
+/// Tells how a request ended where it was not done, or where a run of its programs ended by a fault, and answers the status. Where
+/// telling fails too, the status alone tells.
 pub(crate) fn told<F: Files, E: Drain>(
     alloc: Global,
     ended: Result<bool, ServeError<'_>>,
+    programs: Option<ProgramFiles<'_, '_>>,
     files: &F,
     err: &mut E,
 ) -> u8
@@ -23,7 +26,12 @@ pub(crate) fn told<F: Files, E: Drain>(
 {
     match ended {
         Ok(false) => status::DONE,
-        Ok(true) => status::FAULTED,
+        Ok(true) => {
+            if let Some(programs) = programs {
+                explain_fault(alloc, programs, files, err);
+            }
+            status::FAULTED
+        }
         Err(error) => {
             let _ = writeln!(TextWriter(err), "{error}");
             explain(alloc, error, files, err);
@@ -32,17 +40,52 @@ pub(crate) fn told<F: Files, E: Drain>(
     }
 }
 
-// Shows where a program's text is refused, what that means and what to do. The file is read once more for it; nothing is
-// shown where that fails, or where memory runs out.
+// Shows which file cannot be read, and why; or where a program's text is refused, what that means and what to do.
 fn explain<F: Files, E: Drain>(alloc: Global, error: ServeError<'_>, files: &F, err: &mut E) {
-    let ServeError::Refused { file, error } = error else {
+    match error {
+        ServeError::FileFailed { file, kind } => {
+            let _ = writeln!(TextWriter(err), " = {file}: {kind}");
+        }
+        ServeError::Refused { file, error } => {
+            if let Some(at) = error.at() {
+                let explained = |text: &[u8]| explanation(alloc, file, text, at, error.number());
+                show(alloc, file, files, explained, err);
+            }
+        }
+        _ => {}
+    }
+}
+
+// Shows at which statement the first of the runs that ended by a fault did so, and what that means.
+fn explain_fault<F: Files, E: Drain>(
+    alloc: Global,
+    programs: ProgramFiles<'_, '_>,
+    files: &F,
+    err: &mut E,
+) {
+    let Some(fault) = programs.first_fault.get() else {
         return;
     };
-    let Some(at) = error.at() else {
+    let Some(file) = programs.names.get(fault.program) else {
         return;
     };
+    let (number, statement) = (fault.number, fault.statement);
+    let _ = writeln!(TextWriter(err), "{file}: fault {number} in statement {statement}");
+    let explained = |text: &[u8]| fault_explanation(alloc, file, text, statement);
+    show(alloc, file, files, explained, err);
+}
+
+// Shows what is explained of the text in the file of this name. The file is read once more for it; nothing is shown where that
+// fails, or where memory runs out.
+fn show<F: Files, E: Drain>(
+    alloc: Global,
+    file: &str,
+    files: &F,
+    explained: impl FnOnce(&[u8]) -> Result<Vec<u8>, AllocError>,
+    err: &mut E,
+) {
     if let Ok(text) = files.read(alloc, file) {
-        if let Ok(lines) = explanation(alloc, file, &text, at, error.number()) {
+        if let Ok(lines) = explained(&text) {
             let _ = write_all(err, &lines);
         }
     }

@@ -1,5 +1,7 @@
 //! Guesses why a text is outside the grammar, by what stands at the fault and before it.
 
+use crate::words::{begins_with, ends_with};
+
 /// A guess at the cause of the fault 211 that stands between these two parts of a text.
 pub(crate) fn cause_of(before: &[u8], behind: &[u8]) -> Option<&'static str> {
     let shown = without_white_end(before);
@@ -79,14 +81,6 @@ fn ends_in_digit(text: &[u8]) -> bool {
         Some(byte) => byte.is_ascii_digit(),
         None => false,
     }
-}
-
-fn begins_with(text: &[u8], word: &[u8]) -> bool {
-    text.len() >= word.len() && &text[..word.len()] == word
-}
-
-fn ends_with(text: &[u8], word: &[u8]) -> bool {
-    text.len() >= word.len() && &text[text.len() - word.len()..] == word
 }
 
 fn is_white(text: &[u8]) -> bool {

@@ -3,15 +3,19 @@
 //!
 //! [`place_of`] is the line and the column of an offset, and its contract says so. [`explanation`] makes the lines. It answers for
 //! any text, offset and number, and promises nothing of its words but that they come: they are for people, who may be told
-//! otherwise tomorrow. Of a text outside the grammar (211) it guesses the cause by what stands at the place and before it.
+//! otherwise tomorrow. Of a text outside the grammar (211) it guesses the cause by what stands at the place and before it; of a
+//! wrong type or kind (223) it tells the rule of what begins there. [`fault_explanation`] shows the statement at which a run ended.
 #![tactic(auto)]
 
 mod cause;
+mod kinds;
 mod lines;
 mod meaning;
 mod place;
+mod statements;
 #[cfg(test)]
 mod tests;
+mod words;
 
-pub use lines::explanation;
+pub use lines::{explanation, fault_explanation};
 pub use place::{Place, line_at, place_of};

@@ -1,8 +1,10 @@
 //! The lines that are told behind a refusal.
 
 use crate::cause::cause_of;
+use crate::kinds::kind_rule;
 use crate::meaning::meaning_of;
 use crate::place::{line_at, place_of};
+use crate::statements::statement_at;
 use decimal::push_number;
 use std::alloc::{AllocError, Global};
 
@@ -13,6 +15,9 @@ const MOST_SHOWN: usize = 120;
 
 // The number of a text outside the grammar.
 const SYNTAX: u16 = 211;
+
+// The number of a wrong type or kind.
+const KIND: u16 = 223;
 
 /// The lines that show where in the text of the file of this name the byte at this offset stands, say what the number of a
 /// refusal means, and what to do. A number by which no text is refused has no meaning, and then the place alone is told.
@@ -28,14 +33,37 @@ pub fn explanation(
     push_place(&mut lines, file, text, at)?;
     if let Some(meaning) = meaning_of(number) {
         let (before, behind) = text.split_at(at.min(text.len()));
-        let guess = if number == SYNTAX {
-            cause_of(before, behind)
-        } else {
-            None
+        let guess = match number {
+            SYNTAX => cause_of(before, behind),
+            KIND => Some(kind_rule(behind)),
+            _ => None,
         };
         push_told(&mut lines, meaning.means)?;
         push_told(&mut lines, guess.unwrap_or(meaning.cure))?;
     }
+    Ok(lines)
+}
+
+/// The lines that show where in the program's text of the file of this name the statement of `main` with this number stands, and
+/// what a fault of a run at it means. Where no such statement is found, that alone is told. The only error is out of memory.
+pub fn fault_explanation(
+    alloc: Global,
+    file: &str,
+    text: &[u8],
+    statement: u64,
+) -> Result<Vec<u8>, AllocError> {
+    let mut lines = Vec::new(alloc);
+    if let Some(at) = statement_at(alloc, text, statement)? {
+        push_place(&mut lines, file, text, at)?;
+    }
+    push_told(
+        &mut lines,
+        "an index in it, or what it adds to a set, is no vertex of the version that the run is on",
+    )?;
+    push_told(
+        &mut lines,
+        "vertices are numbered from 0: compare it with the number of vertices, `vertices.getVertexSetSize()`",
+    )?;
     Ok(lines)
 }
 

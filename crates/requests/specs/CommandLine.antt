@@ -57,7 +57,7 @@ race_command = with_rule (with_rule (with_rule (with_rule (new_app (codes "race"
 abbrev pub program : App
 program =
     let named = new_app (codes "gsnap") in
-    record { top = record named.top { no_binary_name = true }; subs = [] }
+    record { top = record named.top { no_binary_name = true; has_version = true }; subs = [] }
 
 -- the commands that a file or more follow
 abbrev pub file_commands : App

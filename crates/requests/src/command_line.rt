@@ -36,6 +36,8 @@ pub(crate) const TURNS: &str = "turns";
 
 const SHOWN: &[&str] = &["SCRIPT", "PROGRAM"];
 
+const VERSION: &str = "0.1.0";
+
 const ABOUT: &str = "Runs graph programs on versions of a graph that a script edits.";
 
 const USAGE: &str =
@@ -50,7 +52,20 @@ const HELP: &str =
 const CHECK_ABOUT: &str = "Compiles the program in a file, and prints `ok`";
 
 const CHECK_HELP: &str =
-    "Where the text is refused, the number and the place of the first fault are told.\n\
+    "Where the text is refused, the number and the place of the first fault are told, then line and column, what the number means\n\
+    and what to do. The exit status is 0 where the program compiles, 1 where its text is refused, and 5 where the file cannot be read.\n\
+    \n\
+    201 to 203  a byte, a number or a text in quotes is no token\n\
+    211         the text is outside the grammar\n\
+    212         blocks and brackets nest deeper than 64\n\
+    221, 222    a name is not visible, or is so already\n\
+    223         a type or a kind of thing is wrong there\n\
+    224 to 226  an edge function assigns an entry, reduces one vector in two ways, or uses another vertex than it may\n\
+    227 to 229  `print` outside `main`, no `main`, a label twice\n\
+    301 to 308  a call of the schedule names a label, a value or a vector that it may not\n\
+    900, 901    out of memory; the file cannot be read\n\
+    \n\
+    docs/REFUSALS.md has an example and a cure for each.\n\
     Example: gsnap check examples/squares.program";
 
 const PLAN_ABOUT: &str = "Compiles the program in a file, and prints its plan";
@@ -63,7 +78,21 @@ const SCRIPT_ABOUT: &str =
     "Compiles the programs in files, runs the script in a file, and prints its replies";
 
 const SCRIPT_HELP: &str =
-    "A line `run 2 10 1` of the script runs the second PROGRAM, for at most 10 turns, with one worker.\n\
+    "A SCRIPT of the name - is the standard input, whose lines are answered as they come.\n\
+    \n\
+    vertices N [B]   opens a graph of N vertices, as the first line\n\
+    add U V          adds an edge to the pending batch\n\
+    del U V          takes one away\n\
+    grow N           makes it N vertices\n\
+    commit           makes the batch a version\n\
+    hold [at K]      keeps the newest version, or that of number K, under a ticket\n\
+    release T        gives the ticket back\n\
+    edges [T]        lists the edges of the newest version, or of the ticket's\n\
+    run P B W [T]    runs the P-th PROGRAM for at most B turns by W workers, 1 to 64\n\
+    \n\
+    A line that is refused is answered `refused N` and changes nothing. The exit status is 0, also where lines were refused; 1 where a\n\
+    program's text is refused; 3 where a run ended by a fault; 4 out of memory; 5 where reading or writing fails.\n\
+    docs/SCRIPTS.md says more.\n\
     Example: gsnap script examples/squares.script examples/squares.program";
 
 const RACE_ABOUT: &str = "Runs programs while a script's batches are committed";
@@ -97,7 +126,8 @@ fn bare_program<'a>(alloc: Global) -> Result<Command<'a>, AllocError>
 {
     let program = Command::new(alloc, "gsnap")
         .bin_name("gsnap")?
-        .no_binary_name(true);
+        .no_binary_name(true)
+        .version(VERSION);
     Ok(with_texts(program, ABOUT, USAGE, HELP))
 }
 
