@@ -25,6 +25,12 @@ use types::check;
 /// `NotTyped` where the source breaks a rule of types, with the fault of the least offset, and of several
 /// there the one of the least number; else `NotScheduled` where a call of the schedule breaks a rule, with
 /// the first such call's offset and the least number of the rules that it breaks; and `NoMemory` at any time.
+///
+/// # Example
+///
+/// ```
+/// let plan = compile(alloc, DISTANCES)?;
+/// ```
 pub fn compile(alloc: Global, text: &[u8]) -> Result<Plan, CompileError>
     ensures { Compiles text.now result }
 {

@@ -51,6 +51,12 @@ impl Flat {
     /// and memory in proportion to the number of blocks that the vertices would fill.
     ///
     /// The only error is out of memory.
+    ///
+    /// # Example
+    ///
+    /// ```
+    /// let flat = Flat::of(alloc, graph)?;
+    /// ```
     pub fn of(alloc: Global, graph: &Graph) -> Result<Flat, AllocError>
         ensures { IfOk result (λ f. f ≡ graph.now) }
     {

@@ -8,16 +8,16 @@ pub(crate) fn kind_rule(text: &[u8]) -> &'static str {
         return of_constant(text);
     }
     if begins_word(text, b"var") {
-        return "a variable is an int, a bool or a vertex set, in a function no set; it begins with an expression of its type";
+        return "a variable is an int, a bool or a vertex set, in a function no set; it begins with an expression of its type; `+` and `<` take ints, `and` and `not` bools";
     }
     if begins_word(text, b"func") {
         return "an edge function has two parameters of type Vertex, a vertex function one, a filter one and a result of type bool";
     }
     if begins_word(text, b"print") {
-        return "what is printed is an int or a bool";
+        return "what is printed is an int or a bool; `+` and `<` take ints, `and` and `not` bools";
     }
     if begins_word(text, b"if") {
-        return "what `if` tests is a bool, such as `x == 1`";
+        return "what `if` tests is a bool, such as `x == 1`; `+` and `<` take ints, `and` and `not` bools";
     }
     if begins_word(text, b"while") {
         return "what `while` tests is a bool, such as `s.getVertexSetSize() != 0`; it stands in `main` alone";
@@ -60,7 +60,7 @@ fn of_name(text: &[u8]) -> &'static str {
         sign if begins_with(sign, b"+=") || begins_with(sign, b"min=") || begins_with(sign, b"max=") => {
             "an int variable is reduced by an int; a constant and the name of a `for` are not changed"
         }
-        _ => "a variable is assigned an expression of its type; a constant, a parameter and the name of a `for` are not assigned",
+        _ => "a variable is assigned an expression of its type, where `+` and `<` take ints, `and` and `not` bools; a constant, a parameter and the name of a `for` are not assigned",
     }
 }
 

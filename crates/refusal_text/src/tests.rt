@@ -36,7 +36,7 @@ const CASES: &[Case] = &[
         b"x = vertices;",
         0,
         223,
-        b" --> f:1:1\n  | x = vertices;\n  | ^\n = a type or a kind of thing is wrong there\n = a variable is assigned an expression of its type; a constant, a parameter and the name of a `for` are not assigned\n",
+        b" --> f:1:1\n  | x = vertices;\n  | ^\n = a type or a kind of thing is wrong there\n = a variable is assigned an expression of its type, where `+` and `<` take ints, `and` and `not` bools; a constant, a parameter and the name of a `for` are not assigned\n",
     ),
     (
         b"const a : bool = 1;",

@@ -51,6 +51,13 @@ pub fn run_by<E: EdgeApplier>(
 }
 
 /// The same by one worker.
+///
+/// # Example
+///
+/// ```
+/// let flat = Flat::of(alloc, graph)?;
+/// let outcome = run_alone(alloc, plan, &flat, TURNS)?;
+/// ```
 pub fn run_alone(
     alloc: Global,
     plan: &Plan,
@@ -71,6 +78,12 @@ pub fn run_alone(
 /// those of the plan's schedule; else an apply with few edges is done by fewer workers, or as a whole by the caller.
 ///
 /// Errors: `BadWorkers` where the number of workers is not 1 to 64, else `NoMemory`.
+///
+/// # Example
+///
+/// ```
+/// let outcome = run(rt, alloc, &plan, &graph, 2, 9, &gate)?;
+/// ```
 pub fn run<R: Threads + Sync, G: Gate + Sync>(
     rt: &R,
     alloc: Global,

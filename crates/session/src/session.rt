@@ -97,6 +97,12 @@ impl Session {
     /// job's step with 413 where no job has the number. The step of a job that has ended changes nothing.
     ///
     /// The only error is `NoMemory`, and then nothing is changed.
+    ///
+    /// # Example
+    ///
+    /// ```
+    /// let held = session.step(alloc, SessionStep::Acquire(Which::At(0)))?;
+    /// ```
     pub fn step(&mut self, alloc: Global, step: SessionStep) -> Result<SessionReply, SessionError>
         ensures takes { IfOk result (λ reply. (programs : List ScheduledProgram) (w : World)
             → IsAt programs w self.old → Takes programs (answer programs w step) reply self.new) }

@@ -111,6 +111,12 @@ impl<J: Naming> Reader<J> {
 
     /// Takes in what a token tells: the history shown afterwards begins with the one before and with
     /// the token's. Takes no memory, and is not refused.
+    ///
+    /// # Example
+    ///
+    /// ```
+    /// reader.learn(&writer.token());
+    /// ```
     pub fn learn(&mut self, token: &Token<J>)
         ensures number { self.new.number ≡ self.old.number }
         ensures last { self.new.last ≡ self.old.last }

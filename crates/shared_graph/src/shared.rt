@@ -44,6 +44,15 @@ impl<J: Naming, R: Wait + Drop> SharedGraph<J, R> {
     ///
     /// Errors: `VertexRange` for another number of vertices, else `BadChunkSize` for another chunk
     /// size, else `BadSeats` for another number of readers, else `NoMemory`.
+    ///
+    /// # Example
+    ///
+    /// ```
+    /// let (graph, mut readers) = SharedGraph::<J, &T>::open(
+    ///     threads, alloc, opening, VERTICES, 64, 2,
+    /// )?;
+    /// let mut writer = readers.pop().ok_or(SharedError::BadSeats)?;
+    /// ```
     pub fn open(
         rt: R,
         alloc: Global,
@@ -101,6 +110,12 @@ impl<J: Naming, R: Wait + Drop> SharedGraph<J, R> {
     /// Errors: `VertexRange` where the newest version's graph refuses the batch (see [`Graph::apply`]), else
     /// `HistoryFull` where the history has no room, at the end of the history that the reader then
     /// shows; else `NoMemory`, and then graph and reader are as they were. The batch is gone.
+    ///
+    /// # Example
+    ///
+    /// ```
+    /// newest = graph.commit(threads, alloc, writer, batch)?;
+    /// ```
     pub fn commit<T: Threads + Wait + Sync>(
         &self,
         rt: &T,
@@ -121,6 +136,12 @@ impl<J: Naming, R: Wait + Drop> SharedGraph<J, R> {
     /// `HistoryFull` where the history has no room for this step and for the ticket's release, at
     /// the end of the history that the reader then shows; else `NoMemory`, and then graph and reader
     /// are as they were.
+    ///
+    /// # Example
+    ///
+    /// ```
+    /// let small = match graph.hold(rt, alloc, me, Which::Newest) {
+    /// ```
     pub fn hold<T: Wait>(
         &self,
         rt: &T,

@@ -28,6 +28,12 @@ use tree_batch::Graph;
 ///
 /// Errors: `BadWorkers` where the number of workers is not 1 to 64, else `Closed` where nothing is published, and the reader is
 /// then as it was; else `NoMemory`, and then the history shown begins with the one before.
+///
+/// # Example
+///
+/// ```
+/// let (version, outcome) = run_latest(threads, alloc, plan, reader, 2, TURNS, &Open)?;
+/// ```
 pub fn run_latest<J: Naming, R: Threads + Sync, G: Gate + Sync>(
     rt: &R,
     alloc: Global,
@@ -57,6 +63,12 @@ pub fn run_latest<J: Naming, R: Threads + Sync, G: Gate + Sync>(
 /// held, as many as the version's number says, whatever was committed since.
 ///
 /// Errors: `BadWorkers` where the number of workers is not 1 to 64, else `NoMemory`.
+///
+/// # Example
+///
+/// ```
+/// match run_held(rt, alloc, plan, held, workers, TURNS, &Open) {
+/// ```
 pub fn run_held<J: Naming, R: Threads + Sync, G: Gate + Sync>(
     rt: &R,
     alloc: Global,

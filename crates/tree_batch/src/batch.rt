@@ -88,6 +88,13 @@ impl Batch {
     }
 
     /// Adds an entry at the end. The only error is `NoMemory`, and it leaves the batch as it was.
+    ///
+    /// # Example
+    ///
+    /// ```
+    /// let mut batch = Batch::new(alloc);
+    /// batch.push(Entry::Add(vertex - 1, vertex))?;
+    /// ```
     pub fn push(&mut self, entry: Entry) -> Result<(), GraphError>
         ensures ok { OnOk result (self.new ≡ self.old ++ entry ∷ []) }
         ensures err { OnErr result (self.new ≡ self.old) }

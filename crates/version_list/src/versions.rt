@@ -82,6 +82,12 @@ impl Versions {
     ///
     /// Errors: `VertexRange` for another number of vertices, else `BadChunkSize` for another
     /// chunk size, else `NoMemory`.
+    ///
+    /// # Example
+    ///
+    /// ```
+    /// let mut versions = Versions::new(alloc, VERTICES, CHUNK_SIZE)?;
+    /// ```
     pub fn new(alloc: Global, vertices: u32, chunk_size: u32) -> Result<Versions, VersionError>
         ensures { Opens vertices chunk_size 16777216 result }
     {
@@ -116,6 +122,13 @@ impl Versions {
     /// Errors: `VertexRange` where the newest version's graph refuses the batch (see [`Graph::apply`]), else
     /// `HistoryFull` where the history has no room, else `NoMemory`. After an error the versions
     /// and the history are as before, and the batch is gone.
+    ///
+    /// # Example
+    ///
+    /// ```
+    /// let shorter = batch(alloc, &[Entry::Remove(1, 2), Entry::Add(0, 3)])?;
+    /// versions.commit(alloc, shorter)?;
+    /// ```
     pub fn commit(&mut self, alloc: Global, batch: Batch) -> Result<u64, VersionError>
         ensures { Answers self.old (Commit batch) reply.Version result self.new }
     {
@@ -192,6 +205,12 @@ impl Versions {
     /// Errors: `NotKept` where the version asked for is neither the newest nor held, else
     /// `HistoryFull` where the history has no room for this step and for the ticket's release,
     /// else `NoMemory`. After an error the versions and the history are as before.
+    ///
+    /// # Example
+    ///
+    /// ```
+    /// let (ticket, held) = versions.acquire(Which::Newest)?;
+    /// ```
     pub fn acquire(&mut self, which: Which) -> Result<(Ticket, Graph), VersionError>
         ensures answer { let version = number_asked self.old.state which in
             Answers self.old (Acquire which) (λ r. reply.Ticket r.0.number version)
@@ -265,6 +284,12 @@ impl Versions {
     ///
     /// Errors: `NotHeld` where the ticket is not open, and then the versions and the history are
     /// as before. There is no other: room and memory were kept for it when the ticket was given.
+    ///
+    /// # Example
+    ///
+    /// ```
+    /// versions.release(ticket)?;
+    /// ```
     pub fn release(&mut self, ticket: Ticket) -> Result<(), VersionError>
         ensures answer { Answers self.old (Release ticket.number) (λ _. reply.Released)
             result self.new }
@@ -388,6 +413,12 @@ impl Versions {
     }
 
     /// The newest version's number and graph. Takes no memory.
+    ///
+    /// # Example
+    ///
+    /// ```
+    /// let (newest, graph) = versions.newest();
+    /// ```
     pub fn newest(&self) -> (u64, &Graph)
         ensures number { result.0 ≡ newest_number self.now.state }
         ensures graph { result.1.now ≡ version_graph self.now.state (newest_number self.now.state) }
