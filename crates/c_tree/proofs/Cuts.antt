@@ -1,8 +1,8 @@
 -- Views cut at a number, by the heads at their roots.
 use Rattle.std.proofs.Common.{◌≡◌, ℕ, ◌<◌, Bool, true, false, None, List, ◌∷◌, ◌++◌, sym, ◌∙◌, ap, arith}
-use Rattle.tail_codec.specs.Sets.{has, below, above, Cuts}
-use Rattle.tail_codec.specs.Spelling.{AscendsFrom, Ascends}
-use Rattle.tail_codec.proofs.Cutting.{below_ascends, above_ascends, below_it, above_it, has_it, below_before, above_before, has_before, below_after, above_after, has_after, all_below, all_above}
+use Rattle.ascending_lists.specs.Sets.{has, below, above, Cuts}
+use Rattle.ascending_lists.specs.Ascending.{AscendsFrom, Ascends}
+use Rattle.ascending_lists.proofs.Cutting.{below_ascends, above_ascends, below_it, above_it, has_it, below_before, above_before, has_before, below_after, above_after, has_after, all_below, all_above}
 use Rattle.c_tree.specs.Heads.{is_head}
 use Rattle.c_tree.specs.Chunks.{ChunkedSet, HasNoHead, IsSetOf}
 use Rattle.c_tree.specs.Parts.{IsRoot, IsCut}

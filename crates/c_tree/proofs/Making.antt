@@ -1,12 +1,13 @@
 -- A set that is made of an ascending list, chunk by chunk.
 use Rattle.std.proofs.Common.{◌≡◌, ℕ, ◌+◌, ◌^◌, ◌<◌, ◌≤◌, None, Some, List, [], ◌∷◌, ◌++◌, length, sym, ◌∙◌, ap, append_assoc, length-append, arith}
-use Rattle.shared_tree.specs.Entries.{Rises, IsMap}
-use Rattle.tail_codec.specs.Spelling.{BasedList, based_list, AscendsFrom, Ascends}
+use Rattle.ascending_lists.specs.Maps.{Rises, IsMap}
+use Rattle.ascending_lists.specs.Ascending.{AscendsFrom, Ascends}
+use Rattle.tail_codec.specs.Spelling.{BasedList, based_list}
 use Rattle.c_tree.specs.Chunks.{before_head, chunks_of, elements_of, together}
 use Rattle.c_tree.specs.Parts.{IsPart}
 use Rattle.c_tree.specs.Cutting.{from_head}
 use Rattle.c_tree.proofs.Chunking.{cut_at_head, none_before_head, before_from_head, chunks_from_head, head_first, chunks_at_head, whole_again, are_chunks}
-use Rattle.tail_codec.proofs.Ascending.{ascends_from, ascends_front, ascends_back}
+use Rattle.ascending_lists.proofs.Ascending.{ascends_from, ascends_front, ascends_back}
 
 -- what stands from a head on ascends
 pub ascends_from_head : (b low : ℕ) (xs : List ℕ) → AscendsFrom low xs → AscendsFrom low (from_head b xs)

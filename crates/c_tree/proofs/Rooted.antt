@@ -4,16 +4,17 @@ use Rattle.std.specs.List.{All}
 use Rattle.std.proofs.lemmas.Bool.{both_ways}
 use Rattle.std.proofs.lemmas.List.{append-nil}
 use Rattle.std.proofs.lemmas.List.Elements.{All-nil, All-cons, All-head, All-tail}
-use Rattle.tail_codec.specs.Spelling.{BasedList, based_list, AscendsFrom, Ascends, least}
-use Rattle.shared_tree.specs.Entries.{IsMap}
+use Rattle.ascending_lists.specs.Ascending.{AscendsFrom, Ascends, least}
+use Rattle.tail_codec.specs.Spelling.{BasedList, based_list}
+use Rattle.ascending_lists.specs.Maps.{IsMap}
 use Rattle.shared_tree.specs.Balanced.{Balanced, empty, IsFork}
 use Rattle.c_tree.specs.Heads.{is_head}
 use Rattle.c_tree.specs.Chunks.{ChunkedSet, IsSetOf, elements_of, together, HasNoHead, IsChunk}
-use Rattle.tail_codec.proofs.Ascending.{ascends_from, ascends_front, ascends_back}
+use Rattle.ascending_lists.proofs.Ascending.{ascends_from, ascends_front, ascends_back}
 use Rattle.c_tree.proofs.Making.{heads_rise}
 use Rattle.c_tree.proofs.Turns.{elements_append, together_at, all_left, all_right}
 use Rattle.c_tree.specs.Parts.{in_chunks, IsPart, IsRoot}
-use Rattle.tail_codec.proofs.Cutting.{after_it}
+use Rattle.ascending_lists.proofs.Cutting.{after_it}
 
 all_append : {X : Type 0} (P : X → Type 0) (xs ys : List X) → All P xs → All P ys → All P (xs ++ ys)
 all_append P [] ys p q = q

@@ -3,9 +3,10 @@ use Rattle.std.proofs.Common.{◌≡◌, ℕ, ◌+◌, ◌-◌, ◌^◌, ◌<◌
 use Rattle.std.specs.List.{All}
 use Rattle.std.proofs.lemmas.List.Elements.{All-head, All-tail}
 use Rattle.tail_codec.specs.Appending.{least_after, IsAppended}
-use Rattle.tail_codec.specs.Spelling.{BasedList, AscendsFrom, Ascends, SpellsNumber, least}
-use Rattle.tail_codec.proofs.Ascending.{ascends_front}
-use Rattle.tail_codec.proofs.Cutting.{after_it}
+use Rattle.ascending_lists.specs.Ascending.{AscendsFrom, Ascends, least}
+use Rattle.tail_codec.specs.Spelling.{BasedList, SpellsNumber}
+use Rattle.ascending_lists.proofs.Ascending.{ascends_front}
+use Rattle.ascending_lists.proofs.Cutting.{after_it}
 use Rattle.tail_codec.proofs.Writing.{least_after-joined, joined_fits, SpellsFrom-joined}
 use Rattle.shared_tree.specs.Balanced.{Balanced, IsFork}
 use Rattle.c_tree.specs.Chunks.{together}

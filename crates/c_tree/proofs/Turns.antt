@@ -3,10 +3,11 @@ use Rattle.std.proofs.Common.{◌≡◌, ◌↔◌, ℕ, ◌+◌, ◌<◌, ◌�
 use Rattle.std.specs.List.{All, Contains}
 use Rattle.std.proofs.lemmas.List.{append-nil}
 use Rattle.std.proofs.lemmas.List.Elements.{All-nil, All-cons, All-head, All-tail, Contains-append_left, Contains-append_right, Contains-append_cases}
-use Rattle.tail_codec.specs.Spelling.{BasedList, AscendsFrom}
+use Rattle.ascending_lists.specs.Ascending.{AscendsFrom}
+use Rattle.tail_codec.specs.Spelling.{BasedList}
 use Rattle.shared_tree.specs.Balanced.{Balanced, empty, IsFork}
 use Rattle.c_tree.specs.Chunks.{elements_of, together}
-use Rattle.tail_codec.proofs.Ascending.{ascends_from, ascends_front, ascends_back, contains_head, contains_tail, contains_cases, least_element}
+use Rattle.ascending_lists.proofs.Ascending.{ascends_from, ascends_front, ascends_back, contains_head, contains_tail, contains_cases, least_element}
 
 module _ (e h : ℕ) (r : List ℕ) where
   from_there : (low : ℕ) (xs : List ℕ) → AscendsFrom low (xs ++ h ∷ r) → AscendsFrom h (h ∷ r)

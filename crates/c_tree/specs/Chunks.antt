@@ -1,7 +1,8 @@
 -- The one way in which a list is cut into chunks.
 use Rattle.std.specs.Prelude.{◌≡◌, ℕ, false, true, if◌then◌else◌, None, Some, List, [], ◌∷◌, ◌++◌}
 use Rattle.std.specs.List.{All}
-use Rattle.tail_codec.specs.Spelling.{BasedList, based_list, Ascends}
+use Rattle.ascending_lists.specs.Ascending.{Ascends}
+use Rattle.tail_codec.specs.Spelling.{BasedList, based_list}
 use Rattle.c_tree.specs.Heads.{IsChunkSize, is_head}
 
 -- what stands before the first head

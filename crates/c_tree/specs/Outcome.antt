@@ -1,6 +1,6 @@
 -- What the calls that make a set give, case by case.
 use Rattle.std.specs.Prelude.{◌≡◌, ℕ, None, Result, Ok, Err, List, []}
-use Rattle.tail_codec.specs.Spelling.{Ascends}
+use Rattle.ascending_lists.specs.Ascending.{Ascends}
 use Rattle.c_tree.specs.declared.error.CTreeError.{CTreeError}
 use Rattle.c_tree.specs.declared.error.CTreeError.TheVariants.{BadChunkSize, NotAscending, NoMemory}
 use Rattle.c_tree.specs.Heads.{IsChunkSize}

@@ -2,8 +2,9 @@
 use Rattle.std.specs.Prelude.{◌≡◌, ℕ, ◌+◌, max, Bool, true, None, List, ◌∷◌, ◌++◌, length}
 use Rattle.std.specs.List.{All}
 use Rattle.shared_tree.specs.Balanced.{Balanced}
-use Rattle.tail_codec.specs.Sets.{Cuts}
-use Rattle.tail_codec.specs.Spelling.{BasedList, Ascends}
+use Rattle.ascending_lists.specs.Sets.{Cuts}
+use Rattle.ascending_lists.specs.Ascending.{Ascends}
+use Rattle.tail_codec.specs.Spelling.{BasedList}
 use Rattle.c_tree.specs.Heads.{is_head}
 use Rattle.c_tree.specs.Chunks.{ChunkedSet, together, HasNoHead, IsChunk}
 

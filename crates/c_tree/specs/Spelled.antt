@@ -1,7 +1,8 @@
 -- For proofs only: the bytes of a prefix and of chunks.
 use Rattle.std.specs.Prelude.{◌≡◌, ℕ, Option, Some, List}
 use Rattle.tail_codec.specs.Appending.{least_after}
-use Rattle.tail_codec.specs.Spelling.{BasedList, least, Spells}
+use Rattle.ascending_lists.specs.Ascending.{least}
+use Rattle.tail_codec.specs.Spelling.{BasedList, Spells}
 
 -- the tail of a chunk stands over its head
 abbrev pub StandsOverItsHead : ℕ × BasedList → Type 0

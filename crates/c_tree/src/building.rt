@@ -1,8 +1,8 @@
 //! Sets made of ascending lists.
 
 ghost use Rattle.std.specs.Prelude.{◌≡◌, ◌++◌, [], IfOk, None};
-ghost use Rattle.shared_tree.specs.Entries.{IsMap};
-ghost use Rattle.tail_codec.specs.Spelling.{Ascends};
+ghost use Rattle.ascending_lists.specs.Maps.{IsMap};
+ghost use Rattle.ascending_lists.specs.Ascending.{Ascends};
 ghost use Rattle.c_tree.specs.Chunks.{before_head, chunks_of, IsSetOf};
 ghost use Rattle.c_tree.specs.Cutting.{from_head};
 ghost use Rattle.c_tree.specs.Outcome.{Builds};
@@ -12,9 +12,10 @@ use crate::ctree::CTree;
 use crate::error::CTreeError;
 use crate::part::Part;
 use crate::tail::ChunkTail;
+use ascending_lists::ascends;
 use shared_tree::{Tree, TreeError};
 use std::alloc::{AllocError, Global};
-use tail_codec::{TailWriter, ascends};
+use tail_codec::TailWriter;
 
 impl CTree {
     /// The set of these elements in chunks of this size. It takes time in proportion to them.

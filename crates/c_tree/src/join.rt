@@ -1,8 +1,8 @@
 //! Parts that are put together.
 
 ghost use Rattle.std.specs.Prelude.{◌≡◌, ◌++◌, ◌∷◌, true, None, IfOk};
-ghost use Rattle.shared_tree.specs.Entries.{IsMap};
-ghost use Rattle.tail_codec.specs.Spelling.{Ascends};
+ghost use Rattle.ascending_lists.specs.Maps.{IsMap};
+ghost use Rattle.ascending_lists.specs.Ascending.{Ascends};
 ghost use Rattle.c_tree.specs.Heads.{is_head};
 ghost use Rattle.c_tree.specs.Chunks.{HasNoHead, IsSetOf};
 

@@ -3,7 +3,8 @@
 ghost use Rattle.std.specs.Prelude.{◌≡◌, None, Some};
 ghost use Rattle.std.specs.List.{All};
 ghost use Rattle.tail_codec.specs.Appending.{IsAppended};
-ghost use Rattle.tail_codec.specs.Spelling.{Ascends, Spells};
+ghost use Rattle.ascending_lists.specs.Ascending.{Ascends};
+ghost use Rattle.tail_codec.specs.Spelling.{Spells};
 ghost use Rattle.c_tree.specs.Chunks.{together};
 ghost use Rattle.c_tree.specs.Spelled.{StandsOverItsHead, SpellsUpTo};
 

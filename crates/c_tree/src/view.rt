@@ -1,5 +1,5 @@
 ghost use Rattle.std.specs.Prelude.{◌≡◌, ◌↔◌, ◌^◌, ◌≤◌, None, [], length, IsTrue, IfOk, MatchOption};
-ghost use Rattle.tail_codec.specs.Spelling.{Ascends};
+ghost use Rattle.ascending_lists.specs.Ascending.{Ascends};
 ghost use Rattle.c_tree.specs.Chunks.{HasNoHead, chunks_of, together};
 ghost use Rattle.c_tree.specs.Parts.{IsPart, IsRoot, in_chunks};
 

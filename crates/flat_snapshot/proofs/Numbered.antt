@@ -2,8 +2,8 @@
 use Rattle.std.proofs.Common.{◌≡◌, ◌≢◌, ℕ, zero, suc, ◌+◌, ◌*◌, ◌/◌, ◌%◌, ◌<◌, ◌≤◌, inl, inr, Option, List, [], ◌∷◌, ◌++◌, length, get_or, refl, sym, ◌∙◌, ap, subst, arith}
 use Rattle.std.proofs.lemmas.Bool.{cases_eq, ne_eqb, eq-eqb}
 use Rattle.std.proofs.lemmas.List.{append_assoc, append-nil}
-use Rattle.shared_tree.specs.Entries.{Rises}
-use Rattle.shared_tree.proofs.Order.{rises_append, rises_to, rises_room}
+use Rattle.ascending_lists.specs.Maps.{Rises}
+use Rattle.ascending_lists.proofs.MapOrder.{rises_append, rises_to, rises_room}
 use Rattle.pages.specs.Vertices.{Rises as Climbs, neighbours_of}
 use Rattle.vertex_blocks.specs.Blocks.{Block, IsBlock, AreNeighbourLists, vertices_at, numbered}
 use Rattle.tree_batch.specs.VertexBlocks.{HaveFew}

@@ -2,8 +2,8 @@
 use Rattle.std.proofs.Common.{◌≡◌, ℕ, zero, suc, ◌+◌, ◌*◌, ◌<◌, ◌^◌, inl, inr, List, [], ◌∷◌, length, unwrap_or, refl, sym, ◌∙◌, ap, subst, arith}
 use Rattle.std.specs.List.{All}
 use Rattle.std.proofs.lemmas.Bool.{cases_eq, ne_eqb, eq-eqb}
-use Rattle.shared_tree.specs.Entries.{Rises, lookup}
-use Rattle.shared_tree.proofs.Order.{rises_append, rises_from, rises_to}
+use Rattle.ascending_lists.specs.Maps.{Rises, lookup}
+use Rattle.ascending_lists.proofs.MapOrder.{rises_append, rises_from, rises_to}
 use Rattle.pages.specs.Vertices.{neighbours_of}
 use Rattle.tree_batch.specs.Digraph.{Digraph, digraph, IsDigraph}
 use Rattle.tree_batch.specs.Neighbours.{destinations_of, sources_of, edges_of}

@@ -1,8 +1,8 @@
 -- Walks over vertices in order.
 use Rattle.std.proofs.Common.{◌≡◌, ◌≢◌, ℕ, ◌+◌, ◌<◌, ◌≤◌, inl, inr, List, [], ◌∷◌, length, refl, ap, arith}
 use Rattle.std.proofs.lemmas.Bool.{cases_eq, cases_lt, ne_eqb, eq-eqb, lt-ltb, le-ltb}
-use Rattle.shared_tree.specs.Entries.{Rises}
-use Rattle.shared_tree.proofs.Order.{rises_room}
+use Rattle.ascending_lists.specs.Maps.{Rises}
+use Rattle.ascending_lists.proofs.MapOrder.{rises_room}
 use Rattle.pages.specs.Vertices.{neighbours_of}
 use Rattle.vertex_blocks.specs.Blocks.{AreNeighbourLists, vertices_from}
 use Rattle.flat_snapshot.proofs.Numbered.{none_below}

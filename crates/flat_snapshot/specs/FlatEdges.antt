@@ -1,7 +1,7 @@
 -- The neighbours of vertices, and the edges that they make.
 use Rattle.std.specs.Prelude.{◌≡◌, ℕ, ◌<◌, unwrap_or, List, length}
 use Rattle.std.specs.List.{All}
-use Rattle.shared_tree.specs.Entries.{IsMap, lookup}
+use Rattle.ascending_lists.specs.Maps.{IsMap, lookup}
 use Rattle.pages.specs.Vertices.{neighbours_of}
 use Rattle.tree_batch.specs.Digraph.{digraph, IsDigraph}
 use Rattle.tree_batch.specs.Neighbours.{destinations_of, sources_of, edges_of}

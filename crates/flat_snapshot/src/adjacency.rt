@@ -2,7 +2,7 @@
 
 ghost use Rattle.std.specs.Prelude.{◌≡◌, ℕ, ◌+◌, ◌^◌, ◌<◌, ◌≤◌, ◌/◌, ◌%◌, [], ◌∷◌, length, IfOk, IfSome, MatchOption};
 ghost use Rattle.std.specs.Option.{option_copied};
-ghost use Rattle.shared_tree.specs.Entries.{Rises};
+ghost use Rattle.ascending_lists.specs.Maps.{Rises};
 ghost use Rattle.pages.specs.Vertices.{neighbours_of};
 ghost use Rattle.vertex_blocks.specs.Blocks.{lists_of, AreBlocks, vertices_at, vertices_from};
 ghost use Rattle.tree_batch.specs.VertexBlocks.{HaveFew};

@@ -2,14 +2,14 @@
 use Rattle.std.proofs.Common.{◌≡◌, ℕ, ◌+◌, ◌^◌, ◌<◌, ◌≤◌, Bool, Option, None, Some, List, [], ◌∷◌, ◌++◌, length, refl, sym, ◌∙◌, ap, length-append, arith}
 use Rattle.std.specs.Prelude.{Result, Ok, Err, IfOk}
 use Rattle.std.specs.declared.alloc.AllocError.{AllocError}
-use Rattle.tail_codec.specs.Operations.{combined, most}
-use Rattle.tail_codec.specs.Sets.{Cuts, below, above}
-use Rattle.tail_codec.specs.Spelling.{AscendsFrom, Ascends, least}
-use Rattle.tail_codec.specs.declared.set_operation.Operation.{Operation}
-use Rattle.tail_codec.specs.declared.set_operation.Operation.TheVariants.{Union}
-use Rattle.tail_codec.proofs.Ascending.{ascends_from, ascends_front}
-use Rattle.tail_codec.proofs.Cutting.{after_it, below_ascends, above_from}
-use Rattle.tail_codec.proofs.Unions.{union_swap}
+use Rattle.ascending_lists.specs.Operations.{combined, most}
+use Rattle.ascending_lists.specs.Sets.{Cuts, below, above}
+use Rattle.ascending_lists.specs.Ascending.{AscendsFrom, Ascends, least}
+use Rattle.ascending_lists.specs.declared.set_operation.Operation.{Operation}
+use Rattle.ascending_lists.specs.declared.set_operation.Operation.TheVariants.{Union}
+use Rattle.ascending_lists.proofs.Ascending.{ascends_from, ascends_front}
+use Rattle.ascending_lists.proofs.Cutting.{after_it, below_ascends, above_from}
+use Rattle.ascending_lists.proofs.Unions.{union_swap}
 use Rattle.c_tree.specs.Chunks.{ChunkedSet}
 use Rattle.c_tree.specs.Parts.{IsRoot}
 use Rattle.c_tree.specs.declared.cut.Cut.{Cut}

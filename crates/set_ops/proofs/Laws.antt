@@ -1,15 +1,15 @@
 -- Set operations on two lists that are cut at one element of the first.
 use Rattle.std.proofs.Common.{◌≡◌, ℕ, ◌+◌, ◌^◌, ◌≤◌, Bool, true, false, if◌then◌else◌, inl, inr, List, [], ◌∷◌, ◌++◌, length, refl, ◌∙◌, ap, length-append, arith}
 use Rattle.std.proofs.lemmas.Bool.{cases_order, cases_lt, cases_Bool, lt-ltb, le-ltb, eq-eqb, ne_eqb}
-use Rattle.tail_codec.specs.Operations.{combined, most}
-use Rattle.tail_codec.specs.Sets.{has, below, above, union, difference}
-use Rattle.tail_codec.specs.Spelling.{AscendsFrom}
-use Rattle.tail_codec.specs.declared.set_operation.Operation.{Operation}
-use Rattle.tail_codec.specs.declared.set_operation.Operation.TheVariants.{Union, Difference}
-use Rattle.tail_codec.proofs.Ascending.{ascends_from, ascends_room}
-use Rattle.tail_codec.proofs.Cutting.{below_none, above_all, has_none}
-use Rattle.tail_codec.proofs.Differences.{difference_at, difference_ascends, difference_nothing}
-use Rattle.tail_codec.proofs.Unions.{union_at, union_ascends, union_nothing}
+use Rattle.ascending_lists.specs.Operations.{combined, most}
+use Rattle.ascending_lists.specs.Sets.{has, below, above, union, difference}
+use Rattle.ascending_lists.specs.Ascending.{AscendsFrom}
+use Rattle.ascending_lists.specs.declared.set_operation.Operation.{Operation}
+use Rattle.ascending_lists.specs.declared.set_operation.Operation.TheVariants.{Union, Difference}
+use Rattle.ascending_lists.proofs.Ascending.{ascends_from, ascends_room}
+use Rattle.ascending_lists.proofs.Cutting.{below_none, above_all, has_none}
+use Rattle.ascending_lists.proofs.Differences.{difference_at, difference_ascends, difference_nothing}
+use Rattle.ascending_lists.proofs.Unions.{union_at, union_ascends, union_nothing}
 use Rattle.set_ops.specs.Answers.{keeps, rejoined}
 
 -- how often a number counts

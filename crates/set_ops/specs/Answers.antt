@@ -1,8 +1,8 @@
 -- For proofs only: what the operations give before it is a set.
 use Rattle.std.specs.Prelude.{◌≡◌, ℕ, ◌+◌, Bool, true, not, if◌then◌else◌, List, ◌∷◌, ◌++◌, length}
-use Rattle.tail_codec.specs.Operations.{combined, most}
-use Rattle.tail_codec.specs.declared.set_operation.Operation.{Operation}
-use Rattle.tail_codec.specs.declared.set_operation.Operation.TheVariants.{Union, Difference}
+use Rattle.ascending_lists.specs.Operations.{combined, most}
+use Rattle.ascending_lists.specs.declared.set_operation.Operation.{Operation}
+use Rattle.ascending_lists.specs.declared.set_operation.Operation.TheVariants.{Union, Difference}
 use Rattle.c_tree.specs.Chunks.{ChunkedSet, IsSetOf}
 use Rattle.set_ops.specs.declared.combined.Combined.{Combined}
 

@@ -1,7 +1,7 @@
 -- For proofs only: two sets that are cut at one head.
 use Rattle.std.specs.Prelude.{◌≡◌, ℕ, ◌+◌, ◌<◌, ◌≤◌, Option, Some}
-use Rattle.tail_codec.specs.Spelling.{Ascends}
-use Rattle.tail_codec.specs.declared.set_operation.Operation.{Operation}
+use Rattle.ascending_lists.specs.Ascending.{Ascends}
+use Rattle.ascending_lists.specs.declared.set_operation.Operation.{Operation}
 use Rattle.c_tree.specs.Chunks.{ChunkedSet}
 use Rattle.c_tree.specs.Parts.{IsRoot, IsCut}
 use Rattle.c_tree.specs.declared.cut.Cut.{Cut}

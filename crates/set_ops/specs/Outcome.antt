@@ -1,8 +1,8 @@
 -- What the calls on two sets, or on a set and a list, give, case by case.
 use Rattle.std.specs.Prelude.{◌≡◌, ◌≢◌, ℕ, None, List, Result, Ok, Err}
-use Rattle.tail_codec.specs.Spelling.{Ascends}
+use Rattle.ascending_lists.specs.Ascending.{Ascends}
 use Rattle.c_tree.specs.Chunks.{ChunkedSet, IsSetOf}
-use Rattle.tail_codec.specs.Sets.{union, difference}
+use Rattle.ascending_lists.specs.Sets.{union, difference}
 use Rattle.set_ops.specs.declared.error.SetError.{SetError}
 use Rattle.set_ops.specs.declared.error.SetError.TheVariants.{NotAscending, ChunkSizesDiffer, NoMemory}
 

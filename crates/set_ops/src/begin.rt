@@ -1,16 +1,16 @@
 //! The step before the halves.
 
 ghost use Rattle.std.specs.Prelude.{◌≡◌, IfOk};
-ghost use Rattle.tail_codec.specs.Spelling.{Ascends};
+ghost use Rattle.ascending_lists.specs.Ascending.{Ascends};
 ghost use Rattle.c_tree.specs.Chunks.{HasNoHead};
 ghost use Rattle.set_ops.specs.Answers.{IsCombined};
 ghost use Rattle.set_ops.specs.Halving.{IsBegun};
 
 use crate::combined::{Combined, Task};
 use crate::with_list::combine_with_list;
+use ascending_lists::Operation;
 use c_tree::{Cut, Part, View};
 use std::alloc::{AllocError, Global};
-use tail_codec::Operation;
 
 /// Two views cut at the head at the first's root.
 pub(crate) struct Halves<'a> {

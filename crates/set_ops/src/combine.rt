@@ -1,15 +1,15 @@
 //! The recursion by halves.
 
 ghost use Rattle.std.specs.Prelude.{◌≡◌, IfOk};
-ghost use Rattle.tail_codec.specs.Spelling.{Ascends};
+ghost use Rattle.ascending_lists.specs.Ascending.{Ascends};
 ghost use Rattle.set_ops.specs.Answers.{IsCombined};
 
 use crate::begin::{Begun, begin};
 use crate::combined::{Combined, Task, combine_lists, rejoin};
 use crate::mixed::are_mixed;
+use ascending_lists::Operation;
 use c_tree::View;
 use std::alloc::{AllocError, Global};
-use tail_codec::Operation;
 
 /// The answer for two views that ascend from a base.
 pub(crate) fn combine(

@@ -1,14 +1,14 @@
 //! Answers of set operations before they are sets.
 
 ghost use Rattle.std.specs.Prelude.{◌≡◌, ◌+◌, ◌^◌, ◌<◌, ◌≤◌, None, Some, length, true, IfOk};
-ghost use Rattle.tail_codec.specs.Operations.{most};
-ghost use Rattle.tail_codec.specs.Spelling.{Ascends};
+ghost use Rattle.ascending_lists.specs.Operations.{most};
+ghost use Rattle.ascending_lists.specs.Ascending.{Ascends};
 ghost use Rattle.c_tree.specs.Heads.{is_head};
 ghost use Rattle.set_ops.specs.Answers.{IsCombined, IsRejoined, rejoined};
 
+use ascending_lists::{Operation, merge};
 use c_tree::{CTree, ChunkSize, Part};
 use std::alloc::{AllocError, Global};
-use tail_codec::{Operation, merge};
 
 /// What is done with two sets, whose elements stand above a base.
 #[derive(Clone, Copy)]

@@ -2,7 +2,7 @@
 
 ghost use Rattle.std.specs.Prelude.{◌≡◌, ◌+◌, ◌<◌, ◌≤◌, IfOk, Ok};
 ghost use denote.Param.Send.{IsSync};
-ghost use Rattle.tail_codec.specs.Spelling.{Ascends};
+ghost use Rattle.ascending_lists.specs.Ascending.{Ascends};
 ghost use Rattle.set_ops.specs.Answers.{IsCombined};
 ghost use Rattle.set_ops.specs.Halving.{HasForks, AreLent, AreLentAnswers, IsLentBelow, IsLentAbove};
 
@@ -10,10 +10,10 @@ use crate::begin::{Begun, OwnedHalves, begin};
 use crate::combine::combine;
 use crate::combined::{Combined, Task, rejoin};
 use crate::fork::Fork;
+use ascending_lists::Operation;
 use c_tree::View;
 use std::alloc::{AllocError, Global};
 use std::thread::{self, Threads};
-use tail_codec::Operation;
 
 /// The answer for two views that ascend from a base, as `combine` gives it, with halves on two threads
 /// at so many levels, the first of which is `level`.

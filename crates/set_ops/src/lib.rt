@@ -2,7 +2,7 @@
 //!
 //! `union` and `difference` take two sets of one chunk size and give a set of that chunk size; a
 //! contract sees the answer's list as the union or the difference of the two lists, which
-//! `tail_codec` defines by cases with laws on their elements. As a C-tree has one chunking for each
+//! `ascending_lists` defines by cases with laws on their elements. As a C-tree has one chunking for each
 //! list, that says how the answer is cut, whatever chunks the two had. The two sets stay as they were.
 //!
 //! Both sets are cut at the head at the first's root; what lies below it and above it is done each by

@@ -1,14 +1,14 @@
 //! The operations on a set and an ascending list.
 
-ghost use Rattle.tail_codec.specs.Operations.{combined};
+ghost use Rattle.ascending_lists.specs.Operations.{combined};
 ghost use Rattle.set_ops.specs.Outcome.{Changes, Inserts, Removes};
 
 use crate::combined::Task;
 use crate::error::SetError;
 use crate::with_list::combine_with_list;
+use ascending_lists::{Operation, ascends};
 use c_tree::CTree;
 use std::alloc::Global;
-use tail_codec::{Operation, ascends};
 
 /// The set with the elements of an ascending list added, in chunks of the set's size. The set stays
 /// as it was, and the answer shares its chunks as that of [`union`] does. A list of k elements and a

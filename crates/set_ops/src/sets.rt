@@ -9,10 +9,10 @@ use crate::combined::Task;
 use crate::error::SetError;
 use crate::fork::Fork;
 use crate::forked::combine_forked;
+use ascending_lists::Operation;
 use c_tree::{CTree, View};
 use std::alloc::Global;
 use std::thread::Threads;
-use tail_codec::Operation;
 
 /// The most levels at which halves go to two threads.
 const MOST_FORKS: u32 = 6;

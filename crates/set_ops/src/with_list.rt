@@ -1,13 +1,13 @@
 //! The recursion over one set and an ascending list.
 
 ghost use Rattle.std.specs.Prelude.{IfOk};
-ghost use Rattle.tail_codec.specs.Spelling.{Ascends};
+ghost use Rattle.ascending_lists.specs.Ascending.{Ascends};
 ghost use Rattle.set_ops.specs.Answers.{IsCombined};
 
 use crate::combined::{Combined, Task, combine_lists, rejoin};
+use ascending_lists::cut_list;
 use c_tree::View;
 use std::alloc::{AllocError, Global};
-use tail_codec::cut_list;
 
 /// The deepest trees of heads whose elements are read as one list.
 const DEEPEST: u32 = 7;

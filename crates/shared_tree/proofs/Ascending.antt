@@ -1,8 +1,8 @@
 -- Entries that are read one after another.
 use Rattle.std.proofs.Common.{◌≡◌, ℕ, ◌+◌, ◌^◌, ◌<◌, ◌≤◌, List, [], ◌∷◌, ◌++◌, length, get_or, take, drop, sym, ap, ◌∙◌, append_assoc, arith}
 use Rattle.std.proofs.lemmas.List.{take_more, take-append-drop, take_all}
-use Rattle.shared_tree.specs.Entries.{Rises, IsMap}
-use Rattle.shared_tree.proofs.Order.{rises_to, rises_left, rises_right, rises_joined, rises_front, rises_back}
+use Rattle.ascending_lists.specs.Maps.{Rises, IsMap}
+use Rattle.ascending_lists.proofs.MapOrder.{rises_to, rises_left, rises_right, rises_joined, rises_front, rises_back}
 
 module _ {V : Type 0} (es : List (ℕ × V)) (i : ℕ) (e : ℕ × V) (lt : i < length es) (is : e ≡ get_or es i e) where
   one_more : take (i + 1) es ≡ take i es ++ e ∷ []

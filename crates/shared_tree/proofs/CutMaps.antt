@@ -2,9 +2,9 @@
 use Rattle.std.proofs.Common.{◌≡◌, ◌≢◌, ℕ, ◌+◌, ◌^◌, ◌<◌, ◌≤◌, Option, Some, None, List, [], ◌∷◌, ◌++◌, length, get_or, take, drop, refl, sym, ap, ◌∙◌, arith, length-append}
 use Rattle.std.proofs.lemmas.Bool.{ne_eqb}
 use Rattle.std.proofs.lemmas.List.{take_more, drop_more, take-append-drop}
-use Rattle.shared_tree.specs.Entries.{Rises, IsMap, lookup}
+use Rattle.ascending_lists.specs.Maps.{Rises, IsMap, lookup}
 use Rattle.shared_tree.specs.Changes.{entry_at, IsSplit}
-use Rattle.shared_tree.proofs.Order.{rises_room, rises_left, rises_right, rises_joined, lookup_below}
+use Rattle.ascending_lists.proofs.MapOrder.{rises_room, rises_left, rises_right, rises_joined, lookup_below}
 
 module _ {V : Type 0} where
   -- at a key below that of a split

@@ -1,8 +1,8 @@
 -- Trees whose root has an entry between two sides.
 use Rattle.std.proofs.Common.{◌≡◌, ℕ, ◌+◌, ◌*◌, ◌^◌, ◌<◌, ◌≤◌, max, Some, ◌∷◌, ◌++◌, length, refl, sym, arith, length-append}
-use Rattle.shared_tree.specs.Entries.{IsMap, lookup}
+use Rattle.ascending_lists.specs.Maps.{IsMap, lookup}
 use Rattle.shared_tree.specs.Balanced.{Balanced, IsFork, DifferByAtMostOne}
-use Rattle.shared_tree.proofs.Order.{rises_room, lookup_left, lookup_here, lookup_right}
+use Rattle.ascending_lists.proofs.MapOrder.{rises_room, lookup_left, lookup_here, lookup_right}
 use Rattle.shared_tree.proofs.Shallow.{shallow_fork, room_fork, at_most_64}
 
 module _ {V : Type 0} (t l : Balanced V) (k : ℕ) (v : V) (r : Balanced V) where

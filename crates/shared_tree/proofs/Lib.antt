@@ -1,4 +1,3 @@
-pub mod Order
 pub mod Shallow
 pub mod Forks
 pub mod Rotations

@@ -2,11 +2,11 @@
 use Rattle.std.proofs.Common.{◌≡◌, ℕ, ◌^◌, Option, Some, List, [], ◌∷◌, ◌++◌, sym, ap, ◌∙◌, subst, append_assoc}
 use Rattle.shared_tree.specs.declared.open.Opened.{Opened}
 use Rattle.shared_tree.specs.declared.joins.Last.{Last}
-use Rattle.shared_tree.specs.Entries.{IsMap}
+use Rattle.ascending_lists.specs.Maps.{IsMap}
 use Rattle.shared_tree.specs.Balanced.{Balanced, IsFork}
 use Rattle.shared_tree.specs.Joins.{IsFront}
 use Rattle.shared_tree.specs.Opened.{IsOpened, IsPopped}
-use Rattle.shared_tree.proofs.Order.{rises_front, rises_back}
+use Rattle.ascending_lists.proofs.MapOrder.{rises_front, rises_back}
 
 -- the root that was found on opening
 pub opened : {V : Type 0} (t : Balanced V) (o : Option (Opened V)) (x : Opened V) → o ≡ Some x → IsOpened t o → IsFork t x.left x.key x.slot.node.value.value x.right

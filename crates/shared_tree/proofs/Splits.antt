@@ -1,8 +1,8 @@
 -- Maps split at a key, and maps with one key changed, below and above an entry.
 use Rattle.std.proofs.Common.{◌≡◌, ℕ, ◌+◌, ◌^◌, ◌<◌, Option, Some, None, List, ◌∷◌, ◌++◌, refl, sym, ap, ◌∙◌, append_assoc, arith}
-use Rattle.shared_tree.specs.Entries.{Rises, IsMap}
+use Rattle.ascending_lists.specs.Maps.{Rises, IsMap}
 use Rattle.shared_tree.specs.Changes.{entry_at, IsSplit, Changes}
-use Rattle.shared_tree.proofs.Order.{rises_from, rises_left, rises_right, rises_joined, rises_append, rises_front, rises_back, rises_between}
+use Rattle.ascending_lists.proofs.MapOrder.{rises_from, rises_left, rises_right, rises_joined, rises_append, rises_front, rises_back, rises_between}
 
 module _ {V : Type 0} where
   -- what is below a key, an entry there or none, and what is above are in order

@@ -1,6 +1,6 @@
 -- What contracts see of a tree.
 use Rattle.std.specs.Prelude.{◌≡◌, ℕ, ◌+◌, ◌*◌, ◌^◌, ◌<◌, ◌≤◌, max, List, [], ◌∷◌, ◌++◌, length}
-use Rattle.shared_tree.specs.Entries.{IsMap}
+use Rattle.ascending_lists.specs.Maps.{IsMap}
 
 -- the entries in order, and how many nodes the longest way down from the root has
 pub record Balanced (V : Type 0) : Type 0 where

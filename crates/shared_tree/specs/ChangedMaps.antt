@@ -1,6 +1,6 @@
 -- Maps changed at many keys.
 use Rattle.std.specs.Prelude.{◌≡◌, ℕ, ◌+◌, ◌%◌, ◌^◌, Option, Some, None, List, [], ◌∷◌}
-use Rattle.shared_tree.specs.Entries.{Rises, lookup}
+use Rattle.ascending_lists.specs.Maps.{Rises, lookup}
 
 -- what becomes of the value at a key: as a change makes it, or as it was where there is no change
 abbrev pub MadeAt : {V C : Type 0} → (C → Option V → Option V → Type 0) → Option C → Option V → Option V → Type 0

@@ -1,6 +1,6 @@
 -- A map split at a key, and a map with one key changed.
 use Rattle.std.specs.Prelude.{◌≡◌, ℕ, ◌+◌, ◌^◌, ◌≤◌, Option, Some, None, List, [], ◌∷◌, ◌++◌}
-use Rattle.shared_tree.specs.Entries.{Rises}
+use Rattle.ascending_lists.specs.Maps.{Rises}
 use Rattle.shared_tree.specs.Balanced.{Balanced}
 
 -- the one entry at a key, or none where there is no value

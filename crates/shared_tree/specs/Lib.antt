@@ -1,4 +1,3 @@
-pub mod Entries
 pub mod Changes
 pub mod ChangedMaps
 pub mod Balanced

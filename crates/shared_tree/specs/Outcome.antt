@@ -2,7 +2,7 @@
 use Rattle.std.specs.Prelude.{◌≡◌, ℕ, ◌+◌, ◌*◌, ◌^◌, ◌<◌, ◌≤◌, Result, Ok, Err, List}
 use Rattle.shared_tree.specs.declared.error.TreeError.{TreeError}
 use Rattle.shared_tree.specs.declared.error.TreeError.TheVariants.{NotAscending, NoMemory}
-use Rattle.shared_tree.specs.Entries.{IsMap}
+use Rattle.ascending_lists.specs.Maps.{IsMap}
 use Rattle.shared_tree.specs.Balanced.{Balanced}
 
 -- a tree of these entries, unless they are no map in order

@@ -2,7 +2,7 @@
 
 ghost use Rattle.std.specs.Prelude.{◌≡◌, ◌+◌, ◌^◌, ◌≤◌, ◌++◌, [], length, take, drop, IfOk, MatchOption};
 ghost use Rattle.std.specs.Option.{option_copied};
-ghost use Rattle.shared_tree.specs.Entries.{IsMap, Rises};
+ghost use Rattle.ascending_lists.specs.Maps.{IsMap, Rises};
 ghost use Rattle.shared_tree.specs.Changes.{entry_at, IsSplit};
 ghost use Rattle.shared_tree.specs.ChangedMaps.{IsChangedMap, total_weight, GrewBy};
 ghost use Rattle.shared_tree.specs.Halves.{AreHalves};

@@ -1,7 +1,7 @@
 //! Joining trees, with rotations where the sides differ in depth.
 
 ghost use Rattle.std.specs.Prelude.{◌≡◌, ◌+◌, ◌≤◌, ◌∷◌, ◌++◌, IfOk};
-ghost use Rattle.shared_tree.specs.Entries.{IsMap};
+ghost use Rattle.ascending_lists.specs.Maps.{IsMap};
 ghost use Rattle.shared_tree.specs.Joins.{IsJoin, IsConcatenation};
 ghost use Rattle.shared_tree.specs.Opened.{IsPopped};
 

@@ -1,7 +1,7 @@
 //! What the definitions that contracts cite come to.
 
 ghost use Rattle.std.specs.Prelude.{◌≡◌, ◌≢◌, ℕ, Option, List};
-ghost use Rattle.shared_tree.specs.Entries.{IsMap, lookup};
+ghost use Rattle.ascending_lists.specs.Maps.{lookup};
 ghost use Rattle.shared_tree.specs.Changes.{Changes};
 
 /// The law of a change at a key, as `insert` and `remove` make it: the value at the key was the
@@ -13,11 +13,4 @@ pub fn changes_one_key<V>()
         → Changes k es old m new → lookup k new ≡ m }
     ensures others { (k j : ℕ) (es new : List (ℕ × V)) (old m : Option V)
         → Changes k es old m new → j ≢ k → lookup j new ≡ lookup j es }
-{}
-
-/// There is one list of entries for each map: where two have the same value at every key, they
-/// are the same.
-pub fn maps_are_their_values<V>()
-    ensures { (xs ys : List (ℕ × V)) → IsMap xs → IsMap ys
-        → ((k : ℕ) → lookup k xs ≡ lookup k ys) → xs ≡ ys }
 {}

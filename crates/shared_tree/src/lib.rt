@@ -36,7 +36,7 @@ pub use change_all::{Changed, join_around};
 pub use error::TreeError;
 pub use iter::Iter;
 pub use joins::{join, join2};
-pub use laws::{changes_one_key, maps_are_their_values};
+pub use laws::changes_one_key;
 pub use share::Share;
 pub use tree::Tree;
 pub use value_change::ValueChange;

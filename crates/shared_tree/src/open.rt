@@ -1,7 +1,7 @@
 //! Nodes taken apart and put together, in their own blocks where they have one owner.
 
 ghost use Rattle.std.specs.Prelude.{◌≡◌, ◌∷◌, ◌++◌, IfOk};
-ghost use Rattle.shared_tree.specs.Entries.{IsMap};
+ghost use Rattle.ascending_lists.specs.Maps.{IsMap};
 ghost use Rattle.shared_tree.specs.Balanced.{IsFork, DifferByAtMostOne};
 ghost use Rattle.shared_tree.specs.Opened.{IsOpened};
 

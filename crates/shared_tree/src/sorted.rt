@@ -1,7 +1,7 @@
 //! Trees built from entries in order.
 
 ghost use Rattle.std.specs.Prelude.{◌≡◌, ◌+◌, ◌≤◌, ◌↔◌, ◌++◌, vec_len, IsTrue, IfOk, OnOk};
-ghost use Rattle.shared_tree.specs.Entries.{IsMap};
+ghost use Rattle.ascending_lists.specs.Maps.{IsMap};
 ghost use Rattle.shared_tree.specs.Outcome.{Builds, IsLeastDepth};
 
 use crate::error::TreeError;

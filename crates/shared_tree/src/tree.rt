@@ -1,6 +1,6 @@
 ghost use Rattle.std.specs.Prelude.{◌≡◌, ◌+◌, ◌*◌, ◌^◌, ◌<◌, ◌≤◌, ◌↔◌, [], length, IsTrue, MatchOption};
 ghost use Rattle.std.specs.Option.{option_copied};
-ghost use Rattle.shared_tree.specs.Entries.{lookup};
+ghost use Rattle.ascending_lists.specs.Maps.{lookup};
 ghost use Rattle.shared_tree.specs.Balanced.{empty, IsFork};
 ghost use Rattle.shared_tree.specs.Shape.{IsBelow, IsBalanced, seen};
 

@@ -1,9 +1,3 @@
 pub mod Steps
 pub mod Lists
 pub mod Writing
-pub mod Ascending
-pub mod Cutting
-pub mod Unions
-pub mod Differences
-pub mod Membership
-pub mod Merging

@@ -2,7 +2,8 @@
 use Rattle.std.proofs.Common.{◌≡◌, ℕ, ◌+◌, ◌-◌, ◌*◌, ◌/◌, ◌%◌, ◌^◌, ◌<◌, ◌≤◌, Bool, true, ◌==◌, ◌&&◌, ◌||◌, ◌⊎◌, zero, suc, inl, inr, List, [], ◌∷◌, ◌++◌, refl, sym, ◌∙◌, ap, arith, nat_lt}
 use Rattle.std.proofs.lemmas.Bool.{cases_lt, and_from, or_left, or_right, lt-ltb, eq-eqb, eqb-true}
 use Rattle.tail_codec.specs.Decoding.{elements_from, is_last, is_spelling_from}
-use Rattle.tail_codec.specs.Spelling.{SpellsNumber, SpellsFrom, AscendsFrom}
+use Rattle.ascending_lists.specs.Ascending.{AscendsFrom}
+use Rattle.tail_codec.specs.Spelling.{SpellsNumber, SpellsFrom}
 use Rattle.tail_codec.proofs.Steps.{elements_from-last, elements_from-more, is_spelling_from-last, is_spelling_from-more, is_spelling-last, is_spelling-more, EndsNumber}
 
 -- seven bits, and what stands above them

@@ -3,7 +3,8 @@ use Rattle.std.proofs.Common.{◌≡◌, ℕ, ◌+◌, ◌-◌, ◌^◌, ◌<◌
 use Rattle.std.proofs.lemmas.List.{append-nil, take_more}
 use Rattle.tail_codec.specs.Appending.{least_after}
 use Rattle.tail_codec.specs.Writing.{WritesNumber}
-use Rattle.tail_codec.specs.Spelling.{SpellsNumber, SpellsFrom, AscendsFrom}
+use Rattle.ascending_lists.specs.Ascending.{AscendsFrom}
+use Rattle.tail_codec.specs.Spelling.{SpellsNumber, SpellsFrom}
 
 -- the last element is above those before it
 least_after-le : (low : ℕ) (xs : List ℕ) (x : ℕ) → AscendsFrom low (xs ++ x ∷ []) → (least_after low xs ≤ x) × (x < 2 ^ 32)

@@ -1,6 +1,6 @@
 -- For proofs only: bytes read one at a time.
 use Rattle.std.specs.Prelude.{ℕ, ◌+◌, ◌-◌, ◌*◌, ◌^◌, ◌==◌, nat_lt, Bool, ◌&&◌, ◌||◌, if◌then◌else◌, Option, List, [], ◌∷◌}
-use Rattle.tail_codec.specs.Spelling.{least}
+use Rattle.ascending_lists.specs.Ascending.{least}
 
 -- The elements that bytes stand for, where the lower bytes of a number have brought it up to from,
 -- and the next seven bits of it count place each.

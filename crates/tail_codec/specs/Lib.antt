@@ -1,10 +1,7 @@
 pub mod Spelling
-pub mod Sets
-pub mod Operations
 pub mod Outcome
 pub mod Refusal
 pub mod Decoding
-pub mod Merging
 pub mod Writing
 pub mod Appending
 pub mod Bytes

@@ -2,7 +2,8 @@
 use Rattle.std.specs.Prelude.{◌≡◌, ℕ, Option, Result, Ok, Err, List}
 use Rattle.tail_codec.specs.declared.error.TailError.{TailError}
 use Rattle.tail_codec.specs.declared.error.TailError.TheVariants.{NotAscending, BadTail, NoMemory}
-use Rattle.tail_codec.specs.Spelling.{BasedList, based_list, Ascends, Spells}
+use Rattle.ascending_lists.specs.Ascending.{Ascends}
+use Rattle.tail_codec.specs.Spelling.{BasedList, based_list, Spells}
 
 -- the tail of a list over a base, or the refusal of a list that does not ascend from the base
 abbrev pub Encodes : Option ℕ → List ℕ → Result BasedList TailError → Type 0

@@ -1,5 +1,6 @@
 -- How numbers and ascending lists are spelled in bytes.
-use Rattle.std.specs.Prelude.{◌≡◌, ℕ, ◌+◌, ◌-◌, ◌/◌, ◌%◌, ◌^◌, ◌<◌, ◌≤◌, ◌⊎◌, Option, Some, None, List, [], ◌∷◌, ◌++◌}
+use Rattle.std.specs.Prelude.{◌≡◌, ℕ, ◌+◌, ◌-◌, ◌/◌, ◌%◌, ◌^◌, ◌<◌, ◌≤◌, ◌⊎◌, Option, List, [], ◌∷◌, ◌++◌}
+use Rattle.ascending_lists.specs.Ascending.{least, Ascends}
 
 -- The bytes spell k, seven bits a byte, the low part first: a number below 128 is its one byte, and a
 -- larger one is its low seven bits with the top bit set, and then the bytes of what is above them.
@@ -8,19 +9,6 @@ SpellsNumber k [] = ⊥
 SpellsNumber k (b ∷ bytes) =
     ((k < 128) × (b ≡ k) × (bytes ≡ []))
     ⊎ ((128 ≤ k) × (b ≡ 128 + k % 128) × SpellsNumber (k / 128) bytes)
-
--- the least number that a list over the base may begin with
-abbrev pub least : Option ℕ → ℕ
-least None = 0
-least (Some base) = base + 1
-
--- the first element is low or more, each other one is above the one before, all are below 2 ^ 32
-abbrev pub AscendsFrom : ℕ → List ℕ → Type 0
-AscendsFrom low [] = Unit {0}
-AscendsFrom low (x ∷ xs) = (low ≤ x) × (x < 2 ^ 32) × AscendsFrom (x + 1) xs
-
-abbrev pub Ascends : Option ℕ → List ℕ → Type 0
-Ascends base xs = AscendsFrom (least base) xs
 
 -- The bytes spell an ascending list: for each element how far it is above the least that might stand
 -- there, and nothing else. For an element after another that is their distance less 1.

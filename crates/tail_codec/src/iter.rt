@@ -3,7 +3,7 @@ ghost use Rattle.std.specs.Iterator.{YieldsFirst, item_count};
 ghost use Rattle.tail_codec.specs.Decoding.{elements_from, is_spelling_from};
 ghost use Rattle.tail_codec.specs.Spelling.{Spells};
 
-use crate::tail::least_over;
+use ascending_lists::least_over;
 use std::marker::Model;
 
 /// The elements of a tail that are still to come, ascending.

@@ -1,5 +1,4 @@
-//! Ascending lists of numbers below 2^32, kept as the bytes of their differences, and set operations
-//! on such lists.
+//! Ascending lists of numbers below 2^32, kept as the bytes of their differences.
 //!
 //! A contract sees a [`Tail`] as a `BasedList`: its elements, and the base above which they stand if
 //! there is one. `specs/Spelling.antt` says which bytes spell which list. `Tail::encode` and
@@ -9,12 +8,10 @@
 //! lie. `share` gives one more owner of the same bytes. `bytes_spell_one_list` and
 //! `lists_have_one_spelling` are laws of the spelling, and do nothing when called.
 //!
-//! `specs/Sets.antt` defines the union and the difference of two ascending lists, and what a list has
-//! below a number and above it. `merge` gives the first two, and `cut_list` the others, as `Tail::cut`
-//! does for tails. `over` and `followed_by` write a tail over another base, and one tail after another.
-//! One list may also be put together in its bytes: those of a tail, then by `append_number` how far the
-//! next element is above `Tail::least_after`, then those of a tail over that element.
-//! `unions_have_what_either_has` and `differences_have_what_one_lacks` are laws on the elements.
+//! `Tail::cut` gives what a tail has below a number and above it. `over` and `followed_by` write a tail
+//! over another base, and one tail after another. One list may also be put together in its bytes: those
+//! of a tail, then by `append_number` how far the next element is above `Tail::least_after`, then those
+//! of a tail over that element.
 //!
 //! A tail is 32 bytes beside its bytes. No elements take no memory, up to 127 bytes one allocation,
 //! and more bytes two.
@@ -23,25 +20,18 @@
 //! PLDI 2019), with one spelling for each list.
 #![tactic(auto)]
 
-mod ascending_list;
 mod error;
 mod iter;
 mod laws;
 mod rewrite;
 mod scan;
-mod set_operation;
 mod shared_bytes;
 mod tail;
 mod writer;
 
-pub use ascending_list::{ascends, cut_list};
 pub use error::TailError;
 pub use iter::TailIter;
-pub use laws::{
-    bytes_spell_one_list, differences_have_what_one_lacks, lists_have_one_spelling,
-    unions_have_what_either_has,
-};
+pub use laws::{bytes_spell_one_list, lists_have_one_spelling};
 pub use rewrite::TailCut;
-pub use set_operation::{Operation, merge};
 pub use tail::Tail;
 pub use writer::{TailWriter, append_number};

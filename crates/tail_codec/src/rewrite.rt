@@ -1,11 +1,12 @@
 //! Tails that are made of other tails.
 
 ghost use Rattle.std.specs.Prelude.{◌≡◌, ◌++◌, length, IfOk};
-ghost use Rattle.tail_codec.specs.Sets.{Cuts};
-ghost use Rattle.tail_codec.specs.Spelling.{Ascends, based_list};
+ghost use Rattle.ascending_lists.specs.Sets.{Cuts};
+ghost use Rattle.ascending_lists.specs.Ascending.{Ascends};
+ghost use Rattle.tail_codec.specs.Spelling.{based_list};
 
-use crate::ascending_list::cut_list;
 use crate::tail::Tail;
+use ascending_lists::cut_list;
 use std::alloc::{AllocError, Global};
 
 /// What a tail has below a number, whether it has the number, and what it has above.

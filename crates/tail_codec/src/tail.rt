@@ -1,15 +1,16 @@
 ghost use Rattle.std.specs.Prelude.{◌≡◌, ◌↔◌, ◌+◌, [], length, IsTrue, IfOk};
 ghost use Rattle.tail_codec.specs.Appending.{least_after};
-ghost use Rattle.tail_codec.specs.Spelling.{Ascends, Spells, IsBasedList, based_list, least};
+ghost use Rattle.ascending_lists.specs.Ascending.{Ascends, least};
+ghost use Rattle.tail_codec.specs.Spelling.{Spells, IsBasedList, based_list};
 ghost use Rattle.tail_codec.specs.Decoding.{elements_over};
 ghost use Rattle.tail_codec.specs.Outcome.{Encodes, Reads};
 
-use crate::ascending_list::ascends;
 use crate::error::TailError;
 use crate::iter::TailIter;
 use crate::scan::element_count;
 use crate::shared_bytes::SharedBytes;
 use crate::writer::TailWriter;
+use ascending_lists::{ascends, least_over};
 use std::alloc::{AllocError, Global};
 use std::marker::Model;
 
@@ -186,16 +187,5 @@ impl Tail {
             len: self.len,
             bytes,
         })
-    }
-}
-
-/// The least number that a list over the base may begin with.
-#[inline]
-pub(crate) fn least_over(base: Option<u32>) -> u64
-    ensures { result ≡ least base }
-{
-    match base {
-        None => 0,
-        Some(base) => u64::from(base) + 1,
     }
 }

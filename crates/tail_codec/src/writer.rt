@@ -2,10 +2,12 @@
 
 ghost use Rattle.std.specs.Prelude.{◌≡◌, ◌+◌, ◌*◌, ◌^◌, ◌<◌, ◌≤◌, length, IfOk};
 ghost use Rattle.tail_codec.specs.Appending.{IsAppended};
-ghost use Rattle.tail_codec.specs.Spelling.{Ascends, AscendsFrom, SpellsNumber, based_list};
+ghost use Rattle.ascending_lists.specs.Ascending.{Ascends, AscendsFrom};
+ghost use Rattle.tail_codec.specs.Spelling.{SpellsNumber, based_list};
 ghost use Rattle.tail_codec.specs.Writing.{WritesNumber, WritesList};
 
-use crate::tail::{Tail, least_over};
+use crate::tail::Tail;
+use ascending_lists::least_over;
 use std::alloc::{AllocError, Global};
 
 /// How many bytes a number below 2^32 may have.

@@ -3,9 +3,9 @@ use Rattle.std.proofs.Common.{◌≡◌, ◌≢◌, ℕ, ◌+◌, ◌/◌, ◌^�
 use Rattle.std.specs.Option.{option_or}
 use Rattle.std.proofs.lemmas.Bool.{cases_lt, cases_order, ne_eqb, eq-eqb}
 use Rattle.std.proofs.lemmas.List.{take-append-drop, take_more, drop_more}
-use Rattle.shared_tree.specs.Entries.{Rises, lookup}
+use Rattle.ascending_lists.specs.Maps.{Rises, lookup}
 use Rattle.shared_tree.specs.Changes.{IsSplit}
-use Rattle.shared_tree.proofs.Order.{rises_to, rises_joined, lookup_below, lookup_here}
+use Rattle.ascending_lists.proofs.MapOrder.{rises_to, rises_joined, lookup_below, lookup_here}
 use Rattle.shared_tree.proofs.CutMaps.{value_below, value_above}
 use Rattle.edge_updates.specs.declared.edge_update.EdgeUpdate.{EdgeUpdate}
 use Rattle.edge_updates.specs.EdgeUpdate.{vertex_of, neighbour_of}

@@ -3,8 +3,8 @@ use Rattle.std.proofs.Common.{◌≡◌, ◌≢◌, ℕ, ◌+◌, ◌/◌, ◌^�
 use Rattle.std.specs.Option.{option_or}
 use Rattle.std.proofs.lemmas.Bool.{cases_eq, ne_eqb}
 use Rattle.std.proofs.lemmas.List.{append-nil, take_more, drop_more}
-use Rattle.shared_tree.specs.Entries.{Rises, lookup}
-use Rattle.shared_tree.proofs.Order.{rises_to, rises_joined, lookup_here}
+use Rattle.ascending_lists.specs.Maps.{Rises, lookup}
+use Rattle.ascending_lists.proofs.MapOrder.{rises_to, rises_joined, lookup_here}
 use Rattle.edge_updates.specs.declared.edge_update.EdgeUpdate.{EdgeUpdate}
 use Rattle.edge_updates.specs.EdgeUpdate.{vertex_of}
 use Rattle.edge_updates.specs.Updates.{one_decided, decided, FollowAscending, Ascend}

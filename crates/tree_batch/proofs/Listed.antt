@@ -1,9 +1,9 @@
 -- The vertices of blocks and their lists.
 use Rattle.std.proofs.Common.{◌≡◌, ℕ, ◌+◌, ◌<◌, inl, inr, Option, Some, None, List, [], ◌∷◌, ◌++◌, length, refl, subst, arith}
 use Rattle.std.proofs.lemmas.Bool.{cases_eq, ne_eqb, eq-eqb}
-use Rattle.shared_tree.specs.Entries as entries
-use Rattle.shared_tree.specs.Entries.{lookup}
-use Rattle.shared_tree.proofs.Order.{lookup_below}
+use Rattle.ascending_lists.specs.Maps as maps
+use Rattle.ascending_lists.specs.Maps.{lookup}
+use Rattle.ascending_lists.proofs.MapOrder.{lookup_below}
 use Rattle.pages.specs.Lists.{AscendsFrom}
 use Rattle.pages.specs.Vertices.{neighbours_of}
 use Rattle.vertex_blocks.specs.Blocks.{Block, IsBlock, AreNeighbourLists, numbered, lists_of, AreBlocks}
@@ -45,7 +45,7 @@ blocks_at (c ∷ bs) ok k b is = elim (cases_eq c.0 k) [
 pub some_none : {A : Type 0} (o : Option A) (x : A) → o ≡ Some x → o ≡ None → ⊥
 some_none o x e f = cc
 
-pub are_blocks : (low high : ℕ) (bs : List (ℕ × Block)) → entries.Rises low high bs → AreAt bs → AreBlocks bs
+pub are_blocks : (low high : ℕ) (bs : List (ℕ × Block)) → maps.Rises low high bs → AreAt bs → AreBlocks bs
 are_blocks low high [] s at = tt
 are_blocks low high (b ∷ bs) s at =
     let here = at b.0 b.1 (rw (eq-eqb b.0 b.0 refl) refl) in

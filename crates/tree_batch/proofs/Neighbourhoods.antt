@@ -1,6 +1,6 @@
 -- The neighbours of vertices after the updates of a batch.
 use Rattle.std.proofs.Common.{◌≡◌, ℕ, zero, suc, ◌+◌, ◌*◌, ◌/◌, ◌%◌, ◌^◌, ◌<◌, ◌≤◌, true, false, Option, Some, None, unwrap_or, List, length, refl, sym, ap, ◌∙◌, subst, arith}
-use Rattle.shared_tree.specs.Entries.{lookup}
+use Rattle.ascending_lists.specs.Maps.{lookup}
 use Rattle.shared_tree.specs.declared.change_all.Changed.{Changed}
 use Rattle.shared_tree.specs.ChangedMaps.{MadeAt, GrewBy}
 use Rattle.c_tree.specs.Heads.{IsChunkSize}

@@ -1,6 +1,6 @@
 -- Blocks and their vertices that are walked, and what is left of them.
 use Rattle.std.proofs.Common.{◌≡◌, ℕ, ◌+◌, ◌*◌, ◌^◌, ◌<◌, List, ◌∷◌, subst, arith}
-use Rattle.shared_tree.proofs.Order as entries
+use Rattle.ascending_lists.proofs.MapOrder as entries
 use Rattle.pages.proofs.Order.{rises_from, rises_room}
 use Rattle.vertex_blocks.specs.Blocks.{Block, IsBlock}
 use Rattle.tree_batch.specs.VertexBlocks.{AreGraphBlocks, AreBlocksLeft}

@@ -1,7 +1,7 @@
 -- For proofs only: updates that are cut into those of blocks.
 use Rattle.std.specs.Prelude.{◌≡◌, ◌≢◌, ℕ, ◌+◌, ◌/◌, ◌^◌, ◌<◌, ◌≤◌, Bool, Option, Some, None, List, [], ◌∷◌, ◌++◌, length}
 use Rattle.std.specs.Option.{option_or}
-use Rattle.shared_tree.specs.Entries.{Rises, lookup}
+use Rattle.ascending_lists.specs.Maps.{Rises, lookup}
 use Rattle.edge_updates.specs.declared.edge_update.EdgeUpdate.{EdgeUpdate}
 use Rattle.edge_updates.specs.EdgeUpdate.{vertex_of}
 use Rattle.edge_updates.specs.Updates.{decided, Ascend}

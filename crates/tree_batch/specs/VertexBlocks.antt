@@ -1,6 +1,6 @@
 -- The blocks of the vertices of a graph, each by its number: that of a vertex is the vertex divided by 64.
 use Rattle.std.specs.Prelude.{◌≡◌, ℕ, ◌^◌, ◌<◌, ◌≤◌, List, [], ◌∷◌, length}
-use Rattle.shared_tree.specs.Entries.{Rises}
+use Rattle.ascending_lists.specs.Maps.{Rises}
 use Rattle.pages.specs.Vertices.{neighbours_of}
 use Rattle.vertex_blocks.specs.Blocks.{Block, IsBlock, lists_of, AreBlocks}
 use Rattle.tree_batch.specs.Digraph.{digraph, IsDigraph}

@@ -5,13 +5,13 @@ use Rattle.std.proofs.lemmas.List.{append-nil, drop_all}
 use Rattle.std.specs.List.{Contains}
 use Rattle.edge_updates.specs.declared.edge_update.EdgeUpdate.{EdgeUpdate}
 use Rattle.edge_updates.specs.EdgeUpdate.{neighbour_of, adds}
-use Rattle.tail_codec.specs.Sets as sets
-use Rattle.tail_codec.specs.Sets.{union, difference}
-use Rattle.tail_codec.specs.Spelling as spelling
-use Rattle.tail_codec.specs.Spelling.{Ascends}
-use Rattle.tail_codec.proofs.Unions.{union_ascends}
-use Rattle.tail_codec.proofs.Differences.{difference_ascends}
-use Rattle.tail_codec.proofs.Membership.{union_members, difference_members, has_if, has_only}
+use Rattle.ascending_lists.specs.Sets as sets
+use Rattle.ascending_lists.specs.Sets.{union, difference}
+use Rattle.ascending_lists.specs.Ascending as ascending
+use Rattle.ascending_lists.specs.Ascending.{Ascends}
+use Rattle.ascending_lists.proofs.Unions.{union_ascends}
+use Rattle.ascending_lists.proofs.Differences.{difference_ascends}
+use Rattle.ascending_lists.proofs.Membership.{union_members, difference_members, has_if, has_only}
 use Rattle.std.specs.declared.alloc.AllocError.{AllocError}
 use Rattle.c_tree.specs.Chunks.{ChunkedSet, IsSetOf}
 use Rattle.set_ops.specs.declared.error.SetError.{SetError}
@@ -24,11 +24,11 @@ use Rattle.pages.proofs.Deciding.{has_low, updated_has}
 use Rattle.vertex_blocks.specs.inside.Runs.{added_in, removed_in}
 
 -- one meaning of what ascends, and of what is an element
-pub ascends_here : (low : ℕ) (xs : List ℕ) → spelling.AscendsFrom low xs → AscendsFrom low xs
+pub ascends_here : (low : ℕ) (xs : List ℕ) → ascending.AscendsFrom low xs → AscendsFrom low xs
 ascends_here low [] s = tt
 ascends_here low (x ∷ xs) s = (s.0, s.1, ascends_here (x + 1) xs s.2)
 
-pub ascends_there : (low : ℕ) (xs : List ℕ) → AscendsFrom low xs → spelling.AscendsFrom low xs
+pub ascends_there : (low : ℕ) (xs : List ℕ) → AscendsFrom low xs → ascending.AscendsFrom low xs
 ascends_there low [] s = tt
 ascends_there low (x ∷ xs) s = (s.0, s.1, ascends_there (x + 1) xs s.2)
 

@@ -1,8 +1,8 @@
 //! Lists and sets that updates of one vertex make of others.
 
 ghost use Rattle.std.specs.Prelude.{◌≡◌, None, Ok, IfOk, IfErr};
-ghost use Rattle.tail_codec.specs.Sets.{union, difference};
-ghost use Rattle.tail_codec.specs.Spelling.{Ascends};
+ghost use Rattle.ascending_lists.specs.Sets.{union, difference};
+ghost use Rattle.ascending_lists.specs.Ascending.{Ascends};
 ghost use Rattle.c_tree.specs.Chunks.{IsSetOf};
 ghost use Rattle.pages.specs.Lists.{AscendsFrom};
 ghost use Rattle.pages.specs.Updates.{updated, NeighboursAscend};

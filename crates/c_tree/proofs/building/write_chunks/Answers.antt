@@ -1,5 +1,6 @@
 use Rattle.std.proofs.Common.{◌≡◌, ◌+◌, ◌∷◌, ◌++◌, [], Some, ◌∙◌, ap, rules}
-use Rattle.tail_codec.specs.Spelling.{AscendsFrom, based_list}
+use Rattle.ascending_lists.specs.Ascending.{AscendsFrom}
+use Rattle.tail_codec.specs.Spelling.{based_list}
 use Rattle.c_tree.proofs.Making.{before_ascends, next_ascends, next_cut, next_shorter, one_chunk}
 use Rattle.c_tree.proofs.building.write_chunks.Goals as goal
 

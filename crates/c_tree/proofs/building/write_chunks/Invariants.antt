@@ -1,5 +1,5 @@
 use Rattle.std.proofs.Common.{◌≡◌, None, [], ◌++◌, length}
-use Rattle.tail_codec.specs.Spelling.{Ascends}
+use Rattle.ascending_lists.specs.Ascending.{Ascends}
 use Rattle.c_tree.specs.Chunks.{before_head, chunks_of}
 use Rattle.c_tree.proofs.building.write_chunks.Given as goal
 

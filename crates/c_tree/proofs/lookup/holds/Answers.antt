@@ -1,7 +1,7 @@
 use Rattle.std.proofs.Common.{◌≡◌, ℕ, ◌+◌, ◌≤◌, inl, inr, List, ◌∷◌, IsTrue, nat_eq, arith, rules}
 use Rattle.std.specs.List.{Contains}
-use Rattle.tail_codec.specs.Spelling.{AscendsFrom, least}
-use Rattle.tail_codec.proofs.Ascending.{ascends_from, contains_head, contains_tail, contains_cases, least_element}
+use Rattle.ascending_lists.specs.Ascending.{AscendsFrom, least}
+use Rattle.ascending_lists.proofs.Ascending.{ascends_from, contains_head, contains_tail, contains_cases, least_element}
 use Rattle.c_tree.proofs.lookup.holds.Goals as goal
 
 -- at the first element that is not below, the answer is whether it is the one

@@ -1,5 +1,5 @@
 use Rattle.std.specs.List.{Contains}
-use Rattle.tail_codec.specs.Spelling.{AscendsFrom}
+use Rattle.ascending_lists.specs.Ascending.{AscendsFrom}
 use Rattle.c_tree.proofs.lookup.holds.Given as goal
 
 abbrev pub invariant-loop-other : goal.invariant-loop-other

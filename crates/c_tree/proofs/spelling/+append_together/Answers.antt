@@ -1,6 +1,7 @@
 use Rattle.std.proofs.Common.{◌-◌, arith}
 use Rattle.tail_codec.specs.Appending.{least_after}
-use Rattle.tail_codec.specs.Spelling.{SpellsNumber, least}
+use Rattle.ascending_lists.specs.Ascending.{least}
+use Rattle.tail_codec.specs.Spelling.{SpellsNumber}
 use Rattle.c_tree.specs.Chunks.{together}
 use Rattle.c_tree.specs.Spelled.{SpellsUpTo}
 use Rattle.c_tree.proofs.Spelled.{left_ascends, left_over, right_ascends, right_over, root_fits, sides_smaller, spelled_whole, appended_behind}

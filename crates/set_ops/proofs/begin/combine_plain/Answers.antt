@@ -1,5 +1,5 @@
 use Rattle.std.proofs.Common.{◌≡◌, ◌∙◌}
-use Rattle.tail_codec.specs.declared.set_operation.Operation.TheVariants.{Union}
+use Rattle.ascending_lists.specs.declared.set_operation.Operation.TheVariants.{Union}
 use Rattle.set_ops.specs.Answers.{IsCombined}
 use Rattle.set_ops.proofs.Combining.{swapped, ok_is}
 use Rattle.set_ops.proofs.begin.combine_plain.Goals as goal

@@ -2,10 +2,10 @@ use Rattle.std.proofs.Common.{◌≡◌, ℕ, ◌+◌, ◌<◌, inl, inr, List, 
 use Rattle.std.specs.List.{Contains}
 use Rattle.std.proofs.lemmas.Bool.{cases_Bool, false≢true}
 use Rattle.std.proofs.lemmas.List.{append-nil, drop_all, drop_more}
-use Rattle.tail_codec.specs.Sets.{has, difference}
-use Rattle.tail_codec.specs.Spelling.{least}
-use Rattle.tail_codec.proofs.Differences.{difference_ascends}
-use Rattle.tail_codec.proofs.Membership.{has_if, has_only}
+use Rattle.ascending_lists.specs.Sets.{has, difference}
+use Rattle.ascending_lists.specs.Ascending.{least}
+use Rattle.ascending_lists.proofs.Differences.{difference_ascends}
+use Rattle.ascending_lists.proofs.Membership.{has_if, has_only}
 use Rattle.set_ops.proofs.begin.subtract.Goals as goal
 use Rattle.set_ops.proofs.begin.subtract.Goals.{then-not-contains+in_ok-push, else-not-contains}
 

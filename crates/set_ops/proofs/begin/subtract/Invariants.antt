@@ -1,5 +1,5 @@
 use Rattle.std.proofs.Common.{◌≡◌, ◌≤◌, ◌++◌, length, drop}
-use Rattle.tail_codec.specs.Sets.{difference}
+use Rattle.ascending_lists.specs.Sets.{difference}
 use Rattle.set_ops.proofs.begin.subtract.Given as goal
 
 abbrev pub invariant-loop-element : goal.invariant-loop-element

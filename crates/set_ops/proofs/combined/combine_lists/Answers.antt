@@ -1,7 +1,7 @@
 use Rattle.std.proofs.Common.{◌≡◌, length, ◌∙◌, ap, arith}
-use Rattle.tail_codec.specs.Operations.{combined}
-use Rattle.tail_codec.specs.Spelling.{least}
-use Rattle.tail_codec.proofs.Ascending.{ascends_from}
+use Rattle.ascending_lists.specs.Operations.{combined}
+use Rattle.ascending_lists.specs.Ascending.{least}
+use Rattle.ascending_lists.proofs.Ascending.{ascends_from}
 use Rattle.set_ops.proofs.Laws.{combined_ascends, combined_length}
 use Rattle.set_ops.proofs.combined.combine_lists.Goals as goal
 

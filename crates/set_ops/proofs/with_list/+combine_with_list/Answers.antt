@@ -1,6 +1,6 @@
 use Rattle.std.proofs.Common.{◌≡◌, length, arith, rules}
-use Rattle.tail_codec.specs.Spelling.{least}
-use Rattle.tail_codec.proofs.Ascending.{ascends_from}
+use Rattle.ascending_lists.specs.Ascending.{least}
+use Rattle.ascending_lists.proofs.Ascending.{ascends_from}
 use Rattle.set_ops.specs.Answers.{IsCombined, IsRejoined}
 use Rattle.set_ops.proofs.Combining.{over_left, over_right, less_left, less_right, root_rejoin, unchanged, none_of, ok_is}
 use Rattle.set_ops.proofs.with_list.+combine_with_list.Goals as goal

@@ -1,5 +1,5 @@
 use Rattle.std.proofs.Common.{◌-◌, ◌^◌, ◌≤◌, length, take, drop}
-use Rattle.shared_tree.specs.Entries.{Rises}
+use Rattle.ascending_lists.specs.Maps.{Rises}
 use Rattle.shared_tree.proofs.change_all.count_below.Given as goal
 
 abbrev pub invariant-loop-low : goal.invariant-loop-low

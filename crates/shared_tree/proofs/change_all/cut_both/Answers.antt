@@ -1,6 +1,6 @@
 use Rattle.std.proofs.Common.{◌≡◌, ◌+◌, ◌/◌, ◌^◌, None, [], ◌++◌, length, sym, ap, arith}
 use Rattle.std.proofs.lemmas.List.{take-append-drop}
-use Rattle.shared_tree.proofs.Order.{rises_room}
+use Rattle.ascending_lists.proofs.MapOrder.{rises_room}
 use Rattle.shared_tree.proofs.CutMaps.{cut_at_place, split_empty, split_at_entry, halves_smaller}
 use Rattle.shared_tree.proofs.change_all.cut_both.Goals as goal
 

@@ -1,5 +1,5 @@
 use Rattle.std.proofs.Common.{ℕ, ◌^◌, ◌≤◌, take}
-use Rattle.shared_tree.specs.Entries.{Rises}
+use Rattle.ascending_lists.specs.Maps.{Rises}
 use Rattle.shared_tree.proofs.sorted.ascends.Given as goal
 
 abbrev pub invariant-loop-key : goal.invariant-loop-key

@@ -1,4 +1,4 @@
-use Rattle.tail_codec.specs.Spelling.{least}
+use Rattle.ascending_lists.specs.Ascending.{least}
 use Rattle.tail_codec.proofs.Lists.{same_list}
 use Rattle.tail_codec.proofs.laws.bytes_spell_one_list.Goals as goal
 

@@ -1,4 +1,4 @@
-use Rattle.tail_codec.specs.Spelling.{least}
+use Rattle.ascending_lists.specs.Ascending.{least}
 use Rattle.tail_codec.proofs.Lists.{AscendsFrom-SpellsFrom, list_spelling, same_spelling}
 use Rattle.tail_codec.proofs.laws.lists_have_one_spelling.Goals as goal
 

@@ -1,5 +1,5 @@
 use Rattle.std.proofs.Common.{◌^◌, arith}
-use Rattle.shared_tree.proofs.Order.{rises_to}
+use Rattle.ascending_lists.proofs.MapOrder.{rises_to}
 use Rattle.tree_batch.proofs.cuts.changed.Goals as goal
 
 pub change_all-requires : goal.change_all-requires

@@ -1,5 +1,5 @@
 use Rattle.std.proofs.Common.{arith}
-use Rattle.tail_codec.proofs.Ascending.{ascends_room}
+use Rattle.ascending_lists.proofs.Ascending.{ascends_room}
 use Rattle.c_tree.proofs.ctree.CTree.iter.Goals as goal
 
 pub returns-clause-bounded : goal.returns-clause-bounded

@@ -1,6 +1,6 @@
 use Rattle.std.proofs.Common.{arith}
 use Rattle.c_tree.specs.Chunks.{together}
-use Rattle.tail_codec.proofs.Ascending.{ascends_room}
+use Rattle.ascending_lists.proofs.Ascending.{ascends_room}
 use Rattle.c_tree.proofs.ctree.CTree.len.Goals as goal
 
 pub returns-clause-bounded : goal.returns-clause-bounded

@@ -1,6 +1,7 @@
 use Rattle.std.proofs.Common.{◌≡◌, ◌∙◌, ap, arith}
-use Rattle.tail_codec.specs.Spelling.{BasedList, least}
-use Rattle.tail_codec.proofs.Ascending.{ascends_from}
+use Rattle.ascending_lists.specs.Ascending.{least}
+use Rattle.tail_codec.specs.Spelling.{BasedList}
+use Rattle.ascending_lists.proofs.Ascending.{ascends_from}
 use Rattle.c_tree.specs.Chunks.{ChunkedSet, before_head, chunks_of}
 use Rattle.c_tree.proofs.Chunking.{before_from_head, chunks_from_head}
 use Rattle.c_tree.proofs.Making.{before_ascends, ascends_from_head, chunks_map, made, made_whole}

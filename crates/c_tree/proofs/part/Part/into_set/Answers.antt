@@ -1,5 +1,5 @@
 use Rattle.c_tree.specs.Chunks.{elements_of}
-use Rattle.tail_codec.proofs.Ascending.{ascends_front}
+use Rattle.ascending_lists.proofs.Ascending.{ascends_front}
 use Rattle.c_tree.proofs.part.Part.into_set.Goals as goal
 
 pub over-requires : goal.over-requires

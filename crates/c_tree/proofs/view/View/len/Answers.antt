@@ -1,6 +1,6 @@
 use Rattle.std.proofs.Common.{length, ap, ◌∙◌, arith}
 use Rattle.c_tree.specs.Chunks.{ChunkedSet, together}
-use Rattle.tail_codec.proofs.Ascending.{ascends_room}
+use Rattle.ascending_lists.proofs.Ascending.{ascends_room}
 use Rattle.c_tree.proofs.view.View.len.Goals as goal
 
 pub total_len-requires : goal.total_len-requires

@@ -1,6 +1,6 @@
 use Rattle.std.proofs.Common.{◌≡◌, ◌++◌, arith, rules}
-use Rattle.tail_codec.specs.Spelling.{least}
-use Rattle.tail_codec.proofs.Ascending.{ascends_from}
+use Rattle.ascending_lists.specs.Ascending.{least}
+use Rattle.ascending_lists.proofs.Ascending.{ascends_from}
 use Rattle.c_tree.proofs.view.View.prefix_with_more.Goals as goal
 
 pub of_prefix-requires-clause-ascending : goal.of_prefix-requires-clause-ascending

@@ -1,5 +1,5 @@
 use Rattle.std.proofs.Common.{◌≡◌, ◌++◌, ◌^◌, length}
-use Rattle.shared_tree.specs.Entries.{Rises}
+use Rattle.ascending_lists.specs.Maps.{Rises}
 use Rattle.vertex_blocks.specs.Blocks.{lists_of, AreBlocks}
 use Rattle.flat_snapshot.specs.Lists.{lists_in, AreBlocks as AreInPlace}
 use Rattle.flat_snapshot.proofs.adjacency.Adjacency.of.Given as goal

@@ -1,5 +1,5 @@
 use Rattle.std.proofs.Common.{◌^◌, arith}
-use Rattle.shared_tree.proofs.Order.{rises_room}
+use Rattle.ascending_lists.proofs.MapOrder.{rises_room}
 use Rattle.flat_snapshot.specs.Lists.{degrees_of}
 use Rattle.flat_snapshot.proofs.flat.Flat.destinations.Goals as goal
 

@@ -1,5 +1,5 @@
 use Rattle.std.proofs.Common.{◌≡◌}
-use Rattle.shared_tree.specs.Entries.{lookup}
+use Rattle.ascending_lists.specs.Maps.{lookup}
 use Rattle.shared_tree.proofs.tree.Tree.find.Given as goal
 
 abbrev pub invariant-loop-left : goal.invariant-loop-left

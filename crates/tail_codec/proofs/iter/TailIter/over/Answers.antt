@@ -1,4 +1,4 @@
-use Rattle.tail_codec.specs.Spelling.{least}
+use Rattle.ascending_lists.specs.Ascending.{least}
 use Rattle.tail_codec.proofs.Lists.{is_spelling_from-SpellsFrom, SpellsFrom-elements_from}
 use Rattle.tail_codec.proofs.iter.TailIter.over.Goals as goal
 

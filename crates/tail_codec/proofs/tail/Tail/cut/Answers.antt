@@ -1,8 +1,8 @@
 use Rattle.std.proofs.Common.{◌≡◌, ℕ, List, length, ◌∙◌, ap, sym, arith, rules}
-use Rattle.tail_codec.specs.Sets.{below, above}
-use Rattle.tail_codec.specs.Spelling.{least}
-use Rattle.tail_codec.proofs.Ascending.{ascends_from}
-use Rattle.tail_codec.proofs.Cutting.{below_ascends, above_from, below_whole, above_whole}
+use Rattle.ascending_lists.specs.Sets.{below, above}
+use Rattle.ascending_lists.specs.Ascending.{least}
+use Rattle.ascending_lists.proofs.Ascending.{ascends_from}
+use Rattle.ascending_lists.proofs.Cutting.{below_ascends, above_from, below_whole, above_whole}
 use Rattle.tail_codec.proofs.tail.Tail.cut.Goals as goal
 
 whole_side : (xs all side : List ℕ) → all ≡ xs → (length side ≡ length all → side ≡ all) → length side ≡ length xs → side ≡ xs

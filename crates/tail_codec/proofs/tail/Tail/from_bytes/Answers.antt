@@ -2,7 +2,8 @@ use Rattle.std.proofs.Common.{ℕ, List, Option, refl, ◌≡◌, ◌∙◌, sym
 use Rattle.std.proofs.lemmas.Bool.{false≢true}
 use Rattle.std.proofs.lemmas.Result.{err_from_is_err_and}
 use Rattle.tail_codec.specs.Decoding.{elements_over, is_spelling_from}
-use Rattle.tail_codec.specs.Spelling.{least, Spells}
+use Rattle.ascending_lists.specs.Ascending.{least}
+use Rattle.tail_codec.specs.Spelling.{Spells}
 use Rattle.tail_codec.proofs.Lists.{is_spelling_from-SpellsFrom, SpellsFrom-elements_from}
 use Rattle.tail_codec.proofs.tail.Tail.from_bytes.Goals as goal
 

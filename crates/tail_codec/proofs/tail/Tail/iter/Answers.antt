@@ -1,6 +1,7 @@
 use Rattle.std.proofs.Common.{subst}
 use Rattle.tail_codec.specs.Decoding.{elements_over}
-use Rattle.tail_codec.specs.Spelling.{IsBasedList, least}
+use Rattle.ascending_lists.specs.Ascending.{least}
+use Rattle.tail_codec.specs.Spelling.{IsBasedList}
 use Rattle.tail_codec.proofs.Lists.{AscendsFrom-SpellsFrom, is_spelling_from-SpellsFrom}
 use Rattle.tail_codec.proofs.tail.Tail.iter.Goals as goal
 

@@ -1,5 +1,5 @@
 use Rattle.std.proofs.Common.{◌≡◌}
-use Rattle.tail_codec.specs.Spelling.{least}
+use Rattle.ascending_lists.specs.Ascending.{least}
 use Rattle.tail_codec.specs.Appending.{least_after}
 use Rattle.tail_codec.proofs.tail.Tail.least_after.Given as goal
 

@@ -1,6 +1,7 @@
 use Rattle.std.proofs.Common.{subst}
 use Rattle.tail_codec.specs.Decoding.{elements_over}
-use Rattle.tail_codec.specs.Spelling.{IsBasedList, least}
+use Rattle.ascending_lists.specs.Ascending.{least}
+use Rattle.tail_codec.specs.Spelling.{IsBasedList}
 use Rattle.tail_codec.proofs.Lists.{AscendsFrom-SpellsFrom}
 use Rattle.tail_codec.proofs.tail.Tail.len.Goals as goal
 

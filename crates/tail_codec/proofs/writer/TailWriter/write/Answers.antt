@@ -1,6 +1,7 @@
 use Rattle.std.proofs.Common.{◌≡◌, ℕ, Option, List, length, take, sym, ap}
 use Rattle.tail_codec.specs.Decoding.{elements_over}
-use Rattle.tail_codec.specs.Spelling.{Spells, least}
+use Rattle.ascending_lists.specs.Ascending.{least}
+use Rattle.tail_codec.specs.Spelling.{Spells}
 use Rattle.tail_codec.specs.Writing.{WritesList}
 use Rattle.tail_codec.proofs.Lists.{elements_from-SpellsFrom}
 use Rattle.tail_codec.proofs.writer.TailWriter.write.Goals as goal

@@ -1,0 +1,12 @@
+pub mod Ascending
+pub mod Cutting
+pub mod Unions
+pub mod Differences
+pub mod Membership
+pub mod Merging
+pub mod MapOrder
+pub mod MapValues
+pub mod MapKeys
+pub mod MapCuts
+pub mod MapUnions
+pub mod MapDifferences

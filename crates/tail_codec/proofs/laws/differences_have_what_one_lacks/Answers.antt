@@ -1,9 +1,0 @@
-use Rattle.tail_codec.proofs.Differences.{difference_ascends}
-use Rattle.tail_codec.proofs.Membership.{difference_members}
-use Rattle.tail_codec.proofs.laws.differences_have_what_one_lacks.Goals as goal
-
-pub returns-clause-ascending : goal.returns-clause-ascending
-returns-clause-ascending c = difference_ascends 0
-
-pub returns-clause-members : goal.returns-clause-members
-returns-clause-members c = difference_members
