@@ -22,6 +22,8 @@ mod case;
 mod compare;
 mod listing;
 mod repeated;
+#[cfg(test)]
+mod tests;
 
 use std::io;
 use std::process::ExitCode;
