@@ -11,7 +11,7 @@ pub(crate) fn kind_rule(text: &[u8]) -> &'static str {
         return "a variable is an int, a bool or a vertex set, in a function no set; it begins with an expression of its type; `+` and `<` take ints, `and` and `not` bools";
     }
     if begins_word(text, b"func") {
-        return "an edge function has two parameters of type Vertex, a vertex function one, a filter one and a result of type bool";
+        return "an edge function has two parameters of type Vertex and perhaps a third of type int, a vertex function one, a filter one and a result of type bool";
     }
     if begins_word(text, b"print") {
         return "what is printed is an int or a bool; `+` and `<` take ints, `and` and `not` bools";
@@ -55,7 +55,7 @@ fn declared_type(text: &[u8]) -> &[u8] {
 // The rule of a statement that begins with a name, by the first sign behind the name.
 fn of_name(text: &[u8]) -> &'static str {
     match sign_behind_name(text) {
-        [b'.', ..] => "edges are applied as `e.from(s).to(t).apply(f)` by an edge function, a set as `s.apply(f)` by a vertex function, both in `main`; `addVertex` takes an int",
+        [b'.', ..] => "edges are applied as `e.from(s).to(t).apply(f)` by an edge function, one with a weight on an edgeset with `int` alone, a set as `s.apply(f)` by a vertex function, both in `main`; `addVertex` takes an int",
         [b'[', ..] => "an entry of a vector is assigned or reduced by an int, in a filter not at all; an index in `main` is an int",
         sign if begins_with(sign, b"+=") || begins_with(sign, b"min=") || begins_with(sign, b"max=") => {
             "an int variable is reduced by an int; a constant and the name of a `for` are not changed"
