@@ -15,7 +15,9 @@ pub(crate) fn call_form(text: &[u8]) -> Option<&'static str> {
         );
     }
     if begins_word(text, b"configApplyDenseVertexSet") {
-        return Some("configApplyDenseVertexSet(\"LABEL\", V), V is \"bool-array\" or \"bitvector\"");
+        return Some(
+            "configApplyDenseVertexSet(\"LABEL\", V), V is \"bool-array\" or \"bitvector\"",
+        );
     }
     if begins_word(text, b"fuseApplyFunctions") {
         return Some("fuseApplyFunctions(\"LABEL\", \"LABEL\"), the second right behind the first");

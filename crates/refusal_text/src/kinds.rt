@@ -55,12 +55,18 @@ fn declared_type(text: &[u8]) -> &[u8] {
 // The rule of a statement that begins with a name, by the first sign behind the name.
 fn of_name(text: &[u8]) -> &'static str {
     match sign_behind_name(text) {
-        [b'.', ..] => "edges are applied as `e.from(s).to(t).apply(f)` by an edge function, one with a weight on an edgeset with `int` alone, a set as `s.apply(f)` by a vertex function, both in `main`; `addVertex` takes an int",
-        [b'[', ..] => "an entry of a vector is assigned or reduced by an int, in a filter not at all; an index in `main` is an int",
-        sign if begins_with(sign, b"+=") || begins_with(sign, b"min=") || begins_with(sign, b"max=") => {
+        [b'.', ..] =>
+            "edges are applied as `e.from(s).to(t).apply(f)` by an edge function, one with a weight on an edgeset with `int` alone, a set as `s.apply(f)` by a vertex function, both in `main`; `addVertex` takes an int",
+        [b'[', ..] =>
+            "an entry of a vector is assigned or reduced by an int, in a filter not at all; an index in `main` is an int",
+        sign
+            if begins_with(sign, b"+=")
+                || begins_with(sign, b"min=")
+                || begins_with(sign, b"max=") => {
             "an int variable is reduced by an int; a constant and the name of a `for` are not changed"
         }
-        _ => "a variable is assigned an expression of its type, where `+` and `<` take ints, `and` and `not` bools; a constant, a parameter and the name of a `for` are not assigned",
+        _ =>
+            "a variable is assigned an expression of its type, where `+` and `<` take ints, `and` and `not` bools; a constant, a parameter and the name of a `for` are not assigned",
     }
 }
 

@@ -48,20 +48,12 @@ const CASES: &[Case] = &[
 ];
 
 // A program with each kind of statement, and heads of blocks that end in each kind of token.
-const PROGRAM: &[u8] = b"func f(v : Vertex) y[v] = 1; end // main\nfunc main() var a : int = 1; #s1# vertices.apply(f); while (a < 3) a += 1; end for i in 0:a print i; end if x[a] == y[0] x[9] = 2; else if true s.addVertex(a); end end end";
+const PROGRAM: &[u8] =
+    b"func f(v : Vertex) y[v] = 1; end // main\nfunc main() var a : int = 1; #s1# vertices.apply(f); while (a < 3) a += 1; end for i in 0:a print i; end if x[a] == y[0] x[9] = 2; else if true s.addVertex(a); end end end";
 
 // What each statement of its `main` begins with.
 const STATEMENTS: &[&[u8]] = &[
-    b"var a",
-    b"#s1# v",
-    b"while",
-    b"a +=",
-    b"for i",
-    b"print",
-    b"if x",
-    b"x[9]",
-    b"if t",
-    b"s.add",
+    b"var a", b"#s1# v", b"while", b"a +=", b"for i", b"print", b"if x", b"x[9]", b"if t", b"s.add",
 ];
 
 #[test]
@@ -79,10 +71,19 @@ fn statements_are_found_by_their_numbers(rt: HostRuntime) -> Result<(), Fail> {
         let at = statement_at(rt.alloc(), PROGRAM, before as u64 + 1)?.unwrap_or(0);
         assert_eq!(rt; &PROGRAM[at..at + start.len()], *start);
     }
-    assert_eq!(rt; statement_at(rt.alloc(), PROGRAM, STATEMENTS.len() as u64 + 1)?, None);
-    assert_eq!(rt; statement_at(rt.alloc(), b"func main() a = 0.5; end", 1)?, Some(12));
+    assert_eq!(rt;
+        statement_at(rt.alloc(), PROGRAM, STATEMENTS.len() as u64 + 1)?,
+        None
+    );
+    assert_eq!(rt;
+        statement_at(rt.alloc(), b"func main() a = 0.5; end", 1)?,
+        Some(12)
+    );
     assert_eq!(rt; statement_at(rt.alloc(), b"func f() a = 5; end", 1)?, None);
-    assert_eq!(rt; statement_at(rt.alloc(), b"func main() a = !; end", 1)?, None);
+    assert_eq!(rt;
+        statement_at(rt.alloc(), b"func main() a = !; end", 1)?,
+        None
+    );
     Ok(())
 }
 
