@@ -7,7 +7,11 @@ import subprocess
 # What may stand in the log: `vertices` as its first line, edits, and what makes and keeps versions.
 LINE = re.compile(r"(vertices|add|del|grow|release|hold at) [0-9]+( [0-9]+)?|hold|commit")
 
-CREATE = "CREATE TABLE IF NOT EXISTS script_lines (number bigserial PRIMARY KEY, line text NOT NULL);"
+# The lock is for processes that begin at once: each would make the table.
+CREATE = (
+    "BEGIN; SELECT pg_advisory_xact_lock(1907);"
+    " CREATE TABLE IF NOT EXISTS script_lines (number bigserial PRIMARY KEY, line text NOT NULL); COMMIT;"
+)
 APPEND = "BEGIN; LOCK TABLE script_lines IN EXCLUSIVE MODE; INSERT INTO script_lines (line) VALUES {}; COMMIT;"
 LAST = "SELECT coalesce(max(number), 0) FROM script_lines;"
 READ = "SELECT number, line FROM script_lines WHERE number > {} ORDER BY number LIMIT 10000;"

@@ -1,5 +1,6 @@
 //! The lines that are told behind a refusal.
 
+use crate::calls::call_form;
 use crate::cause::cause_of;
 use crate::kinds::kind_rule;
 use crate::meaning::meaning_of;
@@ -40,6 +41,9 @@ pub fn explanation(
         };
         push_told(&mut lines, meaning.means)?;
         push_told(&mut lines, guess.unwrap_or(meaning.cure))?;
+        if let Some(form) = call_form(behind) {
+            push_told(&mut lines, form)?;
+        }
     }
     Ok(lines)
 }

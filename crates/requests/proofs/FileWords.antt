@@ -10,7 +10,7 @@ use Rattle.clap.specs.Kinds.{Kinds}
 use Rattle.clap.specs.declared.error.kind.ErrorKind.TheVariants.{MissingRequiredArgument, UnknownArgument}
 use Rattle.requests.specs.CommandLine.{file_command, program}
 use Rattle.requests.specs.Forms.{HasNoHyphen, operands}
-use Rattle.requests.proofs.Flags.{HasOnlyHelp, TakesValues, dashes, first_is_quiet, held, is_value, no_dashes, none_or_help, second_is_quiet, step_is_fault}
+use Rattle.requests.proofs.Flags.{HasOnlyAnswers, TakesValues, dashes, first_is_quiet, held, is_value, no_dashes, none_or_help, second_is_quiet, step_is_fault}
 
 -- the command of this name, once it is built
 abbrev pub taker : Text → Shape
@@ -24,7 +24,7 @@ rules = (taker []).rules
 abbrev pub NamesOne : List Text → Option (List Text) → Type 0
 NamesOne words files = MatchOption files ⊥ (λ fs. (file : Text) × (fs ≡ file ∷ []) × (operands words ≡ file ∷ []))
 
-only_help : HasOnlyHelp rules
+only_help : HasOnlyAnswers rules
 only_help = record { long = λ name. none_or_help _; short = λ x. none_or_help _ }
 
 -- ---- where the walk stands after no file or one; `behind` says that it has passed a `--`

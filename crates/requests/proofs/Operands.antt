@@ -17,7 +17,7 @@ use Rattle.requests.specs.CommandLine.{command_line}
 use Rattle.requests.specs.Asked.{file_of, request_of, script_with}
 use Rattle.requests.specs.Forms.{HasOperands, IsCommand, no_words, check_word, check_after_dashes, plan_word, plan_after_dashes, script_words, script_after_dashes, operands}
 use Rattle.requests.proofs.FileWords.{NamesOne, file_quiet, file_quiet_behind, file_read, taker}
-use Rattle.requests.proofs.Flags.{HasOnlyHelp, dashes, first_is_quiet, held, is_value, none_or_help, second_is_quiet, step_is_fault}
+use Rattle.requests.proofs.Flags.{HasOnlyAnswers, dashes, first_is_quiet, held, is_value, none_or_answer, second_is_quiet, step_is_fault}
 use Rattle.requests.proofs.ScriptWords.{NamesFiles, files_in, files_quiet, files_quiet_behind, files_read, script}
 
 -- what is asked for has these words' operands
@@ -34,8 +34,8 @@ names = names_of (built command_line)
 abbrev pub at_start : Bool → Walk
 at_start behind = record { held = held None; waiting = idle; position = 1; is_trailing = behind; stopped = None }
 
-only_help : HasOnlyHelp top.rules
-only_help = record { long = λ name. none_or_help _; short = λ x. none_or_help _ }
+only_help : HasOnlyAnswers top.rules
+only_help = record { long = λ name. none_or_answer _ _; short = λ x. none_or_answer _ _ }
 
 -- ---- a command
 

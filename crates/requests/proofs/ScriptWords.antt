@@ -14,7 +14,7 @@ use Rattle.clap.specs.Kinds.{Kinds, or_else, range_kinds}
 use Rattle.clap.specs.declared.error.kind.ErrorKind.TheVariants.{MissingRequiredArgument}
 use Rattle.requests.specs.CommandLine.{command_line, script_command, script_files}
 use Rattle.requests.specs.Forms.{HasNoHyphen, operands}
-use Rattle.requests.proofs.Flags.{HasOnlyHelp, TakesValues, dashes, first_is_quiet, held, is_value, no_dashes, none_or_help, second_is_quiet}
+use Rattle.requests.proofs.Flags.{HasOnlyAnswers, TakesValues, dashes, first_is_quiet, held, is_value, no_dashes, none_or_help, second_is_quiet}
 
 -- the command `script`, once it is built
 abbrev pub script : Shape
@@ -28,7 +28,7 @@ files_in words = all_of (codes "FILE") (rows_after script.rules [] words)
 abbrev pub NamesFiles : List Text → Option (List Text) → Type 0
 NamesFiles words files = MatchOption files ⊥ (λ fs. (operands words ≡ fs) × (0 < length fs))
 
-only_help : HasOnlyHelp script.rules
+only_help : HasOnlyAnswers script.rules
 only_help = record { long = λ name. none_or_help _; short = λ x. none_or_help _ }
 
 -- ---- where the walk stands after these files; `behind` says that it has passed a `--`
