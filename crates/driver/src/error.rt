@@ -9,9 +9,8 @@ use compiler::CompileError;
 use replies::SendError;
 use scripts::ScriptError;
 use std::alloc::{AllocError, AllocFailed};
-use std::fmt;
-use std::io;
 use std::io::ErrorKind;
+use std::{fmt, io};
 
 /// Why a request is not done to its end. The text is what standard error is told.
 #[derive(Clone, Copy, Debug)]

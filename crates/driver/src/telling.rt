@@ -70,7 +70,10 @@ fn explain_fault<F: Files, E: Drain>(
         return;
     };
     let (number, statement) = (fault.number, fault.statement);
-    let _ = writeln!(TextWriter(err), "{file}: fault {number} in statement {statement}");
+    let _ = writeln!(
+        TextWriter(err),
+        "{file}: fault {number} in statement {statement}"
+    );
     let explained = |text: &[u8]| fault_explanation(alloc, file, text, statement);
     show(alloc, file, files, explained, err);
 }

@@ -74,7 +74,7 @@ part_begins programs old new a c bytes text empty given all part = record {
 -- a call that fails to send it, which the script ends with
 ends_in_part : (programs : List ProgramTree) (old new : Input) (a c : Output) (bytes text : List ℕ) (e : SendError) → a.kept ≡ [] → new.given ≡ old.given ++ bytes → new.failures ≡ old.failures → BeginsAll programs new bytes text → Fails a c text e
     → RunsScript programs old new (taken_by a.taken a.failures) (taken_by c.taken c.failures) (Err (error_of_send e))
-ends_in_part programs old new a c bytes text NoMemory empty given same all h = (part_begins programs old new a c bytes text empty given all h.0, same, h.1)
+ends_in_part programs old new a c bytes text NoMemory empty given same all h = (part_begins programs old new a c bytes text empty given all h.0, (same, h.1))
 ends_in_part programs old new a c bytes text WriteFailed empty given same all h = (part_begins programs old new a c bytes text empty given all h.0, same, h.1)
 
 module _ (programs : List ProgramTree) (old now : Input) (a : Output) (reading : Reading) (b : Output) (r : IsReading programs old now a reading b) where
@@ -189,4 +189,4 @@ runs_tied taken failures name kept programs old new before o last sent r runs is
 
 -- a script that ends before it reads
 pub nothing_done : (programs : List ProgramTree) (i : Input) (t : Taken) → RepliesInPart programs i i t t × NoneFails i i t t
-nothing_done programs i t = (record { bytes = []; given = sym (append-nil i.given); written = []; taken = sym (append-nil t.taken); beginning = λ more nothing. (replies programs more, refl) }, refl, refl)
+nothing_done programs i t = (record { bytes = []; given = sym (append-nil i.given); written = []; taken = sym (append-nil t.taken); beginning = λ more nothing. (replies programs more, refl) }, (refl, refl))

@@ -32,5 +32,5 @@ module _ (programs : List ProgramTree) (text : List ℕ) (count : ℕ) (ended : 
       let given : all.bytes ≡ text = sym all.given ∙ take_all count text (whole all.ended) in
       record { taken = all.taken ∙ ap (λ bytes. before.taken ++ replies programs bytes) given; fault = all.fault ∙ ap (faults programs) given; quiet = all.quiet.1 }
   runs_text (Err NoMemory) part = (begins part.0, part.1.1)
-  runs_text (Err WriteFailed) part = (begins part.0, part.1.1)
-  runs_text (Err ReadFailed) part = absurd (omega (arith, part.1.0))
+  runs_text (Err WriteFailed) part = (begins part.0, part.2)
+  runs_text (Err ReadFailed) part = absurd (omega (arith, part.1))
