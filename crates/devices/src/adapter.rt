@@ -1,5 +1,5 @@
 //! Any reader or writer of std as one that tells its bytes.
-ghost use Rattle.std.specs.Prelude.{◌≡◌, ◌≢◌, ℕ, Bool, false, ◌||◌, ◌^◌, ◌+◌, ◌-◌, ◌<◌, ◌≤◌, List, [], ◌++◌, length, take, IfOk, IfErr, OnOk, OnErr};
+ghost use Rattle.std.specs.Prelude.{◌≡◌, ◌≢◌, ◌⊎◌, ℕ, Bool, false, ◌||◌, ◌^◌, ◌+◌, ◌-◌, ◌<◌, ◌≤◌, List, [], ◌++◌, length, take, IfOk, IfErr, OnOk, OnErr};
 ghost use Rattle.std.specs.IoError.{error_kind};
 ghost use Rattle.std.specs.Io.KnownBytes.{ReadConsumes, WriteAppends};
 ghost use Rattle.devices.specs.Device.{given_by, taken_by, is_ended, read_failures, write_failures, reads_left, inner_of};
@@ -74,6 +74,9 @@ impl<T: Read> Feed for Device<T> {
         ensures remaining { ReadConsumes (T.remaining (inner_of self.old))
             (T.remaining (inner_of self.new)) result buffer.new }
         ensures retried { IfErr result (λ error. error_kind error ≢ ErrorKind.Interrupted) }
+
+        // An error comes after a try, or where there are none left.
+        ensures tried { OnErr result ((reads_left self.new < reads_left self.old) ⊎ (reads_left self.old ≡ 0)) }
     {
         while self.reads_left > 0 {
             self.reads_left -= 1;

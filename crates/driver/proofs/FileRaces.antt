@@ -50,10 +50,10 @@ refused_race_of_files holds file names workers programs seen plans lent script e
 
 -- where writing a text failed, a beginning of it was taken
 pub begins_text : (text : List ℕ) (before after : Taken) (e : SendError) → Writes {A = Unit {0}} text before after (Err e) → TakesBeginning text before after
-begins_text text before after NoMemory begins = begins
+begins_text text before after NoMemory begins = begins.0
 begins_text text before after WriteFailed begins = begins.0
 
 -- writing a text fails since memory ran out, or by the writer
 pub ends_writing : (text : List ℕ) (before after : Taken) (e : SendError) → Writes {A = Unit {0}} text before after (Err e) → EndsWriting before after (of_send e)
-ends_writing text before after NoMemory begins = inl refl
+ends_writing text before after NoMemory begins = inl (refl, begins.1)
 ends_writing text before after WriteFailed begins = inr (refl, begins.1)

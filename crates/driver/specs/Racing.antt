@@ -55,9 +55,9 @@ pub record TellsRace (holds : List ℕ → List ℕ → Type 0) (script : List �
   pub taken : after.taken ≡ before.taken ++ race_text race
   pub fault : faulted ≡ has_faulted race
 
--- memory ran out, or the writer failed in this call
+-- memory ran out and the writer did not fail, or it failed in this call
 abbrev pub EndsWriting : Taken → Taken → ServeError → Type 0
-EndsWriting before after e = (e ≡ NoMemory) ⊎ ((e ≡ WriteFailed) × (before.failures < after.failures))
+EndsWriting before after e = ((e ≡ NoMemory) × (after.failures ≡ before.failures)) ⊎ ((e ≡ WriteFailed) × (before.failures < after.failures))
 
 -- a beginning of the text of a race was written before memory ran out or the writer failed
 pub record BeginsRace (holds : List ℕ → List ℕ → Type 0) (script : List ℕ) (names : List (List ℕ)) (turns : ℕ) (before after : Taken) (e : ServeError) : Type 0 where

@@ -13,7 +13,7 @@ use Rattle.races.specs.RaceText.{TakesBeginning, Writes}
 -- the writer is the same
 pub same_writer : {A : Type 0} (a b : Output) (t : List ℕ) (r : Result A SendError) → Emits a b t r → b.writer ≡ a.writer
 same_writer a b t (Ok x) h = h.takes.same
-same_writer a b t (Err NoMemory) h = h.1.same
+same_writer a b t (Err NoMemory) h = h.0.1.same
 same_writer a b t (Err WriteFailed) h = h.0.1.same
 
 part_taken : (a b : Output) (t : List ℕ) → a.kept ≡ [] → SendsPart a b t → TakesBeginning t (taken_by a.taken a.failures) (taken_by b.taken b.failures)
@@ -21,7 +21,7 @@ part_taken a b t none part = (part.1.sent, part.0, part.1.taken, part.1.whole �
 
 -- a text that failed to go
 fails_written : (A : Type 0) (a b : Output) (t : List ℕ) (e : SendError) → a.kept ≡ [] → Fails a b t e → Writes {A = A} t (taken_by a.taken a.failures) (taken_by b.taken b.failures) (Err e)
-fails_written A a b t NoMemory none h = part_taken a b t none h
+fails_written A a b t NoMemory none h = (part_taken a b t none h.0, h.1)
 fails_written A a b t WriteFailed none h = (part_taken a b t none h.0, h.1)
 
 pub failed_written : {A : Type 0} (a b : Output) (t : List ℕ) (r : Result A SendError) (e : SendError) → a.kept ≡ [] → IsErrAnd r (λ d. d ≡ e) → Fails a b t e
@@ -31,12 +31,13 @@ failed_written {A} a b t r e none is h = let p = err_from_is_err_and r is in rw 
 -- a text that was sent, and then what is kept is written
 pub sent_written : {A : Type 0} (a b c : Output) (t : List ℕ) (r : Result A SendError) → a.kept ≡ [] → Sends a b t → Emits b c [] r → OnOk r (c.kept ≡ [])
     → Writes t (taken_by a.taken a.failures) (taken_by c.taken c.failures) r
-sent_written a b c t (Ok x) none one other empty = all_taken a c t none empty (subst (Sends a c) (append-nil t) (sends_then a b c t [] one other))
+sent_written a b c t (Ok x) none one other empty =
+    let both = sends_then a b c t [] one other in (all_taken a c t none empty (subst (Sends a c) (append-nil t) both), both.failures)
 sent_written {A} a b c t (Err e) none one other empty = fails_written A a c t e none (subst (λ (u : List ℕ). Fails a c u e) (append-nil t) (fails_then a b c t [] e one other))
 
 -- memory ran out before anything was sent
 pub none_written : {A : Type 0} (text : List ℕ) (t : Taken) (r : Result A SendError) → IsErrAnd r (λ d. d ≡ NoMemory) → Writes text t t r
-none_written text t r is = let p = err_from_is_err_and r is in rw (p.1, p.2) ([], text, sym (append-nil t.taken), refl)
+none_written text t r is = let p = err_from_is_err_and r is in rw (p.1, p.2) (([], text, sym (append-nil t.taken), refl), refl)
 
 -- the writer is at last the one that the text was sent to
 pub written_tied : {A W : Type 0} (taken : W → List ℕ) (failures : W → ℕ) (name : ℕ) (kept : List ℕ) (text : List ℕ) (before : Taken) (o : Output) (last sent : W) (r : Result A SendError)

@@ -59,8 +59,8 @@ race_text race =
 abbrev pub TakesBeginning : List ℕ → Taken → Taken → Type 0
 TakesBeginning text before after = (written : List ℕ) × (rest : List ℕ) × (after.taken ≡ before.taken ++ written) × (written ++ rest ≡ text)
 
--- all of the text was taken, or a beginning; a writer that failed did so in this call
+-- all of the text was taken, or a beginning; the writer failed in this call where that is told, and else it did not
 abbrev pub Writes : {A : Type 0} → List ℕ → Taken → Taken → Result A SendError → Type 0
-Writes text before after (Ok x) = after.taken ≡ before.taken ++ text
-Writes text before after (Err NoMemory) = TakesBeginning text before after
+Writes text before after (Ok x) = (after.taken ≡ before.taken ++ text) × (after.failures ≡ before.failures)
+Writes text before after (Err NoMemory) = TakesBeginning text before after × (after.failures ≡ before.failures)
 Writes text before after (Err WriteFailed) = TakesBeginning text before after × (before.failures < after.failures)

@@ -61,22 +61,26 @@ pub part_before : (a b c : Output) (t u : List ℕ) → Sends a b t → c.writer
 part_before a b c t u one who same =
     part_more a c t u (b.kept, record { same = who ∙ one.takes.same; sent = one.takes.sent; taken = same ∙ one.takes.taken; whole = one.takes.whole })
 
+-- a text was sent, and memory ran out over what comes after it
+pub lacks_memory : (a b c : Output) (t u : List ℕ) → Sends a b t → c.writer ≡ b.writer → c.taken ≡ b.taken → c.failures ≡ b.failures → Fails a c (t ++ u) NoMemory
+lacks_memory a b c t u one who same failures = (part_before a b c t u one who same, failures ∙ one.failures)
+
 -- nothing is a part of each text
 pub part_none : (o : Output) (t : List ℕ) → SendsPart o o t
 part_none o t = part_before o o o [] t (sends_none o) refl refl
 
 -- a call that sent nothing and lacked memory
 pub emits_none : {A : Type 0} (o : Output) (t : List ℕ) (r : Result A SendError) → IsErrAnd r (λ d. d ≡ NoMemory) → Emits o o t r
-emits_none o t r is = emits_failed o o t r NoMemory is (part_none o t)
+emits_none o t r is = emits_failed o o t r NoMemory is (part_none o t, refl)
 
 -- a call that sends nothing, and can only lack memory
 pub emits_nothing : {A : Type 0} (o : Output) (r : Result A SendError) → IfErr r (λ e. e ≡ NoMemory) → Emits o o [] r
 emits_nothing o (Ok x) is = sends_none o
-emits_nothing o (Err e) is = rw is (part_none o [])
+emits_nothing o (Err e) is = rw is (part_none o [], refl)
 
 -- a text, and then a call that fails
 pub fails_then : (a b c : Output) (t u : List ℕ) (e : SendError) → Sends a b t → Fails b c u e → Fails a c (t ++ u) e
-fails_then a b c t u NoMemory one other = part_then a b c t u one other
+fails_then a b c t u NoMemory one other = (part_then a b c t u one other.0, other.1 ∙ one.failures)
 fails_then a b c t u WriteFailed one other = (part_then a b c t u one other.0, omega (arith, one.failures, other.1))
 
 -- a text, and then a call
@@ -86,7 +90,7 @@ emits_then a b c t u (Err e) one other = fails_then a b c t u e one other
 
 -- an error within a text is one within a longer text
 pub fails_more : (a b : Output) (t u : List ℕ) (e : SendError) → Fails a b t e → Fails a b (t ++ u) e
-fails_more a b t u NoMemory h = part_more a b t u h
+fails_more a b t u NoMemory h = (part_more a b t u h.0, h.1)
 fails_more a b t u WriteFailed h = (part_more a b t u h.0, h.1)
 
 -- a write that failed took a part of what was kept

@@ -30,9 +30,9 @@ pub record Sends (old new : Output) (text : List ℕ) : Type 0 where
 abbrev pub SendsPart : Output → Output → List ℕ → Type 0
 SendsPart old new text = (rest : List ℕ) × TakesFirst old new text rest
 
--- a call that was to send a text and failed; only a writer that failed makes `WriteFailed`
+-- a call that was to send a text and failed: a writer that failed makes `WriteFailed`, and nothing else does
 abbrev pub Fails : Output → Output → List ℕ → SendError → Type 0
-Fails old new text NoMemory = SendsPart old new text
+Fails old new text NoMemory = SendsPart old new text × (new.failures ≡ old.failures)
 Fails old new text WriteFailed = SendsPart old new text × (old.failures < new.failures)
 
 -- a call that sends a text

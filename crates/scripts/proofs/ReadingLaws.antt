@@ -5,10 +5,11 @@ use Rattle.replies.specs.declared.send_error.SendError.{SendError}
 use Rattle.scripts.specs.Commands.{command_of}
 use Rattle.scripts.specs.Pieces.{HasNone, ended_lines, unended_line}
 use Rattle.scripts.specs.Replies.{OpenState, answer, by_command, replies, replies_to_lines, replies_to_ended, state_after_lines, faults, has_faulted}
-use Rattle.replies.specs.Sending.{Output, Sends, SendsPart, Fails}
+use Rattle.replies.specs.declared.send_error.SendError.TheVariants.{NoMemory}
+use Rattle.replies.specs.Sending.{Output, Sends, Fails}
 use Rattle.scripts.specs.Progress.{Reading, at_start, reading_after, replies_within}
 use Rattle.scripts.proofs.PieceLaws.{HasNone-append, lines_of-ended, ended_lines-append, unended_line-append, ended_lines-first, unended_line-first, ended_lines-none, unended_line-none}
-use Rattle.replies.proofs.SendingLaws.{sends_none, sends_then, part_before, fails_then, fails_more}
+use Rattle.replies.proofs.SendingLaws.{sends_none, sends_then, lacks_memory, fails_then, fails_more}
 
 -- a line that is not empty is answered by its command
 pub answer_command : (programs : List ProgramTree) (s : Option OpenState) (line : List ℕ) → 0 < length line → answer programs s line ≡ by_command programs s (command_of line)
@@ -97,8 +98,9 @@ module _ (programs : List ProgramTree) (old : Reading) (bytes : List ℕ) (a : O
       (unended_line-none (now.partial ++ rest) whole)
 
   -- out of memory on the way
-  pub taking_lacks : (c : Output) → c.writer ≡ b.writer → c.taken ≡ b.taken → SendsPart a c (replies_within programs old bytes)
-  taking_lacks c who same = subst (SendsPart a c) (sym t.replies) (part_before a b c t.text (replies_within programs now rest) t.sends who same)
+  pub taking_lacks : (c : Output) → c.writer ≡ b.writer → c.taken ≡ b.taken → c.failures ≡ b.failures → Fails a c (replies_within programs old bytes) NoMemory
+  taking_lacks c who same failures =
+      subst (λ text. Fails a c text NoMemory) (sym t.replies) (lacks_memory a b c t.text (replies_within programs now rest) t.sends who same failures)
 
   module _ (line after : List ℕ) (cut : rest ≡ line ++ 10 ∷ after) (none : HasNone 10 line) (c : Output) where
     abbrev answered : Reading

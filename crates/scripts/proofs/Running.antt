@@ -10,7 +10,7 @@ use Rattle.replies.specs.declared.send_error.SendError.{SendError}
 use Rattle.replies.specs.declared.send_error.SendError.TheVariants.{NoMemory, WriteFailed}
 use Rattle.scripts.specs.Pieces.{HasNone}
 use Rattle.scripts.specs.Replies.{OpenState, answer, replies, replies_to_ended, has_faulted}
-use Rattle.scripts.specs.Script.{Input, Taken, taken_by, IsBeginning, RepliesInPart, RepliesToEnded, RunsScript}
+use Rattle.scripts.specs.Script.{Input, Taken, taken_by, IsBeginning, NoneFails, RepliesInPart, RepliesToEnded, RunsScript}
 use Rattle.replies.specs.Sending.{Output, output, Sends, SendsPart, Fails}
 use Rattle.scripts.specs.Progress.{Reading, at_start, reading_after, replies_within}
 use Rattle.scripts.proofs.PieceLaws.{HasNone-unended}
@@ -72,10 +72,10 @@ part_begins programs old new a c bytes text empty given all part = record {
 }
 
 -- a call that fails to send it, which the script ends with
-ends_in_part : (programs : List ProgramTree) (old new : Input) (a c : Output) (bytes text : List ℕ) (e : SendError) → a.kept ≡ [] → new.given ≡ old.given ++ bytes → BeginsAll programs new bytes text → Fails a c text e
+ends_in_part : (programs : List ProgramTree) (old new : Input) (a c : Output) (bytes text : List ℕ) (e : SendError) → a.kept ≡ [] → new.given ≡ old.given ++ bytes → new.failures ≡ old.failures → BeginsAll programs new bytes text → Fails a c text e
     → RunsScript programs old new (taken_by a.taken a.failures) (taken_by c.taken c.failures) (Err (error_of_send e))
-ends_in_part programs old new a c bytes text NoMemory empty given all h = part_begins programs old new a c bytes text empty given all h
-ends_in_part programs old new a c bytes text WriteFailed empty given all h = (part_begins programs old new a c bytes text empty given all h.0, h.1)
+ends_in_part programs old new a c bytes text NoMemory empty given same all h = (part_begins programs old new a c bytes text empty given all h.0, (same, h.1))
+ends_in_part programs old new a c bytes text WriteFailed empty given same all h = (part_begins programs old new a c bytes text empty given all h.0, same, h.1)
 
 module _ (programs : List ProgramTree) (old now : Input) (a : Output) (reading : Reading) (b : Output) (r : IsReading programs old now a reading b) where
   -- no line feed stands in the line that has not ended
@@ -84,7 +84,7 @@ module _ (programs : List ProgramTree) (old now : Input) (a : Output) (reading :
 
   -- a reader that fails
   pub read_fails : (new : Input) → a.kept ≡ [] → new.given ≡ now.given → now.failures < new.failures → RunsScript programs old new (taken_by a.taken a.failures) (taken_by b.taken b.failures) (Err ReadFailed)
-  read_fails new empty given fails = (exactly, omega (arith, fails, r.failures))
+  read_fails new empty given fails = (exactly, omega (arith, fails, r.failures), r.sends.failures)
     where
       exactly : RepliesToEnded programs old new (taken_by a.taken a.failures) (taken_by b.taken b.failures)
       exactly = record {
@@ -115,7 +115,7 @@ module _ (programs : List ProgramTree) (old now : Input) (a : Output) (reading :
     lines_fail e empty fails =
         let both = fails_then a b c (replies_to_ended programs r.bytes) (replies_within programs reading more) e r.sends fails in
         let all = begins_lines programs new (r.bytes ++ more) in
-        ends_in_part programs old new a c (r.bytes ++ more) (replies_to_ended programs (r.bytes ++ more)) e empty given_now all (subst (λ text. Fails a c text e) (sym ended_now) both)
+        ends_in_part programs old new a c (r.bytes ++ more) (replies_to_ended programs (r.bytes ++ more)) e empty given_now (same ∙ r.failures) all (subst (λ text. Fails a c text e) (sym ended_now) both)
 
     -- what was kept is written, and the reading goes on
     pub reading_goes_on : Sends b c (replies_within programs reading more) → (later : Reading) → later ≡ reading_after programs reading more → (d : Output) → Sends c d [] → d.kept ≡ [] → IsReading programs old new a later d
@@ -133,9 +133,9 @@ module _ (programs : List ProgramTree) (old now : Input) (a : Output) (reading :
     flush_fails sends d e empty fails =
         let both = fails_then a c d (replies_to_ended programs (r.bytes ++ more)) [] e (lines_sent sends) fails in
         let all = begins_lines programs new (r.bytes ++ more) in
-        ends_in_part programs old new a d (r.bytes ++ more) (replies_to_ended programs (r.bytes ++ more)) e empty given_now all (subst (λ text. Fails a d text e) (append-nil (replies_to_ended programs (r.bytes ++ more))) both)
+        ends_in_part programs old new a d (r.bytes ++ more) (replies_to_ended programs (r.bytes ++ more)) e empty given_now (same ∙ r.failures) all (subst (λ text. Fails a d text e) (append-nil (replies_to_ended programs (r.bytes ++ more))) both)
 
-  module _ (new : Input) (given : new.given ≡ now.given) (ended : new.ended ≡ true) (c : Output) where
+  module _ (new : Input) (given : new.given ≡ now.given) (ended : new.ended ≡ true) (same : new.failures ≡ now.failures) (c : Output) where
     -- no more bytes came
     given_all : new.given ≡ old.given ++ r.bytes
     given_all = given ∙ r.given
@@ -156,13 +156,13 @@ module _ (programs : List ProgramTree) (old now : Input) (a : Output) (reading :
     pub finish_fails : (e : SendError) → a.kept ≡ [] → Fails b c last e → RunsScript programs old new (taken_by a.taken a.failures) (taken_by c.taken c.failures) (Err (error_of_send e))
     finish_fails e empty fails =
         let both = fails_then a b c (replies_to_ended programs r.bytes) last e r.sends fails in
-        ends_in_part programs old new a c r.bytes (replies programs r.bytes) e empty given_all (begins_whole programs new r.bytes ended) (subst (λ text. Fails a c text e) (sym all_replies) both)
+        ends_in_part programs old new a c r.bytes (replies programs r.bytes) e empty given_all (same ∙ r.failures) (begins_whole programs new r.bytes ended) (subst (λ text. Fails a c text e) (sym all_replies) both)
 
     -- and then the last flush fails
     pub last_flush_fails : Sends b c last → (d : Output) (e : SendError) → a.kept ≡ [] → Fails c d [] e → RunsScript programs old new (taken_by a.taken a.failures) (taken_by d.taken d.failures) (Err (error_of_send e))
     last_flush_fails sends d e empty fails =
         let both = fails_then a c d (replies programs r.bytes) [] e (all_sent sends) fails in
-        ends_in_part programs old new a d r.bytes (replies programs r.bytes) e empty given_all (begins_whole programs new r.bytes ended) (subst (λ text. Fails a d text e) (append-nil (replies programs r.bytes)) both)
+        ends_in_part programs old new a d r.bytes (replies programs r.bytes) e empty given_all (same ∙ r.failures) (begins_whole programs new r.bytes ended) (subst (λ text. Fails a d text e) (append-nil (replies programs r.bytes)) both)
 
     -- or all is written
     pub script_ends : Sends b c last → (d : Output) → a.kept ≡ [] → d.kept ≡ [] → Sends c d []
@@ -174,6 +174,7 @@ module _ (programs : List ProgramTree) (old now : Input) (a : Output) (reading :
       ended = ended;
       taken = all_taken a d (replies programs r.bytes) empty flushed (subst (Sends a d) (append-nil (replies programs r.bytes)) (sends_then a c d (replies programs r.bytes) [] (all_sent sends) last_flush));
       fault = fault ∙ ap has_faulted is ∙ ap (λ s. has_faulted (answer programs s.state s.partial).state) r.reading_is ∙ sym (faults-last programs r.bytes);
+      quiet = (same ∙ r.failures, (sends_then a c d (replies programs r.bytes) [] (all_sent sends) last_flush).failures);
     }
 
 -- a script that ends by an error
@@ -187,5 +188,5 @@ pub runs_tied : {W : Type 0} (taken : W → List ℕ) (failures : W → ℕ) (na
 runs_tied taken failures name kept programs old new before o last sent r runs is same = rw (same) (subst (λ (out : Output). RunsScript programs old new before (taken_by out.taken out.failures) r) (sym is) runs)
 
 -- a script that ends before it reads
-pub nothing_done : (programs : List ProgramTree) (i : Input) (t : Taken) → RepliesInPart programs i i t t
-nothing_done programs i t = record { bytes = []; given = sym (append-nil i.given); written = []; taken = sym (append-nil t.taken); beginning = λ more nothing. (replies programs more, refl) }
+pub nothing_done : (programs : List ProgramTree) (i : Input) (t : Taken) → RepliesInPart programs i i t t × NoneFails i i t t
+nothing_done programs i t = (record { bytes = []; given = sym (append-nil i.given); written = []; taken = sym (append-nil t.taken); beginning = λ more nothing. (replies programs more, refl) }, (refl, refl))

@@ -30,7 +30,7 @@ module _ (programs : List ProgramTree) (text : List ℕ) (count : ℕ) (ended : 
   pub runs_text : (r : Result Bool ScriptError) → RunsScript programs unread (read text count ended) before after r → RunsText programs text before after r
   runs_text (Ok faulted) all =
       let given : all.bytes ≡ text = sym all.given ∙ take_all count text (whole all.ended) in
-      record { taken = all.taken ∙ ap (λ bytes. before.taken ++ replies programs bytes) given; fault = all.fault ∙ ap (faults programs) given }
-  runs_text (Err NoMemory) part = begins part
-  runs_text (Err WriteFailed) part = (begins part.0, part.1)
+      record { taken = all.taken ∙ ap (λ bytes. before.taken ++ replies programs bytes) given; fault = all.fault ∙ ap (faults programs) given; quiet = all.quiet.1 }
+  runs_text (Err NoMemory) part = (begins part.0, part.1.1)
+  runs_text (Err WriteFailed) part = (begins part.0, part.2)
   runs_text (Err ReadFailed) part = absurd (omega (arith, part.1))

@@ -24,6 +24,10 @@ input given ended failures = record { given = given; ended = ended; failures = f
 abbrev pub taken_by : List ℕ → ℕ → Taken
 taken_by taken failures = record { taken = taken; failures = failures }
 
+-- neither the reader nor the writer failed
+abbrev pub NoneFails : Input → Input → Taken → Taken → Type 0
+NoneFails old new before after = (new.failures ≡ old.failures) × (after.failures ≡ before.failures)
+
 -- all was read, what was written is the replies to the bytes read, and it is known whether a run of them ended by a fault
 pub record RepliesToAll (programs : List ProgramTree) (old new : Input) (before after : Taken) (faulted : Bool) : Type 0 where
   pub bytes : List ℕ
@@ -31,6 +35,7 @@ pub record RepliesToAll (programs : List ProgramTree) (old new : Input) (before 
   pub ended : new.ended ≡ true
   pub taken : after.taken ≡ before.taken ++ replies programs bytes
   pub fault : faulted ≡ faults programs bytes
+  pub quiet : NoneFails old new before after
 
 -- what was written is exactly the replies to the lines that have ended among the bytes read, and these are a beginning of the replies to the bytes
 pub record RepliesToEnded (programs : List ProgramTree) (old new : Input) (before after : Taken) : Type 0 where
@@ -52,9 +57,9 @@ pub record RepliesInPart (programs : List ProgramTree) (old new : Input) (before
   pub taken : after.taken ≡ before.taken ++ written
   pub beginning : (more : List ℕ) → (new.ended ≡ true → more ≡ []) → IsBeginning written (replies programs (bytes ++ more))
 
--- how a script ends: each error of a device only where that device failed
+-- how a script ends: each error of a device where that device failed and the other did not, and else where none did
 abbrev pub RunsScript : List ProgramTree → Input → Input → Taken → Taken → Result Bool ScriptError → Type 0
 RunsScript programs old new before after (Ok faulted) = RepliesToAll programs old new before after faulted
-RunsScript programs old new before after (Err NoMemory) = RepliesInPart programs old new before after
-RunsScript programs old new before after (Err ReadFailed) = RepliesToEnded programs old new before after × (old.failures < new.failures)
-RunsScript programs old new before after (Err WriteFailed) = RepliesInPart programs old new before after × (before.failures < after.failures)
+RunsScript programs old new before after (Err NoMemory) = RepliesInPart programs old new before after × NoneFails old new before after
+RunsScript programs old new before after (Err ReadFailed) = RepliesToEnded programs old new before after × (old.failures < new.failures) × (after.failures ≡ before.failures)
+RunsScript programs old new before after (Err WriteFailed) = RepliesInPart programs old new before after × (new.failures ≡ old.failures) × (before.failures < after.failures)

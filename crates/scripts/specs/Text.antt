@@ -10,6 +10,7 @@ use Rattle.scripts.specs.Script.{Taken}
 pub record RepliesToText (programs : List ProgramTree) (text : List ℕ) (before after : Taken) (faulted : Bool) : Type 0 where
   pub taken : after.taken ≡ before.taken ++ replies programs text
   pub fault : faulted ≡ faults programs text
+  pub quiet : after.failures ≡ before.failures
 
 -- what was written is a beginning of the replies to the text
 pub record BeginsReplies (programs : List ProgramTree) (text : List ℕ) (before after : Taken) : Type 0 where
@@ -21,6 +22,6 @@ pub record BeginsReplies (programs : List ProgramTree) (text : List ℕ) (before
 -- how a script of this text ends
 abbrev pub RunsText : List ProgramTree → List ℕ → Taken → Taken → Result Bool ScriptError → Type 0
 RunsText programs text before after (Ok faulted) = RepliesToText programs text before after faulted
-RunsText programs text before after (Err NoMemory) = BeginsReplies programs text before after
+RunsText programs text before after (Err NoMemory) = BeginsReplies programs text before after × (after.failures ≡ before.failures)
 RunsText programs text before after (Err ReadFailed) = ⊥
 RunsText programs text before after (Err WriteFailed) = BeginsReplies programs text before after × (before.failures < after.failures)

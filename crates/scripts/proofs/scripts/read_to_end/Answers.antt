@@ -51,7 +51,7 @@ returns-in_err-finish-clause-runs g c =
     let nothing : g.R.Feed.given c.read.new.self ≡ g.R.Feed.given c.reads.reader = c.in-Ok.ensures.given ∙ ap (λ n. g.R.Feed.given c.reads.reader ++ take n c.read.new.buffer) c.if-count-eq0.true ∙ append-nil (g.R.Feed.given c.reads.reader) in
     let room : 0 < length c.read.new.buffer = omega (arith, c.requires.block, c.reads.auto.block, c.read.auto.buffer) in
     let at_end : g.R.Feed.ended c.read.new.self ≡ true = c.in-Ok.ensures.ended ∙ or_right _ _ (and_from _ _ (eq-eqb c.in-Ok.count 0 c.if-count-eq0.true) (lt-ltb 0 (length c.read.new.buffer) room)) in
-    let fails = finish_fails (g.P.Programs.trees c.args.host.now.programs.now) old now c.args.replies.now c.reads.state c.reads.replies c.reads.invariant new nothing at_end c.finish.new.replies c.in_err-finish.field-0.0 c.requires.kept c.in_err-finish.ensures.emits in
+    let fails = finish_fails (g.P.Programs.trees c.args.host.now.programs.now) old now c.args.replies.now c.reads.state c.reads.replies c.reads.invariant new nothing at_end c.in-Ok.ensures.no_failure c.finish.new.replies c.in_err-finish.field-0.0 c.requires.kept c.in_err-finish.ensures.emits in
     runs_failed _ _ _ _ _ _ _ c.from_residual-in_err-finish.ensures.1 fails
 
 pub returns-in_err-flush-2-clause-runs : goal.returns-in_err-flush-2-clause-runs
@@ -62,7 +62,7 @@ returns-in_err-flush-2-clause-runs g c =
     let nothing : g.R.Feed.given c.read.new.self ≡ g.R.Feed.given c.reads.reader = c.in-Ok.ensures.given ∙ ap (λ n. g.R.Feed.given c.reads.reader ++ take n c.read.new.buffer) c.if-count-eq0.true ∙ append-nil (g.R.Feed.given c.reads.reader) in
     let room : 0 < length c.read.new.buffer = omega (arith, c.requires.block, c.reads.auto.block, c.read.auto.buffer) in
     let at_end : g.R.Feed.ended c.read.new.self ≡ true = c.in-Ok.ensures.ended ∙ or_right _ _ (and_from _ _ (eq-eqb c.in-Ok.count 0 c.if-count-eq0.true) (lt-ltb 0 (length c.read.new.buffer) room)) in
-    let fails = last_flush_fails (g.P.Programs.trees c.args.host.now.programs.now) old now c.args.replies.now c.reads.state c.reads.replies c.reads.invariant new nothing at_end c.finish.new.replies c.in_ok-finish.ensures.emits c.flush-2.new.self c.in_err-flush-2.field-0.0 c.requires.kept c.in_err-flush-2.ensures.emits in
+    let fails = last_flush_fails (g.P.Programs.trees c.args.host.now.programs.now) old now c.args.replies.now c.reads.state c.reads.replies c.reads.invariant new nothing at_end c.in-Ok.ensures.no_failure c.finish.new.replies c.in_ok-finish.ensures.emits c.flush-2.new.self c.in_err-flush-2.field-0.0 c.requires.kept c.in_err-flush-2.ensures.emits in
     runs_failed _ _ _ _ _ _ _ c.from_residual-in_err-flush-2.ensures.1 fails
 
 pub returns-clause-runs : goal.returns-clause-runs
@@ -73,4 +73,4 @@ returns-clause-runs g c =
     let nothing : g.R.Feed.given c.read.new.self ≡ g.R.Feed.given c.reads.reader = c.in-Ok.ensures.given ∙ ap (λ n. g.R.Feed.given c.reads.reader ++ take n c.read.new.buffer) c.if-count-eq0.true ∙ append-nil (g.R.Feed.given c.reads.reader) in
     let room : 0 < length c.read.new.buffer = omega (arith, c.requires.block, c.reads.auto.block, c.read.auto.buffer) in
     let at_end : g.R.Feed.ended c.read.new.self ≡ true = c.in-Ok.ensures.ended ∙ or_right _ _ (and_from _ _ (eq-eqb c.in-Ok.count 0 c.if-count-eq0.true) (lt-ltb 0 (length c.read.new.buffer) room)) in
-    script_ends (g.P.Programs.trees c.args.host.now.programs.now) old now c.args.replies.now c.reads.state c.reads.replies c.reads.invariant new nothing at_end c.finish.new.replies c.in_ok-finish.ensures.emits c.flush-2.new.self c.requires.kept c.in_ok-flush-2.ensures.empty c.in_ok-flush-2.ensures.emits _ c.in_ok-finish.ensures.state _ c.has_faulted.ensures
+    script_ends (g.P.Programs.trees c.args.host.now.programs.now) old now c.args.replies.now c.reads.state c.reads.replies c.reads.invariant new nothing at_end c.in-Ok.ensures.no_failure c.finish.new.replies c.in_ok-finish.ensures.emits c.flush-2.new.self c.requires.kept c.in_ok-flush-2.ensures.empty c.in_ok-flush-2.ensures.emits _ c.in_ok-finish.ensures.state _ c.has_faulted.ensures

@@ -1,6 +1,6 @@
 use Rattle.std.proofs.Common.{[], ap, ◌∷◌}
 use Rattle.std.specs.Fmt.{signed_decimal}
-use Rattle.replies.proofs.SendingLaws.{part_before, fails_more, emits_failed}
+use Rattle.replies.proofs.SendingLaws.{lacks_memory, fails_more, emits_failed}
 use Rattle.replies.proofs.reply_writer.ReplyWriter.send_integer.Goals as goal
 
 pub returns-in_err-make_room : goal.returns-in_err-make_room
@@ -9,5 +9,5 @@ returns-in_err-make_room g c =
 
 pub returns-in_err-push_spaced_integer : goal.returns-in_err-push_spaced_integer
 returns-in_err-push_spaced_integer g c =
-    let part = part_before _ c.make_room.new.self _ [] (32 ∷ signed_decimal c.args.integer) c.in_ok-make_room.ensures (ap (λ o. o.writer) c.self.view_is) (ap (λ o. o.taken) c.self.view_is) in
+    let part = lacks_memory _ c.make_room.new.self _ [] (32 ∷ signed_decimal c.args.integer) c.in_ok-make_room.ensures (ap (λ o. o.writer) c.self.view_is) (ap (λ o. o.taken) c.self.view_is) (ap (λ o. o.failures) c.self.view_is) in
     emits_failed _ _ _ _ _ c.from_residual-in_err-push_spaced_integer.ensures.1 part

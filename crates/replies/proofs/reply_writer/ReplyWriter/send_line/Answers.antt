@@ -1,6 +1,6 @@
 use Rattle.std.proofs.Common.{[], ap}
 use Rattle.replies.specs.ReplyText.{line_text}
-use Rattle.replies.proofs.SendingLaws.{part_before, fails_more, emits_failed}
+use Rattle.replies.proofs.SendingLaws.{lacks_memory, fails_more, emits_failed}
 use Rattle.replies.proofs.reply_writer.ReplyWriter.send_line.Goals as goal
 
 pub returns-in_err-make_room : goal.returns-in_err-make_room
@@ -9,5 +9,5 @@ returns-in_err-make_room g c =
 
 pub returns-in_err-push_line : goal.returns-in_err-push_line
 returns-in_err-push_line g c =
-    let part = part_before _ c.make_room.new.self _ [] (line_text c.args.reply) c.in_ok-make_room.ensures (ap (λ o. o.writer) c.self.view_is) (ap (λ o. o.taken) c.self.view_is) in
+    let part = lacks_memory _ c.make_room.new.self _ [] (line_text c.args.reply) c.in_ok-make_room.ensures (ap (λ o. o.writer) c.self.view_is) (ap (λ o. o.taken) c.self.view_is) (ap (λ o. o.failures) c.self.view_is) in
     emits_failed _ _ _ _ _ c.from_residual-in_err-push_line.ensures.1 part

@@ -20,7 +20,7 @@ lines-preserved g c =
 pub returns-in_err-extend_from_slice-clause-emits : goal.returns-in_err-extend_from_slice-clause-emits
 returns-in_err-extend_from_slice-clause-emits g c =
     emits_failed _ _ _ _ _ c.from_residual-in_err-extend_from_slice.ensures.1
-    (taking_lacks (g.P.Programs.trees c.args.host.now.programs.now) c.args.self.now c.args.bytes.now _ c.lines.self c.lines.rest.now _ c.lines.invariant _ refl refl)
+    (taking_lacks (g.P.Programs.trees c.args.host.now.programs.now) c.args.self.now c.args.bytes.now _ c.lines.self c.lines.rest.now _ c.lines.invariant _ refl refl refl)
 
 pub returns-clause-emits : goal.returns-clause-emits
 returns-clause-emits g c =
