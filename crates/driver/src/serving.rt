@@ -93,14 +93,8 @@ pub fn serve<T: Threads + Wait + Sync, F: Files, R: Feed, W: Drain, E: Drain>(
                 workers: *workers,
                 turns: *turns,
             };
-            let ended = race_files(
-                rt,
-                alloc,
-                RaceFiles { script, programs },
-                bounds,
-                files,
-                out,
-            );
+            let names = RaceFiles { script, programs };
+            let ended = race_files(rt, alloc, names, bounds, files, out);
             (told(alloc, ended, Some(programs), files, err), None)
         }
     }
