@@ -87,7 +87,7 @@ InNames names place name = slice_get names place ≡ Some (Some name)
 module _ (p : ProgramTree) where
   -- a set that a name stands for is visible
   abbrev pub EntityStands : Visible → Entity → Type 0
-  EntityStands V entity.Edges = Unit {0}
+  EntityStands V (entity.Edges weights) = Unit {0}
   EntityStands V (entity.Vector place) = Unit {0}
   EntityStands V (entity.ConstantSet slot) = V slot.place slot.name
   EntityStands V (entity.IntegerConstant name n) = Unit {0}
@@ -97,7 +97,8 @@ module _ (p : ProgramTree) where
   EntityStands V (entity.SetVariable slot) = V slot.place slot.name × (length p.sets ≤ slot.place)
   EntityStands V (entity.LoopVariable slot) = Unit {0}
   EntityStands V (entity.Parameter at) = Unit {0}
-  EntityStands V (entity.EdgeFunction place) = Unit {0}
+  EntityStands V entity.Weight = Unit {0}
+  EntityStands V (entity.EdgeFunction place weighted) = Unit {0}
   EntityStands V (entity.VertexFunction place) = Unit {0}
   EntityStands V (entity.Filter place) = Unit {0}
   EntityStands V entity.Main = Unit {0}
@@ -323,7 +324,7 @@ module _ (p : ProgramTree) where
     assigned_plain names at initializer _ value is = ((tt, tt), tt, refl)
 
     reduced_plain : (names : SetNames) (at : ℕ) (by : Reduction) (x : ValueTree) (e : Entity) → Plain names (reduced at by x e).value
-    reduced_plain names at by x entity.Edges = ((tt, tt), tt, refl)
+    reduced_plain names at by x (entity.Edges weights) = ((tt, tt), tt, refl)
     reduced_plain names at by x _ = ((tt, tt), tt, refl)
 
     added_plain : (names : SetNames) (at : ℕ) (x : ValueTree) (e : Entity) → Stands names e → Plain names (added at x e).value
@@ -448,6 +449,7 @@ module _ (p : ProgramTree) where
         (((fits.sets.apart, members.0), members.1), tt, set_declared names c name left begins fits)
     declare_fits names c at name initializer declared.Vector none begins fits value = absurd (not_empty _ _ none)
     declare_fits names c at name initializer declared.EdgeSet none begins fits value = absurd (not_empty _ _ none)
+    declare_fits names c at name initializer declared.WeightedEdgeSet none begins fits value = absurd (not_empty _ _ none)
 
     labelled_fits : (names : SetNames) (c : CheckerTree) (label : Option Identifier) → MainFits functions names c → MainFits functions names (labelled c label).value.1
     labelled_fits names c label fits =

@@ -71,6 +71,7 @@ declare_before p c at name initializer declared.Vertex within = declared_before 
 declare_before p c at name initializer declared.VertexSet within = declared_before p c name (entity.SetVariable (set_slot c)) within
 declare_before p c at name initializer declared.Vector within = declared_before p c name entity.Error within
 declare_before p c at name initializer declared.EdgeSet within = declared_before p c name entity.Error within
+declare_before p c at name initializer declared.WeightedEdgeSet within = declared_before p c name entity.Error within
 
 mutual
   action_before : (p : ProgramTree) (c : CheckerTree) (action : source.ActionTree) → Within p (action_typed c action).value.1 → Within p c
@@ -214,6 +215,7 @@ declare_fits p v c at name initializer declared.VertexSet none within fits value
     ((declared_name p c name e within, initializer_members_resolved p v at initializer value), set_declared p v c name left within fits)
 declare_fits p v c at name initializer declared.Vector none within fits value = absurd (not_empty _ _ none)
 declare_fits p v c at name initializer declared.EdgeSet none within fits value = absurd (not_empty _ _ none)
+declare_fits p v c at name initializer declared.WeightedEdgeSet none within fits value = absurd (not_empty _ _ none)
 
 mutual
   action_fits : (p : ProgramTree) (v : VisibleTree) (c : CheckerTree) (action : source.ActionTree) → (action_typed c action).faults ≡ [] → Within p (action_typed c action).value.1

@@ -41,7 +41,7 @@ use Rattle.types.specs.Wanted.{as_condition, as_index, as_integer, as_members, c
 
 -- what a name stands for is there
 abbrev pub EntityIsResolved : ProgramTree → VisibleTree → Entity → Type 0
-EntityIsResolved p v entity.Edges = Unit {0}
+EntityIsResolved p v (entity.Edges weights) = Unit {0}
 EntityIsResolved p v (entity.Vector place) = IsVector p place
 EntityIsResolved p v (entity.ConstantSet slot) = IsSet p v slot
 EntityIsResolved p v (entity.IntegerConstant name n) = IsName p name
@@ -51,7 +51,8 @@ EntityIsResolved p v (entity.ConditionVariable slot) = IsCondition p v slot
 EntityIsResolved p v (entity.SetVariable slot) = IsSet p v slot
 EntityIsResolved p v (entity.LoopVariable slot) = IsInteger p v slot
 EntityIsResolved p v (entity.Parameter at) = IsVertex v at
-EntityIsResolved p v (entity.EdgeFunction place) = IsEdgeFunction p place
+EntityIsResolved p v entity.Weight = IsVertex v endpoint.Destination
+EntityIsResolved p v (entity.EdgeFunction place weighted) = IsEdgeFunction p place
 EntityIsResolved p v (entity.VertexFunction place) = IsVertexFunction p place
 EntityIsResolved p v (entity.Filter place) = IsFilter p place
 EntityIsResolved p v entity.Main = Unit {0}
@@ -119,6 +120,7 @@ named_resolved p v (entity.ConditionVariable slot) is = is
 named_resolved p v (entity.SetVariable slot) is = is
 named_resolved p v (entity.LoopVariable slot) is = is
 named_resolved p v (entity.Parameter at) is = is
+named_resolved p v entity.Weight is = is
 named_resolved p v _ is = tt
 
 as_vector_resolved : (p : ProgramTree) (v : VisibleTree) (at : ℕ) (e : Entity) → EntityIsResolved p v e → MaybePlace (IsVector p) (as_vector at e).value
@@ -140,7 +142,7 @@ named_set_resolved p v (entity.SetVariable slot) is = is
 named_set_resolved p v _ is = tt
 
 pub edge_function_resolved : (p : ProgramTree) (v : VisibleTree) (e : Entity) → EntityIsResolved p v e → MaybePlace (IsEdgeFunction p) (edge_function e)
-edge_function_resolved p v (entity.EdgeFunction place) is = is
+edge_function_resolved p v (entity.EdgeFunction place weighted) is = is
 edge_function_resolved p v _ is = tt
 
 pub vertex_function_resolved : (p : ProgramTree) (v : VisibleTree) (e : Entity) → EntityIsResolved p v e → MaybePlace (IsVertexFunction p) (vertex_function e)
