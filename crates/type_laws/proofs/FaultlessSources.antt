@@ -30,7 +30,7 @@ use Rattle.types.specs.Block.{statements_typed}
 use Rattle.types.specs.Checker.{CheckerTree, condition_slot, declared_in, restarted, with_scope}
 use Rattle.types.specs.Declaration.{DeclaredTree, EdgeKind, FilterKind, MainKind, NoKind, VertexKind, begins, declaration_typed, declarations_typed, declare_constant_as, declare_function, declare_name, has_all, is_bool, is_vertex, kind_of, literal_or_fault, loads, main_bytes, main_declared, next_name, only_edges, opened, parameter, steps_declared, takes_nothing, wanted, is_int}
 use Rattle.types.specs.Initial as initial_value
-use Rattle.types.specs.Initial.{ApplyEndTree, Degrees, ErrorInitializer, InitializerTree, Loaded, end_of, edge_function, ends_given, filter_function, filtered, filtered_by, initializer_of, is_all, is_degrees, is_edges, is_error_end, is_loaded, is_sound, is_wrong, loaded, modified, modified_by, names_error, new_set, of_edges, vector_of, writes_vector}
+use Rattle.types.specs.Initial.{ApplyEndTree, Degrees, ErrorInitializer, InitializerTree, Loaded, end_of, edge_function, ends_given, filter_function, filtered, filtered_by, initializer_of, is_all, is_degrees, is_edges, is_error_end, is_loaded, is_sound, is_wrong, loaded, modified, modified_by, names_error, new_set, of_edges, vector_of, writes_vector, lacks_weights}
 use Rattle.types.specs.Literal.{literal_condition, literal_integer}
 use Rattle.types.specs.Program.{main_of, opening, program_of, set_count}
 use Rattle.types.specs.Step.{steps_typed}
@@ -126,10 +126,10 @@ modified_by_plain c at ends (Some function) (Some vector) =
 
 modified_plain : (c : CheckerTree) (at : ℕ) (e : Entity) (a b : ApplyEndTree) (f v : Entity) → Plain (modified c at e a b f v).value
 modified_plain c at e a b f v =
-    let inner = if is_wrong a || is_wrong b then fault_at at rule.WrongType ErrorInitializer else modified_by c at (ends_given a b) (edge_function f) (vector_of v) in
+    let inner = if is_wrong a || is_wrong b || lacks_weights e f then fault_at at rule.WrongType ErrorInitializer else modified_by c at (ends_given a b) (edge_function f) (vector_of v) in
     if_plain (names_error e || is_error_end a || is_error_end b || names_error f || names_error v) (sure ErrorInitializer) (if is_edges e then inner else fault_at at rule.WrongType ErrorInitializer) (refl, refl, refl)
     (if_plain (is_edges e) inner (fault_at at rule.WrongType ErrorInitializer)
-    (if_plain (is_wrong a || is_wrong b) (fault_at at rule.WrongType ErrorInitializer) (modified_by c at (ends_given a b) (edge_function f) (vector_of v)) (refl, refl, refl)
+    (if_plain (is_wrong a || is_wrong b || lacks_weights e f) (fault_at at rule.WrongType ErrorInitializer) (modified_by c at (ends_given a b) (edge_function f) (vector_of v)) (refl, refl, refl)
     (modified_by_plain c at (ends_given a b) (edge_function f) (vector_of v))) (refl, refl, refl))
 
 -- a constant

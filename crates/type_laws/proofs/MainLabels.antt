@@ -20,7 +20,7 @@ use Rattle.expression_types.specs.ValueTree.{ValueTree, named_set}
 use Rattle.types.specs.Block.{action_typed, behind, closed, statements_typed}
 use Rattle.types.specs.Checker.{CheckerTree, counted, declared_in, integer_slot, labelled, new_label, restarted, with_scope}
 use Rattle.types.specs.Declaration.{DeclaredTree, FunctionKindTree, MainKind, EdgeKind, VertexKind, FilterKind, NoKind, declaration_typed, declarations_typed, declare_constant_as, declare_function, declare_name, kind, opened, with_main}
-use Rattle.types.specs.Initial.{ApplyEndTree, InitializerTree, edge_function, end_of, initializer_of, is_edges, names_error, is_error_end, is_wrong, vertex_function}
+use Rattle.types.specs.Initial.{ApplyEndTree, InitializerTree, edge_function, end_of, initializer_of, is_edges, names_error, is_error_end, is_wrong, vertex_function, lacks_weights}
 use Rattle.types.specs.Program.{main_of, opening, program_of, set_count}
 use Rattle.types.specs.Statement.{add_vertex, added, applied, apply, assign, assigned, declare_as, edges_applied, entry_reduced, entry_set, has_ends, print, printed, reduce, reduce_entry, reduced, set_applied, set_entry, vertices_applied}
 use Rattle.types.specs.Wanted.{as_index, condition_in, integer_in}
@@ -108,7 +108,7 @@ set_applied_plain at ends f (Some slot) = if_plain ends _ _ refl (vertices_plain
 applied_plain : (at : ℕ) (t : Entity) (a b : ApplyEndTree) (ends : Bool) (f : Entity) → Plain (applied at t a b ends f).value
 applied_plain at t a b ends f =
     if_plain (names_error t) _ _ refl (if_plain (is_edges t) _ _
-    (if_plain (is_wrong a || is_wrong b) _ _ refl (edges_plain at a b (names_error f) (edge_function f)))
+    (if_plain (is_wrong a || is_wrong b || lacks_weights t f) _ _ refl (edges_plain at a b (names_error f) (edge_function f)))
     (set_applied_plain at ends f (named_set t)))
 
 -- what a statement is, and the checker after it

@@ -126,6 +126,10 @@ each_shape : (name : List ℕ) (parameters : List ParameterTree) (result : Optio
 each_shape name parameters result =
     if_shape (bytes_eq name main_bytes) (MainKind (takes_nothing parameters result)) (kind_of parameters result) parameters result (λ b. tt) (other_shape parameters result)
 
+parameters_write_nothing : (w : Bool) (c : CheckerTree) (at : Endpoint) (parameters : List ParameterTree) → (parameters_declared w c at parameters).value.writes ≡ c.writes
+parameters_write_nothing w c at [] = refl
+parameters_write_nothing w c at (x ∷ others) = parameters_write_nothing w (declared_in c x.name (parameter w at x.declared)).value endpoint.Destination others
+
 -- what the statements of an edge function add, where nothing was written before
 edge_adds : (d : DeclaredTree) (weighted : Bool) (parameters : List ParameterTree) (src dst : List ℕ) (body : source.BlockTree) → ParametersFit weighted (named src dst) endpoint.Source parameters → AllKnown d
     → (opened d.checker (EdgeKind weighted) parameters None).faults ≡ [] → (steps_typed (opened d.checker (EdgeKind weighted) parameters None).value NoStep body).faults ≡ []
@@ -134,7 +138,9 @@ edge_adds : (d : DeclaredTree) (weighted : Bool) (parameters : List ParameterTre
 edge_adds d weighted parameters src dst body fits known first none =
     let c = opened d.checker (EdgeKind weighted) parameters None in
     let inner = opened_known (named src dst) d.checker (EdgeKind weighted) parameters None fits tt known first in
-    steps_add (edge_body src dst) [] c.value NoStep body inner none (adds_none [])
+    let e = with_writes (with_scope d.checker (entered inside.EdgeFunction d.checker.scope)) [] in
+    let nothing = parameters_write_nothing weighted e endpoint.Source parameters in
+    steps_add (edge_body src dst) [] c.value NoStep body inner none (subst (λ writes. Adds [] writes []) (sym nothing) (adds_none []))
 
 -- a list with one more, at a place
 index_cases : {A : Type 0} (xs : List A) (last other : A) (k : ℕ) → (slice_index_or (xs ++ last ∷ []) k other ≡ slice_index_or xs k other) ⊎ ((k ≡ length xs) × (slice_index_or (xs ++ last ∷ []) k other ≡ last))

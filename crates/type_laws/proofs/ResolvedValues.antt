@@ -12,6 +12,7 @@ use Rattle.syntax.specs.Terminals.{Identifier}
 use Rattle.syntax.specs.ExpressionTrees.{ExpressionTree, ConjunctionTree, ComparisonTree, SumTree, TermTree, UnaryTree, PrimaryTree, LastConjunction, ConjunctionThen, LastComparison, ComparisonThen, OneSum, TwoSums, LastTerm, TermThen, LastUnary, UnaryThen, Bare, Signed, Literal, Truth, Variable, Entry, Size, Parentheses}
 use Rattle.syntax.specs.SourceTrees as source
 use Rattle.syntax.specs.SourceTrees.{InitialTree}
+use Rattle.typed_tree.specs.declared.expression.Endpoint.TheVariants as endpoint
 use Rattle.typed_tree.specs.declared.expression.ComparisonOperator.{ComparisonOperator}
 use Rattle.typed_tree.specs.declared.expression.ComparisonOperator.TheVariants as comparison
 use Rattle.typed_tree.specs.declared.expression.Connective.{Connective}
@@ -36,7 +37,7 @@ use Rattle.expression_types.specs.Operators.{IntegersTree, Integers, MixedIntege
 use Rattle.expression_types.specs.ScopeTree.{ScopeTree}
 use Rattle.expression_types.specs.ValueTree.{ValueTree, Integer, Condition, Vertex, Set, ErrorValue, condition_reads_entry, named_set, named_value, reads_entry}
 use Rattle.types.specs.Checker.{CheckerTree}
-use Rattle.types.specs.Initial.{ApplyEndTree, InitializerTree, Typed, Members, Loaded, Degrees, ErrorInitializer, initializer_condition, edge_function, end_of, ends_given, filter_function, filter_named, filtered, filtered_by, initializer_of, given_filter, initializer_integer, is_edges, names_error, is_error_end, is_wrong, initializer_members, modified, modified_by, new_set, loaded, of_edges, vector_of, vertex_function, writes_vector}
+use Rattle.types.specs.Initial.{ApplyEndTree, InitializerTree, Typed, Members, Loaded, Degrees, ErrorInitializer, initializer_condition, edge_function, end_of, ends_given, filter_function, filter_named, filtered, filtered_by, initializer_of, given_filter, initializer_integer, is_edges, names_error, is_error_end, is_wrong, initializer_members, modified, modified_by, new_set, loaded, of_edges, vector_of, vertex_function, writes_vector, lacks_weights}
 use Rattle.types.specs.Wanted.{as_condition, as_index, as_integer, as_members, condition_in, integer_in, no_index}
 
 -- what a name stands for is there
@@ -487,7 +488,7 @@ modified_resolved : (p : ProgramTree) (v : VisibleTree) (c : CheckerTree) (at : 
 modified_resolved p v c at e a b f x from to function vector =
     if_initializer p v (names_error e || is_error_end a || is_error_end b || names_error f || names_error x) _ _ tt
     (if_initializer p v (is_edges e) _ _
-    (if_initializer p v (is_wrong a || is_wrong b) _ _ tt
+    (if_initializer p v (is_wrong a || is_wrong b || lacks_weights e f) _ _ tt
     (modified_by_resolved p v c at (ends_given a b) (edge_function f) (vector_of x) (from, to) (edge_function_resolved p v f function) (vector_of_resolved p v x vector))) tt)
 
 new_set_resolved : (p : ProgramTree) (v : VisibleTree) (at : ℕ) (n : ℤ) → InitializerIsResolved p v (new_set at n).value

@@ -23,7 +23,7 @@ use Rattle.expression_types.specs.WithFaults.{WithFaults, fault_at, sure, ◌>>=
 use Rattle.expression_types.specs.ValueTree.{ValueTree, Integer, Condition, Vertex, Set, ErrorValue, is_error, named_set}
 use Rattle.types.specs.Checker.{CheckerTree, condition_slot, integer_slot, labelled}
 use Rattle.types.specs.Declaration.{DeclaredTree, FunctionKindTree, EdgeKind, VertexKind, FilterKind, NoKind, begins, declaration_typed, declarations_typed, declare_constant_as, has_all, inside_of, is_bool, is_vertex, kind_fits, kind_of, literal_or_fault, loads, opened, steps_declared, wanted, is_int}
-use Rattle.types.specs.Initial.{ApplyEndTree, InitializerTree, Members, Loaded, Degrees, ErrorInitializer, edge_function, end_of, ends_given, filter_function, filter_named, filtered, filtered_by, initializer_of, is_all, is_degrees, is_edges, is_loaded, is_sound, names_error, is_error_end, is_wrong, loaded, modified, modified_by, new_set, of_edges, vector_of, writes_vector}
+use Rattle.types.specs.Initial.{ApplyEndTree, InitializerTree, Members, Loaded, Degrees, ErrorInitializer, edge_function, end_of, ends_given, filter_function, filter_named, filtered, filtered_by, initializer_of, is_all, is_degrees, is_edges, is_loaded, is_sound, names_error, is_error_end, is_wrong, loaded, modified, modified_by, new_set, of_edges, vector_of, writes_vector, lacks_weights}
 use Rattle.types.specs.Literal.{literal_condition, literal_integer}
 use Rattle.types.specs.Program.{opening, program_of, set_count}
 use Rattle.types.specs.Step.{declare_step_as, may_reduce, may_set, set_entry_step, step_behind, step_typed, steps_behind, steps_typed}
@@ -264,12 +264,12 @@ modified_sound : (c : CheckerTree) (at : ℕ) (edges : Entity) (a b : ApplyEndTr
     → names_error v ≡ false → IsSound (modified c at edges a b f v)
 modified_sound c at edges a b f v first second third fourth fifth =
     let by = modified_by c at (ends_given a b) (edge_function f) (vector_of v) in
-    let between = if is_wrong a || is_wrong b then fault_at at rule.WrongType ErrorInitializer else by in
+    let between = if is_wrong a || is_wrong b || lacks_weights edges f then fault_at at rule.WrongType ErrorInitializer else by in
     let error = neither_true (names_error edges || is_error_end a || is_error_end b || names_error f) (names_error v)
     (neither_true (names_error edges || is_error_end a || is_error_end b) (names_error f)
     (neither_true (names_error edges || is_error_end a) (is_error_end b) (neither_true (names_error edges) (is_error_end a) first second) third) fourth) fifth in
     if_sound (names_error edges || is_error_end a || is_error_end b || names_error f || names_error v) (sure ErrorInitializer) (if is_edges edges then between else fault_at at rule.WrongType ErrorInitializer) error
-    (if_then (is_edges edges) between at (if_else (is_wrong a || is_wrong b) by at (modified_by_sound c at (ends_given a b) (edge_function f) (vector_of v))))
+    (if_then (is_edges edges) between at (if_else (is_wrong a || is_wrong b || lacks_weights edges f) by at (modified_by_sound c at (ends_given a b) (edge_function f) (vector_of v))))
 
 new_set_sound : (at : ℕ) (size : ℤ) → IsSound (new_set at size)
 new_set_sound at (pos zero) none = refl
@@ -367,9 +367,9 @@ modified_not : (Q : InitializerTree → Bool) (c : CheckerTree) (at : ℕ) (edge
 modified_not Q c at edges a b f v broken other =
     let by = modified_by c at (ends_given a b) (edge_function f) (vector_of v) in
     let wrong = fault_at at rule.WrongType ErrorInitializer in
-    let between = if is_wrong a || is_wrong b then wrong else by in
+    let between = if is_wrong a || is_wrong b || lacks_weights edges f then wrong else by in
     if_not Q (names_error edges || is_error_end a || is_error_end b || names_error f || names_error v) (sure ErrorInitializer) (if is_edges edges then between else wrong) broken
-    (if_not Q (is_edges edges) between wrong (if_not Q (is_wrong a || is_wrong b) wrong by broken (modified_by_not Q c at (ends_given a b) (edge_function f) (vector_of v) broken other)) broken)
+    (if_not Q (is_edges edges) between wrong (if_not Q (is_wrong a || is_wrong b || lacks_weights edges f) wrong by broken (modified_by_not Q c at (ends_given a b) (edge_function f) (vector_of v) broken other)) broken)
 
 clash : (b : Bool) → b ≡ false → b ≡ true → ⊥
 clash b first second = false_is_not_true (sym first ∙ second)
