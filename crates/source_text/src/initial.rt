@@ -49,9 +49,7 @@ fn put_type(out: &mut Vec<u8>, declared: DeclaredType) -> Result<(), AllocError>
         }
         DeclaredType::WeightedEdgeSet => {
             put_edge_ends(out)?;
-            put_symbol(out, Symbol::Comma)?;
-            put_keyword(out, Keyword::Int)?;
-            put_symbol(out, Symbol::CloseParenthesis)
+            put_weight(out)
         }
     }
 }
@@ -66,6 +64,15 @@ fn put_edge_ends(out: &mut Vec<u8>) -> Result<(), AllocError>
     put_keyword(out, Keyword::Vertex)?;
     put_symbol(out, Symbol::Comma)?;
     put_keyword(out, Keyword::Vertex)
+}
+
+/// Puts `, int)` down.
+fn put_weight(out: &mut Vec<u8>) -> Result<(), AllocError>
+    ensures { OnOk result (Puts (λ rest. OfSymbol symbol.Comma ∷ OfKeyword keyword_terminal.Int ∷ OfSymbol symbol.CloseParenthesis ∷ rest) out.old.items out.new.items) }
+{
+    put_symbol(out, Symbol::Comma)?;
+    put_keyword(out, Keyword::Int)?;
+    put_symbol(out, Symbol::CloseParenthesis)
 }
 
 /// Puts a keyword in braces down.
