@@ -238,15 +238,7 @@ fn constant_from(
             declared,
             first_fault,
         ),
-        DeclaredType::EdgeSet => edges(
-            alloc,
-            at,
-            name,
-            false,
-            initializer,
-            declared,
-            first_fault,
-        ),
+        DeclaredType::EdgeSet => edges(alloc, at, name, false, initializer, declared, first_fault),
         DeclaredType::WeightedEdgeSet => edges(
             alloc,
             at,
@@ -434,13 +426,7 @@ fn edges(
     want_loaded(at, initializer, first_fault);
     let place = declared.checker.names.len();
     let first = only(name, place, declared.edges, first_fault);
-    name_is(
-        alloc,
-        name,
-        Entity::Edges(weights),
-        declared,
-        first_fault,
-    )?;
+    name_is(alloc, name, Entity::Edges(weights), declared, first_fault)?;
     declared.edges = first;
     Ok(())
 }
@@ -586,13 +572,7 @@ fn open(
 {
     checker.scope.enter(inside(kind));
     checker.writes = Reductions::new(alloc);
-    declare_parameters(
-        alloc,
-        takes_weight(kind),
-        parameters,
-        checker,
-        first_fault,
-    )?;
+    declare_parameters(alloc, takes_weight(kind), parameters, checker, first_fault)?;
     declare_result(alloc, kind, gives, checker, first_fault)
 }
 
@@ -602,10 +582,8 @@ fn takes_weight(kind: FunctionKind) -> bool
 {
     match kind {
         FunctionKind::Edge(weighted) => weighted,
-        FunctionKind::Main(_)
-        | FunctionKind::Vertex
-        | FunctionKind::Filter
-        | FunctionKind::Other => false,
+        FunctionKind::Main(_) | FunctionKind::Vertex | FunctionKind::Filter | FunctionKind::Other =>
+            false,
     }
 }
 

@@ -16,8 +16,8 @@ ghost use Rattle.types.specs.Variables.{variable_as};
 
 use crate::checker::{Checker, declare};
 use crate::initial::{
-    ApplyEnd, Initializer, edge_function_named, ends_of, is_edges_entity, is_error_entity,
-    are_weights_lacking, is_one_wrong, read_end, read_initial, vertex_function_named,
+    ApplyEnd, Initializer, are_weights_lacking, edge_function_named, ends_of, is_edges_entity,
+    is_error_entity, is_one_wrong, read_end, read_initial, vertex_function_named,
 };
 use crate::wanted::{index_of, integer, integer_of};
 use apply_options::Reduction;
@@ -108,9 +108,7 @@ fn declaration(
         DeclaredType::Vertex
         | DeclaredType::Vector
         | DeclaredType::EdgeSet
-        | DeclaredType::WeightedEdgeSet => {
-            (Entity::Error, wrong(at, first_fault))
-        }
+        | DeclaredType::WeightedEdgeSet => { (Entity::Error, wrong(at, first_fault)) }
     }
 }
 
