@@ -25,7 +25,7 @@ empty_scope sets = record { visible = []; inside = inside.Main; integers = 0; co
 
 -- how many places of integers it takes; a `for` has its bound after its name
 abbrev pub integers_of : Entity → ℕ
-integers_of entity.Edges = 0
+integers_of (entity.Edges weights) = 0
 integers_of (entity.Vector place) = 0
 integers_of (entity.ConstantSet slot) = 0
 integers_of (entity.IntegerConstant name n) = 0
@@ -35,7 +35,8 @@ integers_of (entity.ConditionVariable slot) = 0
 integers_of (entity.SetVariable slot) = 0
 integers_of (entity.LoopVariable slot) = 2
 integers_of (entity.Parameter at) = 0
-integers_of (entity.EdgeFunction place) = 0
+integers_of entity.Weight = 0
+integers_of (entity.EdgeFunction place weighted) = 0
 integers_of (entity.VertexFunction place) = 0
 integers_of (entity.Filter place) = 0
 integers_of entity.Main = 0
@@ -43,7 +44,7 @@ integers_of entity.Error = 0
 
 -- how many places of conditions
 abbrev pub conditions_of : Entity → ℕ
-conditions_of entity.Edges = 0
+conditions_of (entity.Edges weights) = 0
 conditions_of (entity.Vector place) = 0
 conditions_of (entity.ConstantSet slot) = 0
 conditions_of (entity.IntegerConstant name n) = 0
@@ -53,7 +54,8 @@ conditions_of (entity.ConditionVariable slot) = 1
 conditions_of (entity.SetVariable slot) = 0
 conditions_of (entity.LoopVariable slot) = 0
 conditions_of (entity.Parameter at) = 0
-conditions_of (entity.EdgeFunction place) = 0
+conditions_of entity.Weight = 0
+conditions_of (entity.EdgeFunction place weighted) = 0
 conditions_of (entity.VertexFunction place) = 0
 conditions_of (entity.Filter place) = 0
 conditions_of entity.Main = 0
@@ -61,7 +63,7 @@ conditions_of entity.Error = 0
 
 -- how many places of vertex sets, of which the constant ones were taken at the beginning
 abbrev pub sets_of : Entity → ℕ
-sets_of entity.Edges = 0
+sets_of (entity.Edges weights) = 0
 sets_of (entity.Vector place) = 0
 sets_of (entity.ConstantSet slot) = 0
 sets_of (entity.IntegerConstant name n) = 0
@@ -71,7 +73,8 @@ sets_of (entity.ConditionVariable slot) = 0
 sets_of (entity.SetVariable slot) = 1
 sets_of (entity.LoopVariable slot) = 0
 sets_of (entity.Parameter at) = 0
-sets_of (entity.EdgeFunction place) = 0
+sets_of entity.Weight = 0
+sets_of (entity.EdgeFunction place weighted) = 0
 sets_of (entity.VertexFunction place) = 0
 sets_of (entity.Filter place) = 0
 sets_of entity.Main = 0

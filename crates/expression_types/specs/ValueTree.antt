@@ -60,7 +60,7 @@ as_set ErrorValue = None
 
 -- the value that a name has alone, where it has one
 abbrev pub named_value : Entity → Option ValueTree
-named_value entity.Edges = None
+named_value (entity.Edges weights) = None
 named_value (entity.Vector place) = None
 named_value (entity.ConstantSet slot) = Some (Set slot)
 named_value (entity.IntegerConstant name n) = Some (Integer (integer.Constant name n))
@@ -70,7 +70,8 @@ named_value (entity.ConditionVariable slot) = Some (Condition (condition.Variabl
 named_value (entity.SetVariable slot) = Some (Set slot)
 named_value (entity.LoopVariable slot) = Some (Integer (integer.Variable slot))
 named_value (entity.Parameter at) = Some (Vertex at)
-named_value (entity.EdgeFunction place) = None
+named_value entity.Weight = Some (Integer integer.Weight)
+named_value (entity.EdgeFunction place weighted) = None
 named_value (entity.VertexFunction place) = None
 named_value (entity.Filter place) = None
 named_value entity.Main = None
@@ -78,7 +79,7 @@ named_value entity.Error = Some ErrorValue
 
 -- the vector that a name is
 abbrev pub named_vector : Entity → Option ℕ
-named_vector entity.Edges = None
+named_vector (entity.Edges weights) = None
 named_vector (entity.Vector place) = Some place
 named_vector (entity.ConstantSet slot) = None
 named_vector (entity.IntegerConstant name n) = None
@@ -88,7 +89,8 @@ named_vector (entity.ConditionVariable slot) = None
 named_vector (entity.SetVariable slot) = None
 named_vector (entity.LoopVariable slot) = None
 named_vector (entity.Parameter at) = None
-named_vector (entity.EdgeFunction place) = None
+named_vector entity.Weight = None
+named_vector (entity.EdgeFunction place weighted) = None
 named_vector (entity.VertexFunction place) = None
 named_vector (entity.Filter place) = None
 named_vector entity.Main = None
@@ -96,7 +98,7 @@ named_vector entity.Error = None
 
 -- the vertex set that a name is
 abbrev pub named_set : Entity → Option VarRef
-named_set entity.Edges = None
+named_set (entity.Edges weights) = None
 named_set (entity.Vector place) = None
 named_set (entity.ConstantSet slot) = Some slot
 named_set (entity.IntegerConstant name n) = None
@@ -106,7 +108,8 @@ named_set (entity.ConditionVariable slot) = None
 named_set (entity.SetVariable slot) = Some slot
 named_set (entity.LoopVariable slot) = None
 named_set (entity.Parameter at) = None
-named_set (entity.EdgeFunction place) = None
+named_set entity.Weight = None
+named_set (entity.EdgeFunction place weighted) = None
 named_set (entity.VertexFunction place) = None
 named_set (entity.Filter place) = None
 named_set entity.Main = None
@@ -133,6 +136,7 @@ reads_entry (integer.Number n) = false
 reads_entry (integer.Constant name n) = false
 reads_entry (integer.Variable slot) = false
 reads_entry (integer.Parameter at) = false
+reads_entry integer.Weight = false
 reads_entry (integer.EntryAt vector at) = true
 reads_entry (integer.Entry vector index) = true
 reads_entry (integer.SetSize slot) = false

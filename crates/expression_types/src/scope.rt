@@ -14,8 +14,8 @@ use typed_tree::{Endpoint, VarRef};
 /// What a visible name is.
 #[derive(Clone, Copy, Debug, PartialEq, Eq)]
 pub enum Entity {
-    /// The constant edgeset.
-    Edges,
+    /// The constant edgeset, and whether the weights of its edges are seen.
+    Edges(bool),
     /// The constant vector at this place.
     Vector(usize),
     /// A constant vertex set.
@@ -34,8 +34,10 @@ pub enum Entity {
     LoopVariable(VarRef),
     /// A parameter of the function: a vertex that it works on.
     Parameter(Endpoint),
-    /// The edge function at this place.
-    EdgeFunction(usize),
+    /// The third parameter of an edge function: the weight of the edge that it works on.
+    Weight,
+    /// The edge function at this place, and whether it has the weight as its third parameter.
+    EdgeFunction(usize, bool),
     /// The vertex function at this place.
     VertexFunction(usize),
     /// The filter at this place.

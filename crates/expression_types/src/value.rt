@@ -107,6 +107,7 @@ pub(crate) fn value_named(entity: Entity) -> Option<Value>
         }
         Entity::ConditionVariable(slot) => Some(Value::Condition(BoolExpression::Variable(slot))),
         Entity::Parameter(at) => Some(Value::Vertex(at)),
+        Entity::Weight => Some(Value::Integer(IntExpression::Weight)),
         Entity::Error => Some(Value::Error),
         _ => None,
     }
@@ -117,9 +118,9 @@ pub(crate) fn has_value(entity: Entity) -> bool
     ensures { result ≡ is_some (named_value entity) }
 {
     match entity {
-        Entity::Edges
+        Entity::Edges(_)
         | Entity::Vector(_)
-        | Entity::EdgeFunction(_)
+        | Entity::EdgeFunction(_, _)
         | Entity::VertexFunction(_)
         | Entity::Filter(_)
         | Entity::Main => false,
@@ -158,6 +159,7 @@ pub fn reads_entry(e: &IntExpression) -> bool
         | IntExpression::Constant(_, _)
         | IntExpression::Variable(_)
         | IntExpression::Parameter(_)
+        | IntExpression::Weight
         | IntExpression::SetSize(_) => false,
         IntExpression::Negative(_, e) => reads_entry(e),
         IntExpression::Arithmetic(first, more) => reads_entry(first) || any_reads_entry(more),

@@ -10,7 +10,7 @@ use Rattle.syntax.specs.declared.declaration.DeclaredType.TheVariants as type
 use Rattle.apply_options.specs.declared.setting.Setting.{Setting}
 use Rattle.apply_options.specs.declared.setting.Setting.TheVariants as setting
 use Rattle.syntax.specs.SourceTrees.{ActionTree, InitialTree, Apply, NewSet, Load, Vertices, OutDegrees, Filter, ApplyModified}
-use Rattle.syntax.specs.SourceReading.{in_braces, in_parentheses, after_terminal, after_terminals, closed, name_at, number_at, argument_at, method_at, ends_at}
+use Rattle.syntax.specs.SourceReading.{in_braces, in_parentheses, after_terminal, after_terminals, closed, name_at, number_at, argument_at, method_at, ends_at, edge_ends, edgeset_at}
 
 -- the type that begins with a keyword
 abbrev pub begun_type : Keyword → Option DeclaredType
@@ -22,16 +22,15 @@ begun_type keyword.Vector = Some type.Vector
 begun_type keyword.EdgeSet = Some type.EdgeSet
 begun_type _ = None
 
--- the terminals of a type behind its first
-abbrev pub terminals_behind : DeclaredType → List Terminal
-terminals_behind type.Int = []
-terminals_behind type.Bool = []
-terminals_behind type.Vertex = []
-terminals_behind type.VertexSet = in_braces (OfKeyword keyword.Vertex)
-terminals_behind type.Vector = in_braces (OfKeyword keyword.Vertex) ++ in_parentheses (OfKeyword keyword.Int ∷ [])
-terminals_behind type.EdgeSet =
-    in_braces (OfKeyword keyword.Edge)
-    ++ in_parentheses (OfKeyword keyword.Vertex ∷ OfSymbol symbol.Comma ∷ OfKeyword keyword.Vertex ∷ [])
+-- the type that has begun so; what ends the type of an edgeset says whether its edges have weights
+abbrev pub type_behind : DeclaredType → Reader DeclaredType
+type_behind type.Int ws = Some (type.Int, ws)
+type_behind type.Bool ws = Some (type.Bool, ws)
+type_behind type.Vertex ws = Some (type.Vertex, ws)
+type_behind type.VertexSet ws = closed (in_braces (OfKeyword keyword.Vertex)) (type.VertexSet, ws)
+type_behind type.Vector ws = closed (in_braces (OfKeyword keyword.Vertex) ++ in_parentheses (OfKeyword keyword.Int ∷ [])) (type.Vector, ws)
+type_behind type.EdgeSet ws = after_terminals edge_ends ws >>= edgeset_at
+type_behind type.WeightedEdgeSet ws = after_terminals edge_ends ws >>= edgeset_at
 
 -- whether the method is one of an initial value that is no expression, or begins one of its ends
 abbrev pub is_called : Option Keyword → Bool

@@ -1,9 +1,9 @@
 //! Types, and names with their types.
 ghost use Rattle.std.specs.Prelude.{◌≡◌, ◌<◌, ◌≤◌, ℕ, length, IfOk};
-ghost use Rattle.parser.specs.Readers.{terminals, Gives, Passes};
-ghost use Rattle.syntax.specs.SourceReading.{after_terminals, type_at, typed_at};
+ghost use Rattle.parser.specs.Readers.{terminals, Gives};
+ghost use Rattle.syntax.specs.SourceReading.{edgeset_at, type_at, typed_at};
 ghost use Rattle.syntax.specs.SourceViews.{parameter_tree};
-ghost use Rattle.parser.specs.Fronts.{begun_type, terminals_behind};
+ghost use Rattle.parser.specs.Fronts.{begun_type, type_behind};
 
 use crate::cursor::Cursor;
 use crate::syntax_error::SyntaxError;
@@ -28,8 +28,8 @@ static OF_VERTICES_AND_NUMBERS: [TokenKind; 6] = [
     TokenKind::Symbol(Symbol::CloseParenthesis),
 ];
 
-/// `{Edge}(Vertex, Vertex)`
-static OF_EDGES_AND_VERTICES: [TokenKind; 8] = [
+/// `{Edge}(Vertex, Vertex`
+static OF_EDGES_AND_VERTICES: [TokenKind; 7] = [
     TokenKind::Symbol(Symbol::OpenBrace),
     TokenKind::Keyword(Keyword::Edge),
     TokenKind::Symbol(Symbol::CloseBrace),
@@ -37,6 +37,11 @@ static OF_EDGES_AND_VERTICES: [TokenKind; 8] = [
     TokenKind::Keyword(Keyword::Vertex),
     TokenKind::Symbol(Symbol::Comma),
     TokenKind::Keyword(Keyword::Vertex),
+];
+
+/// `int)`
+static OF_WEIGHTS: [TokenKind; 2] = [
+    TokenKind::Keyword(Keyword::Int),
     TokenKind::Symbol(Symbol::CloseParenthesis),
 ];
 
@@ -68,8 +73,7 @@ fn declared_type(cursor: Cursor<'_>) -> Result<(DeclaredType, Cursor<'_>), Synta
     let Some(declared) = type_begun_by(keyword) else {
         return Err(cursor.unexpected());
     };
-    let behind = rest_of_type(declared, after)?;
-    Ok((declared, behind))
+    rest_of_type(declared, after)
 }
 
 /// The type that begins with a keyword.
@@ -87,15 +91,45 @@ fn type_begun_by(keyword: Keyword) -> Option<DeclaredType>
     }
 }
 
-/// The place behind what stands in a type behind its first keyword.
-fn rest_of_type(declared: DeclaredType, cursor: Cursor<'_>) -> Result<Cursor<'_>, SyntaxError>
-    ensures passes { Passes result (after_terminals (terminals_behind declared) (terminals cursor.entry)) }
-    ensures shorter { IfOk result (λ after. length (terminals after) ≤ length (terminals cursor.entry)) }
+/// The type that has begun so, behind its first keyword, and the place behind it.
+fn rest_of_type(
+    declared: DeclaredType,
+    cursor: Cursor<'_>,
+) -> Result<(DeclaredType, Cursor<'_>), SyntaxError>
+    ensures reads { Gives (λ t. t) result (type_behind declared (terminals cursor.entry)) }
+    ensures shorter { IfOk result (λ x. length (terminals x.1) ≤ length (terminals cursor.entry)) }
 {
     match declared {
-        DeclaredType::Int | DeclaredType::Bool | DeclaredType::Vertex => Ok(cursor),
-        DeclaredType::VertexSet => cursor.expect_all(&OF_VERTICES),
-        DeclaredType::Vector => cursor.expect_all(&OF_VERTICES_AND_NUMBERS),
-        DeclaredType::EdgeSet => cursor.expect_all(&OF_EDGES_AND_VERTICES),
+        DeclaredType::Int | DeclaredType::Bool | DeclaredType::Vertex => Ok((declared, cursor)),
+        DeclaredType::VertexSet => {
+            let behind = cursor.expect_all(&OF_VERTICES)?;
+            Ok((declared, behind))
+        }
+        DeclaredType::Vector => {
+            let behind = cursor.expect_all(&OF_VERTICES_AND_NUMBERS)?;
+            Ok((declared, behind))
+        }
+        DeclaredType::EdgeSet | DeclaredType::WeightedEdgeSet => {
+            let behind = cursor.expect_all(&OF_EDGES_AND_VERTICES)?;
+            edgeset(behind)
+        }
+    }
+}
+
+/// The type of an edgeset behind its second `Vertex`, and the place behind it: `)`, or `, int)` where its
+/// edges have weights.
+fn edgeset(cursor: Cursor<'_>) -> Result<(DeclaredType, Cursor<'_>), SyntaxError>
+    ensures reads { Gives (λ t. t) result (edgeset_at (terminals cursor.entry)) }
+    ensures shorter { IfOk result (λ x. length (terminals x.1) ≤ length (terminals cursor.entry)) }
+{
+    match cursor.after_symbol(Symbol::Comma) {
+        Some(after) => {
+            let behind = after.expect_all(&OF_WEIGHTS)?;
+            Ok((DeclaredType::WeightedEdgeSet, behind))
+        }
+        None => {
+            let behind = cursor.expect_symbol(Symbol::CloseParenthesis)?;
+            Ok((DeclaredType::EdgeSet, behind))
+        }
     }
 }

@@ -57,6 +57,7 @@ module _ (p : ProgramTree) where
   integer_constant v same (integer.Constant name n) is = tt
   integer_constant v same (integer.Variable slot) is = tt
   integer_constant v same (integer.Parameter at) is = tt
+  integer_constant v same integer.Weight is = tt
   integer_constant v same (integer.EntryAt vector at) is = tt
   integer_constant v same (integer.Entry vector index) is = integer_constant v same index is.2
   integer_constant v same (integer.SetSize slot) is = (subst (λ sets. slot.place < length sets) same (slice_get_within v.sets slot.place slot.name is.0), tt)
@@ -109,6 +110,7 @@ module _ (p : ProgramTree) where
   integer_local v none (integer.Constant name n) is = refl
   integer_local v none (integer.Variable slot) is = refl
   integer_local v none (integer.Parameter at) is = refl
+  integer_local v none integer.Weight is = refl
   integer_local v none (integer.EntryAt vector at) is = refl
   integer_local v none (integer.Entry vector index) is = let some : v.indexes ≡ true = is.0 in cc
   integer_local v none (integer.SetSize slot) is = refl

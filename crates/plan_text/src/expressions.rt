@@ -30,6 +30,7 @@ pub(crate) fn put_integer(
         IntExpression::Constant(name, _) => put_word(out, lines.name(*name)),
         IntExpression::Variable(slot) => put_word(out, lines.name(slot.name)),
         IntExpression::Parameter(_) => put_word(out, b"vertex"),
+        IntExpression::Weight => put_word(out, b"weight"),
         IntExpression::EntryAt(vector, _) => put_entry(out, lines, *vector),
         IntExpression::Entry(vector, index) => {
             put_integer(out, lines, index)?;

@@ -48,6 +48,7 @@ module _ (vectors places : List ℕ) (a b : List SetBinding) (sets_agree : SetsA
   value_beside v w h (integer.Constant name n) reads sizes = refl
   value_beside v w h (integer.Variable slot) reads sizes = ap (λ (s : ScopeValue). slice_index_or s.integers slot.place (pos 0)) h.scope
   value_beside v w h (integer.Parameter at) reads sizes = ap (λ (s : ScopeValue). pos (vertex_at s at)) h.scope
+  value_beside v w h integer.Weight reads sizes = refl
   value_beside v w h (integer.EntryAt vector at) reads sizes =
       let own = and_parts (is_none_of vector vectors) true reads in
       let row = h.rows vector own.0 in

@@ -5,6 +5,7 @@ ghost use Rattle.lexer.specs.declared.symbol.Symbol.TheVariants as symbol;
 ghost use Rattle.syntax.specs.Terminals.{OfSymbol, Name as terminal_name, OfKeyword};
 ghost use Rattle.syntax.specs.SourceTrees.{ApplyModified, Filter, Load, NewSet};
 ghost use Rattle.syntax.specs.SourceSpelling.{argument_terminals, assigned_before, end_terminals, ends_before, ended_before, initial_before, type_terminals, typed_before};
+ghost use Rattle.syntax.specs.SourceReading.{edge_ends};
 ghost use Rattle.syntax.specs.SourceViews.{ends_tree, initial_tree, parameter_tree};
 ghost use Rattle.source_text.specs.Written.{Puts};
 
@@ -43,21 +44,34 @@ fn put_type(out: &mut Vec<u8>, declared: DeclaredType) -> Result<(), AllocError>
             put_symbol(out, Symbol::CloseParenthesis)
         }
         DeclaredType::EdgeSet => {
-            put_keyword(out, Keyword::EdgeSet)?;
-            put_in_braces(out, Keyword::Edge)?;
-            put_vertex_pair(out)
+            put_edge_ends(out)?;
+            put_symbol(out, Symbol::CloseParenthesis)
+        }
+        DeclaredType::WeightedEdgeSet => {
+            put_edge_ends(out)?;
+            put_weight(out)
         }
     }
 }
 
-/// Puts `(Vertex, Vertex)` down.
-fn put_vertex_pair(out: &mut Vec<u8>) -> Result<(), AllocError>
-    ensures { OnOk result (Puts (λ rest. OfSymbol symbol.OpenParenthesis ∷ OfKeyword keyword_terminal.Vertex ∷ OfSymbol symbol.Comma ∷ OfKeyword keyword_terminal.Vertex ∷ OfSymbol symbol.CloseParenthesis ∷ rest) out.old.items out.new.items) }
+/// Puts `edgeset{Edge}(Vertex, Vertex` down.
+fn put_edge_ends(out: &mut Vec<u8>) -> Result<(), AllocError>
+    ensures { OnOk result (Puts (λ rest. OfKeyword keyword_terminal.EdgeSet ∷ (edge_ends ++ rest)) out.old.items out.new.items) }
 {
+    put_keyword(out, Keyword::EdgeSet)?;
+    put_in_braces(out, Keyword::Edge)?;
     put_symbol(out, Symbol::OpenParenthesis)?;
     put_keyword(out, Keyword::Vertex)?;
     put_symbol(out, Symbol::Comma)?;
-    put_keyword(out, Keyword::Vertex)?;
+    put_keyword(out, Keyword::Vertex)
+}
+
+/// Puts `, int)` down.
+fn put_weight(out: &mut Vec<u8>) -> Result<(), AllocError>
+    ensures { OnOk result (Puts (λ rest. OfSymbol symbol.Comma ∷ OfKeyword keyword_terminal.Int ∷ OfSymbol symbol.CloseParenthesis ∷ rest) out.old.items out.new.items) }
+{
+    put_symbol(out, Symbol::Comma)?;
+    put_keyword(out, Keyword::Int)?;
     put_symbol(out, Symbol::CloseParenthesis)
 }
 

@@ -33,6 +33,7 @@ type_within type.Vertex n rest within = within.1
 type_within type.VertexSet n rest within = within.1.1.1.1
 type_within type.Vector n rest within = within.1.1.1.1.1.1.1
 type_within type.EdgeSet n rest within = within.1.1.1.1.1.1.1.1.1
+type_within type.WeightedEdgeSet n rest within = within.1.1.1.1.1.1.1.1.1.1.1
 
 typed_within : (p : ParameterTree) (n : ℕ) (rest : List Terminal) → Within n (typed_before p rest) → Within n rest
 typed_within p n rest within = type_within p.declared n rest within.1.1

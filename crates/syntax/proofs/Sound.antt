@@ -4,11 +4,12 @@ use Rattle.lexer.specs.declared.keyword.Keyword.TheVariants as keyword
 use Rattle.lexer.specs.declared.symbol.Symbol.TheVariants as symbol
 use Rattle.syntax.specs.Terminals.{Terminal, Name, Number, Text, Opening, OfKeyword, OfSymbol}
 use Rattle.syntax.specs.ExpressionReading.{Reader, links_by, linked, behind_by}
+use Rattle.syntax.specs.declared.declaration.DeclaredType.{DeclaredType}
 use Rattle.syntax.specs.declared.declaration.DeclaredType.TheVariants as type
 use Rattle.apply_options.specs.declared.setting.Setting.TheVariants as setting
 use Rattle.syntax.specs.SourceTrees.{ParameterTree, CallTree, ChainTree}
 use Rattle.syntax.specs.SourceSpelling.{type_terminals, typed_before, each_before, next_parameter_before, next_text_before, call_before, next_call_before, chain_before, parameters_before, result_before, setting_keyword}
-use Rattle.syntax.specs.SourceReading.{name_at, number_at, text_at, type_at, typed_at, each_at, next_parameter, parameters_at, parameters_by, result_by, next_text, call_at, next_call, chain_at, next_chain, closed, setting_at, after_terminal, after_terminals, in_braces, in_parentheses}
+use Rattle.syntax.specs.SourceReading.{name_at, number_at, text_at, edge_ends, edgeset_at, edgeset_by, type_at, typed_at, each_at, next_parameter, parameters_at, parameters_by, result_by, next_text, call_at, next_call, chain_at, next_chain, closed, setting_at, after_terminal, after_terminals, in_braces, in_parentheses}
 use Rattle.syntax.proofs.TerminalLaws.{bind_some, after_terminal-sound, after_terminals-sound}
 
 -- the reader gives a tree only where its terminals stand
@@ -50,6 +51,19 @@ pub text_sound : IsSound text_at (λ t rest. Text t ∷ rest)
 text_sound (Text t ∷ ws) x rest is = same_before (λ t rest. Text t ∷ rest) t x ws rest is
 text_sound _ x rest is = cc is
 
+-- what begins an edgeset's type, with what stands behind it
+abbrev edges_front : List Terminal → List Terminal
+edges_front rest = OfKeyword keyword.EdgeSet ∷ (edge_ends ++ rest)
+
+edgeset_sound : (ws : List Terminal) (found : Option (List Terminal)) → after_terminal (OfSymbol symbol.Comma) ws ≡ found → (t : DeclaredType) (rest : List Terminal)
+    → edgeset_by ws found ≡ Some (t, rest) → edges_front ws ≡ type_terminals t ++ rest
+edgeset_sound ws None there t rest is =
+    closed-sound (λ t r. type_terminals t ++ r) edges_front (OfSymbol symbol.CloseParenthesis ∷ []) type.EdgeSet t ws rest (λ r. refl) is
+edgeset_sound ws (Some after) there t rest is =
+    ap edges_front (after_terminal-sound (OfSymbol symbol.Comma) ws after there)
+    ∙ closed-sound (λ t r. type_terminals t ++ r) (λ r. edges_front (OfSymbol symbol.Comma ∷ r)) (OfKeyword keyword.Int ∷ OfSymbol symbol.CloseParenthesis ∷ [])
+    type.WeightedEdgeSet t after rest (λ r. refl) is
+
 type_sound : IsSound type_at (λ t rest. type_terminals t ++ rest)
 type_sound (OfKeyword keyword.Int ∷ ws) t rest is = same_before (λ t r. type_terminals t ++ r) type.Int t ws rest is
 type_sound (OfKeyword keyword.Bool ∷ ws) t rest is = same_before (λ t r. type_terminals t ++ r) type.Bool t ws rest is
@@ -59,8 +73,8 @@ type_sound (OfKeyword keyword.VertexSet ∷ ws) t rest is =
 type_sound (OfKeyword keyword.Vector ∷ ws) t rest is =
     closed-sound (λ t r. type_terminals t ++ r) (λ r. OfKeyword keyword.Vector ∷ r) (in_braces (OfKeyword keyword.Vertex) ++ in_parentheses (OfKeyword keyword.Int ∷ [])) type.Vector t ws rest (λ r. refl) is
 type_sound (OfKeyword keyword.EdgeSet ∷ ws) t rest is =
-    closed-sound (λ t r. type_terminals t ++ r) (λ r. OfKeyword keyword.EdgeSet ∷ r)
-    (in_braces (OfKeyword keyword.Edge) ++ in_parentheses (OfKeyword keyword.Vertex ∷ OfSymbol symbol.Comma ∷ OfKeyword keyword.Vertex ∷ [])) type.EdgeSet t ws rest (λ r. refl) is
+    let b = bind_some (after_terminals edge_ends ws) edgeset_at (t, rest) is in
+    ap (λ r. OfKeyword keyword.EdgeSet ∷ r) (after_terminals-sound edge_ends ws b.0 b.1) ∙ edgeset_sound b.0 (after_terminal (OfSymbol symbol.Comma) b.0) refl t rest b.2
 type_sound _ t rest is = cc is
 
 pub typed_sound : IsSound typed_at typed_before

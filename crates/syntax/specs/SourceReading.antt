@@ -61,6 +61,18 @@ text_at _ = None
 unfoldable pub expression : Reader ExpressionTree
 expression = expression_at limit
 
+-- what begins the type of an edgeset behind its first terminal: `{Edge}(Vertex, Vertex`
+abbrev pub edge_ends : List Terminal
+edge_ends = in_braces (OfKeyword keyword.Edge) ++ OfSymbol symbol.OpenParenthesis ∷ OfKeyword keyword.Vertex ∷ OfSymbol symbol.Comma ∷ OfKeyword keyword.Vertex ∷ []
+
+-- what ends it: `)`, or `, int)` where its edges have weights
+abbrev pub edgeset_by : List Terminal → Option (List Terminal) → Option (DeclaredType × List Terminal)
+edgeset_by ws None = closed (OfSymbol symbol.CloseParenthesis ∷ []) (type.EdgeSet, ws)
+edgeset_by ws (Some after) = closed (OfKeyword keyword.Int ∷ OfSymbol symbol.CloseParenthesis ∷ []) (type.WeightedEdgeSet, after)
+
+abbrev pub edgeset_at : Reader DeclaredType
+edgeset_at ws = edgeset_by ws (after_terminal (OfSymbol symbol.Comma) ws)
+
 abbrev pub type_at : Reader DeclaredType
 type_at (OfKeyword keyword.Int ∷ rest) = Some (type.Int, rest)
 type_at (OfKeyword keyword.Bool ∷ rest) = Some (type.Bool, rest)
@@ -68,9 +80,7 @@ type_at (OfKeyword keyword.Vertex ∷ rest) = Some (type.Vertex, rest)
 type_at (OfKeyword keyword.VertexSet ∷ rest) = closed (in_braces (OfKeyword keyword.Vertex)) (type.VertexSet, rest)
 type_at (OfKeyword keyword.Vector ∷ rest) =
     closed (in_braces (OfKeyword keyword.Vertex) ++ in_parentheses (OfKeyword keyword.Int ∷ [])) (type.Vector, rest)
-type_at (OfKeyword keyword.EdgeSet ∷ rest) =
-    closed (in_braces (OfKeyword keyword.Edge)
-    ++ in_parentheses (OfKeyword keyword.Vertex ∷ OfSymbol symbol.Comma ∷ OfKeyword keyword.Vertex ∷ [])) (type.EdgeSet, rest)
+type_at (OfKeyword keyword.EdgeSet ∷ rest) = after_terminals edge_ends rest >>= edgeset_at
 type_at _ = None
 
 -- a name and its type

@@ -32,6 +32,10 @@ type_terminals type.Vector =
 type_terminals type.EdgeSet =
     OfKeyword keyword.EdgeSet ∷ OfSymbol symbol.OpenBrace ∷ OfKeyword keyword.Edge ∷ OfSymbol symbol.CloseBrace
     ∷ OfSymbol symbol.OpenParenthesis ∷ OfKeyword keyword.Vertex ∷ OfSymbol symbol.Comma ∷ OfKeyword keyword.Vertex ∷ OfSymbol symbol.CloseParenthesis ∷ []
+type_terminals type.WeightedEdgeSet =
+    OfKeyword keyword.EdgeSet ∷ OfSymbol symbol.OpenBrace ∷ OfKeyword keyword.Edge ∷ OfSymbol symbol.CloseBrace
+    ∷ OfSymbol symbol.OpenParenthesis ∷ OfKeyword keyword.Vertex ∷ OfSymbol symbol.Comma ∷ OfKeyword keyword.Vertex
+    ∷ OfSymbol symbol.Comma ∷ OfKeyword keyword.Int ∷ OfSymbol symbol.CloseParenthesis ∷ []
 
 -- red = "min=" | "max=" | "+="
 abbrev pub reduction_terminal : Reduction → Terminal

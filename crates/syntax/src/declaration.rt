@@ -20,6 +20,8 @@ pub enum DeclaredType {
     Vector,
     /// `edgeset{Edge}(Vertex, Vertex)`
     EdgeSet,
+    /// `edgeset{Edge}(Vertex, Vertex, int)`
+    WeightedEdgeSet,
 }
 
 /// A name and its type: a parameter of a function or its result, or what is declared.

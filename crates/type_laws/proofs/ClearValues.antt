@@ -163,6 +163,7 @@ entity_clear At name (entity.ConditionVariable slot) known = tt
 entity_clear At name (entity.SetVariable slot) known = tt
 entity_clear At name (entity.LoopVariable slot) known = tt
 entity_clear At name (entity.Parameter p) known = tt
+entity_clear At name entity.Weight known = tt
 entity_clear At name _ known = tt
 
 pub named_clear : (At : Vertices) (at : ℕ) (name : List ℕ) (e : Entity) → EntityIsKnown At name e → (given at rule.WrongType (named_value e)).faults ≡ []

@@ -6,7 +6,7 @@ use Rattle.std.proofs.lemmas.Slice.Eq.{bytes_eq-Decides}
 use Rattle.syntax.specs.Terminals.{Identifier}
 use Rattle.syntax.specs.SourceTrees as source
 use Rattle.syntax.specs.SourceTrees.{ParameterTree, DeclarationTree}
-use Rattle.types.specs.Declaration.{DeclaredTree, FunctionKindTree, MainKind, EdgeKind, VertexKind, FilterKind, NoKind, declaration_typed, declarations_typed, declare_function, is_bool, is_vertex, kind_of, main_bytes, main_declared, steps_declared, takes_nothing}
+use Rattle.types.specs.Declaration.{DeclaredTree, FunctionKindTree, MainKind, EdgeKind, VertexKind, FilterKind, NoKind, declaration_typed, declarations_typed, declare_function, is_bool, is_vertex, kind_of, main_bytes, main_declared, steps_declared, takes_nothing, is_int}
 use Rattle.type_laws.proofs.Faultless.{no_left, no_right}
 
 -- what holds of each declaration, where something is known before it and after it
@@ -23,7 +23,7 @@ each_declaration Known P one d (x ∷ others) known none =
 -- a function of a user
 abbrev pub IsUserKind : FunctionKindTree → Type 0
 IsUserKind (MainKind fits) = ⊥
-IsUserKind EdgeKind = Unit {0}
+IsUserKind (EdgeKind weighted) = Unit {0}
 IsUserKind VertexKind = Unit {0}
 IsUserKind FilterKind = Unit {0}
 IsUserKind NoKind = Unit {0}
@@ -36,9 +36,11 @@ pub user_kind : (parameters : List ParameterTree) (result : Option ParameterTree
 user_kind [] result = tt
 user_kind (v ∷ []) None = if_user (is_vertex v.declared) VertexKind tt
 user_kind (v ∷ []) (Some result) = if_user (is_vertex v.declared && is_bool result.declared) FilterKind tt
-user_kind (src ∷ dst ∷ []) None = if_user (is_vertex src.declared && is_vertex dst.declared) EdgeKind tt
+user_kind (src ∷ dst ∷ []) None = if_user (is_vertex src.declared && is_vertex dst.declared) (EdgeKind false) tt
 user_kind (src ∷ dst ∷ []) (Some result) = tt
-user_kind (a ∷ b ∷ c ∷ others) result = tt
+user_kind (src ∷ dst ∷ w ∷ []) None = if_user (is_vertex src.declared && is_vertex dst.declared && is_int w.declared) (EdgeKind true) tt
+user_kind (src ∷ dst ∷ w ∷ []) (Some result) = tt
+user_kind (a ∷ b ∷ c ∷ d ∷ others) result = tt
 
 is_not_main : (name : List ℕ) (b : Bool) → bytes_eq name main_bytes ≡ b → name ≢ main_bytes → b ≡ false
 is_not_main name true test other = absurd (other ((bytes_eq-Decides name main_bytes).0 test))
@@ -47,7 +49,7 @@ is_not_main name false test other = λ i. false
 user_steps : (d : DeclaredTree) (at : ℕ) (name : Identifier) (parameters : List ParameterTree) (result : Option ParameterTree) (body : source.BlockTree) (kind : FunctionKindTree) → IsUserKind kind
     → (declare_function d at name parameters result body kind).faults ≡ [] → (steps_declared d at kind name parameters result body).faults ≡ []
 user_steps d at name parameters result body (MainKind fits) user none = absurd user
-user_steps d at name parameters result body EdgeKind user none = none
+user_steps d at name parameters result body (EdgeKind weighted) user none = none
 user_steps d at name parameters result body VertexKind user none = none
 user_steps d at name parameters result body FilterKind user none = none
 user_steps d at name parameters result body NoKind user none = none

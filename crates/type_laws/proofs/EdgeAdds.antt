@@ -102,6 +102,7 @@ declare_adds c at name initializer declared.Vertex = refl
 declare_adds c at name initializer declared.VertexSet = refl
 declare_adds c at name initializer declared.Vector = refl
 declare_adds c at name initializer declared.EdgeSet = refl
+declare_adds c at name initializer declared.WeightedEdgeSet = refl
 
 same_adds : (old new : Writes) (vectors : List ℕ) → new ≡ old → Adds old new vectors
 same_adds old new vectors same vector is = inl (subst (λ writes. is_written writes vector ≡ true) same is)

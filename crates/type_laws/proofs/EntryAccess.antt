@@ -1,5 +1,5 @@
 -- In a source without a fault functions of users read and write vectors at their own vertices, and no index of main has an entry in it.
-use Rattle.std.proofs.Common.{◌≡◌, refl, sym, subst, ap, arith, ℕ, suc, Bool, true, false, ◌&&◌, if◌then◌else◌, List, [], ◌∷◌, ◌++◌, Option, Some, None}
+use Rattle.std.proofs.Common.{◌≡◌, refl, sym, subst, ap, arith, ℕ, suc, Bool, true, false, ◌&&◌, if◌then◌else◌, List, [], ◌∷◌, ◌++◌, Option, Some, None, inl, inr}
 use Rattle.std.specs.List.{AllByRecursion, Contains}
 use Rattle.syntax.specs.Terminals.{Identifier}
 use Rattle.syntax.specs.ExpressionTrees.{ExpressionTree}
@@ -21,7 +21,7 @@ use Rattle.expression_types.specs.ScopeTree.{ScopeTree}
 use Rattle.expression_types.specs.ValueTree.{ValueTree, Integer, Condition, Vertex, Set, ErrorValue, condition_reads_entry, reads_entry}
 use Rattle.types.specs.Block.{action_typed, behind, closed, statements_typed}
 use Rattle.types.specs.Checker.{CheckerTree, counted, declared_in, integer_slot, labelled, restarted}
-use Rattle.types.specs.Declaration.{DeclaredTree, FunctionKindTree, MainKind, EdgeKind, VertexKind, FilterKind, NoKind, declaration_typed, declarations_typed, inside_of, is_bool, is_vertex, kind_fits, kind_of, main_declared, opened, steps_declared, takes_nothing}
+use Rattle.types.specs.Declaration.{DeclaredTree, FunctionKindTree, MainKind, EdgeKind, VertexKind, FilterKind, NoKind, declaration_typed, declarations_typed, inside_of, is_bool, is_vertex, kind_fits, kind_of, main_declared, opened, steps_declared, takes_nothing, is_int, takes_weight}
 use Rattle.type_laws.specs.EntryAccess.{AccessesEntriesWell, AccessesOwnVertices, ActionAccesses, BlockAccesses, ExpressionReadsAt, HasNoEntry, InitialReadsAt, IsNameAmong}
 use Rattle.types.specs.Initial.{initializer_of}
 use Rattle.types.specs.Program.{opening, program_of, set_count}
@@ -345,7 +345,7 @@ edge_body src dst = user_body (named src dst) inside.EdgeFunction (src ∷ dst �
 
 -- functions
 steps_declared_access : {At : Vertices} {Read Write : ExpressionTree → Type 0} (d : DeclaredTree) (at : ℕ) (kind : FunctionKindTree) (name : Identifier) (parameters : List ParameterTree)
-    (result : Option ParameterTree) (body : source.BlockTree) → Body At (inside_of kind) Read Write → ParametersFit At endpoint.Source parameters → ResultFits kind result → AllKnown d
+    (result : Option ParameterTree) (body : source.BlockTree) → Body At (inside_of kind) Read Write → ParametersFit (takes_weight kind) At endpoint.Source parameters → ResultFits kind result → AllKnown d
     → (steps_declared d at kind name parameters result body).faults ≡ [] → BlockAccesses Read Write body
 steps_declared_access {At = At} d at kind name parameters result body may fit fits known none =
     let c = opened d.checker kind parameters result in
@@ -357,22 +357,32 @@ steps_declared_access {At = At} d at kind name parameters result body may fit fi
 vertex_function_accesses : (d : DeclaredTree) (at : ℕ) (name : Identifier) (v : ParameterTree) (body : source.BlockTree) (b : Bool) → is_vertex v.declared ≡ b → AllKnown d
     → (steps_declared d at (if b then VertexKind else NoKind) name (v ∷ []) None body).faults ≡ [] → AccessesOwnVertices (v ∷ []) body
 vertex_function_accesses d at name v body true is known none =
-    steps_declared_access d at VertexKind name (v ∷ []) None body (vertex_body inside.VertexFunction v.name.bytes tt) (is, refl, tt) tt known none
+    steps_declared_access d at VertexKind name (v ∷ []) None body (vertex_body inside.VertexFunction v.name.bytes tt) (inl (is, refl), tt) tt known none
 vertex_function_accesses d at name v body false is known none = absurd (not_empty _ _ none)
 
 filter_accesses : (d : DeclaredTree) (at : ℕ) (name : Identifier) (v result : ParameterTree) (body : source.BlockTree) (b : Bool) → (is_vertex v.declared && is_bool result.declared) ≡ b
     → AllKnown d → (steps_declared d at (if b then FilterKind else NoKind) name (v ∷ []) (Some result) body).faults ≡ [] → AccessesOwnVertices (v ∷ []) body
 filter_accesses d at name v result body true is known none =
     let vertex = (both_true (is_vertex v.declared) (is_bool result.declared) is).0 in
-    steps_declared_access d at FilterKind name (v ∷ []) (Some result) body (vertex_body inside.Filter v.name.bytes tt) (vertex, refl, tt) tt known none
+    steps_declared_access d at FilterKind name (v ∷ []) (Some result) body (vertex_body inside.Filter v.name.bytes tt) (inl (vertex, refl), tt) tt known none
 filter_accesses d at name v result body false is known none = absurd (not_empty _ _ none)
 
 edge_function_accesses : (d : DeclaredTree) (at : ℕ) (name : Identifier) (src dst : ParameterTree) (body : source.BlockTree) (b : Bool) → (is_vertex src.declared && is_vertex dst.declared) ≡ b
-    → AllKnown d → (steps_declared d at (if b then EdgeKind else NoKind) name (src ∷ dst ∷ []) None body).faults ≡ [] → AccessesOwnVertices (src ∷ dst ∷ []) body
+    → AllKnown d → (steps_declared d at (if b then EdgeKind false else NoKind) name (src ∷ dst ∷ []) None body).faults ≡ [] → AccessesOwnVertices (src ∷ dst ∷ []) body
 edge_function_accesses d at name src dst body true is known none =
     let vertices = both_true (is_vertex src.declared) (is_vertex dst.declared) is in
-    steps_declared_access d at EdgeKind name (src ∷ dst ∷ []) None body (edge_body src.name.bytes dst.name.bytes) (vertices.0, refl, (vertices.1, refl, tt)) tt known none
+    steps_declared_access d at (EdgeKind false) name (src ∷ dst ∷ []) None body (edge_body src.name.bytes dst.name.bytes) (inl (vertices.0, refl), (inl (vertices.1, refl), tt)) tt known none
 edge_function_accesses d at name src dst body false is known none = absurd (not_empty _ _ none)
+
+weighted_function_accesses : (d : DeclaredTree) (at : ℕ) (name : Identifier) (src dst w : ParameterTree) (body : source.BlockTree) (b : Bool)
+    → (is_vertex src.declared && is_vertex dst.declared && is_int w.declared) ≡ b
+    → AllKnown d → (steps_declared d at (if b then EdgeKind true else NoKind) name (src ∷ dst ∷ w ∷ []) None body).faults ≡ [] → AccessesOwnVertices (src ∷ dst ∷ w ∷ []) body
+weighted_function_accesses d at name src dst w body true is known none =
+    let types = both_true (is_vertex src.declared && is_vertex dst.declared) (is_int w.declared) is in
+    let vertices = both_true (is_vertex src.declared) (is_vertex dst.declared) types.0 in
+    steps_declared_access d at (EdgeKind true) name (src ∷ dst ∷ w ∷ []) None body (edge_body src.name.bytes dst.name.bytes)
+    (inl (vertices.0, refl), (inl (vertices.1, refl), (inr (refl, types.1), tt))) tt known none
+weighted_function_accesses d at name src dst w body false is known none = absurd (not_empty _ _ none)
 
 user_function_accesses : (d : DeclaredTree) (at : ℕ) (name : Identifier) (parameters : List ParameterTree) (result : Option ParameterTree) (body : source.BlockTree) → AllKnown d
     → (steps_declared d at (kind_of parameters result) name parameters result body).faults ≡ [] → AccessesOwnVertices parameters body
@@ -383,7 +393,10 @@ user_function_accesses d at name (v ∷ []) (Some result) body known none =
 user_function_accesses d at name (src ∷ dst ∷ []) None body known none =
     edge_function_accesses d at name src dst body (is_vertex src.declared && is_vertex dst.declared) refl known none
 user_function_accesses d at name (src ∷ dst ∷ []) (Some result) body known none = absurd (not_empty _ _ none)
-user_function_accesses d at name (a ∷ b ∷ c ∷ others) result body known none = absurd (not_empty _ _ none)
+user_function_accesses d at name (src ∷ dst ∷ w ∷ []) None body known none =
+    weighted_function_accesses d at name src dst w body (is_vertex src.declared && is_vertex dst.declared && is_int w.declared) refl known none
+user_function_accesses d at name (src ∷ dst ∷ w ∷ []) (Some result) body known none = absurd (not_empty _ _ none)
+user_function_accesses d at name (x ∷ y ∷ z ∷ u ∷ others) result body known none = absurd (not_empty _ _ none)
 
 main_accesses : (d : DeclaredTree) (name : Identifier) (parameters : List ParameterTree) (result : Option ParameterTree) (body : source.BlockTree) → (parameters ≡ []) × (result ≡ None)
     → AllKnown d → (main_declared d (takes_nothing parameters result) name parameters result body).faults ≡ [] → BlockAccesses HasNoEntry HasNoEntry body

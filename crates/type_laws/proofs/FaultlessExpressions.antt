@@ -73,7 +73,7 @@ pub record Typed (m : WithFaults ValueTree) (Has : ExpressionType → Type 0) : 
 -- names
 named_typed : (at : ℕ) (e : Entity) → (e ≡ entity.Error → ⊥) → (given at rule.WrongType (named_value e)).faults ≡ []
     → Typed (given at rule.WrongType (named_value e)) (λ type. type_named (Some (meaning_of e)) ≡ Some type)
-named_typed at entity.Edges clear none = absurd (not_empty _ _ none)
+named_typed at (entity.Edges weights) clear none = absurd (not_empty _ _ none)
 named_typed at (entity.Vector place) clear none = absurd (not_empty _ _ none)
 named_typed at (entity.ConstantSet slot) clear none = record { type = Set; has = refl; is = tt }
 named_typed at (entity.IntegerConstant name n) clear none = record { type = Number; has = refl; is = tt }
@@ -83,7 +83,8 @@ named_typed at (entity.ConditionVariable slot) clear none = record { type = Trut
 named_typed at (entity.SetVariable slot) clear none = record { type = Set; has = refl; is = tt }
 named_typed at (entity.LoopVariable slot) clear none = record { type = Number; has = refl; is = tt }
 named_typed at (entity.Parameter p) clear none = record { type = Vertex p; has = refl; is = refl }
-named_typed at (entity.EdgeFunction place) clear none = absurd (not_empty _ _ none)
+named_typed at entity.Weight clear none = record { type = Number; has = refl; is = tt }
+named_typed at (entity.EdgeFunction place weighted) clear none = absurd (not_empty _ _ none)
 named_typed at (entity.VertexFunction place) clear none = absurd (not_empty _ _ none)
 named_typed at (entity.Filter place) clear none = absurd (not_empty _ _ none)
 named_typed at entity.Main clear none = absurd (not_empty _ _ none)
@@ -95,7 +96,7 @@ pub record VectorFound (m : WithFaults (Option ℕ)) (names : Meanings) (name : 
   pub place : m.value ≡ Some vector
 
 vector_typed : (at : ℕ) (names : Meanings) (name : Identifier) (e : Entity) → IsMeant names name e → (as_vector at e).faults ≡ [] → VectorFound (as_vector at e) names name
-vector_typed at names name entity.Edges m none = absurd (not_empty _ _ none)
+vector_typed at names name (entity.Edges weights) m none = absurd (not_empty _ _ none)
 vector_typed at names name (entity.Vector place) m none = record { vector = place; means = m.means; place = refl }
 vector_typed at names name (entity.ConstantSet slot) m none = absurd (not_empty _ _ none)
 vector_typed at names name (entity.IntegerConstant x n) m none = absurd (not_empty _ _ none)
@@ -105,7 +106,8 @@ vector_typed at names name (entity.ConditionVariable slot) m none = absurd (not_
 vector_typed at names name (entity.SetVariable slot) m none = absurd (not_empty _ _ none)
 vector_typed at names name (entity.LoopVariable slot) m none = absurd (not_empty _ _ none)
 vector_typed at names name (entity.Parameter p) m none = absurd (not_empty _ _ none)
-vector_typed at names name (entity.EdgeFunction place) m none = absurd (not_empty _ _ none)
+vector_typed at names name entity.Weight m none = absurd (not_empty _ _ none)
+vector_typed at names name (entity.EdgeFunction place weighted) m none = absurd (not_empty _ _ none)
 vector_typed at names name (entity.VertexFunction place) m none = absurd (not_empty _ _ none)
 vector_typed at names name (entity.Filter place) m none = absurd (not_empty _ _ none)
 vector_typed at names name entity.Main m none = absurd (not_empty _ _ none)

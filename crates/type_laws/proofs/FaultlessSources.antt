@@ -28,22 +28,23 @@ use Rattle.expression_types.specs.ValueTree.{ValueTree, is_error, named_set}
 use Rattle.expression_types.specs.WithFaults.{WithFaults, fault_at, sure}
 use Rattle.types.specs.Block.{statements_typed}
 use Rattle.types.specs.Checker.{CheckerTree, condition_slot, declared_in, restarted, with_scope}
-use Rattle.types.specs.Declaration.{DeclaredTree, EdgeKind, FilterKind, MainKind, NoKind, VertexKind, begins, declaration_typed, declarations_typed, declare_constant_as, declare_function, declare_name, has_all, is_bool, is_vertex, kind_of, literal_or_fault, loads, main_bytes, main_declared, next_name, only_edges, opened, parameter, steps_declared, takes_nothing, wanted}
+use Rattle.types.specs.Declaration.{DeclaredTree, EdgeKind, FilterKind, MainKind, NoKind, VertexKind, begins, declaration_typed, declarations_typed, declare_constant_as, declare_function, declare_name, has_all, is_bool, is_vertex, kind_of, literal_or_fault, loads, main_bytes, main_declared, next_name, only_edges, opened, parameter, steps_declared, takes_nothing, wanted, is_int}
 use Rattle.types.specs.Initial as initial_value
-use Rattle.types.specs.Initial.{ApplyEndTree, Degrees, ErrorInitializer, InitializerTree, Loaded, end_of, edge_function, ends_given, filter_function, filtered, filtered_by, initializer_of, is_all, is_degrees, is_edges, is_error_end, is_loaded, is_sound, is_wrong, loaded, modified, modified_by, names_error, new_set, of_edges, vector_of, writes_vector}
+use Rattle.types.specs.Initial.{ApplyEndTree, Degrees, ErrorInitializer, InitializerTree, Loaded, end_of, edge_function, ends_given, filter_function, filtered, filtered_by, initializer_of, is_all, is_degrees, is_edges, is_error_end, is_loaded, is_sound, is_wrong, loaded, modified, modified_by, names_error, new_set, of_edges, vector_of, writes_vector, lacks_weights}
 use Rattle.types.specs.Literal.{literal_condition, literal_integer}
 use Rattle.types.specs.Program.{main_of, opening, program_of, set_count}
 use Rattle.types.specs.Step.{steps_typed}
 use Rattle.type_laws.specs.ExpressionTypes.{ExpressionType, Number, Set, Truth, Vertex}
-use Rattle.type_laws.specs.KeptRules.{ConstantKeeps, DeclarationKeeps, Declarations, DeclarationsKeep, FunctionKeeps, KeepsRules, MainKeeps, behind_declaration, behind_function, behind_main, constant_meaning, known_at_vertex, known_in_filter, known_in_main, known_on_edge, nothing_declared}
+use Rattle.type_laws.specs.KeptRules.{ConstantKeeps, DeclarationKeeps, Declarations, DeclarationsKeep, FunctionKeeps, KeepsRules, MainKeeps, behind_declaration, behind_function, behind_main, constant_meaning, known_at_vertex, known_in_filter, known_in_main, known_on_edge, nothing_declared, known_on_weighted_edge, BlockKeeps}
 use Rattle.type_laws.specs.Meanings as meaning
 use Rattle.type_laws.specs.Meanings.{IsNew, Known, closed_known, known_after, with_name}
 use Rattle.type_laws.proofs.Booleans.{false_is_not_true}
 use Rattle.type_laws.proofs.Faultless.{no_left, no_right, not_empty}
 use Rattle.type_laws.proofs.MainFunction.{MainTakesNothing, mains_take_nothing}
 use Rattle.type_laws.proofs.TypedExpressions.{IsOf}
+use Rattle.type_laws.proofs.KnownDeclarations.{int_type}
 use Rattle.type_laws.proofs.KeptDeclarations.{Agrees, CheckerAgrees, as_matches}
-use Rattle.type_laws.proofs.KeptSources.{begun, begun_matches, declaration_kept, edge_opens, filter_opens, left_agrees, parameter_opens, vertex_opens}
+use Rattle.type_laws.proofs.KeptSources.{begun, begun_matches, declaration_kept, edge_opens, filter_opens, left_agrees, parameter_opens, vertex_opens, Opens, weighted_edge_opens}
 use Rattle.type_laws.proofs.KeptStatements.{statements_kept}
 use Rattle.type_laws.proofs.KeptSteps.{steps_kept}
 use Rattle.type_laws.proofs.FaultlessStatements as means_something
@@ -125,10 +126,10 @@ modified_by_plain c at ends (Some function) (Some vector) =
 
 modified_plain : (c : CheckerTree) (at : ℕ) (e : Entity) (a b : ApplyEndTree) (f v : Entity) → Plain (modified c at e a b f v).value
 modified_plain c at e a b f v =
-    let inner = if is_wrong a || is_wrong b then fault_at at rule.WrongType ErrorInitializer else modified_by c at (ends_given a b) (edge_function f) (vector_of v) in
+    let inner = if is_wrong a || is_wrong b || lacks_weights e f then fault_at at rule.WrongType ErrorInitializer else modified_by c at (ends_given a b) (edge_function f) (vector_of v) in
     if_plain (names_error e || is_error_end a || is_error_end b || names_error f || names_error v) (sure ErrorInitializer) (if is_edges e then inner else fault_at at rule.WrongType ErrorInitializer) (refl, refl, refl)
     (if_plain (is_edges e) inner (fault_at at rule.WrongType ErrorInitializer)
-    (if_plain (is_wrong a || is_wrong b) (fault_at at rule.WrongType ErrorInitializer) (modified_by c at (ends_given a b) (edge_function f) (vector_of v)) (refl, refl, refl)
+    (if_plain (is_wrong a || is_wrong b || lacks_weights e f) (fault_at at rule.WrongType ErrorInitializer) (modified_by c at (ends_given a b) (edge_function f) (vector_of v)) (refl, refl, refl)
     (modified_by_plain c at (ends_given a b) (edge_function f) (vector_of v))) (refl, refl, refl))
 
 -- a constant
@@ -166,8 +167,13 @@ vertices_wanted d k s at (source.ApplyModified edges ends f v) none all =
     (used d.checker.scope v).value).0 all
 vertices_wanted d k s at (source.Value e) none all = false_is_not_true all
 
+-- the edges, where there were none
+abbrev LoadsFirst : Declarations → InitialTree → Type 0
+LoadsFirst k (source.Load argument) = (argument ≡ pos 1) × (k.edges ≡ false)
+LoadsFirst k _ = ⊥
+
 loaded_wanted : (d : DeclaredTree) (k : Declarations) → SeesAll d k → (at : ℕ) (initial : InitialTree) → (initializer_of d.checker at initial).faults ≡ [] → is_loaded (initializer_of d.checker at initial).value ≡ true
-    → k.edges ≡ false → ConstantKeeps k declared.EdgeSet initial
+    → k.edges ≡ false → LoadsFirst k initial
 loaded_wanted d k s at (source.Load argument) none all before =
     ((initial_gives inside.Main d.checker (record k.known { reduced = d.checker.writes }) (checker_sees d.checker k.known s.agrees.checker s.some) at (source.Load argument) none).0, before)
 loaded_wanted d k s at (source.NewSet size) none all before = never (is_loaded (new_set at size).value) (new_set_plain at size).1 all
@@ -203,6 +209,24 @@ vector_wanted d k s at (source.Vertices edges) none wanted = begins_literal at (
 vector_wanted d k s at (source.Filter x f) none wanted = begins_literal at (initializer_of d.checker at (source.Filter x f)).value (source.Filter x f) (given_sound d.checker (record k.known { reduced = d.checker.writes }) (checker_sees d.checker k.known s.agrees.checker s.some) at (source.Filter x f) none) (filtered_plain at (used d.checker.scope x).value (used d.checker.scope f).value).2 wanted
 vector_wanted d k s at (source.ApplyModified edges ends f v) none wanted = begins_literal at (initializer_of d.checker at (source.ApplyModified edges ends f v)).value (source.ApplyModified edges ends f v) (given_sound d.checker (record k.known { reduced = d.checker.writes }) (checker_sees d.checker k.known s.agrees.checker s.some) at (source.ApplyModified edges ends f v) none) (modified_plain d.checker at (used d.checker.scope edges).value (end_of d.checker.scope ends.from).value (end_of d.checker.scope ends.to).value (used d.checker.scope f).value (used d.checker.scope v).value).2 wanted
 vector_wanted d k s at (source.Value e) none wanted = begins_literal at (initializer_of d.checker at (source.Value e)).value (source.Value e) (given_sound d.checker (record k.known { reduced = d.checker.writes }) (checker_sees d.checker k.known s.agrees.checker s.some) at (source.Value e) none) refl wanted
+
+loads_edges : (k : Declarations) (initial : InitialTree) → LoadsFirst k initial → ConstantKeeps k declared.EdgeSet initial
+loads_edges k (source.Load argument) first = first
+loads_edges k (source.NewSet size) first = absurd first
+loads_edges k (source.Vertices edges) first = absurd first
+loads_edges k (source.OutDegrees edges) first = absurd first
+loads_edges k (source.Filter x f) first = absurd first
+loads_edges k (source.ApplyModified edges ends f v) first = absurd first
+loads_edges k (source.Value e) first = absurd first
+
+loads_weighted_edges : (k : Declarations) (initial : InitialTree) → LoadsFirst k initial → ConstantKeeps k declared.WeightedEdgeSet initial
+loads_weighted_edges k (source.Load argument) first = first
+loads_weighted_edges k (source.NewSet size) first = absurd first
+loads_weighted_edges k (source.Vertices edges) first = absurd first
+loads_weighted_edges k (source.OutDegrees edges) first = absurd first
+loads_weighted_edges k (source.Filter x f) first = absurd first
+loads_weighted_edges k (source.ApplyModified edges ends f v) first = absurd first
+loads_weighted_edges k (source.Value e) first = absurd first
 
 constant_keeps : (d : DeclaredTree) (k : Declarations) → SeesAll d k → (at : ℕ) (p : ParameterTree) (initial : InitialTree) (type : DeclaredType)
     → (initializer_of d.checker at initial).faults ++ (declare_constant_as d at p.name initial type (initializer_of d.checker at initial).value).faults ≡ []
@@ -254,8 +278,20 @@ constant_keeps d k s at p initial declared.EdgeSet none =
     let sound = given_sound d.checker (record k.known { reduced = d.checker.writes }) (checker_sees d.checker k.known s.agrees.checker s.some) at initial given in
     let behind_x = no_right x.faults _ behind_g in
     let first = only_first p.name (next_name d) d.edges (no_left o.faults _ behind_x) in (
-      loaded_wanted d k s at initial given (wanted_is at (is_sound g.value) (is_loaded g.value) sound (no_left x.faults _ behind_g)) (sym s.agrees.edges ∙ first),
-      constant_is_new d k s p.name entity.Edges (no_left (declare_name d p.name entity.Edges).faults [] (no_right o.faults _ behind_x)),
+      loads_edges k initial (loaded_wanted d k s at initial given (wanted_is at (is_sound g.value) (is_loaded g.value) sound (no_left x.faults _ behind_g)) (sym s.agrees.edges ∙ first)),
+      constant_is_new d k s p.name (entity.Edges false) (no_left (declare_name d p.name (entity.Edges false)).faults [] (no_right o.faults _ behind_x)),
+    )
+constant_keeps d k s at p initial declared.WeightedEdgeSet none =
+    let g = initializer_of d.checker at initial in
+    let given = no_left g.faults _ none in
+    let behind_g = no_right g.faults _ none in
+    let x = loads at g.value in
+    let o = only_edges p.name (next_name d) d.edges in
+    let sound = given_sound d.checker (record k.known { reduced = d.checker.writes }) (checker_sees d.checker k.known s.agrees.checker s.some) at initial given in
+    let behind_x = no_right x.faults _ behind_g in
+    let first = only_first p.name (next_name d) d.edges (no_left o.faults _ behind_x) in (
+      loads_weighted_edges k initial (loaded_wanted d k s at initial given (wanted_is at (is_sound g.value) (is_loaded g.value) sound (no_left x.faults _ behind_g)) (sym s.agrees.edges ∙ first)),
+      constant_is_new d k s p.name (entity.Edges true) (no_left (declare_name d p.name (entity.Edges true)).faults [] (no_right o.faults _ behind_x)),
     )
 
 -- types of parameters
@@ -266,6 +302,7 @@ vertex_declared declared.Bool is = absurd cc
 vertex_declared declared.VertexSet is = absurd cc
 vertex_declared declared.Vector is = absurd cc
 vertex_declared declared.EdgeSet is = absurd cc
+vertex_declared declared.WeightedEdgeSet is = absurd cc
 
 bool_declared : (type : DeclaredType) → is_bool type ≡ true → type ≡ declared.Bool
 bool_declared declared.Bool is = refl
@@ -274,10 +311,11 @@ bool_declared declared.Vertex is = absurd cc
 bool_declared declared.VertexSet is = absurd cc
 bool_declared declared.Vector is = absurd cc
 bool_declared declared.EdgeSet is = absurd cc
+bool_declared declared.WeightedEdgeSet is = absurd cc
 
 -- a parameter that is opened is new
-parameter_is_new : (i : Inside) (c : CheckerTree) (k : Known) → Sees i c k → (v : ParameterTree) (p : Endpoint) → (declared_in c v.name (parameter p v.declared)).faults ≡ [] → IsNew k v.name
-parameter_is_new i c k s v p none = declares_new i c k s v.name (parameter p v.declared) none
+parameter_is_new : (weighted : Bool) (i : Inside) (c : CheckerTree) (k : Known) → Sees i c k → (v : ParameterTree) (p : Endpoint) → (declared_in c v.name (parameter weighted p v.declared)).faults ≡ [] → IsNew k v.name
+parameter_is_new weighted i c k s v p none = declares_new i c k s v.name (parameter weighted p v.declared) none
 
 begun_sees : (c : CheckerTree) (k : Known) (i : Inside) → CheckerAgrees c k → AreSome k.names → Sees i (begun c i) (known_in_main k)
 begun_sees c k i a some = record { matches = begun_matches c k i a; some = some }
@@ -292,9 +330,9 @@ vertex_function_keeps : (d : DeclaredTree) (k : Declarations) → SeesAll d k �
     → (steps_declared d at VertexKind name (v ∷ []) None body).faults ≡ [] → IsNew k.known name × FunctionKeeps k.known (v ∷ []) None body
 vertex_function_keeps d k s at name v body is none =
     let o = opened d.checker VertexKind (v ∷ []) None in
-    let p = declared_in (begun d.checker inside.VertexFunction) v.name (parameter endpoint.Source v.declared) in
+    let p = declared_in (begun d.checker inside.VertexFunction) v.name (parameter false endpoint.Source v.declared) in
     let first = begun_sees d.checker k.known inside.VertexFunction s.agrees.checker s.some in
-    let new = parameter_is_new inside.VertexFunction (begun d.checker inside.VertexFunction) (known_in_main k.known) first v endpoint.Source
+    let new = parameter_is_new false inside.VertexFunction (begun d.checker inside.VertexFunction) (known_in_main k.known) first v endpoint.Source
     (no_left p.faults [] (no_left (p.faults ++ []) [] (no_left o.faults _ none))) in
     let opens = vertex_opens d.checker k.known s.agrees.checker v is new in
     let within : Sees inside.VertexFunction o.value (known_at_vertex k.known v) = record { matches = opens.1; some = more_some k.known.names v.name.bytes (meaning.Parameter endpoint.Source) s.some tt } in
@@ -315,12 +353,12 @@ filter_keeps : (d : DeclaredTree) (k : Declarations) → SeesAll d k → (at : �
 filter_keeps d k s at name v test body is also none =
     let o = opened d.checker FilterKind (v ∷ []) (Some test) in
     let c = begun d.checker inside.Filter in
-    let p = declared_in c v.name (parameter endpoint.Source v.declared) in
+    let p = declared_in c v.name (parameter false endpoint.Source v.declared) in
     let r = declared_in p.value test.name (entity.ConditionVariable (condition_slot p.value)) in
     let first = begun_sees d.checker k.known inside.Filter s.agrees.checker s.some in
     let sound = no_left o.faults _ none in
-    let new = parameter_is_new inside.Filter c (known_in_main k.known) first v endpoint.Source (no_left p.faults [] (no_left (p.faults ++ []) r.faults sound)) in
-    let one = parameter_opens inside.Filter c (known_in_main k.known) first.matches endpoint.Source v is new in
+    let new = parameter_is_new false inside.Filter c (known_in_main k.known) first v endpoint.Source (no_left p.faults [] (no_left (p.faults ++ []) r.faults sound)) in
+    let one = parameter_opens false inside.Filter c (known_in_main k.known) first.matches endpoint.Source v is new in
     let inner : Sees inside.Filter p.value (known_at_vertex k.known v) = record { matches = one.1; some = more_some k.known.names v.name.bytes (meaning.Parameter endpoint.Source) s.some tt } in
     let result_new = declares_new inside.Filter p.value (known_at_vertex k.known v) inner test.name (entity.ConditionVariable (condition_slot p.value)) (no_right (p.faults ++ []) r.faults sound) in
     let opens = filter_opens d.checker k.known s.agrees.checker v test is new result_new in
@@ -337,32 +375,68 @@ filter_keeps d k s at name v test body is also none =
       (is, also, new, result_new, keeps),
     )
 
-edge_function_keeps : (d : DeclaredTree) (k : Declarations) → SeesAll d k → (at : ℕ) (name : Identifier) (src dst : ParameterTree) (body : source.BlockTree) → src.declared ≡ declared.Vertex → dst.declared ≡ declared.Vertex
-    → (steps_declared d at EdgeKind name (src ∷ dst ∷ []) None body).faults ≡ [] → IsNew k.known name × FunctionKeeps k.known (src ∷ dst ∷ []) None body
-edge_function_keeps d k s at name src dst body is also none =
-    let o = opened d.checker EdgeKind (src ∷ dst ∷ []) None in
-    let c = begun d.checker inside.EdgeFunction in
-    let p = declared_in c src.name (parameter endpoint.Source src.declared) in
-    let q = declared_in p.value dst.name (parameter endpoint.Destination dst.declared) in
-    let first = begun_sees d.checker k.known inside.EdgeFunction s.agrees.checker s.some in
-    let sound = no_left (p.faults ++ (q.faults ++ [])) [] (no_left o.faults _ none) in
-    let new = parameter_is_new inside.EdgeFunction c (known_in_main k.known) first src endpoint.Source (no_left p.faults _ sound) in
-    let one = parameter_opens inside.EdgeFunction c (known_in_main k.known) first.matches endpoint.Source src is new in
-    let inner : Sees inside.EdgeFunction p.value (known_at_vertex k.known src) = record { matches = one.1; some = more_some k.known.names src.name.bytes (meaning.Parameter endpoint.Source) s.some tt } in
-    let second = parameter_is_new inside.EdgeFunction p.value (known_at_vertex k.known src) inner dst endpoint.Destination (no_left q.faults [] (no_right p.faults _ sound)) in
-    let opens = edge_opens d.checker k.known s.agrees.checker src dst is also new second in
-    let within : Sees inside.EdgeFunction o.value (known_on_edge k.known src dst) = record { matches = opens.1; some = more_some (known_at_vertex k.known src).names dst.name.bytes (meaning.Parameter endpoint.Destination) inner.some tt } in
+-- an edge function, of which this is known at its first statement
+edge_body_keeps : (d : DeclaredTree) (k : Declarations) → SeesAll d k → (at : ℕ) (name : Identifier) (weighted : Bool) (parameters : List ParameterTree) (start : Known) (body : source.BlockTree)
+    → Opens inside.EdgeFunction (opened d.checker (EdgeKind weighted) parameters None) start → AreSome start.names
+    → (steps_declared d at (EdgeKind weighted) name parameters None body).faults ≡ [] → IsNew k.known name × BlockKeeps inside.EdgeFunction start body
+edge_body_keeps d k s at name weighted parameters start body opens some none =
+    let o = opened d.checker (EdgeKind weighted) parameters None in
+    let within : Sees inside.EdgeFunction o.value start = record { matches = opens.1; some = some } in
     let b = steps_typed o.value NoStep body in
     let behind_o = no_right o.faults _ none in
-    let keeps = steps_keep inside.EdgeFunction o.value (known_on_edge k.known src dst) tt within NoStep body (no_left b.faults _ behind_o) in
-    let after = steps_kept inside.EdgeFunction o.value (known_on_edge k.known src dst) tt within.matches NoStep body keeps in
-    let f = entity.EdgeFunction (length d.edge_functions) in
+    let keeps = steps_keep inside.EdgeFunction o.value start tt within NoStep body (no_left b.faults _ behind_o) in
+    let after = steps_kept inside.EdgeFunction o.value start tt within.matches NoStep body keeps in
+    let f = entity.EdgeFunction (length d.edge_functions) weighted in
     let e = declared_in (with_scope b.value.1 d.checker.scope) name f in (
-      name_is_new (with_scope b.value.1 d.checker.scope) (closed_known k.known (known_after inside.EdgeFunction (known_on_edge k.known src dst) body))
-          (left_agrees inside.EdgeFunction d.checker b.value.1 k.known (known_after inside.EdgeFunction (known_on_edge k.known src dst) body) s.agrees.checker after.1) s.some name f
+      name_is_new (with_scope b.value.1 d.checker.scope) (closed_known k.known (known_after inside.EdgeFunction start body))
+          (left_agrees inside.EdgeFunction d.checker b.value.1 k.known (known_after inside.EdgeFunction start body) s.agrees.checker after.1) s.some name f
           (no_left e.faults [] (no_left (e.faults ++ []) [] (no_right b.faults _ behind_o))),
-      (is, also, new, second, keeps),
+      keeps,
     )
+
+edge_function_keeps : (d : DeclaredTree) (k : Declarations) → SeesAll d k → (at : ℕ) (name : Identifier) (src dst : ParameterTree) (body : source.BlockTree) → src.declared ≡ declared.Vertex → dst.declared ≡ declared.Vertex
+    → (steps_declared d at (EdgeKind false) name (src ∷ dst ∷ []) None body).faults ≡ [] → IsNew k.known name × FunctionKeeps k.known (src ∷ dst ∷ []) None body
+edge_function_keeps d k s at name src dst body is also none =
+    let o = opened d.checker (EdgeKind false) (src ∷ dst ∷ []) None in
+    let c = begun d.checker inside.EdgeFunction in
+    let p = declared_in c src.name (parameter false endpoint.Source src.declared) in
+    let q = declared_in p.value dst.name (parameter false endpoint.Destination dst.declared) in
+    let first = begun_sees d.checker k.known inside.EdgeFunction s.agrees.checker s.some in
+    let sound = no_left (p.faults ++ (q.faults ++ [])) [] (no_left o.faults _ none) in
+    let new = parameter_is_new false inside.EdgeFunction c (known_in_main k.known) first src endpoint.Source (no_left p.faults _ sound) in
+    let one = parameter_opens false inside.EdgeFunction c (known_in_main k.known) first.matches endpoint.Source src is new in
+    let inner : Sees inside.EdgeFunction p.value (known_at_vertex k.known src) = record { matches = one.1; some = more_some k.known.names src.name.bytes (meaning.Parameter endpoint.Source) s.some tt } in
+    let second = parameter_is_new false inside.EdgeFunction p.value (known_at_vertex k.known src) inner dst endpoint.Destination (no_left q.faults [] (no_right p.faults _ sound)) in
+    let opens = edge_opens d.checker k.known s.agrees.checker src dst is also new second in
+    let all = edge_body_keeps d k s at name false (src ∷ dst ∷ []) (known_on_edge k.known src dst) body opens
+    (more_some (known_at_vertex k.known src).names dst.name.bytes (meaning.Parameter endpoint.Destination) inner.some tt) none in
+    (all.0, (is, also, new, second, all.1))
+
+weighted_function_keeps : (d : DeclaredTree) (k : Declarations) → SeesAll d k → (at : ℕ) (name : Identifier) (src dst w : ParameterTree) (body : source.BlockTree) → src.declared ≡ declared.Vertex
+    → dst.declared ≡ declared.Vertex → w.declared ≡ declared.Int
+    → (steps_declared d at (EdgeKind true) name (src ∷ dst ∷ w ∷ []) None body).faults ≡ [] → IsNew k.known name × FunctionKeeps k.known (src ∷ dst ∷ w ∷ []) None body
+weighted_function_keeps d k s at name src dst w body is also int none =
+    let o = opened d.checker (EdgeKind true) (src ∷ dst ∷ w ∷ []) None in
+    let c = begun d.checker inside.EdgeFunction in
+    let p = declared_in c src.name (parameter true endpoint.Source src.declared) in
+    let q = declared_in p.value dst.name (parameter true endpoint.Destination dst.declared) in
+    let r = declared_in q.value w.name (parameter true endpoint.Destination w.declared) in
+    let first = begun_sees d.checker k.known inside.EdgeFunction s.agrees.checker s.some in
+    let sound = no_left (p.faults ++ (q.faults ++ (r.faults ++ []))) [] (no_left o.faults _ none) in
+    let behind_p = no_right p.faults _ sound in
+    let new = parameter_is_new true inside.EdgeFunction c (known_in_main k.known) first src endpoint.Source (no_left p.faults _ sound) in
+    let one = parameter_opens true inside.EdgeFunction c (known_in_main k.known) first.matches endpoint.Source src is new in
+    let at_vertex = known_at_vertex k.known src in
+    let inner : Sees inside.EdgeFunction p.value at_vertex = record { matches = one.1; some = more_some k.known.names src.name.bytes (meaning.Parameter endpoint.Source) s.some tt } in
+    let second = parameter_is_new true inside.EdgeFunction p.value at_vertex inner dst endpoint.Destination (no_left q.faults _ behind_p) in
+    let two = parameter_opens true inside.EdgeFunction p.value at_vertex inner.matches endpoint.Destination dst also second in
+    let on_edge = known_on_edge k.known src dst in
+    let further : Sees inside.EdgeFunction q.value on_edge = record { matches = two.1; some = more_some at_vertex.names dst.name.bytes (meaning.Parameter endpoint.Destination) inner.some tt } in
+    let third = parameter_is_new true inside.EdgeFunction q.value on_edge further w endpoint.Destination (no_left r.faults [] (no_right q.faults _ behind_p)) in
+    let opens = weighted_edge_opens d.checker k.known s.agrees.checker src dst w is also int new second third in
+    let all = edge_body_keeps d k s at name true (src ∷ dst ∷ w ∷ []) (known_on_weighted_edge k.known src dst w) body opens
+    (more_some on_edge.names w.name.bytes meaning.Weight further.some tt) none in
+    (all.0, (is, also, int, new, second, third, all.1))
 
 -- the kind of a function that has no fault
 fits_one : (d : DeclaredTree) (k : Declarations) → SeesAll d k → (at : ℕ) (name : Identifier) (v : ParameterTree) (body : source.BlockTree) (b : Bool) → is_vertex v.declared ≡ b
@@ -377,10 +451,19 @@ fits_filter d k s at name v test body true false is also none = absurd (not_empt
 fits_filter d k s at name v test body false b is also none = absurd (not_empty _ _ none)
 
 fits_edge : (d : DeclaredTree) (k : Declarations) → SeesAll d k → (at : ℕ) (name : Identifier) (src dst : ParameterTree) (body : source.BlockTree) (a b : Bool) → is_vertex src.declared ≡ a → is_vertex dst.declared ≡ b
-    → (declare_function d at name (src ∷ dst ∷ []) None body (if a && b then EdgeKind else NoKind)).faults ≡ [] → IsNew k.known name × FunctionKeeps k.known (src ∷ dst ∷ []) None body
+    → (declare_function d at name (src ∷ dst ∷ []) None body (if a && b then EdgeKind false else NoKind)).faults ≡ [] → IsNew k.known name × FunctionKeeps k.known (src ∷ dst ∷ []) None body
 fits_edge d k s at name src dst body true true is also none = edge_function_keeps d k s at name src dst body (vertex_declared src.declared is) (vertex_declared dst.declared also) none
 fits_edge d k s at name src dst body true false is also none = absurd (not_empty _ _ none)
 fits_edge d k s at name src dst body false b is also none = absurd (not_empty _ _ none)
+
+fits_weighted : (d : DeclaredTree) (k : Declarations) → SeesAll d k → (at : ℕ) (name : Identifier) (src dst w : ParameterTree) (body : source.BlockTree) (a b c : Bool) → is_vertex src.declared ≡ a
+    → is_vertex dst.declared ≡ b → is_int w.declared ≡ c
+    → (declare_function d at name (src ∷ dst ∷ w ∷ []) None body (if a && b && c then EdgeKind true else NoKind)).faults ≡ [] → IsNew k.known name × FunctionKeeps k.known (src ∷ dst ∷ w ∷ []) None body
+fits_weighted d k s at name src dst w body true true true is also int none =
+    weighted_function_keeps d k s at name src dst w body (vertex_declared src.declared is) (vertex_declared dst.declared also) (int_type w.declared int) none
+fits_weighted d k s at name src dst w body true true false is also int none = absurd (not_empty _ _ none)
+fits_weighted d k s at name src dst w body true false c is also int none = absurd (not_empty _ _ none)
+fits_weighted d k s at name src dst w body false b c is also int none = absurd (not_empty _ _ none)
 
 user_function_keeps : (d : DeclaredTree) (k : Declarations) → SeesAll d k → (at : ℕ) (name : Identifier) (parameters : List ParameterTree) (result : Option ParameterTree) (body : source.BlockTree)
     → (declare_function d at name parameters result body (kind_of parameters result)).faults ≡ [] → IsNew k.known name × FunctionKeeps k.known parameters result body
@@ -389,7 +472,10 @@ user_function_keeps d k s at name (v ∷ []) None body none = fits_one d k s at 
 user_function_keeps d k s at name (v ∷ []) (Some test) body none = fits_filter d k s at name v test body (is_vertex v.declared) (is_bool test.declared) refl refl none
 user_function_keeps d k s at name (src ∷ dst ∷ []) None body none = fits_edge d k s at name src dst body (is_vertex src.declared) (is_vertex dst.declared) refl refl none
 user_function_keeps d k s at name (src ∷ dst ∷ []) (Some result) body none = absurd (not_empty _ _ none)
-user_function_keeps d k s at name (a ∷ b ∷ c ∷ others) result body none = absurd (not_empty _ _ none)
+user_function_keeps d k s at name (src ∷ dst ∷ w ∷ []) None body none =
+    fits_weighted d k s at name src dst w body (is_vertex src.declared) (is_vertex dst.declared) (is_int w.declared) refl refl refl none
+user_function_keeps d k s at name (src ∷ dst ∷ w ∷ []) (Some result) body none = absurd (not_empty _ _ none)
+user_function_keeps d k s at name (x ∷ y ∷ z ∷ u ∷ others) result body none = absurd (not_empty _ _ none)
 
 -- main, which takes nothing
 plain_main_keeps : (d : DeclaredTree) (k : Declarations) → SeesAll d k → (name : Identifier) (body : source.BlockTree) → (main_declared d true name [] None body).faults ≡ []
@@ -441,15 +527,18 @@ constant_some k declared.Vertex initial keeps = absurd keeps
 constant_some k declared.VertexSet initial keeps = tt
 constant_some k declared.Vector initial keeps = tt
 constant_some k declared.EdgeSet initial keeps = tt
+constant_some k declared.WeightedEdgeSet initial keeps = tt
 
 behind_user_some : (k : Declarations) → AreSome k.known.names → (name : Identifier) (parameters : List ParameterTree) (result : Option ParameterTree) (body : source.BlockTree)
     → AreSome (behind_function k name parameters result body).known.names
 behind_user_some k some name [] result body = some
 behind_user_some k some name (v ∷ []) None body = more_some k.known.names name.bytes meaning.VertexFunction some tt
 behind_user_some k some name (v ∷ []) (Some test) body = more_some k.known.names name.bytes meaning.Filter some tt
-behind_user_some k some name (src ∷ dst ∷ []) None body = more_some k.known.names name.bytes (meaning.EdgeFunction (length k.known.written)) some tt
+behind_user_some k some name (src ∷ dst ∷ []) None body = more_some k.known.names name.bytes (meaning.EdgeFunction (length k.known.written) false) some tt
 behind_user_some k some name (src ∷ dst ∷ []) (Some result) body = some
-behind_user_some k some name (a ∷ b ∷ c ∷ others) result body = some
+behind_user_some k some name (src ∷ dst ∷ w ∷ []) None body = more_some k.known.names name.bytes (meaning.EdgeFunction (length k.known.written) true) some tt
+behind_user_some k some name (src ∷ dst ∷ w ∷ []) (Some result) body = some
+behind_user_some k some name (x ∷ y ∷ z ∷ u ∷ others) result body = some
 
 behind_function_some : (k : Declarations) → AreSome k.known.names → (name : Identifier) (parameters : List ParameterTree) (result : Option ParameterTree) (body : source.BlockTree) (b : Bool)
     → AreSome (if b then behind_main k name body else behind_function k name parameters result body).known.names

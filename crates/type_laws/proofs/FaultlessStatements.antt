@@ -1,5 +1,5 @@
 -- A statement of main without a fault keeps the rules.
-use Rattle.std.proofs.Common.{◌≡◌, ◌⊎◌, inl, inr, refl, sym, subst, ap, ◌∙◌, ℕ, zero, suc, ℤ, pos, negsuc, Bool, true, false, ◌||◌, if◌then◌else◌, nat_eq, List, [], ◌∷◌, ◌++◌, get_or, Option, Some, None}
+use Rattle.std.proofs.Common.{◌≡◌, ◌⊎◌, inl, inr, refl, sym, subst, ap, ◌∙◌, ℕ, zero, suc, ℤ, pos, negsuc, Bool, true, false, not, ◌||◌, ◌&&◌, if◌then◌else◌, nat_eq, List, [], ◌∷◌, ◌++◌, get_or, Option, Some, None}
 use Rattle.std.specs.Prelude.{is_some, slice_index_or}
 use Rattle.std.specs.List.{Contains, list_any}
 use Rattle.std.specs.Map.{lookup}
@@ -33,16 +33,16 @@ use Rattle.expression_types.specs.WithFaults.{WithFaults, fault_at, sure}
 use Rattle.types.specs.Block.{action_typed, behind, closed, statements_typed}
 use Rattle.types.specs.Checker.{CheckerTree, condition_slot, counted, declared_in, integer_slot, labelled, new_label, set_slot}
 use Rattle.types.specs.Initial as initial_value
-use Rattle.types.specs.Initial.{Absent, ApplyEndTree, Degrees, ErrorEnd, ErrorInitializer, InitializerTree, Loaded, Wrong, edge_function, end_of, ends_given, filter_function, filter_named, filtered, filtered_by, initializer_condition, initializer_integer, initializer_members, initializer_of, is_edges, is_error_end, is_wrong, loaded, modified, modified_by, names_error, new_set, of_edges, vector_of, writes_vector}
+use Rattle.types.specs.Initial.{Absent, ApplyEndTree, Degrees, ErrorEnd, ErrorInitializer, InitializerTree, Loaded, Wrong, edge_function, end_of, ends_given, filter_function, filter_named, filtered, filtered_by, initializer_condition, initializer_integer, initializer_members, initializer_of, is_edges, is_error_end, is_wrong, lacks_weights, loaded, modified, modified_by, names_error, new_set, of_edges, reads_weight, vector_of, writes_vector}
 use Rattle.types.specs.Statement.{add_vertex, added, apply, applied, assign, assigned, declare_variable, edges_applied, has_ends, print, printed, reduce, reduce_entry, reduced, set_applied, set_entry, vertices_applied}
 use Rattle.types.specs.Statement as statement
 use Rattle.types.specs.Wanted.{as_condition, as_index, as_integer, as_members, condition_in, integer_in, no_index}
 use Rattle.type_laws.specs.EntryAccess.{HasNoEntry}
 use Rattle.type_laws.specs.ExpressionTypes.{ExpressionHas, ExpressionType, IsNumber, IsTruth, NameHas, Number, Set, Truth, Vertex, type_named}
-use Rattle.type_laws.specs.KeptRules.{ActionKeeps, AppliesEdges, AppliesVertices, ApplyFits, AssignFits, AssignsNumber, AssignsSet, AssignsTruth, BlockKeeps, EndFits, EndsFit, GivesMembers, GivesNumber, GivesTruth, Modifies, VariableFits}
+use Rattle.type_laws.specs.KeptRules.{ActionKeeps, AppliesEdges, AppliesVertices, ApplyFits, AssignFits, AssignsNumber, AssignsSet, AssignsTruth, BlockKeeps, EndFits, EndsFit, GivesMembers, GivesNumber, GivesTruth, Modifies, SeesWeights, VariableFits}
 use Rattle.type_laws.specs.Meanings as meaning
 use Rattle.type_laws.specs.ScopeMeanings.{AreMeant, meaning_of, meanings_of}
-use Rattle.type_laws.specs.Meanings.{IsNew, Known, LabelIsNew, Meaning, Meanings, closed_known, known_after, known_behind, labelled_known, reduced_in, variable_meaning, with_name}
+use Rattle.type_laws.specs.Meanings.{IsNew, Known, LabelIsNew, Meaning, Meanings, MeansEdges, closed_known, known_after, known_behind, labelled_known, reduced_in, variable_meaning, with_name}
 use Rattle.type_laws.proofs.Booleans.{both_false, false_is_not_true, neither_true}
 use Rattle.type_laws.proofs.Faultless.{no_left, no_right, not_empty}
 use Rattle.type_laws.proofs.PlainIndexes.{IsPlain, expression_plain}
@@ -62,7 +62,7 @@ AreSome (x ∷ others) = IsSome x.1 × AreSome others
 
 some_clear : (e : Entity) → IsSome (meaning_of e) → e ≡ entity.Error → ⊥
 some_clear entity.Error is error = is
-some_clear entity.Edges is error = cc
+some_clear (entity.Edges weights) is error = cc
 some_clear (entity.Vector place) is error = cc
 some_clear (entity.ConstantSet slot) is error = cc
 some_clear (entity.IntegerConstant name n) is error = cc
@@ -72,7 +72,8 @@ some_clear (entity.ConditionVariable slot) is error = cc
 some_clear (entity.SetVariable slot) is error = cc
 some_clear (entity.LoopVariable slot) is error = cc
 some_clear (entity.Parameter p) is error = cc
-some_clear (entity.EdgeFunction place) is error = cc
+some_clear entity.Weight is error = cc
+some_clear (entity.EdgeFunction place weighted) is error = cc
 some_clear (entity.VertexFunction place) is error = cc
 some_clear (entity.Filter place) is error = cc
 some_clear entity.Main is error = cc
@@ -163,10 +164,6 @@ clear_no_error entity.Error clear = absurd (clear refl)
 clear_no_error _ clear = refl
 
 -- the meanings of what is found
-edges_mean : (e : Entity) → is_edges e ≡ true → meaning_of e ≡ meaning.Edges
-edges_mean entity.Edges is = refl
-edges_mean _ is = absurd (false_is_not_true is)
-
 set_means : (e : Entity) (slot : VarRef) → named_set e ≡ Some slot → type_named (Some (meaning_of e)) ≡ Some Set
 set_means (entity.ConstantSet x) slot is = refl
 set_means (entity.SetVariable x) slot is = refl
@@ -176,9 +173,26 @@ filter_means : (e : Entity) (place : ℕ) → filter_function e ≡ Some place �
 filter_means (entity.Filter x) place is = refl
 filter_means _ place is = absurd cc
 
-edge_function_means : (e : Entity) (place : ℕ) → edge_function e ≡ Some place → meaning_of e ≡ meaning.EdgeFunction place
-edge_function_means (entity.EdgeFunction x) place is = cc
-edge_function_means _ place is = absurd cc
+-- edges, and an edge function that goes with them
+pub record EdgesFit (e f : Entity) (place : ℕ) : Type 0 where
+  pub weights : Bool
+  pub weighted : Bool
+  pub edges : meaning_of e ≡ meaning.Edges weights
+  pub function : meaning_of f ≡ meaning.EdgeFunction place weighted
+  pub sees : SeesWeights weights weighted
+
+weights_are_seen : (weights weighted : Bool) → (not weights && weighted) ≡ false → SeesWeights weights weighted
+weights_are_seen true true lacks = refl
+weights_are_seen false true lacks = absurd (false_is_not_true (sym lacks))
+weights_are_seen weights false lacks = tt
+
+function_fits_edges : (weights : Bool) (f : Entity) (place : ℕ) → edge_function f ≡ Some place → (not weights && reads_weight f) ≡ false → EdgesFit (entity.Edges weights) f place
+function_fits_edges weights (entity.EdgeFunction x weighted) place is lacks = record { weights = weights; weighted = weighted; edges = refl; function = cc; sees = weights_are_seen weights weighted lacks }
+function_fits_edges weights _ place is lacks = absurd cc
+
+edges_fit : (e f : Entity) (place : ℕ) → is_edges e ≡ true → edge_function f ≡ Some place → lacks_weights e f ≡ false → EdgesFit e f place
+edges_fit (entity.Edges weights) f place are is lacks = function_fits_edges weights f place is lacks
+edges_fit _ f place are is lacks = absurd (false_is_not_true are)
 
 vertex_function_means : (e : Entity) (place : ℕ) → initial_value.vertex_function e ≡ Some place → meaning_of e ≡ meaning.VertexFunction
 vertex_function_means (entity.VertexFunction x) place is = refl
@@ -195,8 +209,8 @@ has_as : (names : Meanings) (name : Identifier) (e : Entity) (type : ExpressionT
 has_as names name e type is same = subst (λ o. type_named o ≡ Some type) (sym is.means) same
 
 -- initial values: the edges' own
-of_edges_is : (at : ℕ) (x : InitializerTree) (e : Entity) → (e ≡ entity.Error → ⊥) → (of_edges at x e).faults ≡ [] → (meaning_of e ≡ meaning.Edges) × ((of_edges at x e).value ≡ x)
-of_edges_is at x entity.Edges clear none = (refl, refl)
+of_edges_is : (at : ℕ) (x : InitializerTree) (e : Entity) → (e ≡ entity.Error → ⊥) → (of_edges at x e).faults ≡ [] → ((weights : Bool) × (meaning_of e ≡ meaning.Edges weights)) × ((of_edges at x e).value ≡ x)
+of_edges_is at x (entity.Edges weights) clear none = ((weights, refl), refl)
 of_edges_is at x entity.Error clear none = absurd (clear refl)
 of_edges_is at x _ clear none = absurd (not_empty _ _ none)
 
@@ -245,13 +259,12 @@ end_fits i c k s (Some name) none right = named_end_fits k.names name (used c.sc
 
 -- the members that an apply modifies
 pub record ModifiesBy (m : WithFaults InitializerTree) (c : CheckerTree) (e f v : Entity) (a b : ApplyEndTree) : Type 0 where
-  pub edges : meaning_of e ≡ meaning.Edges
   pub from : is_wrong a ≡ false
   pub to : is_wrong b ≡ false
   pub place : ℕ
   pub vector : ℕ
   pub by : Reduction
-  pub function_means : meaning_of f ≡ meaning.EdgeFunction place
+  pub fit : EdgesFit e f place
   pub vector_means_it : meaning_of v ≡ meaning.Vector vector
   pub writes : lookup (nat_eq vector) (slice_index_or c.written place []) ≡ Some by
   pub members : AreMembers m.value
@@ -260,18 +273,18 @@ some_value : (o : Option Reduction) → is_some o ≡ true → (by : Reduction) 
 some_value None is = absurd (false_is_not_true is)
 some_value (Some by) is = (by, refl)
 
-modified_by_is : (c : CheckerTree) (at : ℕ) (e f v : Entity) (a b : ApplyEndTree) → meaning_of e ≡ meaning.Edges → is_wrong a ≡ false → is_wrong b ≡ false → (g : Option ℕ) (w : Option ℕ)
+modified_by_is : (c : CheckerTree) (at : ℕ) (e f v : Entity) (a b : ApplyEndTree) → is_edges e ≡ true → lacks_weights e f ≡ false → is_wrong a ≡ false → is_wrong b ≡ false → (g : Option ℕ) (w : Option ℕ)
     → edge_function f ≡ g → vector_of v ≡ w → (modified_by c at (ends_given a b) g w).faults ≡ [] → ModifiesBy (modified_by c at (ends_given a b) g w) c e f v a b
-modified_by_is c at e f v a b edges from to None w one other none = absurd (not_empty _ _ none)
-modified_by_is c at e f v a b edges from to (Some place) None one other none = absurd (not_empty _ _ none)
-modified_by_is c at e f v a b edges from to (Some place) (Some vector) one other none = at_test (writes_vector c.written place vector) refl none
+modified_by_is c at e f v a b edges lacks from to None w one other none = absurd (not_empty _ _ none)
+modified_by_is c at e f v a b edges lacks from to (Some place) None one other none = absurd (not_empty _ _ none)
+modified_by_is c at e f v a b edges lacks from to (Some place) (Some vector) one other none = at_test (writes_vector c.written place vector) refl none
   where
     at_test : (x : Bool) → writes_vector c.written place vector ≡ x
         → (if x then sure (initial_value.Members (set.Modified (ends_given a b) place vector)) else fault_at at rule.WrongType ErrorInitializer).faults ≡ []
         → ModifiesBy (if x then sure (initial_value.Members (set.Modified (ends_given a b) place vector)) else fault_at at rule.WrongType ErrorInitializer) c e f v a b
     at_test true is none =
         let by = some_value (lookup (nat_eq vector) (slice_index_or c.written place [])) is in
-        record { edges = edges; from = from; to = to; place = place; vector = vector; by = by.0; function_means = edge_function_means f place one; vector_means_it = vector_means v vector other; writes = by.1; members = tt }
+        record { from = from; to = to; place = place; vector = vector; by = by.0; fit = edges_fit e f place edges one lacks; vector_means_it = vector_means v vector other; writes = by.1; members = tt }
     at_test false is none = absurd (not_empty _ _ none)
 
 abbrev modified_at : CheckerTree → ℕ → (f v : Entity) → (a b : ApplyEndTree) → (error edges wrong : Bool) → WithFaults InitializerTree
@@ -279,14 +292,15 @@ modified_at c at f v a b error edges wrong =
     if error then sure ErrorInitializer
     else (if edges then (if wrong then fault_at at rule.WrongType ErrorInitializer else modified_by c at (ends_given a b) (edge_function f) (vector_of v)) else fault_at at rule.WrongType ErrorInitializer)
 
-modified_where : (c : CheckerTree) (at : ℕ) (e f v : Entity) (a b : ApplyEndTree) (error edges wrong : Bool) → error ≡ false → is_edges e ≡ edges → (is_wrong a || is_wrong b) ≡ wrong
+modified_where : (c : CheckerTree) (at : ℕ) (e f v : Entity) (a b : ApplyEndTree) (error edges wrong : Bool) → error ≡ false → is_edges e ≡ edges → (is_wrong a || is_wrong b || lacks_weights e f) ≡ wrong
     → (modified_at c at f v a b error edges wrong).faults ≡ [] → ModifiesBy (modified_at c at f v a b error edges wrong) c e f v a b
 modified_where c at e f v a b true edges wrong clear are is none = absurd cc
 modified_where c at e f v a b false false wrong clear are is none = absurd (not_empty _ _ none)
 modified_where c at e f v a b false true true clear are is none = absurd (not_empty _ _ none)
 modified_where c at e f v a b false true false clear are is none =
-    let right = both_false (is_wrong a) (is_wrong b) is in
-    modified_by_is c at e f v a b (edges_mean e are) right.0 right.1 (edge_function f) (vector_of v) refl refl none
+    let all = both_false (is_wrong a || is_wrong b) (lacks_weights e f) is in
+    let right = both_false (is_wrong a) (is_wrong b) all.0 in
+    modified_by_is c at e f v a b are all.1 right.0 right.1 (edge_function f) (vector_of v) refl refl none
 
 modified_is : (c : CheckerTree) (at : ℕ) (e f v : Entity) (a b : ApplyEndTree) → (e ≡ entity.Error → ⊥) → (f ≡ entity.Error → ⊥) → (v ≡ entity.Error → ⊥) → is_error_end a ≡ false → is_error_end b ≡ false
     → (modified c at e a b f v).faults ≡ [] → ModifiesBy (modified c at e a b f v) c e f v a b
@@ -294,16 +308,16 @@ modified_is c at e f v a b clear_e clear_f clear_v clear_a clear_b none =
     let all = neither_true (names_error e || is_error_end a || is_error_end b || names_error f) (names_error v)
     (neither_true (names_error e || is_error_end a || is_error_end b) (names_error f)
     (neither_true (names_error e || is_error_end a) (is_error_end b) (neither_true (names_error e) (is_error_end a) (clear_no_error e clear_e) clear_a) clear_b) (clear_no_error f clear_f)) (clear_no_error v clear_v) in
-    modified_where c at e f v a b (names_error e || is_error_end a || is_error_end b || names_error f || names_error v) (is_edges e) (is_wrong a || is_wrong b) all refl refl none
+    modified_where c at e f v a b (names_error e || is_error_end a || is_error_end b || names_error f || names_error v) (is_edges e) (is_wrong a || is_wrong b || lacks_weights e f) all refl refl none
 
 -- What an initial value is that has no fault.
 abbrev pub Gives : (i : Inside) (c : CheckerTree) (k : Known) → ℕ → InitialTree → InitializerTree → Type 0
 Gives i c k at (source.NewSet size) g = (size ≡ pos 0) × AreMembers g
 Gives i c k at (source.Load argument) g = (argument ≡ pos 1) × (g ≡ Loaded)
-Gives i c k at (source.Vertices edges) g = (found edges.bytes k.names ≡ Some meaning.Edges) × (g ≡ initial_value.Members set.All)
-Gives i c k at (source.OutDegrees edges) g = (found edges.bytes k.names ≡ Some meaning.Edges) × (g ≡ Degrees)
+Gives i c k at (source.Vertices edges) g = MeansEdges k.names edges × (g ≡ initial_value.Members set.All)
+Gives i c k at (source.OutDegrees edges) g = MeansEdges k.names edges × (g ≡ Degrees)
 Gives i c k at (source.Filter s f) g = (NameHas k.names s Set × (found f.bytes k.names ≡ Some meaning.Filter)) × AreMembers g
-Gives i c k at (source.ApplyModified edges ends f v) g = ((found edges.bytes k.names ≡ Some meaning.Edges) × EndsFit k.names ends × Modifies k f v) × AreMembers g
+Gives i c k at (source.ApplyModified edges ends f v) g = (EndsFit k.names ends × Modifies k edges f v) × AreMembers g
 Gives i c k at (source.Value e) g = ((value_of c.scope at e).faults ≡ []) × (g ≡ initial_value.Typed (value_of c.scope at e).value)
 
 new_set_is : (at : ℕ) (size : ℤ) → (new_set at size).faults ≡ [] → (size ≡ pos 0) × AreMembers (new_set at size).value
@@ -324,12 +338,12 @@ initial_gives i c k s at (source.Vertices edges) none =
     let e = used c.scope edges in
     let m = used_is i c k s edges (no_left e.faults _ none) in
     let x = of_edges_is at (initial_value.Members set.All) e.value m.clear (no_right e.faults _ none) in
-    (means_as k.names edges e.value meaning.Edges m x.0, x.1)
+    ((x.0.0, means_as k.names edges e.value (meaning.Edges x.0.0) m x.0.1), x.1)
 initial_gives i c k s at (source.OutDegrees edges) none =
     let e = used c.scope edges in
     let m = used_is i c k s edges (no_left e.faults _ none) in
     let x = of_edges_is at Degrees e.value m.clear (no_right e.faults _ none) in
-    (means_as k.names edges e.value meaning.Edges m x.0, x.1)
+    ((x.0.0, means_as k.names edges e.value (meaning.Edges x.0.0) m x.0.1), x.1)
 initial_gives i c k s at (source.Filter set test) none =
     let e = used c.scope set in
     let f = used c.scope test in
@@ -355,13 +369,16 @@ initial_gives i c k s at (source.ApplyModified edges ends f v) none =
     let to = no_left b.faults _ behind_a in
     let x = modified_is c at e.value g.value w.value a.value b.value m.clear n.clear o.clear (end_is_clear i c k s ends.from from) (end_is_clear i c k s ends.to to) (no_right w.faults _ behind_g) in (
       (
-        means_as k.names edges e.value meaning.Edges m x.edges,
         (end_fits i c k s ends.from from x.from, end_fits i c k s ends.to to x.to),
         record {
+          weights = x.fit.weights;
           place = x.place;
+          weighted = x.fit.weighted;
+          edges_mean = means_as k.names edges e.value (meaning.Edges x.fit.weights) m x.fit.edges;
+          sees = x.fit.sees;
           written = x.vector;
           by = x.by;
-          function_means = means_as k.names f g.value (meaning.EdgeFunction x.place) n x.function_means;
+          function_means = means_as k.names f g.value (meaning.EdgeFunction x.place x.fit.weighted) n x.fit.function;
           vector_means = means_as k.names v w.value (meaning.Vector x.vector) o x.vector_means_it;
           writes = subst (λ ws. lookup (nat_eq x.vector) (slice_index_or ws x.place []) ≡ Some x.by) s.matches.written x.writes;
         },
@@ -468,6 +485,7 @@ declare_keeps c k s at name initial declared.VertexSet none =
 declare_keeps c k s at name initial declared.Vertex none = absurd (not_empty _ _ (no_right (initializer_of c at initial).faults _ none))
 declare_keeps c k s at name initial declared.Vector none = absurd (not_empty _ _ (no_right (initializer_of c at initial).faults _ none))
 declare_keeps c k s at name initial declared.EdgeSet none = absurd (not_empty _ _ (no_right (initializer_of c at initial).faults _ none))
+declare_keeps c k s at name initial declared.WeightedEdgeSet none = absurd (not_empty _ _ (no_right (initializer_of c at initial).faults _ none))
 
 -- assignments
 assigned_fits : (c : CheckerTree) (k : Known) → Sees inside.Main c k → (at : ℕ) (name : Identifier) (initial : InitialTree) → (initializer_of c at initial).faults ≡ [] → (e : Entity) → IsMeant k.names name e
@@ -583,12 +601,12 @@ print_keeps c k s at e none =
 
 -- applies
 pub record AppliesTo (t f : Entity) (a b : ApplyEndTree) (ends : Bool) : Type 0 where
-  pub edges : ((meaning_of t ≡ meaning.Edges) × (is_wrong a ≡ false) × (is_wrong b ≡ false) × ((place : ℕ) × (meaning_of f ≡ meaning.EdgeFunction place)))
+  pub edges : ((is_wrong a ≡ false) × (is_wrong b ≡ false) × ((place : ℕ) × EdgesFit t f place))
       ⊎ ((type_named (Some (meaning_of t)) ≡ Some Set) × (ends ≡ false) × (meaning_of f ≡ meaning.VertexFunction))
 
-edge_function_there : (at : ℕ) (a b : ApplyEndTree) (f : Entity) (o : Option ℕ) → edge_function f ≡ o → (edges_applied at a b false o).faults ≡ [] → (place : ℕ) × (meaning_of f ≡ meaning.EdgeFunction place)
+edge_function_there : (at : ℕ) (a b : ApplyEndTree) (f : Entity) (o : Option ℕ) → edge_function f ≡ o → (edges_applied at a b false o).faults ≡ [] → (place : ℕ) × (edge_function f ≡ Some place)
 edge_function_there at a b f None is none = absurd (not_empty _ _ none)
-edge_function_there at a b f (Some place) is none = (place, edge_function_means f place is)
+edge_function_there at a b f (Some place) is none = (place, is)
 
 vertex_function_there : (at : ℕ) (slot : VarRef) (f : Entity) (o : Option ℕ) → initial_value.vertex_function f ≡ o → (vertices_applied at slot false o).faults ≡ [] → meaning_of f ≡ meaning.VertexFunction
 vertex_function_there at slot f None is none = absurd (not_empty _ _ none)
@@ -601,15 +619,17 @@ set_applies at t f a b false (Some slot) clear is none = record {
   edges = inr (set_means t slot is, refl, vertex_function_there at slot f (initial_value.vertex_function f) refl (subst (λ x. (vertices_applied at slot x (initial_value.vertex_function f)).faults ≡ []) clear none));
 }
 
-applied_where : (at : ℕ) (t f : Entity) (a b : ApplyEndTree) (ends : Bool) (error edges wrong : Bool) → error ≡ false → names_error f ≡ false → is_edges t ≡ edges → (is_wrong a || is_wrong b) ≡ wrong
+applied_where : (at : ℕ) (t f : Entity) (a b : ApplyEndTree) (ends : Bool) (error edges wrong : Bool) → error ≡ false → names_error f ≡ false → is_edges t ≡ edges → (is_wrong a || is_wrong b || lacks_weights t f) ≡ wrong
     → (if error then sure statement.no_action else (if edges then (if wrong then fault_at at rule.WrongType statement.no_action else edges_applied at a b (names_error f) (edge_function f)) else set_applied at ends f (named_set t))).faults ≡ []
     → AppliesTo t f a b ends
 applied_where at t f a b ends true edges wrong clear also are is none = absurd cc
 applied_where at t f a b ends false false wrong clear also are is none = set_applies at t f a b ends (named_set t) also refl none
 applied_where at t f a b ends false true true clear also are is none = absurd (not_empty _ _ none)
 applied_where at t f a b ends false true false clear also are is none =
-    let right = both_false (is_wrong a) (is_wrong b) is in
-    record { edges = inl (edges_mean t are, right.0, right.1, edge_function_there at a b f (edge_function f) refl (subst (λ x. (edges_applied at a b x (edge_function f)).faults ≡ []) also none)) }
+    let all = both_false (is_wrong a || is_wrong b) (lacks_weights t f) is in
+    let right = both_false (is_wrong a) (is_wrong b) all.0 in
+    let there = edge_function_there at a b f (edge_function f) refl (subst (λ x. (edges_applied at a b x (edge_function f)).faults ≡ []) also none) in
+    record { edges = inl (right.0, right.1, (there.0, edges_fit t f there.0 are there.1 all.1)) }
 
 no_end : (from to : Option Identifier) → (is_some from || is_some to) ≡ false → (from ≡ None) × (to ≡ None)
 no_end None None is = (refl, refl)
@@ -628,12 +648,12 @@ apply_keeps c k s at target ends function none =
     let behind_b = no_right b.faults _ behind_a in
     let m = used_is inside.Main c k s target (no_left t.faults _ none) in
     let n = used_is inside.Main c k s function (no_left f.faults _ behind_b) in
-    let x = applied_where at t.value f.value a.value b.value (has_ends ends) (names_error t.value) (is_edges t.value) (is_wrong a.value || is_wrong b.value)
+    let x = applied_where at t.value f.value a.value b.value (has_ends ends) (names_error t.value) (is_edges t.value) (is_wrong a.value || is_wrong b.value || lacks_weights t.value f.value)
     (clear_no_error t.value m.clear) (clear_no_error f.value n.clear) refl refl (no_right f.faults _ behind_b) in
     elim x.edges [
-      | inl edges ↦ AppliesEdges edges.3.0 (means_as k.names target t.value meaning.Edges m edges.0)
-          (end_fits inside.Main c k s ends.from (no_left a.faults _ behind_t) edges.1, end_fits inside.Main c k s ends.to (no_left b.faults _ behind_a) edges.2)
-          (means_as k.names function f.value (meaning.EdgeFunction edges.3.0) n edges.3.1)
+      | inl edges ↦ let fit = edges.2.1 in AppliesEdges fit.weights edges.2.0 fit.weighted (means_as k.names target t.value (meaning.Edges fit.weights) m fit.edges)
+          (end_fits inside.Main c k s ends.from (no_left a.faults _ behind_t) edges.0, end_fits inside.Main c k s ends.to (no_left b.faults _ behind_a) edges.1)
+          (means_as k.names function f.value (meaning.EdgeFunction edges.2.0 fit.weighted) n fit.function) fit.sees
       | inr vertices ↦ AppliesVertices (has_as k.names target t.value Set m vertices.0) (no_end ends.from ends.to vertices.1).0 (no_end ends.from ends.to vertices.1).1
           (means_as k.names function f.value meaning.VertexFunction n vertices.2)
     ]
@@ -670,6 +690,7 @@ variable_some i k declared.VertexSet initial fits = tt
 variable_some i k declared.Vertex initial fits = absurd fits
 variable_some i k declared.Vector initial fits = absurd fits
 variable_some i k declared.EdgeSet initial fits = absurd fits
+variable_some i k declared.WeightedEdgeSet initial fits = absurd fits
 
 reduced_some : (i : Inside) (k : Known) (vector : Identifier) (by : Reduction) → AreSome k.names → AreSome (reduced_in i k vector by).names
 reduced_some inside.Main k vector by some = some

@@ -58,6 +58,7 @@ declare_step_keeps i c k s at name initial declared.VertexSet none = absurd (not
 declare_step_keeps i c k s at name initial declared.Vertex none = absurd (not_empty _ _ (no_right (initializer_of c at initial).faults _ none))
 declare_step_keeps i c k s at name initial declared.Vector none = absurd (not_empty _ _ (no_right (initializer_of c at initial).faults _ none))
 declare_step_keeps i c k s at name initial declared.EdgeSet none = absurd (not_empty _ _ (no_right (initializer_of c at initial).faults _ none))
+declare_step_keeps i c k s at name initial declared.WeightedEdgeSet none = absurd (not_empty _ _ (no_right (initializer_of c at initial).faults _ none))
 
 assigned_step_fits : (i : Inside) (c : CheckerTree) (k : Known) → Sees i c k → (at : ℕ) (name : Identifier) (initial : InitialTree) → (initializer_of c at initial).faults ≡ [] → (e : Entity) → IsMeant k.names name e
     → (assigned_step at (initializer_of c at initial).value e).faults ≡ [] → AssignFits i k name initial

@@ -141,7 +141,7 @@ main_initials_fit d fits name parameters result body none =
 function_initials_fit : (d : DeclaredTree) (at : ℕ) (name : Identifier) (parameters : List ParameterTree) (result : Option ParameterTree) (body : source.BlockTree) (kind : FunctionKindTree)
     → (declare_function d at name parameters result body kind).faults ≡ [] → BlockInitialsFit body
 function_initials_fit d at name parameters result body (MainKind fits) none = main_initials_fit d fits name parameters result body none
-function_initials_fit d at name parameters result body EdgeKind none = user_initials_fit d at EdgeKind name parameters result body none
+function_initials_fit d at name parameters result body (EdgeKind weighted) none = user_initials_fit d at (EdgeKind weighted) name parameters result body none
 function_initials_fit d at name parameters result body VertexKind none = user_initials_fit d at VertexKind name parameters result body none
 function_initials_fit d at name parameters result body FilterKind none = user_initials_fit d at FilterKind name parameters result body none
 function_initials_fit d at name parameters result body NoKind none = user_initials_fit d at NoKind name parameters result body none

@@ -18,7 +18,7 @@ use Rattle.expression_types.specs.ScopeTree.{ScopeTree}
 use Rattle.expression_types.specs.WithFaults.{WithFaults, sure}
 use Rattle.typed_tree.specs.declared.program.InitialValue.TheVariants as beginning
 use Rattle.types.specs.Checker.{CheckerTree, declared_in}
-use Rattle.types.specs.Declaration.{DeclaredTree, begins, declare_constant_as, declare_name, literal_or_fault, next_name, only_edges}
+use Rattle.types.specs.Declaration.{DeclaredTree, begins, declare_constant_as, declare_name, literal_or_fault, next_name, only_edges, declare_edges}
 use Rattle.types.specs.Initial.{Degrees, InitializerTree, Loaded, Members, initializer_of, is_degrees, is_sound, loaded}
 use Rattle.types.specs.Literal.{expression_integer, expression_truth, literal_condition, literal_integer, primary_number, primary_truth, unary_number, unary_truth}
 use Rattle.type_laws.specs.KeptRules.{ConstantKeeps, Declarations, behind_constant}
@@ -187,14 +187,17 @@ first_edges : (name : Identifier) (place : ℕ) (o : Option ℕ) → o ≡ None 
 first_edges name place None is = (refl, refl)
 first_edges name place (Some x) is = absurd cc
 
-edges_constant : (d : DeclaredTree) (k : Declarations) → Agrees d k → (at : ℕ) (p : ParameterTree) (initial : InitialTree) → p.declared ≡ declared.EdgeSet → k.edges ≡ false → IsNew k.known p.name
-    → Fits (declare_constant_as d at p.name initial declared.EdgeSet Loaded) (behind_constant k p)
-edges_constant d k a at p initial type before new =
-    let c = constant_declared d k a p.name entity.Edges meaning.Edges refl new in
+abbrev behind_edges : Declarations → ParameterTree → (weights : Bool) → Declarations
+behind_edges k p weights = record { known = with_name k.known p.name (meaning.Edges weights); vectors = k.vectors; edges = true; main = k.main }
+
+edges_constant : (d : DeclaredTree) (k : Declarations) → Agrees d k → (weights : Bool) (at : ℕ) (p : ParameterTree) → k.edges ≡ false → IsNew k.known p.name
+    → Fits (declare_edges weights d at p.name Loaded) (behind_edges k p weights)
+edges_constant d k a weights at p before new =
+    let e = entity.Edges weights in
+    let c = constant_declared d k a p.name e (meaning.Edges weights) refl new in
     let o = first_edges p.name (next_name d) d.edges (none_there d.edges (a.edges ∙ before)) in (
-      both_none (only_edges p.name (next_name d) d.edges).faults _ o.0 (both_none (declare_name d p.name entity.Edges).faults [] c.0 refl),
-      subst (λ t. Agrees (declare_constant_as d at p.name initial declared.EdgeSet Loaded).value (behind_constant k (record p { declared = t }))) (sym type)
-          (record { checker = c.1; vectors = a.vectors; functions = a.functions; edges = o.1; main = a.main }),
+      both_none (only_edges p.name (next_name d) d.edges).faults _ o.0 (both_none (declare_name d p.name e).faults [] c.0 refl),
+      record { checker = c.1; vectors = a.vectors; functions = a.functions; edges = o.1; main = a.main },
     )
 
 loaded_first : (at : ℕ) (n : ℤ) → n ≡ pos 1 → ((loaded at n).faults ≡ []) × ((loaded at n).value ≡ Loaded)
@@ -245,8 +248,8 @@ constant_kept d k a at p declared.Bool initial type keeps new =
 constant_kept d k a at p declared.Vertex initial type keeps new = absurd keeps
 constant_kept d k a at p declared.VertexSet (source.Vertices edges) type keeps new =
     let c = d.checker in
-    let e = used_kept inside.Main c (record k.known { reduced = c.writes }) (as_matches c k.known a.checker) edges meaning.Edges keeps in
-    let x = of_edges_fine at (used c.scope edges).value e.1 (Members set.All) in
+    let e = used_kept inside.Main c (record k.known { reduced = c.writes }) (as_matches c k.known a.checker) edges (meaning.Edges keeps.0) keeps.1 in
+    let x = of_edges_fine at (used c.scope edges).value keeps.0 e.1 (Members set.All) in
     known_given d k at p (source.Vertices edges) declared.VertexSet (Members set.All) (both_none (used c.scope edges).faults _ e.0 x.0) x.1 (set_constant d k a at p (source.Vertices edges) type new)
 constant_kept d k a at p declared.VertexSet (source.NewSet size) type keeps new = absurd keeps
 constant_kept d k a at p declared.VertexSet (source.Load argument) type keeps new = absurd keeps
@@ -256,8 +259,8 @@ constant_kept d k a at p declared.VertexSet (source.ApplyModified edges ends f v
 constant_kept d k a at p declared.VertexSet (source.Value e) type keeps new = absurd keeps
 constant_kept d k a at p declared.Vector (source.OutDegrees edges) type keeps new =
     let c = d.checker in
-    let e = used_kept inside.Main c (record k.known { reduced = c.writes }) (as_matches c k.known a.checker) edges meaning.Edges keeps in
-    let x = of_edges_fine at (used c.scope edges).value e.1 Degrees in
+    let e = used_kept inside.Main c (record k.known { reduced = c.writes }) (as_matches c k.known a.checker) edges (meaning.Edges keeps.0) keeps.1 in
+    let x = of_edges_fine at (used c.scope edges).value keeps.0 e.1 Degrees in
     known_given d k at p (source.OutDegrees edges) declared.Vector Degrees (both_none (used c.scope edges).faults _ e.0 x.0) x.1
     (vector_constant d k a at p (source.OutDegrees edges) Degrees type refl new)
 constant_kept d k a at p declared.Vector (source.NewSet size) type keeps new = literal_vector d k a at p (source.NewSet size) type keeps new
@@ -268,10 +271,21 @@ constant_kept d k a at p declared.Vector (source.ApplyModified edges ends f v) t
 constant_kept d k a at p declared.Vector (source.Value e) type keeps new = literal_vector d k a at p (source.Value e) type keeps new
 constant_kept d k a at p declared.EdgeSet (source.Load argument) type keeps new =
     let x = loaded_first at argument keeps.0 in
-    known_given d k at p (source.Load argument) declared.EdgeSet Loaded x.0 x.1 (edges_constant d k a at p (source.Load argument) type keeps.1 new)
+    known_given d k at p (source.Load argument) declared.EdgeSet Loaded x.0 x.1
+    (subst (λ t. Fits (declare_edges false d at p.name Loaded) (behind_constant k (record p { declared = t }))) (sym type) (edges_constant d k a false at p keeps.1 new))
+constant_kept d k a at p declared.WeightedEdgeSet (source.Load argument) type keeps new =
+    let x = loaded_first at argument keeps.0 in
+    known_given d k at p (source.Load argument) declared.WeightedEdgeSet Loaded x.0 x.1
+    (subst (λ t. Fits (declare_edges true d at p.name Loaded) (behind_constant k (record p { declared = t }))) (sym type) (edges_constant d k a true at p keeps.1 new))
 constant_kept d k a at p declared.EdgeSet (source.NewSet size) type keeps new = absurd keeps
+constant_kept d k a at p declared.WeightedEdgeSet (source.NewSet size) type keeps new = absurd keeps
 constant_kept d k a at p declared.EdgeSet (source.Vertices edges) type keeps new = absurd keeps
+constant_kept d k a at p declared.WeightedEdgeSet (source.Vertices edges) type keeps new = absurd keeps
 constant_kept d k a at p declared.EdgeSet (source.OutDegrees edges) type keeps new = absurd keeps
+constant_kept d k a at p declared.WeightedEdgeSet (source.OutDegrees edges) type keeps new = absurd keeps
 constant_kept d k a at p declared.EdgeSet (source.Filter s f) type keeps new = absurd keeps
+constant_kept d k a at p declared.WeightedEdgeSet (source.Filter s f) type keeps new = absurd keeps
 constant_kept d k a at p declared.EdgeSet (source.ApplyModified edges ends f v) type keeps new = absurd keeps
+constant_kept d k a at p declared.WeightedEdgeSet (source.ApplyModified edges ends f v) type keeps new = absurd keeps
 constant_kept d k a at p declared.EdgeSet (source.Value e) type keeps new = absurd keeps
+constant_kept d k a at p declared.WeightedEdgeSet (source.Value e) type keeps new = absurd keeps

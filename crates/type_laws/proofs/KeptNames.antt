@@ -90,9 +90,9 @@ set_kept i c k m name has =
     (subst (λ o. type_named o ≡ Some Set) (found_meaning name.bytes c.scope.visible) (subst (λ ns. type_named (found name.bytes ns) ≡ Some Set) (sym m.names) has))
 
 -- what has a meaning is that
-pub edges_are : (e : Entity) → meaning_of e ≡ meaning.Edges → e ≡ entity.Edges
-edges_are entity.Edges is = refl
-edges_are _ is = absurd cc
+pub edges_are : (e : Entity) (weights : Bool) → meaning_of e ≡ meaning.Edges weights → e ≡ entity.Edges weights
+edges_are (entity.Edges w) weights is = cc
+edges_are _ weights is = absurd cc
 
 pub vector_entity : (e : Entity) (n : ℕ) → meaning_of e ≡ meaning.Vector n → e ≡ entity.Vector n
 vector_entity (entity.Vector place) n is = cc
@@ -110,9 +110,9 @@ pub set_variable : (e : Entity) → meaning_of e ≡ meaning.SetVariable → (sl
 set_variable (entity.SetVariable slot) is = (slot, refl)
 set_variable _ is = absurd cc
 
-pub edge_function_entity : (e : Entity) (n : ℕ) → meaning_of e ≡ meaning.EdgeFunction n → e ≡ entity.EdgeFunction n
-edge_function_entity (entity.EdgeFunction place) n is = cc
-edge_function_entity _ n is = absurd cc
+pub edge_function_entity : (e : Entity) (n : ℕ) (weighted : Bool) → meaning_of e ≡ meaning.EdgeFunction n weighted → e ≡ entity.EdgeFunction n weighted
+edge_function_entity (entity.EdgeFunction place w) n weighted is = cc
+edge_function_entity _ n weighted is = absurd cc
 
 pub vertex_function_entity : (e : Entity) → meaning_of e ≡ meaning.VertexFunction → (place : ℕ) × (e ≡ entity.VertexFunction place)
 vertex_function_entity (entity.VertexFunction place) is = (place, refl)

@@ -20,10 +20,10 @@ use Rattle.expression_types.specs.ScopeTree.{entered}
 use Rattle.expression_types.specs.WithFaults.{WithFaults}
 use Rattle.types.specs.Block.{statements_typed}
 use Rattle.types.specs.Checker.{CheckerTree, condition_slot, declared_in, restarted, with_scope}
-use Rattle.types.specs.Declaration.{DeclaredTree, EdgeKind, FilterKind, MainKind, NoKind, VertexKind, declaration_typed, declarations_typed, declare_function, declare_name, is_bool, is_vertex, kind_of, main_bytes, main_declared, opened, parameter, steps_declared, takes_nothing}
+use Rattle.types.specs.Declaration.{DeclaredTree, EdgeKind, FilterKind, MainKind, NoKind, VertexKind, declaration_typed, declarations_typed, declare_function, declare_name, is_bool, is_vertex, kind_of, main_bytes, main_declared, opened, parameter, steps_declared, takes_nothing, is_int}
 use Rattle.types.specs.Program.{main_of, opening, program_of, set_count}
 use Rattle.types.specs.Step.{steps_typed, with_writes}
-use Rattle.type_laws.specs.KeptRules.{BlockKeeps, DeclarationKeeps, Declarations, DeclarationsKeep, FunctionKeeps, KeepsRules, MainKeeps, behind_declaration, behind_function, behind_main, known_at_vertex, known_in_filter, known_in_main, known_on_edge, nothing_declared}
+use Rattle.type_laws.specs.KeptRules.{BlockKeeps, DeclarationKeeps, Declarations, DeclarationsKeep, FunctionKeeps, KeepsRules, MainKeeps, behind_declaration, behind_function, behind_main, known_at_vertex, known_in_filter, known_in_main, known_on_edge, nothing_declared, known_on_weighted_edge, edge_function_behind}
 use Rattle.type_laws.specs.Meanings as meaning
 use Rattle.type_laws.specs.ScopeMeanings.{meaning_of}
 use Rattle.type_laws.specs.Meanings.{IsNew, Known, closed_known, known_after, known_behind, labelled_known, reduced_in, with_name}
@@ -73,43 +73,60 @@ pub left_agrees : (i : Inside) (c d : CheckerTree) (k after : Known) → Checker
 left_agrees i c d k after a m = record { names = a.names; labels = m.labels; written = m.written; inside = a.inside }
 
 -- parameters are vertices
-parameter_is : (p : Endpoint) (type : DeclaredType) → type ≡ declared.Vertex → meaning_of (parameter p type) ≡ meaning.Parameter p
-parameter_is p type is = subst (λ t. meaning_of (parameter p t) ≡ meaning.Parameter p) (sym is) refl
+parameter_is : (weighted : Bool) (p : Endpoint) (type : DeclaredType) → type ≡ declared.Vertex → meaning_of (parameter weighted p type) ≡ meaning.Parameter p
+parameter_is weighted p type is = subst (λ t. meaning_of (parameter weighted p t) ≡ meaning.Parameter p) (sym is) refl
+
+weight_is : (p : Endpoint) (type : DeclaredType) → type ≡ declared.Int → meaning_of (parameter true p type) ≡ meaning.Weight
+weight_is p type is = subst (λ t. meaning_of (parameter true p t) ≡ meaning.Weight) (sym is) refl
 
 abbrev pub Opens : Inside → WithFaults CheckerTree → Known → Type 0
 Opens i m k = (m.faults ≡ []) × Matches i m.value k
 
-pub parameter_opens : (i : Inside) (c : CheckerTree) (k : Known) → Matches i c k → (p : Endpoint) (v : ParameterTree) → v.declared ≡ declared.Vertex → IsNew k v.name
-    → Opens i (declared_in c v.name (parameter p v.declared)) (with_name k v.name (meaning.Parameter p))
-parameter_opens i c k m p v is new = declared_kept i c k m v.name (parameter p v.declared) (meaning.Parameter p) (parameter_is p v.declared is) new
+pub parameter_opens : (weighted : Bool) (i : Inside) (c : CheckerTree) (k : Known) → Matches i c k → (p : Endpoint) (v : ParameterTree) → v.declared ≡ declared.Vertex → IsNew k v.name
+    → Opens i (declared_in c v.name (parameter weighted p v.declared)) (with_name k v.name (meaning.Parameter p))
+parameter_opens weighted i c k m p v is new = declared_kept i c k m v.name (parameter weighted p v.declared) (meaning.Parameter p) (parameter_is weighted p v.declared is) new
 
 pub vertex_opens : (c : CheckerTree) (k : Known) → CheckerAgrees c k → (v : ParameterTree) → v.declared ≡ declared.Vertex → IsNew k v.name
     → Opens inside.VertexFunction (opened c VertexKind (v ∷ []) None) (known_at_vertex k v)
 vertex_opens c k a v is new =
     let s = begun c inside.VertexFunction in
-    let d = declared_in s v.name (parameter endpoint.Source v.declared) in
-    let one = parameter_opens inside.VertexFunction s (known_in_main k) (begun_matches c k inside.VertexFunction a) endpoint.Source v is new in
+    let d = declared_in s v.name (parameter false endpoint.Source v.declared) in
+    let one = parameter_opens false inside.VertexFunction s (known_in_main k) (begun_matches c k inside.VertexFunction a) endpoint.Source v is new in
     (both_none (d.faults ++ []) [] (both_none d.faults [] one.0 refl) refl, one.1)
 
 pub filter_opens : (c : CheckerTree) (k : Known) → CheckerAgrees c k → (v test : ParameterTree) → v.declared ≡ declared.Vertex → IsNew k v.name → IsNew (known_at_vertex k v) test.name
     → Opens inside.Filter (opened c FilterKind (v ∷ []) (Some test)) (known_in_filter k v test)
 filter_opens c k a v test is new also =
     let s = begun c inside.Filter in
-    let d = declared_in s v.name (parameter endpoint.Source v.declared) in
-    let one = parameter_opens inside.Filter s (known_in_main k) (begun_matches c k inside.Filter a) endpoint.Source v is new in
+    let d = declared_in s v.name (parameter false endpoint.Source v.declared) in
+    let one = parameter_opens false inside.Filter s (known_in_main k) (begun_matches c k inside.Filter a) endpoint.Source v is new in
     let r = declared_in d.value test.name (entity.ConditionVariable (condition_slot d.value)) in
     let two = declared_kept inside.Filter d.value (known_at_vertex k v) one.1 test.name (entity.ConditionVariable (condition_slot d.value)) meaning.TruthVariable refl also in
     (both_none (d.faults ++ []) r.faults (both_none d.faults [] one.0 refl) two.0, two.1)
 
 pub edge_opens : (c : CheckerTree) (k : Known) → CheckerAgrees c k → (src dst : ParameterTree) → src.declared ≡ declared.Vertex → dst.declared ≡ declared.Vertex → IsNew k src.name
-    → IsNew (known_at_vertex k src) dst.name → Opens inside.EdgeFunction (opened c EdgeKind (src ∷ dst ∷ []) None) (known_on_edge k src dst)
+    → IsNew (known_at_vertex k src) dst.name → Opens inside.EdgeFunction (opened c (EdgeKind false) (src ∷ dst ∷ []) None) (known_on_edge k src dst)
 edge_opens c k a src dst is also new further =
     let s = begun c inside.EdgeFunction in
-    let d = declared_in s src.name (parameter endpoint.Source src.declared) in
-    let one = parameter_opens inside.EdgeFunction s (known_in_main k) (begun_matches c k inside.EdgeFunction a) endpoint.Source src is new in
-    let e = declared_in d.value dst.name (parameter endpoint.Destination dst.declared) in
-    let two = parameter_opens inside.EdgeFunction d.value (known_at_vertex k src) one.1 endpoint.Destination dst also further in
+    let d = declared_in s src.name (parameter false endpoint.Source src.declared) in
+    let one = parameter_opens false inside.EdgeFunction s (known_in_main k) (begun_matches c k inside.EdgeFunction a) endpoint.Source src is new in
+    let e = declared_in d.value dst.name (parameter false endpoint.Destination dst.declared) in
+    let two = parameter_opens false inside.EdgeFunction d.value (known_at_vertex k src) one.1 endpoint.Destination dst also further in
     (both_none (d.faults ++ (e.faults ++ [])) [] (both_none d.faults _ one.0 (both_none e.faults [] two.0 refl)) refl, two.1)
+
+pub weighted_edge_opens : (c : CheckerTree) (k : Known) → CheckerAgrees c k → (src dst w : ParameterTree) → src.declared ≡ declared.Vertex → dst.declared ≡ declared.Vertex
+    → w.declared ≡ declared.Int → IsNew k src.name → IsNew (known_at_vertex k src) dst.name → IsNew (known_on_edge k src dst) w.name
+    → Opens inside.EdgeFunction (opened c (EdgeKind true) (src ∷ dst ∷ w ∷ []) None) (known_on_weighted_edge k src dst w)
+weighted_edge_opens c k a src dst w is also int new further last =
+    let s = begun c inside.EdgeFunction in
+    let d = declared_in s src.name (parameter true endpoint.Source src.declared) in
+    let one = parameter_opens true inside.EdgeFunction s (known_in_main k) (begun_matches c k inside.EdgeFunction a) endpoint.Source src is new in
+    let e = declared_in d.value dst.name (parameter true endpoint.Destination dst.declared) in
+    let two = parameter_opens true inside.EdgeFunction d.value (known_at_vertex k src) one.1 endpoint.Destination dst also further in
+    let g = declared_in e.value w.name (parameter true endpoint.Destination w.declared) in
+    let three = declared_kept inside.EdgeFunction e.value (known_on_edge k src dst) two.1 w.name (parameter true endpoint.Destination w.declared) meaning.Weight
+    (weight_is endpoint.Destination w.declared int) last in
+    (both_none (d.faults ++ (e.faults ++ (g.faults ++ []))) [] (both_none d.faults _ one.0 (both_none e.faults _ two.0 (both_none g.faults [] three.0 refl))) refl, three.1)
 
 -- the name of a function, after what is in it
 name_declared : (d : DeclaredTree) (k : Known) → CheckerAgrees d.checker k → (name : Identifier) (e : Entity) (n : meaning.Meaning) → meaning_of e ≡ n → IsNew k name
@@ -146,18 +163,19 @@ filter_kept d k a at name v test body new keeps =
       record { checker = named.1; vectors = a.vectors; functions = a.functions ∙ ap length (sym (after_written inside.Filter (known_in_filter k.known v test) body)); edges = a.edges; main = a.main },
     )
 
-edge_function_kept : (d : DeclaredTree) (k : Declarations) → Agrees d k → (at : ℕ) (name : Identifier) (src dst : ParameterTree) (body : source.BlockTree) → IsNew k.known name
-    → FunctionKeeps k.known (src ∷ dst ∷ []) None body → Fits (steps_declared d at EdgeKind name (src ∷ dst ∷ []) None body) (behind_function k name (src ∷ dst ∷ []) None body)
-edge_function_kept d k a at name src dst body new keeps =
-    let o = opened d.checker EdgeKind (src ∷ dst ∷ []) None in
-    let opens = edge_opens d.checker k.known a.checker src dst keeps.0 keeps.1 keeps.2 keeps.3 in
+-- an edge function, of which this is known at its first statement
+edge_function_fits : (d : DeclaredTree) (k : Declarations) → Agrees d k → (at : ℕ) (name : Identifier) (weighted : Bool) (parameters : List ParameterTree) (start : Known) (body : source.BlockTree)
+    → Opens inside.EdgeFunction (opened d.checker (EdgeKind weighted) parameters None) start → start.written ≡ k.known.written → IsNew k.known name → BlockKeeps inside.EdgeFunction start body
+    → Fits (steps_declared d at (EdgeKind weighted) name parameters None body) (edge_function_behind k name weighted (known_after inside.EdgeFunction start body))
+edge_function_fits d k a at name weighted parameters start body opens written new keeps =
+    let o = opened d.checker (EdgeKind weighted) parameters None in
     let b = steps_typed o.value NoStep body in
-    let inner = steps_kept inside.EdgeFunction o.value (known_on_edge k.known src dst) tt opens.1 NoStep body keeps.4 in
-    let after = known_after inside.EdgeFunction (known_on_edge k.known src dst) body in
+    let inner = steps_kept inside.EdgeFunction o.value start tt opens.1 NoStep body keeps in
+    let after = known_after inside.EdgeFunction start body in
     let e = record d { checker = with_scope b.value.1 d.checker.scope } in
-    let f = entity.EdgeFunction (length d.edge_functions) in
+    let f = entity.EdgeFunction (length d.edge_functions) weighted in
     let named = name_declared e (closed_known k.known after) (left_agrees inside.EdgeFunction d.checker b.value.1 k.known after a.checker inner.1) name f
-    (meaning.EdgeFunction (length k.known.written)) (ap meaning.EdgeFunction a.functions) new in (
+    (meaning.EdgeFunction (length k.known.written) weighted) (ap (λ n. meaning.EdgeFunction n weighted) a.functions) new in (
       both_none o.faults _ opens.0 (both_none b.faults _ inner.0 (both_none (declare_name e name f).faults [] named.0 refl)),
       record {
         checker = record {
@@ -168,11 +186,24 @@ edge_function_kept d k a at name src dst body new keeps =
         };
         vectors = a.vectors;
         functions = one_more d.edge_functions _ (length k.known.written) a.functions
-            ∙ sym (one_more after.written after.reduced (length k.known.written) (ap length (after_written inside.EdgeFunction (known_on_edge k.known src dst) body)));
+            ∙ sym (one_more after.written after.reduced (length k.known.written) (ap length (after_written inside.EdgeFunction start body ∙ written)));
         edges = a.edges;
         main = a.main;
       },
     )
+
+edge_function_kept : (d : DeclaredTree) (k : Declarations) → Agrees d k → (at : ℕ) (name : Identifier) (src dst : ParameterTree) (body : source.BlockTree) → IsNew k.known name
+    → FunctionKeeps k.known (src ∷ dst ∷ []) None body → Fits (steps_declared d at (EdgeKind false) name (src ∷ dst ∷ []) None body) (behind_function k name (src ∷ dst ∷ []) None body)
+edge_function_kept d k a at name src dst body new keeps =
+    edge_function_fits d k a at name false (src ∷ dst ∷ []) (known_on_edge k.known src dst) body
+    (edge_opens d.checker k.known a.checker src dst keeps.0 keeps.1 keeps.2 keeps.3) refl new keeps.4
+
+weighted_function_kept : (d : DeclaredTree) (k : Declarations) → Agrees d k → (at : ℕ) (name : Identifier) (src dst w : ParameterTree) (body : source.BlockTree) → IsNew k.known name
+    → FunctionKeeps k.known (src ∷ dst ∷ w ∷ []) None body
+    → Fits (steps_declared d at (EdgeKind true) name (src ∷ dst ∷ w ∷ []) None body) (behind_function k name (src ∷ dst ∷ w ∷ []) None body)
+weighted_function_kept d k a at name src dst w body new keeps =
+    edge_function_fits d k a at name true (src ∷ dst ∷ w ∷ []) (known_on_weighted_edge k.known src dst w) body
+    (weighted_edge_opens d.checker k.known a.checker src dst w keeps.0 keeps.1 keeps.2 keeps.3 keeps.4 keeps.5) refl new keeps.6
 
 main_kept : (d : DeclaredTree) (k : Declarations) → Agrees d k → (name : Identifier) (parameters : List ParameterTree) (result : Option ParameterTree) (body : source.BlockTree) → IsNew k.known name
     → MainKeeps k.known parameters result body → Fits (main_declared d (takes_nothing parameters result) name parameters result body) (behind_main k name body)
@@ -200,9 +231,16 @@ pub filter_kind : (v test : DeclaredType) → v ≡ declared.Vertex → test ≡
 filter_kind v test is also =
     subst (λ t. (if is_vertex t && is_bool test then FilterKind else NoKind) ≡ FilterKind) (sym is) (subst (λ t. (if is_bool t then FilterKind else NoKind) ≡ FilterKind) (sym also) refl)
 
-pub edge_kind : (src dst : DeclaredType) → src ≡ declared.Vertex → dst ≡ declared.Vertex → (if is_vertex src && is_vertex dst then EdgeKind else NoKind) ≡ EdgeKind
+pub edge_kind : (src dst : DeclaredType) → src ≡ declared.Vertex → dst ≡ declared.Vertex → (if is_vertex src && is_vertex dst then EdgeKind false else NoKind) ≡ EdgeKind false
 edge_kind src dst is also =
-    subst (λ t. (if is_vertex t && is_vertex dst then EdgeKind else NoKind) ≡ EdgeKind) (sym is) (subst (λ t. (if is_vertex t then EdgeKind else NoKind) ≡ EdgeKind) (sym also) refl)
+    subst (λ t. (if is_vertex t && is_vertex dst then EdgeKind false else NoKind) ≡ EdgeKind false) (sym is) (subst (λ t. (if is_vertex t then EdgeKind false else NoKind) ≡ EdgeKind false) (sym also) refl)
+
+pub weighted_kind : (src dst w : DeclaredType) → src ≡ declared.Vertex → dst ≡ declared.Vertex → w ≡ declared.Int
+    → (if is_vertex src && is_vertex dst && is_int w then EdgeKind true else NoKind) ≡ EdgeKind true
+weighted_kind src dst w is also int =
+    subst (λ t. (if is_vertex t && is_vertex dst && is_int w then EdgeKind true else NoKind) ≡ EdgeKind true) (sym is)
+    (subst (λ t. (if is_vertex t && is_int w then EdgeKind true else NoKind) ≡ EdgeKind true) (sym also)
+    (subst (λ t. (if is_int t then EdgeKind true else NoKind) ≡ EdgeKind true) (sym int) refl))
 
 user_function_kept : (d : DeclaredTree) (k : Declarations) → Agrees d k → (at : ℕ) (name : Identifier) (parameters : List ParameterTree) (result : Option ParameterTree) (body : source.BlockTree)
     → IsNew k.known name → FunctionKeeps k.known parameters result body
@@ -217,7 +255,11 @@ user_function_kept d k a at name (src ∷ dst ∷ []) None body new keeps =
     subst (λ f. Fits (declare_function d at name (src ∷ dst ∷ []) None body f) (behind_function k name (src ∷ dst ∷ []) None body)) (sym (edge_kind src.declared dst.declared keeps.0 keeps.1))
     (edge_function_kept d k a at name src dst body new keeps)
 user_function_kept d k a at name (src ∷ dst ∷ []) (Some result) body new keeps = absurd keeps
-user_function_kept d k a at name (x ∷ y ∷ z ∷ others) result body new keeps = absurd keeps
+user_function_kept d k a at name (src ∷ dst ∷ w ∷ []) None body new keeps =
+    subst (λ f. Fits (declare_function d at name (src ∷ dst ∷ w ∷ []) None body f) (behind_function k name (src ∷ dst ∷ w ∷ []) None body))
+    (sym (weighted_kind src.declared dst.declared w.declared keeps.0 keeps.1 keeps.2)) (weighted_function_kept d k a at name src dst w body new keeps)
+user_function_kept d k a at name (src ∷ dst ∷ w ∷ []) (Some result) body new keeps = absurd keeps
+user_function_kept d k a at name (x ∷ y ∷ z ∷ u ∷ others) result body new keeps = absurd keeps
 
 function_kept : (d : DeclaredTree) (k : Declarations) → Agrees d k → (at : ℕ) (name : Identifier) (parameters : List ParameterTree) (result : Option ParameterTree) (body : source.BlockTree)
     → (b : Bool) → bytes_eq name.bytes main_bytes ≡ b → DeclarationKeeps k (source.Function at name parameters result body)

@@ -1,5 +1,5 @@
 -- A statement of main that keeps the rules has no fault, and after it is known what its checker knows.
-use Rattle.std.proofs.Common.{◌≡◌, ◌⊎◌, inl, inr, refl, sym, subst, ap, ℕ, suc, ℤ, pos, Bool, true, false, ◌||◌, if◌then◌else◌, nat_eq, [], ◌++◌, length, Option, Some, None}
+use Rattle.std.proofs.Common.{◌≡◌, ◌⊎◌, inl, inr, refl, sym, subst, ap, ℕ, suc, ℤ, pos, Bool, true, false, not, ◌||◌, ◌&&◌, if◌then◌else◌, nat_eq, [], ◌++◌, length, Option, Some, None}
 use Rattle.std.specs.Prelude.{is_some, slice_index_or}
 use Rattle.std.specs.Map.{lookup}
 use Rattle.syntax.specs.Terminals.{Identifier}
@@ -25,12 +25,12 @@ use Rattle.expression_types.specs.WithFaults.{WithFaults, fault_at, sure}
 use Rattle.types.specs.Block.{action_typed, behind, closed, in_place, statements_typed}
 use Rattle.types.specs.Checker.{CheckerTree, condition_slot, counted, declared_in, integer_slot, labelled, set_slot}
 use Rattle.types.specs.Initial as initial_value
-use Rattle.types.specs.Initial.{ApplyEndTree, Absent, Wrong, ErrorEnd, InitializerTree, edge_function, end_of, filter_named, filtered, initializer_condition, initializer_integer, initializer_members, initializer_of, is_edges, is_error_end, is_wrong, modified, names_error, new_set, of_edges, vector_of, writes_vector}
-use Rattle.types.specs.Statement.{add_vertex, added, apply, applied, assign, assigned, declare_variable, has_ends, print, printed, reduce, reduce_entry, reduced, set_entry}
+use Rattle.types.specs.Initial.{ApplyEndTree, Absent, Wrong, ErrorEnd, InitializerTree, edge_function, end_of, ends_given, filter_named, filtered, initializer_condition, initializer_integer, initializer_members, initializer_of, is_edges, is_error_end, is_wrong, modified, modified_by, names_error, new_set, of_edges, vector_of, writes_vector}
+use Rattle.types.specs.Statement.{add_vertex, added, apply, applied, edges_applied, no_action, assign, assigned, declare_variable, has_ends, print, printed, reduce, reduce_entry, reduced, set_entry}
 use Rattle.types.specs.Wanted.{as_index, as_integer, as_members, condition_in, integer_in, unread}
 use Rattle.type_laws.specs.EntryAccess.{HasNoEntry}
 use Rattle.type_laws.specs.ExpressionTypes.{IsNumber, IsTruth, Set, Truth, type_named}
-use Rattle.type_laws.specs.KeptRules.{ActionKeeps, AppliesEdges, AppliesVertices, ApplyFits, AssignFits, AssignsNumber, AssignsSet, AssignsTruth, BlockKeeps, EndFits, EndsFit, GivesMembers, GivesNumber, GivesTruth, Modifies, VariableFits}
+use Rattle.type_laws.specs.KeptRules.{ActionKeeps, AppliesEdges, AppliesVertices, ApplyFits, AssignFits, AssignsNumber, AssignsSet, AssignsTruth, BlockKeeps, EndFits, EndsFit, GivesMembers, GivesNumber, GivesTruth, Modifies, SeesWeights, VariableFits}
 use Rattle.type_laws.specs.Meanings as meaning
 use Rattle.type_laws.specs.ScopeMeanings.{meaning_of}
 use Rattle.type_laws.specs.Meanings.{IsNew, Known, closed_known, known_after, known_behind, labelled_known, variable_meaning, with_name}
@@ -70,8 +70,8 @@ GivesSet at m = (m.faults ≡ []) × ((initializer_members at m.value).faults �
 new_set_fine : (at : ℕ) (size : ℤ) → size ≡ pos 0 → GivesSet at (new_set at size)
 new_set_fine at size is = subst (λ z. GivesSet at (new_set at z)) (sym is) (refl, refl)
 
-pub of_edges_fine : (at : ℕ) (e : Entity) → meaning_of e ≡ meaning.Edges → (x : InitializerTree) → ((of_edges at x e).faults ≡ []) × ((of_edges at x e).value ≡ x)
-of_edges_fine at e is x = subst (λ e. ((of_edges at x e).faults ≡ []) × ((of_edges at x e).value ≡ x)) (sym (edges_are e is)) (refl, refl)
+pub of_edges_fine : (at : ℕ) (e : Entity) (weights : Bool) → meaning_of e ≡ meaning.Edges weights → (x : InitializerTree) → ((of_edges at x e).faults ≡ []) × ((of_edges at x e).value ≡ x)
+of_edges_fine at e weights is x = subst (λ e. ((of_edges at x e).faults ≡ []) × ((of_edges at x e).value ≡ x)) (sym (edges_are e weights is)) (refl, refl)
 
 set_passes : (at : ℕ) (s : Entity) (place : ℕ) → type_named (Some (meaning_of s)) ≡ Some Set → GivesSet at (filtered at s (entity.Filter place))
 set_passes at (entity.ConstantSet slot) place is = (refl, refl)
@@ -113,33 +113,53 @@ if_writes : (at : ℕ) (x : InitializerTree) (b : Bool) → b ≡ true → (init
 if_writes at x true is fine = (refl, fine)
 if_writes at x false is fine = absurd cc
 
-modified_good : (c : CheckerTree) (at : ℕ) (a b : ApplyEndTree) (place vector : ℕ) → IsGood a → IsGood b → writes_vector c.written place vector ≡ true
-    → GivesSet at (modified c at entity.Edges a b (entity.EdgeFunction place) (entity.Vector vector))
-modified_good c at Absent Absent place vector first second writes = if_writes at _ (writes_vector c.written place vector) writes refl
-modified_good c at Absent (initial_value.Given f) place vector first second writes = if_writes at _ (writes_vector c.written place vector) writes refl
-modified_good c at (initial_value.Given f) Absent place vector first second writes = if_writes at _ (writes_vector c.written place vector) writes refl
-modified_good c at (initial_value.Given f) (initial_value.Given g) place vector first second writes = if_writes at _ (writes_vector c.written place vector) writes refl
-modified_good c at Absent Wrong place vector first second writes = absurd second
-modified_good c at Absent ErrorEnd place vector first second writes = absurd second
-modified_good c at (initial_value.Given f) Wrong place vector first second writes = absurd second
-modified_good c at (initial_value.Given f) ErrorEnd place vector first second writes = absurd second
-modified_good c at Wrong b place vector first second writes = absurd first
-modified_good c at ErrorEnd b place vector first second writes = absurd first
+-- a function that takes no weight, or edges that have them
+pub weights_seen : (weights weighted : Bool) → SeesWeights weights weighted → (not weights && weighted) ≡ false
+weights_seen weights true sees = ap (λ b. not b && true) sees
+weights_seen true false sees = refl
+weights_seen false false sees = refl
+
+if_seen : (at : ℕ) (m : WithFaults InitializerTree) (b : Bool) → b ≡ false → GivesSet at m → GivesSet at (if b then fault_at at rule.WrongType initial_value.ErrorInitializer else m)
+if_seen at m true is fine = absurd cc
+if_seen at m false is fine = fine
+
+modified_good : (c : CheckerTree) (at : ℕ) (a b : ApplyEndTree) (weights : Bool) (place : ℕ) (weighted : Bool) (vector : ℕ) → IsGood a → IsGood b → SeesWeights weights weighted
+    → writes_vector c.written place vector ≡ true → GivesSet at (modified c at (entity.Edges weights) a b (entity.EdgeFunction place weighted) (entity.Vector vector))
+modified_good c at Absent Absent weights place weighted vector first second sees writes =
+    if_seen at (modified_by c at (ends_given Absent Absent) (Some place) (Some vector)) (not weights && weighted) (weights_seen weights weighted sees)
+    (if_writes at (initial_value.Members (set.Modified (ends_given Absent Absent) place vector)) (writes_vector c.written place vector) writes refl)
+modified_good c at Absent (initial_value.Given f) weights place weighted vector first second sees writes =
+    if_seen at (modified_by c at (ends_given Absent (initial_value.Given f)) (Some place) (Some vector)) (not weights && weighted) (weights_seen weights weighted sees)
+    (if_writes at (initial_value.Members (set.Modified (ends_given Absent (initial_value.Given f)) place vector)) (writes_vector c.written place vector) writes refl)
+modified_good c at (initial_value.Given f) Absent weights place weighted vector first second sees writes =
+    if_seen at (modified_by c at (ends_given (initial_value.Given f) Absent) (Some place) (Some vector)) (not weights && weighted) (weights_seen weights weighted sees)
+    (if_writes at (initial_value.Members (set.Modified (ends_given (initial_value.Given f) Absent) place vector)) (writes_vector c.written place vector) writes refl)
+modified_good c at (initial_value.Given f) (initial_value.Given g) weights place weighted vector first second sees writes =
+    if_seen at (modified_by c at (ends_given (initial_value.Given f) (initial_value.Given g)) (Some place) (Some vector)) (not weights && weighted) (weights_seen weights weighted sees)
+    (if_writes at (initial_value.Members (set.Modified (ends_given (initial_value.Given f) (initial_value.Given g)) place vector)) (writes_vector c.written place vector) writes refl)
+modified_good c at Absent Wrong weights place weighted vector first second sees writes = absurd second
+modified_good c at Absent ErrorEnd weights place weighted vector first second sees writes = absurd second
+modified_good c at (initial_value.Given f) Wrong weights place weighted vector first second sees writes = absurd second
+modified_good c at (initial_value.Given f) ErrorEnd weights place weighted vector first second sees writes = absurd second
+modified_good c at Wrong b weights place weighted vector first second sees writes = absurd first
+modified_good c at ErrorEnd b weights place weighted vector first second sees writes = absurd first
 
 modified_fine : (i : Inside) (c : CheckerTree) (k : Known) → Matches i c k → (at : ℕ) (edges : Identifier) (ends : EndsTree) (f v : Identifier)
-    → found edges.bytes k.names ≡ Some meaning.Edges → EndsFit k.names ends → Modifies k f v → GivesSet at (initializer_of c at (source.ApplyModified edges ends f v))
-modified_fine i c k m at edges ends f v are fit modifies =
-    let e = used_kept i c k m edges meaning.Edges are in
+    → EndsFit k.names ends → Modifies k edges f v → GivesSet at (initializer_of c at (source.ApplyModified edges ends f v))
+modified_fine i c k m at edges ends f v fit modifies =
+    let e = used_kept i c k m edges (meaning.Edges modifies.weights) modifies.edges_mean in
     let a = end_kept i c k m ends.from fit.0 in
     let b = end_kept i c k m ends.to fit.1 in
-    let g = used_kept i c k m f (meaning.EdgeFunction modifies.place) modifies.function_means in
+    let g = used_kept i c k m f (meaning.EdgeFunction modifies.place modifies.weighted) modifies.function_means in
     let w = used_kept i c k m v (meaning.Vector modifies.written) modifies.vector_means in
+    let x = (end_of c.scope ends.from).value in
+    let y = (end_of c.scope ends.to).value in
     let writes : writes_vector c.written modifies.place modifies.written ≡ true =
     ap is_some (subst (λ ws. lookup (nat_eq modifies.written) (slice_index_or ws modifies.place []) ≡ Some modifies.by) (sym m.written) modifies.writes) in
-    let all = subst (λ e. GivesSet at (modified c at e (end_of c.scope ends.from).value (end_of c.scope ends.to).value (used c.scope f).value (used c.scope v).value)) (sym (edges_are (used c.scope edges).value e.1))
-    (subst (λ g. GivesSet at (modified c at entity.Edges (end_of c.scope ends.from).value (end_of c.scope ends.to).value g (used c.scope v).value)) (sym (edge_function_entity (used c.scope f).value modifies.place g.1))
-    (subst (λ w. GivesSet at (modified c at entity.Edges (end_of c.scope ends.from).value (end_of c.scope ends.to).value (entity.EdgeFunction modifies.place) w)) (sym (vector_entity (used c.scope v).value modifies.written w.1))
-    (modified_good c at (end_of c.scope ends.from).value (end_of c.scope ends.to).value modifies.place modifies.written a.1 b.1 writes))) in (
+    let all = subst (λ e. GivesSet at (modified c at e x y (used c.scope f).value (used c.scope v).value)) (sym (edges_are (used c.scope edges).value modifies.weights e.1))
+    (subst (λ g. GivesSet at (modified c at (entity.Edges modifies.weights) x y g (used c.scope v).value)) (sym (edge_function_entity (used c.scope f).value modifies.place modifies.weighted g.1))
+    (subst (λ w. GivesSet at (modified c at (entity.Edges modifies.weights) x y (entity.EdgeFunction modifies.place modifies.weighted) w)) (sym (vector_entity (used c.scope v).value modifies.written w.1))
+    (modified_good c at x y modifies.weights modifies.place modifies.weighted modifies.written a.1 b.1 modifies.sees writes))) in (
       both_none (used c.scope edges).faults _ e.0 (both_none (end_of c.scope ends.from).faults _ a.0 (both_none (end_of c.scope ends.to).faults _ b.0
           (both_none (used c.scope f).faults _ g.0 (both_none (used c.scope v).faults _ w.0 all.0)))),
       all.1,
@@ -156,8 +176,8 @@ pub given_members : (i : Inside) (c : CheckerTree) (k : Known) → Matches i c k
 given_members i c k m at (source.NewSet size) gives = new_set_fine at size gives
 given_members i c k m at (source.Load argument) gives = absurd gives
 given_members i c k m at (source.Vertices edges) gives =
-    let e = used_kept i c k m edges meaning.Edges gives in
-    let x = of_edges_fine at (used c.scope edges).value e.1 (initial_value.Members set.All) in
+    let e = used_kept i c k m edges (meaning.Edges gives.0) gives.1 in
+    let x = of_edges_fine at (used c.scope edges).value gives.0 e.1 (initial_value.Members set.All) in
     (both_none (used c.scope edges).faults _ e.0 x.0, subst (λ g. (initializer_members at g).faults ≡ []) (sym x.1) refl)
 given_members i c k m at (source.OutDegrees edges) gives = absurd gives
 given_members i c k m at (source.Filter s f) gives =
@@ -165,7 +185,7 @@ given_members i c k m at (source.Filter s f) gives =
     let y = used_kept i c k m f meaning.Filter gives.1 in
     let all = filtered_fine at (used c.scope s).value (used c.scope f).value x.1 y.1 in
     (both_none (used c.scope s).faults _ x.0 (both_none (used c.scope f).faults _ y.0 all.0), all.1)
-given_members i c k m at (source.ApplyModified edges ends f v) gives = modified_fine i c k m at edges ends f v gives.0 gives.1 gives.2
+given_members i c k m at (source.ApplyModified edges ends f v) gives = modified_fine i c k m at edges ends f v gives.0 gives.1
 given_members i c k m at (source.Value e) gives =
     let x = expression_kept i c k m at e Set gives in
     (both_none (value_of c.scope at e).faults [] x.none refl, set_value at (value_of c.scope at e).value x.is)
@@ -200,6 +220,7 @@ declare_kept c k m at name initial declared.VertexSet fits new =
 declare_kept c k m at name initial declared.Vertex fits new = absurd fits
 declare_kept c k m at name initial declared.Vector fits new = absurd fits
 declare_kept c k m at name initial declared.EdgeSet fits new = absurd fits
+declare_kept c k m at name initial declared.WeightedEdgeSet fits new = absurd fits
 
 assign_kept : (c : CheckerTree) (k : Known) → Matches inside.Main c k → (at : ℕ) (name : Identifier) (initial : InitialTree) → AssignFits inside.Main k name initial
     → (assign c at name initial).faults ≡ []
@@ -290,17 +311,26 @@ print_kept c k m at e has =
     ]
 
 -- applies
-edges_applied_fine : (at : ℕ) (a b : ApplyEndTree) (ends : Bool) (place : ℕ) → IsGood a → IsGood b → (applied at entity.Edges a b ends (entity.EdgeFunction place)).faults ≡ []
-edges_applied_fine at Absent Absent ends place first second = refl
-edges_applied_fine at Absent (initial_value.Given g) ends place first second = refl
-edges_applied_fine at (initial_value.Given f) Absent ends place first second = refl
-edges_applied_fine at (initial_value.Given f) (initial_value.Given g) ends place first second = refl
-edges_applied_fine at Absent Wrong ends place first second = absurd second
-edges_applied_fine at Absent ErrorEnd ends place first second = absurd second
-edges_applied_fine at (initial_value.Given f) Wrong ends place first second = absurd second
-edges_applied_fine at (initial_value.Given f) ErrorEnd ends place first second = absurd second
-edges_applied_fine at Wrong b ends place first second = absurd first
-edges_applied_fine at ErrorEnd b ends place first second = absurd first
+if_applied : (at : ℕ) (m : WithFaults ActionTree) (b : Bool) → b ≡ false → m.faults ≡ [] → (if b then fault_at at rule.WrongType no_action else m).faults ≡ []
+if_applied at m true is none = absurd cc
+if_applied at m false is none = none
+
+edges_applied_fine : (at : ℕ) (a b : ApplyEndTree) (ends weights : Bool) (place : ℕ) (weighted : Bool) → IsGood a → IsGood b → SeesWeights weights weighted
+    → (applied at (entity.Edges weights) a b ends (entity.EdgeFunction place weighted)).faults ≡ []
+edges_applied_fine at Absent Absent ends weights place weighted first second sees =
+    if_applied at (edges_applied at Absent Absent false (Some place)) (not weights && weighted) (weights_seen weights weighted sees) refl
+edges_applied_fine at Absent (initial_value.Given f) ends weights place weighted first second sees =
+    if_applied at (edges_applied at Absent (initial_value.Given f) false (Some place)) (not weights && weighted) (weights_seen weights weighted sees) refl
+edges_applied_fine at (initial_value.Given f) Absent ends weights place weighted first second sees =
+    if_applied at (edges_applied at (initial_value.Given f) Absent false (Some place)) (not weights && weighted) (weights_seen weights weighted sees) refl
+edges_applied_fine at (initial_value.Given f) (initial_value.Given g) ends weights place weighted first second sees =
+    if_applied at (edges_applied at (initial_value.Given f) (initial_value.Given g) false (Some place)) (not weights && weighted) (weights_seen weights weighted sees) refl
+edges_applied_fine at Absent Wrong ends weights place weighted first second sees = absurd second
+edges_applied_fine at Absent ErrorEnd ends weights place weighted first second sees = absurd second
+edges_applied_fine at (initial_value.Given f) Wrong ends weights place weighted first second sees = absurd second
+edges_applied_fine at (initial_value.Given f) ErrorEnd ends weights place weighted first second sees = absurd second
+edges_applied_fine at Wrong b ends weights place weighted first second sees = absurd first
+edges_applied_fine at ErrorEnd b ends weights place weighted first second sees = absurd first
 
 set_applied_fine : (at : ℕ) (t : Entity) (a b : ApplyEndTree) (place : ℕ) → type_named (Some (meaning_of t)) ≡ Some Set → (applied at t a b false (entity.VertexFunction place)).faults ≡ []
 set_applied_fine at (entity.ConstantSet slot) a b place is = refl
@@ -314,17 +344,17 @@ no_ends (Some from) to first second = absurd cc
 
 apply_kept : (c : CheckerTree) (k : Known) → Matches inside.Main c k → (at : ℕ) (target : Identifier) (ends : EndsTree) (function : Identifier) → ApplyFits k target ends function
     → (apply c.scope at target ends function).faults ≡ []
-apply_kept c k m at target ends function (AppliesEdges place edges fit means) =
-    let t = used_kept inside.Main c k m target meaning.Edges edges in
+apply_kept c k m at target ends function (AppliesEdges weights place weighted edges fit means sees) =
+    let t = used_kept inside.Main c k m target (meaning.Edges weights) edges in
     let a = end_kept inside.Main c k m ends.from fit.0 in
     let b = end_kept inside.Main c k m ends.to fit.1 in
-    let f = used_kept inside.Main c k m function (meaning.EdgeFunction place) means in
+    let f = used_kept inside.Main c k m function (meaning.EdgeFunction place weighted) means in
     let x = (end_of c.scope ends.from).value in
     let y = (end_of c.scope ends.to).value in
     both_none (used c.scope target).faults _ t.0 (both_none (end_of c.scope ends.from).faults _ a.0 (both_none (end_of c.scope ends.to).faults _ b.0 (both_none (used c.scope function).faults _ f.0
-    (subst (λ t. (applied at t x y (has_ends ends) (used c.scope function).value).faults ≡ []) (sym (edges_are (used c.scope target).value t.1))
-    (subst (λ f. (applied at entity.Edges x y (has_ends ends) f).faults ≡ []) (sym (edge_function_entity (used c.scope function).value place f.1))
-    (edges_applied_fine at x y (has_ends ends) place a.1 b.1))))))
+    (subst (λ t. (applied at t x y (has_ends ends) (used c.scope function).value).faults ≡ []) (sym (edges_are (used c.scope target).value weights t.1))
+    (subst (λ f. (applied at (entity.Edges weights) x y (has_ends ends) f).faults ≡ []) (sym (edge_function_entity (used c.scope function).value place weighted f.1))
+    (edges_applied_fine at x y (has_ends ends) weights place weighted a.1 b.1 sees))))))
 apply_kept c k m at target ends function (AppliesVertices set from to means) =
     let t = set_kept inside.Main c k m target set in
     let f = used_kept inside.Main c k m function meaning.VertexFunction means in

@@ -65,6 +65,7 @@ declare_step_kept i c k user m at name initial declared.VertexSet fits new = no_
 declare_step_kept i c k user m at name initial declared.Vertex fits new = absurd fits
 declare_step_kept i c k user m at name initial declared.Vector fits new = absurd fits
 declare_step_kept i c k user m at name initial declared.EdgeSet fits new = absurd fits
+declare_step_kept i c k user m at name initial declared.WeightedEdgeSet fits new = absurd fits
 
 assign_step_kept : (i : Inside) (c : CheckerTree) (k : Known) → IsUser i → Matches i c k → (at : ℕ) (name : Identifier) (initial : InitialTree) → AssignFits i k name initial
     → (assign_step c at name initial).faults ≡ []

@@ -31,7 +31,7 @@ abbrev pub nowhere : Vertices
 nowhere p name = ⊥
 
 abbrev pub EntityIsKnown : Vertices → List ℕ → Entity → Type 0
-EntityIsKnown At name entity.Edges = Unit {0}
+EntityIsKnown At name (entity.Edges weights) = Unit {0}
 EntityIsKnown At name (entity.Vector place) = Unit {0}
 EntityIsKnown At name (entity.ConstantSet slot) = Unit {0}
 EntityIsKnown At name (entity.IntegerConstant own n) = Unit {0}
@@ -41,7 +41,8 @@ EntityIsKnown At name (entity.ConditionVariable slot) = Unit {0}
 EntityIsKnown At name (entity.SetVariable slot) = Unit {0}
 EntityIsKnown At name (entity.LoopVariable slot) = Unit {0}
 EntityIsKnown At name (entity.Parameter p) = At p name
-EntityIsKnown At name (entity.EdgeFunction place) = Unit {0}
+EntityIsKnown At name entity.Weight = Unit {0}
+EntityIsKnown At name (entity.EdgeFunction place weighted) = Unit {0}
 EntityIsKnown At name (entity.VertexFunction place) = Unit {0}
 EntityIsKnown At name (entity.Filter place) = Unit {0}
 EntityIsKnown At name entity.Main = Unit {0}
@@ -114,6 +115,7 @@ declare_step_known At i c at name initializer declared.Vertex known none = absur
 declare_step_known At i c at name initializer declared.VertexSet known none = absurd (not_empty _ _ none)
 declare_step_known At i c at name initializer declared.Vector known none = absurd (not_empty _ _ none)
 declare_step_known At i c at name initializer declared.EdgeSet known none = absurd (not_empty _ _ none)
+declare_step_known At i c at name initializer declared.WeightedEdgeSet known none = absurd (not_empty _ _ none)
 
 pub step_known : (At : Vertices) (i : Inside) (c : CheckerTree) (action : source.ActionTree) → IsKnown At i c.scope → (step_typed c action).faults ≡ []
     → IsKnown At i (step_typed c action).value.1.scope
@@ -146,6 +148,7 @@ declare_known At i c at name initializer declared.VertexSet known none =
     declared_known At i c name e known tt (no_left (declared_in c name e).faults [] (no_right (initializer_members at initializer).faults _ none))
 declare_known At i c at name initializer declared.Vector known none = absurd (not_empty _ _ none)
 declare_known At i c at name initializer declared.EdgeSet known none = absurd (not_empty _ _ none)
+declare_known At i c at name initializer declared.WeightedEdgeSet known none = absurd (not_empty _ _ none)
 
 pub action_known : (At : Vertices) (i : Inside) (c : CheckerTree) (action : source.ActionTree) → IsKnown At i c.scope → (action_typed c action).faults ≡ []
     → IsKnown At i (action_typed c action).value.1.scope

@@ -21,7 +21,7 @@ use Rattle.expression_types.specs.Names.{found}
 use Rattle.expression_types.specs.ScopeTree.{entered}
 use Rattle.types.specs.Block.{action_typed, behind, closed, statements_typed}
 use Rattle.types.specs.Checker.{CheckerTree, counted, declared_in, integer_slot, labelled, new_label, restarted, with_scope, without_ends}
-use Rattle.types.specs.Declaration.{DeclaredTree, FunctionKindTree, MainKind, EdgeKind, VertexKind, FilterKind, NoKind, declaration_typed, declarations_typed, declare_constant_as, declare_function, declare_name, function_declared, inside_of, kind, kind_fits, main_declared, opened, parameter, parameters_declared, result_declared, steps_declared, with_main}
+use Rattle.types.specs.Declaration.{DeclaredTree, FunctionKindTree, MainKind, EdgeKind, VertexKind, FilterKind, NoKind, declaration_typed, declarations_typed, declare_constant_as, declare_function, declare_name, function_declared, inside_of, kind, kind_fits, main_declared, opened, parameter, parameters_declared, result_declared, steps_declared, with_main, takes_weight}
 use Rattle.types.specs.Initial.{InitializerTree, initializer_of}
 use Rattle.type_laws.specs.Labels.{block_labels, inner_labels, labels_of, own_label}
 use Rattle.types.specs.Program.{opening, program_of, set_count}
@@ -109,6 +109,7 @@ declare_step_meets c at name initializer declared.Vertex = meets_nothing c _ ref
 declare_step_meets c at name initializer declared.VertexSet = meets_nothing c _ refl refl
 declare_step_meets c at name initializer declared.Vector = meets_nothing c _ refl refl
 declare_step_meets c at name initializer declared.EdgeSet = meets_nothing c _ refl refl
+declare_step_meets c at name initializer declared.WeightedEdgeSet = meets_nothing c _ refl refl
 
 declare_meets : (c : CheckerTree) (at : ℕ) (name : Identifier) (initializer : InitializerTree) (type : DeclaredType) → Meets c (declare_as c at name initializer type).value.1 []
 declare_meets c at name initializer declared.Int = meets_nothing c _ refl refl
@@ -117,6 +118,7 @@ declare_meets c at name initializer declared.Vertex = meets_nothing c _ refl ref
 declare_meets c at name initializer declared.VertexSet = meets_nothing c _ refl refl
 declare_meets c at name initializer declared.Vector = meets_nothing c _ refl refl
 declare_meets c at name initializer declared.EdgeSet = meets_nothing c _ refl refl
+declare_meets c at name initializer declared.WeightedEdgeSet = meets_nothing c _ refl refl
 
 -- after a block
 meets_inside : (c d : CheckerTree) (xs : List (List ℕ)) → Meets c d xs → Meets c (with_scope d c.scope) xs
@@ -205,11 +207,11 @@ mutual
       meets_then c d rest.value.1 (own_label label) (inner_labels action ++ block_labels others) first last
 
 -- functions
-parameters_meet : (c : CheckerTree) (at : Endpoint) (parameters : List ParameterTree) → Meets c (parameters_declared c at parameters).value []
-parameters_meet c at [] = meets_none c
-parameters_meet c at (x ∷ others) =
-    let d = (declared_in c x.name (parameter at x.declared)).value in
-    meets_then c d (parameters_declared d endpoint.Destination others).value [] [] (meets_nothing c d refl refl) (parameters_meet d endpoint.Destination others)
+parameters_meet : (w : Bool) (c : CheckerTree) (at : Endpoint) (parameters : List ParameterTree) → Meets c (parameters_declared w c at parameters).value []
+parameters_meet w c at [] = meets_none c
+parameters_meet w c at (x ∷ others) =
+    let d = (declared_in c x.name (parameter w at x.declared)).value in
+    meets_then c d (parameters_declared w d endpoint.Destination others).value [] [] (meets_nothing c d refl refl) (parameters_meet w d endpoint.Destination others)
 
 result_meets : (c : CheckerTree) (kind : FunctionKindTree) (result : Option ParameterTree) → Meets c (result_declared c kind result).value []
 result_meets c kind None = meets_none c
@@ -218,13 +220,13 @@ result_meets c kind (Some result) = meets_nothing c _ refl refl
 opened_meets : (c : CheckerTree) (kind : FunctionKindTree) (parameters : List ParameterTree) (result : Option ParameterTree) → Meets c (opened c kind parameters result).value []
 opened_meets c kind parameters result =
     let e = with_writes (with_scope c (entered (inside_of kind) c.scope)) [] in
-    let d = (parameters_declared e endpoint.Source parameters).value in
-    let all = meets_then e d (result_declared d kind result).value [] [] (parameters_meet e endpoint.Source parameters) (result_meets d kind result) in
+    let d = (parameters_declared (takes_weight kind) e endpoint.Source parameters).value in
+    let all = meets_then e d (result_declared d kind result).value [] [] (parameters_meet (takes_weight kind) e endpoint.Source parameters) (result_meets d kind result) in
     meets_like e (result_declared d kind result).value c (result_declared d kind result).value [] refl refl refl refl all
 
 function_meets : (d : DeclaredTree) (kind : FunctionKindTree) (name : Identifier) (steps : StepsTree) → Meets d.checker (function_declared d kind name steps).value.checker []
 function_meets d (MainKind fits) name steps = meets_nothing d.checker _ refl refl
-function_meets d EdgeKind name steps = meets_nothing d.checker _ refl refl
+function_meets d (EdgeKind weighted) name steps = meets_nothing d.checker _ refl refl
 function_meets d VertexKind name steps = meets_nothing d.checker _ refl refl
 function_meets d FilterKind name steps = meets_nothing d.checker _ refl refl
 function_meets d NoKind name steps = meets_nothing d.checker _ refl refl
@@ -263,7 +265,7 @@ main_meets d fits name parameters result body none =
 each_function_meets : (d : DeclaredTree) (at : ℕ) (name : Identifier) (parameters : List ParameterTree) (result : Option ParameterTree) (body : source.BlockTree) (kind : FunctionKindTree)
     → (declare_function d at name parameters result body kind).faults ≡ [] → Meets d.checker (declare_function d at name parameters result body kind).value.checker (block_labels body)
 each_function_meets d at name parameters result body (MainKind fits) none = main_meets d fits name parameters result body none
-each_function_meets d at name parameters result body EdgeKind none = steps_declared_meet d at EdgeKind name parameters result body none
+each_function_meets d at name parameters result body (EdgeKind weighted) none = steps_declared_meet d at (EdgeKind weighted) name parameters result body none
 each_function_meets d at name parameters result body VertexKind none = steps_declared_meet d at VertexKind name parameters result body none
 each_function_meets d at name parameters result body FilterKind none = steps_declared_meet d at FilterKind name parameters result body none
 each_function_meets d at name parameters result body NoKind none = steps_declared_meet d at NoKind name parameters result body none
@@ -276,6 +278,7 @@ constant_meets d at name initial declared.Vertex initializer = meets_nothing d.c
 constant_meets d at name initial declared.VertexSet initializer = meets_nothing d.checker _ refl refl
 constant_meets d at name initial declared.Vector initializer = meets_nothing d.checker _ refl refl
 constant_meets d at name initial declared.EdgeSet initializer = meets_nothing d.checker _ refl refl
+constant_meets d at name initial declared.WeightedEdgeSet initializer = meets_nothing d.checker _ refl refl
 
 declarations_meet : (d : DeclaredTree) (xs : List DeclarationTree) → (declarations_typed d xs).faults ≡ [] → Meets d.checker (declarations_typed d xs).value.checker (labels_of xs)
 declarations_meet d [] none = meets_none d.checker

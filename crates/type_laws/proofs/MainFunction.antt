@@ -34,6 +34,7 @@ constant_main d at name initial declared.Vertex initializer = refl
 constant_main d at name initial declared.VertexSet initializer = refl
 constant_main d at name initial declared.Vector initializer = refl
 constant_main d at name initial declared.EdgeSet initializer = refl
+constant_main d at name initial declared.WeightedEdgeSet initializer = refl
 
 -- main stands, or was there before
 taken : (d : DeclaredTree) (fits : Bool) (main : BlockTree) → IsThere (with_main d fits main).main → (fits ≡ true) ⊎ IsThere d.main
@@ -43,7 +44,7 @@ taken d false main there = inr there
 kept_main : (d : DeclaredTree) (at : ℕ) (name : Identifier) (parameters : List ParameterTree) (result : Option ParameterTree) (body : source.BlockTree) (kind : FunctionKindTree) → IsUserKind kind
     → (declare_function d at name parameters result body kind).value.main ≡ d.main
 kept_main d at name parameters result body (MainKind fits) user = absurd user
-kept_main d at name parameters result body EdgeKind user = refl
+kept_main d at name parameters result body (EdgeKind weighted) user = refl
 kept_main d at name parameters result body VertexKind user = refl
 kept_main d at name parameters result body FilterKind user = refl
 kept_main d at name parameters result body NoKind user = refl

@@ -20,7 +20,7 @@ use Rattle.expression_types.specs.ValueTree.{ValueTree, named_set}
 use Rattle.types.specs.Block.{action_typed, behind, closed, statements_typed}
 use Rattle.types.specs.Checker.{CheckerTree, counted, declared_in, integer_slot, labelled, new_label, restarted, with_scope}
 use Rattle.types.specs.Declaration.{DeclaredTree, FunctionKindTree, MainKind, EdgeKind, VertexKind, FilterKind, NoKind, declaration_typed, declarations_typed, declare_constant_as, declare_function, declare_name, kind, opened, with_main}
-use Rattle.types.specs.Initial.{ApplyEndTree, InitializerTree, edge_function, end_of, initializer_of, is_edges, names_error, is_error_end, is_wrong, vertex_function}
+use Rattle.types.specs.Initial.{ApplyEndTree, InitializerTree, edge_function, end_of, initializer_of, is_edges, names_error, is_error_end, is_wrong, vertex_function, lacks_weights}
 use Rattle.types.specs.Program.{main_of, opening, program_of, set_count}
 use Rattle.types.specs.Statement.{add_vertex, added, applied, apply, assign, assigned, declare_as, edges_applied, entry_reduced, entry_set, has_ends, print, printed, reduce, reduce_entry, reduced, set_applied, set_entry, vertices_applied}
 use Rattle.types.specs.Wanted.{as_index, condition_in, integer_in}
@@ -63,15 +63,15 @@ if_plain true x y first second = first
 if_plain false x y first second = second
 
 assigned_plain : (at : ℕ) (initializer : InitializerTree) (e : Entity) → Plain (assigned at initializer e).value
-assigned_plain at initializer entity.Edges = refl
+assigned_plain at initializer (entity.Edges weights) = refl
 assigned_plain at initializer _ = refl
 
 reduced_plain : (at : ℕ) (by : Reduction) (v : ValueTree) (e : Entity) → Plain (reduced at by v e).value
-reduced_plain at by v entity.Edges = refl
+reduced_plain at by v (entity.Edges weights) = refl
 reduced_plain at by v _ = refl
 
 added_plain : (at : ℕ) (v : ValueTree) (e : Entity) → Plain (added at v e).value
-added_plain at v entity.Edges = refl
+added_plain at v (entity.Edges weights) = refl
 added_plain at v _ = refl
 
 set_plain : (vector : Option ℕ) (index : Option IntegerTree) (e : IntegerTree) → Plain (entry_set vector index e)
@@ -108,7 +108,7 @@ set_applied_plain at ends f (Some slot) = if_plain ends _ _ refl (vertices_plain
 applied_plain : (at : ℕ) (t : Entity) (a b : ApplyEndTree) (ends : Bool) (f : Entity) → Plain (applied at t a b ends f).value
 applied_plain at t a b ends f =
     if_plain (names_error t) _ _ refl (if_plain (is_edges t) _ _
-    (if_plain (is_wrong a || is_wrong b) _ _ refl (edges_plain at a b (names_error f) (edge_function f)))
+    (if_plain (is_wrong a || is_wrong b || lacks_weights t f) _ _ refl (edges_plain at a b (names_error f) (edge_function f)))
     (set_applied_plain at ends f (named_set t)))
 
 -- what a statement is, and the checker after it
@@ -140,6 +140,7 @@ declare_follows c at name initializer declared.Vertex = no_labels (met c)
 declare_follows c at name initializer declared.VertexSet = no_labels (met c)
 declare_follows c at name initializer declared.Vector = no_labels (met c)
 declare_follows c at name initializer declared.EdgeSet = no_labels (met c)
+declare_follows c at name initializer declared.WeightedEdgeSet = no_labels (met c)
 
 mutual
   action_follows : (c : CheckerTree) (action : source.ActionTree) → (action_typed c action).faults ≡ [] → ActionFollows (met c) (action_typed c action).value
@@ -212,6 +213,7 @@ constant_ordered d at name initial declared.Vertex initializer order = order
 constant_ordered d at name initial declared.VertexSet initializer order = order
 constant_ordered d at name initial declared.Vector initializer order = order
 constant_ordered d at name initial declared.EdgeSet initializer order = order
+constant_ordered d at name initial declared.WeightedEdgeSet initializer order = order
 
 with_main_ordered : (d : DeclaredTree) (fits : Bool) (main : BlockTree) → MainIsOrdered d.main → AreOrdered main → MainIsOrdered (with_main d fits main).main
 with_main_ordered d true main old new = new
@@ -225,7 +227,7 @@ main_ordered d at name parameters result body (MainKind fits) none order =
     let e = declare_name (record d { checker = with_scope b.value.1 d.checker.scope }) name entity.Main in
     let clear = no_left b.faults (e.faults ++ []) (no_right c.faults (b.faults ++ (e.faults ++ [])) none) in
     with_main_ordered e.value fits b.value.0 order (met c.value, (statements_follow (met c.value) c.value Empty body clear (no_labels (met c.value))).ordered)
-main_ordered d at name parameters result body EdgeKind none order = order
+main_ordered d at name parameters result body (EdgeKind weighted) none order = order
 main_ordered d at name parameters result body VertexKind none order = order
 main_ordered d at name parameters result body FilterKind none order = order
 main_ordered d at name parameters result body NoKind none order = order

@@ -23,7 +23,7 @@ use Rattle.expression_types.specs.declared.scope.Inside.TheVariants as inside
 use Rattle.expression_types.specs.ScopeTree.{entered, sets_of}
 use Rattle.types.specs.Block.{statements_typed}
 use Rattle.types.specs.Checker.{CheckerTree, declared_in, integer_slot, labelled, restarted, with_scope}
-use Rattle.types.specs.Declaration.{DeclaredTree, FunctionKindTree, MainKind, EdgeKind, VertexKind, FilterKind, NoKind, begins, declaration_typed, declarations_typed, declare_constant_as, declare_function, declare_name, function_declared, function_of, has_all, inside_of, is_bool, is_vertex, kind, kind_fits, kind_of, literal_or_fault, loads, main_bytes, main_declared, next_name, only_edges, opened, parameter, parameters_declared, result_declared, steps_declared, takes_nothing, with_main}
+use Rattle.types.specs.Declaration.{DeclaredTree, FunctionKindTree, MainKind, EdgeKind, VertexKind, FilterKind, NoKind, begins, declaration_typed, declarations_typed, declare_constant_as, declare_function, declare_name, function_declared, function_of, has_all, inside_of, is_bool, is_vertex, kind, kind_fits, kind_of, literal_or_fault, loads, main_bytes, main_declared, next_name, only_edges, opened, parameter, parameters_declared, result_declared, steps_declared, takes_nothing, with_main, takes_weight, is_int}
 use Rattle.types.specs.Initial.{InitializerTree, initializer_of, is_sound, writes_vector}
 use Rattle.types.specs.Literal.{literal_condition, literal_integer}
 use Rattle.types.specs.Program.{main_of, opening, program_of, set_count}
@@ -34,7 +34,7 @@ use Rattle.type_laws.specs.VisibleSets.{NamesSets, NamesSetsApart}
 use Rattle.type_laws.proofs.EdgeAdds.{Adds, adds_none, is_written, steps_add}
 use Rattle.type_laws.proofs.EntryAccess.{edge_body, named}
 use Rattle.type_laws.proofs.Faultless.{no_left, no_right, not_empty}
-use Rattle.type_laws.proofs.KnownDeclarations.{AllKnown, declaration_known, opened_known}
+use Rattle.type_laws.proofs.KnownDeclarations.{AllKnown, declaration_known, opened_known, ParametersFit}
 use Rattle.type_laws.proofs.NamedSets.{EntityStands, Holds, InNames, MainFits, SetsFit, Visible, WrittenFits, all_stand, declared_count, declared_sets, get_cases, labelled_written, other_declared, statements_fit}
 use Rattle.type_laws.proofs.NamesGrow.{Begins, declared_grow, opened_grow, statements_grow, steps_grow}
 use Rattle.type_laws.proofs.ResolvedPrograms.{sets_counted}
@@ -48,6 +48,7 @@ declare_written c at name initializer declared.Vertex = refl
 declare_written c at name initializer declared.VertexSet = refl
 declare_written c at name initializer declared.Vector = refl
 declare_written c at name initializer declared.EdgeSet = refl
+declare_written c at name initializer declared.WeightedEdgeSet = refl
 
 mutual
   step_written : (c : CheckerTree) (action : source.ActionTree) → (step_typed c action).value.1.written ≡ c.written
@@ -72,9 +73,9 @@ mutual
       let s = (step_typed l.1 action).value in
       steps_written s.1 (step_behind so_far s.0) others ∙ step_written l.1 action ∙ labelled_written c label
 
-parameters_written : (c : CheckerTree) (at : Endpoint) (parameters : List ParameterTree) → (parameters_declared c at parameters).value.written ≡ c.written
-parameters_written c at [] = refl
-parameters_written c at (x ∷ others) = parameters_written (declared_in c x.name (parameter at x.declared)).value endpoint.Destination others
+parameters_written : (w : Bool) (c : CheckerTree) (at : Endpoint) (parameters : List ParameterTree) → (parameters_declared w c at parameters).value.written ≡ c.written
+parameters_written w c at [] = refl
+parameters_written w c at (x ∷ others) = parameters_written w (declared_in c x.name (parameter w at x.declared)).value endpoint.Destination others
 
 result_written : (c : CheckerTree) (kind : FunctionKindTree) (result : Option ParameterTree) → (result_declared c kind result).value.written ≡ c.written
 result_written c kind None = refl
@@ -83,15 +84,22 @@ result_written c kind (Some result) = refl
 opened_written : (c : CheckerTree) (kind : FunctionKindTree) (parameters : List ParameterTree) (result : Option ParameterTree) → (opened c kind parameters result).value.written ≡ c.written
 opened_written c kind parameters result =
     let e = with_writes (with_scope c (entered (inside_of kind) c.scope)) [] in
-    result_written (parameters_declared e endpoint.Source parameters).value kind result ∙ parameters_written e endpoint.Source parameters
+    result_written (parameters_declared (takes_weight kind) e endpoint.Source parameters).value kind result ∙ parameters_written (takes_weight kind) e endpoint.Source parameters
 
--- an edge function has two vertices as parameters, and no result
-abbrev IsEdge : List ParameterTree → Option ParameterTree → Type 0
-IsEdge (src ∷ dst ∷ []) None = (is_vertex src.declared ≡ true) × (is_vertex dst.declared ≡ true)
-IsEdge _ _ = ⊥
+-- an edge function has two vertices as parameters, and the weight or not, and no result
+abbrev IsEdge : Bool → List ParameterTree → Option ParameterTree → Type 0
+IsEdge weighted [] result = ⊥
+IsEdge weighted (src ∷ []) result = ⊥
+IsEdge false (src ∷ dst ∷ []) None = (is_vertex src.declared ≡ true) × (is_vertex dst.declared ≡ true)
+IsEdge true (src ∷ dst ∷ []) None = ⊥
+IsEdge weighted (src ∷ dst ∷ []) (Some result) = ⊥
+IsEdge false (src ∷ dst ∷ w ∷ []) None = ⊥
+IsEdge true (src ∷ dst ∷ w ∷ []) None = (is_vertex src.declared ≡ true) × (is_vertex dst.declared ≡ true) × (is_int w.declared ≡ true)
+IsEdge weighted (src ∷ dst ∷ w ∷ []) (Some result) = ⊥
+IsEdge weighted (src ∷ dst ∷ w ∷ u ∷ others) result = ⊥
 
 abbrev HasShape : FunctionKindTree → List ParameterTree → Option ParameterTree → Type 0
-HasShape EdgeKind parameters result = IsEdge parameters result
+HasShape (EdgeKind weighted) parameters result = IsEdge weighted parameters result
 HasShape _ parameters result = Unit {0}
 
 if_shape : (b : Bool) (k l : FunctionKindTree) (parameters : List ParameterTree) (result : Option ParameterTree) → (b ≡ true → HasShape k parameters result) → HasShape l parameters result
@@ -104,23 +112,35 @@ other_shape [] result = tt
 other_shape (x ∷ []) None = if_shape (is_vertex x.declared) VertexKind NoKind (x ∷ []) None (λ b. tt) tt
 other_shape (x ∷ []) (Some result) = if_shape (is_vertex x.declared && is_bool result.declared) FilterKind NoKind (x ∷ []) (Some result) (λ b. tt) tt
 other_shape (x ∷ y ∷ []) None =
-    if_shape (is_vertex x.declared && is_vertex y.declared) EdgeKind NoKind (x ∷ y ∷ []) None (λ b. and_parts (is_vertex x.declared) (is_vertex y.declared) b) tt
+    if_shape (is_vertex x.declared && is_vertex y.declared) (EdgeKind false) NoKind (x ∷ y ∷ []) None (λ b. and_parts (is_vertex x.declared) (is_vertex y.declared) b) tt
 other_shape (x ∷ y ∷ []) (Some result) = tt
-other_shape (x ∷ y ∷ z ∷ others) result = tt
+other_shape (x ∷ y ∷ z ∷ []) None =
+    if_shape (is_vertex x.declared && is_vertex y.declared && is_int z.declared) (EdgeKind true) NoKind (x ∷ y ∷ z ∷ []) None (λ b. three_parts (is_vertex x.declared) (is_vertex y.declared) (is_int z.declared) b) tt
+  where
+    three_parts : (a b c : Bool) → (a && b && c) ≡ true → (a ≡ true) × (b ≡ true) × (c ≡ true)
+    three_parts a b c is = let all = and_parts (a && b) c is in let both = and_parts a b all.0 in (both.0, both.1, all.1)
+other_shape (x ∷ y ∷ z ∷ []) (Some result) = tt
+other_shape (x ∷ y ∷ z ∷ u ∷ others) result = tt
 
 each_shape : (name : List ℕ) (parameters : List ParameterTree) (result : Option ParameterTree) → HasShape (kind name parameters result) parameters result
 each_shape name parameters result =
     if_shape (bytes_eq name main_bytes) (MainKind (takes_nothing parameters result)) (kind_of parameters result) parameters result (λ b. tt) (other_shape parameters result)
 
+parameters_write_nothing : (w : Bool) (c : CheckerTree) (at : Endpoint) (parameters : List ParameterTree) → (parameters_declared w c at parameters).value.writes ≡ c.writes
+parameters_write_nothing w c at [] = refl
+parameters_write_nothing w c at (x ∷ others) = parameters_write_nothing w (declared_in c x.name (parameter w at x.declared)).value endpoint.Destination others
+
 -- what the statements of an edge function add, where nothing was written before
-edge_adds : (d : DeclaredTree) (src dst : ParameterTree) (body : source.BlockTree) → IsEdge (src ∷ dst ∷ []) None → AllKnown d → (opened d.checker EdgeKind (src ∷ dst ∷ []) None).faults ≡ []
-    → (steps_typed (opened d.checker EdgeKind (src ∷ dst ∷ []) None).value NoStep body).faults ≡ []
-    → Adds [] (steps_typed (opened d.checker EdgeKind (src ∷ dst ∷ []) None).value NoStep body).value.1.writes
-    (steps_write (steps_typed (opened d.checker EdgeKind (src ∷ dst ∷ []) None).value NoStep body).value.0)
-edge_adds d src dst body shape known first none =
-    let c = opened d.checker EdgeKind (src ∷ dst ∷ []) None in
-    let inner = opened_known (named src.name.bytes dst.name.bytes) d.checker EdgeKind (src ∷ dst ∷ []) None (shape.0, refl, (shape.1, refl, tt)) tt known first in
-    steps_add (edge_body src.name.bytes dst.name.bytes) [] c.value NoStep body inner none (adds_none [])
+edge_adds : (d : DeclaredTree) (weighted : Bool) (parameters : List ParameterTree) (src dst : List ℕ) (body : source.BlockTree) → ParametersFit weighted (named src dst) endpoint.Source parameters → AllKnown d
+    → (opened d.checker (EdgeKind weighted) parameters None).faults ≡ [] → (steps_typed (opened d.checker (EdgeKind weighted) parameters None).value NoStep body).faults ≡ []
+    → Adds [] (steps_typed (opened d.checker (EdgeKind weighted) parameters None).value NoStep body).value.1.writes
+    (steps_write (steps_typed (opened d.checker (EdgeKind weighted) parameters None).value NoStep body).value.0)
+edge_adds d weighted parameters src dst body fits known first none =
+    let c = opened d.checker (EdgeKind weighted) parameters None in
+    let inner = opened_known (named src dst) d.checker (EdgeKind weighted) parameters None fits tt known first in
+    let e = with_writes (with_scope d.checker (entered inside.EdgeFunction d.checker.scope)) [] in
+    let nothing = parameters_write_nothing weighted e endpoint.Source parameters in
+    steps_add (edge_body src dst) [] c.value NoStep body inner none (subst (λ writes. Adds [] writes []) (sym nothing) (adds_none []))
 
 -- a list with one more, at a place
 index_cases : {A : Type 0} (xs : List A) (last other : A) (k : ℕ) → (slice_index_or (xs ++ last ∷ []) k other ≡ slice_index_or xs k other) ⊎ ((k ≡ length xs) × (slice_index_or (xs ++ last ∷ []) k other ≡ last))
@@ -180,10 +200,11 @@ module _ (p : ProgramTree) where
   }
   constant_within d at name initial declared.Vector initializer x = record { names = λ k n is. x.names k n (get_before d.checker.names (name.bytes ∷ []) k n is); sets = x.sets; functions = x.functions }
   constant_within d at name initial declared.EdgeSet initializer x = record { names = λ k n is. x.names k n (get_before d.checker.names (name.bytes ∷ []) k n is); sets = x.sets; functions = x.functions }
+  constant_within d at name initial declared.WeightedEdgeSet initializer x = record { names = λ k n is. x.names k n (get_before d.checker.names (name.bytes ∷ []) k n is); sets = x.sets; functions = x.functions }
 
   function_within : (d : DeclaredTree) (kind : FunctionKindTree) (name : Identifier) (steps : StepsTree) → IsWithin (function_declared d kind name steps).value → IsWithin d
   function_within d (MainKind fits) name steps x = record { names = λ k n is. x.names k n (get_before d.checker.names (name.bytes ∷ []) k n is); sets = x.sets; functions = x.functions }
-  function_within d EdgeKind name steps x = record {
+  function_within d (EdgeKind weighted) name steps x = record {
     names = λ k n is. x.names k n (get_before d.checker.names (name.bytes ∷ []) k n is);
     sets = x.sets;
     functions = λ k f is. x.functions k f (get_before d.edge_functions (function_of d steps ∷ []) k f is);
@@ -236,7 +257,7 @@ module _ (p : ProgramTree) where
   declared_function_within : (d : DeclaredTree) (at : ℕ) (name : Identifier) (parameters : List ParameterTree) (result : Option ParameterTree) (body : source.BlockTree) (kind : FunctionKindTree)
       → IsWithin (declare_function d at name parameters result body kind).value → IsWithin d
   declared_function_within d at name parameters result body (MainKind fits) x = main_within d fits name parameters result body x
-  declared_function_within d at name parameters result body EdgeKind x = steps_within d at EdgeKind name parameters result body x
+  declared_function_within d at name parameters result body (EdgeKind weighted) x = steps_within d at (EdgeKind weighted) name parameters result body x
   declared_function_within d at name parameters result body VertexKind x = steps_within d at VertexKind name parameters result body x
   declared_function_within d at name parameters result body FilterKind x = steps_within d at FilterKind name parameters result body x
   declared_function_within d at name parameters result body NoKind x = steps_within d at NoKind name parameters result body x
@@ -333,19 +354,31 @@ module _ (p : ProgramTree) where
       as_declared _ (no_set d.sets (length d.edge_functions) d.checker name e left within.names tt refl (checker_of d fits)) known fits.main
   constant_fits d at name initial declared.EdgeSet initializer none within known fits =
       let only = only_edges name (next_name d) d.edges in
-      let named = no_right only.faults ((declare_name d name entity.Edges).faults ++ []) (no_right (loads at initializer).faults _ none) in
-      let left = no_left (declared_in d.checker name entity.Edges).faults [] (no_left (declare_name d name entity.Edges).faults [] named) in
-      as_declared _ (no_set d.sets (length d.edge_functions) d.checker name entity.Edges left within.names tt refl (checker_of d fits)) known fits.main
+      let named = no_right only.faults ((declare_name d name (entity.Edges false)).faults ++ []) (no_right (loads at initializer).faults _ none) in
+      let left = no_left (declared_in d.checker name (entity.Edges false)).faults [] (no_left (declare_name d name (entity.Edges false)).faults [] named) in
+      as_declared _ (no_set d.sets (length d.edge_functions) d.checker name (entity.Edges false) left within.names tt refl (checker_of d fits)) known fits.main
+  constant_fits d at name initial declared.WeightedEdgeSet initializer none within known fits =
+      let only = only_edges name (next_name d) d.edges in
+      let named = no_right only.faults ((declare_name d name (entity.Edges true)).faults ++ []) (no_right (loads at initializer).faults _ none) in
+      let left = no_left (declared_in d.checker name (entity.Edges true)).faults [] (no_left (declare_name d name (entity.Edges true)).faults [] named) in
+      as_declared _ (no_set d.sets (length d.edge_functions) d.checker name (entity.Edges true) left within.names tt refl (checker_of d fits)) known fits.main
+
+  abbrev IsEdgeKind : FunctionKindTree → Type 0
+  IsEdgeKind (MainKind fits) = ⊥
+  IsEdgeKind (EdgeKind weighted) = Unit {0}
+  IsEdgeKind VertexKind = ⊥
+  IsEdgeKind FilterKind = ⊥
+  IsEdgeKind NoKind = ⊥
 
   -- functions, after their statements
   function_fits : (d : DeclaredTree) (kind : FunctionKindTree) (name : Identifier) (steps : StepsTree) → (function_declared d kind name steps).faults ≡ []
       → IsWithin (function_declared d kind name steps).value → AllKnown (function_declared d kind name steps).value → CheckerFits d.sets (length d.edge_functions) d.checker → MainHolds d.main
-      → (kind ≡ EdgeKind → Adds [] d.checker.writes (steps_write steps)) → DeclaredFits (function_declared d kind name steps).value
+      → (IsEdgeKind kind → Adds [] d.checker.writes (steps_write steps)) → DeclaredFits (function_declared d kind name steps).value
   function_fits d (MainKind fits) name steps none within known all main adds =
       let left = no_left (declared_in d.checker name entity.Error).faults [] none in
       as_declared _ (no_set d.sets (length d.edge_functions) d.checker name entity.Error left within.names tt refl all) known main
-  function_fits d EdgeKind name steps none within known all main adds =
-      let e = entity.EdgeFunction (length d.edge_functions) in
+  function_fits d (EdgeKind weighted) name steps none within known all main adds =
+      let e = entity.EdgeFunction (length d.edge_functions) weighted in
       let f = function_of d steps in
       let left = no_left (declared_in d.checker name e).faults [] (no_left (declare_name d name e).faults [] none) in
       let inner = no_set d.sets (length d.edge_functions) d.checker name e left within.names tt refl all in
@@ -359,7 +392,7 @@ module _ (p : ProgramTree) where
           λ function vector is.
               elim (index_cases d.checker.written d.checker.writes [] function) [
                 | inl old ↦ all.written.1 function vector (subst (λ writes. is_some (lookup (nat_eq vector) writes) ≡ true) old is)
-                | inr new ↦ own_writes function vector f there (new.0 ∙ same) (steps_write_of steps vector (adds refl) (subst (λ writes. is_some (lookup (nat_eq vector) writes) ≡ true) new.1 is))
+                | inr new ↦ own_writes function vector f there (new.0 ∙ same) (steps_write_of steps vector (adds tt) (subst (λ writes. is_some (lookup (nat_eq vector) writes) ≡ true) new.1 is))
               ],
         );
         known = known;
@@ -387,17 +420,23 @@ module _ (p : ProgramTree) where
 
   -- the vectors that an edge function is known to write
   adds_of : (d : DeclaredTree) (kind : FunctionKindTree) (parameters : List ParameterTree) (result : Option ParameterTree) (body : source.BlockTree) → HasShape kind parameters result → AllKnown d
-      → (opened d.checker kind parameters result).faults ≡ [] → (steps_typed (opened d.checker kind parameters result).value NoStep body).faults ≡ [] → kind ≡ EdgeKind
+      → (opened d.checker kind parameters result).faults ≡ [] → (steps_typed (opened d.checker kind parameters result).value NoStep body).faults ≡ [] → IsEdgeKind kind
       → Adds [] (steps_typed (opened d.checker kind parameters result).value NoStep body).value.1.writes (steps_write (steps_typed (opened d.checker kind parameters result).value NoStep body).value.0)
-  adds_of d (MainKind fits) parameters result body shape known first none is = absurd cc
-  adds_of d EdgeKind (src ∷ dst ∷ []) None body shape known first none is = edge_adds d src dst body shape known first none
-  adds_of d EdgeKind [] result body shape known first none is = absurd shape
-  adds_of d EdgeKind (x ∷ []) result body shape known first none is = absurd shape
-  adds_of d EdgeKind (src ∷ dst ∷ []) (Some result) body shape known first none is = absurd shape
-  adds_of d EdgeKind (x ∷ y ∷ z ∷ others) result body shape known first none is = absurd shape
-  adds_of d VertexKind parameters result body shape known first none is = absurd cc
-  adds_of d FilterKind parameters result body shape known first none is = absurd cc
-  adds_of d NoKind parameters result body shape known first none is = absurd cc
+  adds_of d (MainKind fits) parameters result body shape known first none is = absurd is
+  adds_of d (EdgeKind false) (src ∷ dst ∷ []) None body shape known first none is =
+      edge_adds d false (src ∷ dst ∷ []) src.name.bytes dst.name.bytes body (inl (shape.0, refl), (inl (shape.1, refl), tt)) known first none
+  adds_of d (EdgeKind true) (src ∷ dst ∷ w ∷ []) None body shape known first none is =
+      edge_adds d true (src ∷ dst ∷ w ∷ []) src.name.bytes dst.name.bytes body (inl (shape.0, refl), (inl (shape.1, refl), (inr (refl, shape.2), tt))) known first none
+  adds_of d (EdgeKind weighted) [] result body shape known first none is = absurd shape
+  adds_of d (EdgeKind weighted) (x ∷ []) result body shape known first none is = absurd shape
+  adds_of d (EdgeKind true) (x ∷ y ∷ []) None body shape known first none is = absurd shape
+  adds_of d (EdgeKind weighted) (x ∷ y ∷ []) (Some result) body shape known first none is = absurd shape
+  adds_of d (EdgeKind false) (x ∷ y ∷ z ∷ []) None body shape known first none is = absurd shape
+  adds_of d (EdgeKind weighted) (x ∷ y ∷ z ∷ []) (Some result) body shape known first none is = absurd shape
+  adds_of d (EdgeKind weighted) (x ∷ y ∷ z ∷ u ∷ others) result body shape known first none is = absurd shape
+  adds_of d VertexKind parameters result body shape known first none is = absurd is
+  adds_of d FilterKind parameters result body shape known first none is = absurd is
+  adds_of d NoKind parameters result body shape known first none is = absurd is
 
   steps_fits : (d : DeclaredTree) (at : ℕ) (kind : FunctionKindTree) (name : Identifier) (parameters : List ParameterTree) (result : Option ParameterTree) (body : source.BlockTree)
       → HasShape kind parameters result → (steps_declared d at kind name parameters result body).faults ≡ [] → IsWithin (steps_declared d at kind name parameters result body).value
@@ -413,29 +452,31 @@ module _ (p : ProgramTree) where
       (adds_of d kind parameters result body shape fits.known (no_left c.faults (b.faults ++ f.faults) inner) (no_left b.faults f.faults both))
 
   -- main
-  parameter_stands : (V : Visible) (at : Endpoint) (b : Bool) → EntityStands p V (if b then entity.Parameter at else entity.Error)
-  parameter_stands V at true = tt
-  parameter_stands V at false = tt
+  parameter_stands : (V : Visible) (at : Endpoint) (vertex weight : Bool) → EntityStands p V (if vertex then entity.Parameter at else (if weight then entity.Weight else entity.Error))
+  parameter_stands V at true weight = tt
+  parameter_stands V at false true = tt
+  parameter_stands V at false false = tt
 
-  parameter_sets : (at : Endpoint) (b : Bool) → sets_of (if b then entity.Parameter at else entity.Error) ≡ 0
-  parameter_sets at true = refl
-  parameter_sets at false = refl
+  parameter_sets : (at : Endpoint) (vertex weight : Bool) → sets_of (if vertex then entity.Parameter at else (if weight then entity.Weight else entity.Error)) ≡ 0
+  parameter_sets at true weight = refl
+  parameter_sets at false true = refl
+  parameter_sets at false false = refl
 
-  parameters_fit : (functions : ℕ) (names : SetNames) (c : CheckerTree) (at : Endpoint) (parameters : List ParameterTree) → (parameters_declared c at parameters).faults ≡ []
-      → Begins (parameters_declared c at parameters).value.names p.names → MainFits p functions names c → MainFits p functions names (parameters_declared c at parameters).value
-  parameters_fit functions names c at [] none within fits = fits
-  parameters_fit functions names c at (x ∷ others) none within fits =
-      let e = parameter at x.declared in
+  parameters_fit : (w : Bool) (functions : ℕ) (names : SetNames) (c : CheckerTree) (at : Endpoint) (parameters : List ParameterTree) → (parameters_declared w c at parameters).faults ≡ []
+      → Begins (parameters_declared w c at parameters).value.names p.names → MainFits p functions names c → MainFits p functions names (parameters_declared w c at parameters).value
+  parameters_fit w functions names c at [] none within fits = fits
+  parameters_fit w functions names c at (x ∷ others) none within fits =
+      let e = parameter w at x.declared in
       let d = declared_in c x.name e in
-      let rest = parameters_declared d.value endpoint.Destination others in
-      let between : Begins d.value.names p.names = λ k n is. within k n (parameters_keep d.value endpoint.Destination others k n is) in
-      parameters_fit functions names d.value endpoint.Destination others (no_right d.faults rest.faults none) within
-      (other_declared p functions names c x.name e (no_left d.faults rest.faults none) between (parameter_stands (InNames names) at (is_vertex x.declared)) (parameter_sets at (is_vertex x.declared)) fits)
+      let rest = parameters_declared w d.value endpoint.Destination others in
+      let between : Begins d.value.names p.names = λ k n is. within k n (parameters_keep w d.value endpoint.Destination others k n is) in
+      parameters_fit w functions names d.value endpoint.Destination others (no_right d.faults rest.faults none) within
+      (other_declared p functions names c x.name e (no_left d.faults rest.faults none) between (parameter_stands (InNames names) at (is_vertex x.declared) (w && is_int x.declared)) (parameter_sets at (is_vertex x.declared) (w && is_int x.declared)) fits)
     where
-      parameters_keep : (c : CheckerTree) (at : Endpoint) (parameters : List ParameterTree) → Begins c.names (parameters_declared c at parameters).value.names
-      parameters_keep c at [] k n is = is
-      parameters_keep c at (x ∷ others) k n is =
-          let e = parameter at x.declared in parameters_keep (declared_in c x.name e).value endpoint.Destination others k n (declared_grow c x.name e k n is)
+      parameters_keep : (w : Bool) (c : CheckerTree) (at : Endpoint) (parameters : List ParameterTree) → Begins c.names (parameters_declared w c at parameters).value.names
+      parameters_keep w c at [] k n is = is
+      parameters_keep w c at (x ∷ others) k n is =
+          let e = parameter w at x.declared in parameters_keep w (declared_in c x.name e).value endpoint.Destination others k n (declared_grow c x.name e k n is)
 
   result_fits : (functions : ℕ) (names : SetNames) (c : CheckerTree) (fits : Bool) (result : Option ParameterTree) → (result_declared c (MainKind fits) result).faults ≡ []
       → Begins (result_declared c (MainKind fits) result).value.names p.names → MainFits p functions names c → MainFits p functions names (result_declared c (MainKind fits) result).value
@@ -446,12 +487,12 @@ module _ (p : ProgramTree) where
       → Begins (opened c (MainKind fits) parameters result).value.names p.names → MainFits p functions names c → MainFits p functions names (opened c (MainKind fits) parameters result).value
   main_opened functions names c fits parameters result none within all =
       let e = with_writes (with_scope c (entered inside.Main c.scope)) [] in
-      let d = parameters_declared e endpoint.Source parameters in
+      let d = parameters_declared false e endpoint.Source parameters in
       let r = result_declared d.value (MainKind fits) result in
       let sets : SetsFit p (InNames names) e.scope = record { known = all.sets.known; named = all.sets.named; apart = all.sets.apart } in
       let start : MainFits p functions names e = record { sets = sets; count = all.count; low = all.low; written = all.written } in
       let between : Begins d.value.names p.names = λ k n is. within k n (result_keeps d.value fits result k n is) in
-      result_fits functions names d.value fits result (no_right d.faults r.faults none) within (parameters_fit functions names e endpoint.Source parameters (no_left d.faults r.faults none) between start)
+      result_fits functions names d.value fits result (no_right d.faults r.faults none) within (parameters_fit false functions names e endpoint.Source parameters (no_left d.faults r.faults none) between start)
     where
       result_keeps : (c : CheckerTree) (fits : Bool) (result : Option ParameterTree) → Begins c.names (result_declared c (MainKind fits) result).value.names
       result_keeps c fits None k n is = is
@@ -513,7 +554,7 @@ module _ (p : ProgramTree) where
       → HasShape kind parameters result → (declare_function d at name parameters result body kind).faults ≡ [] → IsWithin (declare_function d at name parameters result body kind).value
       → AllKnown (declare_function d at name parameters result body kind).value → DeclaredFits d → DeclaredFits (declare_function d at name parameters result body kind).value
   declared_function_fits d at name parameters result body (MainKind fits) shape none within known all = main_fits d fits name parameters result body none within known all
-  declared_function_fits d at name parameters result body EdgeKind shape none within known all = steps_fits d at EdgeKind name parameters result body shape none within known all
+  declared_function_fits d at name parameters result body (EdgeKind weighted) shape none within known all = steps_fits d at (EdgeKind weighted) name parameters result body shape none within known all
   declared_function_fits d at name parameters result body VertexKind shape none within known all = steps_fits d at VertexKind name parameters result body tt none within known all
   declared_function_fits d at name parameters result body FilterKind shape none within known all = steps_fits d at FilterKind name parameters result body tt none within known all
   declared_function_fits d at name parameters result body NoKind shape none within known all = steps_fits d at NoKind name parameters result body tt none within known all

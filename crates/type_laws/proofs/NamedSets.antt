@@ -30,7 +30,7 @@ use Rattle.expression_types.specs.ValueTree as value
 use Rattle.expression_types.specs.ValueTree.{ValueTree, named_set}
 use Rattle.types.specs.Block.{action_typed, behind, closed, statements_typed}
 use Rattle.types.specs.Checker.{CheckerTree, condition_slot, counted, declared_in, integer_slot, labelled, new_label, set_slot}
-use Rattle.types.specs.Initial.{ApplyEndTree, InitializerTree, Typed, Members, Loaded, Degrees, ErrorInitializer, edge_function, end_of, ends_given, filter_function, filter_named, filtered, filtered_by, given_filter, initializer_condition, initializer_integer, initializer_members, initializer_of, is_edges, is_error_end, is_wrong, loaded, modified, modified_by, names_error, new_set, of_edges, vector_of, vertex_function, writes_vector}
+use Rattle.types.specs.Initial.{ApplyEndTree, InitializerTree, Typed, Members, Loaded, Degrees, ErrorInitializer, edge_function, end_of, ends_given, filter_function, filter_named, filtered, filtered_by, given_filter, initializer_condition, initializer_integer, initializer_members, initializer_of, is_edges, is_error_end, is_wrong, loaded, modified, modified_by, names_error, new_set, of_edges, vector_of, vertex_function, writes_vector, lacks_weights}
 use Rattle.types.specs.Statement.{add_vertex, added, applied, apply, assign, assigned, declare_as, edges_applied, entry_reduced, entry_set, has_ends, print, printed, reduce, reduce_entry, reduced, set_applied, set_entry, vertices_applied}
 use Rattle.types.specs.Wanted.{as_index, as_members, condition_in, integer_in}
 use Rattle.type_laws.specs.AskedVectors.{AsksForWritten, ValueAsksForWritten}
@@ -87,7 +87,7 @@ InNames names place name = slice_get names place ≡ Some (Some name)
 module _ (p : ProgramTree) where
   -- a set that a name stands for is visible
   abbrev pub EntityStands : Visible → Entity → Type 0
-  EntityStands V entity.Edges = Unit {0}
+  EntityStands V (entity.Edges weights) = Unit {0}
   EntityStands V (entity.Vector place) = Unit {0}
   EntityStands V (entity.ConstantSet slot) = V slot.place slot.name
   EntityStands V (entity.IntegerConstant name n) = Unit {0}
@@ -97,7 +97,8 @@ module _ (p : ProgramTree) where
   EntityStands V (entity.SetVariable slot) = V slot.place slot.name × (length p.sets ≤ slot.place)
   EntityStands V (entity.LoopVariable slot) = Unit {0}
   EntityStands V (entity.Parameter at) = Unit {0}
-  EntityStands V (entity.EdgeFunction place) = Unit {0}
+  EntityStands V entity.Weight = Unit {0}
+  EntityStands V (entity.EdgeFunction place weighted) = Unit {0}
   EntityStands V (entity.VertexFunction place) = Unit {0}
   EntityStands V (entity.Filter place) = Unit {0}
   EntityStands V entity.Main = Unit {0}
@@ -270,7 +271,7 @@ module _ (p : ProgramTree) where
     modified_stands names c at e a b f x from to written =
         if_initializer names (names_error e || is_error_end a || is_error_end b || names_error f || names_error x) _ _ (λ is. tt)
         (if_initializer names (is_edges e) _ _
-        (λ is. if_initializer names (is_wrong a || is_wrong b) _ _ (λ wrong. tt) (modified_by_stands names c at (ends_given a b) (edge_function f) (vector_of x) (from, to) written)) tt)
+        (λ is. if_initializer names (is_wrong a || is_wrong b || lacks_weights e f) _ _ (λ wrong. tt) (modified_by_stands names c at (ends_given a b) (edge_function f) (vector_of x) (from, to) written)) tt)
 
     new_set_stands : (names : SetNames) (at : ℕ) (n : ℤ) → InitializerStands names (new_set at n).value
     new_set_stands names at (pos zero) = (tt, tt)
@@ -323,7 +324,7 @@ module _ (p : ProgramTree) where
     assigned_plain names at initializer _ value is = ((tt, tt), tt, refl)
 
     reduced_plain : (names : SetNames) (at : ℕ) (by : Reduction) (x : ValueTree) (e : Entity) → Plain names (reduced at by x e).value
-    reduced_plain names at by x entity.Edges = ((tt, tt), tt, refl)
+    reduced_plain names at by x (entity.Edges weights) = ((tt, tt), tt, refl)
     reduced_plain names at by x _ = ((tt, tt), tt, refl)
 
     added_plain : (names : SetNames) (at : ℕ) (x : ValueTree) (e : Entity) → Stands names e → Plain names (added at x e).value
@@ -367,7 +368,7 @@ module _ (p : ProgramTree) where
         → Plain names (applied at t a b ends f).value
     applied_plain names at t a b ends f target from to =
         if_plain names (names_error t) _ _ ((tt, tt), tt, refl) (if_plain names (is_edges t) _ _
-        (if_plain names (is_wrong a || is_wrong b) _ _ ((tt, tt), tt, refl) (edges_plain names at a b (names_error f) (edge_function f) from to))
+        (if_plain names (is_wrong a || is_wrong b || lacks_weights t f) _ _ ((tt, tt), tt, refl) (edges_plain names at a b (names_error f) (edge_function f) from to))
         (set_applied_plain names at ends f (named_set t) (named_visible names t target)))
 
     each_then : (names : SetNames) (so_far : BlockTree) (number : ℕ) (label : Option ℕ) (action : ActionTree) → HoldsOfEach Holds names so_far → Holds (all_behind so_far names) action
@@ -448,6 +449,7 @@ module _ (p : ProgramTree) where
         (((fits.sets.apart, members.0), members.1), tt, set_declared names c name left begins fits)
     declare_fits names c at name initializer declared.Vector none begins fits value = absurd (not_empty _ _ none)
     declare_fits names c at name initializer declared.EdgeSet none begins fits value = absurd (not_empty _ _ none)
+    declare_fits names c at name initializer declared.WeightedEdgeSet none begins fits value = absurd (not_empty _ _ none)
 
     labelled_fits : (names : SetNames) (c : CheckerTree) (label : Option Identifier) → MainFits functions names c → MainFits functions names (labelled c label).value.1
     labelled_fits names c label fits =

@@ -1,5 +1,5 @@
 -- Names that were declared stay, in the order of the text.
-use Rattle.std.proofs.Common.{◌≡◌, ℕ, suc, List, [], ◌∷◌, Option, Some, None}
+use Rattle.std.proofs.Common.{◌≡◌, ℕ, suc, List, [], ◌∷◌, Option, Some, None, Bool}
 use Rattle.std.specs.Prelude.{slice_get}
 use Rattle.syntax.specs.Terminals.{Identifier}
 use Rattle.syntax.specs.declared.declaration.DeclaredType.{DeclaredType}
@@ -16,7 +16,7 @@ use Rattle.expression_types.specs.Names.{found}
 use Rattle.expression_types.specs.ScopeTree.{entered}
 use Rattle.types.specs.Block.{action_typed, behind, closed, statements_typed}
 use Rattle.types.specs.Checker.{CheckerTree, counted, declared_in, integer_slot, labelled, new_label, with_scope}
-use Rattle.types.specs.Declaration.{FunctionKindTree, inside_of, opened, parameter, parameters_declared, result_declared, result_entity}
+use Rattle.types.specs.Declaration.{FunctionKindTree, inside_of, opened, parameter, parameters_declared, result_declared, result_entity, takes_weight}
 use Rattle.types.specs.Initial.{InitializerTree, initializer_of}
 use Rattle.types.specs.Statement.{declare_as}
 use Rattle.types.specs.Step.{declare_step_as, step_behind, step_typed, steps_behind, steps_typed, with_writes}
@@ -48,6 +48,7 @@ declare_grow c at name initializer declared.Vertex k x is = get_before c.names (
 declare_grow c at name initializer declared.VertexSet k x is = get_before c.names (name.bytes ∷ []) k x is
 declare_grow c at name initializer declared.Vector k x is = get_before c.names (name.bytes ∷ []) k x is
 declare_grow c at name initializer declared.EdgeSet k x is = get_before c.names (name.bytes ∷ []) k x is
+declare_grow c at name initializer declared.WeightedEdgeSet k x is = get_before c.names (name.bytes ∷ []) k x is
 
 mutual
   pub action_grow : (c : CheckerTree) (action : source.ActionTree) → Grow c (action_typed c action).value.1
@@ -81,6 +82,7 @@ declare_step_grow c at name initializer declared.Vertex k x is = get_before c.na
 declare_step_grow c at name initializer declared.VertexSet k x is = get_before c.names (name.bytes ∷ []) k x is
 declare_step_grow c at name initializer declared.Vector k x is = get_before c.names (name.bytes ∷ []) k x is
 declare_step_grow c at name initializer declared.EdgeSet k x is = get_before c.names (name.bytes ∷ []) k x is
+declare_step_grow c at name initializer declared.WeightedEdgeSet k x is = get_before c.names (name.bytes ∷ []) k x is
 
 mutual
   step_grow : (c : CheckerTree) (action : source.ActionTree) → Grow c (step_typed c action).value.1
@@ -107,10 +109,10 @@ mutual
       steps_grow s.1 (step_behind so_far s.0) others k x (step_grow l.1 action k x (labelled_grow c label k x is))
 
 -- parameters and a result
-parameters_grow : (c : CheckerTree) (at : Endpoint) (parameters : List ParameterTree) → Grow c (parameters_declared c at parameters).value
-parameters_grow c at [] k x is = is
-parameters_grow c at (v ∷ others) k x is =
-    let e = parameter at v.declared in parameters_grow (declared_in c v.name e).value endpoint.Destination others k x (declared_grow c v.name e k x is)
+parameters_grow : (w : Bool) (c : CheckerTree) (at : Endpoint) (parameters : List ParameterTree) → Grow c (parameters_declared w c at parameters).value
+parameters_grow w c at [] k x is = is
+parameters_grow w c at (v ∷ others) k x is =
+    let e = parameter w at v.declared in parameters_grow w (declared_in c v.name e).value endpoint.Destination others k x (declared_grow c v.name e k x is)
 
 result_grow : (c : CheckerTree) (kind : FunctionKindTree) (result : Option ParameterTree) → Grow c (result_declared c kind result).value
 result_grow c kind None k x is = is
@@ -119,5 +121,5 @@ result_grow c kind (Some result) k x is = declared_grow c result.name (result_en
 pub opened_grow : (c : CheckerTree) (kind : FunctionKindTree) (parameters : List ParameterTree) (result : Option ParameterTree) → Grow c (opened c kind parameters result).value
 opened_grow c kind parameters result k x is =
     let e = with_writes (with_scope c (entered (inside_of kind) c.scope)) [] in
-    let d = (parameters_declared e endpoint.Source parameters).value in
-    result_grow d kind result k x (parameters_grow e endpoint.Source parameters k x is)
+    let d = (parameters_declared (takes_weight kind) e endpoint.Source parameters).value in
+    result_grow d kind result k x (parameters_grow (takes_weight kind) e endpoint.Source parameters k x is)

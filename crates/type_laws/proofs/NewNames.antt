@@ -21,7 +21,7 @@ use Rattle.expression_types.specs.Names.{found}
 use Rattle.expression_types.specs.ScopeTree.{ScopeTree, declared_over, entered}
 use Rattle.types.specs.Block.{action_typed, behind, closed, statements_typed}
 use Rattle.types.specs.Checker.{CheckerTree, condition_slot, counted, declared_in, integer_slot, labelled, new_label, restarted, set_slot, with_scope}
-use Rattle.types.specs.Declaration.{DeclaredTree, FunctionKindTree, MainKind, EdgeKind, VertexKind, FilterKind, NoKind, begins, declaration_typed, declarations_typed, declare_constant_as, declare_function, declare_name, function_declared, has_all, inside_of, kind, kind_fits, literal_or_fault, loads, main_declared, next_name, only_edges, opened, parameter, parameters_declared, result_declared, result_entity, steps_declared, with_main}
+use Rattle.types.specs.Declaration.{DeclaredTree, FunctionKindTree, MainKind, EdgeKind, VertexKind, FilterKind, NoKind, begins, declaration_typed, declarations_typed, declare_constant_as, declare_function, declare_name, function_declared, has_all, inside_of, kind, kind_fits, literal_or_fault, loads, main_declared, next_name, only_edges, opened, parameter, parameters_declared, result_declared, result_entity, steps_declared, with_main, takes_weight}
 use Rattle.types.specs.Initial.{InitializerTree, initializer_condition, initializer_of, initializer_integer, is_sound, initializer_members}
 use Rattle.types.specs.Literal.{literal_condition, literal_integer}
 use Rattle.type_laws.specs.NewNames.{ActionDeclaresNew, BlockDeclaresNew, DeclarationDeclaresNew, DeclarationsDeclareNew, FunctionDeclaresNew, IsNew, ParametersAreNew, ResultIsNew, edges_declared, edges_in, names_behind, names_inside, with_declaration, with_new, with_parameters, with_result}
@@ -77,6 +77,7 @@ declare_step_new c at name initializer declared.Vertex none = absurd (not_empty 
 declare_step_new c at name initializer declared.VertexSet none = absurd (not_empty _ _ none)
 declare_step_new c at name initializer declared.Vector none = absurd (not_empty _ _ none)
 declare_step_new c at name initializer declared.EdgeSet none = absurd (not_empty _ _ none)
+declare_step_new c at name initializer declared.WeightedEdgeSet none = absurd (not_empty _ _ none)
 
 mutual
   pub step_new : (c : CheckerTree) (action : source.ActionTree) → (step_typed c action).faults ≡ []
@@ -134,6 +135,7 @@ declare_new c at name initializer declared.VertexSet none =
     declared_new c name e (no_left (declared_in c name e).faults [] (no_right (initializer_members at initializer).faults _ none))
 declare_new c at name initializer declared.Vector none = absurd (not_empty _ _ none)
 declare_new c at name initializer declared.EdgeSet none = absurd (not_empty _ _ none)
+declare_new c at name initializer declared.WeightedEdgeSet none = absurd (not_empty _ _ none)
 
 mutual
   pub action_new : (c : CheckerTree) (action : source.ActionTree) → (action_typed c action).faults ≡ []
@@ -187,15 +189,15 @@ mutual
       (first.0, subst (λ visible. BlockDeclaresNew visible others) first.1 rest_new)
 
 -- functions
-parameters_new : (c : CheckerTree) (at : Endpoint) (parameters : List ParameterTree) → (parameters_declared c at parameters).faults ≡ []
-    → ParametersAreNew (names c) parameters × (names (parameters_declared c at parameters).value ≡ with_parameters (names c) parameters)
-parameters_new c at [] none = (tt, refl)
-parameters_new c at (x ∷ others) none =
-    let e = parameter at x.declared in
+parameters_new : (w : Bool) (c : CheckerTree) (at : Endpoint) (parameters : List ParameterTree) → (parameters_declared w c at parameters).faults ≡ []
+    → ParametersAreNew (names c) parameters × (names (parameters_declared w c at parameters).value ≡ with_parameters (names c) parameters)
+parameters_new w c at [] none = (tt, refl)
+parameters_new w c at (x ∷ others) none =
+    let e = parameter w at x.declared in
     let d = declared_in c x.name e in
-    let rest = parameters_declared d.value endpoint.Destination others in
+    let rest = parameters_declared w d.value endpoint.Destination others in
     let first = declared_new c x.name e (no_left d.faults rest.faults none) in
-    let rest_new = parameters_new d.value endpoint.Destination others (no_right d.faults rest.faults none) in
+    let rest_new = parameters_new w d.value endpoint.Destination others (no_right d.faults rest.faults none) in
     ((first.0, subst (λ visible. ParametersAreNew visible others) first.1 rest_new.0), rest_new.1 ∙ ap (λ visible. with_parameters visible others) first.1)
 
 result_new : (c : CheckerTree) (kind : FunctionKindTree) (result : Option ParameterTree) → (result_declared c kind result).faults ≡ []
@@ -208,9 +210,9 @@ pub opened_new : (c : CheckerTree) (kind : FunctionKindTree) (parameters : List 
     × (names (opened c kind parameters result).value ≡ names_inside (names c) parameters result)
 opened_new c kind parameters result none =
     let e = with_writes (with_scope c (entered (inside_of kind) c.scope)) [] in
-    let d = parameters_declared e endpoint.Source parameters in
+    let d = parameters_declared (takes_weight kind) e endpoint.Source parameters in
     let r = result_declared d.value kind result in
-    let first = parameters_new e endpoint.Source parameters (no_left d.faults r.faults none) in
+    let first = parameters_new (takes_weight kind) e endpoint.Source parameters (no_left d.faults r.faults none) in
     let rest_new = result_new d.value kind result (no_right d.faults r.faults none) in
     (first.0, subst (λ visible. ResultIsNew visible result) first.1 rest_new.0, rest_new.1 ∙ ap (λ visible. with_result visible result) first.1)
 
@@ -238,14 +240,18 @@ constant_new d at name initial declared.Vector initializer none =
     name_new d name e (no_left (declare_name d name e).faults [] (no_right (begins at initializer initial).faults _ none))
 constant_new d at name initial declared.EdgeSet initializer none =
     let only = only_edges name (next_name d) d.edges in
-    name_new d name entity.Edges
-    (no_left (declare_name d name entity.Edges).faults [] (no_right only.faults ((declare_name d name entity.Edges).faults ++ []) (no_right (loads at initializer).faults _ none)))
+    name_new d name (entity.Edges false)
+    (no_left (declare_name d name (entity.Edges false)).faults [] (no_right only.faults ((declare_name d name (entity.Edges false)).faults ++ []) (no_right (loads at initializer).faults _ none)))
+constant_new d at name initial declared.WeightedEdgeSet initializer none =
+    let only = only_edges name (next_name d) d.edges in
+    name_new d name (entity.Edges true)
+    (no_left (declare_name d name (entity.Edges true)).faults [] (no_right only.faults ((declare_name d name (entity.Edges true)).faults ++ []) (no_right (loads at initializer).faults _ none)))
 
 function_new : (d : DeclaredTree) (kind : FunctionKindTree) (name : Identifier) (steps : StepsTree) → (function_declared d kind name steps).faults ≡ []
     → New d name (function_declared d kind name steps).value
 function_new d (MainKind fits) name steps none = name_new d name entity.Error none
-function_new d EdgeKind name steps none =
-    let e = entity.EdgeFunction (length d.edge_functions) in name_new d name e (no_left (declare_name d name e).faults [] none)
+function_new d (EdgeKind weighted) name steps none =
+    let e = entity.EdgeFunction (length d.edge_functions) weighted in name_new d name e (no_left (declare_name d name e).faults [] none)
 function_new d VertexKind name steps none =
     let e = entity.VertexFunction (length d.vertex_functions) in name_new d name e (no_left (declare_name d name e).faults [] none)
 function_new d FilterKind name steps none =
@@ -294,7 +300,7 @@ each_function_new : (d : DeclaredTree) (at : ℕ) (name : Identifier) (parameter
     → (declare_function d at name parameters result body kind).faults ≡ []
     → FunctionNew d name parameters result body (declare_function d at name parameters result body kind).value
 each_function_new d at name parameters result body (MainKind fits) none = main_new d fits name parameters result body none
-each_function_new d at name parameters result body EdgeKind none = steps_declared_new d at EdgeKind name parameters result body none
+each_function_new d at name parameters result body (EdgeKind weighted) none = steps_declared_new d at (EdgeKind weighted) name parameters result body none
 each_function_new d at name parameters result body VertexKind none = steps_declared_new d at VertexKind name parameters result body none
 each_function_new d at name parameters result body FilterKind none = steps_declared_new d at FilterKind name parameters result body none
 each_function_new d at name parameters result body NoKind none = steps_declared_new d at NoKind name parameters result body none
@@ -340,7 +346,10 @@ constant_edges d at name initial declared.VertexSet initializer none = omega ari
 constant_edges d at name initial declared.Vector initializer none = omega arith
 constant_edges d at name initial declared.EdgeSet initializer none =
     let only = only_edges name (next_name d) d.edges in
-    only_edges_met name (next_name d) d.edges (no_left only.faults ((declare_name d name entity.Edges).faults ++ []) (no_right (loads at initializer).faults _ none))
+    only_edges_met name (next_name d) d.edges (no_left only.faults ((declare_name d name (entity.Edges false)).faults ++ []) (no_right (loads at initializer).faults _ none))
+constant_edges d at name initial declared.WeightedEdgeSet initializer none =
+    let only = only_edges name (next_name d) d.edges in
+    only_edges_met name (next_name d) d.edges (no_left only.faults ((declare_name d name (entity.Edges true)).faults ++ []) (no_right (loads at initializer).faults _ none))
 
 with_main_edges : (e : DeclaredTree) (fits : Bool) (main : BlockTree) → (with_main e fits main).edges ≡ e.edges
 with_main_edges e true main = refl
@@ -351,7 +360,7 @@ function_edges : (d : DeclaredTree) (at : ℕ) (name : Identifier) (parameters :
 function_edges d at name parameters result body (MainKind fits) =
     let b = (statements_typed (opened (restarted d.checker) (MainKind fits) parameters result).value Empty body).value in
     with_main_edges (declare_name (record d { checker = with_scope b.1 d.checker.scope }) name entity.Main).value fits b.0
-function_edges d at name parameters result body EdgeKind = refl
+function_edges d at name parameters result body (EdgeKind weighted) = refl
 function_edges d at name parameters result body VertexKind = refl
 function_edges d at name parameters result body FilterKind = refl
 function_edges d at name parameters result body NoKind = refl

@@ -20,7 +20,7 @@ use Rattle.expression_types.specs.ValueTree.{ValueTree, named_set}
 use Rattle.types.specs.Block.{action_typed, behind, statements_typed}
 use Rattle.types.specs.Checker.{CheckerTree, counted, declared_in, integer_slot, labelled, new_label, restarted, with_scope}
 use Rattle.types.specs.Declaration.{DeclaredTree, FunctionKindTree, MainKind, EdgeKind, VertexKind, FilterKind, NoKind, declaration_typed, declarations_typed, declare_constant_as, declare_function, declare_name, kind, opened, parameter, parameters_declared, result_declared, with_main}
-use Rattle.types.specs.Initial.{ApplyEndTree, InitializerTree, edge_function, end_of, initializer_of, is_edges, names_error, is_error_end, is_wrong, vertex_function}
+use Rattle.types.specs.Initial.{ApplyEndTree, InitializerTree, edge_function, end_of, initializer_of, is_edges, names_error, is_error_end, is_wrong, vertex_function, lacks_weights}
 use Rattle.type_laws.specs.Numbers.{InOrder, inner_numbers, numbers}
 use Rattle.types.specs.Program.{main_of, opening, program_of, set_count}
 use Rattle.types.specs.Statement.{added, applied, assigned, declare_as, edges_applied, entry_reduced, entry_set, has_ends, printed, reduced, set_applied, vertices_applied}
@@ -71,15 +71,15 @@ if_plain true x y first second = first
 if_plain false x y first second = second
 
 assigned_plain : (at : ℕ) (initializer : InitializerTree) (e : Entity) → Plain (assigned at initializer e).value
-assigned_plain at initializer entity.Edges = refl
+assigned_plain at initializer (entity.Edges weights) = refl
 assigned_plain at initializer _ = refl
 
 reduced_plain : (at : ℕ) (by : Reduction) (v : ValueTree) (e : Entity) → Plain (reduced at by v e).value
-reduced_plain at by v entity.Edges = refl
+reduced_plain at by v (entity.Edges weights) = refl
 reduced_plain at by v _ = refl
 
 added_plain : (at : ℕ) (v : ValueTree) (e : Entity) → Plain (added at v e).value
-added_plain at v entity.Edges = refl
+added_plain at v (entity.Edges weights) = refl
 added_plain at v _ = refl
 
 set_plain : (vector : Option ℕ) (index : Option IntegerTree) (e : IntegerTree) → Plain (entry_set vector index e)
@@ -116,7 +116,7 @@ set_applied_plain at ends f (Some slot) = if_plain ends _ _ refl (vertices_plain
 applied_plain : (at : ℕ) (t : Entity) (a b : ApplyEndTree) (ends : Bool) (f : Entity) → Plain (applied at t a b ends f).value
 applied_plain at t a b ends f =
     if_plain (names_error t) _ _ refl (if_plain (is_edges t) _ _
-    (if_plain (is_wrong a || is_wrong b) _ _ refl (edges_plain at a b (names_error f) (edge_function f)))
+    (if_plain (is_wrong a || is_wrong b || lacks_weights t f) _ _ refl (edges_plain at a b (names_error f) (edge_function f)))
     (set_applied_plain at ends f (named_set t)))
 
 -- what a statement is, and the checker after it
@@ -144,6 +144,7 @@ declare_counts c at name initializer declared.Vertex = no_numbers c.statements
 declare_counts c at name initializer declared.VertexSet = no_numbers c.statements
 declare_counts c at name initializer declared.Vector = no_numbers c.statements
 declare_counts c at name initializer declared.EdgeSet = no_numbers c.statements
+declare_counts c at name initializer declared.WeightedEdgeSet = no_numbers c.statements
 
 mutual
   action_counts : (c : CheckerTree) (action : source.ActionTree) → ActionCounts c.statements (action_typed c action).value
@@ -199,10 +200,11 @@ constant_order d at name initial declared.Vertex initializer order = order
 constant_order d at name initial declared.VertexSet initializer order = order
 constant_order d at name initial declared.Vector initializer order = order
 constant_order d at name initial declared.EdgeSet initializer order = order
+constant_order d at name initial declared.WeightedEdgeSet initializer order = order
 
-parameters_same : (c : CheckerTree) (p : _) (parameters : List ParameterTree) → (parameters_declared c p parameters).value.statements ≡ c.statements
-parameters_same c p [] = refl
-parameters_same c p (v ∷ others) = parameters_same (declared_in c v.name (parameter p v.declared)).value _ others
+parameters_same : (w : Bool) (c : CheckerTree) (p : _) (parameters : List ParameterTree) → (parameters_declared w c p parameters).value.statements ≡ c.statements
+parameters_same w c p [] = refl
+parameters_same w c p (v ∷ others) = parameters_same w (declared_in c v.name (parameter w p v.declared)).value _ others
 
 result_same : (c : CheckerTree) (kind : FunctionKindTree) (result : Option ParameterTree) → (result_declared c kind result).value.statements ≡ c.statements
 result_same c kind None = refl
@@ -217,10 +219,10 @@ main_order : (d : DeclaredTree) (at : ℕ) (name : Identifier) (parameters : Lis
 main_order d at name parameters result body (MainKind fits) order =
     let c = (opened (restarted d.checker) (MainKind fits) parameters result).value in
     let b = (statements_typed c Empty body).value in
-    let none : c.statements ≡ 0 = result_same (parameters_declared _ _ parameters).value (MainKind fits) result ∙ parameters_same _ _ parameters in
+    let none : c.statements ≡ 0 = result_same (parameters_declared false _ _ parameters).value (MainKind fits) result ∙ parameters_same false _ _ parameters in
     with_main_order (declare_name (record d { checker = with_scope b.1 d.checker.scope }) name entity.Main).value fits b.0 order
     (statements_count 0 c Empty body (subst (λ n. Counts 0 [] n) (sym none) (no_numbers 0))).ordered
-main_order d at name parameters result body EdgeKind order = order
+main_order d at name parameters result body (EdgeKind weighted) order = order
 main_order d at name parameters result body VertexKind order = order
 main_order d at name parameters result body FilterKind order = order
 main_order d at name parameters result body NoKind order = order

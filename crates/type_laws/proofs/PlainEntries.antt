@@ -149,6 +149,7 @@ named_plain (entity.IntegerVariable slot) = refl
 named_plain (entity.ConditionVariable slot) = refl
 named_plain (entity.SetVariable slot) = tt
 named_plain (entity.LoopVariable slot) = refl
+named_plain entity.Weight = refl
 named_plain _ = tt
 
 size_plain : (at : ℕ) (e : Entity) → ReadsNone (as_size at e).value

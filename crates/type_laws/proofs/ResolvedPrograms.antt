@@ -21,11 +21,12 @@ use Rattle.expression_types.specs.declared.scope.Inside.TheVariants as inside
 use Rattle.expression_types.specs.ScopeTree.{conditions_of, entered, integers_of, sets_of}
 use Rattle.types.specs.Block.{statements_typed}
 use Rattle.types.specs.Checker.{CheckerTree, condition_slot, declared_in, restarted, with_scope}
-use Rattle.types.specs.Declaration.{DeclaredTree, FunctionKindTree, MainKind, EdgeKind, VertexKind, FilterKind, NoKind, begins, declaration_typed, declarations_typed, declare_constant_as, declare_function, declare_name, function_declared, function_of, has_all, inside_of, is_bool, is_vertex, kind, kind_fits, kind_of, literal_or_fault, loads, main_bytes, main_declared, next_name, only_edges, opened, parameter, parameters_declared, result_declared, result_entity, steps_declared, takes_nothing, with_main}
+use Rattle.types.specs.Declaration.{DeclaredTree, FunctionKindTree, MainKind, EdgeKind, VertexKind, FilterKind, NoKind, begins, declaration_typed, declarations_typed, declare_constant_as, declare_function, declare_name, function_declared, function_of, has_all, inside_of, is_bool, is_vertex, kind, kind_fits, kind_of, literal_or_fault, loads, main_bytes, main_declared, next_name, only_edges, opened, parameter, parameters_declared, result_declared, result_entity, steps_declared, takes_nothing, with_main, takes_weight, is_int}
 use Rattle.types.specs.Initial.{InitializerTree, initializer_of, is_sound}
 use Rattle.types.specs.Literal.{literal_condition, literal_integer}
 use Rattle.types.specs.Program.{counting, main_of, opening, program_of, set_count}
 use Rattle.types.specs.Step.{steps_typed, with_writes}
+use Rattle.type_laws.proofs.Booleans.{both_true}
 use Rattle.type_laws.proofs.Faultless.{no_left, no_right, not_empty}
 use Rattle.type_laws.proofs.ResolvedScopes.{CheckerFits, Grows, Within, all_then, declared_before, declared_fits, declared_name, get_before, get_last, known_grows, left_fits}
 use Rattle.type_laws.proofs.ResolvedStatements.{behind_block, statements_before, statements_fit}
@@ -49,19 +50,19 @@ last_within xs x n is = omega (arith, is, length-append xs (x ∷ []))
 abbrev visible_in : ProgramTree → FunctionKindTree → VisibleTree
 visible_in p (MainKind true) = in_main p
 visible_in p (MainKind false) = record (in_edge_function p) { indexes = true }
-visible_in p EdgeKind = in_edge_function p
+visible_in p (EdgeKind weighted) = in_edge_function p
 visible_in p VertexKind = in_vertex_function p
 visible_in p FilterKind = in_vertex_function p
 visible_in p NoKind = in_edge_function p
 
--- it works on as many vertices as it has parameters, and a filter has a result
+-- it works on a vertex at each of its parameters, the weight's too, and a filter has a result
 abbrev Enough : VisibleTree → Endpoint → List ParameterTree → Type 0
 Enough v at [] = Unit {0}
 Enough v at (x ∷ others) = IsVertex v at × Enough v endpoint.Destination others
 
 abbrev HasResult : FunctionKindTree → Option ParameterTree → Type 0
 HasResult (MainKind fits) result = Unit {0}
-HasResult EdgeKind result = Unit {0}
+HasResult (EdgeKind weighted) result = Unit {0}
 HasResult VertexKind result = Unit {0}
 HasResult FilterKind None = ⊥
 HasResult FilterKind (Some result) = Unit {0}
@@ -97,9 +98,13 @@ other_kind p (x ∷ []) None = if_kind p (is_vertex x.declared) VertexKind NoKin
 other_kind p (x ∷ []) (Some result) =
     if_kind p (is_vertex x.declared && is_bool result.declared) FilterKind NoKind (x ∷ []) (Some result) (enough_one p x, tt) (enough (in_edge_function p) (omega arith) (x ∷ []), tt)
 other_kind p (x ∷ y ∷ []) None =
-    if_kind p (is_vertex x.declared && is_vertex y.declared) EdgeKind NoKind (x ∷ y ∷ []) None (enough (in_edge_function p) (omega arith) (x ∷ y ∷ []), tt) (enough (in_edge_function p) (omega arith) (x ∷ y ∷ []), tt)
+    if_kind p (is_vertex x.declared && is_vertex y.declared) (EdgeKind false) NoKind (x ∷ y ∷ []) None (enough (in_edge_function p) (omega arith) (x ∷ y ∷ []), tt) (enough (in_edge_function p) (omega arith) (x ∷ y ∷ []), tt)
 other_kind p (x ∷ y ∷ []) (Some result) = (enough (in_edge_function p) (omega arith) (x ∷ y ∷ []), tt)
-other_kind p (x ∷ y ∷ z ∷ others) result = (enough (in_edge_function p) (omega arith) (x ∷ y ∷ z ∷ others), tt)
+other_kind p (x ∷ y ∷ z ∷ []) None =
+    if_kind p (is_vertex x.declared && is_vertex y.declared && is_int z.declared) (EdgeKind true) NoKind (x ∷ y ∷ z ∷ []) None
+    (enough (in_edge_function p) (omega arith) (x ∷ y ∷ z ∷ []), tt) (enough (in_edge_function p) (omega arith) (x ∷ y ∷ z ∷ []), tt)
+other_kind p (x ∷ y ∷ z ∷ []) (Some result) = (enough (in_edge_function p) (omega arith) (x ∷ y ∷ z ∷ []), tt)
+other_kind p (x ∷ y ∷ z ∷ u ∷ others) result = (enough (in_edge_function p) (omega arith) (x ∷ y ∷ z ∷ u ∷ others), tt)
 
 each_kind : (p : ProgramTree) (name : List ℕ) (parameters : List ParameterTree) (result : Option ParameterTree) → KindFits p (kind name parameters result) parameters result
 each_kind p name parameters result =
@@ -107,11 +112,11 @@ each_kind p name parameters result =
     (main_kind p parameters result) (other_kind p parameters result)
 
 -- parameters
-parameters_before : (p : ProgramTree) (c : CheckerTree) (at : Endpoint) (parameters : List ParameterTree) → Within p (parameters_declared c at parameters).value → Within p c
-parameters_before p c at [] within = within
-parameters_before p c at (x ∷ others) within =
-    let e = parameter at x.declared in
-    declared_before p c x.name e (parameters_before p (declared_in c x.name e).value endpoint.Destination others within)
+parameters_before : (w : Bool) (p : ProgramTree) (c : CheckerTree) (at : Endpoint) (parameters : List ParameterTree) → Within p (parameters_declared w c at parameters).value → Within p c
+parameters_before w p c at [] within = within
+parameters_before w p c at (x ∷ others) within =
+    let e = parameter w at x.declared in
+    declared_before p c x.name e (parameters_before w p (declared_in c x.name e).value endpoint.Destination others within)
 
 result_before : (p : ProgramTree) (c : CheckerTree) (kind : FunctionKindTree) (result : Option ParameterTree) → Within p (result_declared c kind result).value → Within p c
 result_before p c kind None within = within
@@ -121,8 +126,8 @@ opened_before : (p : ProgramTree) (c : CheckerTree) (kind : FunctionKindTree) (p
     → Within p (opened c kind parameters result).value → Within p c
 opened_before p c kind parameters result within =
     let e = with_writes (with_scope c (entered (inside_of kind) c.scope)) [] in
-    let d = (parameters_declared e endpoint.Source parameters).value in
-    parameters_before p e endpoint.Source parameters (result_before p d kind result within)
+    let d = (parameters_declared (takes_weight kind) e endpoint.Source parameters).value in
+    parameters_before (takes_weight kind) p e endpoint.Source parameters (result_before p d kind result within)
 
 stays : (v : VisibleTree) → Grows v v
 stays v = record { integers = λ k x is. is; conditions = λ k x is. is; sets = λ k x is. is; vertices = omega arith }
@@ -133,20 +138,25 @@ placeless : (p : ProgramTree) (v : VisibleTree) (c : CheckerTree) (name : Identi
 placeless p v c name e none fits is integers conditions sets =
     declared_fits p v v c name e none fits (stays v) refl is (omega (arith, integers)) (omega (arith, conditions)) (omega (arith, sets))
 
-parameter_fits : (p : ProgramTree) (v : VisibleTree) (c : CheckerTree) (name : Identifier) (at : Endpoint) (vertex : Bool)
-    → (declared_in c name (if vertex then entity.Parameter at else entity.Error)).faults ≡ [] → CheckerFits p v c → IsVertex v at
-    → CheckerFits p v (declared_in c name (if vertex then entity.Parameter at else entity.Error)).value
-parameter_fits p v c name at true none fits is = placeless p v c name (entity.Parameter at) none fits is refl refl refl
-parameter_fits p v c name at false none fits is = placeless p v c name entity.Error none fits tt refl refl refl
+abbrev parameter_of : (at : Endpoint) (vertex weight : Bool) → Entity
+parameter_of at vertex weight = if vertex then entity.Parameter at else (if weight then entity.Weight else entity.Error)
 
-parameters_fit : (p : ProgramTree) (v : VisibleTree) (c : CheckerTree) (at : Endpoint) (parameters : List ParameterTree) → (parameters_declared c at parameters).faults ≡ []
-    → CheckerFits p v c → Enough v at parameters → CheckerFits p v (parameters_declared c at parameters).value
-parameters_fit p v c at [] none fits enough = fits
-parameters_fit p v c at (x ∷ others) none fits enough =
-    let d = declared_in c x.name (parameter at x.declared) in
-    let rest = parameters_declared d.value endpoint.Destination others in
-    parameters_fit p v d.value endpoint.Destination others (no_right d.faults rest.faults none)
-    (parameter_fits p v c x.name at (is_vertex x.declared) (no_left d.faults rest.faults none) fits enough.0) enough.1
+parameter_fits : (p : ProgramTree) (v : VisibleTree) (c : CheckerTree) (name : Identifier) (at : Endpoint) (vertex weight : Bool)
+    → (declared_in c name (parameter_of at vertex weight)).faults ≡ [] → CheckerFits p v c → IsVertex v at → (weight ≡ true → IsVertex v endpoint.Destination)
+    → CheckerFits p v (declared_in c name (parameter_of at vertex weight)).value
+parameter_fits p v c name at true weight none fits is edge = placeless p v c name (entity.Parameter at) none fits is refl refl refl
+parameter_fits p v c name at false true none fits is edge = placeless p v c name entity.Weight none fits (edge refl) refl refl refl
+parameter_fits p v c name at false false none fits is edge = placeless p v c name entity.Error none fits tt refl refl refl
+
+parameters_fit : (w : Bool) (p : ProgramTree) (v : VisibleTree) (c : CheckerTree) (at : Endpoint) (parameters : List ParameterTree) → (parameters_declared w c at parameters).faults ≡ []
+    → CheckerFits p v c → Enough v at parameters → (w ≡ true → IsVertex v endpoint.Destination) → CheckerFits p v (parameters_declared w c at parameters).value
+parameters_fit w p v c at [] none fits enough edge = fits
+parameters_fit w p v c at (x ∷ others) none fits enough edge =
+    let d = declared_in c x.name (parameter w at x.declared) in
+    let rest = parameters_declared w d.value endpoint.Destination others in
+    parameters_fit w p v d.value endpoint.Destination others (no_right d.faults rest.faults none)
+    (parameter_fits p v c x.name at (is_vertex x.declared) (w && is_int x.declared) (no_left d.faults rest.faults none) fits enough.0
+    (λ weight. edge (both_true w (is_int x.declared) weight).0)) enough.1 edge
 
 -- the scope of a function, where it differs from that around it by vertices alone
 abbrev on_vertices : ProgramTree → ℕ → Bool → VisibleTree
@@ -169,10 +179,18 @@ entered_fits : (p : ProgramTree) (kind : FunctionKindTree) (c : CheckerTree) →
     → CheckerFits p (visible_in p kind) (with_writes (with_scope c (entered (inside_of kind) c.scope)) [])
 entered_fits p (MainKind true) c fits = entered_as p 0 true (MainKind true) c (λ main. refl) fits
 entered_fits p (MainKind false) c fits = entered_as p 2 true (MainKind false) c (λ main. refl) fits
-entered_fits p EdgeKind c fits = entered_as p 2 false EdgeKind c (λ main. cc) fits
+entered_fits p (EdgeKind weighted) c fits = entered_as p 2 false (EdgeKind weighted) c (λ main. cc) fits
 entered_fits p VertexKind c fits = entered_as p 1 false VertexKind c (λ main. cc) fits
 entered_fits p FilterKind c fits = entered_as p 1 false FilterKind c (λ main. cc) fits
 entered_fits p NoKind c fits = entered_as p 2 false NoKind c (λ main. cc) fits
+
+-- the weight is taken where there is a destination
+weight_on_edge : (p : ProgramTree) (kind : FunctionKindTree) → takes_weight kind ≡ true → IsVertex (visible_in p kind) endpoint.Destination
+weight_on_edge p (MainKind fits) takes = absurd cc
+weight_on_edge p (EdgeKind weighted) takes = omega arith
+weight_on_edge p VertexKind takes = absurd cc
+weight_on_edge p FilterKind takes = absurd cc
+weight_on_edge p NoKind takes = absurd cc
 
 -- a result without a clear meaning
 error_result : (p : ProgramTree) (v : VisibleTree) (c : CheckerTree) (kind : FunctionKindTree) (result : Option ParameterTree) → result_entity c kind ≡ entity.Error
@@ -184,22 +202,22 @@ error_result p v c kind (Some result) same none fits =
 
 -- the checker at the first statement of a function, its result aside
 abbrev before_result : CheckerTree → FunctionKindTree → List ParameterTree → CheckerTree
-before_result c kind parameters = (parameters_declared (with_writes (with_scope c (entered (inside_of kind) c.scope)) []) endpoint.Source parameters).value
+before_result c kind parameters = (parameters_declared (takes_weight kind) (with_writes (with_scope c (entered (inside_of kind) c.scope)) []) endpoint.Source parameters).value
 
 before_result_fits : (p : ProgramTree) (c : CheckerTree) (kind : FunctionKindTree) (parameters : List ParameterTree) (result : Option ParameterTree)
     → (opened c kind parameters result).faults ≡ [] → CheckerFits p (in_main p) c → KindFits p kind parameters result
     → CheckerFits p (visible_in p kind) (before_result c kind parameters)
 before_result_fits p c kind parameters result none fits shape =
     let e = with_writes (with_scope c (entered (inside_of kind) c.scope)) [] in
-    let d = parameters_declared e endpoint.Source parameters in
-    parameters_fit p (visible_in p kind) e endpoint.Source parameters (no_left d.faults (result_declared d.value kind result).faults none) (entered_fits p kind c fits) shape.0
+    let d = parameters_declared (takes_weight kind) e endpoint.Source parameters in
+    parameters_fit (takes_weight kind) p (visible_in p kind) e endpoint.Source parameters (no_left d.faults (result_declared d.value kind result).faults none) (entered_fits p kind c fits) shape.0 (weight_on_edge p kind)
 
 opened_fits : (p : ProgramTree) (c : CheckerTree) (kind : FunctionKindTree) (parameters : List ParameterTree) (result : Option ParameterTree)
     → result_entity (before_result c kind parameters) kind ≡ entity.Error → (opened c kind parameters result).faults ≡ [] → CheckerFits p (in_main p) c
     → KindFits p kind parameters result → CheckerFits p (visible_in p kind) (opened c kind parameters result).value
 opened_fits p c kind parameters result same none fits shape =
     let e = with_writes (with_scope c (entered (inside_of kind) c.scope)) [] in
-    let d = parameters_declared e endpoint.Source parameters in
+    let d = parameters_declared (takes_weight kind) e endpoint.Source parameters in
     error_result p (visible_in p kind) d.value kind result same (no_right d.faults (result_declared d.value kind result).faults none)
     (before_result_fits p c kind parameters result none fits shape)
 
@@ -210,7 +228,7 @@ filter_opened : (p : ProgramTree) (c : CheckerTree) (parameters : List Parameter
 filter_opened p c parameters None none within fits shape = absurd shape.1
 filter_opened p c parameters (Some result) none within fits shape =
     let e = with_writes (with_scope c (entered (inside_of FilterKind) c.scope)) [] in
-    let d = parameters_declared e endpoint.Source parameters in
+    let d = parameters_declared false e endpoint.Source parameters in
     let slot = entity.ConditionVariable (condition_slot d.value) in (
       length d.value.names,
       declared_name p d.value result.name slot within,
@@ -251,7 +269,9 @@ constant_before p d at name initial declared.VertexSet initializer within = (
 constant_before p d at name initial declared.Vector initializer within =
     (declared_before p d.checker name (entity.Vector (length d.vectors)) within.0, shorter d.vectors _ (length p.vectors) within.1, within.2, within.3, within.4, within.5)
 constant_before p d at name initial declared.EdgeSet initializer within =
-    (declared_before p d.checker name entity.Edges within.0, within.1, within.2, within.3, within.4, within.5)
+    (declared_before p d.checker name (entity.Edges false) within.0, within.1, within.2, within.3, within.4, within.5)
+constant_before p d at name initial declared.WeightedEdgeSet initializer within =
+    (declared_before p d.checker name (entity.Edges true) within.0, within.1, within.2, within.3, within.4, within.5)
 
 edges_resolved : (p : ProgramTree) (name : Identifier) (place : ℕ) (edges : Option ℕ) → EdgesAreResolved p edges → IsName p place → EdgesAreResolved p (only_edges name place edges).value
 edges_resolved p name place None old new = new
@@ -296,10 +316,23 @@ constant_fits p d at name initial declared.Vector initializer none within fits =
     )
 constant_fits p d at name initial declared.EdgeSet initializer none within fits =
     let only = only_edges name (next_name d) d.edges in
-    let named = no_right only.faults ((declare_name d name entity.Edges).faults ++ []) (no_right (loads at initializer).faults _ none) in
-    let left = no_left (declared_in d.checker name entity.Edges).faults [] (no_left (declare_name d name entity.Edges).faults [] named) in (
-      placeless p (in_main p) d.checker name entity.Edges left fits.0 tt refl refl refl,
-      edges_resolved p name (next_name d) d.edges fits.1 (declared_name p d.checker name entity.Edges within.0),
+    let named = no_right only.faults ((declare_name d name (entity.Edges false)).faults ++ []) (no_right (loads at initializer).faults _ none) in
+    let left = no_left (declared_in d.checker name (entity.Edges false)).faults [] (no_left (declare_name d name (entity.Edges false)).faults [] named) in (
+      placeless p (in_main p) d.checker name (entity.Edges false) left fits.0 tt refl refl refl,
+      edges_resolved p name (next_name d) d.edges fits.1 (declared_name p d.checker name (entity.Edges false) within.0),
+      fits.2,
+      fits.3,
+      fits.4,
+      fits.5,
+      fits.6,
+      fits.7,
+    )
+constant_fits p d at name initial declared.WeightedEdgeSet initializer none within fits =
+    let only = only_edges name (next_name d) d.edges in
+    let named = no_right only.faults ((declare_name d name (entity.Edges true)).faults ++ []) (no_right (loads at initializer).faults _ none) in
+    let left = no_left (declared_in d.checker name (entity.Edges true)).faults [] (no_left (declare_name d name (entity.Edges true)).faults [] named) in (
+      placeless p (in_main p) d.checker name (entity.Edges true) left fits.0 tt refl refl refl,
+      edges_resolved p name (next_name d) d.edges fits.1 (declared_name p d.checker name (entity.Edges true) within.0),
       fits.2,
       fits.3,
       fits.4,
@@ -311,7 +344,7 @@ constant_fits p d at name initial declared.EdgeSet initializer none within fits 
 -- what the statements of a function of each kind have to be
 abbrev StepsFitKind : ProgramTree → FunctionKindTree → StepsTree → Type 0
 StepsFitKind p (MainKind fits) steps = Unit {0}
-StepsFitKind p EdgeKind steps = StepsAreResolved p (in_edge_function p) steps
+StepsFitKind p (EdgeKind weighted) steps = StepsAreResolved p (in_edge_function p) steps
 StepsFitKind p VertexKind steps = StepsAreResolved p (in_vertex_function p) steps
 StepsFitKind p FilterKind steps = (result : ℕ) × IsName p result × StepsAreResolved p (in_filter p result) steps
 StepsFitKind p NoKind steps = Unit {0}
@@ -321,8 +354,8 @@ function_before : (p : ProgramTree) (d : DeclaredTree) (kind : FunctionKindTree)
     → WithinProgram p (function_declared d kind name steps).value → WithinProgram p d
 function_before p d (MainKind fits) name steps within =
     (declared_before p d.checker name entity.Error within.0, within.1, within.2, within.3, within.4, within.5)
-function_before p d EdgeKind name steps within = (
-  declared_before p d.checker name (entity.EdgeFunction (length d.edge_functions)) within.0,
+function_before p d (EdgeKind weighted) name steps within = (
+  declared_before p d.checker name (entity.EdgeFunction (length d.edge_functions) weighted) within.0,
   within.1,
   shorter d.edge_functions _ (length p.edge_functions) within.2,
   within.3,
@@ -354,8 +387,8 @@ function_fits : (p : ProgramTree) (d : DeclaredTree) (kind : FunctionKindTree) (
 function_fits p d (MainKind fits) name steps none within all resolved =
     let left = no_left (declared_in d.checker name entity.Error).faults [] none in
     (placeless p (in_main p) d.checker name entity.Error left all.0 tt refl refl refl, all.1, all.2, all.3, all.4, all.5, all.6, all.7)
-function_fits p d EdgeKind name steps none within all resolved =
-    let e = entity.EdgeFunction (length d.edge_functions) in
+function_fits p d (EdgeKind weighted) name steps none within all resolved =
+    let e = entity.EdgeFunction (length d.edge_functions) weighted in
     let left = no_left (declared_in d.checker name e).faults [] (no_left (declare_name d name e).faults [] none) in
     let f = function_of d steps in (
       placeless p (in_main p) d.checker name e left all.0 (last_within d.edge_functions f (length p.edge_functions) within.2) refl refl refl,
@@ -493,7 +526,7 @@ main_fits p d fits name parameters result body none within all shape =
 declared_function_before : (p : ProgramTree) (d : DeclaredTree) (at : ℕ) (name : Identifier) (parameters : List ParameterTree) (result : Option ParameterTree) (body : source.BlockTree)
     (kind : FunctionKindTree) → WithinProgram p (declare_function d at name parameters result body kind).value → WithinProgram p d
 declared_function_before p d at name parameters result body (MainKind fits) within = (main_before p d fits name parameters result body within).1
-declared_function_before p d at name parameters result body EdgeKind within = steps_declared_before p d at EdgeKind name parameters result body within
+declared_function_before p d at name parameters result body (EdgeKind weighted) within = steps_declared_before p d at (EdgeKind weighted) name parameters result body within
 declared_function_before p d at name parameters result body VertexKind within = steps_declared_before p d at VertexKind name parameters result body within
 declared_function_before p d at name parameters result body FilterKind within = steps_declared_before p d at FilterKind name parameters result body within
 declared_function_before p d at name parameters result body NoKind within = steps_declared_before p d at NoKind name parameters result body within
@@ -509,10 +542,10 @@ declared_function_fits : (p : ProgramTree) (d : DeclaredTree) (at : ℕ) (name :
     (kind : FunctionKindTree) → (declare_function d at name parameters result body kind).faults ≡ [] → WithinProgram p (declare_function d at name parameters result body kind).value
     → DeclaredFits p d → KindFits p kind parameters result → DeclaredFits p (declare_function d at name parameters result body kind).value
 declared_function_fits p d at name parameters result body (MainKind fits) none within all shape = main_fits p d fits name parameters result body none within all shape
-declared_function_fits p d at name parameters result body EdgeKind none within all shape =
-    let clear = opened_faultless d at EdgeKind name parameters result body none in
-    steps_declared_fits p (in_edge_function p) d at EdgeKind name parameters result body none within all
-    (opened_fits p d.checker EdgeKind parameters result refl clear all.0 shape) (λ steps. steps)
+declared_function_fits p d at name parameters result body (EdgeKind weighted) none within all shape =
+    let clear = opened_faultless d at (EdgeKind weighted) name parameters result body none in
+    steps_declared_fits p (in_edge_function p) d at (EdgeKind weighted) name parameters result body none within all
+    (opened_fits p d.checker (EdgeKind weighted) parameters result refl clear all.0 shape) (λ steps. steps)
 declared_function_fits p d at name parameters result body VertexKind none within all shape =
     let clear = opened_faultless d at VertexKind name parameters result body none in
     steps_declared_fits p (in_vertex_function p) d at VertexKind name parameters result body none within all
@@ -561,6 +594,7 @@ constant_sets d at name initial declared.Vertex initializer n = refl
 constant_sets d at name initial declared.VertexSet initializer n = omega (arith, length-append d.sets (next_name d ∷ []))
 constant_sets d at name initial declared.Vector initializer n = refl
 constant_sets d at name initial declared.EdgeSet initializer n = refl
+constant_sets d at name initial declared.WeightedEdgeSet initializer n = refl
 
 with_main_sets : (e : DeclaredTree) (fits : Bool) (main : BlockTree) → (with_main e fits main).sets ≡ e.sets
 with_main_sets e true main = refl
@@ -571,7 +605,7 @@ function_sets : (d : DeclaredTree) (at : ℕ) (name : Identifier) (parameters : 
 function_sets d at name parameters result body (MainKind fits) =
     let b = (statements_typed (opened (restarted d.checker) (MainKind fits) parameters result).value Empty body).value in
     with_main_sets (declare_name (around d b.1) name entity.Main).value fits b.0
-function_sets d at name parameters result body EdgeKind = refl
+function_sets d at name parameters result body (EdgeKind weighted) = refl
 function_sets d at name parameters result body VertexKind = refl
 function_sets d at name parameters result body FilterKind = refl
 function_sets d at name parameters result body NoKind = refl

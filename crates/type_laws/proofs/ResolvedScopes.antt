@@ -42,7 +42,7 @@ vertex_grows v w endpoint.Source more is = omega (arith, more, is)
 vertex_grows v w endpoint.Destination more is = omega (arith, more, is)
 
 entity_grows : (p : ProgramTree) (v w : VisibleTree) → Grows v w → (e : Entity) → EntityIsResolved p v e → EntityIsResolved p w e
-entity_grows p v w more entity.Edges is = is
+entity_grows p v w more (entity.Edges weights) is = is
 entity_grows p v w more (entity.Vector place) is = is
 entity_grows p v w more (entity.ConstantSet slot) is = (more.sets slot.place slot.name is.0, is.1)
 entity_grows p v w more (entity.IntegerConstant name n) is = is
@@ -52,7 +52,8 @@ entity_grows p v w more (entity.ConditionVariable slot) is = (more.conditions sl
 entity_grows p v w more (entity.SetVariable slot) is = (more.sets slot.place slot.name is.0, is.1)
 entity_grows p v w more (entity.LoopVariable slot) is = (more.integers slot.place (Some slot.name) is.0, is.1)
 entity_grows p v w more (entity.Parameter at) is = vertex_grows v w at more.vertices is
-entity_grows p v w more (entity.EdgeFunction place) is = is
+entity_grows p v w more entity.Weight is = vertex_grows v w endpoint.Destination more.vertices is
+entity_grows p v w more (entity.EdgeFunction place weighted) is = is
 entity_grows p v w more (entity.VertexFunction place) is = is
 entity_grows p v w more (entity.Filter place) is = is
 entity_grows p v w more entity.Main is = is

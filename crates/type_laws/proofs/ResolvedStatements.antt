@@ -19,7 +19,7 @@ use Rattle.expression_types.specs.ValueTree as value
 use Rattle.expression_types.specs.ValueTree.{ValueTree, named_set}
 use Rattle.types.specs.Block.{action_typed, behind, closed, statements_typed}
 use Rattle.types.specs.Checker.{CheckerTree, condition_slot, counted, declared_in, integer_slot, labelled, set_slot}
-use Rattle.types.specs.Initial.{ApplyEndTree, InitializerTree, initializer_condition, edge_function, end_of, initializer_of, initializer_integer, is_edges, names_error, is_error_end, is_wrong, initializer_members, vertex_function}
+use Rattle.types.specs.Initial.{ApplyEndTree, InitializerTree, initializer_condition, edge_function, end_of, initializer_of, initializer_integer, is_edges, names_error, is_error_end, is_wrong, initializer_members, vertex_function, lacks_weights}
 use Rattle.types.specs.Statement.{add_vertex, added, applied, apply, assign, assigned, declare_as, edges_applied, entry_reduced, entry_set, has_ends, print, printed, reduce, reduce_entry, reduced, set_applied, set_entry, vertices_applied}
 use Rattle.types.specs.Wanted.{as_index, condition_in, integer_in}
 use Rattle.type_laws.proofs.Faultless.{no_left, no_right, not_empty}
@@ -71,6 +71,7 @@ declare_before p c at name initializer declared.Vertex within = declared_before 
 declare_before p c at name initializer declared.VertexSet within = declared_before p c name (entity.SetVariable (set_slot c)) within
 declare_before p c at name initializer declared.Vector within = declared_before p c name entity.Error within
 declare_before p c at name initializer declared.EdgeSet within = declared_before p c name entity.Error within
+declare_before p c at name initializer declared.WeightedEdgeSet within = declared_before p c name entity.Error within
 
 mutual
   action_before : (p : ProgramTree) (c : CheckerTree) (action : source.ActionTree) → Within p (action_typed c action).value.1 → Within p c
@@ -182,7 +183,7 @@ applied_plain : (p : ProgramTree) (v : VisibleTree) (at : ℕ) (t : Entity) (a b
     → EndTreeIsResolved p v b → EntityIsResolved p v f → PlainAction p v (applied at t a b ends f).value
 applied_plain p v at t a b ends f target from to is =
     if_plain p v (names_error t) _ _ (tt, refl) (if_plain p v (is_edges t) _ _
-    (if_plain p v (is_wrong a || is_wrong b) _ _ (tt, refl)
+    (if_plain p v (is_wrong a || is_wrong b || lacks_weights t f) _ _ (tt, refl)
     (edges_plain p v at a b (names_error f) (edge_function f) from to (edge_function_resolved p v f is)))
     (set_applied_plain p v at ends f (named_set t) is (named_set_resolved p v t target)))
 
@@ -214,6 +215,7 @@ declare_fits p v c at name initializer declared.VertexSet none within fits value
     ((declared_name p c name e within, initializer_members_resolved p v at initializer value), set_declared p v c name left within fits)
 declare_fits p v c at name initializer declared.Vector none within fits value = absurd (not_empty _ _ none)
 declare_fits p v c at name initializer declared.EdgeSet none within fits value = absurd (not_empty _ _ none)
+declare_fits p v c at name initializer declared.WeightedEdgeSet none within fits value = absurd (not_empty _ _ none)
 
 mutual
   action_fits : (p : ProgramTree) (v : VisibleTree) (c : CheckerTree) (action : source.ActionTree) → (action_typed c action).faults ≡ [] → Within p (action_typed c action).value.1

@@ -65,6 +65,7 @@ declare_before p c at name initializer declared.Vertex within = declared_before 
 declare_before p c at name initializer declared.VertexSet within = declared_before p c name entity.Error within
 declare_before p c at name initializer declared.Vector within = declared_before p c name entity.Error within
 declare_before p c at name initializer declared.EdgeSet within = declared_before p c name entity.Error within
+declare_before p c at name initializer declared.WeightedEdgeSet within = declared_before p c name entity.Error within
 
 mutual
   step_before : (p : ProgramTree) (c : CheckerTree) (action : source.ActionTree) → Within p (step_typed c action).value.1 → Within p c
@@ -160,6 +161,7 @@ declare_fits p v c at name initializer declared.Vertex none within fits value = 
 declare_fits p v c at name initializer declared.VertexSet none within fits value = absurd (not_empty _ _ none)
 declare_fits p v c at name initializer declared.Vector none within fits value = absurd (not_empty _ _ none)
 declare_fits p v c at name initializer declared.EdgeSet none within fits value = absurd (not_empty _ _ none)
+declare_fits p v c at name initializer declared.WeightedEdgeSet none within fits value = absurd (not_empty _ _ none)
 
 mutual
   step_fits : (p : ProgramTree) (v : VisibleTree) (c : CheckerTree) (action : source.ActionTree) → (step_typed c action).faults ≡ [] → Within p (step_typed c action).value.1

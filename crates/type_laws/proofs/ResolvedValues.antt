@@ -12,6 +12,7 @@ use Rattle.syntax.specs.Terminals.{Identifier}
 use Rattle.syntax.specs.ExpressionTrees.{ExpressionTree, ConjunctionTree, ComparisonTree, SumTree, TermTree, UnaryTree, PrimaryTree, LastConjunction, ConjunctionThen, LastComparison, ComparisonThen, OneSum, TwoSums, LastTerm, TermThen, LastUnary, UnaryThen, Bare, Signed, Literal, Truth, Variable, Entry, Size, Parentheses}
 use Rattle.syntax.specs.SourceTrees as source
 use Rattle.syntax.specs.SourceTrees.{InitialTree}
+use Rattle.typed_tree.specs.declared.expression.Endpoint.TheVariants as endpoint
 use Rattle.typed_tree.specs.declared.expression.ComparisonOperator.{ComparisonOperator}
 use Rattle.typed_tree.specs.declared.expression.ComparisonOperator.TheVariants as comparison
 use Rattle.typed_tree.specs.declared.expression.Connective.{Connective}
@@ -36,12 +37,12 @@ use Rattle.expression_types.specs.Operators.{IntegersTree, Integers, MixedIntege
 use Rattle.expression_types.specs.ScopeTree.{ScopeTree}
 use Rattle.expression_types.specs.ValueTree.{ValueTree, Integer, Condition, Vertex, Set, ErrorValue, condition_reads_entry, named_set, named_value, reads_entry}
 use Rattle.types.specs.Checker.{CheckerTree}
-use Rattle.types.specs.Initial.{ApplyEndTree, InitializerTree, Typed, Members, Loaded, Degrees, ErrorInitializer, initializer_condition, edge_function, end_of, ends_given, filter_function, filter_named, filtered, filtered_by, initializer_of, given_filter, initializer_integer, is_edges, names_error, is_error_end, is_wrong, initializer_members, modified, modified_by, new_set, loaded, of_edges, vector_of, vertex_function, writes_vector}
+use Rattle.types.specs.Initial.{ApplyEndTree, InitializerTree, Typed, Members, Loaded, Degrees, ErrorInitializer, initializer_condition, edge_function, end_of, ends_given, filter_function, filter_named, filtered, filtered_by, initializer_of, given_filter, initializer_integer, is_edges, names_error, is_error_end, is_wrong, initializer_members, modified, modified_by, new_set, loaded, of_edges, vector_of, vertex_function, writes_vector, lacks_weights}
 use Rattle.types.specs.Wanted.{as_condition, as_index, as_integer, as_members, condition_in, integer_in, no_index}
 
 -- what a name stands for is there
 abbrev pub EntityIsResolved : ProgramTree → VisibleTree → Entity → Type 0
-EntityIsResolved p v entity.Edges = Unit {0}
+EntityIsResolved p v (entity.Edges weights) = Unit {0}
 EntityIsResolved p v (entity.Vector place) = IsVector p place
 EntityIsResolved p v (entity.ConstantSet slot) = IsSet p v slot
 EntityIsResolved p v (entity.IntegerConstant name n) = IsName p name
@@ -51,7 +52,8 @@ EntityIsResolved p v (entity.ConditionVariable slot) = IsCondition p v slot
 EntityIsResolved p v (entity.SetVariable slot) = IsSet p v slot
 EntityIsResolved p v (entity.LoopVariable slot) = IsInteger p v slot
 EntityIsResolved p v (entity.Parameter at) = IsVertex v at
-EntityIsResolved p v (entity.EdgeFunction place) = IsEdgeFunction p place
+EntityIsResolved p v entity.Weight = IsVertex v endpoint.Destination
+EntityIsResolved p v (entity.EdgeFunction place weighted) = IsEdgeFunction p place
 EntityIsResolved p v (entity.VertexFunction place) = IsVertexFunction p place
 EntityIsResolved p v (entity.Filter place) = IsFilter p place
 EntityIsResolved p v entity.Main = Unit {0}
@@ -119,6 +121,7 @@ named_resolved p v (entity.ConditionVariable slot) is = is
 named_resolved p v (entity.SetVariable slot) is = is
 named_resolved p v (entity.LoopVariable slot) is = is
 named_resolved p v (entity.Parameter at) is = is
+named_resolved p v entity.Weight is = is
 named_resolved p v _ is = tt
 
 as_vector_resolved : (p : ProgramTree) (v : VisibleTree) (at : ℕ) (e : Entity) → EntityIsResolved p v e → MaybePlace (IsVector p) (as_vector at e).value
@@ -140,7 +143,7 @@ named_set_resolved p v (entity.SetVariable slot) is = is
 named_set_resolved p v _ is = tt
 
 pub edge_function_resolved : (p : ProgramTree) (v : VisibleTree) (e : Entity) → EntityIsResolved p v e → MaybePlace (IsEdgeFunction p) (edge_function e)
-edge_function_resolved p v (entity.EdgeFunction place) is = is
+edge_function_resolved p v (entity.EdgeFunction place weighted) is = is
 edge_function_resolved p v _ is = tt
 
 pub vertex_function_resolved : (p : ProgramTree) (v : VisibleTree) (e : Entity) → EntityIsResolved p v e → MaybePlace (IsVertexFunction p) (vertex_function e)
@@ -485,7 +488,7 @@ modified_resolved : (p : ProgramTree) (v : VisibleTree) (c : CheckerTree) (at : 
 modified_resolved p v c at e a b f x from to function vector =
     if_initializer p v (names_error e || is_error_end a || is_error_end b || names_error f || names_error x) _ _ tt
     (if_initializer p v (is_edges e) _ _
-    (if_initializer p v (is_wrong a || is_wrong b) _ _ tt
+    (if_initializer p v (is_wrong a || is_wrong b || lacks_weights e f) _ _ tt
     (modified_by_resolved p v c at (ends_given a b) (edge_function f) (vector_of x) (from, to) (edge_function_resolved p v f function) (vector_of_resolved p v x vector))) tt)
 
 new_set_resolved : (p : ProgramTree) (v : VisibleTree) (at : ℕ) (n : ℤ) → InitializerIsResolved p v (new_set at n).value

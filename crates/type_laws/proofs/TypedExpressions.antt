@@ -78,7 +78,7 @@ named_as : (at : ℕ) (v : ValueTree) (a type : ExpressionType) → IsOf a v →
 named_as at v a type of is = record { none = refl; is = subst (λ t. IsOf t v) (some_type a type is) of }
 
 named_fine : (at : ℕ) (e : Entity) (type : ExpressionType) → type_named (Some (meaning_of e)) ≡ Some type → Fine (given at rule.WrongType (named_value e)) type
-named_fine at entity.Edges type has = absurd (no_type type has)
+named_fine at (entity.Edges weights) type has = absurd (no_type type has)
 named_fine at (entity.Vector place) type has = absurd (no_type type has)
 named_fine at (entity.ConstantSet slot) type has = named_as at _ Set type tt has
 named_fine at (entity.IntegerConstant name n) type has = named_as at _ Number type tt has
@@ -88,7 +88,8 @@ named_fine at (entity.ConditionVariable slot) type has = named_as at _ Truth typ
 named_fine at (entity.SetVariable slot) type has = named_as at _ Set type tt has
 named_fine at (entity.LoopVariable slot) type has = named_as at _ Number type tt has
 named_fine at (entity.Parameter p) type has = named_as at _ (Vertex p) type refl has
-named_fine at (entity.EdgeFunction place) type has = absurd (no_type type has)
+named_fine at entity.Weight type has = named_as at _ Number type tt has
+named_fine at (entity.EdgeFunction place weighted) type has = absurd (no_type type has)
 named_fine at (entity.VertexFunction place) type has = absurd (no_type type has)
 named_fine at (entity.Filter place) type has = absurd (no_type type has)
 named_fine at entity.Main type has = absurd (no_type type has)
@@ -121,7 +122,7 @@ entity_means None m is = absurd (no_meaning m is)
 entity_means (Some e) m is = (e, refl, some_meaning (meaning_of e) m is)
 
 vector_is : (at vector : ℕ) (e : Entity) → meaning_of e ≡ meaning.Vector vector → ((as_vector at e).faults ≡ []) × ((as_vector at e).value ≡ Some vector)
-vector_is at vector entity.Edges is = absurd cc
+vector_is at vector (entity.Edges weights) is = absurd cc
 vector_is at vector (entity.Vector place) is = (refl, cc)
 vector_is at vector (entity.ConstantSet slot) is = absurd cc
 vector_is at vector (entity.IntegerConstant name n) is = absurd cc
@@ -131,7 +132,8 @@ vector_is at vector (entity.ConditionVariable slot) is = absurd cc
 vector_is at vector (entity.SetVariable slot) is = absurd cc
 vector_is at vector (entity.LoopVariable slot) is = absurd cc
 vector_is at vector (entity.Parameter p) is = absurd cc
-vector_is at vector (entity.EdgeFunction place) is = absurd cc
+vector_is at vector entity.Weight is = absurd cc
+vector_is at vector (entity.EdgeFunction place weighted) is = absurd cc
 vector_is at vector (entity.VertexFunction place) is = absurd cc
 vector_is at vector (entity.Filter place) is = absurd cc
 vector_is at vector entity.Main is = absurd cc
@@ -155,7 +157,7 @@ vector_fine scope at name vector is =
 
 -- the size of a set
 set_size : (at : ℕ) (e : Entity) → type_named (Some (meaning_of e)) ≡ Some Set → Fine (as_size at e) Number
-set_size at entity.Edges has = absurd (no_type Set has)
+set_size at (entity.Edges weights) has = absurd (no_type Set has)
 set_size at (entity.Vector place) has = absurd (no_type Set has)
 set_size at (entity.ConstantSet slot) has = record { none = refl; is = tt }
 set_size at (entity.IntegerConstant name n) has = absurd cc
@@ -165,7 +167,8 @@ set_size at (entity.ConditionVariable slot) has = absurd cc
 set_size at (entity.SetVariable slot) has = record { none = refl; is = tt }
 set_size at (entity.LoopVariable slot) has = absurd cc
 set_size at (entity.Parameter p) has = absurd cc
-set_size at (entity.EdgeFunction place) has = absurd (no_type Set has)
+set_size at entity.Weight has = absurd cc
+set_size at (entity.EdgeFunction place weighted) has = absurd (no_type Set has)
 set_size at (entity.VertexFunction place) has = absurd (no_type Set has)
 set_size at (entity.Filter place) has = absurd (no_type Set has)
 set_size at entity.Main has = absurd (no_type Set has)
@@ -330,9 +333,9 @@ negated_fine at value.ErrorValue is = absurd is
 
 -- a name that has a type lacks no value, so an index that has one is looked at as any expression
 has_value : (e : Entity) (type : ExpressionType) → type_named (Some (meaning_of e)) ≡ Some type → lacks_value (Some e) ≡ false
-has_value entity.Edges type has = absurd (no_type type has)
+has_value (entity.Edges weights) type has = absurd (no_type type has)
 has_value (entity.Vector place) type has = absurd (no_type type has)
-has_value (entity.EdgeFunction place) type has = absurd (no_type type has)
+has_value (entity.EdgeFunction place weighted) type has = absurd (no_type type has)
 has_value (entity.VertexFunction place) type has = absurd (no_type type has)
 has_value (entity.Filter place) type has = absurd (no_type type has)
 has_value entity.Main type has = absurd (no_type type has)
@@ -345,6 +348,7 @@ has_value (entity.ConditionVariable slot) type has = refl
 has_value (entity.SetVariable slot) type has = refl
 has_value (entity.LoopVariable slot) type has = refl
 has_value (entity.Parameter p) type has = refl
+has_value entity.Weight type has = refl
 
 visible_has_value : (o : Option Entity) (type : ExpressionType) → type_named (option_map meaning_of o) ≡ Some type → lacks_value o ≡ false
 visible_has_value None type has = refl

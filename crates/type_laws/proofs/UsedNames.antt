@@ -416,7 +416,7 @@ main_visible d fits name parameters result body none =
 function_visible : (d : DeclaredTree) (at : ℕ) (name : Identifier) (parameters : List ParameterTree) (result : Option ParameterTree) (body : source.BlockTree) (kind : FunctionKindTree)
     → (declare_function d at name parameters result body kind).faults ≡ [] → BlockUsesVisible (names_inside (seen d.checker.scope) parameters result) body
 function_visible d at name parameters result body (MainKind fits) none = main_visible d fits name parameters result body none
-function_visible d at name parameters result body EdgeKind none = steps_declared_visible d at EdgeKind name parameters result body none
+function_visible d at name parameters result body (EdgeKind weighted) none = steps_declared_visible d at (EdgeKind weighted) name parameters result body none
 function_visible d at name parameters result body VertexKind none = steps_declared_visible d at VertexKind name parameters result body none
 function_visible d at name parameters result body FilterKind none = steps_declared_visible d at FilterKind name parameters result body none
 function_visible d at name parameters result body NoKind none = steps_declared_visible d at NoKind name parameters result body none

@@ -22,8 +22,8 @@ use Rattle.expression_types.specs.Expression.{used, value_of, vector_place}
 use Rattle.expression_types.specs.WithFaults.{WithFaults, fault_at, sure, ◌>>=◌}
 use Rattle.expression_types.specs.ValueTree.{ValueTree, Integer, Condition, Vertex, Set, ErrorValue, is_error, named_set}
 use Rattle.types.specs.Checker.{CheckerTree, condition_slot, integer_slot, labelled}
-use Rattle.types.specs.Declaration.{DeclaredTree, FunctionKindTree, EdgeKind, VertexKind, FilterKind, NoKind, begins, declaration_typed, declarations_typed, declare_constant_as, has_all, inside_of, is_bool, is_vertex, kind_fits, kind_of, literal_or_fault, loads, opened, steps_declared, wanted}
-use Rattle.types.specs.Initial.{ApplyEndTree, InitializerTree, Members, Loaded, Degrees, ErrorInitializer, edge_function, end_of, ends_given, filter_function, filter_named, filtered, filtered_by, initializer_of, is_all, is_degrees, is_edges, is_loaded, is_sound, names_error, is_error_end, is_wrong, loaded, modified, modified_by, new_set, of_edges, vector_of, writes_vector}
+use Rattle.types.specs.Declaration.{DeclaredTree, FunctionKindTree, EdgeKind, VertexKind, FilterKind, NoKind, begins, declaration_typed, declarations_typed, declare_constant_as, has_all, inside_of, is_bool, is_vertex, kind_fits, kind_of, literal_or_fault, loads, opened, steps_declared, wanted, is_int}
+use Rattle.types.specs.Initial.{ApplyEndTree, InitializerTree, Members, Loaded, Degrees, ErrorInitializer, edge_function, end_of, ends_given, filter_function, filter_named, filtered, filtered_by, initializer_of, is_all, is_degrees, is_edges, is_loaded, is_sound, names_error, is_error_end, is_wrong, loaded, modified, modified_by, new_set, of_edges, vector_of, writes_vector, lacks_weights}
 use Rattle.types.specs.Literal.{literal_condition, literal_integer}
 use Rattle.types.specs.Program.{opening, program_of, set_count}
 use Rattle.types.specs.Step.{declare_step_as, may_reduce, may_set, set_entry_step, step_behind, step_typed, steps_behind, steps_typed}
@@ -36,7 +36,7 @@ use Rattle.types.proofs.EdgeWrites.{declared_goes, opened_inside}
 use Rattle.type_laws.proofs.EntryAccess.{main_reads}
 use Rattle.type_laws.proofs.EntryReads.{expression_reads}
 use Rattle.type_laws.proofs.Faultless.{no_left, no_right, not_empty}
-use Rattle.type_laws.proofs.KnownDeclarations.{AllKnown, declaration_known}
+use Rattle.type_laws.proofs.KnownDeclarations.{AllKnown, declaration_known, int_type}
 use Rattle.type_laws.proofs.KnownScopes.{EntityIsKnown, IsKnown, Vertices, labelled_scope, nowhere, used_known}
 
 -- statements of functions
@@ -47,6 +47,7 @@ variable_fits c at name initializer declared.Vertex none = absurd (not_empty _ _
 variable_fits c at name initializer declared.VertexSet none = absurd (not_empty _ _ none)
 variable_fits c at name initializer declared.Vector none = absurd (not_empty _ _ none)
 variable_fits c at name initializer declared.EdgeSet none = absurd (not_empty _ _ none)
+variable_fits c at name initializer declared.WeightedEdgeSet none = absurd (not_empty _ _ none)
 
 -- after a statement the checker is in the same function
 variable_inside : (c : CheckerTree) (at : ℕ) (name : Identifier) (initializer : InitializerTree) (type : DeclaredType) → (declare_step_as c at name initializer type).value.1.scope.inside ≡ c.scope.inside
@@ -56,6 +57,7 @@ variable_inside c at name initializer declared.Vertex = (declared_goes c name en
 variable_inside c at name initializer declared.VertexSet = (declared_goes c name entity.Error).0
 variable_inside c at name initializer declared.Vector = (declared_goes c name entity.Error).0
 variable_inside c at name initializer declared.EdgeSet = (declared_goes c name entity.Error).0
+variable_inside c at name initializer declared.WeightedEdgeSet = (declared_goes c name entity.Error).0
 
 step_inside : (c : CheckerTree) (action : source.ActionTree) → (step_typed c action).value.1.scope.inside ≡ c.scope.inside
 step_inside c (source.Declare at x initial) = variable_inside c at x.name (initializer_of c at initial).value x.declared
@@ -147,6 +149,7 @@ vertex_type declared.Vertex is = refl
 vertex_type declared.VertexSet is = absurd (false_is_not_true is)
 vertex_type declared.Vector is = absurd (false_is_not_true is)
 vertex_type declared.EdgeSet is = absurd (false_is_not_true is)
+vertex_type declared.WeightedEdgeSet is = absurd (false_is_not_true is)
 
 bool_type : (type : DeclaredType) → is_bool type ≡ true → type ≡ declared.Bool
 bool_type declared.Int is = absurd (false_is_not_true is)
@@ -155,6 +158,7 @@ bool_type declared.Vertex is = absurd (false_is_not_true is)
 bool_type declared.VertexSet is = absurd (false_is_not_true is)
 bool_type declared.Vector is = absurd (false_is_not_true is)
 bool_type declared.EdgeSet is = absurd (false_is_not_true is)
+bool_type declared.WeightedEdgeSet is = absurd (false_is_not_true is)
 
 vertex_function_fits : (d : DeclaredTree) (at : ℕ) (name : Identifier) (v : ParameterTree) (body : source.BlockTree) (b : Bool) → is_vertex v.declared ≡ b
     → (steps_declared d at (if b then VertexKind else NoKind) name (v ∷ []) None body).faults ≡ [] → FunctionFits (v ∷ []) None body
@@ -169,11 +173,24 @@ filter_fits d at name v result body true is none =
 filter_fits d at name v result body false is none = absurd (not_empty _ _ none)
 
 edge_function_fits : (d : DeclaredTree) (at : ℕ) (name : Identifier) (src dst : ParameterTree) (body : source.BlockTree) (b : Bool) → (is_vertex src.declared && is_vertex dst.declared) ≡ b
-    → (steps_declared d at (if b then EdgeKind else NoKind) name (src ∷ dst ∷ []) None body).faults ≡ [] → FunctionFits (src ∷ dst ∷ []) None body
+    → (steps_declared d at (if b then EdgeKind false else NoKind) name (src ∷ dst ∷ []) None body).faults ≡ [] → FunctionFits (src ∷ dst ∷ []) None body
 edge_function_fits d at name src dst body true is none =
     let types = both_true (is_vertex src.declared) (is_vertex dst.declared) is in
-    (vertex_type src.declared types.0, vertex_type dst.declared types.1, steps_declared_fit d at EdgeKind name (src ∷ dst ∷ []) None body may_edge none)
+    (vertex_type src.declared types.0, vertex_type dst.declared types.1, steps_declared_fit d at (EdgeKind false) name (src ∷ dst ∷ []) None body may_edge none)
 edge_function_fits d at name src dst body false is none = absurd (not_empty _ _ none)
+
+weighted_function_fits : (d : DeclaredTree) (at : ℕ) (name : Identifier) (src dst w : ParameterTree) (body : source.BlockTree) (b : Bool)
+    → (is_vertex src.declared && is_vertex dst.declared && is_int w.declared) ≡ b
+    → (steps_declared d at (if b then EdgeKind true else NoKind) name (src ∷ dst ∷ w ∷ []) None body).faults ≡ [] → FunctionFits (src ∷ dst ∷ w ∷ []) None body
+weighted_function_fits d at name src dst w body true is none =
+    let types = both_true (is_vertex src.declared && is_vertex dst.declared) (is_int w.declared) is in
+    let vertices = both_true (is_vertex src.declared) (is_vertex dst.declared) types.0 in (
+      vertex_type src.declared vertices.0,
+      vertex_type dst.declared vertices.1,
+      int_type w.declared types.1,
+      steps_declared_fit d at (EdgeKind true) name (src ∷ dst ∷ w ∷ []) None body may_edge none,
+    )
+weighted_function_fits d at name src dst w body false is none = absurd (not_empty _ _ none)
 
 function_fits : (d : DeclaredTree) (at : ℕ) (name : Identifier) (parameters : List ParameterTree) (result : Option ParameterTree) (body : source.BlockTree)
     → (steps_declared d at (kind_of parameters result) name parameters result body).faults ≡ [] → FunctionFits parameters result body
@@ -182,7 +199,10 @@ function_fits d at name (v ∷ []) None body none = vertex_function_fits d at na
 function_fits d at name (v ∷ []) (Some result) body none = filter_fits d at name v result body (is_vertex v.declared && is_bool result.declared) refl none
 function_fits d at name (src ∷ dst ∷ []) None body none = edge_function_fits d at name src dst body (is_vertex src.declared && is_vertex dst.declared) refl none
 function_fits d at name (src ∷ dst ∷ []) (Some result) body none = absurd (not_empty _ _ none)
-function_fits d at name (a ∷ b ∷ c ∷ others) result body none = absurd (not_empty _ _ none)
+function_fits d at name (src ∷ dst ∷ w ∷ []) None body none =
+    weighted_function_fits d at name src dst w body (is_vertex src.declared && is_vertex dst.declared && is_int w.declared) refl none
+function_fits d at name (src ∷ dst ∷ w ∷ []) (Some result) body none = absurd (not_empty _ _ none)
+function_fits d at name (x ∷ y ∷ z ∷ u ∷ others) result body none = absurd (not_empty _ _ none)
 
 -- the value of a constant has no faulty part
 abbrev IsSound : WithFaults InitializerTree → Type 0
@@ -244,12 +264,12 @@ modified_sound : (c : CheckerTree) (at : ℕ) (edges : Entity) (a b : ApplyEndTr
     → names_error v ≡ false → IsSound (modified c at edges a b f v)
 modified_sound c at edges a b f v first second third fourth fifth =
     let by = modified_by c at (ends_given a b) (edge_function f) (vector_of v) in
-    let between = if is_wrong a || is_wrong b then fault_at at rule.WrongType ErrorInitializer else by in
+    let between = if is_wrong a || is_wrong b || lacks_weights edges f then fault_at at rule.WrongType ErrorInitializer else by in
     let error = neither_true (names_error edges || is_error_end a || is_error_end b || names_error f) (names_error v)
     (neither_true (names_error edges || is_error_end a || is_error_end b) (names_error f)
     (neither_true (names_error edges || is_error_end a) (is_error_end b) (neither_true (names_error edges) (is_error_end a) first second) third) fourth) fifth in
     if_sound (names_error edges || is_error_end a || is_error_end b || names_error f || names_error v) (sure ErrorInitializer) (if is_edges edges then between else fault_at at rule.WrongType ErrorInitializer) error
-    (if_then (is_edges edges) between at (if_else (is_wrong a || is_wrong b) by at (modified_by_sound c at (ends_given a b) (edge_function f) (vector_of v))))
+    (if_then (is_edges edges) between at (if_else (is_wrong a || is_wrong b || lacks_weights edges f) by at (modified_by_sound c at (ends_given a b) (edge_function f) (vector_of v))))
 
 new_set_sound : (at : ℕ) (size : ℤ) → IsSound (new_set at size)
 new_set_sound at (pos zero) none = refl
@@ -347,9 +367,9 @@ modified_not : (Q : InitializerTree → Bool) (c : CheckerTree) (at : ℕ) (edge
 modified_not Q c at edges a b f v broken other =
     let by = modified_by c at (ends_given a b) (edge_function f) (vector_of v) in
     let wrong = fault_at at rule.WrongType ErrorInitializer in
-    let between = if is_wrong a || is_wrong b then wrong else by in
+    let between = if is_wrong a || is_wrong b || lacks_weights edges f then wrong else by in
     if_not Q (names_error edges || is_error_end a || is_error_end b || names_error f || names_error v) (sure ErrorInitializer) (if is_edges edges then between else wrong) broken
-    (if_not Q (is_edges edges) between wrong (if_not Q (is_wrong a || is_wrong b) wrong by broken (modified_by_not Q c at (ends_given a b) (edge_function f) (vector_of v) broken other)) broken)
+    (if_not Q (is_edges edges) between wrong (if_not Q (is_wrong a || is_wrong b || lacks_weights edges f) wrong by broken (modified_by_not Q c at (ends_given a b) (edge_function f) (vector_of v) broken other)) broken)
 
 clash : (b : Bool) → b ≡ false → b ≡ true → ⊥
 clash b first second = false_is_not_true (sym first ∙ second)
@@ -433,6 +453,10 @@ constant_fits d at name initial declared.Vector known sound none =
       | inr literal ↦ inr literal
     ]
 constant_fits d at name initial declared.EdgeSet known sound none =
+    let initializer = (initializer_of d.checker at initial).value in
+    let all = wanted_is at (not (is_sound initializer) || is_loaded initializer) (no_left (loads at initializer).faults _ none) in
+    initializer_is_load d.checker at initial (sound_then (is_sound initializer) (is_loaded initializer) (initializer_sound d.checker at initial known sound) all)
+constant_fits d at name initial declared.WeightedEdgeSet known sound none =
     let initializer = (initializer_of d.checker at initial).value in
     let all = wanted_is at (not (is_sound initializer) || is_loaded initializer) (no_left (loads at initializer).faults _ none) in
     initializer_is_load d.checker at initial (sound_then (is_sound initializer) (is_loaded initializer) (initializer_sound d.checker at initial known sound) all)

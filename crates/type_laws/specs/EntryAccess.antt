@@ -116,13 +116,16 @@ abbrev mutual
   BlockAccesses Read Write source.Empty = Unit {0}
   BlockAccesses Read Write (source.Then label action others) = ActionAccesses Read Write action × BlockAccesses Read Write others
 
--- A function of a user has one parameter or two. It reads entries at each of them and writes them at the last.
+-- A function of a user has one vertex or two as its first parameters. It reads entries at each of them and writes them at the last; a third
+-- parameter is no vertex.
 abbrev pub AccessesOwnVertices : List ParameterTree → BlockTree → Type 0
 AccessesOwnVertices [] body = ⊥
 AccessesOwnVertices (v ∷ []) body = BlockAccesses (IsNameAmong (v.name.bytes ∷ [])) (IsNameAmong (v.name.bytes ∷ [])) body
 AccessesOwnVertices (src ∷ dst ∷ []) body =
     BlockAccesses (IsNameAmong (src.name.bytes ∷ dst.name.bytes ∷ [])) (IsNameAmong (dst.name.bytes ∷ [])) body
-AccessesOwnVertices (a ∷ b ∷ c ∷ others) body = ⊥
+AccessesOwnVertices (src ∷ dst ∷ w ∷ []) body =
+    BlockAccesses (IsNameAmong (src.name.bytes ∷ dst.name.bytes ∷ [])) (IsNameAmong (dst.name.bytes ∷ [])) body
+AccessesOwnVertices (a ∷ b ∷ c ∷ d ∷ others) body = ⊥
 
 -- main, and each function of a user
 abbrev pub AccessesEntriesWell : DeclarationTree → Type 0

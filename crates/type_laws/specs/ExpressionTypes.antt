@@ -24,7 +24,7 @@ pub data ExpressionType : Type 0 where
 -- the type of a name, where it has a value
 abbrev pub type_named : Option Meaning → Option ExpressionType
 type_named None = None
-type_named (Some meaning.Edges) = None
+type_named (Some (meaning.Edges weights)) = None
 type_named (Some (meaning.Vector vector)) = None
 type_named (Some meaning.ConstantSet) = Some Set
 type_named (Some meaning.NumberConstant) = Some Number
@@ -34,7 +34,8 @@ type_named (Some meaning.TruthVariable) = Some Truth
 type_named (Some meaning.SetVariable) = Some Set
 type_named (Some meaning.LoopName) = Some Number
 type_named (Some (meaning.Parameter p)) = Some (Vertex p)
-type_named (Some (meaning.EdgeFunction function)) = None
+type_named (Some meaning.Weight) = Some Number
+type_named (Some (meaning.EdgeFunction function weighted)) = None
 type_named (Some meaning.VertexFunction) = None
 type_named (Some meaning.Filter) = None
 type_named (Some meaning.Main) = None

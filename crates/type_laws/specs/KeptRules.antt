@@ -18,7 +18,7 @@ use Rattle.types.specs.Literal.{literal_condition, literal_integer}
 use Rattle.type_laws.specs.EntryAccess.{HasNoEntry}
 use Rattle.type_laws.specs.ExpressionTypes.{ExpressionHas, IsNumber, IsTruth, IsVectorName, NameHas, Set, Vertex}
 use Rattle.type_laws.specs.Meanings as meaning
-use Rattle.type_laws.specs.Meanings.{Known, IsNew, LabelIsNew, Meaning, Meanings, Means, known_after, known_behind, labelled_known, variable_meaning, with_name}
+use Rattle.type_laws.specs.Meanings.{Known, IsNew, LabelIsNew, Meaning, Meanings, Means, MeansEdges, known_after, known_behind, labelled_known, variable_meaning, with_name}
 
 -- initial and assigned values
 abbrev pub GivesNumber : Meanings → Inside → InitialTree → Type 0
@@ -47,22 +47,31 @@ EndFits names (Some name) = NameHas names name Set ⊎ Means names name meaning.
 abbrev pub EndsFit : Meanings → EndsTree → Type 0
 EndsFit names ends = EndFits names ends.from × EndFits names ends.to
 
+-- a function that takes the weight goes with edges that have weights alone
+abbrev pub SeesWeights : (weights weighted : Bool) → Type 0
+SeesWeights weights true = weights ≡ true
+SeesWeights weights false = Unit {0}
+
 -- `applyModified` takes an edge function and a vector that it writes
-pub record Modifies (k : Known) (function vector : Identifier) : Type 0 where
+pub record Modifies (k : Known) (edges function vector : Identifier) : Type 0 where
+  pub weights : Bool
   pub place : ℕ
+  pub weighted : Bool
   pub written : ℕ
   pub by : Reduction
-  pub function_means : Means k.names function (meaning.EdgeFunction place)
+  pub edges_mean : Means k.names edges (meaning.Edges weights)
+  pub function_means : Means k.names function (meaning.EdgeFunction place weighted)
+  pub sees : SeesWeights weights weighted
   pub vector_means : Means k.names vector (meaning.Vector written)
   pub writes : lookup (nat_eq written) (slice_index_or k.written place []) ≡ Some by
 
 abbrev pub GivesMembers : Known → Inside → InitialTree → Type 0
 GivesMembers k i (source.NewSet size) = size ≡ pos 0
 GivesMembers k i (source.Load argument) = ⊥
-GivesMembers k i (source.Vertices edges) = Means k.names edges meaning.Edges
+GivesMembers k i (source.Vertices edges) = MeansEdges k.names edges
 GivesMembers k i (source.OutDegrees edges) = ⊥
 GivesMembers k i (source.Filter set test) = NameHas k.names set Set × Means k.names test meaning.Filter
-GivesMembers k i (source.ApplyModified edges ends function vector) = Means k.names edges meaning.Edges × EndsFit k.names ends × Modifies k function vector
+GivesMembers k i (source.ApplyModified edges ends function vector) = EndsFit k.names ends × Modifies k edges function vector
 GivesMembers k i (source.Value e) = ExpressionHas k.names i e Set
 
 -- a variable of main is int, bool or a vertex set, and one of a function int or bool
@@ -79,6 +88,7 @@ VariableFits i k declared.Vertex initial = ⊥
 VariableFits i k declared.VertexSet initial = MayHoldSets i × GivesMembers k i initial
 VariableFits i k declared.Vector initial = ⊥
 VariableFits i k declared.EdgeSet initial = ⊥
+VariableFits i k declared.WeightedEdgeSet initial = ⊥
 
 -- assigned are variables, and a filter's result
 pub data AssignFits (i : Inside) (k : Known) (name : Identifier) (initial : InitialTree) : Type 0 where
@@ -88,7 +98,8 @@ pub data AssignFits (i : Inside) (k : Known) (name : Identifier) (initial : Init
 
 -- edge functions are applied to the edges, and vertex functions to vertex sets, which have no ends
 pub data ApplyFits (k : Known) (target : Identifier) (ends : EndsTree) (function : Identifier) : Type 0 where
-  AppliesEdges : (place : ℕ) → Means k.names target meaning.Edges → EndsFit k.names ends → Means k.names function (meaning.EdgeFunction place) → ApplyFits k target ends function
+  AppliesEdges : (weights : Bool) (place : ℕ) (weighted : Bool) → Means k.names target (meaning.Edges weights) → EndsFit k.names ends
+      → Means k.names function (meaning.EdgeFunction place weighted) → SeesWeights weights weighted → ApplyFits k target ends function
   AppliesVertices : NameHas k.names target Set → ends.from ≡ None → ends.to ≡ None → Means k.names function meaning.VertexFunction → ApplyFits k target ends function
 
 -- the vertex at which a function writes
@@ -171,12 +182,14 @@ abbrev pub ConstantKeeps : Declarations → DeclaredType → InitialTree → Typ
 ConstantKeeps d declared.Int initial = IsSome (literal_integer initial)
 ConstantKeeps d declared.Bool initial = IsSome (literal_condition initial)
 ConstantKeeps d declared.Vertex initial = ⊥
-ConstantKeeps d declared.VertexSet (source.Vertices edges) = Means d.known.names edges meaning.Edges
+ConstantKeeps d declared.VertexSet (source.Vertices edges) = MeansEdges d.known.names edges
 ConstantKeeps d declared.VertexSet _ = ⊥
-ConstantKeeps d declared.Vector (source.OutDegrees edges) = Means d.known.names edges meaning.Edges
+ConstantKeeps d declared.Vector (source.OutDegrees edges) = MeansEdges d.known.names edges
 ConstantKeeps d declared.Vector initial = IsSome (literal_integer initial)
 ConstantKeeps d declared.EdgeSet (source.Load argument) = (argument ≡ pos 1) × (d.edges ≡ false)
+ConstantKeeps d declared.WeightedEdgeSet (source.Load argument) = (argument ≡ pos 1) × (d.edges ≡ false)
 ConstantKeeps d declared.EdgeSet _ = ⊥
+ConstantKeeps d declared.WeightedEdgeSet _ = ⊥
 
 abbrev pub constant_meaning : ℕ → DeclaredType → Meaning
 constant_meaning vectors declared.Int = meaning.NumberConstant
@@ -184,7 +197,8 @@ constant_meaning vectors declared.Bool = meaning.TruthConstant
 constant_meaning vectors declared.Vertex = meaning.Nothing
 constant_meaning vectors declared.VertexSet = meaning.ConstantSet
 constant_meaning vectors declared.Vector = meaning.Vector vectors
-constant_meaning vectors declared.EdgeSet = meaning.Edges
+constant_meaning vectors declared.EdgeSet = meaning.Edges false
+constant_meaning vectors declared.WeightedEdgeSet = meaning.Edges true
 
 abbrev pub counted_vectors : DeclaredType → ℕ → ℕ
 counted_vectors declared.Vector n = suc n
@@ -192,6 +206,7 @@ counted_vectors _ n = n
 
 abbrev pub edges_after : DeclaredType → Bool → Bool
 edges_after declared.EdgeSet b = true
+edges_after declared.WeightedEdgeSet b = true
 edges_after _ b = b
 
 abbrev pub behind_constant : Declarations → ParameterTree → Declarations
@@ -215,7 +230,10 @@ known_in_filter k v test = with_name (known_at_vertex k v) test.name meaning.Tru
 abbrev pub known_on_edge : Known → (src dst : ParameterTree) → Known
 known_on_edge k src dst = with_name (known_at_vertex k src) dst.name (meaning.Parameter endpoint.Destination)
 
--- A function has one Vertex parameter, or one and a result of type bool, or two and no result.
+abbrev pub known_on_weighted_edge : Known → (src dst w : ParameterTree) → Known
+known_on_weighted_edge k src dst w = with_name (known_on_edge k src dst) w.name meaning.Weight
+
+-- A function has one Vertex parameter, or one and a result of type bool, or two and no result, or two and the weight and no result.
 abbrev pub FunctionKeeps : Known → List ParameterTree → Option ParameterTree → BlockTree → Type 0
 FunctionKeeps k [] result body = ⊥
 FunctionKeeps k (v ∷ []) None body = (v.declared ≡ declared.Vertex) × IsNew k v.name × BlockKeeps inside.VertexFunction (known_at_vertex k v) body
@@ -225,7 +243,12 @@ FunctionKeeps k (src ∷ dst ∷ []) None body =
     (src.declared ≡ declared.Vertex) × (dst.declared ≡ declared.Vertex) × IsNew k src.name × IsNew (known_at_vertex k src) dst.name
     × BlockKeeps inside.EdgeFunction (known_on_edge k src dst) body
 FunctionKeeps k (src ∷ dst ∷ []) (Some result) body = ⊥
-FunctionKeeps k (a ∷ b ∷ c ∷ others) result body = ⊥
+FunctionKeeps k (src ∷ dst ∷ w ∷ []) None body =
+    (src.declared ≡ declared.Vertex) × (dst.declared ≡ declared.Vertex) × (w.declared ≡ declared.Int)
+    × IsNew k src.name × IsNew (known_at_vertex k src) dst.name × IsNew (known_on_edge k src dst) w.name
+    × BlockKeeps inside.EdgeFunction (known_on_weighted_edge k src dst w) body
+FunctionKeeps k (src ∷ dst ∷ w ∷ []) (Some result) body = ⊥
+FunctionKeeps k (a ∷ b ∷ c ∷ d ∷ others) result body = ⊥
 
 -- the function that is run has no parameters and no result
 abbrev pub MainKeeps : Known → List ParameterTree → Option ParameterTree → BlockTree → Type 0
@@ -240,17 +263,20 @@ abbrev pub function_behind : Declarations → Identifier → Meaning → Known �
 function_behind d name m after = record d { known = with_name (meaning.closed_known d.known after) name m }
 
 -- what an edge function reduces is kept
-abbrev pub edge_function_behind : Declarations → Identifier → Known → Declarations
-edge_function_behind d name after =
-    record d { known = record (with_name (meaning.closed_known d.known after) name (meaning.EdgeFunction (length d.known.written))) { written = after.written ++ after.reduced ∷ [] } }
+abbrev pub edge_function_behind : Declarations → Identifier → (weighted : Bool) → Known → Declarations
+edge_function_behind d name weighted after =
+    record d { known = record (with_name (meaning.closed_known d.known after) name (meaning.EdgeFunction (length d.known.written) weighted)) { written = after.written ++ after.reduced ∷ [] } }
 
 abbrev pub behind_function : Declarations → Identifier → List ParameterTree → Option ParameterTree → BlockTree → Declarations
 behind_function d name [] result body = d
 behind_function d name (v ∷ []) None body = function_behind d name meaning.VertexFunction (known_after inside.VertexFunction (known_at_vertex d.known v) body)
 behind_function d name (v ∷ []) (Some test) body = function_behind d name meaning.Filter (known_after inside.Filter (known_in_filter d.known v test) body)
-behind_function d name (src ∷ dst ∷ []) None body = edge_function_behind d name (known_after inside.EdgeFunction (known_on_edge d.known src dst) body)
+behind_function d name (src ∷ dst ∷ []) None body = edge_function_behind d name false (known_after inside.EdgeFunction (known_on_edge d.known src dst) body)
 behind_function d name (src ∷ dst ∷ []) (Some result) body = d
-behind_function d name (a ∷ b ∷ c ∷ others) result body = d
+behind_function d name (src ∷ dst ∷ w ∷ []) None body =
+    edge_function_behind d name true (known_after inside.EdgeFunction (known_on_weighted_edge d.known src dst w) body)
+behind_function d name (src ∷ dst ∷ w ∷ []) (Some result) body = d
+behind_function d name (a ∷ b ∷ c ∷ e ∷ others) result body = d
 
 -- a declaration, whose name is new; the function that is run is the one named `main`
 abbrev pub DeclarationKeeps : Declarations → DeclarationTree → Type 0

@@ -1,5 +1,5 @@
 -- Meanings: what visible names are in the words of the language, without the places that a checker gives them.
-use Rattle.std.specs.Prelude.{◌≡◌, ℕ, nat_eq, List, [], ◌∷◌, ◌++◌, Option, Some, None}
+use Rattle.std.specs.Prelude.{◌≡◌, ℕ, Bool, nat_eq, List, [], ◌∷◌, ◌++◌, Option, Some, None}
 use Rattle.std.specs.List.{Contains}
 use Rattle.std.specs.Map.{lookup}
 use Rattle.syntax.specs.Terminals.{Identifier}
@@ -13,9 +13,10 @@ use Rattle.expression_types.specs.declared.scope.Inside.{Inside}
 use Rattle.expression_types.specs.declared.scope.Inside.TheVariants as inside
 use Rattle.expression_types.specs.Names.{found}
 
--- vectors and edge functions are told apart by how many were declared before
+-- Vectors and edge functions are told apart by how many were declared before. The edges have weights that are seen, or none, and an edge
+-- function takes the weight, or not.
 pub data Meaning : Type 0 where
-  Edges : Meaning
+  Edges : (weights : Bool) → Meaning
   Vector : ℕ → Meaning
   ConstantSet : Meaning
   NumberConstant : Meaning
@@ -25,7 +26,8 @@ pub data Meaning : Type 0 where
   SetVariable : Meaning
   LoopName : Meaning
   Parameter : Endpoint → Meaning
-  EdgeFunction : ℕ → Meaning
+  Weight : Meaning
+  EdgeFunction : ℕ → (weighted : Bool) → Meaning
   VertexFunction : Meaning
   Filter : Meaning
   Main : Meaning
@@ -44,6 +46,10 @@ pub record Known : Type 0 where
 
 abbrev pub Means : Meanings → Identifier → Meaning → Type 0
 Means names name m = found name.bytes names ≡ Some m
+
+-- the name of the edges, with weights or without
+abbrev pub MeansEdges : Meanings → Identifier → Type 0
+MeansEdges names name = (weights : Bool) × Means names name (Edges weights)
 
 -- a name that may be declared
 abbrev pub IsNew : Known → Identifier → Type 0
@@ -73,6 +79,7 @@ variable_meaning declared.Vertex = Nothing
 variable_meaning declared.VertexSet = SetVariable
 variable_meaning declared.Vector = Nothing
 variable_meaning declared.EdgeSet = Nothing
+variable_meaning declared.WeightedEdgeSet = Nothing
 
 -- one more vector that an edge function reduces
 abbrev pub with_reduction : Option Reduction → ℕ → Reduction → List (ℕ × Reduction) → List (ℕ × Reduction)

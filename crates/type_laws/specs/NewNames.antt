@@ -95,6 +95,7 @@ edges_in declared.Vertex = 0
 edges_in declared.VertexSet = 0
 edges_in declared.Vector = 0
 edges_in declared.EdgeSet = 1
+edges_in declared.WeightedEdgeSet = 1
 
 -- how many constants are the edges
 abbrev pub edges_declared : List DeclarationTree → ℕ

@@ -7,7 +7,7 @@ use Rattle.type_laws.specs.Meanings.{Meaning, Meanings}
 
 -- the meaning of what the checker knows of a name
 abbrev pub meaning_of : Entity → Meaning
-meaning_of entity.Edges = meaning.Edges
+meaning_of (entity.Edges weights) = meaning.Edges weights
 meaning_of (entity.Vector place) = meaning.Vector place
 meaning_of (entity.ConstantSet slot) = meaning.ConstantSet
 meaning_of (entity.IntegerConstant name n) = meaning.NumberConstant
@@ -17,7 +17,8 @@ meaning_of (entity.ConditionVariable slot) = meaning.TruthVariable
 meaning_of (entity.SetVariable slot) = meaning.SetVariable
 meaning_of (entity.LoopVariable slot) = meaning.LoopName
 meaning_of (entity.Parameter p) = meaning.Parameter p
-meaning_of (entity.EdgeFunction place) = meaning.EdgeFunction place
+meaning_of entity.Weight = meaning.Weight
+meaning_of (entity.EdgeFunction place weighted) = meaning.EdgeFunction place weighted
 meaning_of (entity.VertexFunction place) = meaning.VertexFunction
 meaning_of (entity.Filter place) = meaning.Filter
 meaning_of entity.Main = meaning.Main

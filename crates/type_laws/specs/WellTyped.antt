@@ -46,6 +46,7 @@ ConstantFits declared.Vertex initial = ⊥
 ConstantFits declared.VertexSet initial = IsAllVertices initial
 ConstantFits declared.Vector initial = IsOutDegrees initial ⊎ IsSome (literal_integer initial)
 ConstantFits declared.EdgeSet initial = IsLoaded initial
+ConstantFits declared.WeightedEdgeSet initial = IsLoaded initial
 
 -- variables of functions are int or bool
 abbrev pub IsNumberOrTruth : DeclaredType → Type 0
@@ -55,6 +56,7 @@ IsNumberOrTruth declared.Vertex = ⊥
 IsNumberOrTruth declared.VertexSet = ⊥
 IsNumberOrTruth declared.Vector = ⊥
 IsNumberOrTruth declared.EdgeSet = ⊥
+IsNumberOrTruth declared.WeightedEdgeSet = ⊥
 
 abbrev mutual
   -- A function of a user holds declarations, `if`, assignments and reductions. It sets entries of vectors, or reduces them, where its kind may.
@@ -76,14 +78,17 @@ abbrev mutual
   BlockFits Sets Reduces source.Empty = Unit {0}
   BlockFits Sets Reduces (source.Then label action others) = ActionFits Sets Reduces action × BlockFits Sets Reduces others
 
--- a vertex function, a filter, or an edge function; a filter writes no entry, and an edge function reduces alone
+-- a vertex function, a filter, or an edge function, which may take the edge's weight; a filter writes no entry, and an edge function reduces alone
 abbrev pub FunctionFits : List ParameterTree → Option ParameterTree → BlockTree → Type 0
 FunctionFits [] result body = ⊥
 FunctionFits (v ∷ []) None body = (v.declared ≡ declared.Vertex) × BlockFits (Unit {0}) (Unit {0}) body
 FunctionFits (v ∷ []) (Some result) body = (v.declared ≡ declared.Vertex) × (result.declared ≡ declared.Bool) × BlockFits ⊥ ⊥ body
 FunctionFits (src ∷ dst ∷ []) None body = (src.declared ≡ declared.Vertex) × (dst.declared ≡ declared.Vertex) × BlockFits ⊥ (Unit {0}) body
 FunctionFits (src ∷ dst ∷ []) (Some result) body = ⊥
-FunctionFits (a ∷ b ∷ c ∷ others) result body = ⊥
+FunctionFits (src ∷ dst ∷ w ∷ []) None body =
+    (src.declared ≡ declared.Vertex) × (dst.declared ≡ declared.Vertex) × (w.declared ≡ declared.Int) × BlockFits ⊥ (Unit {0}) body
+FunctionFits (src ∷ dst ∷ w ∷ []) (Some result) body = ⊥
+FunctionFits (a ∷ b ∷ c ∷ d ∷ others) result body = ⊥
 
 -- constants, and functions of users
 abbrev pub DeclarationFits : DeclarationTree → Type 0

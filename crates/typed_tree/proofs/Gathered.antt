@@ -24,6 +24,7 @@ module _ (passes : Access → Bool) (gives : Access → List ℕ) (P : ℕ → B
   integer_gathered (integer.Constant name n) = refl
   integer_gathered (integer.Variable slot) = refl
   integer_gathered (integer.Parameter at) = refl
+  integer_gathered integer.Weight = refl
   integer_gathered (integer.EntryAt vector at) = each (ReadAtVertex vector)
   integer_gathered (integer.Entry vector index) = two _ _ (gives (ReadAtIndex vector)) (integer_fold (gathered gives) index) (each (ReadAtIndex vector)) (integer_gathered index)
   integer_gathered (integer.SetSize slot) = each (ReadSet slot.place)

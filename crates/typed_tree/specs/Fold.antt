@@ -37,6 +37,7 @@ module _ {R : Type 0} (f : Fold R) where
   integer_fold (integer.Constant name n) = f.none
   integer_fold (integer.Variable slot) = f.none
   integer_fold (integer.Parameter at) = f.none
+  integer_fold integer.Weight = f.none
   integer_fold (integer.EntryAt vector at) = f.access (ReadAtVertex vector)
   integer_fold (integer.Entry vector index) = f.join (f.access (ReadAtIndex vector)) (integer_fold index)
   integer_fold (integer.SetSize slot) = f.access (ReadSet slot.place)

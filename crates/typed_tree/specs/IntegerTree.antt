@@ -12,6 +12,7 @@ pub data IntegerTree : Type 0 where
   Constant : (name : ℕ) → (value : ℤ) → IntegerTree
   Variable : (slot : VarRef) → IntegerTree
   Parameter : (at : Endpoint) → IntegerTree
+  Weight : IntegerTree
   EntryAt : (vector : ℕ) → (at : Endpoint) → IntegerTree
   Entry : (vector : ℕ) → (index : IntegerTree) → IntegerTree
   SetSize : (slot : VarRef) → IntegerTree
@@ -30,6 +31,7 @@ abbrev mutual
   integer_tree (rust.Constant name n) = Constant name n
   integer_tree (rust.Variable slot) = Variable slot
   integer_tree (rust.Parameter at) = Parameter at
+  integer_tree rust.Weight = Weight
   integer_tree (rust.EntryAt vector at) = EntryAt vector at
   integer_tree (rust.Entry' vector p index) = Entry vector (integer_tree index)
   integer_tree (rust.SetSize slot) = SetSize slot

@@ -92,12 +92,13 @@ abbrev pub IsLabel : ProgramTree → Option ℕ → Type 0
 IsLabel p None = Unit {0}
 IsLabel p (Some label) = label < length p.labels
 
--- all that an expression speaks of is there
+-- all that an expression speaks of is there; an edge's weight is where the edge has a destination
 abbrev pub IntegerIsResolved : ProgramTree → VisibleTree → IntegerTree → Type 0
 IntegerIsResolved p v (integer.Number n) = Unit {0}
 IntegerIsResolved p v (integer.Constant name n) = IsName p name
 IntegerIsResolved p v (integer.Variable slot) = IsInteger p v slot
 IntegerIsResolved p v (integer.Parameter at) = IsVertex v at
+IntegerIsResolved p v integer.Weight = IsVertex v endpoint.Destination
 IntegerIsResolved p v (integer.EntryAt vector at) = IsVector p vector × IsVertex v at
 IntegerIsResolved p v (integer.Entry vector index) = (v.indexes ≡ true) × IsVector p vector × IntegerIsResolved p v index
 IntegerIsResolved p v (integer.SetSize slot) = IsSet p v slot

@@ -44,7 +44,8 @@ fn integer_passes<T: AccessTest>(e: &IntExpression, test: &T) -> bool
         IntExpression::Number(_)
         | IntExpression::Constant(_, _)
         | IntExpression::Variable(_)
-        | IntExpression::Parameter(_) => true,
+        | IntExpression::Parameter(_)
+        | IntExpression::Weight => true,
         IntExpression::EntryAt(vector, _) => test.passes(Access::ReadAtVertex(*vector)),
         IntExpression::Entry(vector, index) => {
             test.passes(Access::ReadAtIndex(*vector)) && integer_passes(index, test)

@@ -59,6 +59,8 @@ pub enum IntExpression {
     Variable(VarRef),
     /// A vertex that the function works on.
     Parameter(Endpoint),
+    /// In an edge function: the weight of the edge that it works on.
+    Weight,
     /// In a function: the entry of the vector at this place, at a vertex that the function works on.
     EntryAt(usize, Endpoint),
     /// In `main`: the entry of the vector at this place, at an index that must be a vertex.
@@ -103,6 +105,7 @@ impl Drop for IntExpression {
             | IntExpression::Constant(_, _)
             | IntExpression::Variable(_)
             | IntExpression::Parameter(_)
+            | IntExpression::Weight
             | IntExpression::EntryAt(_, _)
             | IntExpression::Entry(_, _)
             | IntExpression::SetSize(_)

@@ -28,7 +28,7 @@ use Rattle.expression_types.specs.ScopeTree.{ScopeTree, declared_over, entered}
 use Rattle.expression_types.specs.ValueTree.{ValueTree}
 use Rattle.types.specs.Checker.{CheckerTree, integer_slot, condition_slot, declared_in, labelled, new_label, restarted, with_scope}
 use Rattle.types.specs.Block.{statements_typed}
-use Rattle.types.specs.Declaration.{DeclaredTree, FunctionKindTree, MainKind, EdgeKind, VertexKind, FilterKind, NoKind, declaration_typed, declarations_typed, declare_constant_as, declare_function, declare_name, function_of, inside_of, kind, opened, parameter, parameters_declared, result_declared, result_entity, with_main}
+use Rattle.types.specs.Declaration.{DeclaredTree, FunctionKindTree, MainKind, EdgeKind, VertexKind, FilterKind, NoKind, declaration_typed, declarations_typed, declare_constant_as, declare_function, declare_name, function_of, inside_of, kind, opened, parameter, parameters_declared, result_declared, result_entity, with_main, takes_weight}
 use Rattle.types.specs.EdgeWrites.{ReducesInOneWay, SetsNoEntry, StepReduces, StepSetsNoEntry, StepsReduce}
 use Rattle.types.specs.Initial.{InitializerTree, initializer_of}
 use Rattle.types.specs.Step.{assigned_step, declare_step_as, entry_step, may_reduce, may_set, one_reduction, own_vertex, reduce_entry_step, reduced_as, reduced_step, reduction_step, same_reduction, step_behind, step_typed, steps_behind, steps_typed, with_writes, written_at, written_with}
@@ -116,13 +116,14 @@ declare_fits c at name initializer declared.Vertex = (declared_goes c name entit
 declare_fits c at name initializer declared.VertexSet = (declared_goes c name entity.Error, tt)
 declare_fits c at name initializer declared.Vector = (declared_goes c name entity.Error, tt)
 declare_fits c at name initializer declared.EdgeSet = (declared_goes c name entity.Error, tt)
+declare_fits c at name initializer declared.WeightedEdgeSet = (declared_goes c name entity.Error, tt)
 
 assigned_agrees : (writes : Writes) (at : ℕ) (initializer : InitializerTree) (e : Entity) → StepAgrees writes (assigned_step at initializer e).value
-assigned_agrees writes at initializer entity.Edges = tt
+assigned_agrees writes at initializer (entity.Edges weights) = tt
 assigned_agrees writes at initializer _ = tt
 
 reduced_agrees : (writes : Writes) (at : ℕ) (by : Reduction) (v : ValueTree) (e : Entity) → StepAgrees writes (reduced_step at by v e).value
-reduced_agrees writes at by v entity.Edges = tt
+reduced_agrees writes at by v (entity.Edges weights) = tt
 reduced_agrees writes at by v _ = tt
 
 no_entry_set : (writes : Writes) (own : Bool) (vector : Option ℕ) (e : IntegerTree) → StepAgrees writes (entry_step false own vector e)
@@ -319,16 +320,17 @@ constant_well d at name initial declared.Vertex initializer all = all
 constant_well d at name initial declared.VertexSet initializer all = all
 constant_well d at name initial declared.Vector initializer all = all
 constant_well d at name initial declared.EdgeSet initializer all = all
+constant_well d at name initial declared.WeightedEdgeSet initializer all = all
 
 main_well : (d : DeclaredTree) (fits : Bool) (main : BlockTree) → AllWriteWell d → AllWriteWell (with_main d fits main)
 main_well d true main all = all
 main_well d false main all = all
 
-parameters_go : (c : CheckerTree) (p : Endpoint) (parameters : List ParameterTree) → GoesOn c (parameters_declared c p parameters).value
-parameters_go c p [] = stays c
-parameters_go c p (v ∷ others) =
-    let d = (declared_in c v.name (parameter p v.declared)).value in
-    goes_further c d (parameters_declared d endpoint.Destination others).value (declared_goes c v.name (parameter p v.declared)) (parameters_go d endpoint.Destination others)
+parameters_go : (w : Bool) (c : CheckerTree) (p : Endpoint) (parameters : List ParameterTree) → GoesOn c (parameters_declared w c p parameters).value
+parameters_go w c p [] = stays c
+parameters_go w c p (v ∷ others) =
+    let d = (declared_in c v.name (parameter w p v.declared)).value in
+    goes_further c d (parameters_declared w d endpoint.Destination others).value (declared_goes c v.name (parameter w p v.declared)) (parameters_go w d endpoint.Destination others)
 
 result_goes : (c : CheckerTree) (kind : FunctionKindTree) (result : Option ParameterTree) → GoesOn c (result_declared c kind result).value
 result_goes c kind None = stays c
@@ -338,25 +340,25 @@ pub opened_inside : (c : CheckerTree) (kind : FunctionKindTree) (parameters : Li
     → (opened c kind parameters result).value.scope.inside ≡ inside_of kind
 opened_inside c kind parameters result =
     let e = with_writes (with_scope c (entered (inside_of kind) c.scope)) [] in
-    let d = (parameters_declared e endpoint.Source parameters).value in
-    (result_goes d kind result).0 ∙ (parameters_go e endpoint.Source parameters).0
+    let d = (parameters_declared (takes_weight kind) e endpoint.Source parameters).value in
+    (result_goes d kind result).0 ∙ (parameters_go (takes_weight kind) e endpoint.Source parameters).0
 
-edge_well : (c : CheckerTree) (name : ℕ) (parameters : List ParameterTree) (result : Option ParameterTree) (body : source.BlockTree)
-    → WritesWell (record { name = name; steps = (steps_typed (opened c EdgeKind parameters result).value NoStep body).value.0 })
-edge_well c name parameters result body =
-    let d = (opened c EdgeKind parameters result).value in
+edge_well : (weighted : Bool) (c : CheckerTree) (name : ℕ) (parameters : List ParameterTree) (result : Option ParameterTree) (body : source.BlockTree)
+    → WritesWell (record { name = name; steps = (steps_typed (opened c (EdgeKind weighted) parameters result).value NoStep body).value.0 })
+edge_well weighted c name parameters result body =
+    let d = (opened c (EdgeKind weighted) parameters result).value in
     let b = (steps_typed d NoStep body).value in
-    writes_well (record { name = name; steps = b.0 }) b.1.writes (steps_fit d NoStep body (opened_inside c EdgeKind parameters result) tt).1
+    writes_well (record { name = name; steps = b.0 }) b.1.writes (steps_fit d NoStep body (opened_inside c (EdgeKind weighted) parameters result) tt).1
 
 function_well : (d : DeclaredTree) (at : ℕ) (name : Identifier) (parameters : List ParameterTree) (result : Option ParameterTree) (body : source.BlockTree) (kind : FunctionKindTree)
     → AllWriteWell d → AllWriteWell (declare_function d at name parameters result body kind).value
 function_well d at name parameters result body (MainKind fits) all =
     let b = (statements_typed (opened (restarted d.checker) (MainKind fits) parameters result).value Empty body).value in
     main_well (declare_name (record d { checker = with_scope b.1 d.checker.scope }) name entity.Main).value fits b.0 all
-function_well d at name parameters result body EdgeKind all =
-    let b = (steps_typed (opened d.checker EdgeKind parameters result).value NoStep body).value in
+function_well d at name parameters result body (EdgeKind weighted) all =
+    let b = (steps_typed (opened d.checker (EdgeKind weighted) parameters result).value NoStep body).value in
     all_behind d.edge_functions (function_of (record d { checker = with_scope b.1 d.checker.scope }) b.0) all
-    (edge_well d.checker (length b.1.names) parameters result body)
+    (edge_well weighted d.checker (length b.1.names) parameters result body)
 function_well d at name parameters result body VertexKind all = all
 function_well d at name parameters result body FilterKind all = all
 function_well d at name parameters result body NoKind all = all

@@ -20,7 +20,7 @@ use Rattle.expression_types.specs.declared.scope.Entity.TheVariants as entity
 use Rattle.expression_types.proofs.FaultOffsets.{FaultsStand, both_stand, if_stand}
 use Rattle.types.specs.Block.{statements_typed}
 use Rattle.types.specs.Checker.{CheckerTree, declared_in, restarted, with_scope}
-use Rattle.types.specs.Declaration.{DeclaredTree, FunctionKindTree, MainKind, EdgeKind, VertexKind, FilterKind, NoKind, begins, declaration_typed, declarations_typed, declare_constant_as, declare_function, declare_name, function_declared, has_all, kind, kind_fits, literal_or_fault, loads, main_declared, next_name, only_edges, opened, parameter, parameters_declared, result_declared, result_entity, steps_declared, wanted}
+use Rattle.types.specs.Declaration.{DeclaredTree, FunctionKindTree, MainKind, EdgeKind, VertexKind, FilterKind, NoKind, begins, declaration_typed, declarations_typed, declare_constant_as, declare_function, declare_name, function_declared, has_all, kind, kind_fits, literal_or_fault, loads, main_declared, next_name, only_edges, opened, parameter, parameters_declared, result_declared, result_entity, steps_declared, wanted, takes_weight}
 use Rattle.types.specs.Initial.{InitializerTree, initializer_of, is_all, is_degrees, is_loaded, is_sound}
 use Rattle.types.specs.Literal.{literal_condition, literal_integer}
 use Rattle.types.specs.Program.{chain_calls, main_of, opening, program_of, schedule_call, schedule_calls, set_count}
@@ -74,7 +74,12 @@ constant_stands P d at name initial declared.EdgeSet initializer here there =
     let g = loads at initializer in
     let edges = only_edges name (next_name d) d.edges in
     both_stand P g.faults _ (wanted_stands P at (not (is_sound initializer) || is_loaded initializer) here)
-    (both_stand P edges.faults _ (only_edges_stands P name (next_name d) d.edges there) (name_last_stands P d name entity.Edges there))
+    (both_stand P edges.faults _ (only_edges_stands P name (next_name d) d.edges there) (name_last_stands P d name (entity.Edges false) there))
+constant_stands P d at name initial declared.WeightedEdgeSet initializer here there =
+    let g = loads at initializer in
+    let edges = only_edges name (next_name d) d.edges in
+    both_stand P g.faults _ (wanted_stands P at (not (is_sound initializer) || is_loaded initializer) here)
+    (both_stand P edges.faults _ (only_edges_stands P name (next_name d) d.edges there) (name_last_stands P d name (entity.Edges true) there))
 
 -- parameters and a result
 abbrev NamesStand : (ℕ → Type 0) → List ParameterTree → Type 0
@@ -88,11 +93,11 @@ names_stand : (P : ℕ → Type 0) (parameters : List ParameterTree) (rest : Lis
 names_stand P [] rest all = tt
 names_stand P (p ∷ others) rest all = (all.0, others_stand P others rest (typed_behind (StandsWhere P) p _ all))
 
-parameters_stand : (P : ℕ → Type 0) (c : CheckerTree) (p : Endpoint) (parameters : List ParameterTree) → NamesStand P parameters → FaultsStand P (parameters_declared c p parameters)
-parameters_stand P c p [] names = tt
-parameters_stand P c p (v ∷ others) names =
-    let d = declared_in c v.name (parameter p v.declared) in
-    both_stand P d.faults _ (declared_in_stands P c v.name (parameter p v.declared) names.0) (parameters_stand P d.value endpoint.Destination others names.1)
+parameters_stand : (w : Bool) (P : ℕ → Type 0) (c : CheckerTree) (p : Endpoint) (parameters : List ParameterTree) → NamesStand P parameters → FaultsStand P (parameters_declared w c p parameters)
+parameters_stand w P c p [] names = tt
+parameters_stand w P c p (v ∷ others) names =
+    let d = declared_in c v.name (parameter w p v.declared) in
+    both_stand P d.faults _ (declared_in_stands P c v.name (parameter w p v.declared) names.0) (parameters_stand w P d.value endpoint.Destination others names.1)
 
 result_stands : (P : ℕ → Type 0) (c : CheckerTree) (kind : FunctionKindTree) (result : Option ParameterTree) (rest : List Terminal) → StandWhere P (result_before result rest) → FaultsStand P (result_declared c kind result)
 result_stands P c kind None rest all = tt
@@ -101,20 +106,20 @@ result_stands P c kind (Some result) rest all = declared_in_stands P c result.na
 opened_stands : (P : ℕ → Type 0) (c : CheckerTree) (kind : FunctionKindTree) (parameters : List ParameterTree) (result : Option ParameterTree) (rest : List Terminal)
     → NamesStand P parameters → StandWhere P (result_before result rest) → FaultsStand P (opened c kind parameters result)
 opened_stands P c kind parameters result rest names all =
-    let d = parameters_declared _ endpoint.Source parameters in
-    both_stand P d.faults _ (parameters_stand P _ endpoint.Source parameters names) (result_stands P d.value kind result rest all)
+    let d = parameters_declared (takes_weight kind) _ endpoint.Source parameters in
+    both_stand P d.faults _ (parameters_stand (takes_weight kind) P _ endpoint.Source parameters names) (result_stands P d.value kind result rest all)
 
 -- functions
 kind_fits_stands : (P : ℕ → Type 0) (at : ℕ) (kind : FunctionKindTree) → P at → FaultsStand P (kind_fits at kind)
 kind_fits_stands P at (MainKind fits) here = tt
-kind_fits_stands P at EdgeKind here = tt
+kind_fits_stands P at (EdgeKind weighted) here = tt
 kind_fits_stands P at VertexKind here = tt
 kind_fits_stands P at FilterKind here = tt
 kind_fits_stands P at NoKind here = (here, tt)
 
 function_declared_stands : (P : ℕ → Type 0) (d : DeclaredTree) (kind : FunctionKindTree) (name : Identifier) (steps : StepsTree) → P name.at → FaultsStand P (function_declared d kind name steps)
 function_declared_stands P d (MainKind fits) name steps there = declare_name_stands P d name entity.Error there
-function_declared_stands P d EdgeKind name steps there = name_last_stands P d name (entity.EdgeFunction (length d.edge_functions)) there
+function_declared_stands P d (EdgeKind weighted) name steps there = name_last_stands P d name (entity.EdgeFunction (length d.edge_functions) weighted) there
 function_declared_stands P d VertexKind name steps there = name_last_stands P d name (entity.VertexFunction (length d.vertex_functions)) there
 function_declared_stands P d FilterKind name steps there = name_last_stands P d name (entity.Filter (length d.filters)) there
 function_declared_stands P d NoKind name steps there = declare_name_stands P d name entity.Error there
@@ -150,7 +155,7 @@ steps_declared_stands P d at kind name parameters result body stands =
 function_stands : (P : ℕ → Type 0) (d : DeclaredTree) (at : ℕ) (name : Identifier) (parameters : List ParameterTree) (result : Option ParameterTree) (body : source.BlockTree) (kind : FunctionKindTree)
     → FunctionStands P at name parameters result body → FaultsStand P (declare_function d at name parameters result body kind)
 function_stands P d at name parameters result body (MainKind fits) stands = main_stands P d fits at name parameters result body stands
-function_stands P d at name parameters result body EdgeKind stands = steps_declared_stands P d at EdgeKind name parameters result body stands
+function_stands P d at name parameters result body (EdgeKind weighted) stands = steps_declared_stands P d at (EdgeKind weighted) name parameters result body stands
 function_stands P d at name parameters result body VertexKind stands = steps_declared_stands P d at VertexKind name parameters result body stands
 function_stands P d at name parameters result body FilterKind stands = steps_declared_stands P d at FilterKind name parameters result body stands
 function_stands P d at name parameters result body NoKind stands = steps_declared_stands P d at NoKind name parameters result body stands

@@ -24,7 +24,7 @@ use Rattle.expression_types.specs.ValueTree.{ValueTree, Integer, Condition, Vert
 use Rattle.expression_types.proofs.FaultOffsets.{FaultsStand, both_stand, declared_stands, if_stand, used_stands, value_stands, vector_stands}
 use Rattle.types.specs.Block.{action_typed, behind, closed, in_place, statements_typed}
 use Rattle.types.specs.Checker.{CheckerTree, condition_slot, counted, declared_in, integer_slot, labelled, new_label, set_slot}
-use Rattle.types.specs.Initial.{ApplyEndTree, InitializerTree, initializer_condition, edge_function, end_of, initializer_of, initializer_integer, is_edges, names_error, is_error_end, is_wrong, initializer_members, vertex_function}
+use Rattle.types.specs.Initial.{ApplyEndTree, InitializerTree, initializer_condition, edge_function, end_of, initializer_of, initializer_integer, is_edges, names_error, is_error_end, is_wrong, initializer_members, vertex_function, lacks_weights}
 use Rattle.types.specs.Statement.{add_vertex, added, applied, apply, assign, assigned, declare_as, edges_applied, has_ends, print, printed, reduce, reduce_entry, reduced, set_applied, set_entry, vertices_applied}
 use Rattle.types.specs.Wanted.{as_index, as_integer, condition_in, integer_in}
 use Rattle.types.proofs.ValueOffsets.{as_index_stands, as_integer_stands, initializer_condition_stands, condition_in_stands, end_stands, initializer_stands, initializer_integer_stands, integer_in_stands, initializer_members_stands}
@@ -57,6 +57,7 @@ declare_as_stands P c at name initializer declared.VertexSet here there =
 declare_as_stands P c at name initializer declared.Vertex here there = (here, last_stands P c name entity.Error there)
 declare_as_stands P c at name initializer declared.Vector here there = (here, last_stands P c name entity.Error there)
 declare_as_stands P c at name initializer declared.EdgeSet here there = (here, last_stands P c name entity.Error there)
+declare_as_stands P c at name initializer declared.WeightedEdgeSet here there = (here, last_stands P c name entity.Error there)
 
 assigned_stands : (P : ℕ → Type 0) (at : ℕ) (initializer : InitializerTree) (e : Entity) → P at → FaultsStand P (assigned at initializer e)
 assigned_stands P at initializer (entity.IntegerVariable slot) here = let e = initializer_integer at initializer in both_stand P e.faults [] (initializer_integer_stands P at initializer here) tt
@@ -98,7 +99,7 @@ set_applied_stands P at ends f (Some slot) here = if_stand P ends _ _ (here, tt)
 applied_stands : (P : ℕ → Type 0) (at : ℕ) (t : Entity) (a b : ApplyEndTree) (ends : Bool) (f : Entity) → P at → FaultsStand P (applied at t a b ends f)
 applied_stands P at t a b ends f here =
     if_stand P (names_error t) _ _ tt (if_stand P (is_edges t) _ _
-    (if_stand P (is_wrong a || is_wrong b) _ _ (here, tt) (edges_applied_stands P at a b (names_error f) (edge_function f) here))
+    (if_stand P (is_wrong a || is_wrong b || lacks_weights t f) _ _ (here, tt) (edges_applied_stands P at a b (names_error f) (edge_function f) here))
     (set_applied_stands P at ends f (named_set t) here))
 
 -- statements that declare nothing

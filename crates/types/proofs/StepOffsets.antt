@@ -41,6 +41,7 @@ declare_step_as_stands P c at name initializer declared.VertexSet here there = (
 declare_step_as_stands P c at name initializer declared.Vertex here there = (here, last_stands P c name entity.Error there)
 declare_step_as_stands P c at name initializer declared.Vector here there = (here, last_stands P c name entity.Error there)
 declare_step_as_stands P c at name initializer declared.EdgeSet here there = (here, last_stands P c name entity.Error there)
+declare_step_as_stands P c at name initializer declared.WeightedEdgeSet here there = (here, last_stands P c name entity.Error there)
 
 assigned_step_stands : (P : ℕ → Type 0) (at : ℕ) (initializer : InitializerTree) (e : Entity) → P at → FaultsStand P (assigned_step at initializer e)
 assigned_step_stands P at initializer (entity.IntegerVariable slot) here = let e = initializer_integer at initializer in both_stand P e.faults [] (initializer_integer_stands P at initializer here) tt

@@ -21,7 +21,7 @@ use Rattle.expression_types.specs.ScopeTree.{ScopeTree}
 use Rattle.expression_types.specs.ValueTree.{ValueTree, Integer, Condition, Vertex, Set, ErrorValue, condition_reads_entry, named_set, reads_entry}
 use Rattle.expression_types.proofs.FaultOffsets.{FaultsStand, both_stand, if_stand, used_stands, value_stands}
 use Rattle.types.specs.Checker.{CheckerTree}
-use Rattle.types.specs.Initial.{ApplyEndTree, InitializerTree, Typed, Members, Loaded, Degrees, ErrorInitializer, initializer_condition, edge_function, end_of, ends_given, filter_function, filtered, filtered_by, initializer_of, initializer_integer, is_edges, names_error, is_error_end, is_wrong, loaded, initializer_members, modified, modified_by, new_set, of_edges, vector_of, writes_vector}
+use Rattle.types.specs.Initial.{ApplyEndTree, InitializerTree, Typed, Members, Loaded, Degrees, ErrorInitializer, initializer_condition, edge_function, end_of, ends_given, filter_function, filtered, filtered_by, initializer_of, initializer_integer, is_edges, names_error, is_error_end, is_wrong, loaded, initializer_members, modified, modified_by, new_set, of_edges, vector_of, writes_vector, lacks_weights}
 use Rattle.types.specs.Wanted.{as_condition, as_index, as_integer, as_members, condition_in, integer_in, no_index, unread}
 
 -- values of the type that their place wants
@@ -96,7 +96,7 @@ modified_stands : (P : ℕ → Type 0) (c : CheckerTree) (at : ℕ) (edges : Ent
 modified_stands P c at edges a b f v here =
     if_stand P (names_error edges || is_error_end a || is_error_end b || names_error f || names_error v) _ _ tt
     (if_stand P (is_edges edges) _ _
-    (if_stand P (is_wrong a || is_wrong b) _ _ (here, tt) (modified_by_stands P c at (ends_given a b) (edge_function f) (vector_of v) here))
+    (if_stand P (is_wrong a || is_wrong b || lacks_weights edges f) _ _ (here, tt) (modified_by_stands P c at (ends_given a b) (edge_function f) (vector_of v) here))
     (here, tt))
 
 new_set_stands : (P : ℕ → Type 0) (at : ℕ) (n : ℤ) → P at → FaultsStand P (new_set at n)

@@ -32,6 +32,7 @@ declare_as-steps c at name initializer declared.VertexSet =
 declare_as-steps c at name initializer declared.Vertex = refl
 declare_as-steps c at name initializer declared.Vector = refl
 declare_as-steps c at name initializer declared.EdgeSet = refl
+declare_as-steps c at name initializer declared.WeightedEdgeSet = refl
 
 declare_step_as-steps : (c : CheckerTree) (at : ℕ) (name : Identifier) (initializer : InitializerTree) (type : DeclaredType)
     → declare_step_as c at name initializer type ≡ (step_variable_as c at initializer type >>= visible_then c name)
@@ -43,6 +44,7 @@ declare_step_as-steps c at name initializer declared.VertexSet = refl
 declare_step_as-steps c at name initializer declared.Vertex = refl
 declare_step_as-steps c at name initializer declared.Vector = refl
 declare_step_as-steps c at name initializer declared.EdgeSet = refl
+declare_step_as-steps c at name initializer declared.WeightedEdgeSet = refl
 
 visible_behind : {A : Type 0} (c d : CheckerTree) (name : Identifier) (m : WithFaults (Entity × A)) (v : Entity × A) (old between new : Option Fault)
     → outcome old m ≡ (v, between) → outcome between (declared_in c name v.0) ≡ (d, new) → outcome old (m >>= visible_then c name) ≡ ((v.1, d), new)

@@ -105,9 +105,9 @@ abbrev pub only_edges : Identifier → ℕ → Option ℕ → WithFaults (Option
 only_edges name place None = sure (Some place)
 only_edges name place (Some old) = fault_at name.at rule.Redeclared (Some old)
 
-abbrev pub declare_edges : DeclaredTree → ℕ → Identifier → InitializerTree → WithFaults DeclaredTree
-declare_edges d at name initializer =
-    loads at initializer >>= λ g. only_edges name (next_name d) d.edges >>= λ edges. declare_name d name entity.Edges >>= λ e. sure (record e { edges = edges })
+abbrev pub declare_edges : Bool → DeclaredTree → ℕ → Identifier → InitializerTree → WithFaults DeclaredTree
+declare_edges weights d at name initializer =
+    loads at initializer >>= λ g. only_edges name (next_name d) d.edges >>= λ edges. declare_name d name (entity.Edges weights) >>= λ e. sure (record e { edges = edges })
 
 -- a constant; none is a Vertex
 abbrev pub declare_constant_as : DeclaredTree → ℕ → Identifier → InitialTree → DeclaredType → InitializerTree → WithFaults DeclaredTree
@@ -116,15 +116,16 @@ declare_constant_as d at name initial declared.Bool initializer = declare_condit
 declare_constant_as d at name initial declared.Vertex initializer = fault_at at rule.WrongType d >>= λ d. declare_name d name entity.Error
 declare_constant_as d at name initial declared.VertexSet initializer = declare_set d at name initializer
 declare_constant_as d at name initial declared.Vector initializer = declare_vector d at name initializer initial
-declare_constant_as d at name initial declared.EdgeSet initializer = declare_edges d at name initializer
+declare_constant_as d at name initial declared.EdgeSet initializer = declare_edges false d at name initializer
+declare_constant_as d at name initial declared.WeightedEdgeSet initializer = declare_edges true d at name initializer
 
 abbrev pub declare_constant : DeclaredTree → ℕ → ParameterTree → InitialTree → WithFaults DeclaredTree
 declare_constant d at p initial = initializer_of d.checker at initial >>= declare_constant_as d at p.name initial p.declared
 
--- what a function is, by its name, its parameters and its result
+-- what a function is, by its name, its parameters and its result; of an edge function whether its third parameter is the edge's weight
 pub data FunctionKindTree : Type 0 where
   MainKind : (fits : Bool) → FunctionKindTree
-  EdgeKind : FunctionKindTree
+  EdgeKind : (weighted : Bool) → FunctionKindTree
   VertexKind : FunctionKindTree
   FilterKind : FunctionKindTree
   NoKind : FunctionKindTree
@@ -140,6 +141,16 @@ is_vertex declared.Vertex = true
 is_vertex declared.VertexSet = false
 is_vertex declared.Vector = false
 is_vertex declared.EdgeSet = false
+is_vertex declared.WeightedEdgeSet = false
+
+abbrev pub is_int : DeclaredType → Bool
+is_int declared.Int = true
+is_int declared.Bool = false
+is_int declared.Vertex = false
+is_int declared.VertexSet = false
+is_int declared.Vector = false
+is_int declared.EdgeSet = false
+is_int declared.WeightedEdgeSet = false
 
 abbrev pub is_bool : DeclaredType → Bool
 is_bool declared.Int = false
@@ -148,6 +159,7 @@ is_bool declared.Vertex = false
 is_bool declared.VertexSet = false
 is_bool declared.Vector = false
 is_bool declared.EdgeSet = false
+is_bool declared.WeightedEdgeSet = false
 
 abbrev pub takes_nothing : List ParameterTree → Option ParameterTree → Bool
 takes_nothing [] None = true
@@ -158,32 +170,44 @@ abbrev pub kind_of : List ParameterTree → Option ParameterTree → FunctionKin
 kind_of [] result = NoKind
 kind_of (v ∷ []) None = if is_vertex v.declared then VertexKind else NoKind
 kind_of (v ∷ []) (Some result) = if is_vertex v.declared && is_bool result.declared then FilterKind else NoKind
-kind_of (src ∷ dst ∷ []) None = if is_vertex src.declared && is_vertex dst.declared then EdgeKind else NoKind
+kind_of (src ∷ dst ∷ []) None = if is_vertex src.declared && is_vertex dst.declared then EdgeKind false else NoKind
 kind_of (src ∷ dst ∷ []) (Some result) = NoKind
-kind_of (a ∷ b ∷ c ∷ others) result = NoKind
+kind_of (src ∷ dst ∷ w ∷ []) None = if is_vertex src.declared && is_vertex dst.declared && is_int w.declared then EdgeKind true else NoKind
+kind_of (src ∷ dst ∷ w ∷ []) (Some result) = NoKind
+kind_of (a ∷ b ∷ c ∷ d ∷ others) result = NoKind
 
 abbrev pub kind : List ℕ → List ParameterTree → Option ParameterTree → FunctionKindTree
 kind name parameters result = if bytes_eq name main_bytes then MainKind (takes_nothing parameters result) else kind_of parameters result
 
 abbrev pub inside_of : FunctionKindTree → Inside
 inside_of (MainKind fits) = inside.Main
-inside_of EdgeKind = inside.EdgeFunction
+inside_of (EdgeKind weighted) = inside.EdgeFunction
 inside_of VertexKind = inside.VertexFunction
 inside_of FilterKind = inside.Filter
 inside_of NoKind = inside.VertexFunction
 
--- Parameters are vertices: the source, and any after the first the destination. One of another type has no clear meaning.
-abbrev pub parameter : Endpoint → DeclaredType → Entity
-parameter p type = if is_vertex type then entity.Parameter p else entity.Error
+-- it is an edge function whose third parameter is the edge's weight
+abbrev pub takes_weight : FunctionKindTree → Bool
+takes_weight (MainKind fits) = false
+takes_weight (EdgeKind weighted) = weighted
+takes_weight VertexKind = false
+takes_weight FilterKind = false
+takes_weight NoKind = false
 
-abbrev pub parameters_declared : CheckerTree → Endpoint → List ParameterTree → WithFaults CheckerTree
-parameters_declared c p [] = sure c
-parameters_declared c p (v ∷ others) = declared_in c v.name (parameter p v.declared) >>= λ d. parameters_declared d endpoint.Destination others
+-- Parameters are vertices: the source, and any after the first the destination. One of type int is the weight, in a function that takes it.
+-- One of another type has no clear meaning.
+abbrev pub parameter : Bool → Endpoint → DeclaredType → Entity
+parameter weighted p type = if is_vertex type then entity.Parameter p else (if weighted && is_int type then entity.Weight else entity.Error)
+
+abbrev pub parameters_declared : Bool → CheckerTree → Endpoint → List ParameterTree → WithFaults CheckerTree
+parameters_declared weighted c p [] = sure c
+parameters_declared weighted c p (v ∷ others) =
+    declared_in c v.name (parameter weighted p v.declared) >>= λ d. parameters_declared weighted d endpoint.Destination others
 
 -- a filter's result is a condition, the first of its function
 abbrev pub result_entity : CheckerTree → FunctionKindTree → Entity
 result_entity c (MainKind fits) = entity.Error
-result_entity c EdgeKind = entity.Error
+result_entity c (EdgeKind weighted) = entity.Error
 result_entity c VertexKind = entity.Error
 result_entity c FilterKind = entity.ConditionVariable (condition_slot c)
 result_entity c NoKind = entity.Error
@@ -195,12 +219,12 @@ result_declared c kind (Some result) = declared_in c result.name (result_entity 
 -- what is known at the first statement of a function
 abbrev pub opened : CheckerTree → FunctionKindTree → List ParameterTree → Option ParameterTree → WithFaults CheckerTree
 opened c kind parameters result =
-    parameters_declared (with_writes (with_scope c (entered (inside_of kind) c.scope)) []) endpoint.Source parameters >>= λ d. result_declared d kind result
+    parameters_declared (takes_weight kind) (with_writes (with_scope c (entered (inside_of kind) c.scope)) []) endpoint.Source parameters >>= λ d. result_declared d kind result
 
 -- a function is one of the kinds
 abbrev pub kind_fits : ℕ → FunctionKindTree → WithFaults Bool
 kind_fits at (MainKind fits) = sure true
-kind_fits at EdgeKind = sure true
+kind_fits at (EdgeKind weighted) = sure true
 kind_fits at VertexKind = sure true
 kind_fits at FilterKind = sure true
 kind_fits at NoKind = fault_at at rule.WrongType false
@@ -219,14 +243,14 @@ abbrev pub function_of : DeclaredTree → StepsTree → FunctionTree
 function_of d steps = record { name = next_name d; steps = steps }
 
 -- what an edge function writes is kept
-abbrev pub edge_function_declared : DeclaredTree → Identifier → FunctionTree → WithFaults DeclaredTree
-edge_function_declared d name f =
-    declare_name d name (entity.EdgeFunction (length d.edge_functions)) >>= λ e.
+abbrev pub edge_function_declared : Bool → DeclaredTree → Identifier → FunctionTree → WithFaults DeclaredTree
+edge_function_declared weighted d name f =
+    declare_name d name (entity.EdgeFunction (length d.edge_functions) weighted) >>= λ e.
     sure (record e { edge_functions = e.edge_functions ++ f ∷ []; checker = record e.checker { written = e.checker.written ++ e.checker.writes ∷ []; writes = [] } })
 
 abbrev pub function_declared : DeclaredTree → FunctionKindTree → Identifier → StepsTree → WithFaults DeclaredTree
 function_declared d (MainKind fits) name steps = declare_name d name entity.Error
-function_declared d EdgeKind name steps = edge_function_declared d name (function_of d steps)
+function_declared d (EdgeKind weighted) name steps = edge_function_declared weighted d name (function_of d steps)
 function_declared d VertexKind name steps =
     declare_name d name (entity.VertexFunction (length d.vertex_functions)) >>= λ e.
     sure (record e { vertex_functions = e.vertex_functions ++ function_of d steps ∷ [] })
@@ -241,7 +265,7 @@ steps_declared d at kind name parameters result body =
 
 abbrev pub declare_function : DeclaredTree → ℕ → Identifier → List ParameterTree → Option ParameterTree → source.BlockTree → FunctionKindTree → WithFaults DeclaredTree
 declare_function d at name parameters result body (MainKind fits) = main_declared d fits name parameters result body
-declare_function d at name parameters result body EdgeKind = steps_declared d at EdgeKind name parameters result body
+declare_function d at name parameters result body (EdgeKind weighted) = steps_declared d at (EdgeKind weighted) name parameters result body
 declare_function d at name parameters result body VertexKind = steps_declared d at VertexKind name parameters result body
 declare_function d at name parameters result body FilterKind = steps_declared d at FilterKind name parameters result body
 declare_function d at name parameters result body NoKind = steps_declared d at NoKind name parameters result body

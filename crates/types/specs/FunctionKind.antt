@@ -5,7 +5,7 @@ use Rattle.types.specs.Declaration.{FunctionKindTree, MainKind, EdgeKind, Vertex
 
 abbrev pub function_kind_tree : FunctionKind → FunctionKindTree
 function_kind_tree (rust.Main fits) = MainKind fits
-function_kind_tree rust.Edge = EdgeKind
+function_kind_tree (rust.Edge weighted) = EdgeKind weighted
 function_kind_tree rust.Vertex = VertexKind
 function_kind_tree rust.Filter = FilterKind
 function_kind_tree rust.Other = NoKind

@@ -1,5 +1,5 @@
 -- Initializers: initial and assigned values; and the ends of applies.
-use Rattle.std.specs.Prelude.{ℕ, zero, suc, ℤ, pos, negsuc, Bool, true, false, not, ◌||◌, if◌then◌else◌, nat_eq, List, [], slice_index_or, is_some, Option, Some, None}
+use Rattle.std.specs.Prelude.{ℕ, zero, suc, ℤ, pos, negsuc, Bool, true, false, not, ◌||◌, ◌&&◌, if◌then◌else◌, nat_eq, List, [], slice_index_or, is_some, Option, Some, None}
 use Rattle.std.specs.Map.{lookup}
 use Rattle.apply_options.specs.declared.reduction.Reduction.{Reduction}
 use Rattle.syntax.specs.Terminals.{Identifier}
@@ -74,7 +74,7 @@ pub data ApplyEndTree : Type 0 where
   ErrorEnd : ApplyEndTree
 
 abbrev pub filter_named : Entity → ApplyEndTree
-filter_named entity.Edges = Wrong
+filter_named (entity.Edges weights) = Wrong
 filter_named (entity.Vector place) = Wrong
 filter_named (entity.ConstantSet slot) = Given (filter.Members slot)
 filter_named (entity.IntegerConstant name n) = Wrong
@@ -84,7 +84,8 @@ filter_named (entity.ConditionVariable slot) = Wrong
 filter_named (entity.SetVariable slot) = Given (filter.Members slot)
 filter_named (entity.LoopVariable slot) = Wrong
 filter_named (entity.Parameter p) = Wrong
-filter_named (entity.EdgeFunction place) = Wrong
+filter_named entity.Weight = Wrong
+filter_named (entity.EdgeFunction place weighted) = Wrong
 filter_named (entity.VertexFunction place) = Wrong
 filter_named (entity.Filter place) = Given (filter.Function place)
 filter_named entity.Main = Wrong
@@ -117,7 +118,7 @@ ends_given a b = record { from = given_filter a; to = given_filter b }
 
 -- what a name stands for that wants one kind of thing
 abbrev pub names_error : Entity → Bool
-names_error entity.Edges = false
+names_error (entity.Edges weights) = false
 names_error (entity.Vector place) = false
 names_error (entity.ConstantSet slot) = false
 names_error (entity.IntegerConstant name n) = false
@@ -127,14 +128,15 @@ names_error (entity.ConditionVariable slot) = false
 names_error (entity.SetVariable slot) = false
 names_error (entity.LoopVariable slot) = false
 names_error (entity.Parameter p) = false
-names_error (entity.EdgeFunction place) = false
+names_error entity.Weight = false
+names_error (entity.EdgeFunction place weighted) = false
 names_error (entity.VertexFunction place) = false
 names_error (entity.Filter place) = false
 names_error entity.Main = false
 names_error entity.Error = true
 
 abbrev pub is_edges : Entity → Bool
-is_edges entity.Edges = true
+is_edges (entity.Edges weights) = true
 is_edges (entity.Vector place) = false
 is_edges (entity.ConstantSet slot) = false
 is_edges (entity.IntegerConstant name n) = false
@@ -144,14 +146,15 @@ is_edges (entity.ConditionVariable slot) = false
 is_edges (entity.SetVariable slot) = false
 is_edges (entity.LoopVariable slot) = false
 is_edges (entity.Parameter p) = false
-is_edges (entity.EdgeFunction place) = false
+is_edges entity.Weight = false
+is_edges (entity.EdgeFunction place weighted) = false
 is_edges (entity.VertexFunction place) = false
 is_edges (entity.Filter place) = false
 is_edges entity.Main = false
 is_edges entity.Error = false
 
 abbrev pub edge_function : Entity → Option ℕ
-edge_function entity.Edges = None
+edge_function (entity.Edges weights) = None
 edge_function (entity.Vector place) = None
 edge_function (entity.ConstantSet slot) = None
 edge_function (entity.IntegerConstant name n) = None
@@ -161,14 +164,53 @@ edge_function (entity.ConditionVariable slot) = None
 edge_function (entity.SetVariable slot) = None
 edge_function (entity.LoopVariable slot) = None
 edge_function (entity.Parameter p) = None
-edge_function (entity.EdgeFunction place) = Some place
+edge_function entity.Weight = None
+edge_function (entity.EdgeFunction place weighted) = Some place
 edge_function (entity.VertexFunction place) = None
 edge_function (entity.Filter place) = None
 edge_function entity.Main = None
 edge_function entity.Error = None
 
+-- an edge function whose third parameter is the edge's weight
+abbrev pub reads_weight : Entity → Bool
+reads_weight (entity.Edges weights) = false
+reads_weight (entity.Vector place) = false
+reads_weight (entity.ConstantSet slot) = false
+reads_weight (entity.IntegerConstant name n) = false
+reads_weight (entity.ConditionConstant name b) = false
+reads_weight (entity.IntegerVariable slot) = false
+reads_weight (entity.ConditionVariable slot) = false
+reads_weight (entity.SetVariable slot) = false
+reads_weight (entity.LoopVariable slot) = false
+reads_weight (entity.Parameter p) = false
+reads_weight entity.Weight = false
+reads_weight (entity.EdgeFunction place weighted) = weighted
+reads_weight (entity.VertexFunction place) = false
+reads_weight (entity.Filter place) = false
+reads_weight entity.Main = false
+reads_weight entity.Error = false
+
+-- an edgeset in which no weights are seen, for a function that reads them
+abbrev pub lacks_weights : Entity → Entity → Bool
+lacks_weights (entity.Edges weights) f = not weights && reads_weight f
+lacks_weights (entity.Vector place) f = false
+lacks_weights (entity.ConstantSet slot) f = false
+lacks_weights (entity.IntegerConstant name n) f = false
+lacks_weights (entity.ConditionConstant name b) f = false
+lacks_weights (entity.IntegerVariable slot) f = false
+lacks_weights (entity.ConditionVariable slot) f = false
+lacks_weights (entity.SetVariable slot) f = false
+lacks_weights (entity.LoopVariable slot) f = false
+lacks_weights (entity.Parameter p) f = false
+lacks_weights entity.Weight f = false
+lacks_weights (entity.EdgeFunction place weighted) f = false
+lacks_weights (entity.VertexFunction place) f = false
+lacks_weights (entity.Filter place) f = false
+lacks_weights entity.Main f = false
+lacks_weights entity.Error f = false
+
 abbrev pub vertex_function : Entity → Option ℕ
-vertex_function entity.Edges = None
+vertex_function (entity.Edges weights) = None
 vertex_function (entity.Vector place) = None
 vertex_function (entity.ConstantSet slot) = None
 vertex_function (entity.IntegerConstant name n) = None
@@ -178,14 +220,15 @@ vertex_function (entity.ConditionVariable slot) = None
 vertex_function (entity.SetVariable slot) = None
 vertex_function (entity.LoopVariable slot) = None
 vertex_function (entity.Parameter p) = None
-vertex_function (entity.EdgeFunction place) = None
+vertex_function entity.Weight = None
+vertex_function (entity.EdgeFunction place weighted) = None
 vertex_function (entity.VertexFunction place) = Some place
 vertex_function (entity.Filter place) = None
 vertex_function entity.Main = None
 vertex_function entity.Error = None
 
 abbrev pub filter_function : Entity → Option ℕ
-filter_function entity.Edges = None
+filter_function (entity.Edges weights) = None
 filter_function (entity.Vector place) = None
 filter_function (entity.ConstantSet slot) = None
 filter_function (entity.IntegerConstant name n) = None
@@ -195,14 +238,15 @@ filter_function (entity.ConditionVariable slot) = None
 filter_function (entity.SetVariable slot) = None
 filter_function (entity.LoopVariable slot) = None
 filter_function (entity.Parameter p) = None
-filter_function (entity.EdgeFunction place) = None
+filter_function entity.Weight = None
+filter_function (entity.EdgeFunction place weighted) = None
 filter_function (entity.VertexFunction place) = None
 filter_function (entity.Filter place) = Some place
 filter_function entity.Main = None
 filter_function entity.Error = None
 
 abbrev pub vector_of : Entity → Option ℕ
-vector_of entity.Edges = None
+vector_of (entity.Edges weights) = None
 vector_of (entity.Vector place) = Some place
 vector_of (entity.ConstantSet slot) = None
 vector_of (entity.IntegerConstant name n) = None
@@ -212,7 +256,8 @@ vector_of (entity.ConditionVariable slot) = None
 vector_of (entity.SetVariable slot) = None
 vector_of (entity.LoopVariable slot) = None
 vector_of (entity.Parameter p) = None
-vector_of (entity.EdgeFunction place) = None
+vector_of entity.Weight = None
+vector_of (entity.EdgeFunction place weighted) = None
 vector_of (entity.VertexFunction place) = None
 vector_of (entity.Filter place) = None
 vector_of entity.Main = None
@@ -246,7 +291,7 @@ abbrev pub modified : CheckerTree → ℕ → Entity → ApplyEndTree → ApplyE
 modified c at edges a b f v =
     if names_error edges || is_error_end a || is_error_end b || names_error f || names_error v then sure ErrorInitializer
     else (if is_edges edges then
-    (if is_wrong a || is_wrong b then fault_at at rule.WrongType ErrorInitializer else modified_by c at (ends_given a b) (edge_function f) (vector_of v))
+    (if is_wrong a || is_wrong b || lacks_weights edges f then fault_at at rule.WrongType ErrorInitializer else modified_by c at (ends_given a b) (edge_function f) (vector_of v))
     else fault_at at rule.WrongType ErrorInitializer)
 
 abbrev pub new_set : ℕ → ℤ → WithFaults InitializerTree

@@ -24,6 +24,7 @@ counting declared.Vertex n = n
 counting declared.VertexSet n = suc n
 counting declared.Vector n = n
 counting declared.EdgeSet n = n
+counting declared.WeightedEdgeSet n = n
 
 -- how many constant vertex sets there are
 abbrev pub set_count : List DeclarationTree → ℕ

@@ -17,7 +17,7 @@ use Rattle.expression_types.specs.WithFaults.{WithFaults, sure, fault_at, ◌>>=
 use Rattle.expression_types.specs.ScopeTree.{ScopeTree}
 use Rattle.expression_types.specs.ValueTree.{ValueTree, Integer, Condition, Vertex, Set, ErrorValue, named_set}
 use Rattle.types.specs.Checker.{CheckerTree, integer_slot, condition_slot, set_slot, declared_in}
-use Rattle.types.specs.Initial.{InitializerTree, ApplyEndTree, initializer_of, end_of, is_wrong, is_error_end, ends_given, names_error, is_edges, edge_function, vertex_function, initializer_integer, initializer_condition, initializer_members}
+use Rattle.types.specs.Initial.{InitializerTree, ApplyEndTree, initializer_of, end_of, is_wrong, is_error_end, ends_given, names_error, is_edges, lacks_weights, edge_function, vertex_function, initializer_integer, initializer_condition, initializer_members}
 use Rattle.types.specs.Wanted.{some_integer, as_integer, as_index, integer_in}
 
 -- what stands in place of a faulty statement
@@ -35,13 +35,14 @@ declare_as c at name initializer declared.VertexSet =
 declare_as c at name initializer declared.Vertex = fault_at at rule.WrongType no_action >>= λ a. declared_in c name entity.Error >>= λ d. sure (a, d)
 declare_as c at name initializer declared.Vector = fault_at at rule.WrongType no_action >>= λ a. declared_in c name entity.Error >>= λ d. sure (a, d)
 declare_as c at name initializer declared.EdgeSet = fault_at at rule.WrongType no_action >>= λ a. declared_in c name entity.Error >>= λ d. sure (a, d)
+declare_as c at name initializer declared.WeightedEdgeSet = fault_at at rule.WrongType no_action >>= λ a. declared_in c name entity.Error >>= λ d. sure (a, d)
 
 abbrev pub declare_variable : CheckerTree → ℕ → Identifier → DeclaredType → InitialTree → WithFaults (ActionTree × CheckerTree)
 declare_variable c at name type initial = initializer_of c at initial >>= λ initializer. declare_as c at name initializer type
 
 -- variables are assigned, and nothing else
 abbrev pub assigned : ℕ → InitializerTree → Entity → WithFaults ActionTree
-assigned at initializer entity.Edges = fault_at at rule.WrongType no_action
+assigned at initializer (entity.Edges weights) = fault_at at rule.WrongType no_action
 assigned at initializer (entity.Vector place) = fault_at at rule.WrongType no_action
 assigned at initializer (entity.ConstantSet slot) = fault_at at rule.WrongType no_action
 assigned at initializer (entity.IntegerConstant name n) = fault_at at rule.WrongType no_action
@@ -51,7 +52,8 @@ assigned at initializer (entity.ConditionVariable slot) = initializer_condition 
 assigned at initializer (entity.SetVariable slot) = initializer_members at initializer >>= λ s. sure (AssignSet slot s)
 assigned at initializer (entity.LoopVariable slot) = fault_at at rule.WrongType no_action
 assigned at initializer (entity.Parameter p) = fault_at at rule.WrongType no_action
-assigned at initializer (entity.EdgeFunction place) = fault_at at rule.WrongType no_action
+assigned at initializer entity.Weight = fault_at at rule.WrongType no_action
+assigned at initializer (entity.EdgeFunction place weighted) = fault_at at rule.WrongType no_action
 assigned at initializer (entity.VertexFunction place) = fault_at at rule.WrongType no_action
 assigned at initializer (entity.Filter place) = fault_at at rule.WrongType no_action
 assigned at initializer entity.Main = fault_at at rule.WrongType no_action
@@ -62,7 +64,7 @@ assign c at name initial = used c.scope name >>= λ e. initializer_of c at initi
 
 -- int variables are reduced
 abbrev pub reduced : ℕ → Reduction → ValueTree → Entity → WithFaults ActionTree
-reduced at by v entity.Edges = fault_at at rule.WrongType no_action
+reduced at by v (entity.Edges weights) = fault_at at rule.WrongType no_action
 reduced at by v (entity.Vector place) = fault_at at rule.WrongType no_action
 reduced at by v (entity.ConstantSet slot) = fault_at at rule.WrongType no_action
 reduced at by v (entity.IntegerConstant name n) = fault_at at rule.WrongType no_action
@@ -72,7 +74,8 @@ reduced at by v (entity.ConditionVariable slot) = fault_at at rule.WrongType no_
 reduced at by v (entity.SetVariable slot) = fault_at at rule.WrongType no_action
 reduced at by v (entity.LoopVariable slot) = fault_at at rule.WrongType no_action
 reduced at by v (entity.Parameter p) = fault_at at rule.WrongType no_action
-reduced at by v (entity.EdgeFunction place) = fault_at at rule.WrongType no_action
+reduced at by v entity.Weight = fault_at at rule.WrongType no_action
+reduced at by v (entity.EdgeFunction place weighted) = fault_at at rule.WrongType no_action
 reduced at by v (entity.VertexFunction place) = fault_at at rule.WrongType no_action
 reduced at by v (entity.Filter place) = fault_at at rule.WrongType no_action
 reduced at by v entity.Main = fault_at at rule.WrongType no_action
@@ -104,7 +107,7 @@ reduce_entry scope at name index by e =
 
 -- set variables get vertices
 abbrev pub added : ℕ → ValueTree → Entity → WithFaults ActionTree
-added at v entity.Edges = fault_at at rule.WrongType no_action
+added at v (entity.Edges weights) = fault_at at rule.WrongType no_action
 added at v (entity.Vector place) = fault_at at rule.WrongType no_action
 added at v (entity.ConstantSet slot) = fault_at at rule.WrongType no_action
 added at v (entity.IntegerConstant name n) = fault_at at rule.WrongType no_action
@@ -114,7 +117,8 @@ added at v (entity.ConditionVariable slot) = fault_at at rule.WrongType no_actio
 added at v (entity.SetVariable slot) = as_integer at v >>= λ e. sure (AddVertex slot e)
 added at v (entity.LoopVariable slot) = fault_at at rule.WrongType no_action
 added at v (entity.Parameter p) = fault_at at rule.WrongType no_action
-added at v (entity.EdgeFunction place) = fault_at at rule.WrongType no_action
+added at v entity.Weight = fault_at at rule.WrongType no_action
+added at v (entity.EdgeFunction place weighted) = fault_at at rule.WrongType no_action
 added at v (entity.VertexFunction place) = fault_at at rule.WrongType no_action
 added at v (entity.Filter place) = fault_at at rule.WrongType no_action
 added at v entity.Main = fault_at at rule.WrongType no_action
@@ -153,7 +157,7 @@ abbrev pub applied : ℕ → Entity → ApplyEndTree → ApplyEndTree → Bool �
 applied at t a b ends f =
     if names_error t then sure no_action
     else (if is_edges t then
-    (if is_wrong a || is_wrong b then fault_at at rule.WrongType no_action else edges_applied at a b (names_error f) (edge_function f))
+    (if is_wrong a || is_wrong b || lacks_weights t f then fault_at at rule.WrongType no_action else edges_applied at a b (names_error f) (edge_function f))
     else set_applied at ends f (named_set t))
 
 -- whether an end is written

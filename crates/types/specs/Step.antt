@@ -41,13 +41,14 @@ declare_step_as c at name initializer declared.VertexSet = fault_at at rule.Wron
 declare_step_as c at name initializer declared.Vertex = fault_at at rule.WrongType no_step >>= λ a. declared_in c name entity.Error >>= λ d. sure (a, d)
 declare_step_as c at name initializer declared.Vector = fault_at at rule.WrongType no_step >>= λ a. declared_in c name entity.Error >>= λ d. sure (a, d)
 declare_step_as c at name initializer declared.EdgeSet = fault_at at rule.WrongType no_step >>= λ a. declared_in c name entity.Error >>= λ d. sure (a, d)
+declare_step_as c at name initializer declared.WeightedEdgeSet = fault_at at rule.WrongType no_step >>= λ a. declared_in c name entity.Error >>= λ d. sure (a, d)
 
 abbrev pub declare_step : CheckerTree → ℕ → Identifier → DeclaredType → InitialTree → WithFaults (StepTree × CheckerTree)
 declare_step c at name type initial = initializer_of c at initial >>= λ initializer. declare_step_as c at name initializer type
 
 -- variables are assigned, and a filter's result
 abbrev pub assigned_step : ℕ → InitializerTree → Entity → WithFaults StepTree
-assigned_step at initializer entity.Edges = fault_at at rule.WrongType no_step
+assigned_step at initializer (entity.Edges weights) = fault_at at rule.WrongType no_step
 assigned_step at initializer (entity.Vector place) = fault_at at rule.WrongType no_step
 assigned_step at initializer (entity.ConstantSet slot) = fault_at at rule.WrongType no_step
 assigned_step at initializer (entity.IntegerConstant name n) = fault_at at rule.WrongType no_step
@@ -57,7 +58,8 @@ assigned_step at initializer (entity.ConditionVariable slot) = initializer_condi
 assigned_step at initializer (entity.SetVariable slot) = fault_at at rule.WrongType no_step
 assigned_step at initializer (entity.LoopVariable slot) = fault_at at rule.WrongType no_step
 assigned_step at initializer (entity.Parameter p) = fault_at at rule.WrongType no_step
-assigned_step at initializer (entity.EdgeFunction place) = fault_at at rule.WrongType no_step
+assigned_step at initializer entity.Weight = fault_at at rule.WrongType no_step
+assigned_step at initializer (entity.EdgeFunction place weighted) = fault_at at rule.WrongType no_step
 assigned_step at initializer (entity.VertexFunction place) = fault_at at rule.WrongType no_step
 assigned_step at initializer (entity.Filter place) = fault_at at rule.WrongType no_step
 assigned_step at initializer entity.Main = fault_at at rule.WrongType no_step
@@ -67,7 +69,7 @@ abbrev pub assign_step : CheckerTree → ℕ → Identifier → InitialTree → 
 assign_step c at name initial = used c.scope name >>= λ e. initializer_of c at initial >>= λ initializer. assigned_step at initializer e
 
 abbrev pub reduced_step : ℕ → Reduction → ValueTree → Entity → WithFaults StepTree
-reduced_step at by v entity.Edges = fault_at at rule.WrongType no_step
+reduced_step at by v (entity.Edges weights) = fault_at at rule.WrongType no_step
 reduced_step at by v (entity.Vector place) = fault_at at rule.WrongType no_step
 reduced_step at by v (entity.ConstantSet slot) = fault_at at rule.WrongType no_step
 reduced_step at by v (entity.IntegerConstant name n) = fault_at at rule.WrongType no_step
@@ -77,7 +79,8 @@ reduced_step at by v (entity.ConditionVariable slot) = fault_at at rule.WrongTyp
 reduced_step at by v (entity.SetVariable slot) = fault_at at rule.WrongType no_step
 reduced_step at by v (entity.LoopVariable slot) = fault_at at rule.WrongType no_step
 reduced_step at by v (entity.Parameter p) = fault_at at rule.WrongType no_step
-reduced_step at by v (entity.EdgeFunction place) = fault_at at rule.WrongType no_step
+reduced_step at by v entity.Weight = fault_at at rule.WrongType no_step
+reduced_step at by v (entity.EdgeFunction place weighted) = fault_at at rule.WrongType no_step
 reduced_step at by v (entity.VertexFunction place) = fault_at at rule.WrongType no_step
 reduced_step at by v (entity.Filter place) = fault_at at rule.WrongType no_step
 reduced_step at by v entity.Main = fault_at at rule.WrongType no_step

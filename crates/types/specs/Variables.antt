@@ -22,6 +22,7 @@ variable_as c at initializer declared.VertexSet = initializer_members at initial
 variable_as c at initializer declared.Vertex = fault_at at rule.WrongType (entity.Error, no_action)
 variable_as c at initializer declared.Vector = fault_at at rule.WrongType (entity.Error, no_action)
 variable_as c at initializer declared.EdgeSet = fault_at at rule.WrongType (entity.Error, no_action)
+variable_as c at initializer declared.WeightedEdgeSet = fault_at at rule.WrongType (entity.Error, no_action)
 
 -- in a function
 abbrev pub step_variable_as : CheckerTree → ℕ → InitializerTree → DeclaredType → WithFaults (Entity × StepTree)
@@ -31,3 +32,4 @@ step_variable_as c at initializer declared.VertexSet = fault_at at rule.WrongTyp
 step_variable_as c at initializer declared.Vertex = fault_at at rule.WrongType (entity.Error, no_step)
 step_variable_as c at initializer declared.Vector = fault_at at rule.WrongType (entity.Error, no_step)
 step_variable_as c at initializer declared.EdgeSet = fault_at at rule.WrongType (entity.Error, no_step)
+step_variable_as c at initializer declared.WeightedEdgeSet = fault_at at rule.WrongType (entity.Error, no_step)

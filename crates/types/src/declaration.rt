@@ -11,7 +11,7 @@ ghost use Rattle.expression_types.specs.Faults.{earlier};
 ghost use Rattle.expression_types.specs.WithFaults.{ReportsFaults, outcome};
 ghost use Rattle.types.specs.Initial.{ErrorInitializer, is_sound};
 ghost use Rattle.types.specs.Checker.{checker_of};
-ghost use Rattle.types.specs.Declaration.{declaration_typed, declarations_typed, declare_condition, declare_constant, declare_constant_as, declare_edges, declare_integer, declare_name, declare_set, declare_vector, declared_of, edge_function_declared, function_declared, has_all, begins, inside_of, is_bool as bool_type, is_vertex as vertex_type, kind as kind_by, literal_or_fault, kind_fits, kind_of as kind_by_parameters, loads, main_declared, opened, only_edges, parameter, parameters_declared, result_declared, result_entity, steps_declared, with_main};
+ghost use Rattle.types.specs.Declaration.{declaration_typed, declarations_typed, declare_condition, declare_constant, declare_constant_as, declare_edges, declare_integer, declare_name, declare_set, declare_vector, declared_of, edge_function_declared, function_declared, has_all, begins, inside_of, is_bool as bool_type, is_int as int_type, is_vertex as vertex_type, kind as kind_by, literal_or_fault, kind_fits, kind_of as kind_by_parameters, loads, main_declared, opened, only_edges, parameter, parameters_declared, result_declared, result_entity, steps_declared, takes_weight as weight_taken, with_main};
 ghost use Rattle.types.specs.Initializer.{initializer_tree};
 ghost use Rattle.types.specs.FunctionKind.{function_kind_tree};
 ghost use Rattle.types.specs.Literal.{literal_condition, literal_integer};
@@ -93,7 +93,8 @@ impl Declared {
 pub(crate) enum FunctionKind {
     /// The function that is run, and whether it has neither parameters nor a result.
     Main(bool),
-    Edge,
+    /// An edge function, and whether its third parameter is the edge's weight.
+    Edge(bool),
     Vertex,
     Filter,
     /// None of these.
@@ -237,7 +238,16 @@ fn constant_from(
             declared,
             first_fault,
         ),
-        DeclaredType::EdgeSet => edges(alloc, at, name, initializer, declared, first_fault),
+        DeclaredType::EdgeSet => edges(alloc, at, name, false, initializer, declared, first_fault),
+        DeclaredType::WeightedEdgeSet => edges(
+            alloc,
+            at,
+            name,
+            true,
+            initializer,
+            declared,
+            first_fault,
+        ),
     }
 }
 
@@ -406,16 +416,17 @@ fn edges(
     alloc: Global,
     at: usize,
     name: &Name,
+    weights: bool,
     initializer: Initializer,
     declared: &mut Declared,
     first_fault: &mut Option<Fault>,
 ) -> Result<(), AllocError>
-    ensures { ReportsFaults (λ _. declared_of declared.new) first_fault.old first_fault.new result (declare_edges (declared_of declared.old) at name.now (initializer_tree initializer)) }
+    ensures { ReportsFaults (λ _. declared_of declared.new) first_fault.old first_fault.new result (declare_edges weights (declared_of declared.old) at name.now (initializer_tree initializer)) }
 {
     want_loaded(at, initializer, first_fault);
     let place = declared.checker.names.len();
     let first = only(name, place, declared.edges, first_fault);
-    name_is(alloc, name, Entity::Edges, declared, first_fault)?;
+    name_is(alloc, name, Entity::Edges(weights), declared, first_fault)?;
     declared.edges = first;
     Ok(())
 }
@@ -467,12 +478,23 @@ fn kind_by_signature(parameters: &[Parameter], gives: &Option<Parameter>) -> Fun
     let Some((second, more)) = others.split_first() else {
         return kind_on_vertex(first.declared, gives);
     };
-    if more.is_empty()
-        && gives.is_none()
-        && is_vertex(first.declared)
-        && is_vertex(second.declared)
-    {
-        FunctionKind::Edge
+    let fits = gives.is_none() && is_vertex(first.declared) && is_vertex(second.declared);
+    if fits {
+        kind_on_edge(more)
+    } else {
+        FunctionKind::Other
+    }
+}
+
+/// What a function of two vertices and no result is, by its parameters after them.
+fn kind_on_edge(more: &[Parameter]) -> FunctionKind
+    ensures { (src dst : ParameterTree) → src.declared ≡ DeclaredType.Vertex → dst.declared ≡ DeclaredType.Vertex → function_kind_tree result ≡ kind_by_parameters (src ∷ dst ∷ map parameter_tree more.now) None }
+{
+    let Some((third, others)) = more.split_first() else {
+        return FunctionKind::Edge(false);
+    };
+    if others.is_empty() && is_int(third.declared) {
+        FunctionKind::Edge(true)
     } else {
         FunctionKind::Other
     }
@@ -506,6 +528,15 @@ fn is_vertex(declared: DeclaredType) -> bool
     }
 }
 
+fn is_int(declared: DeclaredType) -> bool
+    ensures { result ≡ int_type declared }
+{
+    match declared {
+        DeclaredType::Int => true,
+        _ => false,
+    }
+}
+
 fn is_bool(declared: DeclaredType) -> bool
     ensures { result ≡ bool_type declared }
 {
@@ -521,7 +552,7 @@ fn inside(kind: FunctionKind) -> Inside
 {
     match kind {
         FunctionKind::Main(_) => Inside::Main,
-        FunctionKind::Edge => Inside::EdgeFunction,
+        FunctionKind::Edge(_) => Inside::EdgeFunction,
         FunctionKind::Vertex | FunctionKind::Other => Inside::VertexFunction,
         FunctionKind::Filter => Inside::Filter,
     }
@@ -541,33 +572,47 @@ fn open(
 {
     checker.scope.enter(inside(kind));
     checker.writes = Reductions::new(alloc);
-    declare_parameters(alloc, parameters, checker, first_fault)?;
+    declare_parameters(alloc, takes_weight(kind), parameters, checker, first_fault)?;
     declare_result(alloc, kind, gives, checker, first_fault)
+}
+
+/// Whether it is an edge function whose third parameter is the edge's weight.
+fn takes_weight(kind: FunctionKind) -> bool
+    ensures { result ≡ weight_taken (function_kind_tree kind) }
+{
+    match kind {
+        FunctionKind::Edge(weighted) => weighted,
+        FunctionKind::Main(_) | FunctionKind::Vertex | FunctionKind::Filter | FunctionKind::Other =>
+            false,
+    }
 }
 
 fn declare_parameters(
     alloc: Global,
+    weighted: bool,
     parameters: &[Parameter],
     checker: &mut Checker,
     first_fault: &mut Option<Fault>,
 ) -> Result<(), AllocError>
-    ensures declared { ReportsFaults (λ _. checker_of checker.new) first_fault.old first_fault.new result (parameters_declared (checker_of checker.old) Endpoint.Source (map parameter_tree parameters.now)) }
+    ensures declared { ReportsFaults (λ _. checker_of checker.new) first_fault.old first_fault.new result (parameters_declared weighted (checker_of checker.old) Endpoint.Source (map parameter_tree parameters.now)) }
     ensures kept { OnOk result (Keeps checker.old.scope checker.new.scope) }
 {
     let mut endpoint = Endpoint::Source;
     'parameters: for parameter in parameters {
-        let entity = parameter_entity(endpoint, parameter.declared);
+        let entity = parameter_entity(weighted, endpoint, parameter.declared);
         declare(alloc, checker, &parameter.name, entity, first_fault)?;
         endpoint = Endpoint::Destination;
     }
     Ok(())
 }
 
-fn parameter_entity(endpoint: Endpoint, declared: DeclaredType) -> Entity
-    ensures { result ≡ parameter endpoint declared }
+fn parameter_entity(weighted: bool, endpoint: Endpoint, declared: DeclaredType) -> Entity
+    ensures { result ≡ parameter weighted endpoint declared }
 {
     if is_vertex(declared) {
         Entity::Parameter(endpoint)
+    } else if weighted && is_int(declared) {
+        Entity::Weight
     } else {
         Entity::Error
     }
@@ -597,8 +642,10 @@ fn entity_of_result(checker: &Checker, kind: FunctionKind) -> Entity
 {
     match kind {
         FunctionKind::Filter => Entity::ConditionVariable(checker.condition_slot()),
-        FunctionKind::Main(_) | FunctionKind::Edge | FunctionKind::Vertex | FunctionKind::Other =>
-            Entity::Error,
+        FunctionKind::Main(_)
+        | FunctionKind::Edge(_)
+        | FunctionKind::Vertex
+        | FunctionKind::Other => Entity::Error,
     }
 }
 
@@ -671,8 +718,10 @@ fn want_kind(at: usize, kind: FunctionKind, first_fault: &mut Option<Fault>)
 {
     match kind {
         FunctionKind::Other => note(first_fault, at, TypeRule::WrongType),
-        FunctionKind::Main(_) | FunctionKind::Edge | FunctionKind::Vertex | FunctionKind::Filter =>
-            {}
+        FunctionKind::Main(_)
+        | FunctionKind::Edge(_)
+        | FunctionKind::Vertex
+        | FunctionKind::Filter => {}
     }
 }
 
@@ -692,7 +741,14 @@ fn function_is(
         steps,
     };
     match kind {
-        FunctionKind::Edge => edge_function(alloc, name, function, declared, first_fault),
+        FunctionKind::Edge(weighted) => edge_function(
+            alloc,
+            name,
+            weighted,
+            function,
+            declared,
+            first_fault,
+        ),
         FunctionKind::Vertex => {
             let entity = Entity::VertexFunction(declared.vertex_functions.len());
             name_is(alloc, name, entity, declared, first_fault)?;
@@ -719,13 +775,14 @@ fn function_is(
 fn edge_function(
     alloc: Global,
     name: &Name,
+    weighted: bool,
     function: Function,
     declared: &mut Declared,
     first_fault: &mut Option<Fault>,
 ) -> Result<(), AllocError>
-    ensures { ReportsFaults (λ _. declared_of declared.new) first_fault.old first_fault.new result (edge_function_declared (declared_of declared.old) name.now (function_tree function)) }
+    ensures { ReportsFaults (λ _. declared_of declared.new) first_fault.old first_fault.new result (edge_function_declared weighted (declared_of declared.old) name.now (function_tree function)) }
 {
-    let entity = Entity::EdgeFunction(declared.edge_functions.len());
+    let entity = Entity::EdgeFunction(declared.edge_functions.len(), weighted);
     name_is(alloc, name, entity, declared, first_fault)?;
     declared.edge_functions.push(function)?;
     let writes = std::mem::replace(&mut declared.checker.writes, Reductions::new(alloc));

@@ -116,7 +116,8 @@ fn declaration(
         DeclaredType::VertexSet
         | DeclaredType::Vertex
         | DeclaredType::Vector
-        | DeclaredType::EdgeSet => (Entity::Error, wrong(at, alloc, first_fault)),
+        | DeclaredType::EdgeSet
+        | DeclaredType::WeightedEdgeSet => (Entity::Error, wrong(at, alloc, first_fault)),
     }
 }
 

@@ -8,7 +8,7 @@ ghost use Rattle.expression_types.specs.WithFaults.{ReportsFaults, outcome};
 ghost use Rattle.types.specs.Checker.{checker_of};
 ghost use Rattle.types.specs.Initializer.{apply_end_tree, initializer_tree};
 ghost use Rattle.expression_types.specs.Faults.{earlier};
-ghost use Rattle.types.specs.Initial.{ErrorInitializer, initializer_condition, edge_function, end_of, ends_given, filter_function, filter_named, filtered, initializer_of, given_filter, initializer_integer, is_all, is_degrees, is_edges, is_loaded, is_sound, names_error, is_error_end, is_wrong, loaded, initializer_members, modified, new_set, of_edges, vertex_function, writes_vector};
+ghost use Rattle.types.specs.Initial.{ErrorInitializer, initializer_condition, edge_function, end_of, ends_given, filter_function, filter_named, filtered, initializer_of, given_filter, initializer_integer, is_all, is_degrees, is_edges, is_loaded, is_sound, names_error, is_error_end, is_wrong, lacks_weights, loaded, initializer_members, modified, new_set, of_edges, reads_weight, vertex_function, writes_vector};
 
 use crate::checker::Checker;
 use crate::wanted::{condition_of, integer_of, members_of};
@@ -225,7 +225,7 @@ pub(crate) fn edge_function_named(entity: Entity) -> Option<usize>
     ensures { result ≡ edge_function entity }
 {
     match entity {
-        Entity::EdgeFunction(place) => Some(place),
+        Entity::EdgeFunction(place, _) => Some(place),
         _ => None,
     }
 }
@@ -265,7 +265,28 @@ pub(crate) fn is_edges_entity(entity: Entity) -> bool
     ensures { result ≡ is_edges entity }
 {
     match entity {
-        Entity::Edges => true,
+        Entity::Edges(_) => true,
+        _ => false,
+    }
+}
+
+/// Whether a name is that of an edgeset in which no weights are seen, and the other that of a function that
+/// reads them.
+pub(crate) fn are_weights_lacking(edges: Entity, function: Entity) -> bool
+    ensures { result ≡ lacks_weights edges function }
+{
+    match edges {
+        Entity::Edges(weights) => !weights && is_weight_read(function),
+        _ => false,
+    }
+}
+
+/// Whether a name is that of an edge function whose third parameter is the edge's weight.
+fn is_weight_read(function: Entity) -> bool
+    ensures { result ≡ reads_weight function }
+{
+    match function {
+        Entity::EdgeFunction(_, weighted) => weighted,
         _ => false,
     }
 }
@@ -411,7 +432,7 @@ fn modified_between(
     if unclear {
         return Initializer::Error;
     }
-    if !is_edges_entity(edges) || is_one_wrong(from, to) {
+    if !is_edges_entity(edges) || is_one_wrong(from, to) || are_weights_lacking(edges, function) {
         return wrong(at, first_fault);
     }
     let (Some(function), Some(vector)) = (edge_function_named(function), vector_named(vector))

@@ -16,8 +16,8 @@ ghost use Rattle.types.specs.Variables.{variable_as};
 
 use crate::checker::{Checker, declare};
 use crate::initial::{
-    ApplyEnd, Initializer, edge_function_named, ends_of, is_edges_entity, is_error_entity,
-    is_one_wrong, read_end, read_initial, vertex_function_named,
+    ApplyEnd, Initializer, are_weights_lacking, edge_function_named, ends_of, is_edges_entity,
+    is_error_entity, is_one_wrong, read_end, read_initial, vertex_function_named,
 };
 use crate::wanted::{index_of, integer, integer_of};
 use apply_options::Reduction;
@@ -105,9 +105,10 @@ fn declaration(
             let action = StatementKind::DeclareSet(slot.name, value);
             (Entity::SetVariable(slot), action)
         }
-        DeclaredType::Vertex | DeclaredType::Vector | DeclaredType::EdgeSet => {
-            (Entity::Error, wrong(at, first_fault))
-        }
+        DeclaredType::Vertex
+        | DeclaredType::Vector
+        | DeclaredType::EdgeSet
+        | DeclaredType::WeightedEdgeSet => { (Entity::Error, wrong(at, first_fault)) }
     }
 }
 
@@ -359,7 +360,7 @@ fn apply_to(
         return nothing();
     }
     if is_edges_entity(target) {
-        if is_one_wrong(from, to) {
+        if is_one_wrong(from, to) || are_weights_lacking(target, function) {
             return wrong(at, first_fault);
         }
         return apply_to_edges(at, from, to, function, first_fault);
