@@ -10,7 +10,7 @@ use Rattle.apply_options.specs.declared.apply_schedule.Parallelization.TheVarian
 use Rattle.crew.specs.Boundaries.{edge_aware_ends, boundaries}
 use Rattle.crew.specs.Partition.{AreEnds, end_of}
 use Rattle.flat_snapshot.specs.FlatEdges.{AreDegreesOf}
-use Rattle.flat_snapshot.specs.Entries.{lookup, Rises as Climbs}
+use Rattle.flat_snapshot.specs.Maps.{lookup, Rises as Climbs}
 use Rattle.edge_fold.specs.Between.{firsts}
 use Rattle.vertex_sets.specs.VertexSet.{IsAscendingBelow}
 use Rattle.vertex_sets.proofs.Ascending.{Rises, rises, rises_from_lower, rises_range, range_has, same_list, below}

@@ -15,7 +15,7 @@ use Rattle.edge_fold.specs.Folded.{IsContextOf, HasFolded}
 use Rattle.edge_fold.specs.Given.{row}
 use Rattle.edge_fold.proofs.Walks.{FoldsMore, HasPassed, HasWalked, InRow, folded_along, pass_done, walk_done}
 use Rattle.flat_snapshot.specs.FlatEdges.{AreDegreesOf}
-use Rattle.flat_snapshot.specs.Entries.{lookup, Rises as Climbs}
+use Rattle.flat_snapshot.specs.Maps.{lookup, Rises as Climbs}
 use Rattle.flat_snapshot.specs.Neighbours.{destinations_of}
 use Rattle.vertex_sets.proofs.Ascending.{Rises, rises_from_lower}
 use Rattle.edge_fold.specs.Between.{edges_between, firsts}

@@ -65,16 +65,22 @@ fn refusals_are_explained(rt: HostRuntime) -> Result<(), Fail> {
     Ok(())
 }
 
+// Whether the statement of this number begins so.
+fn begins_so(rt: &HostRuntime, number: u64, start: &[u8]) -> Result<bool, Fail> {
+    let Some(at) = statement_at(rt.alloc(), PROGRAM, number)? else {
+        return Ok(false);
+    };
+    Ok(PROGRAM.get(at..).unwrap_or(&[]).starts_with(start))
+}
+
 #[test]
 fn statements_are_found_by_their_numbers(rt: HostRuntime) -> Result<(), Fail> {
-    for (before, start) in STATEMENTS.iter().enumerate() {
-        let at = statement_at(rt.alloc(), PROGRAM, before as u64 + 1)?.unwrap_or(0);
-        assert_eq!(rt; &PROGRAM[at..at + start.len()], *start);
+    let mut number = 0u64;
+    for start in STATEMENTS {
+        number = number.wrapping_add(1);
+        assert!(rt; begins_so(&rt, number, *start)?);
     }
-    assert_eq!(rt;
-        statement_at(rt.alloc(), PROGRAM, STATEMENTS.len() as u64 + 1)?,
-        None
-    );
+    assert_eq!(rt; statement_at(rt.alloc(), PROGRAM, 11)?, None);
     assert_eq!(rt;
         statement_at(rt.alloc(), b"func main() a = 0.5; end", 1)?,
         Some(12)
@@ -91,9 +97,8 @@ fn statements_are_found_by_their_numbers(rt: HostRuntime) -> Result<(), Fail> {
 fn faults_are_shown_at_their_statements(rt: HostRuntime) -> Result<(), Fail> {
     let text = b"func main()\n  print 1;\n  print x[9];\nend";
     let told = fault_explanation(rt.alloc(), "f", text, 2)?;
-    let place = b" --> f:3:3\n  |   print x[9];\n  |   ^\n = an index in it";
-    assert_eq!(rt; &told[..place.len()], place.as_slice());
+    assert!(rt; told.starts_with(b" --> f:3:3\n  |   print x[9];\n  |   ^\n = an index in it"));
     let told = fault_explanation(rt.alloc(), "f", text, 3)?;
-    assert_eq!(rt; &told[..17], b" = an index in it".as_slice());
+    assert!(rt; told.starts_with(b" = an index in it"));
     Ok(())
 }
