@@ -1,4 +1,4 @@
-use Rattle.std.proofs.Common.{◌≡◌, ◌∷◌, ◌++◌, [], ℕ, ◌<◌, ◌≤◌, ◌+◌, pos, List, length, drop, get_or, sym, subst, arith}
+use Rattle.std.proofs.Common.{◌≡◌, ◌∷◌, ◌++◌, [], ℕ, ◌<◌, ◌≤◌, ◌+◌, List, length, drop, get_or, sym, ap, ◌∙◌, subst, arith}
 use Rattle.std.proofs.lemmas.List.{drop_all, drop_more}
 use Rattle.kernels.specs.Value.{entry}
 use Rattle.vectors.specs.declared.changes.EntryChange.{EntryChange}
@@ -13,10 +13,10 @@ changes-preserved c =
     let n = c.args.vertices in
     let xs = c.args.changes.now in
     let i = c.changes.change-index in
-    let d : EntryChange = record { vertex = 0; number = pos 0 } in
+    let d : EntryChange = c.change-item.result in
     let one = get_or xs i d in
-    let v = c.vertex.result in
-    let own : v ≡ one.vertex = c.vertex.ensures in
+    let v = c.vertex-vertex.result in
+    let own : v ≡ one.vertex = c.vertex-vertex.ensures ∙ ap (λ (e : EntryChange). e.vertex) c.change-item.is in
     let next = c.changes.next in
     let members = c.changes.members.items in
     let inside : i < length xs = c.changes-test.true in
@@ -40,9 +40,9 @@ changes-preserved-then-vertex-next c =
     let n = c.args.vertices in
     let xs = c.args.changes.now in
     let i = c.changes.change-index in
-    let d : EntryChange = record { vertex = 0; number = pos 0 } in
+    let d : EntryChange = c.change-item.result in
     let one = get_or xs i d in
-    let own : c.vertex.result ≡ one.vertex = c.vertex.ensures in
+    let own : c.vertex-vertex.result ≡ one.vertex = c.vertex-vertex.ensures ∙ ap (λ (e : EntryChange). e.vertex) c.change-item.is in
     let next = c.changes.next in
     let members = c.changes.members.items in
     let inside : i < length xs = c.changes-test.true in
