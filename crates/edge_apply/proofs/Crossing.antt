@@ -28,7 +28,7 @@ apply_sync lft = declared_sync (apply.the_type lft) (
             search (sendable, crosses, kernel_sync) depth 12,
             (
               search (sendable, crosses, kernel_sync) depth 12,
-              (search (sendable, crosses) depth 12, (search (sendable, crosses) depth 12, (search (sendable, crosses) depth 12, tt))),
+              (search (sendable, crosses) depth 12, (search (sendable, crosses) depth 12, tt)),
             ),
           ),
         ),

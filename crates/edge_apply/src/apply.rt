@@ -3,7 +3,7 @@ ghost use Rattle.std.specs.Prelude.{◌≡◌};
 ghost use Rattle.flat_snapshot.specs.Digraph.{IsDigraph};
 ghost use Rattle.edge_apply.specs.Contexts.{context_of};
 
-use apply_options::{DenseVertexSet, Direction, Parallelization};
+use apply_options::{Direction, Parallelization};
 use edge_fold::{ApplyContext, FoldStart};
 use flat_snapshot::Flat;
 use kernels::{EdgeKernel, EndpointFilter};
@@ -23,7 +23,6 @@ pub struct Apply<'a> {
     pub second: Option<&'a EdgeKernel>,
     pub direction: Direction,
     pub parallelization: Parallelization,
-    pub dense_vertex_set: DenseVertexSet,
 }
 
 impl<'a> Apply<'a> {

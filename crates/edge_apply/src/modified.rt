@@ -56,11 +56,12 @@ fn changed_vertices(
     let mut members = Vec::new(alloc);
     let mut next = 0u32;
     'changes: for change in changes {
-        if change.vertex < next || vertices <= change.vertex {
+        let vertex = change.vertex();
+        if vertex < next || vertices <= vertex {
             continue;
         }
-        members.push(change.vertex)?;
-        next = change.vertex + 1;
+        members.push(vertex)?;
+        next = vertex + 1;
     }
     Ok(members)
 }

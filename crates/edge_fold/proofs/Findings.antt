@@ -123,6 +123,15 @@ pub kept_passes : (p : ℕ → Bool) (xs : List ℕ) (v : ℕ) → Contains (fil
 kept_passes p [] v has = absurd (contains_nothing v has)
 kept_passes p (x ∷ xs) v has = kept_at p x v xs (p x) refl (kept_passes p xs v) has
 
+among_at : (p : ℕ → Bool) (x v : ℕ) (xs : List ℕ) (b : Bool) → (Contains (filter p xs) v → Contains xs v) → Contains (cond b (x ∷ filter p xs) (filter p xs)) v → Contains (x ∷ xs) v
+among_at p x v xs true more has =
+    choose (first_or_later x v (filter p xs) has) (λ e. subst (λ (y : ℕ). Contains (x ∷ xs) y) (sym e) (contains_first x xs)) (λ h. contains_later x v xs (more h))
+among_at p x v xs false more has = contains_later x v xs (more has)
+
+pub among_kept : (p : ℕ → Bool) (xs : List ℕ) (v : ℕ) → Contains (filter p xs) v → Contains xs v
+among_kept p [] v has = has
+among_kept p (x ∷ xs) v has = among_at p x v xs (p x) (among_kept p xs v) has
+
 kept_if : (p : ℕ → Bool) (x v : ℕ) (xs : List ℕ) (b : Bool) → p x ≡ b → p v ≡ true → (Contains xs v → Contains (filter p xs) v) → Contains (x ∷ xs) v → Contains (cond b (x ∷ filter p xs) (filter p xs)) v
 kept_if p x v xs true is on more has =
     choose (first_or_later x v xs has) (λ e. subst (λ (y : ℕ). Contains (x ∷ filter p xs) y) (sym e) (contains_first x (filter p xs))) (λ h. contains_later x v (filter p xs) (more h))

@@ -1,5 +1,5 @@
 -- What an accumulator has.
-use Rattle.std.specs.Prelude.{◌≡◌, ℕ, ℤ, pos, if◌then◌else◌, List, slice_index_or}
+use Rattle.std.specs.Prelude.{◌≡◌, ℕ, ℤ, pos, true, Contains, if◌then◌else◌, List, slice_index_or}
 use Rattle.apply_options.specs.declared.reduction.Reduction.{Reduction}
 use Rattle.vertex_marks.specs.Marks.{is_marked, room as marks_room}
 use Rattle.edge_fold.specs.declared.accumulator.Accumulator.{Accumulator}
@@ -14,6 +14,10 @@ held_with combine a v h = if is_marked a.marks v then combine h (slice_index_or 
 -- the new entry at a vertex, or this one where nothing was given
 abbrev pub held : Accumulator → ℕ → ℤ → ℤ
 held a v old = held_with (λ h y. y) a v old
+
+-- all these vertices were given something
+abbrev pub AreMarked : Accumulator → List ℕ → Type 0
+AreMarked a vs = (v : ℕ) → Contains vs v → is_marked a.marks v ≡ true
 
 -- for how many vertices there is room
 abbrev pub room : Accumulator → ℕ

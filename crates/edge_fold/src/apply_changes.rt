@@ -15,7 +15,7 @@ ghost use Rattle.edge_fold.specs.declared.apply_context.ApplyContext.{ApplyConte
 ghost use Rattle.edge_fold.specs.declared.apply_context.FoldStart.TheVariants.{OldEntry};
 ghost use Rattle.edge_fold.specs.Ends.{IsEndTest, IsTest};
 ghost use Rattle.edge_fold.specs.Folded.{IsContextOf, HasFolded};
-ghost use Rattle.edge_fold.specs.Held.{held, held_with};
+ghost use Rattle.edge_fold.specs.Held.{AreMarked, held, held_with};
 ghost use Rattle.edge_fold.specs.VectorAccumulators.{active, held_in};
 
 use crate::apply_context::ApplyContext;
@@ -139,6 +139,7 @@ fn found_among(
     block: &mut Block,
 ) -> Result<VectorChanges, AllocError>
     requires ascending { IsNonDecreasing marked.now }
+    requires given { AreMarked slot.now.entries marked.now }
     requires covers { (combine : ℤ → ℤ → ℤ) (v : ℕ) (h : ℤ) → v < context.vertices → ¬ Contains marked.now v → held_with combine slot.now.entries v h ≡ h }
     ensures vector { IfOk result (λ c. c.vector ≡ slot.now.vector) }
     ensures changes { IfOk result (λ c. (m : StateValue) (test : ℕ → Bool) → context.entry.vectors.now.vectors ≡ m.vectors → HasSizes context.entry.sizes.now m → IsEndTest to.entry m test
@@ -166,6 +167,7 @@ fn all_changes(
     marked: &[u32],
 ) -> Result<Vec<EntryChange>, AllocError>
     requires ascending { IsNonDecreasing marked.now }
+    requires given { AreMarked slot.now.entries marked.now }
     requires covers { (combine : ℤ → ℤ → ℤ) (v : ℕ) (h : ℤ) → v < context.vertices → ¬ Contains marked.now v → held_with combine slot.now.entries v h ≡ h }
     ensures { IfOk result (λ cs. cs.items ≡ changed context.entry.vertices (entry context.entry.vectors.now.vectors slot.now.vector)
         (λ v. held slot.now.entries v (entry context.entry.vectors.now.vectors slot.now.vector v))) }
@@ -185,6 +187,7 @@ fn passing_changes(
     block: &mut Block,
 ) -> Result<Vec<EntryChange>, AllocError>
     requires ascending { IsNonDecreasing marked.now }
+    requires given { AreMarked slot.now.entries marked.now }
     requires covers { (combine : ℤ → ℤ → ℤ) (v : ℕ) (h : ℤ) → v < context.vertices → ¬ Contains marked.now v → held_with combine slot.now.entries v h ≡ h }
     ensures { IfOk result (λ cs. (m : StateValue) (test : ℕ → Bool) → context.entry.vectors.now.vectors ≡ m.vectors → HasSizes context.entry.sizes.now m → IsTest end.entry m test
         → cs.items ≡ changed context.entry.vertices (entry m.vectors slot.now.vector)

@@ -171,10 +171,8 @@ impl Accumulator {
         ensures { OnOk result (numbers.new.items ≡ numbers.old.items ++ number_at self.now vertex) }
     {
         if self.marks.contains(vertex) {
-            numbers.push(EntryChange {
-                vertex,
-                number: self.values[vertex as usize],
-            })?;
+            let number = self.values[vertex as usize];
+            numbers.push(EntryChange::new(vertex, number))?;
         }
         Ok(())
     }

@@ -64,7 +64,7 @@ fn count_below(numbers: &[EntryChange], vertex: u32) -> usize
     let mut high = numbers.len();
     'halves: while low < high {
         let middle = low + (high - low) / 2;
-        if numbers[middle].vertex < vertex {
+        if numbers[middle].vertex() < vertex {
             low = middle + 1;
         } else {
             high = middle;

@@ -3,7 +3,8 @@ ghost use Rattle.std.specs.Prelude.{◌≡◌, ℕ, ℤ, pos, ◌^◌, ◌∷◌
 ghost use Rattle.std.specs.List.Sorted.{IsNonDecreasing};
 ghost use Rattle.edge_fold.specs.Gathered.{numbers_of};
 ghost use Rattle.edge_fold.specs.Given.{each_given, for_vector, given_from};
-ghost use Rattle.edge_fold.specs.Held.{AreJoined, held, held_with, room};
+ghost use Rattle.edge_fold.specs.Held.{AreJoined, AreMarked, held, held_with, room};
+ghost use Rattle.vertex_marks.specs.Marks.{is_marked};
 ghost use Rattle.kernels.specs.ContributionColumns.{contribution_at, truth_at};
 
 use crate::accumulator::Accumulator;
@@ -145,7 +146,7 @@ impl Accumulator {
         ensures { OnOk result (AreJoined opening.entry reduction self.old self.new (numbers_of numbers.now)) }
     {
         'numbers: for change in numbers {
-            self.join(reduction, opening, change.vertex, change.number)?;
+            self.join(reduction, opening, change.vertex(), change.number())?;
         }
         Ok(())
     }
@@ -206,15 +207,14 @@ impl Accumulator {
         self.marks.insert(vertex);
     }
 
-    /// The new entry at a vertex, or this one where nothing was given.
-    #[inline]
-    pub(crate) fn entry(&self, vertex: u32, old: i64) -> i64
-        ensures { result ≡ held self.now vertex old }
+    /// The new entry at a vertex that was given something, and some number at another: whether it was is not asked again.
+    #[inline(always)]
+    pub(crate) fn given(&self, vertex: u32) -> i64
+        ensures { is_marked self.now.marks vertex ≡ true → (old : ℤ) → result ≡ held self.now vertex old }
     {
-        if self.marks.contains(vertex) {
-            self.values[vertex as usize]
-        } else {
-            old
+        match self.values.get(vertex as usize) {
+            Some(number) => *number,
+            None => 0,
         }
     }
 
@@ -222,6 +222,7 @@ impl Accumulator {
     /// their number, and to one word for each 4,096 vertices. The only error is out of memory.
     pub(crate) fn marked(&self, alloc: Global) -> Result<Vec<u32>, AllocError>
         ensures ascending { IfOk result (λ found. IsNonDecreasing found.items) }
+        ensures given { IfOk result (λ found. AreMarked self.now found.items) }
         ensures covers { IfOk result (λ found. (combine : ℤ → ℤ → ℤ) (v : ℕ) (h : ℤ) → ¬ Contains found.items v → held_with combine self.now v h ≡ h) }
     {
         let found = self.marks.members(alloc)?;

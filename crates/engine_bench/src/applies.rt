@@ -311,7 +311,6 @@ impl<'a> Trial<'a> {
             second: None,
             direction,
             parallelization,
-            dense_vertex_set: DenseVertexSet::BoolArray,
         }
     }
 

@@ -1,7 +1,7 @@
 //! How long a push from ten vertices takes, in a small graph and in a large one.
 
 use crate::kernels_of::edge_kernel;
-use apply_options::{DenseVertexSet, Direction, Parallelization};
+use apply_options::{Direction, Parallelization};
 use edge_apply::Apply;
 use edge_fold::Scratch;
 use flat_snapshot::Flat;
@@ -113,7 +113,6 @@ fn push_of<'a>(
         second: None,
         direction: Direction::SparsePush,
         parallelization: Parallelization::Serial,
-        dense_vertex_set: DenseVertexSet::Bitvector,
     }
 }
 

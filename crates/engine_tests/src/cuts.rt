@@ -31,8 +31,8 @@ const PULLED: [&[[i64; 5]]; 2] = [
 fn got(changed: &[EntryChange], gain: &[i64; 5]) -> bool {
     let mut entries = [0i64; 5];
     for change in changed {
-        if let Some(entry) = entries.get_mut(change.vertex as usize) {
-            *entry = change.number;
+        if let Some(entry) = entries.get_mut(change.vertex() as usize) {
+            *entry = change.number();
         }
     }
     entries == *gain

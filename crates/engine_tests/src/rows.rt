@@ -1,6 +1,6 @@
 //! Applies on small graphs, in every direction and in pieces.
 
-use apply_options::{DenseVertexSet, Direction, Parallelization};
+use apply_options::{Direction, Parallelization};
 use crew::{Found, Work};
 use edge_apply::Apply;
 use edge_fold::{Gathered, Scratch};
@@ -97,7 +97,6 @@ pub(crate) fn apply_of<'a>(
         second: None,
         direction: Direction::SparsePush,
         parallelization,
-        dense_vertex_set: DenseVertexSet::BoolArray,
     }
 }
 
@@ -200,6 +199,11 @@ pub(crate) fn in_x(changes: &Changes) -> &[EntryChange] {
     }
 }
 
+// Whether the entry of this vertex becomes 1, and no other changes.
+fn is_one_at(changes: &[EntryChange], vertex: u32) -> bool {
+    changes.len() == 1 && changes[0].vertex() == vertex && changes[0].number() == 1
+}
+
 #[test]
 fn a_turn_reads_what_was_before_it(rt: HostRuntime) -> Result<(), Fail> {
     let alloc = rt.alloc();
@@ -218,7 +222,7 @@ fn spreads_by_one(alloc: Global, way: Way, kernel: &EdgeKernel, flat: &Flat) -> 
     let mut steps = true;
     for vertex in [1, 2] {
         let changes = changes_of(alloc, way, kernel, flat, &vectors)?;
-        steps = steps && in_x(&changes) == [EntryChange { vertex, number: 1 }].as_slice();
+        steps = steps && is_one_at(in_x(&changes), vertex);
         vectors.write(&changes);
     }
     let changes = changes_of(alloc, way, kernel, flat, &vectors)?;

@@ -11,7 +11,7 @@ ghost use Rattle.runner.specs.EdgeMap.{AreChangesOfApply, IsApplyOf};
 
 use crate::direction::push_or_pull;
 use crate::ends::end_of;
-use apply_options::{ApplySchedule, DenseVertexSet, Direction, Parallelization};
+use apply_options::{ApplySchedule, Direction, Parallelization};
 use edge_apply::Apply;
 use edge_fold::Scratch;
 use kernels::EdgeKernel;
@@ -69,9 +69,6 @@ pub(crate) fn apply_of<'a>(run: RunView<'a>, asked: EdgeMap, no_members: &'a Ver
         second: second_kernel(run, asked.second),
         direction: schedule.direction.unwrap_or(Direction::SparsePush),
         parallelization: schedule.parallelization.unwrap_or(Parallelization::Serial),
-        dense_vertex_set: schedule
-            .dense_vertex_set
-            .unwrap_or(DenseVertexSet::BoolArray),
     }
 }
 

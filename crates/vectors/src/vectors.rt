@@ -139,7 +139,7 @@ impl Vectors {
         ensures { self.new ≡ with_vectors self.old (with_changes vector changes.now self.old.vectors) }
     {
         'changes: for change in changes {
-            self.set(vector, change.vertex, change.number);
+            self.set(vector, change.vertex(), change.number());
         }
     }
 

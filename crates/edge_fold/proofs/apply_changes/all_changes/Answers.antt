@@ -10,5 +10,5 @@ returns c =
     let slot = c.args.slot.now in
     let lane = lane_entry c.lane-old.result in
     let e = entry c.args.context.vectors.now.vectors slot.vector in
-    c.in_ok-changes.ensures c.requires.ascending (λ v. held slot.entries v (lane v)) (λ v has. refl) (λ v l absent. c.requires.covers (λ h y. y) v (lane v) l absent)
+    c.in_ok-changes.ensures c.requires.ascending c.requires.given (λ v. held slot.entries v (lane v)) (λ v has. refl) (λ v l absent. c.requires.covers (λ h y. y) v (lane v) l absent)
     ∙ changed_agree lane e (λ v. held slot.entries v (lane v)) (λ v. held slot.entries v (e v)) c.lane-old.ensures 0 c.args.context.vertices (λ v l. ap (held slot.entries v) (c.lane-old.ensures v))

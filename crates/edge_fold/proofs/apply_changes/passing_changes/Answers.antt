@@ -5,7 +5,7 @@ use Rattle.std.specs.List.Sorted.{IsNonDecreasing}
 use Rattle.algorithm_meaning.specs.Value.{entry}
 use Rattle.vectors.specs.Lanes.{lane_entry}
 use Rattle.edge_fold.specs.Held.{held}
-use Rattle.edge_fold.proofs.Findings.{changed_agree, kept_passes, not_kept}
+use Rattle.edge_fold.proofs.Findings.{among_kept, changed_agree, kept_passes, not_kept}
 use Rattle.edge_fold.proofs.apply_changes.passing_changes.Goals as goal
 
 pub returns : goal.returns
@@ -26,5 +26,6 @@ returns c m test vectors sizes is =
     ap (λ (b : Bool). if b then held slot.entries v (lane v) else lane v) passes) in
     let there = λ (v : ℕ) (l : v < n) (absent : ¬ Contains c.deref.result.now v).
     not_kept test marked v (test v) (held slot.entries v (lane v)) (lane v) refl (λ h. absent (subst (λ (ks : List ℕ). Contains ks v) (sym same) h)) (λ h. c.requires.covers (λ h y. y) v (lane v) l h) in
-    c.in_ok-changes.ensures up new here there
+    let given = λ (v : ℕ) (has : Contains c.deref.result.now v). c.requires.given v (among_kept test marked v (subst (λ (ks : List ℕ). Contains ks v) same has)) in
+    c.in_ok-changes.ensures up given new here there
     ∙ changed_agree lane e new (λ v. if test v then held slot.entries v (e v) else e v) old 0 n (λ v l. ap (λ (x : ℤ). if test v then held slot.entries v x else x) (old v))

@@ -1,4 +1,4 @@
-use Rattle.std.proofs.Common.{◌≡◌, ◌-◌, ◌/◌, ◌<◌, ◌≤◌, ◌+◌, ℕ, List, length, get_or, refl, ap, arith}
+use Rattle.std.proofs.Common.{◌≡◌, ◌-◌, ◌/◌, ◌<◌, ◌≤◌, ◌+◌, ℕ, List, length, get_or, refl, ap, ◌∙◌, arith}
 use Rattle.std.proofs.lemmas.List.{get_or_default}
 use Rattle.vectors.specs.declared.changes.EntryChange.{EntryChange}
 use Rattle.edge_fold.specs.Gathered.{IsAscending}
@@ -21,18 +21,21 @@ behind_middle cs k middle d e x up l inside more =
     let same = ap (λ (c : EntryChange). c.vertex) (get_or_default cs middle d e (omega (arith, l, inside))) in
     omega (arith, most, same, more)
 
-pub halves-preserved-then-numbers-middle : goal.halves-preserved-then-numbers-middle
-halves-preserved-then-numbers-middle c =
+pub halves-preserved-then-vertex : goal.halves-preserved-then-vertex
+halves-preserved-then-vertex c =
     let low = c.halves.low in
     let high = c.halves.high in
     let middle = low + (high - low) / 2 in
     let at = middle_inside low high middle refl c.halves-test.true in
     let over : middle < high = at.1 in
     let inside : high ≤ length c.args.numbers.now = c.halves.invariant.inside in
+    let one : EntryChange = c.index-numbers-middle.result in
+    let own : c.vertex.result ≡ (get_or c.args.numbers.now middle one).vertex = c.vertex.ensures ∙ ap (λ (e : EntryChange). e.vertex) c.index-numbers-middle.is in
+    let less = c.if-vertex.true in
     record {
       order = omega (arith, over);
       inside = inside;
-      below = λ up k d l. before_middle c.args.numbers.now k middle d _ c.args.vertex up (omega (arith, l)) (omega (arith, over, inside)) c.if-numbers-middle.true;
+      below = λ up k d l. before_middle c.args.numbers.now k middle d one c.args.vertex up (omega (arith, l)) (omega (arith, over, inside)) (omega (arith, own, less));
       above = c.halves.invariant.above;
     }
 
@@ -45,11 +48,14 @@ halves-preserved c =
     let under : low ≤ middle = at.0 in
     let over : middle < high = at.1 in
     let inside : high ≤ length c.args.numbers.now = c.halves.invariant.inside in
+    let one : EntryChange = c.index-numbers-middle.result in
+    let own : c.vertex.result ≡ (get_or c.args.numbers.now middle one).vertex = c.vertex.ensures ∙ ap (λ (e : EntryChange). e.vertex) c.index-numbers-middle.is in
+    let more = c.if-vertex.false in
     record {
       order = under;
       inside = omega (arith, over, inside);
       below = c.halves.invariant.below;
-      above = λ up k d l b. behind_middle c.args.numbers.now k middle d _ c.args.vertex up l b c.if-numbers-middle.false;
+      above = λ up k d l b. behind_middle c.args.numbers.now k middle d one c.args.vertex up l b (omega (arith, own, more));
     }
 
 pub returns-clause-split : goal.returns-clause-split

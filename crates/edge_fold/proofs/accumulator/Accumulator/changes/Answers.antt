@@ -4,7 +4,6 @@ use Rattle.std.proofs.lemmas.List.Elements.{Contains-get_or}
 use Rattle.vectors.specs.declared.changes.EntryChange.{EntryChange}
 use Rattle.vectors.specs.Lanes.{lane_entry}
 use Rattle.edge_fold.specs.Changed.{change_at}
-use Rattle.edge_fold.specs.Held.{held}
 use Rattle.edge_fold.proofs.ChangedRows.{between_kept, changed_more, changed_rest, none_yet}
 use Rattle.edge_fold.proofs.accumulator.Accumulator.changes.Goals as goal
 
@@ -12,7 +11,7 @@ pub kept-init : goal.kept-init
 kept-init c = record {
   inside = omega arith;
   passed = λ up i l. absurd (omega (arith, l));
-  found = λ up new here there. c.new-changes.ensures.items ∙ sym (none_yet (lane_entry c.args.old) new);
+  found = λ up given new here there. c.new-changes.ensures.items ∙ sym (none_yet (lane_entry c.args.old) new);
 }
 
 pub kept-preserved : goal.kept-preserved
@@ -27,25 +26,26 @@ kept-preserved c =
     record {
       inside = omega (arith, c.if-vertices-vertex.false);
       passed = λ up i l. let most = up i index 0 (omega (arith, l)) inside in inl (omega (arith, most));
-      found = λ up new here there.
+      found = λ up given new here there.
           let items = c.kept.changes.items in
+          let has = Contains-get_or kept index 0 inside in
           let before_fits : FitsSigned w64 c.get-before.result = search rules in
-          let number_fits : FitsSigned w64 c.entry.result = search rules in
-          let number = to_z w64 (of_z w64 c.entry.result) in
+          let number_fits : FitsSigned w64 c.given.result = search rules in
+          let number = to_z w64 (of_z w64 c.given.result) in
           let was = to_z-of_z w64 c.get-before.result before_fits ∙ c.get-before.ensures in
-          let is = to_z-of_z w64 c.entry.result number_fits ∙ c.entry.ensures ∙ ap (λ (y : ℤ). held c.args.self.now v y) was ∙ sym (here v (Contains-get_or kept index 0 inside)) in
+          let is = to_z-of_z w64 c.given.result number_fits ∙ c.given.ensures (given v has) (old v) ∙ sym (here v has) in
           c.in_ok-push_change.ensures
           ∙ ap (λ (y : ℤ). items ++ change_at (λ _. y) (λ _. number) v) was
           ∙ ap (λ (y : ℤ). items ++ change_at (λ _. old v) (λ _. y) v) is
-          ∙ ap (λ (cs : List EntryChange). cs ++ change_at old new v) (c.kept.invariant.found up new here there)
+          ∙ ap (λ (cs : List EntryChange). cs ++ change_at old new v) (c.kept.invariant.found up given new here there)
           ∙ changed_more old new next v from (λ u a b. there u (omega (arith, b, c.if-vertices-vertex.false)) (between_kept kept index next c.args.vertices u up (c.kept.invariant.passed up) a (omega (arith, b, c.if-vertices-vertex.false)) (λ l. b)));
     }
 
 pub returns : goal.returns
-returns c up new here there =
+returns c up given new here there =
     let kept = c.args.kept.now in
     let index = c.kept.vertex-index in
     let done = c.kept-test.false in
-    c.kept.invariant.found up new here there
+    c.kept.invariant.found up given new here there
     ∙ changed_rest (lane_entry c.args.old) new c.kept.next c.args.vertices c.kept.invariant.inside
     (λ u a b. there u b (between_kept kept index c.kept.next c.args.vertices u up (c.kept.invariant.passed up) a b (λ l. absurd (omega (arith, done, l)))))
