@@ -10,9 +10,8 @@ use vectors::Changes;
 use vertex_sets::VertexSet;
 
 /// The vertices, of so many, at which an apply changes a vector that is there, from the changes of the apply: a list where
-/// they are few, and else in the form that the schedule's choice has for dense sets. Where it says nothing they are bits,
-/// which a pull reads as they are, and a push goes over faster than over flags. It takes time in proportion to the
-/// changes, and that of a dense form.
+/// they are few, and else in the form that the schedule's choice has for dense sets, flags where it says nothing. It takes
+/// time in proportion to the changes, and that of a dense form.
 ///
 /// The only error is out of memory.
 pub fn changed_vertices(
@@ -26,6 +25,6 @@ pub fn changed_vertices(
     ensures members { IfOk result (λ s. (before after : List (List ℤ)) → vector < length before → AreChangesTo vertices before after changes.now.vectors.items
         → s.members ≡ modified vertices vector before after) }
 {
-    let dense = choice.dense_vertex_set.unwrap_or(DenseVertexSet::Bitvector);
+    let dense = choice.dense_vertex_set.unwrap_or(DenseVertexSet::BoolArray);
     apply_modified(alloc, changes, vector, vertices, dense)
 }
