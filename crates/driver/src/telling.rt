@@ -40,16 +40,16 @@ pub(crate) fn told<F: Files, E: Drain>(
     }
 }
 
-// Shows which file cannot be read, and why; or where a program's text is refused, what that means and what to do.
+// Shows which file cannot be read, and why; or where a program's text is refused, what that means and what to do. The file is read
+// once more for it; nothing is shown where that fails, or where memory runs out.
 fn explain<F: Files, E: Drain>(alloc: Global, error: ServeError<'_>, files: &F, err: &mut E) {
     match error {
         ServeError::FileFailed { file, kind } => {
             let _ = writeln!(TextWriter(err), " = {file}: {kind}");
         }
         ServeError::Refused { file, error } => {
-            if let Some(at) = error.at() {
-                let explained = |text: &[u8]| explanation(alloc, file, text, at, error.number());
-                show(alloc, file, files, explained, err);
+            if let (Some(at), Ok(text)) = (error.at(), files.read(alloc, file)) {
+                show(explanation(alloc, file, &text, at, error.number()), err);
             }
         }
         _ => {}
@@ -74,23 +74,15 @@ fn explain_fault<F: Files, E: Drain>(
         TextWriter(err),
         "{file}: fault {number} in statement {statement}"
     );
-    let explained = |text: &[u8]| fault_explanation(alloc, file, text, statement);
-    show(alloc, file, files, explained, err);
+    if let Ok(text) = files.read(alloc, file) {
+        show(fault_explanation(alloc, file, &text, statement), err);
+    }
 }
 
-// Shows what is explained of the text in the file of this name. The file is read once more for it; nothing is shown where that
-// fails, or where memory runs out.
-fn show<F: Files, E: Drain>(
-    alloc: Global,
-    file: &str,
-    files: &F,
-    explained: impl FnOnce(&[u8]) -> Result<Vec<u8>, AllocError>,
-    err: &mut E,
-) {
-    if let Ok(text) = files.read(alloc, file) {
-        if let Ok(lines) = explained(&text) {
-            let _ = write_all(err, &lines);
-        }
+// Writes lines, where there was memory for them.
+fn show<E: Drain>(lines: Result<Vec<u8>, AllocError>, err: &mut E) {
+    if let Ok(lines) = lines {
+        let _ = write_all(err, &lines);
     }
 }
 
