@@ -1,5 +1,5 @@
 -- Entries in columns, against the list of pairs.
-use Rattle.std.proofs.Common.{◌≡◌, ℕ, zero, suc, ◌<◌, ◌≤◌, ℤ, pos, Option, Some, None, List, [], ◌∷◌, length, take, drop, get_or, slice_set, map, min, refl, sym, ◌∙◌, ap, arith}
+use Rattle.std.proofs.Common.{◌≡◌, ℕ, zero, suc, ◌<◌, ℤ, pos, Option, Some, None, List, [], ◌∷◌, length, take, drop, get_or, slice_set, refl, sym, ◌∙◌, ap, arith}
 use Rattle.std.specs.List.{zip}
 use Rattle.std.specs.Map.{keys_of}
 use Rattle.std.specs.Borrow.{Bor}

@@ -1,8 +1,8 @@
 -- An entry by its numbers.
-use Rattle.std.proofs.Common.{◌≡◌, ◌≢◌, ℕ, ◌+◌, ◌-◌, ◌*◌, ◌/◌, ◌%◌, ◌^◌, ◌<◌, ◌≤◌, ◌⊎◌, ℤ, pos, negsuc, Bool, true, false, inl, inr, List, [], ◌∷◌, ◌++◌, length, length-append, refl, sym, ◌∙◌, ap, append_assoc, arith}
+use Rattle.std.proofs.Common.{◌≡◌, ◌≢◌, ℕ, ◌+◌, ◌-◌, ◌*◌, ◌/◌, ◌%◌, ◌^◌, ◌<◌, ◌≤◌, ◌⊎◌, ℤ, pos, Bool, true, false, inl, inr, List, [], ◌∷◌, ◌++◌, length, length-append, refl, sym, ◌∙◌, ap, append_assoc, arith}
 use Rattle.std.proofs.lemmas.Bool.{cases_Bool, false≢true}
 use Rattle.std.proofs.lemmas.List.{append-nil, append_cancel_left}
-use Rattle.weighted_tails.specs.Spelling.{SpellsNumber, SpellsNumbers, SpellsFrom, weight_number, is_one, entry_numbers}
+use Rattle.weighted_tails.specs.Spelling.{SpellsNumbers, SpellsFrom, weight_number, is_one, entry_numbers}
 use Rattle.weighted_tails.specs.inside.Decoding.{numbers_from, number_weight, decoded}
 use Rattle.weighted_tails.specs.inside.Reading.{BeginsWith, BeginsWithEntry}
 use Rattle.weighted_tails.proofs.Numbers.{number_first, same_number, number_some, one_number}

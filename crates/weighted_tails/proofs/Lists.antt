@@ -1,9 +1,9 @@
 -- The spelling of a list of entries, against what its bytes stand for.
-use Rattle.std.proofs.Common.{◌≡◌, ℕ, ◌+◌, ◌-◌, ◌^◌, ◌<◌, ℤ, false, List, [], ◌∷◌, ◌++◌, length, length-append, refl, sym, ◌∙◌, ap, subst, arith}
+use Rattle.std.proofs.Common.{◌≡◌, ℕ, ◌+◌, ◌-◌, ◌<◌, ℤ, false, List, [], ◌∷◌, ◌++◌, length, refl, sym, ◌∙◌, ap, subst, arith}
 use Rattle.std.specs.Map.{keys_of}
 use Rattle.std.proofs.lemmas.List.{append_cancel_left}
 use Rattle.ascending_lists.specs.Ascending.{AscendsFrom}
-use Rattle.weighted_tails.specs.Spelling.{SpellsNumbers, SpellsFrom, AreWeights, entry_numbers, list_numbers}
+use Rattle.weighted_tails.specs.Spelling.{SpellsFrom, AreWeights, entry_numbers, list_numbers}
 use Rattle.weighted_tails.specs.inside.Decoding.{numbers_from, entries_from, decoded}
 use Rattle.weighted_tails.specs.inside.Reading.{BeginsWithEntry}
 use Rattle.weighted_tails.proofs.Numbers.{numbers_first, numbers_whole, same_numbers, numbers_spelling, numbers_append, numbers_split}

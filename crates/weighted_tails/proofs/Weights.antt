@@ -1,5 +1,5 @@
 -- Weights and the numbers of entries.
-use Rattle.std.proofs.Common.{◌≡◌, ◌≢◌, ℕ, ◌+◌, ◌-◌, ◌*◌, ◌/◌, ◌%◌, ◌≤◌, ◌==◌, if◌then◌else◌, ℤ, pos, negsuc, true, false, inl, inr, List, [], ◌∷◌, ◌++◌, refl, sym, ◌∙◌, ap, arith}
+use Rattle.std.proofs.Common.{◌≡◌, ◌≢◌, ℕ, ◌+◌, ◌-◌, ◌*◌, ◌/◌, ◌%◌, ◌≤◌, ℤ, pos, negsuc, true, false, inl, inr, List, ◌∷◌, ◌++◌, refl, sym, ap, arith}
 use Rattle.std.proofs.lemmas.Bool.{false≢true, cases_Bool, cases_eq, eq-eqb, ne_eqb, eqb-true}
 use Rattle.weighted_tails.specs.Spelling.{weight_number, is_one, entry_numbers}
 use Rattle.weighted_tails.specs.inside.Decoding.{number_weight, entries_from}

@@ -1,5 +1,5 @@
 -- Bytes that are written into a buffer.
-use Rattle.std.specs.Prelude.{◌≡◌, ℕ, ◌+◌, ◌*◌, ◌^◌, ◌<◌, ◌≤◌, if◌then◌else◌, ℤ, List, [], ◌∷◌, ◌++◌, length, take}
+use Rattle.std.specs.Prelude.{◌≡◌, ℕ, ◌+◌, ◌*◌, ◌^◌, ◌<◌, ◌≤◌, if◌then◌else◌, ℤ, List, ◌++◌, length, take}
 use Rattle.weighted_tails.specs.Spelling.{SpellsNumber, SpellsNumbers, entry_numbers, is_one, SpellsFrom}
 
 -- n bytes have room for k

@@ -1,7 +1,3 @@
-use Rattle.std.proofs.Common.{◌≡◌, ℕ, ◌<◌, ℤ, List, [], ◌∷◌, length, refl, sym, arith}
-use Rattle.weighted_tails.specs.Spelling.{SpellsFrom}
-use Rattle.weighted_tails.specs.inside.Decoding.{decoded}
-use Rattle.weighted_tails.specs.inside.Reading.{BeginsWithEntry}
 use Rattle.weighted_tails.proofs.Lists.{begins_decoded, step, known_begin}
 use Rattle.weighted_tails.proofs.iter.known_entry.Goals as goal
 

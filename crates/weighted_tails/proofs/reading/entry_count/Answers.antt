@@ -1,4 +1,4 @@
-use Rattle.std.proofs.Common.{◌≡◌, ℕ, ◌+◌, ◌<◌, ◌≤◌, ℤ, List, length, ap, arith, rules}
+use Rattle.std.proofs.Common.{ℕ, ◌<◌, ℤ, length, ap, arith, rules}
 use Rattle.weighted_tails.proofs.Lists.{begins_decoded, step, step_back, known_begin}
 use Rattle.weighted_tails.proofs.EntryNumbers.{fewer_left}
 use Rattle.weighted_tails.proofs.reading.entry_count.Goals as goal

@@ -1,8 +1,6 @@
-use Rattle.std.proofs.Common.{◌≡◌, ◌≢◌, ℕ, ◌+◌, ◌/◌, ◌%◌, ◌^◌, ◌<◌, ◌≤◌, ℤ, pos, false, inl, inr, to_z, of_z, w64, List, refl, sym, ◌∙◌, ap, subst, arith, rules}
-use Rattle.weighted_tails.specs.Spelling.{is_one}
+use Rattle.std.proofs.Common.{◌≡◌, ◌≢◌, ℕ, ◌%◌, pos, to_z, of_z, w64, ap, arith, rules}
 use Rattle.weighted_tails.specs.inside.Decoding.{number_weight}
-use Rattle.weighted_tails.specs.inside.Reading.{BeginsWith, BeginsWithEntry}
-use Rattle.weighted_tails.proofs.EntryNumbers.{HasNumbers, has_numbers, same_begin, same_end, entry_of_one, entry_of_two, too_large, second_number, spelled_one, not_one}
+use Rattle.weighted_tails.proofs.EntryNumbers.{has_numbers, entry_of_two, too_large, second_number, spelled_one, not_one}
 use Rattle.weighted_tails.proofs.reading.read_entry.Goals as goal
 
 odd : (n : ℕ) → n % 2 ≢ 0 → n % 2 ≡ 1

@@ -1,6 +1,5 @@
 use Rattle.std.proofs.Common.{◌≡◌, ℕ, ◌+◌, ◌-◌, ◌*◌, ◌^◌, ◌<◌, ◌≤◌, ◌⊎◌, inl, inr, List, [], ◌∷◌, length, refl, sym, ◌∙◌, ap, subst, arith, rules}
 use Rattle.std.proofs.Math.Nat.{mul-le-mul_left}
-use Rattle.weighted_tails.specs.inside.Reading.{BeginsWith}
 use Rattle.weighted_tails.proofs.Continuing.{Continues, Ends, continues_end, continued_end, continues, continued, continues_room, continues_none}
 use Rattle.weighted_tails.proofs.reading.read_number.Goals as goal
 use Rattle.weighted_tails.proofs.reading.read_number.Goals.{else-place-gt1-via-then-place-gt1+else-byte-eq0, else-place-gt1-via-else-place-gt1}

@@ -1,5 +1,5 @@
-use Rattle.std.proofs.Common.{◌≡◌, ◌≢◌, ℕ, ◌+◌, ◌*◌, ◌^◌, ◌<◌, ◌≤◌, ℤ, true, false, List, ◌++◌, take, refl, sym, ◌∙◌, ap, append_assoc, arith, rules}
-use Rattle.weighted_tails.specs.Spelling.{is_one, weight_number}
+use Rattle.std.proofs.Common.{◌≡◌, ◌≢◌, ℕ, ◌+◌, ◌*◌, ◌^◌, ◌<◌, ℤ, ◌++◌, take, refl, sym, ◌∙◌, ap, append_assoc, arith, rules}
+use Rattle.weighted_tails.specs.Spelling.{weight_number}
 use Rattle.weighted_tails.specs.inside.Writing.{Fits, entry_room}
 use Rattle.weighted_tails.proofs.Numbers.{one_number}
 use Rattle.weighted_tails.proofs.EntryNumbers.{is_one_by, is_other_by}

@@ -1,4 +1,4 @@
-use Rattle.std.proofs.Common.{◌≡◌, ℕ, ◌-◌, ◌≤◌, ℤ, None, Some, List, length, take, drop, sym, ◌∙◌, ap, arith}
+use Rattle.std.proofs.Common.{◌-◌, None, Some, length, take, drop, sym, ◌∙◌, ap, arith}
 use Rattle.std.specs.List.{zip}
 use Rattle.std.proofs.lemmas.List.{take_rest}
 use Rattle.weighted_tails.specs.Columns.{entries_in}

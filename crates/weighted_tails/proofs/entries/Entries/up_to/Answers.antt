@@ -1,5 +1,4 @@
-use Rattle.std.proofs.Common.{◌≡◌, ℕ, ◌≤◌, ℤ, None, Some, List, length, take, sym, ◌∙◌, ap, arith}
-use Rattle.std.specs.List.{zip}
+use Rattle.std.proofs.Common.{None, Some, take, sym, ◌∙◌, ap, arith}
 use Rattle.weighted_tails.proofs.Columns.{keys_long, seen_zip, seen_ones, take_in}
 use Rattle.weighted_tails.proofs.entries.Entries.up_to.Goals as goal
 

@@ -1,5 +1,4 @@
-use Rattle.std.proofs.Common.{◌≡◌, ℕ, ◌<◌, ℤ, pos, None, List, length, get_or, sym, ◌∙◌, ap, arith, rules}
-use Rattle.weighted_tails.specs.Columns.{entries_in}
+use Rattle.std.proofs.Common.{ℕ, ◌<◌, ℤ, pos, List, length, get_or, sym, ◌∙◌, ap, arith, rules}
 use Rattle.weighted_tails.proofs.Columns.{keys_long, weights_long, some_long, seen_zip, seen_ones, weight_one, weight_in}
 use Rattle.weighted_tails.proofs.entries.Entries.weight.Goals as goal
 

@@ -1,5 +1,5 @@
-use Rattle.std.proofs.Common.{◌≡◌, ℕ, ◌+◌, ◌/◌, ◌%◌, ◌<◌, ◌≤◌, pos, List, ◌∷◌, arith, rules}
-use Rattle.weighted_tails.proofs.Lists.{begins_decoded, step}
+use Rattle.std.proofs.Common.{◌≡◌, ◌+◌, ◌/◌, pos, ◌∷◌, arith, rules}
+use Rattle.weighted_tails.proofs.Lists.{step}
 use Rattle.weighted_tails.proofs.EntryNumbers.{small_entry}
 use Rattle.weighted_tails.proofs.iter.TailIterIterator.next.Goals as goal
 
