@@ -1,5 +1,5 @@
-//! Bytes of tails.
-use crate::Tail;
+//! Bytes of tails, lists that are put together in them, and blocks of keys.
+use crate::{Tail, append_entry};
 use std::alloc::Global;
 use std::test::Fail;
 
@@ -106,4 +106,38 @@ fn spelling_count(alloc: Global, len: usize) -> u32 {
         }
     }
     count
+}
+
+#[test]
+fn puts_a_list_together_in_its_bytes(rt: HostRuntime) -> Result<(), Fail> {
+    let whole = Tail::encode(rt.alloc(), None, &[(1, 1), (3, -2), (7, 5)])?;
+    let rest = Tail::encode(rt.alloc(), Some(3), &[(7, 5)])?;
+    let cut = whole.cut(rt.alloc(), 3)?;
+    let distance = 3u64.saturating_sub(cut.below.least_after());
+    let mut bytes = Vec::new(rt.alloc());
+    bytes.extend_from_slice(cut.below.bytes())?;
+    append_entry(&mut bytes, distance, cut.found.unwrap_or(1))?;
+    bytes.extend_from_slice(rest.bytes())?;
+    assert!(rt;
+        bytes.as_slice() == whole.bytes(),
+        "the bytes of a list cut at 3"
+    );
+    assert!(rt; cut.above.iter().eq(rest.iter()), "what is above 3");
+    Ok(())
+}
+
+#[test]
+fn fills_blocks_with_keys(rt: HostRuntime) -> Result<(), Fail> {
+    let tail = Tail::encode(rt.alloc(), Some(4), &[(5, 2), (6, 1), (9, -1)])?;
+    let mut entries = tail.iter();
+    let mut block = [0; 2];
+    assert!(rt;
+        entries.fill(&mut block) == 2 && block == [5, 6],
+        "a whole block"
+    );
+    assert!(rt;
+        entries.fill(&mut block) == 1 && block == [9, 6],
+        "the last key"
+    );
+    Ok(())
 }
