@@ -4,7 +4,8 @@ use Rattle.std.specs.List.{zip}
 use Rattle.std.specs.Map.{keys_of}
 use Rattle.std.proofs.Math.Seq.{take-append_seam}
 use Rattle.std.proofs.lemmas.Bool.{cases_Bool}
-use Rattle.std.proofs.lemmas.List.{append-nil, take_more}
+use Rattle.std.proofs.lemmas.List.{append-nil, take_all, take_more}
+use Rattle.std.proofs.lemmas.Slice.Zip.{length-zip}
 use Rattle.ascending_lists.specs.Ascending.{AscendsFrom}
 use Rattle.ascending_lists.proofs.Ascending.{ascends_from, ascends_room}
 use Rattle.weighted_tails.specs.Appending.{least_after}
@@ -115,3 +116,12 @@ pub columns_anew : (m n : ℕ) (keys old : List ℕ) (weights old' : List ℤ) �
 columns_anew m n keys old weights old' e e' =
     ap (λ v. zip v (take n (weights ++ drop (length weights) old'))) (written_anew m keys old e)
     ∙ ap (λ v. zip keys v) (written_anew n weights old' e')
+
+-- two columns into which entries were read, and then others after them
+pub columns_joined : (p q : ℕ) (keys keys' all : List ℕ) (weights weights' all' : List ℤ) (es fs : List (ℕ × ℤ)) → keys' ≡ keys → weights' ≡ weights → take p (zip keys weights) ≡ es → take q (zip all all') ≡ take p (zip keys' weights') ++ fs → length all ≤ q → zip all all' ≡ es ++ fs
+columns_joined p q keys keys' all weights weights' all' es fs same same' first second le =
+    sym (take_all q (zip all all') (omega (arith, length-zip all all', le)))
+    ∙ second
+    ∙ ap (λ v. take p (zip v weights') ++ fs) same
+    ∙ ap (λ v. take p (zip keys v) ++ fs) same'
+    ∙ ap (λ v. v ++ fs) first
