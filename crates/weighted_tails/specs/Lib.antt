@@ -1,0 +1,7 @@
+pub mod Columns
+pub mod EntryCuts
+pub mod Spelling
+pub mod Outcome
+pub mod Refusal
+pub mod Appending
+pub mod inside

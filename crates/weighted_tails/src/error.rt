@@ -1,0 +1,46 @@
+ghost use Rattle.std.specs.Prelude.{◌≡◌};
+ghost use Rattle.weighted_tails.specs.declared.error.TailError.TheVariants.{NoMemory};
+ghost use Rattle.weighted_tails.specs.Refusal.{number_of};
+
+use std::alloc::{AllocError, AllocFailed};
+use thiserror::Error;
+
+/// Why a tail was not made.
+#[derive(Clone, Copy, Debug, PartialEq, Eq, Error)]
+pub enum TailError {
+    #[error("the numbers do not ascend from the base")]
+    NotAscending,
+    #[error("the bytes spell no list")]
+    BadTail,
+    #[error("out of memory")]
+    NoMemory,
+}
+
+impl TailError {
+    /// The number by which scripts and users know the refusal: 101, 102 or 900.
+    pub fn number(self) -> u16
+        ensures { result ≡ number_of self }
+    {
+        match self {
+            TailError::NotAscending => 101,
+            TailError::BadTail => 102,
+            TailError::NoMemory => 900,
+        }
+    }
+}
+
+impl From<AllocError> for TailError {
+    ghost from_gives = { λ _ e. e ≡ NoMemory };
+
+    fn from(_error: AllocError) -> TailError {
+        TailError::NoMemory
+    }
+}
+
+impl<T: Drop> From<AllocFailed<T>> for TailError {
+    ghost from_gives = { λ _ e. e ≡ NoMemory };
+
+    fn from(_error: AllocFailed<T>) -> TailError {
+        TailError::NoMemory
+    }
+}

@@ -1,0 +1,143 @@
+//! Bytes of tails, lists that are put together in them, and blocks of keys.
+use crate::{Tail, append_entry};
+use std::alloc::Global;
+use std::test::Fail;
+
+// A base, entries above it, and the bytes that spell them.
+type Spelling = (Option<u32>, &'static [(u32, i64)], &'static [u8]);
+
+const SPELLINGS: [Spelling; 18] = [
+    (
+        None,
+        &[(300, 1), (301, 1), (429, 1)],
+        b"\xd8\x04\x00\xfe\x01",
+    ),
+    (None, &[(301, 1), (430, 1)], b"\xda\x04\x80\x02"),
+    (None, &[(5, -3)], b"\x0b\x05"),
+    (None, &[(0, 0)], b"\x01\x00"),
+    (None, &[(1, 1), (3, 1)], b"\x02\x02"),
+    (None, &[(4_294_967_295, 1)], b"\xfe\xff\xff\xff\x1f"),
+    (Some(4_294_967_294), &[(4_294_967_295, 0)], b"\x01\x00"),
+    (Some(4_294_967_294), &[(4_294_967_295, 1)], b"\x00"),
+    (None, &[(0, 2), (1, 1), (2, -1)], b"\x01\x04\x00\x01\x01"),
+    (
+        None,
+        &[(0, 9_223_372_036_854_775_807)],
+        b"\x01\xfe\xff\xff\xff\xff\xff\xff\xff\xff\x01",
+    ),
+    (
+        None,
+        &[(0, -9_223_372_036_854_775_808)],
+        b"\x01\xff\xff\xff\xff\xff\xff\xff\xff\xff\x01",
+    ),
+    (
+        None,
+        &[(4_294_967_295, -9_223_372_036_854_775_808)],
+        b"\xff\xff\xff\xff\x1f\xff\xff\xff\xff\xff\xff\xff\xff\xff\x01",
+    ),
+    (Some(10), &[(11, 7)], b"\x01\x0e"),
+    (None, &[(63, 1)], b"\x7e"),
+    (None, &[(64, 1)], b"\x80\x01"),
+    (None, &[(0, 63), (1, -64)], b"\x01\x7e\x01\x7f"),
+    (None, &[(0, 64), (1, -65)], b"\x01\x80\x01\x01\x81\x01"),
+    (None, &[], b""),
+];
+
+#[test]
+fn spells_lists(rt: HostRuntime) -> Result<(), Fail> {
+    for spelling in &SPELLINGS {
+        assert!(rt; is_spelled(rt.alloc(), *spelling)?, "{spelling:?}");
+    }
+    Ok(())
+}
+
+// Whether the entries have these bytes, and the bytes these entries.
+fn is_spelled(alloc: Global, (base, list, bytes): Spelling) -> Result<bool, Fail> {
+    let made = Tail::encode(alloc, base, list)?.bytes() == bytes;
+    let read = Tail::from_bytes(alloc, base, bytes)?.share()?;
+    Ok(made && read.iter().eq(list.iter().copied()))
+}
+
+// A base, and bytes that spell no list over it.
+const REFUSED: [(Option<u32>, &[u8]); 9] = [
+    (None, b"\x01\x02"),
+    (None, b"\x80\x80\x80\x80\x20"),
+    (None, b"\x01"),
+    (None, b"\x01\x80"),
+    (None, b"\x81\x00"),
+    (None, b"\x01\x80\x00"),
+    (None, b"\xff\xff\xff\xff\x3f\x00"),
+    (None, b"\x01\xff\xff\xff\xff\xff\xff\xff\xff\xff\x02"),
+    (Some(4_294_967_295), b"\x00"),
+];
+
+#[test]
+fn refuses_other_bytes(rt: HostRuntime) -> Result<(), Fail> {
+    for (base, bytes) in &REFUSED {
+        assert!(rt;
+            Tail::from_bytes(rt.alloc(), *base, bytes).is_err(),
+            "{bytes:?}"
+        );
+    }
+    Ok(())
+}
+
+// How many strings of so many bytes spell a list over no base.
+const COUNTS: [(usize, u32); 3] = [(0, 1), (1, 64), (2, 20_352)];
+
+#[test]
+fn reads_so_many_strings(rt: HostRuntime) -> Result<(), Fail> {
+    for (len, count) in COUNTS {
+        assert!(rt;
+            spelling_count(rt.alloc(), len) == count,
+            "strings of {len} bytes"
+        );
+    }
+    Ok(())
+}
+
+// How many strings of at most three bytes, so many of them, spell a list.
+fn spelling_count(alloc: Global, len: usize) -> u32 {
+    let mut count = 0u32;
+    for number in 0..1u32 << (8 * len.min(3)) {
+        let bytes = number.to_le_bytes();
+        if Tail::from_bytes(alloc, None, &bytes[..len.min(3)]).is_ok() {
+            count = count.wrapping_add(1);
+        }
+    }
+    count
+}
+
+#[test]
+fn puts_a_list_together_in_its_bytes(rt: HostRuntime) -> Result<(), Fail> {
+    let whole = Tail::encode(rt.alloc(), None, &[(1, 1), (3, -2), (7, 5)])?;
+    let rest = Tail::encode(rt.alloc(), Some(3), &[(7, 5)])?;
+    let cut = whole.cut(rt.alloc(), 3)?;
+    let distance = 3u64.saturating_sub(cut.below.least_after());
+    let mut bytes = Vec::new(rt.alloc());
+    bytes.extend_from_slice(cut.below.bytes())?;
+    append_entry(&mut bytes, distance, cut.found.unwrap_or(1))?;
+    bytes.extend_from_slice(rest.bytes())?;
+    assert!(rt;
+        bytes.as_slice() == whole.bytes(),
+        "the bytes of a list cut at 3"
+    );
+    assert!(rt; cut.above.iter().eq(rest.iter()), "what is above 3");
+    Ok(())
+}
+
+#[test]
+fn fills_blocks_with_keys(rt: HostRuntime) -> Result<(), Fail> {
+    let tail = Tail::encode(rt.alloc(), Some(4), &[(5, 2), (6, 1), (9, -1)])?;
+    let mut entries = tail.iter();
+    let mut block = [0; 2];
+    assert!(rt;
+        entries.fill(&mut block) == 2 && block == [5, 6],
+        "a whole block"
+    );
+    assert!(rt;
+        entries.fill(&mut block) == 1 && block == [9, 6],
+        "the last key"
+    );
+    Ok(())
+}

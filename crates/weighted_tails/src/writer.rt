@@ -1,0 +1,129 @@
+//! Tails that are written one after another.
+
+ghost use Rattle.std.specs.Prelude.{◌≡◌, ◌+◌, ◌*◌, ◌^◌, ◌<◌, ◌≤◌, ℕ, length, IfOk};
+ghost use Rattle.std.specs.Map.{keys_of};
+ghost use Rattle.ascending_lists.specs.Ascending.{Ascends, AscendsFrom};
+ghost use Rattle.weighted_tails.specs.Appending.{IsAppended};
+ghost use Rattle.weighted_tails.specs.Spelling.{SpellsNumbers, entry_numbers, based_list};
+ghost use Rattle.weighted_tails.specs.inside.Writing.{
+  Fits,
+  WritesNumber,
+  WritesEntry,
+  WritesList,
+  entry_room,
+};
+
+use crate::base::least_over;
+use crate::entries::Entries;
+use crate::tail::Tail;
+use crate::weight::{ONE, number_of_weight};
+use std::alloc::{AllocError, Global};
+
+/// How many bytes an entry may have.
+const MAX_BYTES: usize = 15;
+
+/// Writes tails of entries, one after another, and keeps its buffer.
+pub struct TailWriter {
+    buffer: Vec<u8>,
+}
+
+// By hand, as that of a tail.
+impl Drop for TailWriter {
+    fn drop(self) {
+        let TailWriter { buffer: _ } = self;
+    }
+}
+
+impl TailWriter {
+    /// A writer that has written no tail. It takes no memory.
+    pub fn new(alloc: Global) -> TailWriter {
+        TailWriter {
+            buffer: Vec::new(alloc),
+        }
+    }
+
+    /// The tail of entries whose keys ascend strictly from the base. Takes time in proportion to them.
+    ///
+    /// The only error is out of memory.
+    pub fn write(
+        &mut self,
+        alloc: Global,
+        base: Option<u32>,
+        entries: &Entries<'_>,
+    ) -> Result<Tail, AllocError>
+        requires { Ascends base (keys_of entries.now) }
+        ensures { IfOk result (λ t. t ≡ based_list base entries.now) }
+    {
+        let room = entries.len().saturating_mul(MAX_BYTES);
+        if self.buffer.len() < room {
+            self.buffer.resize(room, 0)?;
+        }
+        let buffer: &mut [u8] = &mut self.buffer;
+        let len = write_list(least_over(base), entries, buffer);
+        Tail::from_spelling(alloc, base, entries.len(), &buffer[..len])
+    }
+}
+
+/// Writes the bytes of an entry behind other bytes, where its key is `distance` above the least that
+/// might stand there.
+///
+/// The only error is out of memory, and then a part of its bytes may stand behind the others.
+#[inline]
+pub fn append_entry(bytes: &mut Vec<u8>, distance: u64, weight: i64) -> Result<(), AllocError>
+    requires { distance < 2 ^ 32 }
+    ensures { IsAppended bytes.old.items result
+        (λ _. SpellsNumbers (entry_numbers distance weight)) bytes.new.items }
+{
+    let mut buffer = [0; MAX_BYTES];
+    let len = write_entry(distance, weight, &mut buffer, 0);
+    bytes.extend_from_slice(&buffer[..len])
+}
+
+/// Writes the bytes of entries into the front of a buffer, and gives their number.
+fn write_list(low: u64, entries: &Entries<'_>, buffer: &mut [u8]) -> usize
+    requires ascending { AscendsFrom low (keys_of entries.now) }
+    requires room { length entries.now * MAX_BYTES ≤ length buffer.old }
+    ensures { WritesList low entries.now buffer.new result }
+{
+    let mut low = low;
+    let mut len = 0usize;
+    let keys = entries.keys();
+    for place in 0..keys.len() {
+        let key = u64::from(keys[place]);
+        len = write_entry(key - low, entries.weight(place), buffer, len);
+        low = key + 1;
+    }
+    len
+}
+
+/// Writes the bytes of an entry into a buffer from a place on, and gives the place after them.
+#[inline]
+fn write_entry(distance: u64, weight: i64, buffer: &mut [u8], place: usize) -> usize
+    requires small { distance < 2 ^ 32 }
+    requires room { place + entry_room weight ≤ length buffer.old }
+    ensures { WritesEntry distance weight place buffer.old result buffer.new }
+{
+    let number = number_of_weight(weight);
+    if number == ONE {
+        return write_number(2 * distance, buffer, place);
+    }
+    let place = write_number(2 * distance + 1, buffer, place);
+    write_number(number, buffer, place)
+}
+
+/// Writes the bytes of a number into a buffer from a place on, and gives the place after them.
+#[inline(always)]
+fn write_number(number: u64, buffer: &mut [u8], place: usize) -> usize
+    requires { (n : ℕ) × Fits number n × (place + n ≤ length buffer.old) }
+    ensures { WritesNumber number place buffer.old result buffer.new }
+{
+    let mut rest = number;
+    let mut place = place;
+    while rest >= 128 {
+        buffer[place] = (128 + rest % 128) as u8;
+        place += 1;
+        rest /= 128;
+    }
+    buffer[place] = rest as u8;
+    place + 1
+}
