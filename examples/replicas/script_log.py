@@ -61,12 +61,16 @@ class Peer:
         self.lines = self.socket.makefile("rw")
 
     def ask(self, wanted):
-        self.lines.write(json.dumps(wanted) + "\n")
+        return json.loads(self.pass_on(json.dumps(wanted) + "\n"))
+
+    def pass_on(self, line):
+        """Sends a line, and returns the line that answers it."""
+        self.lines.write(line)
         self.lines.flush()
         answer = self.lines.readline()
         if not answer:
             raise ConnectionError("the other side has gone")
-        return json.loads(answer)
+        return answer
 
     def close(self):
         self.lines.close()
