@@ -1,5 +1,6 @@
 -- What statements of main do, and the state before the first one.
 use Rattle.std.specs.Prelude.{ℕ, suc, ℤ, pos, if◌then◌else◌, ◌==◌, List, [], ◌∷◌, map, replicate}
+use Rattle.edge_lists.specs.Edge.{Edge}
 use Rattle.typed_tree.specs.declared.program.InitialValue.{InitialValue}
 use Rattle.typed_tree.specs.declared.program.InitialValue.TheVariants as beginning
 use Rattle.typed_tree.specs.BlockTree.{ActionTree, DeclareInteger, DeclareCondition, SetInteger, SetCondition, ReduceInteger, SetEntry, ReduceEntry, DeclareSet, AssignSet, AddVertex, PrintInteger, PrintCondition, ApplyVertex, ApplyEdges, If, IfElse, While, For, BlockTree, Empty, Then}
@@ -48,7 +49,7 @@ abbrev mutual
   after_all p g (Then number label action rest) s = then_do (after p g number action s) (after_all p g rest)
 
 -- how many of these edges leave a vertex
-abbrev pub out_degree : ℕ → List (ℕ × ℕ) → ℕ
+abbrev pub out_degree : ℕ → List Edge → ℕ
 out_degree v [] = 0
 out_degree v (edge ∷ edges) = if edge.0 == v then suc (out_degree v edges) else out_degree v edges
 

@@ -44,17 +44,13 @@ abbrev pub is_vertex : ℕ → ℤ → Bool
 is_vertex vertices (pos n) = nat_lt n vertices
 is_vertex vertices (negsuc n) = false
 
--- the weight of each edge of the store
-abbrev pub unit_weight : ℤ
-unit_weight = pos 1
-
 -- the value of an expression of type int; the size of a set counts as an int
 abbrev pub value : List (List ℤ) → List SetBinding → ScopeValue → IntegerTree → ℤ
 value vectors sets scope (integer.Number n) = n
 value vectors sets scope (integer.Constant name n) = n
 value vectors sets scope (integer.Variable slot) = slice_index_or scope.integers slot.place (pos 0)
 value vectors sets scope (integer.Parameter at) = pos (vertex_at scope at)
-value vectors sets scope integer.Weight = unit_weight
+value vectors sets scope integer.Weight = scope.weight
 value vectors sets scope (integer.EntryAt vector at) = entry vectors vector (vertex_at scope at)
 value vectors sets scope (integer.Entry vector index) = entry_at vectors vector (value vectors sets scope index)
 value vectors sets scope (integer.SetSize slot) = cast_signed w64 (length (members_of (slice_get sets slot.place)))

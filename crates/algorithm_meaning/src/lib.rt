@@ -34,4 +34,4 @@ pub use laws::{
     vertex_applies_leave_others,
 };
 pub use outcome::{End, NamedSet, NamedVector, Outcome};
-pub use state::{Depth, LoopCounter, SetBinding, UNIT_WEIGHT};
+pub use state::{Depth, LoopCounter, SetBinding};

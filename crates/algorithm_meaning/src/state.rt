@@ -1,9 +1,6 @@
 //! State of `main`: what a run keeps, as data that the definitions speak of.
 use typed_tree::Sequence;
 
-/// The weight of each edge of the store.
-pub const UNIT_WEIGHT: i64 = 1;
-
 /// A vertex set of `main`: the place of its name in the program's names, and its members, ascending.
 #[derive(Drop)]
 pub struct SetBinding {

@@ -20,6 +20,7 @@ use Rattle.plans.specs.Laws.{for_vector}
 use Rattle.schedule.specs.Access.{is_none_of, are_apart, step_writes, steps_write}
 use Rattle.schedule.specs.ScheduleTree.{ScheduleTree}
 use Rattle.std.proofs.lemmas.Bool.{and_parts}
+use Rattle.edge_lists.specs.Edge.{Edge}
 use Rattle.plans.specs.Instruction.{OperationTree, Do, ApplyEdgesTogether, ApplyVerticesTogether, Unless, Enter, UnlessBelow, Advance, Turn, Jump, End}
 use Rattle.plans.specs.Plan.{plan_of}
 use Rattle.plans.specs.Fused.{FitTogether}
@@ -75,7 +76,7 @@ module _ (P : ℕ → Reduction → Type 0) (sets : List SetBinding) (writing : 
         steps_give rest (after_step writing sets step w) (λ vector by is. such vector by (inr is)) (step_gives step w (λ vector by is. such vector by (inl is)) h)
 
 -- an edge function gives a vector numbers only as it reduces it
-gives_reduced : (steps : StepsTree) (sets : List SetBinding) (before : List (List ℤ)) (edge : ℕ × ℕ) → AreGiven (λ vector by. StepsReduce vector by steps) (gives steps sets before edge)
+gives_reduced : (steps : StepsTree) (sets : List SetBinding) (before : List (List ℤ)) (edge : Edge) → AreGiven (λ vector by. StepsReduce vector by steps) (gives steps sets before edge)
 gives_reduced steps sets before edge =
     steps_give (λ vector by. StepsReduce vector by steps) sets _ (λ vector n w. refl) (λ vector r n w. refl) steps (first_work before (edge_scope edge)) (λ vector by is. is) tt
 
@@ -170,7 +171,7 @@ both_alone_by f g vector one other apart (inr none) =
     (second.0, (λ by is. absurd (none by is), second.1))
 
 -- so are the numbers that it gives
-gives_alone : (f : StepsTree) (vector : ℕ) (r : Reduction) → IsAlone f vector r → (sets : List SetBinding) (before : List (List ℤ)) (edge : ℕ × ℕ)
+gives_alone : (f : StepsTree) (vector : ℕ) (r : Reduction) → IsAlone f vector r → (sets : List SetBinding) (before : List (List ℤ)) (edge : Edge)
     → AreGiven (λ v by. v ≡ vector → by ≡ r) (gives f sets before edge)
 gives_alone f vector r alone sets before edge =
     given_map (λ v by. StepsReduce v by f) (λ v by. v ≡ vector → by ≡ r) (gives f sets before edge)

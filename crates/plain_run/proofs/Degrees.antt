@@ -4,6 +4,7 @@ use Rattle.std.proofs.lemmas.Bool.Decides.{nat_tests}
 use Rattle.std.proofs.lemmas.Int.{int_wrap-add_left}
 use Rattle.std.specs.Int.{int_wrap}
 use Rattle.std.specs.List.{range_with_len}
+use Rattle.edge_lists.specs.Edge.{Edge}
 use Rattle.algorithm_meaning.specs.Arithmetic.{wrapped}
 use Rattle.plain_run.specs.Degrees.{counted}
 use Rattle.algorithm_meaning.specs.Meaning.{out_degree}
@@ -54,7 +55,7 @@ either_count : (b : Bool) (m d : ℕ) → cond b (suc m) m + d ≡ m + cond b (s
 either_count true m d = omega arith
 either_count false m d = refl
 
-counted_from : (edges : List (ℕ × ℕ)) (count : ℕ → ℕ) (n : ℕ) → counted edges (degrees count 0 n) ≡ degrees (λ v. count v + out_degree v edges) 0 n
+counted_from : (edges : List Edge) (count : ℕ → ℕ) (n : ℕ) → counted edges (degrees count 0 n) ≡ degrees (λ v. count v + out_degree v edges) 0 n
 counted_from [] count n = degrees_same count (λ v. count v + 0) (λ v. omega arith) 0 n
 counted_from (edge ∷ edges) count n =
     ap (counted edges) (once count edge.0 0 n)
@@ -71,6 +72,6 @@ zeros a zero = refl
 zeros a (suc n) = ap (λ (xs : List ℤ). pos 0 ∷ xs) (zeros (a + 1) n) ∙ ap (λ (z : ℤ). z ∷ degrees (λ v. 0) (a + 1) n) zero_wrapped
 
 -- from zeros, each edge counted at its source
-pub counted_zeros : (edges : List (ℕ × ℕ)) (n : ℕ) → counted edges (replicate n (pos 0)) ≡ map (λ v. wrapped (pos (out_degree v edges))) (range_with_len 0 n)
+pub counted_zeros : (edges : List Edge) (n : ℕ) → counted edges (replicate n (pos 0)) ≡ map (λ v. wrapped (pos (out_degree v edges))) (range_with_len 0 n)
 counted_zeros edges n =
     ap (counted edges) (zeros 0 n) ∙ counted_from edges (λ v. 0) n ∙ degrees_same (λ v. 0 + out_degree v edges) (λ v. out_degree v edges) (λ v. omega arith) 0 n

@@ -17,7 +17,7 @@ abbrev pub graph_of : EdgeList → GraphValue
 graph_of g = record { vertices = g.vertices; edges = g.edges.now }
 
 abbrev pub scope_of : Environment → ScopeValue
-scope_of s = record { integers = s.integers.items; conditions = s.conditions.items; source = s.source; destination = s.destination }
+scope_of s = record { integers = s.integers.items; conditions = s.conditions.items; source = s.source; destination = s.destination; weight = s.weight }
 
 abbrev pub state_of : InterpreterState → StateValue
 state_of s = record { vectors = s.vectors.items; sets = s.sets.items; scope = scope_of s.scope; text = s.text.items; turns = s.turns }

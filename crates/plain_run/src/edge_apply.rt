@@ -73,7 +73,7 @@ fn run_for_edges(
     alloc: Global,
     steps: &[FunctionStatement],
     passing: &Passing,
-    edges: &[(u32, u32)],
+    edges: &[(u32, u32, i64)],
     sets: &[SetBinding],
     before: &mut Vec<Sequence<i64>>,
     after: &mut Vec<Sequence<i64>>,
@@ -90,7 +90,7 @@ fn run_for_edges(
     Ok(())
 }
 
-fn passes(passing: &Passing, edge: (u32, u32)) -> bool
+fn passes(passing: &Passing, edge: (u32, u32, i64)) -> bool
     ensures { result ≡ flagged passing.now edge }
 {
     flag_at(&passing.sources, edge.0) && flag_at(&passing.destinations, edge.1)
@@ -108,7 +108,7 @@ fn flag_at(flags: &[bool], vertex: u32) -> bool
 fn run_for_edge(
     steps: &[FunctionStatement],
     sets: &[SetBinding],
-    edge: (u32, u32),
+    edge: (u32, u32, i64),
     before: &mut Vec<Sequence<i64>>,
     after: &mut Vec<Sequence<i64>>,
     frame: &mut FunctionFrame,
@@ -116,7 +116,7 @@ fn run_for_edge(
     ensures after { OnOk result (after.new.items ≡ with_given edge.1 (gives (steps_tree steps.now) sets.now before.old.items edge) after.old.items) }
     ensures before { OnOk result (before.new.items ≡ before.old.items) }
 {
-    begin(frame, edge.0, edge.1);
+    begin(frame, edge.0, edge.1, edge.2);
     run_steps(steps, Writing::Collected, sets, before, frame)?;
     put_given(&frame.given, edge.1, after);
     Ok(())

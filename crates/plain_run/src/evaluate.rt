@@ -12,7 +12,7 @@ ghost use Rattle.plain_run.specs.Seen.{scope_of};
 ghost use Rattle.algorithm_meaning.specs.Value.{condition_stays_inside, entry, entry_at, is_vertex, members_of, stays_inside, truth, value, vertex_at};
 
 use crate::state::Environment;
-use algorithm_meaning::{SetBinding, UNIT_WEIGHT, arithmetic_of, compare, connect, negate};
+use algorithm_meaning::{SetBinding, arithmetic_of, compare, connect, negate};
 use typed_tree::{BoolExpression, Connective, Endpoint, IntExpression, Operand, Sequence};
 
 /// The number that an expression comes to.
@@ -53,7 +53,7 @@ fn total_of(
             number: i64::from(endpoint(scope, *at)),
         },
         IntExpression::Weight => Total {
-            number: UNIT_WEIGHT,
+            number: scope.weight,
         },
         IntExpression::EntryAt(vector, at) => Total {
             number: entry_of(vectors, *vector, endpoint(scope, *at) as usize),

@@ -8,6 +8,7 @@ ghost use Rattle.plain_run.specs.Seen.{graph_of, state_of};
 
 use crate::state::{EdgeList, Environment, InterpreterState};
 use algorithm_meaning::{SetBinding, arithmetic_of};
+use edge_lists::UNIT_WEIGHT;
 use std::alloc::{AllocError, Global};
 use typed_tree::{InitialValue, Operator, Sequence, Typed, Vector};
 
@@ -28,6 +29,7 @@ pub(crate) fn open(
             conditions: Vec::new(alloc),
             source: 0,
             destination: 0,
+            weight: UNIT_WEIGHT,
         },
         text: Vec::new(alloc),
         turns,
@@ -76,7 +78,7 @@ fn zeros(alloc: Global, vertices: u32) -> Result<Vec<i64>, AllocError>
 }
 
 /// Counts each edge at its source.
-fn count_sources(edges: &[(u32, u32)], degrees: &mut Vec<i64>)
+fn count_sources(edges: &[(u32, u32, i64)], degrees: &mut Vec<i64>)
     ensures { degrees.new.items ≡ counted edges.now degrees.old.items }
 {
     'edges: for edge in edges {

@@ -29,14 +29,15 @@ use typed_tree::{ApplyEnds, BoolExpression, MainStatement, StatementKind, Typed}
 
 /// Runs a program on a graph, whose vertices are the numbers below `vertices`, and gives what it means:
 /// it goes over the trees, one statement after the other, and is slow. The loops of the program make at
-/// most `turns` turns in all. The caller sees to it that the edges ascend and name vertices.
+/// most `turns` turns in all. The caller sees to it that the edges, each its source, its
+/// destination and its weight, ascend and name vertices.
 ///
 /// The only error is out of memory.
 pub fn plain_run(
     alloc: Global,
     program: &Typed,
     vertices: u32,
-    edges: &[(u32, u32)],
+    edges: &[(u32, u32, i64)],
     turns: u64,
 ) -> Result<Outcome, AllocError>
     ensures { IfOk result (λ o. o ≡ meaning (program_tree program.now) (record { vertices = vertices; edges = edges.now }) turns) }

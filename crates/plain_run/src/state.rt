@@ -6,16 +6,17 @@ use typed_tree::Sequence;
 #[derive(Clone, Copy, Debug)]
 pub(crate) struct EdgeList<'a> {
     pub(crate) vertices: u32,
-    pub(crate) edges: &'a [(u32, u32)],
+    pub(crate) edges: &'a [(u32, u32, i64)],
 }
 
-/// The variables that are visible, by their places, and the vertices that a function works on.
+/// The variables that are visible, by their places, and the vertices and the weight that a function works on.
 #[derive(Drop)]
 pub(crate) struct Environment {
     pub(crate) integers: Vec<i64>,
     pub(crate) conditions: Vec<bool>,
     pub(crate) source: u32,
     pub(crate) destination: u32,
+    pub(crate) weight: i64,
 }
 
 /// Where a run stands.

@@ -8,6 +8,7 @@ use crate::evaluate::members_at;
 use crate::function::{FunctionFrame, begin, new_frame, run_steps, steps_at};
 use crate::state::InterpreterState;
 use algorithm_meaning::{SetBinding, Writing};
+use edge_lists::UNIT_WEIGHT;
 use std::alloc::{AllocError, Global};
 use typed_tree::{Function, FunctionStatement, Sequence};
 
@@ -53,7 +54,7 @@ fn run_for_vertex(
 ) -> Result<(), AllocError>
     ensures { OnOk result (vectors.new.items ≡ after_vertex (steps_tree steps.now) sets.now vertex vectors.old.items) }
 {
-    begin(frame, vertex, vertex);
+    begin(frame, vertex, vertex, UNIT_WEIGHT);
     run_steps(steps, Writing::AtOnce, sets, vectors, frame)?;
     Ok(())
 }

@@ -18,6 +18,7 @@ use Rattle.algorithm_meaning.specs.Filter.{result_of}
 use Rattle.algorithm_meaning.specs.EdgeApply.{gives}
 use Rattle.typed_tree.specs.Access.{is_none_of, are_apart, integer_reads, condition_reads, step_uses, steps_use}
 use Rattle.std.proofs.lemmas.Bool.{and_parts}
+use Rattle.edge_lists.specs.Edge.{Edge}
 use Rattle.plans.specs.Fusing.{integer_sizes, condition_sizes, step_sizes, steps_sizes}
 use Rattle.algorithm_meaning.specs.declared.state.SetBinding.{SetBinding}
 
@@ -48,7 +49,7 @@ module _ (vectors places : List ℕ) (a b : List SetBinding) (sets_agree : SetsA
   value_beside v w h (integer.Constant name n) reads sizes = refl
   value_beside v w h (integer.Variable slot) reads sizes = ap (λ (s : ScopeValue). slice_index_or s.integers slot.place (pos 0)) h.scope
   value_beside v w h (integer.Parameter at) reads sizes = ap (λ (s : ScopeValue). pos (vertex_at s at)) h.scope
-  value_beside v w h integer.Weight reads sizes = refl
+  value_beside v w h integer.Weight reads sizes = ap (λ (s : ScopeValue). s.weight) h.scope
   value_beside v w h (integer.EntryAt vector at) reads sizes =
       let own = and_parts (is_none_of vector vectors) true reads in
       let row = h.rows vector own.0 in
@@ -174,7 +175,7 @@ module _ (vectors places : List ℕ) (a b : List SetBinding) (sets_agree : SetsA
 
 module _ (vectors places : List ℕ) (a b : List SetBinding) (sets_agree : SetsAgreeBut places a b) (steps : StepsTree) (xs ys : List (List ℤ)) (agree : AgreeBut vectors xs ys) (uses : are_apart (steps_use steps) vectors ≡ true) (sizes : are_apart (steps_sizes steps) places ≡ true) where
   -- an edge function gives the same
-  pub gives_same : (edge : ℕ × ℕ) → gives steps a xs edge ≡ gives steps b ys edge
+  pub gives_same : (edge : Edge) → gives steps a xs edge ≡ gives steps b ys edge
   gives_same edge = given_beside vectors places a b sets_agree _ (λ vector n w. refl) (λ vector r n w. refl) steps xs ys (edge_scope edge) agree uses sizes
 
   -- and a filter has the same result

@@ -8,6 +8,7 @@ use Rattle.algorithm_meaning.specs.Function.{steps_of}
 use Rattle.algorithm_meaning.specs.EdgeApply.{after_edge_apply, after_edges, matching, gives}
 use Rattle.typed_tree.specs.Access.{is_none_of, are_apart, end_reads, function_uses, function_writes, steps_use, steps_use_where, steps_write, steps_write_where}
 use Rattle.std.proofs.lemmas.Bool.{and_parts}
+use Rattle.edge_lists.specs.Edge.{Edge}
 use Rattle.algorithm_meaning.specs.declared.state.Depth.{Depth}
 use Rattle.plans.specs.Fusing.{EdgeApplyTree, result_places, result_vectors, end_sets, function_sizes, is_same_end, edges_fit}
 use Rattle.plans.specs.Machine.{with_result, after_parts}
@@ -70,7 +71,7 @@ module _ (p : ProgramTree) (g : GraphValue) (d : Depth) (x y : EdgeApplyTree) (s
   abbrev second : StepsTree
   second = steps_of (slice_get p.edge_functions y.part.function)
 
-  abbrev edges : List (ℕ × ℕ)
+  abbrev edges : List Edge
   edges = matching p.filters g s x.ends
 
   -- after the first, after the second, and after both together
@@ -107,7 +108,7 @@ module _ (p : ProgramTree) (g : GraphValue) (d : Depth) (x y : EdgeApplyTree) (s
   uses_apart : are_apart (steps_use second) (steps_write first) ≡ true
   uses_apart = ap (λ (xs : List ℕ). are_apart xs (steps_write first)) (uses_of (slice_get p.edge_functions y.part.function)) ∙ first_writes (function_uses p.edge_functions y.part.function) fit.uses
 
-  second_gives : (e : ℕ × ℕ) → gives second between.sets between.vectors e ≡ gives second s.sets s.vectors e
+  second_gives : (e : Edge) → gives second between.sets between.vectors e ≡ gives second s.sets s.vectors e
   second_gives e =
       sym (gives_same (steps_write first) (result_places d x.part.result) s.sets between.sets sets_between second s.vectors between.vectors rows_between uses_apart
       (ap (λ (xs : List ℕ). are_apart xs (result_places d x.part.result)) (sizes_of (slice_get p.edge_functions y.part.function)) ∙ fit.sizes) e)
@@ -117,7 +118,7 @@ module _ (p : ProgramTree) (g : GraphValue) (d : Depth) (x y : EdgeApplyTree) (s
 
   behind_second : after_edge_apply p.filters p.edge_functions g y.ends (y.part.function ∷ []) between ≡ behind_both
   behind_second =
-      ap (λ (es : List (ℕ × ℕ)). after_edges (second ∷ []) between.sets between.vectors es between.vectors) (sym same_edges)
+      ap (λ (es : List Edge). after_edges (second ∷ []) between.sets between.vectors es between.vectors) (sym same_edges)
       ∙ one_behind_other first second writes_apart s.sets between.sets s.vectors between.vectors edges second_gives vectors_between
 
   rows_first : AgreeBut (steps_write first) between.vectors s.vectors

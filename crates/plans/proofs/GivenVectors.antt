@@ -10,6 +10,7 @@ use Rattle.algorithm_meaning.specs.Function.{WorkValue, first_work, after_set, a
 use Rattle.algorithm_meaning.specs.EdgeApply.{gives}
 use Rattle.typed_tree.specs.Access.{is_none_of, integer_reads, condition_reads, step_uses, steps_use, step_writes, steps_write}
 use Rattle.std.proofs.lemmas.Bool.{and_parts}
+use Rattle.edge_lists.specs.Edge.{Edge}
 use Rattle.algorithm_meaning.specs.declared.state.SetBinding.{SetBinding}
 use Rattle.algorithm_meaning.specs.declared.contribution.Contribution.{Contribution}
 use Rattle.plans.proofs.Beside.{both_parts}
@@ -78,7 +79,7 @@ module _ (P : ℕ → Bool) (sets : List SetBinding) (writing : _) (sets_nothing
         steps_give rest (after_step writing sets step w) both.1 (step_gives step w both.0 h)
 
 -- an edge function gives numbers for the vectors that it writes
-pub gives_for : (P : ℕ → Bool) (steps : StepsTree) (sets : List SetBinding) (before : List (List ℤ)) (edge : ℕ × ℕ) → list_all P (steps_write steps) ≡ true → AreFor P (gives steps sets before edge)
+pub gives_for : (P : ℕ → Bool) (steps : StepsTree) (sets : List SetBinding) (before : List (List ℤ)) (edge : Edge) → list_all P (steps_write steps) ≡ true → AreFor P (gives steps sets before edge)
 gives_for P steps sets before edge writes = steps_give P sets _ (λ vector n w. refl) (λ vector r n w. refl) steps (first_work before (edge_scope edge)) writes tt
 
 none_from : (a b c : Bool) → not (a || b) ≡ true → (not b ≡ true → c ≡ true) → not a && c ≡ true

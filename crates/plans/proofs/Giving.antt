@@ -1,6 +1,7 @@
 -- Numbers that are given to the ends of edges, by two functions for vectors that differ.
 use Rattle.std.proofs.Common.{◌≡◌, ℕ, zero, suc, ◌==◌, ℤ, pos, true, false, not, List, [], ◌∷◌, ◌++◌, slice_index_or, slice_set, ap, sym, ◌∙◌, refl, arith}
 use Rattle.std.proofs.lemmas.Bool.Decides.{nat_tests}
+use Rattle.edge_lists.specs.Edge.{Edge}
 use Rattle.typed_tree.specs.StepTree.{StepsTree}
 use Rattle.algorithm_meaning.specs.Arithmetic.{reduced}
 use Rattle.algorithm_meaning.specs.Value.{reduce_at}
@@ -63,24 +64,24 @@ with_given-append v [] ds xs = refl
 with_given-append v (c ∷ cs) ds xs = with_given-append v cs ds (after_number v c xs)
 
 -- the vectors after the destinations of edges got what these numbers are
-abbrev pub given_along : (ℕ × ℕ → List Contribution) → List (ℕ × ℕ) → List (List ℤ) → List (List ℤ)
+abbrev pub given_along : (Edge → List Contribution) → List Edge → List (List ℤ) → List (List ℤ)
 given_along F [] xs = xs
 given_along F (edge ∷ edges) xs = given_along F edges (with_given edge.1 (F edge) xs)
 
-pub edges_give : (functions : List StepsTree) (sets : List SetBinding) (before : List (List ℤ)) (edges : List (ℕ × ℕ)) (xs : List (List ℤ))
+pub edges_give : (functions : List StepsTree) (sets : List SetBinding) (before : List (List ℤ)) (edges : List Edge) (xs : List (List ℤ))
     → after_edges functions sets before edges xs ≡ given_along (all_give functions sets before) edges xs
 edges_give functions sets before [] xs = refl
 edges_give functions sets before (edge ∷ edges) xs = edges_give functions sets before edges (with_given edge.1 (all_give functions sets before edge) xs)
 
-module _ (F G : ℕ × ℕ → List Contribution) (apart : (e e' : ℕ × ℕ) → AreForOthers (F e) (G e')) where
-  edge_goes_behind : (edges : List (ℕ × ℕ)) (edge : ℕ × ℕ) (xs : List (List ℤ))
+module _ (F G : Edge → List Contribution) (apart : (e e' : Edge) → AreForOthers (F e) (G e')) where
+  edge_goes_behind : (edges : List Edge) (edge : Edge) (xs : List (List ℤ))
       → given_along F edges (with_given edge.1 (G edge) xs) ≡ with_given edge.1 (G edge) (given_along F edges xs)
   edge_goes_behind [] edge xs = refl
   edge_goes_behind (e ∷ edges) edge xs =
       ap (given_along F edges) (all_go_behind e.1 edge.1 (F e) (G edge) xs (apart e edge)) ∙ edge_goes_behind edges edge (with_given e.1 (F e) xs)
 
   -- both along each edge, or one after the other
-  pub both_along : (edges : List (ℕ × ℕ)) (xs : List (List ℤ)) → given_along (λ e. F e ++ G e) edges xs ≡ given_along G edges (given_along F edges xs)
+  pub both_along : (edges : List Edge) (xs : List (List ℤ)) → given_along (λ e. F e ++ G e) edges xs ≡ given_along G edges (given_along F edges xs)
   both_along [] xs = refl
   both_along (e ∷ edges) xs =
       both_along edges (with_given e.1 (F e ++ G e) xs)
@@ -94,7 +95,7 @@ row_stays vector v (c ∷ cs) xs h =
     ∙ other_row xs c.vector vector (row_after v c (slice_index_or xs c.vector [])) (differs c.vector vector h.0)
 
 -- a vector for which nothing is given stays
-pub row_along : (F : ℕ × ℕ → List Contribution) (vector : ℕ) → ((e : ℕ × ℕ) → AreFor (λ x. not (x == vector)) (F e)) → (edges : List (ℕ × ℕ)) (xs : List (List ℤ))
+pub row_along : (F : Edge → List Contribution) (vector : ℕ) → ((e : Edge) → AreFor (λ x. not (x == vector)) (F e)) → (edges : List Edge) (xs : List (List ℤ))
     → slice_index_or (given_along F edges xs) vector [] ≡ slice_index_or xs vector []
 row_along F vector h [] xs = refl
 row_along F vector h (e ∷ edges) xs = row_along F vector h edges (with_given e.1 (F e) xs) ∙ row_stays vector e.1 (F e) xs (h e)

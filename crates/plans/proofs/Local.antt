@@ -45,7 +45,7 @@ module _ (u : ℕ) (sets : List SetBinding) where
   value_alike v w h (integer.Constant name n) local = refl
   value_alike v w h (integer.Variable slot) local = ap (λ (s : ScopeValue). slice_index_or s.integers slot.place (pos 0)) h.scope
   value_alike v w h (integer.Parameter at) local = ap (λ (s : ScopeValue). pos (vertex_at s at)) h.scope
-  value_alike v w h integer.Weight local = refl
+  value_alike v w h integer.Weight local = ap (λ (s : ScopeValue). s.weight) h.scope
   value_alike v w h (integer.EntryAt vector at) local =
       ap (entry v.vectors vector) (at_vertex u v h.source h.destination at)
       ∙ entry_alike u v w h vector
