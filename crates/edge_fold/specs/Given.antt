@@ -1,8 +1,11 @@
 -- What edge functions give vertices, and entries reduced with it.
 use Rattle.std.specs.Prelude.{◌≡◌, ℕ, ◌+◌, ℤ, ◌==◌, if◌then◌else◌, List, [], ◌∷◌, ◌++◌, map}
+use Rattle.edge_lists.specs.Edge.{unit_edge, unit_edges}
 use Rattle.apply_options.specs.declared.reduction.Reduction.{Reduction}
 use Rattle.typed_tree.specs.StepTree.{StepsTree}
+use Rattle.algorithm_meaning.specs.declared.state.SetBinding.{SetBinding}
 use Rattle.algorithm_meaning.specs.Arithmetic.{reduced}
+use Rattle.algorithm_meaning.specs.EdgeApply.{after_edges}
 use Rattle.algorithm_meaning.specs.State.{StateValue}
 use Rattle.kernels.specs.Meaning.{given_in}
 
@@ -39,10 +42,18 @@ row source destinations = map (λ d. (source, d)) destinations
 abbrev pub column : ℕ → List ℕ → List (ℕ × ℕ)
 column destination sources = map (λ s. (s, destination)) sources
 
+-- what a function gives on the edge between two ends, over the vectors of a state
+abbrev pub given_between : StateValue → StepsTree → ℕ × ℕ → List (ℕ × Reduction × ℤ)
+given_between m steps ends = given_in m steps (unit_edge ends)
+
+-- the vectors after the edges between these ends; the functions read the vectors before the apply
+abbrev pub after_ends : List StepsTree → List SetBinding → (before : List (List ℤ)) → List (ℕ × ℕ) → List (List ℤ) → List (List ℤ)
+after_ends steps sets before ends vectors = after_edges steps sets before (unit_edges ends) vectors
+
 -- what several functions give on an edge, over the vectors of a state
 abbrev pub all_given : StateValue → List StepsTree → ℕ × ℕ → List (ℕ × Reduction × ℤ)
 all_given m [] edge = []
-all_given m (steps ∷ more) edge = given_in m steps edge ++ all_given m more edge
+all_given m (steps ∷ more) edge = given_between m steps edge ++ all_given m more edge
 
 -- what is given for the vector is given by this reduction
 abbrev pub IsBy : Reduction → (vector : ℕ) → List (ℕ × Reduction × ℤ) → Type 0

@@ -4,7 +4,6 @@ ghost use Rattle.std.specs.List.{filter};
 ghost use Rattle.std.specs.List.Sorted.{IsNonDecreasing};
 ghost use Rattle.apply_options.specs.declared.reduction.Reduction.{Reduction};
 ghost use Rattle.typed_tree.specs.StepTree.{StepsTree};
-ghost use Rattle.algorithm_meaning.specs.EdgeApply.{after_edges};
 ghost use Rattle.algorithm_meaning.specs.Laws.{IsGivenBy};
 ghost use Rattle.algorithm_meaning.specs.State.{StateValue};
 ghost use Rattle.algorithm_meaning.specs.Value.{entry};
@@ -17,6 +16,7 @@ ghost use Rattle.edge_fold.specs.Ends.{IsEndTest, IsTest};
 ghost use Rattle.edge_fold.specs.Folded.{IsContextOf, HasFolded};
 ghost use Rattle.edge_fold.specs.Held.{AreMarked, held, held_with};
 ghost use Rattle.edge_fold.specs.VectorAccumulators.{active, held_in};
+ghost use Rattle.edge_fold.specs.Given.{after_ends};
 
 use crate::apply_context::ApplyContext;
 use crate::passing::keep_passing;
@@ -40,7 +40,7 @@ impl Scratch {
         ensures changes { IfOk result (λ c. (m : StateValue) (steps : List StepsTree) (edges : List (ℕ × ℕ)) (test : ℕ → Bool) → IsContextOf context.entry m steps → IsEndTest to.entry m test
             → HasFolded context.entry m steps edges self.old → context.entry.start ≡ OldEntry → (x : ℕ) (r : Reduction) → IsGivenBy r x steps m.sets m.vectors → context.entry.vertices ≤ length (slice_index_or m.vectors x [])
             → changes_of x c.vectors.items ≡ changed context.entry.vertices (entry m.vectors x)
-            (entry (after_edges steps m.sets m.vectors (filter (λ e. test e.1) edges) m.vectors) x)) }
+            (entry (after_ends steps m.sets m.vectors (filter (λ e. test e.1) edges) m.vectors) x)) }
     {
         self.flush(alloc, context)?;
         let changes = found_in_slots(alloc, context, to, &self.slots, &mut self.block)?;

@@ -120,6 +120,7 @@ fn keep_part(
         vertices: context.vertices,
         sources: part,
         destinations: part,
+        weights: &[],
     };
     kernel.run(around, block);
     keep_all_where(block, part, kept)?;

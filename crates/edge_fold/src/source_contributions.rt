@@ -4,9 +4,8 @@ ghost use Rattle.typed_tree.specs.StepTree.{StepsTree};
 ghost use Rattle.algorithm_meaning.specs.State.{StateValue};
 ghost use Rattle.kernels.specs.Cells.{HasSizes};
 ghost use Rattle.kernels.specs.Kernels.{IsEdgeKernel};
-ghost use Rattle.kernels.specs.Meaning.{given_in};
 ghost use Rattle.edge_fold.specs.Folded.{IsContextOf};
-ghost use Rattle.edge_fold.specs.Given.{all_given};
+ghost use Rattle.edge_fold.specs.Given.{all_given, given_between};
 
 use crate::apply_context::{ApplyContext, SourceContribution};
 use algorithm_meaning::arithmetic_of;
@@ -30,7 +29,7 @@ impl ApplyContext<'_> {
     #[inline]
     fn sent_by_first(self, source: u32) -> Option<SourceContribution>
         ensures { IfSome result (λ s. (m : StateValue) (steps : StepsTree) → self.entry.vectors.now.vectors ≡ m.vectors → HasSizes self.entry.sizes.now m
-            → IsEdgeKernel self.entry.first.now steps → (d : ℕ) → given_in m steps (source, d) ≡ (s.vector, s.reduction, s.number) ∷ []) }
+            → IsEdgeKernel self.entry.first.now steps → (d : ℕ) → given_between m steps (source, d) ≡ (s.vector, s.reduction, s.number) ∷ []) }
     {
         match self.first.shape() {
             Shape::Other => None,

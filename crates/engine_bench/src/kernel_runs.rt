@@ -303,6 +303,7 @@ fn run_block(
         vertices: 1 << SCALE,
         sources,
         destinations,
+        weights: &[],
     };
     kernel.run(around, block);
     for place in 0..kernel.contributions() {

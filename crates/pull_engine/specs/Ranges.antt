@@ -11,6 +11,7 @@ use Rattle.kernels.specs.declared.kernel.EdgeKernel.{EdgeKernel}
 use Rattle.kernels.specs.declared.shape.Shape.{Shape}
 use Rattle.kernels.specs.declared.shape.Shape.TheVariants as shape
 use Rattle.std.specs.Borrow.{Bor}
+use Rattle.edge_lists.specs.Edge.{unit_edge}
 use Rattle.flat_snapshot.specs.Neighbours.{sources_of}
 use Rattle.vectors.specs.declared.changes.EntryChange.{EntryChange}
 use Rattle.edge_fold.specs.declared.gathered.GatheredIn.{GatheredIn}
@@ -43,7 +44,7 @@ shape_vector (shape.Constant x r n) = Some x
 -- what the functions give on every edge is what one of this shape gives
 abbrev pub IsShapeOfApply : Shape → EdgeKernel → Option (Bor EdgeKernel) → Type 0
 IsShapeOfApply t first second = (m : StateValue) (sizes : List ℤ) (steps : List StepsTree) → HasSizes sizes m → AreKernels first second steps
-    → (edge : ℕ × ℕ) → HasShape t m edge (all_given m steps edge)
+    → (edge : ℕ × ℕ) → HasShape t m (unit_edge edge) (all_given m steps edge)
 
 -- the entry at a vertex after an apply to these edges
 abbrev pub entry_after : StateValue → List StepsTree → (x : ℕ) → Reduction → List (ℕ × ℕ) → ℕ → ℤ

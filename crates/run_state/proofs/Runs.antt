@@ -38,6 +38,7 @@ is_run_state vectors sets integers conditions text turns count have ascending = 
   sets = ascending;
   source = refl;
   destination = refl;
+  weight = refl;
 }
 
 nothing_counted : pos 0 ≡ size_of []

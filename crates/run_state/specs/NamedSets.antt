@@ -1,6 +1,7 @@
 -- For proofs only: vertex sets with their names and sizes, and how a run's state lies in memory.
 use Rattle.std.specs.Prelude.{◌≡◌, ℕ, ℤ, Bool, List, [], ◌∷◌, length, map, replicate, slice_get, take}
 use Rattle.std.specs.Int.{cast_signed, w64}
+use Rattle.edge_lists.specs.Edge.{unit_weight}
 use Rattle.algorithm_meaning.specs.State.{StateValue, main_scope}
 use Rattle.algorithm_meaning.specs.Value.{members_of}
 use Rattle.vertex_sets.specs.VertexSet.{IsAscendingBelow, VertexSubset}
@@ -56,7 +57,7 @@ run_state vectors sets integers conditions text turns = record {
   state = record {
     vectors = vectors;
     sets = sets.state.sets;
-    scope = record { integers = integers; conditions = conditions; source = 0; destination = 0 };
+    scope = record { integers = integers; conditions = conditions; source = 0; destination = 0; weight = unit_weight };
     text = text;
     turns = turns;
   };

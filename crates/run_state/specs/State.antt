@@ -1,5 +1,6 @@
 -- The state of a run.
 use Rattle.std.specs.Prelude.{◌≡◌, ℕ, ◌<◌, List, [], length, map, slice_get, slice_index_or}
+use Rattle.edge_lists.specs.Edge.{unit_edges, unit_weight}
 use Rattle.typed_tree.specs.declared.program.Vector.{Vector}
 use Rattle.algorithm_meaning.specs.State.{GraphValue, StateValue, main_scope}
 use Rattle.algorithm_meaning.specs.Value.{members_of}
@@ -15,16 +16,17 @@ pub record RunState : Type 0 where
 abbrev pub with_state : RunState → StateValue → RunState
 with_state r s = record r { state = s }
 
--- each vector has an entry for each vertex, the members of each set are ascending vertices, and main works on no vertex
+-- each vector has an entry for each vertex, the members of each set are ascending vertices, and main works on no edge
 pub record IsRunState (r : RunState) : Type 0 where
   pub vectors : (x : ℕ) → x < length r.state.vectors → length (slice_index_or r.state.vectors x []) ≡ r.vertices
   pub sets : (place : ℕ) → IsAscendingBelow r.vertices (members_of (slice_get r.state.sets place))
   pub source : r.state.scope.source ≡ 0
   pub destination : r.state.scope.destination ≡ 0
+  pub weight : r.state.scope.weight ≡ unit_weight
 
 -- a graph as the meaning has it
 abbrev pub graph_value : Digraph → GraphValue
-graph_value d = record { vertices = d.vertices; edges = d.edges }
+graph_value d = record { vertices = d.vertices; edges = unit_edges d.edges }
 
 -- the state before the first statement, with these vectors and constant sets
 abbrev pub opened : Digraph → List Vector → (sets : List ℕ) → (turns : ℕ) → RunState

@@ -42,6 +42,7 @@ pub(crate) fn filtered(
             vertices: 0,
             sources: &part[..count],
             destinations: &part[..count],
+            weights: &[],
         };
         kernel.run(around, block);
         keep_passing(block, &part[..count], &mut kept)?;

@@ -3,6 +3,7 @@ use Rattle.std.proofs.Common.{◌≡◌, ℕ, ◌<◌, ◌≤◌, ◌==◌, nat_
 use Rattle.std.proofs.lemmas.Bool.{false≢true}
 use Rattle.std.proofs.lemmas.Bool.Decides.{nat_tests}
 use Rattle.std.specs.List.{filter}
+use Rattle.edge_lists.specs.Edge.{Edge, unit_edge, unit_edges}
 use Rattle.typed_tree.specs.declared.statement.ApplyEnds.{ApplyEnds}
 use Rattle.typed_tree.specs.StepTree.{FunctionTree, StepsTree}
 use Rattle.algorithm_meaning.specs.declared.contribution.Contribution.{Contribution}
@@ -23,7 +24,7 @@ count_after_given u (c ∷ cs) vectors =
     ∙ count_after_entry vectors c.vector u (reduced c.reduction (entry vectors c.vector u) c.number)
 
 -- an apply keeps the number of vectors
-pub count_after_edges : (steps : List StepsTree) (m : StateValue) (before : List (List ℤ)) (edges : List (ℕ × ℕ)) (vectors : List (List ℤ))
+pub count_after_edges : (steps : List StepsTree) (m : StateValue) (before : List (List ℤ)) (edges : List Edge) (vectors : List (List ℤ))
     → length (after_edges steps m.sets before edges vectors) ≡ length vectors
 count_after_edges steps m before [] vectors = refl
 count_after_edges steps m before (edge ∷ edges) vectors =
@@ -37,7 +38,7 @@ rows_after_given u (c ∷ cs) vectors x =
     ∙ length_stays vectors c.vector u (reduced c.reduction (entry vectors c.vector u) c.number) x
 
 -- and how many entries each has
-pub rows_after_edges : (steps : List StepsTree) (m : StateValue) (before : List (List ℤ)) (edges : List (ℕ × ℕ)) (vectors : List (List ℤ)) (x : ℕ)
+pub rows_after_edges : (steps : List StepsTree) (m : StateValue) (before : List (List ℤ)) (edges : List Edge) (vectors : List (List ℤ)) (x : ℕ)
     → length (slice_index_or (after_edges steps m.sets before edges vectors) x []) ≡ length (slice_index_or vectors x [])
 rows_after_edges steps m before [] vectors x = refl
 rows_after_edges steps m before (edge ∷ edges) vectors x =
@@ -50,7 +51,7 @@ given_elsewhere u (c ∷ cs) vectors x v apart =
     given_elsewhere u cs (reduce_at vectors c.vector u c.reduction c.number) x v apart
     ∙ entry_elsewhere vectors c.vector u (reduced c.reduction (entry vectors c.vector u) c.number) x v apart
 
-one_edge : (steps : List StepsTree) (m : StateValue) (before : List (List ℤ)) (e : ℕ × ℕ) (es : List (ℕ × ℕ)) (vectors : List (List ℤ)) (x v : ℕ) (b : Bool)
+one_edge : (steps : List StepsTree) (m : StateValue) (before : List (List ℤ)) (e : Edge) (es : List Edge) (vectors : List (List ℤ)) (x v : ℕ) (b : Bool)
     → (b ≡ true → (e.1 == v) ≡ false)
     → ((now : List (List ℤ)) → entry (after_edges steps m.sets before es now) x v ≡ entry now x v)
     → entry (after_edges steps m.sets before (cond b (e ∷ es) es) vectors) x v ≡ entry vectors x v
@@ -59,8 +60,8 @@ one_edge steps m before e es vectors x v true apart others =
 one_edge steps m before e es vectors x v false apart others = others vectors
 
 -- a vertex to which none of the edges leads keeps its entries
-entry_beyond : (steps : List StepsTree) (m : StateValue) (before : List (List ℤ)) (test : ℕ × ℕ → Bool) (edges : List (ℕ × ℕ)) (vectors : List (List ℤ)) (x v : ℕ)
-    → ((e : ℕ × ℕ) → test e ≡ true → (e.1 == v) ≡ false) → entry (after_edges steps m.sets before (filter test edges) vectors) x v ≡ entry vectors x v
+entry_beyond : (steps : List StepsTree) (m : StateValue) (before : List (List ℤ)) (test : Edge → Bool) (edges : List Edge) (vectors : List (List ℤ)) (x v : ℕ)
+    → ((e : Edge) → test e ≡ true → (e.1 == v) ≡ false) → entry (after_edges steps m.sets before (filter test edges) vectors) x v ≡ entry vectors x v
 entry_beyond steps m before test [] vectors x v apart = refl
 entry_beyond steps m before test (e ∷ es) vectors x v apart =
     one_edge steps m before e (filter test es) vectors x v (test e) (apart e) (λ now. entry_beyond steps m before test es now x v apart)
@@ -84,21 +85,33 @@ entry_past filters g m ends steps x v past =
     let to = second_holds (is_end filters g m ends.from e.0) (is_end filters g m ends.to e.1) t in
     is_apart e.1 v g.vertices (first_holds (nat_lt e.1 g.vertices) (passes filters m ends.to e.1) to) past)
 
-both_alike : (p q : ℕ × ℕ → Bool) (e : ℕ × ℕ) (ks ls : List (ℕ × ℕ)) → p e ≡ q e → ks ≡ ls → cond (p e) (e ∷ ks) ks ≡ cond (q e) (e ∷ ls) ls
-both_alike p q e ks ls same more = ap (λ (b : Bool). cond b (e ∷ ks) ks) same ∙ ap (λ (ms : List (ℕ × ℕ)). cond (q e) (e ∷ ms) ms) more
+kept_alike : (b : Bool) (e : ℕ × ℕ) (ks : List (ℕ × ℕ)) → unit_edges (cond b (e ∷ ks) ks) ≡ cond b (unit_edge e ∷ unit_edges ks) (unit_edges ks)
+kept_alike true e ks = refl
+kept_alike false e ks = refl
 
-filters_alike : (p q : ℕ × ℕ → Bool) (es : List (ℕ × ℕ)) → ((e : ℕ × ℕ) → has_edge es e ≡ true → p e ≡ q e) → filter p es ≡ filter q es
+both_alike : (p : ℕ × ℕ → Bool) (q : Edge → Bool) (e : ℕ × ℕ) (ks : List (ℕ × ℕ)) (ls : List Edge) → p e ≡ q (unit_edge e) → unit_edges ks ≡ ls
+    → unit_edges (cond (p e) (e ∷ ks) ks) ≡ cond (q (unit_edge e)) (unit_edge e ∷ ls) ls
+both_alike p q e ks ls same more =
+    kept_alike (p e) e ks
+    ∙ ap (λ (b : Bool). cond b (unit_edge e ∷ unit_edges ks) (unit_edges ks)) same
+    ∙ ap (λ (ms : List Edge). cond (q (unit_edge e)) (unit_edge e ∷ ms) ms) more
+
+filters_alike : (p : ℕ × ℕ → Bool) (q : Edge → Bool) (es : List (ℕ × ℕ)) → ((e : ℕ × ℕ) → has_edge es e ≡ true → p e ≡ q (unit_edge e))
+    → unit_edges (filter p es) ≡ filter q (unit_edges es)
 filters_alike p q [] same = refl
 filters_alike p q (e ∷ es) same =
-    both_alike p q e (filter p es) (filter q es) (same e (has_first e es)) (filters_alike p q es (λ f has. same f (has_later (edge_eq e f) (has_edge es f) has)))
+    both_alike p q e (filter p es) (filter q (unit_edges es)) (same e (has_first e es)) (filters_alike p q es (λ f has. same f (has_later (edge_eq e f) (has_edge es f) has)))
 
 inside : (u n : ℕ) → u < n → nat_lt u n ≡ true
 inside u n h = grind (arith, nat_tests)
 
 -- where all edges are between vertices, those that an apply looks at are those between its ends
-pub matching_between : (filters : List FunctionTree) (g : GraphValue) (m : StateValue) (ends : ApplyEnds) → ((e : ℕ × ℕ) → has_edge g.edges e ≡ true → IsWithin g.vertices e)
-    → edges_between (passes filters m ends.from) (passes filters m ends.to) g.edges ≡ matching filters g m ends
-matching_between filters g m ends within =
-    filters_alike (λ e. passes filters m ends.from e.0 && passes filters m ends.to e.1) (λ e. is_end filters g m ends.from e.0 && is_end filters g m ends.to e.1) g.edges (λ e has.
+pub matching_between : (filters : List FunctionTree) (g : GraphValue) (m : StateValue) (ends : ApplyEnds) (es : List (ℕ × ℕ)) → unit_edges es ≡ g.edges
+    → ((e : ℕ × ℕ) → has_edge es e ≡ true → IsWithin g.vertices e)
+    → unit_edges (edges_between (passes filters m ends.from) (passes filters m ends.to) es) ≡ matching filters g m ends
+matching_between filters g m ends es same within =
+    let looked_at : Edge → Bool = λ e. is_end filters g m ends.from e.0 && is_end filters g m ends.to e.1 in
+    filters_alike (λ e. passes filters m ends.from e.0 && passes filters m ends.to e.1) looked_at es (λ e has.
     let both = within e has in
     sym (ap₂ (λ (a b : Bool). (a && passes filters m ends.from e.0) && (b && passes filters m ends.to e.1)) (inside e.0 g.vertices both.0) (inside e.1 g.vertices both.1)))
+    ∙ ap (λ (fs : List Edge). filter looked_at fs) same

@@ -1,8 +1,12 @@
 -- What engines change, in the words of the meaning.
-use Rattle.std.proofs.Common.{◌≡◌, ℕ, ◌<◌, List, Result, Ok, Err, IfOk, length, ap, sym, ◌∙◌, subst, subst₂, true}
+use Rattle.std.proofs.Common.{◌≡◌, ℕ, ◌<◌, ◌≤◌, List, [], Result, Ok, Err, IfOk, length, slice_index_or, ap, sym, ◌∙◌, subst, subst₂, true}
+use Rattle.edge_lists.specs.Edge.{Edge, unit_edges}
 use Rattle.typed_tree.specs.declared.statement.ApplyEnds.{ApplyEnds}
 use Rattle.typed_tree.specs.ProgramTree.{ProgramTree}
+use Rattle.typed_tree.specs.StepTree.{StepsTree}
+use Rattle.apply_options.specs.declared.reduction.Reduction.{Reduction}
 use Rattle.algorithm_meaning.specs.EdgeApply.{after_edge_apply, after_edges, matching, passes}
+use Rattle.algorithm_meaning.specs.Laws.{IsGivenBy}
 use Rattle.algorithm_meaning.specs.State.{GraphValue, StateValue}
 use Rattle.algorithm_meaning.specs.Value.{entry}
 use Rattle.flat_snapshot.specs.Digraph.{Digraph, IsDigraph}
@@ -21,10 +25,15 @@ use Rattle.run_state.specs.View.{HasEntryForEach}
 use Rattle.runner.proofs.Between.{count_after_edges, entry_past, matching_between, rows_after_edges}
 use Rattle.runner.proofs.WrittenChanges.{changes_make}
 
+-- for each vector that has an entry for each vertex and to which the functions give by one reduction, the entries that these edges change
+abbrev AreChangesAlong : (n : ℕ) → (edges : List Edge) → StateValue → List StepsTree → List VectorChanges → Type 0
+AreChangesAlong n edges m steps cs = (x : ℕ) (r : Reduction) → IsGivenBy r x steps m.sets m.vectors → n ≤ length (slice_index_or m.vectors x [])
+    → changes_of x cs ≡ changed n (entry m.vectors x) (entry (after_edges steps m.sets m.vectors edges m.vectors) x)
+
 -- changes on the edges that an apply looks at
 changes_on_matching : (p : ProgramTree) (m : StateValue) (g : GraphValue) (ends : ApplyEnds) (places : List ℕ) (cs : List VectorChanges) → HasEntryForEach g.vertices m.vectors
     → AreReduced (steps_at p.edge_functions places) m → AreApart cs
-    → AreChangesOn g.vertices (matching p.filters g m ends) m (steps_at p.edge_functions places) cs
+    → AreChangesAlong g.vertices (matching p.filters g m ends) m (steps_at p.edge_functions places) cs
     → AreChangesTo g.vertices m.vectors (after_edge_apply p.filters p.edge_functions g ends places m) cs
 changes_on_matching p m g ends places cs long one apart are =
     let steps = steps_at p.edge_functions places in
@@ -41,7 +50,7 @@ changes_on_matching p m g ends places cs long one apart are =
     }
 
 pub changes_are_meant : (d : Digraph) (p : ProgramTree) (m : StateValue) (g : GraphValue) (ends : ApplyEnds) (places : List ℕ) (cs : List VectorChanges) → IsDigraph d
-    → d.vertices ≡ g.vertices → d.edges ≡ g.edges → HasEntryForEach g.vertices m.vectors
+    → d.vertices ≡ g.vertices → unit_edges d.edges ≡ g.edges → HasEntryForEach g.vertices m.vectors
     → AreReduced (steps_at p.edge_functions places) m → AreApart cs
     → AreChangesOn d.vertices (edges_between (passes p.filters m ends.from) (passes p.filters m ends.to) d.edges) m (steps_at p.edge_functions places) cs
     → AreChangesTo g.vertices m.vectors (after_edge_apply p.filters p.edge_functions g ends places m) cs
@@ -49,11 +58,11 @@ changes_are_meant d p m g ends places cs graph count edges long one apart are =
     let steps = steps_at p.edge_functions places in
     let from = passes p.filters m ends.from in
     let to = passes p.filters m ends.to in
-    let within : (e : ℕ × ℕ) → has_edge g.edges e ≡ true → IsWithin g.vertices e =
-    subst₂ (λ (n : ℕ) (es : List (ℕ × ℕ)). (e : ℕ × ℕ) → has_edge es e ≡ true → IsWithin n e) count edges graph.within in
-    let looked_at = ap (λ (es : List (ℕ × ℕ)). edges_between from to es) edges ∙ matching_between p.filters g m ends within in
+    let within : (e : ℕ × ℕ) → has_edge d.edges e ≡ true → IsWithin g.vertices e =
+    subst (λ (n : ℕ). (e : ℕ × ℕ) → has_edge d.edges e ≡ true → IsWithin n e) count graph.within in
+    let looked_at = matching_between p.filters g m ends d.edges edges within in
     changes_on_matching p m g ends places cs long one apart
-    (subst₂ (λ (n : ℕ) (es : List (ℕ × ℕ)). AreChangesOn n es m steps cs) count looked_at are)
+    (subst₂ (λ (n : ℕ) (es : List Edge). AreChangesAlong n es m steps cs) count looked_at are)
 
 -- what an engine says of an apply is what a plan's edge apply asks
 pub apply_is_meant : (run : RunView) (asked : EdgeMap) (apply : Apply) (cs : List VectorChanges) → IsDigraph run.graph.now → IsApplyOf run asked apply
@@ -62,7 +71,7 @@ apply_is_meant run asked apply cs graph is once changes p m g view long one =
     let places = places_of asked.first asked.second in
     let parts = is.parts p m view.functions view.sets in
     changes_are_meant apply.flat.now p m g asked.ends places cs (subst IsDigraph (sym is.graph) graph)
-    (ap (λ (d : Digraph). d.vertices) is.graph ∙ view.vertices) (ap (λ (d : Digraph). d.edges) is.graph ∙ view.edges) long one once
+    (ap (λ (d : Digraph). d.vertices) is.graph ∙ view.vertices) (ap (λ (d : Digraph). unit_edges d.edges) is.graph ∙ view.edges) long one once
     (changes m (steps_at p.edge_functions places) (passes p.filters m asked.ends.from) (passes p.filters m asked.ends.to)
     (ap (λ vs. vs.vectors) is.vectors ∙ view.vectors) (subst (λ ns. HasSizes ns m) (sym is.sizes) view.sizes) parts.0 parts.1 parts.2)
 

@@ -1,6 +1,5 @@
 use Rattle.std.proofs.Common.{◌-◌, ◌≤◌, ℕ, true, List, refl, sym, ap, ◌∙◌, subst, arith}
 use Rattle.std.specs.List.{filter, flat_map}
-use Rattle.kernels.specs.EdgeApply.{after_edges}
 use Rattle.kernels.specs.Value.{entry}
 use Rattle.crew.specs.Partition.{end_of}
 use Rattle.crew.specs.Pieces.{pieces_of}
@@ -8,6 +7,7 @@ use Rattle.edge_fold.specs.declared.apply_context.ApplyContext.{ApplyContext}
 use Rattle.edge_fold.specs.Changed.{changed, changed_from}
 use Rattle.edge_fold.specs.Folded.{IsContextOf}
 use Rattle.edge_fold.specs.Gathered.{is_between}
+use Rattle.edge_fold.specs.Given.{after_ends}
 use Rattle.edge_apply.specs.Pieces.{EachGathered}
 use Rattle.edge_apply.proofs.Listed.{filter_all, piece_inside}
 use Rattle.edge_apply.proofs.Told.{changed_between}
@@ -48,7 +48,7 @@ returns-clause-out c m steps edges_of vectors sizes kernels up each x r by long 
     let given = subst (λ (v : ℕ). EachGathered v m steps edges_of w.found.now) (sym count) each in
     let has = c.in_ok-join_between.ensures m steps edges_of up given (c.begin.ensures _ m steps) in
     let old = entry m.vectors x in
-    let new = λ (es : List (ℕ × ℕ)). entry (after_edges steps m.sets m.vectors es m.vectors) x in
+    let new = λ (es : List (ℕ × ℕ)). entry (after_ends steps m.sets m.vectors es m.vectors) x in
     let order = let l = inside.0 in let s = c.piece-range.ensures.start in let e = c.piece-range.ensures.end in let o : low ≤ high = omega (arith, l, s, e) in o in
     let below = let l = inside.1 in let e = c.piece-range.ensures.end in let b : high ≤ n = omega (arith, l, e) in b in
     c.in_ok-changes.ensures.changes m steps part (λ _. true) reads (λ v. refl) has starts x r by (omega (arith, count, long))

@@ -1,11 +1,11 @@
 use Rattle.std.proofs.Common.{ℕ, true, List, refl, sym, ap, ◌∙◌, subst, arith}
 use Rattle.std.specs.List.{filter}
-use Rattle.kernels.specs.EdgeApply.{after_edges}
 use Rattle.kernels.specs.Value.{entry}
 use Rattle.edge_fold.specs.declared.apply_context.ApplyContext.{ApplyContext}
 use Rattle.edge_fold.specs.Folded.{IsContextOf}
 use Rattle.edge_fold.specs.Between.{edges_between}
 use Rattle.edge_fold.specs.Changed.{changed}
+use Rattle.edge_fold.specs.Given.{after_ends}
 use Rattle.crew.specs.Pieces.{pieces_of}
 use Rattle.edge_apply.specs.Pieces.{EachGathered}
 use Rattle.push_engine.specs.Pieces.{edges_of_piece}
@@ -24,7 +24,7 @@ returns-clause-changes c answers order m steps from to vectors sizes kernels is_
     let count = ap (λ (f : ApplyContext). f.vertices) c.context-context.ensures.context in
     let starts = ap (λ (f : ApplyContext). f.start) c.context-context.ensures.context in
     let old = entry m.vectors x in
-    let new = λ (es : List (ℕ × ℕ)). entry (after_edges steps m.sets m.vectors es m.vectors) x in
+    let new = λ (es : List (ℕ × ℕ)). entry (after_ends steps m.sets m.vectors es m.vectors) x in
     let each = subst (λ (n : ℕ). EachGathered n m steps edges_of fs) (sym count) (each_gathered w fs m steps from to answers vectors sizes kernels is_from is_to) in
     let has = c.in_ok-join_all.ensures m steps edges_of each (c.begin.ensures _ m steps) in
     let whole = merged _ m steps edges w.tested from to w.cuts w.sources.items (pieces_of fs) c.join_all.new.scratch w.whole (w.passing m from vectors sizes is_from) order has in

@@ -19,4 +19,5 @@ returns-clause-main c =
       conditions = c.first-conditions.ensures ∙ ap (take d.conditions) c.deref-2.ensures.value ∙ ap (λ (r : RunState). take d.conditions r.state.scope.conditions) view;
       source = sym (ap (λ (r : RunState). r.state.scope.source) view);
       destination = sym (ap (λ (r : RunState). r.state.scope.destination) view);
+      weight = sym (ap (λ (r : RunState). r.state.scope.weight) view);
     }
