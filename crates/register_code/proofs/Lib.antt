@@ -7,3 +7,4 @@ pub mod Given
 pub mod CodeLaws
 pub mod VertexRuns
 pub mod StepCodes
+pub mod Weightless

@@ -27,7 +27,7 @@ mod needs;
 mod register_counts;
 
 pub use compile::{Frame, code_of_condition, code_of_integer};
-pub use compile_function::{FunctionCode, code_of_edge_function, code_of_filter};
+pub use compile_function::{FunctionCode, code_of_edge_function, code_of_filter, reads_weight};
 pub use compile_vertex::{code_of_vertex_function, reads_elsewhere};
 pub use instruction::{ContributionCode, RegisterInstruction};
 pub use needs::{room_of, with_gives};
