@@ -1,7 +1,7 @@
 -- Lists in columns, against the list of pairs.
-use Rattle.std.proofs.Common.{◌≡◌, ℕ, zero, suc, ◌<◌, ◌≤◌, ℤ, pos, List, [], ◌∷◌, length, take, drop, get_or, refl, sym, ◌∙◌, ap, arith}
+use Rattle.std.proofs.Common.{◌≡◌, ℕ, zero, suc, ◌<◌, ◌≤◌, ℤ, pos, List, [], ◌∷◌, ◌++◌, length, take, drop, get_or, refl, sym, ◌∙◌, ap, arith}
 use Rattle.std.proofs.lemmas.List.{get_or_default}
-use Rattle.std.specs.Map.{keys_of}
+use Rattle.std.specs.Map.{keys_of, values_of}
 use Rattle.edge_updates.specs.Weighted.{weighted}
 
 module _ {X : Type 0} where
@@ -51,6 +51,36 @@ module _ {X : Type 0} where
   take_column zero (x ∷ xs) ws le = absurd (omega (arith, le))
   take_column (suc n) (x ∷ xs) [] le = refl
   take_column (suc n) (x ∷ xs) (w ∷ ws) le = ap (λ v. (x, w) ∷ v) (take_column n xs ws (omega (arith, le)))
+
+take_nothing : (n : ℕ) → take {A = ℤ} n [] ≡ []
+take_nothing zero = refl
+take_nothing (suc n) = refl
+
+module _ {X : Type 0} where
+  -- the weights alone, where the column has one for each thing
+  pub weights_of : (xs : List X) (ws : List ℤ) → length ws ≡ length xs → values_of (weighted xs ws) ≡ ws
+  weights_of [] [] same = refl
+  weights_of [] (w ∷ ws) same = absurd (omega (arith, same))
+  weights_of (x ∷ xs) [] same = absurd (omega (arith, same))
+  weights_of (x ∷ xs) (w ∷ ws) same = ap (λ v. w ∷ v) (weights_of xs ws (omega (arith, same)))
+
+  -- pairs in columns again
+  pub weighted_parts : (es : List (X × ℤ)) → weighted (keys_of es) (values_of es) ≡ es
+  weighted_parts [] = refl
+  weighted_parts (e ∷ es) = ap (λ v. e ∷ v) (weighted_parts es)
+
+  -- more things and weights behind others
+  pub weighted_append : (xs ys : List X) (ws vs : List ℤ) → length ws ≡ length xs → weighted (xs ++ ys) (ws ++ vs) ≡ weighted xs ws ++ weighted ys vs
+  weighted_append [] ys [] vs same = refl
+  weighted_append [] ys (w ∷ ws) vs same = absurd (omega (arith, same))
+  weighted_append (x ∷ xs) ys [] vs same = absurd (omega (arith, same))
+  weighted_append (x ∷ xs) ys (w ∷ ws) vs same = ap (λ v. (x, w) ∷ v) (weighted_append xs ys ws vs (omega (arith, same)))
+
+  -- a thing of weight 1 more
+  pub weighted_one : (xs : List X) (ws : List ℤ) (x : X) → weighted (xs ++ x ∷ []) (take (length xs) ws) ≡ weighted xs ws ++ (x, pos 1) ∷ []
+  weighted_one [] ws x = refl
+  weighted_one (y ∷ xs) [] x = ap (λ v. (y, pos 1) ∷ v) (ap (λ ws. weighted (xs ++ x ∷ []) ws) (sym (take_nothing (length xs))) ∙ weighted_one xs [] x)
+  weighted_one (y ∷ xs) (w ∷ ws) x = ap (λ v. (y, w) ∷ v) (weighted_one xs ws x)
 
 -- the columns of lent things, and what is seen of them
 module _ {X : Type 0} (xs : List X) (ws : List ℤ) (es : List (X × ℤ)) (seen : weighted xs ws ≡ es) where
