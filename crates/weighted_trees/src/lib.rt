@@ -42,6 +42,8 @@ mod lookup;
 mod part;
 mod spelling;
 mod tail;
+#[cfg(test)]
+mod tests;
 mod view;
 
 pub use chunk_size::ChunkSize;
