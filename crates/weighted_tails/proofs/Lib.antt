@@ -6,3 +6,6 @@ pub mod Lists
 pub mod Continuing
 pub mod EntryNumbers
 pub mod Writing
+pub mod Filling
+pub mod MapMerging
+pub mod MapOnes
