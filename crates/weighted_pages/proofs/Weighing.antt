@@ -1,7 +1,7 @@
 -- Weights in bytes: by their indices, as they are written, and in columns.
-use Rattle.std.proofs.Common.{◌≡◌, ℕ, zero, suc, ◌+◌, ◌-◌, ◌*◌, ◌<◌, ◌≤◌, ℤ, pos, List, [], ◌∷◌, ◌++◌, replicate, length, get_or, slice_set, take, drop, reverse, inl, inr, refl, sym, ◌∙◌, ap, subst, arith, add-one}
+use Rattle.std.proofs.Common.{◌≡◌, ℕ, zero, suc, ◌+◌, ◌-◌, ◌*◌, ◌<◌, ◌≤◌, ℤ, pos, List, [], ◌∷◌, ◌++◌, replicate, length, get_or, slice_set, take, drop, inl, inr, refl, sym, ◌∙◌, ap, subst, arith, add-one}
 use Rattle.std.proofs.lemmas.Bool.{cases_eq}
-use Rattle.std.proofs.lemmas.List.{drop-drop, drop-take, take-take, take_at, take_more_set, take-append-drop, length-reverse, length-take-le, length-drop, reverse-append}
+use Rattle.std.proofs.lemmas.List.{drop-drop, drop-take, take_more_set}
 use Rattle.edge_updates.specs.Weighted.{weighted}
 use Rattle.weighted_pages.specs.declared.weights.WeightWidth.{WeightWidth}
 use Rattle.weighted_pages.specs.declared.weights.WeightWidth.TheVariants.{Ones, OneByte, TwoBytes, FourBytes, EightBytes}
@@ -162,17 +162,3 @@ column_ones (suc n) m bytes [] =
 column_ones (suc n) m bytes (w ∷ ws) =
     let same : suc n + m ≡ suc (n + m) = omega arith in
     ap (λ k. column_of k (w ∷ take n ws)) same ∙ ap (λ v. w ∷ v) (column_ones n m bytes ws)
-
--- a block that is filled upward and then turned is filled downward
-pub turned : {A : Type 0} (ws : List A) (n m : ℕ) → n ≤ length ws → m ≤ n → reverse (take m (drop (n - m) ws)) ≡ take m (reverse (take n ws))
-turned ws n m within le =
-    let whole : n - m + m ≡ n = omega arith in
-    let split : take n ws ≡ take (n - m) ws ++ take m (drop (n - m) ws) =
-    sym (take-append-drop (n - m) (take n ws))
-    ∙ ap (λ v. v ++ drop (n - m) (take n ws)) (take-take (n - m) n ws (omega arith))
-    ∙ ap (λ k. take (n - m) ws ++ drop (n - m) (take k ws)) (sym whole)
-    ∙ ap (λ v. take (n - m) ws ++ v) (drop-take (n - m) m ws) in
-    let long : length (reverse (take m (drop (n - m) ws))) ≡ m = length-reverse (take m (drop (n - m) ws)) ∙ length-take-le m (drop (n - m) ws) (omega (arith, length-drop (n - m) ws)) in
-    sym (ap (λ v. take m (reverse v)) split
-    ∙ ap (take m) (reverse-append (take (n - m) ws) (take m (drop (n - m) ws)))
-    ∙ take_at (reverse (take m (drop (n - m) ws))) (reverse (take (n - m) ws)) m long)

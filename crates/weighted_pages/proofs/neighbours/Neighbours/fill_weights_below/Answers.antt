@@ -1,7 +1,7 @@
 use Rattle.std.proofs.Common.{◌≡◌, ◌-◌, ◌≤◌, reverse, length, take, drop, ◌∙◌, ap, arith}
 use Rattle.std.specs.Map.{values_of}
 use Rattle.std.proofs.lemmas.List.{length-map}
-use Rattle.weighted_pages.proofs.Weighing.{turned}
+use Rattle.weighted_pages.proofs.Filling.{turned}
 use Rattle.weighted_pages.proofs.neighbours.Neighbours.fill_weights_below.Goals as goal
 
 pub returns : goal.returns
