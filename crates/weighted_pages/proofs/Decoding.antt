@@ -6,7 +6,6 @@ use Rattle.std.proofs.lemmas.List.{drop-drop, get_or-map, length-map}
 use Rattle.ascending_lists.specs.Ascending.{AscendsFrom}
 use Rattle.weighted_pages.specs.inside.Numbers.{number_of, number_at}
 use Rattle.weighted_pages.specs.inside.Packed.{after_first, list_of, entries_of, IsView, IsWeightedView}
-use Rattle.edge_updates.specs.Weighted.{weighted}
 use Rattle.edge_updates.proofs.Weighted.{things_of, length_weighted, weights_of}
 use Rattle.weighted_pages.specs.declared.weights.WeightWidth.{WeightWidth}
 use Rattle.weighted_pages.specs.inside.Weights.{weight_size, weight_in, weights_from}

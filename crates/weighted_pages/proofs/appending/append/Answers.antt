@@ -1,4 +1,4 @@
-use Rattle.std.proofs.Common.{◌≡◌, ◌-◌, ◌*◌, get_or, drop, refl, arith}
+use Rattle.std.proofs.Common.{get_or, drop, arith}
 use Rattle.weighted_pages.specs.declared.entry.ListEntry.{ListEntry}
 use Rattle.weighted_pages.proofs.Extending.{end_from}
 use Rattle.weighted_pages.proofs.Copying.{next_fits}

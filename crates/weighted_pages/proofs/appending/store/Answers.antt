@@ -1,4 +1,4 @@
-use Rattle.std.proofs.Common.{◌≡◌, ℕ, ◌+◌, ◌-◌, ◌*◌, [], ◌∷◌, ◌++◌, replicate, length, take, drop, refl, sym, ◌∙◌, ap, arith, vec_len}
+use Rattle.std.proofs.Common.{◌≡◌, ℕ, ◌+◌, ◌-◌, [], ◌∷◌, ◌++◌, replicate, length, take, drop, sym, ◌∙◌, ap, arith, vec_len}
 use Rattle.weighted_pages.specs.declared.entry.ListEntry.{ListEntry}
 use Rattle.edge_updates.specs.Weighted.{weighted}
 use Rattle.weighted_pages.specs.inside.Entries.{size_of, end_of}

@@ -1,9 +1,9 @@
-use Rattle.std.proofs.Common.{◌≡◌, ℕ, ◌+◌, ◌-◌, ◌*◌, ◌≤◌, length, take, drop, refl, sym, ◌∙◌, ap, arith}
+use Rattle.std.proofs.Common.{◌≡◌, ◌+◌, ◌-◌, ◌*◌, ◌≤◌, length, take, drop, refl, sym, ◌∙◌, ap, arith}
 use Rattle.std.proofs.lemmas.List.{drop-drop}
 use Rattle.edge_updates.specs.Weighted.{weighted}
 use Rattle.weighted_pages.specs.inside.Weights.{weights_from, column_of}
 use Rattle.weighted_pages.specs.inside.Packed.{elements_in}
-use Rattle.weighted_pages.specs.inside.Entries.{keys_size, keys_at, weights_at}
+use Rattle.weighted_pages.specs.inside.Entries.{keys_size, weights_at}
 use Rattle.weighted_pages.proofs.Encoding.{front_stays, middle_stays, same_front}
 use Rattle.weighted_pages.proofs.Weighing.{weighted_column}
 use Rattle.weighted_pages.proofs.appending.write_list.Goals as goal

@@ -1,4 +1,4 @@
-use Rattle.std.proofs.Common.{◌≡◌, pos, ◌-◌, ◌++◌, replicate, length, take, sym, ◌∙◌, ap, arith, vec_len}
+use Rattle.std.proofs.Common.{◌≡◌, pos, ◌-◌, ◌++◌, replicate, length, take, ◌∙◌, ap, arith, vec_len}
 use Rattle.std.proofs.lemmas.List.{take-take}
 use Rattle.weighted_pages.proofs.Weighing.{padded}
 use Rattle.weighted_pages.proofs.columns.pad.Goals as goal

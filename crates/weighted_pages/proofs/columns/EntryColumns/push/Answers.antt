@@ -1,6 +1,6 @@
-use Rattle.std.proofs.Common.{◌≡◌, ℕ, ℤ, pos, w64, List, [], ◌∷◌, ◌++◌, length, take, sym, ◌∙◌, ap, arith, rules}
+use Rattle.std.proofs.Common.{◌≡◌, ℤ, pos, w64, List, [], ◌∷◌, ◌++◌, length, take, sym, ◌∙◌, ap, arith}
 use Rattle.std.proofs.lemmas.Int.{to_z-of_z}
-use mir.Val.{SFits, to_z, of_z}
+use mir.Val.{to_z, of_z}
 use Rattle.edge_updates.specs.Weighted.{weighted}
 use Rattle.edge_updates.proofs.Weighted.{weighted_append, weighted_one}
 use Rattle.weighted_pages.specs.inside.Weights.{column_of}

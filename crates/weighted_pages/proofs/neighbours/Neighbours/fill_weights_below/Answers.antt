@@ -1,4 +1,4 @@
-use Rattle.std.proofs.Common.{◌≡◌, ◌-◌, ◌≤◌, reverse, length, take, drop, ◌∙◌, ap, arith}
+use Rattle.std.proofs.Common.{reverse, length, ◌∙◌, ap, arith}
 use Rattle.std.specs.Map.{values_of}
 use Rattle.std.proofs.lemmas.List.{length-map}
 use Rattle.weighted_pages.proofs.Filling.{turned}

@@ -1,7 +1,7 @@
-use Rattle.std.proofs.Common.{◌≡◌, ℕ, ◌+◌, ◌-◌, ◌*◌, ◌<◌, length, drop, ◌∙◌, ap, arith}
+use Rattle.std.proofs.Common.{◌≡◌, ◌+◌, ◌-◌, ◌*◌, length, drop, ◌∙◌, ap, arith}
 use Rattle.std.proofs.lemmas.Grind.{common_steps}
 use Rattle.weighted_pages.specs.inside.Weights.{weight_size, weights_from}
-use Rattle.weighted_pages.proofs.Decoding.{weights_room, weights_are, entry_count}
+use Rattle.weighted_pages.proofs.Decoding.{weights_room, weights_are}
 use Rattle.weighted_pages.proofs.neighbours.Neighbours.fill_weights_from.Goals as goal
 
 pub overflow_mul-start-2 : goal.overflow_mul-start-2

@@ -1,4 +1,4 @@
-use Rattle.std.proofs.Common.{◌≡◌, ℕ, Some, w64, sym, ◌∙◌, ap, arith, rules}
+use Rattle.std.proofs.Common.{Some, w64, sym, ◌∙◌, ap, arith, rules}
 use Rattle.std.proofs.lemmas.Int.{to_z-of_z}
 use mir.Val.{SFits}
 use Rattle.weighted_pages.proofs.Cuts.{weight_there, weight_missing}

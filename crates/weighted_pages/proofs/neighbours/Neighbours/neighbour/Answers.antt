@@ -1,4 +1,4 @@
-use Rattle.std.proofs.Common.{◌≡◌, ℕ, ◌+◌, ◌-◌, ◌<◌, ◌∙◌, length, get_or, ap, arith}
+use Rattle.std.proofs.Common.{◌≡◌, ℕ, ◌+◌, ◌-◌, ◌∙◌, get_or, ap, arith}
 use Rattle.std.specs.Map.{keys_of}
 use Rattle.weighted_pages.proofs.Decoding.{room_at, read_at, read_first, keys_seen, keys_long}
 use Rattle.weighted_pages.proofs.neighbours.Neighbours.neighbour.Goals as goal

@@ -1,4 +1,4 @@
-use Rattle.std.proofs.Common.{◌≡◌, ℕ, ℤ, pos, ◌≤ℤ◌, ◌<◌, ◌+◌, get_or, w64, int_cmp, refl, inl, inr, sym, ◌∙◌, ap, arith, rules}
+use Rattle.std.proofs.Common.{◌≡◌, ℕ, ℤ, pos, ◌≤ℤ◌, get_or, w64, int_cmp, refl, inl, inr, ◌∙◌, ap, arith, rules}
 use Rattle.std.specs.Ordering.{ord_min, ord_max}
 use Rattle.std.specs.Int.{int_min, int_max}
 use Rattle.std.proofs.lemmas.Bool.{cases_Bool}
