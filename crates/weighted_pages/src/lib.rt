@@ -31,7 +31,7 @@
 //! a mask cuts out its own. So reading has no branch, the neighbour and the weight at an index take constant
 //! time, a look-up is a binary search and one read, and a walk downward costs what one upward does.
 //!
-//! [`rank`] and [`width_of`] serve blocks of vertices too. The widths are those of a frame of reference
+//! [`rank`], [`width_of`] and [`weight_width_of`] serve blocks of vertices too. The widths are those of a frame of reference
 //! (Goldstein, Ramakrishnan, Shaft, ICDE 1998), and the ranks are Jacobson's (Space-efficient Static Trees
 //! and Graphs, FOCS 1989).
 #![tactic(auto)]
@@ -64,4 +64,5 @@ pub use neighbours::Neighbours;
 pub use page::{MAX_PACKED, Page};
 pub use updates::{merge, run_length};
 pub use walks::{Ascending, Descending};
+pub use weights::weight_width_of;
 pub use writing::width_of;
