@@ -2,7 +2,7 @@ use Rattle.std.proofs.Common.{◌≡◌, ℕ, ◌+◌, ◌-◌, [], ◌∷◌, �
 use Rattle.weighted_pages.specs.declared.entry.ListEntry.{ListEntry}
 use Rattle.edge_updates.specs.Weighted.{weighted}
 use Rattle.weighted_pages.specs.inside.Entries.{size_of, end_of}
-use Rattle.weighted_pages.proofs.Ascent.{rises}
+use Rattle.ascending_lists.proofs.Cutting.{rises}
 use Rattle.weighted_pages.proofs.Extending.{end_small, longer_front, written_back, stored}
 use Rattle.weighted_pages.proofs.appending.store.Goals as goal
 

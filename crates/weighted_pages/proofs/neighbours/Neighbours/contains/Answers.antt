@@ -1,6 +1,7 @@
 use Rattle.std.proofs.Common.{ℕ, ◌+◌, ◌-◌, ◌/◌, ◌∙◌, sym, arith}
 use Rattle.std.specs.Map.{keys_of}
-use Rattle.weighted_pages.proofs.Ascent.{rises, has_at, has_between}
+use Rattle.ascending_lists.proofs.Cutting.{rises}
+use Rattle.weighted_pages.proofs.Ascent.{has_at, has_between}
 use Rattle.weighted_pages.proofs.Decoding.{keys_long}
 use Rattle.weighted_pages.proofs.neighbours.Neighbours.contains.Goals as goal
 

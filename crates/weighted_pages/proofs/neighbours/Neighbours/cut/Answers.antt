@@ -1,5 +1,6 @@
 use Rattle.std.proofs.Common.{ℕ, ◌+◌, ◌-◌, ◌/◌, arith}
-use Rattle.weighted_pages.proofs.Ascent.{rises, rises_strictly}
+use Rattle.ascending_lists.proofs.Cutting.{rises}
+use Rattle.weighted_pages.proofs.Ascent.{rises_strictly}
 use Rattle.std.specs.Map.{keys_of}
 use Rattle.weighted_pages.proofs.Decoding.{keys_long}
 use Rattle.weighted_pages.proofs.Cuts.{cut_below, cut_above}
