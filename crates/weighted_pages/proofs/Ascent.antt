@@ -15,14 +15,7 @@ low_at low [] s i lt = absurd (omega arith)
 low_at low (x ∷ xs) s zero lt = s.0
 low_at low (x ∷ xs) s (suc i) lt = omega (arith, s.0, low_at (x + 1) xs s.2 i (omega arith))
 
--- elements stand in the order of their indices
-pub rises : (low : ℕ) (xs : List ℕ) → AscendsFrom low xs → (i j : ℕ) → i ≤ j → j < length xs → get_or xs i 0 ≤ get_or xs j 0
-rises low [] s i j le lt = absurd (omega arith)
-rises low (x ∷ xs) s zero zero le lt = omega arith
-rises low (x ∷ xs) s zero (suc j) le lt = omega (arith, low_at (x + 1) xs s.2 j (omega arith))
-rises low (x ∷ xs) s (suc i) zero le lt = absurd (omega arith)
-rises low (x ∷ xs) s (suc i) (suc j) le lt = rises (x + 1) xs s.2 i j (omega arith) (omega arith)
-
+-- elements at different indices stand in their order
 pub rises_strictly : (low : ℕ) (xs : List ℕ) → AscendsFrom low xs → (i j : ℕ) → i < j → j < length xs → get_or xs i 0 < get_or xs j 0
 rises_strictly low [] s i j le lt = absurd (omega arith)
 rises_strictly low (x ∷ xs) s i zero le lt = absurd (omega arith)

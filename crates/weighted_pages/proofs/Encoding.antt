@@ -6,7 +6,8 @@ use native.Mathlib.Nat.{mod-eq_of_lt}
 use Rattle.ascending_lists.specs.Ascending.{AscendsFrom}
 use Rattle.weighted_pages.specs.inside.Numbers.{number_of, number_at}
 use Rattle.weighted_pages.specs.inside.Packed.{after_first, list_of, elements_in, span_of}
-use Rattle.weighted_pages.proofs.Ascent.{rises, small_at}
+use Rattle.ascending_lists.proofs.Cutting.{rises}
+use Rattle.weighted_pages.proofs.Ascent.{small_at}
 use Rattle.weighted_pages.proofs.Masks.{number_cut}
 
 -- four bytes that a number is written in make the number

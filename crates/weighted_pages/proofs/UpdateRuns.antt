@@ -1,5 +1,5 @@
 -- Updates by vertices.
-use Rattle.std.proofs.Common.{◌≡◌, ◌≢◌, ℕ, ℤ, ◌+◌, ◌*◌, ◌/◌, ◌%◌, ◌^◌, ◌<◌, ◌≤◌, inl, inr, List, [], ◌∷◌, ◌++◌, length, get_or, take, drop, refl, sym, ◌∙◌, ap, subst, arith, append_assoc, get_or-drop, length-drop}
+use Rattle.std.proofs.Common.{◌≡◌, ◌≢◌, ℕ, ℤ, pos, ◌+◌, ◌*◌, ◌/◌, ◌%◌, ◌^◌, ◌<◌, ◌≤◌, inl, inr, List, [], ◌∷◌, ◌++◌, length, get_or, take, drop, refl, sym, ◌∙◌, ap, subst, arith, append_assoc, get_or-drop, length-drop}
 use Rattle.std.specs.Map.{keys_of}
 use Rattle.std.proofs.lemmas.Bool.{cases_eq, ne_eqb, eq-eqb}
 use Rattle.std.proofs.lemmas.List.{append-nil, drop_more, take_more}
@@ -8,6 +8,10 @@ use Rattle.edge_updates.specs.EdgeUpdate.{vertex_of, neighbour_of}
 use Rattle.edge_updates.specs.Updates.{IsBefore, FollowAscending, Ascend}
 use Rattle.weighted_pages.specs.Updates.{vertex_in_page, AreOfBlock, updates_of, NeighboursAscend, key_in_page, EdgesAscend}
 use Rattle.weighted_pages.proofs.Merging.{neighbour_small}
+
+-- an update for an index that is not there
+abbrev pub no_update : EdgeUpdate × ℤ
+no_update = (record { bits = 0 }, pos 0)
 
 -- an edge before another one of its block
 before_in_page : (a u : EdgeUpdate) → IsBefore a u → vertex_of a / 64 ≡ vertex_of u / 64 → key_in_page a + 1 ≤ key_in_page u
@@ -20,12 +24,12 @@ before_in_page a u s block = elim (cases_eq (vertex_of a) (vertex_of u)) [
       omega (arith, below, neighbour_small a)
 ]
 
-follow_in_page : (block : ℕ) (a : EdgeUpdate) (us : List (EdgeUpdate × ℤ)) → FollowAscending a (keys_of us) → vertex_of a / 64 ≡ block → AreOfBlock block (keys_of us) → EdgesAscend (key_in_page a + 1) us
+follow_in_page : (block : ℕ) (a : EdgeUpdate) (us : List (EdgeUpdate × ℤ)) → FollowAscending a (keys_of us) → vertex_of a / 64 ≡ block → AreOfBlock block us → EdgesAscend (key_in_page a + 1) us
 follow_in_page block a [] s at t = tt
 follow_in_page block a (u ∷ us) s at t = (before_in_page a u.0 s.0 (at ∙ sym t.0), follow_in_page block u.0 us s.1 t.0 t.1)
 
 -- updates of a block that ascend
-pub ascend_in_page : (block : ℕ) (us : List (EdgeUpdate × ℤ)) → Ascend (keys_of us) → AreOfBlock block (keys_of us) → EdgesAscend 0 us
+pub ascend_in_page : (block : ℕ) (us : List (EdgeUpdate × ℤ)) → Ascend (keys_of us) → AreOfBlock block us → EdgesAscend 0 us
 ascend_in_page block [] s t = tt
 ascend_in_page block (u ∷ us) s t = (omega arith, follow_in_page block u.0 us s t.0 t.1)
 
