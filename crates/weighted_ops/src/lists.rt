@@ -32,7 +32,12 @@ pub fn insert_all(alloc: Global, set: &CTree, entries: &Entries<'_>) -> Result<C
 pub fn remove_all(alloc: Global, set: &CTree, keys: &[u32]) -> Result<CTree, SetError>
     ensures { Removes set.now keys.now result }
 {
-    with_list(alloc, MapOperation::Difference, set, &Entries::of_keys(keys))
+    with_list(
+        alloc,
+        MapOperation::Difference,
+        set,
+        &Entries::of_keys(keys),
+    )
 }
 
 /// What an operation gives for a set and a list, which is refused where its keys do not ascend.

@@ -31,8 +31,14 @@ fn unites_and_subtracts(rt: HostRuntime) -> Result<(), Fail> {
             union(rt.alloc(), &pair.first, &pair.second)?,
             difference(rt.alloc(), &pair.first, &pair.second)?,
         );
-        assert!(rt; pair.is(rt.alloc(), MapOperation::Union, &union)?, "union {first:?}");
-        assert!(rt; pair.is(rt.alloc(), MapOperation::Difference, &rest)?, "difference {first:?}");
+        assert!(rt;
+            pair.is(rt.alloc(), MapOperation::Union, &union)?,
+            "union {first:?}"
+        );
+        assert!(rt;
+            pair.is(rt.alloc(), MapOperation::Difference, &rest)?,
+            "difference {first:?}"
+        );
     }
     Ok(())
 }
@@ -45,8 +51,14 @@ fn unites_and_subtracts_on_two_threads(rt: HostRuntime) -> Result<(), Fail> {
             union_forked(&rt, rt.alloc(), &pair.first, &pair.second, 2, &Quiet)?,
             difference_forked(&rt, rt.alloc(), &pair.first, &pair.second, 2, &Quiet)?,
         );
-        assert!(rt; pair.is(rt.alloc(), MapOperation::Union, &union)?, "union {first:?}");
-        assert!(rt; pair.is(rt.alloc(), MapOperation::Difference, &rest)?, "difference {first:?}");
+        assert!(rt;
+            pair.is(rt.alloc(), MapOperation::Union, &union)?,
+            "union {first:?}"
+        );
+        assert!(rt;
+            pair.is(rt.alloc(), MapOperation::Difference, &rest)?,
+            "difference {first:?}"
+        );
     }
     Ok(())
 }
@@ -60,8 +72,14 @@ fn inserts_and_removes(rt: HostRuntime) -> Result<(), Fail> {
             insert_all(rt.alloc(), &pair.first, &list.lent())?,
             remove_all(rt.alloc(), &pair.first, list.lent().keys())?,
         );
-        assert!(rt; pair.is(rt.alloc(), MapOperation::Union, &more)?, "inserted {first:?}");
-        assert!(rt; pair.is(rt.alloc(), MapOperation::Difference, &rest)?, "removed {first:?}");
+        assert!(rt;
+            pair.is(rt.alloc(), MapOperation::Union, &more)?,
+            "inserted {first:?}"
+        );
+        assert!(rt;
+            pair.is(rt.alloc(), MapOperation::Difference, &rest)?,
+            "removed {first:?}"
+        );
     }
     Ok(())
 }
