@@ -22,7 +22,7 @@ pub above_rises : (k : ℕ) (es : List (ℕ × ℤ)) → Ascends None (keys_of e
 above_rises k es s = rw (keys_above k es) (above_ascends k 0 (keys_of es) s)
 
 -- a tail that is cut has no head on either side
-module _ (b k : ℕ) (s all : List (ℕ × ℤ)) (same : all ≡ s) (none : HasNoHead b s) (up : Ascends None (keys_of s)) (l : List (ℕ × ℤ)) (found : Option ℤ) (r : List (ℕ × ℤ)) (cut : CutsEntries k all l found r) where
+module _ (b k : ℕ) (s all : List (ℕ × ℤ)) (same : all ≡ s) (none : HasNoHead b s) (up : Ascends None (keys_of s)) (l r : List (ℕ × ℤ)) (found : Option ℤ) (cut : CutsEntries k all l found r) where
   pub front_ascends : Ascends None (keys_of l)
   front_ascends = rw (cut.front, same) (below_rises k s up)
 

@@ -69,7 +69,7 @@ module _ (k : ℕ) (whole : List (ℕ × ℤ)) (tail : BasedList) (t l : Balance
   }
 
   pub at_head : k ≡ h → Some v.weight ≡ lookup k whole
-  at_head e = sym (rw e (lookup_here 0 (2 ^ 32) es h v.weight rs is'.map)) ∙ is'.same
+  at_head e = sym (ap (λ j. lookup j (es ++ (h, v.weight) ∷ rs)) e ∙ lookup_here 0 (2 ^ 32) es h v.weight rs is'.map) ∙ is'.same
 
 -- where no chunk is left, what is at a key stands in the tail
 pub stands_in_tail : (k : ℕ) (whole : List (ℕ × ℤ)) (tail : BasedList) (t : Balanced HeadValue) (found : Option ℤ) → t ≡ empty → IsWhere k whole (together tail t.entries) → found ≡ lookup k tail.entries → found ≡ lookup k whole

@@ -108,7 +108,7 @@ fn write_chunks(
 ) -> Result<Vec<(u32, ChunkTail)>, AllocError>
     requires ascending { Ascends None (keys_of entries) }
     requires cut { before_head chunk_size entries ≡ [] }
-    ensures { IfOk result (λ v. v.items ≡ chunks_of chunk_size entries) }
+    ensures { IfOk result (λ v. v.items ≡ chunks_of chunk_size entries.entry) }
 {
     let mut chunks = Vec::new(alloc);
     let mut rest = entries;

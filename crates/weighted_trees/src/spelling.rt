@@ -50,10 +50,7 @@ fn append_together<'a>(
         return Ok(prefix);
     };
     let last = append_together(bytes, prefix, below)?;
-    append_entry(
-        bytes,
-        u64::from(head) - last.least_after(),
-        at_head.weight(),
-    )?;
+    let distance = u64::from(head) - last.least_after();
+    append_entry(bytes, distance, at_head.weight())?;
     append_together(bytes, at_head.tail(), above)
 }

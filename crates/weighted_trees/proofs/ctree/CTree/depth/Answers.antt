@@ -1,11 +1,11 @@
 use Rattle.std.proofs.Common.{◌≡◌, ℕ, [], ◌∷◌, length, sym, ap, ◌∙◌, arith, refl, length-append}
-use Rattle.weighted_tails.specs.Spelling.{BasedList}
+use Rattle.weighted_trees.specs.Chunks.{HeadValue}
 use Rattle.shared_tree.specs.Balanced.{Balanced, IsFork}
 use Rattle.weighted_trees.proofs.Chunking.{one_chunks}
 use Rattle.weighted_trees.proofs.ctree.CTree.depth.Goals as goal
 
 -- a tree with a root has an entry
-not_empty : (t l : Balanced HeadValue) (k : ℕ) (v : BasedList) (r : Balanced HeadValue) → IsFork t l k v r → t.entries ≡ [] → ⊥
+not_empty : (t l : Balanced HeadValue) (k : ℕ) (v : HeadValue) (r : Balanced HeadValue) → IsFork t l k v r → t.entries ≡ [] → ⊥
 not_empty t l k v r f e = omega (arith, ap length (sym f.entries ∙ e), length-append l.entries ((k, v) ∷ r.entries))
 
 pub returns-in-None-clause-none : goal.returns-in-None-clause-none

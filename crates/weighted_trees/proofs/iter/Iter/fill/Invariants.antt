@@ -5,7 +5,7 @@ use Rattle.weighted_trees.proofs.iter.Iter.fill.Given as goal
 
 abbrev pub invariant-loop-filled : goal.invariant-loop-filled
 invariant-loop-filled l = record {
-  read : IsFilled l.filled l.fn.self (l.self-inside.tail ++ entries_of l.self-inside.chunks) l.fn.block l.block;
+  read : IsFilled (λ e. e.0) l.filled l.fn.self (l.self-inside.tail ++ entries_of l.self-inside.chunks) l.fn.block l.block;
   stopped : l.filled < length l.block → l.self-inside.tail ≡ [];
 }
 

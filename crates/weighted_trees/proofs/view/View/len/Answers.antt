@@ -1,12 +1,12 @@
-use Rattle.std.proofs.Common.{length, ap, ◌∙◌, arith}
+use Rattle.std.proofs.Common.{length, ap, ◌∙◌}
+use Rattle.weighted_tails.proofs.Writing.{few_entries}
 use Rattle.weighted_trees.specs.Chunks.{ChunkedSet, together}
-use Rattle.ascending_lists.proofs.Ascending.{ascends_room}
 use Rattle.weighted_trees.proofs.view.View.len.Goals as goal
 
 pub total_len-requires : goal.total_len-requires
 total_len-requires c =
     let v = c.self.inside in
-    rw c.new.ensures.heads (omega (arith, ascends_room 0 (together v.prefix.now v.chunks.now.entries) (omega arith) c.self.invariant.ascending))
+    rw c.new.ensures.heads (few_entries 0 (together v.prefix.now v.chunks.now.entries) c.self.invariant.ascending)
 
 pub returns : goal.returns
 returns c =
