@@ -1,16 +1,17 @@
 -- A list of entries that grows at its end, and its bytes with it.
-use Rattle.std.proofs.Common.{◌≡◌, ℕ, ◌+◌, ◌-◌, ◌^◌, ◌<◌, ◌≤◌, zero, suc, ℤ, pos, inl, inr, List, [], ◌∷◌, ◌++◌, length, take, drop, get_or, refl, sym, ◌∙◌, ap, subst, append_assoc, arith}
+use Rattle.std.proofs.Common.{◌≡◌, ℕ, ◌+◌, ◌-◌, ◌*◌, ◌^◌, ◌<◌, ◌≤◌, zero, suc, ℤ, pos, inl, inr, None, List, [], ◌∷◌, ◌++◌, length, take, drop, get_or, refl, sym, ◌∙◌, ap, subst, append_assoc, arith}
 use Rattle.std.specs.List.{zip}
 use Rattle.std.specs.Map.{keys_of}
 use Rattle.std.proofs.Math.Seq.{take-append_seam}
 use Rattle.std.proofs.lemmas.Bool.{cases_Bool}
-use Rattle.std.proofs.lemmas.List.{append-nil, take_all, take_more}
+use Rattle.std.proofs.lemmas.List.{append-nil, drop_more, take_all, take_more}
 use Rattle.std.proofs.lemmas.Slice.Zip.{length-zip}
 use Rattle.ascending_lists.specs.Ascending.{AscendsFrom}
 use Rattle.ascending_lists.proofs.Ascending.{ascends_from, ascends_room}
+use Rattle.weighted_tails.specs.Columns.{entries_in}
 use Rattle.weighted_tails.specs.Appending.{least_after}
 use Rattle.weighted_tails.specs.Spelling.{SpellsNumbers, SpellsFrom, AreWeights, weight_number, is_one, entry_numbers, list_numbers}
-use Rattle.weighted_tails.specs.inside.Writing.{WritesEntry, entry_room}
+use Rattle.weighted_tails.specs.inside.Writing.{WritesEntry, entry_room, list_room}
 use Rattle.weighted_tails.proofs.Numbers.{numbers_append}
 
 -- an entry and others behind a list
@@ -101,6 +102,21 @@ written low n es g place next old new within ascends spells is fits writes =
 -- the room for an entry
 pub room_small : (w : ℤ) → entry_room w ≤ 15
 room_small w = elim (cases_Bool (is_one w)) [ inl h ↦ rw h (omega arith) | inr h ↦ rw h (omega arith) ]
+
+-- the room for entries, for those of weight 1, and for those from a place on
+pub list_room_small : (es : List (ℕ × ℤ)) → list_room es ≤ 15 * length es
+list_room_small [] = omega arith
+list_room_small (e ∷ es) = omega (arith, room_small e.1, list_room_small es)
+
+ones_room : (keys : List ℕ) → list_room (entries_in keys None) ≡ 5 * length keys
+ones_room [] = refl
+ones_room (k ∷ ks) = omega (arith, ones_room ks)
+
+pub list_room_ones : (es : List (ℕ × ℤ)) → es ≡ entries_in (keys_of es) None → list_room es ≡ 5 * length es
+list_room_ones es is = omega (arith, ap list_room is, ones_room (keys_of es), length_keys es)
+
+pub room_after : (n : ℕ) (es : List (ℕ × ℤ)) → n < length es → list_room (drop n es) ≡ entry_room (get_or es n (0, pos 0)).1 + list_room (drop (n + 1) es)
+room_after n es within = ap list_room (drop_more es n (0, pos 0) within)
 
 -- a vector whose elements were written anew
 pub written_anew : {A : Type 0} (n : ℕ) (new old : List A) → length new ≡ n → take n (new ++ drop (length new) old) ≡ new

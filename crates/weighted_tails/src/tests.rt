@@ -1,5 +1,8 @@
-//! Bytes of tails, lists that are put together in them, and blocks of keys.
-use crate::{EntryList, MapOperation, Tail, append_entry, merge_entries};
+//! Bytes of tails, lists that are put together in them, blocks of keys, and entries that are cut and merged.
+use crate::{
+    Entries, EntryList, MapOperation, Tail, TailError, append_entry, cut_entries, merge_entries,
+};
+use ascending_lists::ascends;
 use std::alloc::Global;
 use std::test::Fail;
 
@@ -82,6 +85,25 @@ fn refuses_other_bytes(rt: HostRuntime) -> Result<(), Fail> {
     Ok(())
 }
 
+// A base, and entries whose keys do not ascend from it.
+const OUT_OF_ORDER: [(Option<u32>, &[(u32, i64)]); 4] = [
+    (None, &[(3, 1), (3, 2)]),
+    (None, &[(4, 1), (3, 1)]),
+    (Some(5), &[(5, 1)]),
+    (Some(5), &[(4, 2), (6, 1)]),
+];
+
+#[test]
+fn refuses_keys_out_of_order(rt: HostRuntime) -> Result<(), Fail> {
+    for (base, list) in &OUT_OF_ORDER {
+        assert!(rt;
+            Tail::encode(rt.alloc(), *base, list).err() == Some(TailError::NotAscending),
+            "{list:?}"
+        );
+    }
+    Ok(())
+}
+
 // How many strings of so many bytes spell a list over no base.
 const COUNTS: [(usize, u32); 3] = [(0, 1), (1, 64), (2, 20_352)];
 
@@ -124,6 +146,104 @@ fn puts_a_list_together_in_its_bytes(rt: HostRuntime) -> Result<(), Fail> {
     );
     assert!(rt; cut.above.iter().eq(rest.iter()), "what is above 3");
     Ok(())
+}
+
+// Entries, a key, what is below the key, the weight of the key, and what is above it.
+type Cut = (
+    &'static [(u32, i64)],
+    u32,
+    &'static [(u32, i64)],
+    Option<i64>,
+    &'static [(u32, i64)],
+);
+
+const LIST: &[(u32, i64)] = &[(1, 1), (3, -2), (7, 5)];
+
+const CUTS: [Cut; 8] = [
+    (LIST, 3, &[(1, 1)], Some(-2), &[(7, 5)]),
+    (LIST, 1, &[], Some(1), &[(3, -2), (7, 5)]),
+    (LIST, 7, &[(1, 1), (3, -2)], Some(5), &[]),
+    (LIST, 0, &[], None, LIST),
+    (LIST, 4, &[(1, 1), (3, -2)], None, &[(7, 5)]),
+    (LIST, 4_294_967_295, LIST, None, &[]),
+    (&[(1, 1), (3, 1)], 3, &[(1, 1)], Some(1), &[]),
+    (&[], 3, &[], None, &[]),
+];
+
+#[test]
+fn cuts_and_joins(rt: HostRuntime) -> Result<(), Fail> {
+    for cut in &CUTS {
+        assert!(rt; entries_are_cut(rt.alloc(), *cut)?, "entries: {cut:?}");
+        assert!(rt; a_tail_is_cut(rt.alloc(), *cut)?, "a tail: {cut:?}");
+    }
+    Ok(())
+}
+
+// Whether entries in columns are cut so.
+fn entries_are_cut(alloc: Global, (list, key, below, weight, above): Cut) -> Result<bool, Fail> {
+    let entries = EntryList::from_pairs(alloc, list)?;
+    let entries = entries.lent();
+    if !ascends(None, entries.keys()) {
+        return Ok(false);
+    }
+    let (front, found, back) = cut_entries(&entries, key);
+    Ok(are_entries(&front, below) && found == weight && are_entries(&back, above))
+}
+
+// Whether a tail is cut so.
+fn a_tail_is_cut(alloc: Global, (list, key, below, weight, above): Cut) -> Result<bool, Fail> {
+    let cut = Tail::encode(alloc, None, list)?.cut(alloc, key)?;
+    let (front, back) = (cut.below.iter(), cut.above.iter());
+    let sides = front.eq(below.iter().copied()) && back.eq(above.iter().copied());
+    Ok(sides && cut.found == weight)
+}
+
+// Whether entries in columns are these.
+fn are_entries(entries: &Entries<'_>, list: &[(u32, i64)]) -> bool {
+    let keys = entries.keys();
+    if keys.len() != list.len() || entries.len() != list.len() {
+        return false;
+    }
+    for place in 0..list.len() {
+        if list[place] != (keys[place], entries.weight(place)) {
+            return false;
+        }
+    }
+    true
+}
+
+// A base, another base below the same entries, and the bytes over the other.
+type Move = (
+    Option<u32>,
+    Option<u32>,
+    &'static [(u32, i64)],
+    &'static [u8],
+);
+
+const MOVES: [Move; 4] = [
+    (None, Some(10), &[(11, 7)], b"\x01\x0e"),
+    (Some(10), None, &[(11, 7)], b"\x17\x0e"),
+    (Some(2), Some(2), &[(3, 1), (5, 1)], b"\x00\x02"),
+    (Some(2), Some(7), &[], b""),
+];
+
+#[test]
+fn stands_over_another_base(rt: HostRuntime) -> Result<(), Fail> {
+    for row in &MOVES {
+        assert!(rt; is_moved(rt.alloc(), *row)?, "{row:?}");
+    }
+    Ok(())
+}
+
+// Whether a tail of these entries has these bytes over the other base.
+fn is_moved(alloc: Global, (base, other, list, bytes): Move) -> Result<bool, Fail> {
+    let tail = Tail::encode(alloc, base, list)?;
+    let entries = tail.entries(alloc)?;
+    if !ascends(other, entries.lent().keys()) {
+        return Ok(false);
+    }
+    let moved = tail.over(alloc, other)?;
+    Ok(moved.base() == other && moved.bytes() == bytes)
 }
 
 #[test]
@@ -224,7 +344,10 @@ fn merges_entries(rt: HostRuntime) -> Result<(), Fail> {
 fn is_merged(alloc: Global, (operation, first, second, both): Merge) -> Result<bool, Fail> {
     let first = EntryList::from_pairs(alloc, first)?;
     let second = EntryList::from_pairs(alloc, second)?;
-    let merged = merge_entries(alloc, operation, &first.lent(), &second.lent())?;
-    let tail = Tail::from_ascending(alloc, None, &merged.lent())?;
-    Ok(tail.iter().eq(both.iter().copied()))
+    let (first, second) = (first.lent(), second.lent());
+    if !ascends(None, first.keys()) || !ascends(None, second.keys()) {
+        return Ok(false);
+    }
+    let merged = merge_entries(alloc, operation, &first, &second)?;
+    Ok(are_entries(&merged.lent(), both))
 }

@@ -11,6 +11,7 @@ ghost use Rattle.weighted_tails.specs.inside.Writing.{
   WritesEntry,
   WritesList,
   entry_room,
+  list_room,
 };
 
 use crate::base::least_over;
@@ -21,6 +22,9 @@ use std::alloc::{AllocError, Global};
 
 /// How many bytes an entry may have.
 const MAX_BYTES: usize = 15;
+
+/// How many bytes an entry of weight 1 may have.
+const MAX_BYTES_OF_ONE: usize = 5;
 
 /// Writes tails of entries, one after another, and keeps its buffer.
 pub struct TailWriter {
@@ -54,7 +58,7 @@ impl TailWriter {
         requires { Ascends base (keys_of entries.now) }
         ensures { IfOk result (λ t. t ≡ based_list base entries.now) }
     {
-        let room = entries.len().saturating_mul(MAX_BYTES);
+        let room = room_for(entries);
         if self.buffer.len() < room {
             self.buffer.resize(room, 0)?;
         }
@@ -79,10 +83,21 @@ pub fn append_entry(bytes: &mut Vec<u8>, distance: u64, weight: i64) -> Result<(
     bytes.extend_from_slice(&buffer[..len])
 }
 
+/// How many bytes have room for those of entries.
+fn room_for(entries: &Entries<'_>) -> usize
+    requires { length entries.now ≤ 2 ^ 32 }
+    ensures { list_room entries.now ≤ result }
+{
+    if entries.has_only_ones() {
+        return entries.len() * MAX_BYTES_OF_ONE;
+    }
+    entries.len() * MAX_BYTES
+}
+
 /// Writes the bytes of entries into the front of a buffer, and gives their number.
 fn write_list(low: u64, entries: &Entries<'_>, buffer: &mut [u8]) -> usize
     requires ascending { AscendsFrom low (keys_of entries.now) }
-    requires room { length entries.now * MAX_BYTES ≤ length buffer.old }
+    requires room { list_room entries.now ≤ length buffer.old }
     ensures { WritesList low entries.now buffer.new result }
 {
     let mut low = low;

@@ -1,5 +1,5 @@
 -- Bytes that are written into a buffer.
-use Rattle.std.specs.Prelude.{◌≡◌, ℕ, ◌+◌, ◌*◌, ◌^◌, ◌<◌, ◌≤◌, if◌then◌else◌, ℤ, List, ◌++◌, length, take}
+use Rattle.std.specs.Prelude.{◌≡◌, ℕ, ◌+◌, ◌*◌, ◌^◌, ◌<◌, ◌≤◌, if◌then◌else◌, ℤ, List, [], ◌∷◌, ◌++◌, length, take}
 use Rattle.weighted_tails.specs.Spelling.{SpellsNumber, SpellsNumbers, entry_numbers, is_one, SpellsFrom}
 
 -- n bytes have room for k
@@ -17,6 +17,11 @@ pub record WritesNumber (k place : ℕ) (old : List ℕ) (next : ℕ) (new : Lis
 -- how many bytes an entry of this weight may have
 abbrev pub entry_room : ℤ → ℕ
 entry_room w = if is_one w then 5 else 15
+
+-- how many bytes entries may have together
+abbrev pub list_room : List (ℕ × ℤ) → ℕ
+list_room [] = 0
+list_room (e ∷ es) = entry_room e.1 + list_room es
 
 -- The bytes of an entry, whose key is g above the least, stand in new from a place on.
 pub record WritesEntry (g : ℕ) (w : ℤ) (place : ℕ) (old : List ℕ) (next : ℕ) (new : List ℕ) : Type 0 where

@@ -1,9 +1,9 @@
-use Rattle.std.proofs.Common.{◌≡◌, ℕ, ◌+◌, ◌-◌, ◌^◌, ◌<◌, ◌≤◌, ℤ, pos, to_z, of_z, w64, List, length, take, get_or, refl, sym, ◌∙◌, ap, arith, rules}
+use Rattle.std.proofs.Common.{◌≡◌, ℕ, ◌+◌, ◌-◌, ◌^◌, ◌<◌, ℤ, pos, to_z, of_z, w64, List, length, take, get_or, refl, sym, ◌∙◌, ap, arith, rules}
 use Rattle.std.specs.Map.{keys_of}
 use Rattle.weighted_tails.specs.Appending.{least_after}
 use Rattle.weighted_tails.specs.Spelling.{weight_number}
 use Rattle.weighted_tails.specs.inside.Writing.{entry_room}
-use Rattle.weighted_tails.proofs.Writing.{entry_fits, entry_next, key_of, length_keys, room_small, written}
+use Rattle.weighted_tails.proofs.Writing.{entry_fits, entry_next, key_of, length_keys, room_after, written}
 use Rattle.weighted_tails.proofs.writer.write_list.Goals as goal
 
 -- the entry at a place, by the column of keys
@@ -33,8 +33,8 @@ write_entry-len-requires-clause-room c =
     let l = c.loop-place in
     let es = c.args.entries.now in
     let within : l.place < length es = omega (arith, c.loop-place-test.true, as_long c.keys-keys.result.now es c.keys-keys.ensures) in
-    let small : entry_room (to_z w64 (of_z w64 c.weight.result)) ≤ 15 = room_small (to_z w64 (of_z w64 c.weight.result)) in
-    omega (arith, within, l.invariant.room, c.requires.room, small)
+    let round : to_z w64 (of_z w64 c.weight.result) ≡ c.weight.result = search rules in
+    omega (arith, room_after l.place es within, l.invariant.room, c.requires.room, ap entry_room (round ∙ c.weight.ensures))
 
 pub loop-place-preserved : goal.loop-place-preserved
 loop-place-preserved c =
@@ -50,5 +50,5 @@ loop-place-preserved c =
     record {
       spells = written c.args.low l.place es (c.from-key.result - l.low) l.len c.write_entry-len.result l.buffer c.write_entry-len.new.buffer within c.requires.ascending l.invariant.spells g fits (rw (← weight) entry);
       next = ap (λ (n : ℕ). n + 1) key ∙ sym (entry_next c.args.low l.place es within);
-      room = omega (arith, entry.after, l.invariant.room, room_small c.weight.result);
+      room = omega (arith, entry.after, room_after l.place es within, l.invariant.room, ap entry_room weight);
     }

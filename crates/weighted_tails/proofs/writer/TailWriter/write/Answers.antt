@@ -4,12 +4,16 @@ use Rattle.weighted_tails.specs.Spelling.{Spells}
 use Rattle.weighted_tails.specs.inside.Decoding.{entries_over}
 use Rattle.weighted_tails.specs.inside.Writing.{WritesList}
 use Rattle.weighted_tails.proofs.Lists.{decoded_list}
+use Rattle.weighted_tails.proofs.Writing.{few_entries}
 use Rattle.weighted_tails.proofs.writer.TailWriter.write.Goals as goal
 
 read_back : (base : Option ℕ) (low : ℕ) (es : List (ℕ × ℤ)) (buffer : List ℕ) (len : ℕ) → low ≡ least base → WritesList low es buffer len → entries_over base (take len buffer) ≡ es
 read_back base low es buffer len is writes =
     let spells : Spells base es (take len buffer) = rw is at writes.spells in
     decoded_list (least base) es (take len buffer) spells
+
+pub room_for-room-requires : goal.room_for-room-requires
+room_for-room-requires c = few_entries (least c.args.base) c.args.entries.now c.requires
 
 pub from_spelling-requires-clause-spelled : goal.from_spelling-requires-clause-spelled
 from_spelling-requires-clause-spelled c =
@@ -19,7 +23,7 @@ from_spelling-requires-clause-spelled c =
 pub from_spelling-requires-clause-count : goal.from_spelling-requires-clause-count
 from_spelling-requires-clause-count c =
     let w = c.write_list-len in
-    c.len-3.ensures ∙ ap length (sym (read_back c.args.base c.least_over.result c.args.entries.now w.new.buffer w.result c.least_over.ensures.low w.ensures))
+    c.len-2.ensures ∙ ap length (sym (read_back c.args.base c.least_over.result c.args.entries.now w.new.buffer w.result c.least_over.ensures.low w.ensures))
 
 pub returns : goal.returns
 returns c =
