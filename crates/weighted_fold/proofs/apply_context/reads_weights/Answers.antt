@@ -15,4 +15,4 @@ returns-in-Some c off m sizes steps has are =
     let two = two_functions c.args.first.now c.args.second c.in-Some.second steps c.in-Some.is are in
     let first = c.reads_weight.ensures.weightless c.if-reads_weight.false two.a m sizes two.kernel has in
     let other = c.reads_weight-in-Some.ensures.weightless off two.b m sizes two.other has in
-    subst (λ (ss : List StepsTree). AreWeightless m ss) (sym two.both) (first, other, tt)
+    subst (λ (ss : List StepsTree). AreWeightless m ss) (sym two.both) (first, (other, tt))

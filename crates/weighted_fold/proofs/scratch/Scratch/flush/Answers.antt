@@ -12,6 +12,6 @@ returns-clause-folded c m steps edges are has x r by =
     let was = has x r by in
     let n = λ (v : ℕ) (h : ℤ). held_in_with (combined f.start r) (active c.args.self.now.slots) x v (first_entry f x v h) in
     record {
-      entries = λ v h l. joined.entries v h ∙ ap (λ (es : List Edge). reduced_at r v (n v h) (given_on x (all_given m steps) es)) c.columns.ensures ∙ was.entries v h l;
+      entries = λ v h l. joined.entries v h ∙ ap (λ (es : List Edge). reduced_at r v (n v h) (given_on x (all_given m steps) es)) c.columns-columns.ensures ∙ was.entries v h l;
       reduction = joined.reduction was.reduction;
     }
