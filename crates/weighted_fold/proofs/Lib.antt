@@ -5,6 +5,7 @@ pub mod Rows
 pub mod SlotRows
 pub mod JoinedSlots
 pub mod WeightColumns
+pub mod EntryRows
 pub mod Edges
 pub mod Columns
 pub mod Findings

@@ -41,6 +41,7 @@ mod apply_context;
 mod by_destination;
 mod changes;
 mod compared;
+mod entry_numbers;
 mod gathered;
 mod gathered_ranges;
 mod initial_entries;
@@ -61,6 +62,7 @@ pub use apply_changes::has_vector;
 pub use apply_context::{ApplyContext, FoldStart, reads_weights};
 pub use changes::push_change;
 pub use compared::compared_set;
+pub use entry_numbers::{EntryWith, reduce_entries};
 pub use gathered::{Gathered, GatheredIn};
 pub use scratch::Scratch;
 pub use source_numbers::{
