@@ -1,5 +1,5 @@
 -- What a scratch has folded.
-use Rattle.std.specs.Prelude.{◌≡◌, ℕ, ◌<◌, ℤ, Bool, false, if◌then◌else◌, Option, Some, None, List, [], ◌∷◌, take}
+use Rattle.std.specs.Prelude.{◌≡◌, ◌||◌, ℕ, ◌<◌, ℤ, Bool, false, if◌then◌else◌, Option, Some, None, List, [], ◌∷◌, take}
 use Rattle.std.specs.Borrow.{Bor}
 use Rattle.edge_lists.specs.Edge.{Edge}
 use Rattle.apply_options.specs.declared.reduction.Reduction.{Reduction}
@@ -22,6 +22,11 @@ AreKernels first None (a ∷ []) = IsEdgeKernel first a
 AreKernels first None _ = ⊥
 AreKernels first (Some second) (a ∷ b ∷ []) = IsEdgeKernel first a × IsEdgeKernel second.now b
 AreKernels first (Some second) _ = ⊥
+
+-- whether one of the kernels reads weights
+abbrev pub are_weighted : EdgeKernel → Option (Bor EdgeKernel) → Bool
+are_weighted first None = first.weighted
+are_weighted first (Some second) = first.weighted || second.now.weighted
 
 -- what each function gives on an edge is the same with any weight
 abbrev pub AreWeightless : StateValue → List StepsTree → Type 0

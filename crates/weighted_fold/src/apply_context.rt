@@ -3,7 +3,7 @@ ghost use Rattle.std.specs.Prelude.{◌≡◌, ℕ, ℤ, List, false};
 ghost use Rattle.typed_tree.specs.StepTree.{StepsTree};
 ghost use Rattle.algorithm_meaning.specs.State.{StateValue};
 ghost use Rattle.kernels.specs.Cells.{HasSizes};
-ghost use Rattle.weighted_fold.specs.Folded.{AreKernels, AreWeightless};
+ghost use Rattle.weighted_fold.specs.Folded.{AreKernels, AreWeightless, are_weighted};
 ghost use Rattle.weighted_fold.specs.FoldStarts.{first_entry, opening_seed, start_of};
 
 use crate::initial_entries::InitialEntries;
@@ -51,14 +51,12 @@ impl<'a> ApplyContext<'a> {
 /// Whether one of the functions of an apply reads the weights of edges. What functions that do not give on an edge is the
 /// same with any weight.
 pub fn reads_weights(first: &EdgeKernel, second: Option<&EdgeKernel>) -> bool
-    ensures { result ≡ false → (m : StateValue) (sizes : List ℤ) (steps : List StepsTree) → HasSizes sizes m → AreKernels first.now second.entry steps → AreWeightless m steps }
+    ensures told { result ≡ are_weighted first.now second.entry }
+    ensures weightless { result ≡ false → (m : StateValue) (sizes : List ℤ) (steps : List StepsTree) → HasSizes sizes m → AreKernels first.now second.entry steps → AreWeightless m steps }
 {
-    if first.reads_weight() {
-        return true;
-    }
     match second {
-        None => false,
-        Some(second) => second.reads_weight(),
+        None => first.reads_weight(),
+        Some(second) => first.reads_weight() || second.reads_weight(),
     }
 }
 

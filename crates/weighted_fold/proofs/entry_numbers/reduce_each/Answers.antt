@@ -1,5 +1,4 @@
-use Rattle.std.proofs.Common.{rules, ◌≡◌, ◌<◌, ◌+◌, ℤ, pos, length, get_or, drop, FitsSigned, to_z, of_z, w64, ap, ◌∙◌}
-use Rattle.std.proofs.lemmas.Int.{to_z-of_z}
+use Rattle.std.proofs.Common.{rules, ◌≡◌, ◌<◌, ◌+◌, ℤ, pos, length, get_or, drop, to_z, of_z, w64, ap, ◌∙◌}
 use Rattle.algorithm_meaning.specs.Arithmetic.{reduced}
 use Rattle.weighted_fold.specs.EntryNumbers.{entry_with, reduced_over}
 use Rattle.weighted_fold.specs.Given.{entries_of}
