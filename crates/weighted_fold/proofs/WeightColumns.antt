@@ -1,5 +1,6 @@
 -- Entries of neighbours, and weights that do not count.
-use Rattle.std.proofs.Common.{◌≡◌, ℕ, zero, suc, ℤ, List, [], ◌∷◌, ◌++◌, length, take, drop, refl, sym, ap, ◌∙◌, arith}
+use Rattle.std.proofs.Common.{◌≡◌, ℕ, zero, suc, ℤ, Bool, true, false, cond, List, [], ◌∷◌, ◌++◌, length, take, drop, refl, sym, ap, ◌∙◌, arith}
+use Rattle.std.specs.List.{filter}
 use Rattle.edge_lists.specs.Edge.{Edge, unit_edge, unit_weight}
 use Rattle.apply_options.specs.declared.reduction.Reduction.{Reduction}
 use Rattle.typed_tree.specs.StepTree.{StepsTree}
@@ -13,6 +14,15 @@ pub firsts_of : (ks : List ℕ) (ws : List ℤ) → firsts (entries_of ks ws) �
 firsts_of [] ws = refl
 firsts_of (k ∷ ks) [] = ap (λ us. k ∷ us) (firsts_of ks [])
 firsts_of (k ∷ ks) (w ∷ ws) = ap (λ us. k ∷ us) (firsts_of ks ws)
+
+-- entries of neighbours that pass
+firsts_kept : (b : Bool) (e : ℕ × ℤ) (es : List (ℕ × ℤ)) (us : List ℕ) → firsts es ≡ us → firsts (cond b (e ∷ es) es) ≡ cond b (e.0 ∷ us) us
+firsts_kept true e es us same = ap (λ vs. e.0 ∷ vs) same
+firsts_kept false e es us same = same
+
+pub firsts-filter : (test : ℕ → Bool) (es : List (ℕ × ℤ)) → firsts (filter (λ e. test e.0) es) ≡ filter test (firsts es)
+firsts-filter test [] = refl
+firsts-filter test (e ∷ es) = firsts_kept (test e.0) e (filter (λ e. test e.0) es) (filter test (firsts es)) (firsts-filter test es)
 
 -- entries in two parts
 pub unit_parts : (n : ℕ) (ks : List ℕ) → entries_of (take n ks) [] ++ entries_of (drop n ks) [] ≡ entries_of ks []
