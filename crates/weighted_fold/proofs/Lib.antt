@@ -1,0 +1,17 @@
+pub mod ChangedRows
+pub mod Entries
+pub mod Folds
+pub mod Rows
+pub mod SlotRows
+pub mod JoinedSlots
+pub mod WeightColumns
+pub mod EntryRows
+pub mod Edges
+pub mod Columns
+pub mod Findings
+pub mod Gathering
+pub mod Meaning
+pub mod Orders
+pub mod Walks
+pub mod Ascending
+pub mod Answered

@@ -1,0 +1,12 @@
+use Rattle.std.proofs.Common.{◌≡◌, ℕ, ℤ, drop}
+use Rattle.kernels.specs.ContributionColumns.{contribution_at}
+use Rattle.weighted_fold.specs.Given.{given_from, reduced_at}
+use Rattle.weighted_fold.specs.Held.{held_with}
+use Rattle.weighted_fold.specs.FoldStarts.{combined, opening_seed, start_of}
+use Rattle.weighted_fold.proofs.accumulator.Accumulator.join_all.Given as goal
+
+-- what is left to join, with what is held, comes to the whole
+abbrev pub invariant-pairs : goal.invariant-pairs
+invariant-pairs l = (v : ℕ) (h : ℤ)
+    → reduced_at l.reduction v (held_with (combined (start_of l.opening) l.reduction) l.self v (opening_seed l.opening v h)) (given_from l.contribution.vector (contribution_at l.contribution) l.k (drop l.k l.destinations))
+    ≡ reduced_at l.reduction v (held_with (combined (start_of l.opening) l.reduction) l.fn.self v (opening_seed l.opening v h)) (given_from l.contribution.vector (contribution_at l.contribution) 0 l.destinations)

@@ -1,0 +1,13 @@
+use Rattle.std.proofs.Common.{◌≡◌, ℕ, ℤ, if◌then◌else◌, take}
+use Rattle.apply_options.specs.declared.reduction.Reduction.{Reduction}
+use Rattle.weighted_fold.specs.Gathered.{AreAscending, IsGatheredBy, gathered_for, is_between}
+use Rattle.weighted_fold.specs.Given.{reduced_at}
+use Rattle.weighted_fold.proofs.gathered.Gathered.between.Given as goal
+
+-- the range is taken of the first vectors
+abbrev pub invariant-vectors : goal.invariant-vectors
+invariant-vectors l = record {
+  reduction : (x : ℕ) (r : Reduction) → IsGatheredBy r x l.self.vectors.items → IsGatheredBy r x l.vectors.items;
+  numbers : AreAscending l.self.vectors.items → (x : ℕ) (r : Reduction) (v : ℕ) (h : ℤ) → reduced_at r v h (gathered_for x l.vectors.items)
+      ≡ (if is_between l.low l.high v then reduced_at r v h (gathered_for x (take l.of_vector-index l.self.vectors.items)) else h);
+}

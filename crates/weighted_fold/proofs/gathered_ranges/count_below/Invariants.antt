@@ -1,0 +1,16 @@
+use Rattle.std.proofs.Common.{ℕ, ◌-◌, ◌<◌, ◌≤◌, length, get_or}
+use Rattle.vectors.specs.declared.changes.EntryChange.{EntryChange}
+use Rattle.weighted_fold.specs.Gathered.{IsAscending}
+use Rattle.weighted_fold.proofs.gathered_ranges.count_below.Given as goal
+
+-- the numbers before the lower end stand by vertices below, and those from the upper end on do not
+abbrev pub invariant-halves : goal.invariant-halves
+invariant-halves l = record {
+  order : l.low ≤ l.high;
+  inside : l.high ≤ length l.numbers;
+  below : IsAscending l.numbers → (k : ℕ) (d : EntryChange) → k < l.low → (get_or l.numbers k d).vertex < l.vertex;
+  above : IsAscending l.numbers → (k : ℕ) (d : EntryChange) → l.high ≤ k → k < length l.numbers → l.vertex ≤ (get_or l.numbers k d).vertex;
+}
+
+abbrev pub decreases-halves : goal.decreases-halves
+decreases-halves l = l.high - l.low

@@ -1,0 +1,33 @@
+use Rattle.std.proofs.Common.{rules, ◌≤◌, length, arith}
+use Rattle.std.proofs.lemmas.List.{length-take-le}
+use Rattle.weighted_fold.specs.declared.vector_accumulator.VectorAccumulator.{VectorAccumulator}
+use Rattle.weighted_fold.specs.VectorAccumulators.{active}
+use Rattle.weighted_fold.proofs.SlotRows.{added_held, added_place, added_reduction, pushed}
+use Rattle.weighted_fold.proofs.vector_accumulator.VectorAccumulators.add_new.Goals as goal
+
+pub returns-clause-place : goal.returns-clause-place
+returns-clause-place c =
+    let now = c.args.self.now in
+    let slot : VectorAccumulator = record { vector = c.args.vector; reduction = c.args.reduction; entries = c.begin.new.self } in
+    let inside : now.used ≤ length now.slots.items = search rules in (
+      added_place (active now) _ slot c.args.vector now.used
+          (pushed now.slots.items c.push.new.self.items now.used slot (search rules) c.in_ok-push.ensures.items)
+          (length-take-le now.used now.slots.items inside) (search rules) c.requires.none,
+      omega arith,
+    )
+
+pub returns-clause-held : goal.returns-clause-held
+returns-clause-held c =
+    let now = c.args.self.now in
+    let slot : VectorAccumulator = record { vector = c.args.vector; reduction = c.args.reduction; entries = c.begin.new.self } in
+    added_held (active now) _ slot
+    (pushed now.slots.items c.push.new.self.items now.used slot (search rules) c.in_ok-push.ensures.items)
+    c.begin.ensures
+
+pub returns-clause-reduction : goal.returns-clause-reduction
+returns-clause-reduction c x r =
+    let now = c.args.self.now in
+    let slot : VectorAccumulator = record { vector = c.args.vector; reduction = c.args.reduction; entries = c.begin.new.self } in
+    added_reduction (active now) _ slot c.args.vector x c.args.reduction r
+    (pushed now.slots.items c.push.new.self.items now.used slot (search rules) c.in_ok-push.ensures.items)
+    (search rules) (search rules)

@@ -1,0 +1,20 @@
+use Rattle.std.proofs.Common.{rules, ◌≤◌, [], length, refl}
+use Rattle.weighted_fold.specs.declared.vector_accumulator.VectorAccumulator.{VectorAccumulator}
+use Rattle.weighted_fold.specs.FoldStarts.{start_of}
+use Rattle.weighted_fold.proofs.JoinedSlots.{along, equal, joined_slot}
+use Rattle.weighted_fold.proofs.vector_accumulator.VectorAccumulators.fill.Goals as goal
+
+pub returns : goal.returns
+returns c x r own =
+    let now = c.place.new.self in
+    let sent = c.args.sent in
+    let p = c.in_ok-place.place in
+    let f = c.args.context in
+    let was : VectorAccumulator = c.index_mut.result.now in
+    let few : now.used ≤ length now.slots.items = search rules in
+    let at = c.in_ok-place.ensures.place in
+    let op = c.opening-opening in
+    joined_slot f x sent.vector p r c.args.self.now now _ was (record { vector = was.vector; reduction = was.reduction; entries = c.fill.new.self }) [] refl
+    at.0 at.1 few c.index_mut.ensures.value refl refl c.in_ok-place.ensures.held (c.in_ok-place.ensures.reduction x r own)
+    (λ v h same. along f x sent.vector v sent.reduction r (start_of op.result) was.entries c.fill.new.self h _ (λ _. []) (equal sent.vector x same) (own (equal sent.vector x same)) op.ensures.start (op.ensures.seed v h) (c.fill.ensures sent.reduction v h))
+    (λ off. refl)

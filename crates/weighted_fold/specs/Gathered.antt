@@ -1,0 +1,55 @@
+-- What a piece of an apply gives.
+use Rattle.std.specs.Prelude.{◌≡◌, ℕ, ◌<◌, ℤ, pos, ◌==◌, ◌&&◌, nat_le, nat_lt, Bool, if◌then◌else◌, List, [], ◌∷◌, ◌++◌, slice_index_or}
+use Rattle.std.specs.List.Sorted.{IsNonDecreasingBy}
+use Rattle.edge_lists.specs.Edge.{Edge}
+use Rattle.apply_options.specs.declared.reduction.Reduction.{Reduction}
+use Rattle.typed_tree.specs.StepTree.{StepsTree}
+use Rattle.algorithm_meaning.specs.State.{StateValue}
+use Rattle.vectors.specs.declared.changes.EntryChange.{EntryChange}
+use Rattle.vertex_marks.specs.Marks.{is_marked}
+use Rattle.weighted_fold.specs.declared.accumulator.Accumulator.{Accumulator}
+use Rattle.weighted_fold.specs.declared.gathered.Gathered.{Gathered}
+use Rattle.weighted_fold.specs.declared.gathered.GatheredIn.{GatheredIn}
+use Rattle.weighted_fold.specs.Given.{IsReducedBy, all_given, given_on, reduced_at}
+
+-- the numbers, each given to its vertex
+abbrev pub numbers_of : List EntryChange → List (ℕ × ℤ)
+numbers_of [] = []
+numbers_of (c ∷ cs) = (c.vertex, c.number) ∷ numbers_of cs
+
+-- what an accumulator has at a vertex
+abbrev pub number_at : Accumulator → ℕ → List EntryChange
+number_at a v = if is_marked a.marks v then record { vertex = v; number = slice_index_or a.values.items v (pos 0) } ∷ [] else []
+
+-- what is gathered for a vector
+abbrev pub gathered_for : (vector : ℕ) → List GatheredIn → List (ℕ × ℤ)
+gathered_for x [] = []
+gathered_for x (g ∷ gs) = (if g.vector == x then numbers_of g.numbers.items else []) ++ gathered_for x gs
+
+-- what is gathered for the vector is by this reduction
+abbrev pub IsGatheredBy : Reduction → (vector : ℕ) → List GatheredIn → Type 0
+IsGatheredBy r x [] = Unit {0}
+IsGatheredBy r x (g ∷ gs) = (g.vector ≡ x → g.reduction ≡ r) × IsGatheredBy r x gs
+
+-- for a vector to which the functions give by one reduction: to reduce a number with what is gathered is to reduce it with
+-- what these edges give, at each of so many vertices
+pub record AreGatheredFor (vertices : ℕ) (m : StateValue) (steps : List StepsTree) (edges : List Edge) (g : Gathered) (x : ℕ) (r : Reduction) : Type 0 where
+  pub reduction : IsGatheredBy r x g.vectors.items
+  pub numbers : (v : ℕ) (h : ℤ) → v < vertices → reduced_at r v h (gathered_for x g.vectors.items) ≡ reduced_at r v h (given_on x (all_given m steps) edges)
+
+-- so it is for each such vector
+abbrev pub AreGathered : (vertices : ℕ) → StateValue → List StepsTree → List Edge → Gathered → Type 0
+AreGathered vertices m steps edges g = (x : ℕ) (r : Reduction) → IsReducedBy r x m steps → AreGatheredFor vertices m steps edges g x r
+
+-- the vertices of the numbers do not fall
+abbrev pub IsAscending : List EntryChange → Type 0
+IsAscending cs = IsNonDecreasingBy (λ c. c.vertex) cs
+
+-- so it is for each vector
+abbrev pub AreAscending : List GatheredIn → Type 0
+AreAscending [] = Unit {0}
+AreAscending (g ∷ gs) = IsAscending g.numbers.items × AreAscending gs
+
+-- a vertex is one from a number on up to another
+abbrev pub is_between : (low high : ℕ) → ℕ → Bool
+is_between low high v = nat_le low v && nat_lt v high

@@ -1,0 +1,11 @@
+pub mod Given
+pub mod Between
+pub mod FoldStarts
+pub mod Held
+pub mod Changed
+pub mod VectorAccumulators
+pub mod Folded
+pub mod Gathered
+pub mod Ends
+pub mod ReducedContributions
+pub mod EntryNumbers

@@ -1,0 +1,270 @@
+//! Joins: contributions reduced into the entries of an accumulator.
+ghost use Rattle.std.specs.Prelude.{◌≡◌, ℕ, ℤ, pos, ◌^◌, ◌∷◌, [], ◌<◌, ◌≤◌, true, false, Contains, length, slice_index_or, vec_len, IfOk, OnOk};
+ghost use Rattle.std.specs.List.Sorted.{IsNonDecreasing};
+ghost use Rattle.weighted_fold.specs.Gathered.{numbers_of};
+ghost use Rattle.weighted_fold.specs.Given.{each_given, for_vector, given_from};
+ghost use Rattle.weighted_fold.specs.Held.{AreJoined, AreMarked, held, held_with, room};
+ghost use Rattle.vertex_marks.specs.Marks.{is_marked};
+ghost use Rattle.kernels.specs.ContributionColumns.{contribution_at, truth_at};
+
+use crate::accumulator::Accumulator;
+use crate::initial_entries::InitialEntries;
+use algorithm_meaning::reduce;
+use apply_options::Reduction;
+use kernels::ContributionColumn;
+use std::alloc::{AllocError, Global};
+use vectors::EntryChange;
+use vertex_marks::VertexMarks;
+
+impl Accumulator {
+    /// No new entry, and room for no vertex.
+    pub(crate) fn new(alloc: Global) -> Accumulator
+        ensures { (combine : ℤ → ℤ → ℤ) (v : ℕ) (h : ℤ) → held_with combine result v h ≡ h }
+    {
+        Accumulator {
+            values: Vec::new(alloc),
+            marks: VertexMarks::new(alloc),
+        }
+    }
+
+    /// Forgets all entries, and makes room for so many vertices. Where the room is there it takes time in proportion to
+    /// the entries that it had, and to one word for each 4,096 vertices. The only error is out of memory, after which it
+    /// has no entry too.
+    pub(crate) fn begin(&mut self, vertices: u32) -> Result<(), AllocError>
+        ensures { (combine : ℤ → ℤ → ℤ) (v : ℕ) (h : ℤ) → held_with combine self.new v h ≡ h }
+    {
+        self.marks.clear();
+        self.make_room(vertices as usize)
+    }
+
+    /// Makes room for so many vertices, where it is not there. The entries stay, after an error too.
+    fn make_room(&mut self, vertices: usize) -> Result<(), AllocError>
+        requires { vertices ≤ 2 ^ 32 }
+        ensures held { (combine : ℤ → ℤ → ℤ) (v : ℕ) (h : ℤ) → held_with combine self.new v h ≡ held_with combine self.old v h }
+        ensures room { OnOk result (vertices ≤ room self.new) }
+    {
+        lengthen(&mut self.values, (vertices + 63) / 64 * 64)?;
+        self.marks.make_room(vertices)?;
+        Ok(())
+    }
+
+    /// Reduces the entries at the destinations of pairs with a column of what is given to them. Where there is no
+    /// entry yet, one begins. The only error is out of memory, after which a part was done.
+    pub(crate) fn join_column(
+        &mut self,
+        opening: InitialEntries<'_>,
+        contribution: ContributionColumn<'_>,
+        destinations: &[u32],
+    ) -> Result<(), AllocError>
+        requires { length destinations.now ≤ length contribution.numbers.now }
+        ensures { OnOk result (AreJoined opening.entry contribution.entry.reduction self.old self.new (given_from contribution.entry.vector (contribution_at contribution.entry) 0 destinations.now)) }
+    {
+        match contribution.reduction {
+            Reduction::Min => self.join_all(Reduction::Min, opening, contribution, destinations),
+            Reduction::Max => self.join_all(Reduction::Max, opening, contribution, destinations),
+            Reduction::Plus => self.join_all(Reduction::Plus, opening, contribution, destinations),
+        }
+    }
+
+    #[inline(always)]
+    fn join_all(
+        &mut self,
+        reduction: Reduction,
+        opening: InitialEntries<'_>,
+        contribution: ContributionColumn<'_>,
+        destinations: &[u32],
+    ) -> Result<(), AllocError>
+        requires { length destinations.now ≤ length contribution.numbers.now }
+        ensures { OnOk result (AreJoined opening.entry reduction self.old self.new (given_from contribution.entry.vector (contribution_at contribution.entry) 0 destinations.now)) }
+    {
+        'pairs: for (k, vertex) in destinations.iter().enumerate() {
+            self.join_pair(reduction, opening, contribution, k, *vertex)?;
+        }
+        Ok(())
+    }
+
+    /// Reduces the entry at the destination of a pair with what a column gives it, if it does.
+    #[inline(always)]
+    fn join_pair(
+        &mut self,
+        reduction: Reduction,
+        opening: InitialEntries<'_>,
+        contribution: ContributionColumn<'_>,
+        place: usize,
+        vertex: u32,
+    ) -> Result<(), AllocError>
+        requires { place < length contribution.numbers.now }
+        ensures { OnOk result (AreJoined opening.entry reduction self.old self.new (for_vector contribution.entry.vector vertex (contribution_at contribution.entry place))) }
+    {
+        if is_given(contribution, place) {
+            self.join(reduction, opening, vertex, contribution.numbers[place])?;
+        }
+        Ok(())
+    }
+
+    /// Reduces the entries at destinations with one number, each time that one comes. The only error is out of memory,
+    /// after which a part was done.
+    pub(crate) fn join_number(
+        &mut self,
+        reduction: Reduction,
+        opening: InitialEntries<'_>,
+        number: i64,
+        destinations: &[u32],
+    ) -> Result<(), AllocError>
+        ensures { OnOk result (AreJoined opening.entry reduction self.old self.new (each_given number destinations.now)) }
+    {
+        match reduction {
+            Reduction::Min => self.join_each(Reduction::Min, opening, number, destinations),
+            Reduction::Max => self.join_each(Reduction::Max, opening, number, destinations),
+            Reduction::Plus => self.join_each(Reduction::Plus, opening, number, destinations),
+        }
+    }
+
+    #[inline(always)]
+    fn join_each(
+        &mut self,
+        reduction: Reduction,
+        opening: InitialEntries<'_>,
+        number: i64,
+        destinations: &[u32],
+    ) -> Result<(), AllocError>
+        ensures { OnOk result (AreJoined opening.entry reduction self.old self.new (each_given number destinations.now)) }
+    {
+        'each: for vertex in destinations {
+            self.join(reduction, opening, *vertex, number)?;
+        }
+        Ok(())
+    }
+
+    /// Reduces the entries at vertices with a number each. The only error is out of memory, after which a part was done.
+    pub(crate) fn join_changes(
+        &mut self,
+        reduction: Reduction,
+        opening: InitialEntries<'_>,
+        numbers: &[EntryChange],
+    ) -> Result<(), AllocError>
+        ensures { OnOk result (AreJoined opening.entry reduction self.old self.new (numbers_of numbers.now)) }
+    {
+        'numbers: for change in numbers {
+            self.join(reduction, opening, change.vertex(), change.number())?;
+        }
+        Ok(())
+    }
+
+    /// Reduces the entry at a vertex with a number.
+    #[inline(always)]
+    fn join(
+        &mut self,
+        reduction: Reduction,
+        opening: InitialEntries<'_>,
+        vertex: u32,
+        number: i64,
+    ) -> Result<(), AllocError>
+        ensures { OnOk result (AreJoined opening.entry reduction self.old self.new ((vertex, number) ∷ [])) }
+    {
+        if vertex as usize >= self.marks.room() {
+            return self.join_beyond(reduction, opening, vertex, number);
+        }
+        self.join_inside(reduction, opening, vertex, number);
+        Ok(())
+    }
+
+    /// The same where there is no room yet.
+    #[cold]
+    #[inline(never)]
+    fn join_beyond(
+        &mut self,
+        reduction: Reduction,
+        opening: InitialEntries<'_>,
+        vertex: u32,
+        number: i64,
+    ) -> Result<(), AllocError>
+        ensures { OnOk result (AreJoined opening.entry reduction self.old self.new ((vertex, number) ∷ [])) }
+    {
+        self.make_room(vertex as usize + 1)?;
+        self.join_inside(reduction, opening, vertex, number);
+        Ok(())
+    }
+
+    /// The same where there is room.
+    #[inline(always)]
+    fn join_inside(
+        &mut self,
+        reduction: Reduction,
+        opening: InitialEntries<'_>,
+        vertex: u32,
+        number: i64,
+    )
+        requires { vertex < room self.old }
+        ensures { AreJoined opening.entry reduction self.old self.new ((vertex, number) ∷ []) }
+    {
+        let place = vertex as usize;
+        if self.marks.contains(vertex) {
+            self.values[place] = reduce(reduction, self.values[place], number);
+            return;
+        }
+        self.values[place] = opening.first(reduction, place, number);
+        self.marks.insert(vertex);
+    }
+
+    /// The new entry at a vertex that was given something, and some number at another: whether it was is not asked again.
+    #[inline(always)]
+    pub(crate) fn given(&self, vertex: u32) -> i64
+        ensures { is_marked self.now.marks vertex ≡ true → (old : ℤ) → result ≡ held self.now vertex old }
+    {
+        match self.values.get(vertex as usize) {
+            Some(number) => *number,
+            None => 0,
+        }
+    }
+
+    /// The vertices that were given something, ascending. All others have no new entry. It takes time in proportion to
+    /// their number, and to one word for each 4,096 vertices. The only error is out of memory.
+    pub(crate) fn marked(&self, alloc: Global) -> Result<Vec<u32>, AllocError>
+        ensures ascending { IfOk result (λ found. IsNonDecreasing found.items) }
+        ensures given { IfOk result (λ found. AreMarked self.now found.items) }
+        ensures covers { IfOk result (λ found. (combine : ℤ → ℤ → ℤ) (v : ℕ) (h : ℤ) → ¬ Contains found.items v → held_with combine self.now v h ≡ h) }
+    {
+        let found = self.marks.members(alloc)?;
+        Ok(found)
+    }
+}
+
+/// Adds zeros where there are fewer numbers than this.
+fn lengthen(numbers: &mut Vec<i64>, count: usize) -> Result<(), AllocError>
+    ensures same { (k : ℕ) → slice_index_or numbers.new.items k (pos 0) ≡ slice_index_or numbers.old.items k (pos 0) }
+    ensures longer { vec_len numbers.old ≤ vec_len numbers.new }
+    ensures enough { OnOk result (count ≤ vec_len numbers.new) }
+{
+    if numbers.len() < count {
+        numbers.resize(count, 0)?;
+    }
+    Ok(())
+}
+
+/// Whether a column gives a pair something.
+#[inline(always)]
+fn is_given(contribution: ContributionColumn<'_>, place: usize) -> bool
+    ensures { result ≡ truth_at contribution.entry.when place }
+{
+    match contribution.when {
+        None => true,
+        Some(when) => match when.get(place) {
+            Some(n) => *n != 0,
+            None => false,
+        },
+    }
+}
+
+/// Whether a column gives one of the first pairs something.
+pub(crate) fn gives_some(contribution: ContributionColumn<'_>, count: usize) -> bool
+    ensures some { result ≡ true → (i : ℕ) × (i < count) × (truth_at contribution.entry.when i ≡ true) }
+    ensures none { result ≡ false → (i : ℕ) → i < count → truth_at contribution.entry.when i ≡ false }
+{
+    'pairs: for pair in 0..count {
+        if is_given(contribution, pair) {
+            return true;
+        }
+    }
+    false
+}

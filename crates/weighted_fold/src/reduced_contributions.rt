@@ -1,0 +1,70 @@
+//! What an edge function gives from several sources, where it depends on the source alone.
+ghost use Rattle.std.specs.Prelude.{◌≡◌, List, IfSome};
+ghost use Rattle.typed_tree.specs.StepTree.{StepsTree};
+ghost use Rattle.algorithm_meaning.specs.State.{StateValue};
+ghost use Rattle.kernels.specs.Cells.{HasSizes};
+ghost use Rattle.kernels.specs.Kernels.{IsEdgeKernel};
+ghost use Rattle.weighted_fold.specs.Folded.{IsContextOf};
+ghost use Rattle.kernels.specs.Meaning.{given_in};
+ghost use Rattle.weighted_fold.specs.Given.{all_given};
+ghost use Rattle.weighted_fold.specs.ReducedContributions.{IsReducedContribution};
+
+use crate::apply_context::{ApplyContext, SourceContribution};
+use crate::source_numbers::{OneNumber, OwnEntry, OwnEntryPlus, OwnNumber, reduce_numbers};
+use kernels::Shape;
+
+impl ApplyContext<'_> {
+    /// What sources give each destination together, where each gives its own number and there is a source.
+    #[inline]
+    pub(crate) fn reduced_contribution(self, sources: &[u32]) -> Option<SourceContribution>
+        ensures { IfSome result (λ s. (m : StateValue) (steps : List StepsTree) → IsContextOf self.entry m steps → IsReducedContribution s (all_given m steps) sources.now) }
+    {
+        if self.second.is_some() {
+            return None;
+        }
+        let sent = self.together_by_first(sources)?;
+        Some(sent)
+    }
+
+    /// The same of the first function.
+    #[inline]
+    fn together_by_first(self, sources: &[u32]) -> Option<SourceContribution>
+        ensures { IfSome result (λ s. (m : StateValue) (steps : StepsTree) → self.entry.vectors.now.vectors ≡ m.vectors → HasSizes self.entry.sizes.now m
+            → IsEdgeKernel self.entry.first.now steps → IsReducedContribution s (given_in m steps) sources.now) }
+    {
+        match self.first.shape() {
+            Shape::Other => None,
+            Shape::Source(vector, reduction) => Some(SourceContribution {
+                vector,
+                reduction,
+                number: reduce_numbers(reduction, &OwnNumber, sources)?,
+            }),
+            Shape::Entry(vector, reduction, from) => {
+                let entries = OwnEntry {
+                    lane: self.vectors.lane(from),
+                };
+                Some(SourceContribution {
+                    vector,
+                    reduction,
+                    number: reduce_numbers(reduction, &entries, sources)?,
+                })
+            }
+            Shape::EntryPlus(vector, reduction, from, number) => {
+                let entries = OwnEntryPlus {
+                    lane: self.vectors.lane(from),
+                    number,
+                };
+                Some(SourceContribution {
+                    vector,
+                    reduction,
+                    number: reduce_numbers(reduction, &entries, sources)?,
+                })
+            }
+            Shape::Constant(vector, reduction, number) => Some(SourceContribution {
+                vector,
+                reduction,
+                number: reduce_numbers(reduction, &OneNumber { number }, sources)?,
+            }),
+        }
+    }
+}

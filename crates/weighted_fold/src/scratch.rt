@@ -1,0 +1,113 @@
+//! Scratch: the memory that a run keeps for its applies.
+ghost use Rattle.std.specs.Prelude.{◌≡◌, ℕ, ℤ, false, ◌<◌, ◌≤◌, ◌++◌, List, [], length, IfSome, OnOk};
+
+use crate::apply_context::ApplyContext;
+use crate::pairs::Pairs;
+use crate::run::run_functions;
+use crate::vector_accumulator::VectorAccumulators;
+use kernels::Block;
+use std::alloc::{AllocError, Global};
+
+/// Memory for applies of edge functions, kept from one to the next.
+pub struct Scratch {
+    pub(crate) slots: VectorAccumulators,
+    pub(crate) pairs: Pairs,
+    pub(crate) block: Block,
+}
+
+impl Drop for Scratch {
+    fn drop(self) {
+        let Scratch {
+            slots: _,
+            pairs: _,
+            block: _,
+        } = self;
+    }
+}
+
+impl Scratch {
+    ghost use Rattle.typed_tree.specs.StepTree.{StepsTree};
+    ghost use Rattle.algorithm_meaning.specs.State.{StateValue};
+    ghost use Rattle.weighted_fold.specs.declared.apply_context.ApplyContext.{ApplyContext};
+    ghost use Rattle.weighted_fold.specs.Folded.{IsContextOf, HasFolded};
+    ghost use Rattle.edge_lists.specs.Edge.{Edge};
+    ghost use Rattle.weighted_fold.specs.Between.{firsts};
+    ghost use Rattle.weighted_fold.specs.Given.{entries_of, row};
+
+    /// Memory for applies, of which none is taken yet.
+    pub fn new(alloc: Global) -> Scratch
+        ensures { (f : ApplyContext) (m : StateValue) (steps : List StepsTree) → HasFolded f m steps [] result }
+    {
+        Scratch {
+            slots: VectorAccumulators::new(alloc),
+            pairs: Pairs::new(),
+            block: Block::new(alloc),
+        }
+    }
+
+    /// Begins an apply, whatever became of the one before. It takes constant time.
+    pub fn begin(&mut self)
+        ensures { (f : ApplyContext) (m : StateValue) (steps : List StepsTree) → HasFolded f m steps [] self.new }
+    {
+        self.slots.used = 0;
+        self.pairs.count = 0;
+    }
+
+    /// Folds the edges from a source to destinations, at most 128, with any weights, where no function reads weights. The
+    /// only error is out of memory.
+    pub fn fold(
+        &mut self,
+        alloc: Global,
+        context: ApplyContext<'_>,
+        source: u32,
+        destinations: &[u32],
+    ) -> Result<(), AllocError>
+        requires few { length destinations.now ≤ 128 }
+        requires unweighted { context.weighted ≡ false }
+        ensures { OnOk result ((m : StateValue) (steps : List StepsTree) (edges : List Edge) (entries : List (ℕ × ℤ)) → firsts entries ≡ destinations.now → IsContextOf context.entry m steps
+            → HasFolded context.entry m steps edges self.old → HasFolded context.entry m steps (edges ++ row source entries) self.new) }
+    {
+        if let Some(sent) = context.sent(source) {
+            self.slots.join_number(alloc, context, sent, destinations)?;
+            return Ok(());
+        }
+        self.gather(alloc, context, source, destinations)
+    }
+
+    /// Adds edges to those that wait, and lets the kernels run where these are 128.
+    fn gather(
+        &mut self,
+        alloc: Global,
+        context: ApplyContext<'_>,
+        source: u32,
+        destinations: &[u32],
+    ) -> Result<(), AllocError>
+        requires few { length destinations.now ≤ 128 }
+        requires unweighted { context.weighted ≡ false }
+        ensures { OnOk result ((m : StateValue) (steps : List StepsTree) (edges : List Edge) → IsContextOf context.entry m steps
+            → HasFolded context.entry m steps edges self.old → HasFolded context.entry m steps (edges ++ row source (entries_of destinations.now [])) self.new) }
+    {
+        let room = self.pairs.room();
+        if destinations.len() <= room {
+            self.pairs.add(source, destinations);
+            return Ok(());
+        }
+        let (first, rest) = destinations.split_at(room);
+        self.pairs.add(source, first);
+        self.flush(alloc, context)?;
+        self.pairs.add(source, rest);
+        Ok(())
+    }
+
+    /// Lets the kernels run over the pairs that wait. The only error is out of memory.
+    pub fn flush(&mut self, alloc: Global, context: ApplyContext<'_>) -> Result<(), AllocError>
+        ensures folded { OnOk result ((m : StateValue) (steps : List StepsTree) (edges : List Edge) → IsContextOf context.entry m steps
+            → HasFolded context.entry m steps edges self.old → HasFolded context.entry m steps edges self.new) }
+        ensures none { OnOk result (self.new.pairs.count ≡ 0) }
+    {
+        let columns = self.pairs.columns(context.weighted);
+        run_functions(alloc, context, columns, &mut self.block, &mut self.slots)?;
+        self.pairs.count = 0;
+        Ok(())
+    }
+}

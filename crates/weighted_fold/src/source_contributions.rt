@@ -1,0 +1,63 @@
+//! What an edge function gives, where it depends on the source alone.
+ghost use Rattle.std.specs.Prelude.{◌≡◌, ℕ, ℤ, ◌∷◌, [], List, IfSome};
+ghost use Rattle.typed_tree.specs.StepTree.{StepsTree};
+ghost use Rattle.algorithm_meaning.specs.State.{StateValue};
+ghost use Rattle.kernels.specs.Cells.{HasSizes};
+ghost use Rattle.kernels.specs.Kernels.{IsEdgeKernel};
+ghost use Rattle.weighted_fold.specs.Folded.{IsContextOf};
+ghost use Rattle.kernels.specs.Meaning.{given_in};
+ghost use Rattle.weighted_fold.specs.Given.{all_given};
+
+use crate::apply_context::{ApplyContext, SourceContribution};
+use algorithm_meaning::arithmetic_of;
+use kernels::Shape;
+use typed_tree::Operator;
+
+impl ApplyContext<'_> {
+    /// What is given on every edge from a source, where it is the same on all.
+    #[inline]
+    pub(crate) fn sent(self, source: u32) -> Option<SourceContribution>
+        ensures { IfSome result (λ s. (m : StateValue) (steps : List StepsTree) → IsContextOf self.entry m steps
+            → (d : ℕ) (w : ℤ) → all_given m steps (source, d, w) ≡ (s.vector, s.reduction, s.number) ∷ []) }
+    {
+        if self.second.is_some() {
+            return None;
+        }
+        self.sent_by_first(source)
+    }
+
+    /// The same of the first function.
+    #[inline]
+    fn sent_by_first(self, source: u32) -> Option<SourceContribution>
+        ensures { IfSome result (λ s. (m : StateValue) (steps : StepsTree) → self.entry.vectors.now.vectors ≡ m.vectors → HasSizes self.entry.sizes.now m
+            → IsEdgeKernel self.entry.first.now steps → (d : ℕ) (w : ℤ) → given_in m steps (source, d, w) ≡ (s.vector, s.reduction, s.number) ∷ []) }
+    {
+        match self.first.shape() {
+            Shape::Other => None,
+            Shape::Source(vector, reduction) => Some(SourceContribution {
+                vector,
+                reduction,
+                number: i64::from(source),
+            }),
+            Shape::Entry(vector, reduction, from) => Some(SourceContribution {
+                vector,
+                reduction,
+                number: self.vectors.lane(from).get(source as usize),
+            }),
+            Shape::EntryPlus(vector, reduction, from, number) => Some(SourceContribution {
+                vector,
+                reduction,
+                number: arithmetic_of(
+                    Operator::Add,
+                    self.vectors.lane(from).get(source as usize),
+                    number,
+                ),
+            }),
+            Shape::Constant(vector, reduction, number) => Some(SourceContribution {
+                vector,
+                reduction,
+                number,
+            }),
+        }
+    }
+}

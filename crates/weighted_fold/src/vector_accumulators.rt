@@ -1,0 +1,255 @@
+//! The vectors that an apply writes, found by their places.
+ghost use Rattle.std.specs.Prelude.{◌≡◌, ℕ, ℤ, ◌==◌, if◌then◌else◌, ◌<◌, ◌≤◌, [], length, vec_len, IfOk, OnOk};
+ghost use Rattle.weighted_fold.specs.Gathered.{IsGatheredBy, gathered_for, numbers_of};
+ghost use Rattle.weighted_fold.specs.Given.{IsBy, each_given, given_from};
+ghost use Rattle.weighted_fold.specs.Held.{held_with};
+ghost use Rattle.weighted_fold.specs.VectorAccumulators.{HaveJoined, active, held_in_with, place_in, reduction_in};
+ghost use Rattle.kernels.specs.ContributionColumns.{contribution_at};
+ghost use Rattle.kernels.specs.Kernels.{HasCells, given_at};
+ghost use Rattle.apply_options.specs.declared.reduction.Reduction.{Reduction};
+
+use crate::accumulator::Accumulator;
+use crate::apply_context::{ApplyContext, SourceContribution};
+use crate::gathered::GatheredIn;
+use crate::joins::gives_some;
+use crate::vector_accumulator::{VectorAccumulator, VectorAccumulators};
+use apply_options::Reduction;
+use kernels::{Block, ContributionColumn, EdgeKernel};
+use std::alloc::{AllocError, Global};
+
+impl VectorAccumulators {
+    /// No vector.
+    pub(crate) fn new(alloc: Global) -> VectorAccumulators
+        ensures { result.used ≡ 0 }
+    {
+        VectorAccumulators {
+            slots: Vec::new(alloc),
+            used: 0,
+        }
+    }
+
+    /// The place of a vector's slot. One that is new has this reduction, and no entry yet. The only error is out of
+    /// memory, after which the entries are as they were.
+    pub(crate) fn place(
+        &mut self,
+        alloc: Global,
+        vector: usize,
+        reduction: Reduction,
+        vertices: u32,
+    ) -> Result<usize, AllocError>
+        ensures place { IfOk result (λ p. (p ≡ place_in vector (active self.new)) × (p < self.new.used)) }
+        ensures held { (combine : ℤ → ℤ → ℤ) (x v : ℕ) (h : ℤ) → held_in_with combine (active self.new) x v h ≡ held_in_with combine (active self.old) x v h }
+        ensures reduction { (x : ℕ) (r : Reduction) → (vector ≡ x → reduction ≡ r) → reduction_in (active self.old) x r ≡ r → reduction_in (active self.new) x r ≡ r }
+    {
+        let place = find(&self.slots[..self.used], vector);
+        if place < self.used {
+            return Ok(place);
+        }
+        self.add(alloc, vector, reduction, vertices)
+    }
+
+    /// Takes one more slot into use.
+    fn add(
+        &mut self,
+        alloc: Global,
+        vector: usize,
+        reduction: Reduction,
+        vertices: u32,
+    ) -> Result<usize, AllocError>
+        requires { self.old.used ≤ place_in vector (active self.old) }
+        ensures place { IfOk result (λ p. (p ≡ place_in vector (active self.new)) × (p < self.new.used)) }
+        ensures held { (combine : ℤ → ℤ → ℤ) (x v : ℕ) (h : ℤ) → held_in_with combine (active self.new) x v h ≡ held_in_with combine (active self.old) x v h }
+        ensures reduction { (x : ℕ) (r : Reduction) → (vector ≡ x → reduction ≡ r) → reduction_in (active self.old) x r ≡ r → reduction_in (active self.new) x r ≡ r }
+    {
+        if self.used < self.slots.len() {
+            return self.add_old(vector, reduction, vertices);
+        }
+        self.add_new(alloc, vector, reduction, vertices)
+    }
+
+    /// One that was not in use.
+    fn add_old(
+        &mut self,
+        vector: usize,
+        reduction: Reduction,
+        vertices: u32,
+    ) -> Result<usize, AllocError>
+        requires inside { self.old.used < vec_len self.old.slots }
+        requires none { self.old.used ≤ place_in vector (active self.old) }
+        ensures place { IfOk result (λ p. (p ≡ place_in vector (active self.new)) × (p < self.new.used)) }
+        ensures held { (combine : ℤ → ℤ → ℤ) (x v : ℕ) (h : ℤ) → held_in_with combine (active self.new) x v h ≡ held_in_with combine (active self.old) x v h }
+        ensures reduction { (x : ℕ) (r : Reduction) → (vector ≡ x → reduction ≡ r) → reduction_in (active self.old) x r ≡ r → reduction_in (active self.new) x r ≡ r }
+    {
+        let place = self.used;
+        self.slots[place].begin(vector, reduction, vertices)?;
+        self.used = place + 1;
+        Ok(place)
+    }
+
+    /// One more than there are.
+    fn add_new(
+        &mut self,
+        alloc: Global,
+        vector: usize,
+        reduction: Reduction,
+        vertices: u32,
+    ) -> Result<usize, AllocError>
+        requires all { self.old.used ≡ vec_len self.old.slots }
+        requires none { self.old.used ≤ place_in vector (active self.old) }
+        ensures place { IfOk result (λ p. (p ≡ place_in vector (active self.new)) × (p < self.new.used)) }
+        ensures held { (combine : ℤ → ℤ → ℤ) (x v : ℕ) (h : ℤ) → held_in_with combine (active self.new) x v h ≡ held_in_with combine (active self.old) x v h }
+        ensures reduction { (x : ℕ) (r : Reduction) → (vector ≡ x → reduction ≡ r) → reduction_in (active self.old) x r ≡ r → reduction_in (active self.new) x r ≡ r }
+    {
+        let mut entries = Accumulator::new(alloc);
+        entries.begin(vertices)?;
+        self.slots.push(VectorAccumulator {
+            vector,
+            reduction,
+            entries,
+        })?;
+        let place = self.used;
+        self.used = place + 1;
+        Ok(place)
+    }
+
+    /// Reduces the entries at the destinations of pairs with a column of what is given to them. A column that gives
+    /// nothing changes nothing. The only error is out of memory, after which a part was done.
+    fn join_contribution(
+        &mut self,
+        alloc: Global,
+        context: ApplyContext<'_>,
+        contribution: ContributionColumn<'_>,
+        destinations: &[u32],
+    ) -> Result<(), AllocError>
+        requires { length destinations.now ≤ length contribution.numbers.now }
+        ensures { OnOk result ((x : ℕ) (r : Reduction) → ((i : ℕ) → i < length destinations.now → IsBy r x (contribution_at contribution.entry i))
+            → HaveJoined context.entry x r self.old self.new (given_from x (contribution_at contribution.entry) 0 destinations.now)) }
+    {
+        if !gives_some(contribution, destinations.len()) {
+            return Ok(());
+        }
+        let place = self.place(
+            alloc,
+            contribution.vector,
+            contribution.reduction,
+            context.vertices,
+        )?;
+        let opening = context.opening(contribution.vector);
+        self.slots[place]
+            .entries
+            .join_column(opening, contribution, destinations)?;
+        Ok(())
+    }
+
+    /// Reduces the entries of a vector at destinations with one number. The only error is out of memory, after which
+    /// a part was done.
+    pub(crate) fn join_number(
+        &mut self,
+        alloc: Global,
+        context: ApplyContext<'_>,
+        sent: SourceContribution,
+        destinations: &[u32],
+    ) -> Result<(), AllocError>
+        ensures { OnOk result ((x : ℕ) (r : Reduction) → (sent.vector ≡ x → sent.reduction ≡ r)
+            → HaveJoined context.entry x r self.old self.new (if sent.vector == x then each_given sent.number destinations.now else [])) }
+    {
+        let place = self.place(alloc, sent.vector, sent.reduction, context.vertices)?;
+        let opening = context.opening(sent.vector);
+        let entries = &mut self.slots[place].entries;
+        entries.join_number(sent.reduction, opening, sent.number, destinations)?;
+        Ok(())
+    }
+
+    /// Reduces the entries of vectors with what was gathered for them. The only error is out of memory, after which a
+    /// part was done.
+    pub(crate) fn join_gathered(
+        &mut self,
+        alloc: Global,
+        context: ApplyContext<'_>,
+        gathered: &[GatheredIn],
+    ) -> Result<(), AllocError>
+        ensures { OnOk result ((x : ℕ) (r : Reduction) → IsGatheredBy r x gathered.now → HaveJoined context.entry x r self.old self.new (gathered_for x gathered.now)) }
+    {
+        'vectors: for of_vector in gathered {
+            self.join_numbers(alloc, context, of_vector)?;
+        }
+        Ok(())
+    }
+
+    /// The same of one vector.
+    fn join_numbers(
+        &mut self,
+        alloc: Global,
+        context: ApplyContext<'_>,
+        of_vector: &GatheredIn,
+    ) -> Result<(), AllocError>
+        ensures { OnOk result ((x : ℕ) (r : Reduction) → (of_vector.now.vector ≡ x → of_vector.now.reduction ≡ r)
+            → HaveJoined context.entry x r self.old self.new (if of_vector.now.vector == x then numbers_of of_vector.now.numbers.items else [])) }
+    {
+        let vector = of_vector.vector;
+        let reduction = of_vector.reduction;
+        let place = self.place(alloc, vector, reduction, context.vertices)?;
+        let opening = context.opening(vector);
+        let entries = &mut self.slots[place].entries;
+        entries.join_changes(reduction, opening, &of_vector.numbers)?;
+        Ok(())
+    }
+
+    /// Reduces the entries at the destinations of a block's pairs with what a kernel that ran on it gave them. The
+    /// only error is out of memory, after which a part was done.
+    pub(crate) fn join_block(
+        &mut self,
+        alloc: Global,
+        context: ApplyContext<'_>,
+        kernel: &EdgeKernel,
+        block: &Block,
+        destinations: &[u32],
+    ) -> Result<(), AllocError>
+        requires few { length destinations.now ≤ 128 }
+        requires cells { HasCells block.now kernel.now.room }
+        ensures { OnOk result ((x : ℕ) (r : Reduction) → ((i : ℕ) → i < length destinations.now → IsBy r x (given_at kernel.now block.now i))
+            → HaveJoined context.entry x r self.old self.new (given_from x (given_at kernel.now block.now) 0 destinations.now)) }
+    {
+        'contributions: for place in 0..kernel.contributions() {
+            self.join_contribution(
+                alloc,
+                context,
+                kernel.contribution(place, block),
+                destinations,
+            )?;
+        }
+        Ok(())
+    }
+}
+
+impl VectorAccumulator {
+    /// Becomes that of a vector, without an entry. The only error is out of memory, after which it is that of any.
+    fn begin(
+        &mut self,
+        vector: usize,
+        reduction: Reduction,
+        vertices: u32,
+    ) -> Result<(), AllocError>
+        ensures vector { OnOk result (self.new.vector ≡ vector) }
+        ensures reduction { OnOk result (self.new.reduction ≡ reduction) }
+        ensures clean { OnOk result ((combine : ℤ → ℤ → ℤ) (v : ℕ) (h : ℤ) → held_with combine self.new.entries v h ≡ h) }
+    {
+        self.vector = vector;
+        self.reduction = reduction;
+        self.entries.begin(vertices)
+    }
+}
+
+/// The place of the first slot of a vector, or how many there are.
+pub(crate) fn find(slots: &[VectorAccumulator], vector: usize) -> usize
+    ensures { result ≡ place_in vector slots.now }
+{
+    let mut place = 0;
+    'slots: for slot in slots {
+        if slot.vector == vector {
+            return place;
+        }
+        place += 1;
+    }
+    place
+}
