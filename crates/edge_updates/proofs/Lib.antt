@@ -3,3 +3,4 @@ pub mod SortedUpdates
 pub mod KeepingLast
 pub mod Turning
 pub mod EndWidths
+pub mod Weighted

@@ -1,0 +1,41 @@
+-- Blocks that are filled from a list, upward and downward.
+use Rattle.std.proofs.Common.{◌≡◌, ℕ, ◌+◌, ◌-◌, ◌<◌, ◌≤◌, List, [], ◌∷◌, ◌++◌, reverse, length, get_or, slice_set, take, drop, sym, ◌∙◌, ap, arith, get_or-drop}
+use borrow.Rule.Slice.PartMut.{put_mid}
+use Rattle.std.proofs.lemmas.List.{append-nil, drop_all, drop_more, set_at, take_more, take_more_set, get_or-reverse, get_or-take, length-take, length-take-le}
+
+-- one element more of the list is in the block
+pub written : (whole block : List ℕ) (n x : ℕ) → n < length whole → n < length block → x ≡ get_or whole n 0 → take n block ≡ take n whole → take (n + 1) (slice_set block n x) ≡ take (n + 1) whole
+written whole block n x within room is same = take_more_set block n x room ∙ rw (is, same) (sym (take_more whole n 0 within))
+
+pub up_at : (xs : List ℕ) (from i index : ℕ) → index + 1 ≡ from + i → get_or xs (index + 1) 0 ≡ get_or (drop from xs) i 0
+up_at xs from i index is = ap (λ k. get_or xs k 0) is ∙ sym (get_or-drop from xs i 0)
+
+pub down_at : (xs : List ℕ) (end i index : ℕ) → end ≤ length xs → index + 1 + i ≡ end → get_or xs index 0 ≡ get_or (reverse (take end xs)) i 0
+down_at xs end i index within is =
+    let all : length (take end xs) ≡ end = length-take-le end xs within in
+    let place : length (take end xs) - 1 - i ≡ index = omega (arith, all) in
+    sym (get_or-reverse (take end xs) i 0 (omega (arith, all)) ∙ ap (λ k. get_or (take end xs) k 0) place ∙ get_or-take end xs index 0 (omega arith))
+
+-- the first element, and the others behind it
+pub first_filled : (block xs ys : List ℕ) (first : ℕ) → 0 < length block → length block ≤ length xs → first ≡ get_or xs 0 0 → ys ≡ take (length (take (length (slice_set block 0 first) - 1) (drop 1 (slice_set block 0 first)))) (drop 1 xs) → put_mid 1 (length (slice_set block 0 first) - 1) (slice_set block 0 first) ys ≡ take (length block) xs
+first_filled [] xs ys first some room is rest = absurd (omega arith)
+first_filled (b ∷ bs) [] ys first some room is rest = absurd (omega arith)
+first_filled (b ∷ bs) (x ∷ xs) ys first some room is rest =
+    let count : length (first ∷ bs) - 1 ≡ length bs = omega arith in
+    let all : length (take (length (first ∷ bs) - 1) bs) ≡ length bs = omega (arith, length-take (length (first ∷ bs) - 1) bs) in
+    let none : drop (length (first ∷ bs) - 1) bs ≡ [] = drop_all (length (first ∷ bs) - 1) bs (omega arith) in
+    let same : ys ≡ take (length bs) xs = rest ∙ ap (λ n. take n xs) all in
+    rw (none, is, same) (ap (λ zs. x ∷ zs) (append-nil (take (length bs) xs)))
+
+-- the first element, behind the others
+pub last_filled : (block ys zs : List ℕ) (n p x : ℕ) → length block ≡ n → 0 < n → length zs ≡ n → p ≡ n - 1 → ys ≡ take p zs → x ≡ get_or zs (n - 1) 0 → slice_set (ys ++ drop (n - 1) block) (n - 1) x ≡ take n zs
+last_filled block ys zs n p x long some all at is last =
+    let rest : drop (n - 1) block ≡ get_or block (n - 1) 0 ∷ drop (n - 1 + 1) block = drop_more block (n - 1) 0 (omega arith) in
+    let none : drop (n - 1 + 1) block ≡ [] = drop_all (n - 1 + 1) block (omega arith) in
+    let front : ys ≡ take (n - 1) zs = is ∙ ap (λ k. take k zs) at in
+    let count : length ys ≡ n - 1 = ap length front ∙ length-take-le (n - 1) zs (omega arith) in
+    let up : n - 1 + 1 ≡ n = omega arith in
+    ap (λ ds. slice_set (ys ++ ds) (n - 1) x) (rest ∙ ap (λ ds. get_or block (n - 1) 0 ∷ ds) none)
+    ∙ set_at ys (get_or block (n - 1) 0) [] x (n - 1) count
+    ∙ rw (last, front) (sym (take_more zs (n - 1) 0 (omega arith)))
+    ∙ ap (λ k. take k zs) up

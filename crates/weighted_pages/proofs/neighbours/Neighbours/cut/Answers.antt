@@ -1,0 +1,60 @@
+use Rattle.std.proofs.Common.{ℕ, ◌+◌, ◌-◌, ◌/◌, arith}
+use Rattle.weighted_pages.proofs.Ascent.{rises, rises_strictly}
+use Rattle.weighted_pages.proofs.Cuts.{cut_below, cut_above}
+use Rattle.weighted_pages.proofs.neighbours.Neighbours.cut.Goals as goal
+
+pub returns-then-found-neighbour-clause-below : goal.returns-then-found-neighbour-clause-below
+returns-then-found-neighbour-clause-below c =
+    let l = c.loop-low in
+    let xs = c.args.self.now in
+    let middle : ℕ = l.low + (l.high - l.low) / 2 in
+    cut_below c.args.neighbour c.args.from middle xs (omega arith)
+    (λ i ge lt in_list. omega (arith, rises_strictly 0 xs c.len-high.ensures.ascending i middle lt (omega arith), c.get-found.ensures))
+    (λ i ge in_list. omega (arith, rises 0 xs c.len-high.ensures.ascending middle i ge in_list, c.get-found.ensures))
+
+pub returns-then-found-neighbour-clause-above : goal.returns-then-found-neighbour-clause-above
+returns-then-found-neighbour-clause-above c =
+    let l = c.loop-low in
+    let xs = c.args.self.now in
+    let middle : ℕ = l.low + (l.high - l.low) / 2 in
+    cut_above c.args.neighbour c.args.from (middle + 1) xs (omega arith)
+    (λ i ge lt in_list. omega (arith, rises 0 xs c.len-high.ensures.ascending i middle (omega arith) (omega arith), c.get-found.ensures))
+    (λ i ge in_list. omega (arith, rises_strictly 0 xs c.len-high.ensures.ascending middle i (omega arith) in_list, c.get-found.ensures))
+
+pub loop-low-preserved-then-found-neighbour-2 : goal.loop-low-preserved-then-found-neighbour-2
+loop-low-preserved-then-found-neighbour-2 c =
+    let l = c.loop-low in
+    let middle : ℕ = l.low + (l.high - l.low) / 2 in
+    record {
+      from = omega arith;
+      order = omega arith;
+      within = l.invariant.within;
+      below = λ i ge lt. omega (arith, rises 0 c.args.self.now c.len-high.ensures.ascending i middle (omega arith) (omega arith), c.get-found.ensures);
+      above = l.invariant.above;
+    }
+
+pub loop-low-preserved : goal.loop-low-preserved
+loop-low-preserved c =
+    let l = c.loop-low in
+    let middle : ℕ = l.low + (l.high - l.low) / 2 in
+    record {
+      from = l.invariant.from;
+      order = omega arith;
+      within = omega arith;
+      below = l.invariant.below;
+      above = λ i ge in_list. omega (arith, rises 0 c.args.self.now c.len-high.ensures.ascending middle i ge in_list, c.get-found.ensures);
+    }
+
+pub returns-clause-below : goal.returns-clause-below
+returns-clause-below c =
+    let l = c.loop-low in
+    cut_below c.args.neighbour c.args.from l.low c.args.self.now l.invariant.from
+    (λ i ge lt in_list. l.invariant.below i ge lt)
+    (λ i ge in_list. omega (arith, l.invariant.above i (omega arith) in_list))
+
+pub returns-clause-above : goal.returns-clause-above
+returns-clause-above c =
+    let l = c.loop-low in
+    cut_above c.args.neighbour c.args.from l.low c.args.self.now l.invariant.from
+    (λ i ge lt in_list. omega (arith, l.invariant.below i ge lt))
+    (λ i ge in_list. l.invariant.above i (omega arith) in_list)

@@ -1,0 +1,10 @@
+use Rattle.std.proofs.Common.{ℕ, ◌+◌, ◌*◌, ◌∙◌, drop, ap, arith, bit_and, get_or-drop}
+use Rattle.weighted_pages.proofs.Masks.{masked}
+use Rattle.weighted_pages.proofs.offsets.offset.Goals as goal
+
+pub returns : goal.returns
+returns c =
+    let place : ℕ = c.args.width * c.args.index in
+    let bytes = c.args.bytes.now in
+    ap (λ x. bit_and x c.args.mask) c.number.ensures
+    ∙ masked c.args.width c.args.mask (drop place bytes) (λ i. omega (arith, get_or-drop place bytes i 0, c.type_inv.bytes (place + i))) c.requires.width c.requires.mask

@@ -1,0 +1,4 @@
+pub mod Vertices
+pub mod Updates
+pub mod Keys
+pub mod inside

@@ -1,0 +1,11 @@
+-- Numbers in bytes, the low byte first.
+use Rattle.std.specs.Prelude.{ℕ, ◌+◌, ◌*◌, List, [], ◌∷◌, take, drop}
+
+-- the number that bytes make
+abbrev pub number_of : List ℕ → ℕ
+number_of [] = 0
+number_of (b ∷ bytes) = b + 256 * number_of bytes
+
+-- the number in so many bytes from a place on
+abbrev pub number_at : ℕ → ℕ → List ℕ → ℕ
+number_at w place bytes = number_of (take w (drop place bytes))

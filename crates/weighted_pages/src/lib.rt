@@ -1,0 +1,60 @@
+//! Pages: the neighbours of 64 vertices of a graph, packed in one array of bytes.
+//!
+//! A contract sees a [`Page`] as the ascending list of the vertices that are present, each with the
+//! ascending list of its neighbours, of which it has 1 to 256 ([`MAX_PACKED`]); `specs/Vertices.antt`
+//! says what is a page. A vertex goes by its number in the page, 0 to 63, and neighbours are numbers
+//! below 2^32. Whoever keeps larger sets keeps them apart.
+//!
+//! `list` gives the [`Neighbours`] of a vertex where they lie: one by one by index, as look-ups, or as
+//! walks upward and downward that fill blocks ([`Ascending`], [`Descending`]). `iter` goes over the
+//! vertices. `push` and `push_run` build a page up, vertex by vertex and by runs of another page, whose
+//! bytes are copied whole; `from_keys` builds one from sorted edges (`specs/Keys.antt`). `apply` makes a
+//! new page of an old one and a list of updates, each an `EdgeUpdate` of `edge_updates`, which may be a
+//! run of a longer list as it stands there; the old page stays as it is. [`merge`] makes the new list of
+//! one vertex, and [`run_length`] finds its updates. `specs/Updates.antt` says what updates make of a
+//! list. [`changes_decide`], [`blocks_ascend`] and [`pages_are_their_lists`] are laws of updates and of
+//! pages, and do nothing when called.
+//!
+//! The layout: a word of 64 bits says which vertices are present. Each of them has an entry of 8 bytes,
+//! which stands at its rank, the number of vertices present below it: where its list starts, how many
+//! neighbours it has and the width of its offsets. The lists stand one behind the other in one array of
+//! bytes. A list is its first neighbour in 4 bytes, the low byte first, and for each other one how far it
+//! is above the first, all in the list's own width of 1, 2, 3 or 4 bytes: 7, 9, 300 is `07 00 00 00`,
+//! `02 00`, `25 01`. Three bytes of padding stand at the end, so that each offset may be read as four
+//! bytes, of which a mask cuts out its own. So reading has no branch, the neighbour at an index takes
+//! constant time, a look-up is a binary search, and a walk downward costs what one upward does.
+//!
+//! Blocks of vertices stand on this crate; they take [`rank`] and [`width_of`] too. The widths are those of a frame
+//! of reference (Goldstein, Ramakrishnan, Shaft, ICDE 1998), and the ranks are Jacobson's (Space-efficient
+//! Static Trees and Graphs, FOCS 1989).
+#![tactic(auto)]
+
+mod appending;
+mod applying;
+mod blocks;
+mod columns;
+mod entry;
+mod index;
+mod iter;
+mod laws;
+mod loading;
+mod neighbours;
+mod offsets;
+mod page;
+#[cfg(test)]
+mod tests;
+mod updates;
+mod walks;
+mod weight_blocks;
+mod weights;
+mod writing;
+
+pub use columns::EntryColumns;
+pub use index::{rank, rank_below};
+pub use iter::PageIter;
+pub use laws::{blocks_ascend, changes_decide, pages_are_their_lists};
+pub use neighbours::Neighbours;
+pub use page::{MAX_PACKED, Page};
+pub use updates::{merge, run_length};
+pub use walks::{Ascending, Descending};
+pub use writing::width_of;

@@ -1,0 +1,5 @@
+pub mod Sorted
+pub mod KeptUpdates
+pub mod Turned
+pub mod Widths
+pub mod PairColumns

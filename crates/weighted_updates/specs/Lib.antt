@@ -1,0 +1,2 @@
+pub mod WeightedUpdates
+pub mod inside
