@@ -6,3 +6,4 @@ pub mod Lists
 pub mod Continuing
 pub mod EntryNumbers
 pub mod Writing
+pub mod Filling

@@ -2,7 +2,7 @@
 
 ghost use Rattle.std.specs.Prelude.{◌≡◌, ℕ, ℤ, List, ◌+◌, ◌^◌, ◌<◌, ◌≤◌, ◌∷◌, length, take, drop, min};
 ghost use Rattle.std.specs.Iterator.{YieldsFirst, item_count};
-ghost use Rattle.std.specs.Map.{keys_of};
+ghost use Rattle.std.specs.Map.{keys_of, values_of};
 ghost use Rattle.weighted_tails.specs.Spelling.{Spells, SpellsFrom};
 ghost use Rattle.weighted_tails.specs.inside.Decoding.{decoded};
 
@@ -72,6 +72,36 @@ impl<'a> TailIter<'a> {
             filled += 1;
         }
         *self = entries;
+        filled
+    }
+
+    /// Reads the keys and the weights of the next entries into the fronts of two blocks, as many as fit
+    /// and are left, and gives their number. It takes no memory, and the rest of each block stays as it
+    /// was.
+    #[inline]
+    pub fn fill_weighted(&mut self, keys: &mut [u32], weights: &mut [i64]) -> usize
+        requires { length weights.old ≡ length keys.old }
+        ensures count { result ≡ min (length keys.old) (length self.old) }
+        ensures filled { take result keys.new ≡ take result (keys_of self.old) }
+        ensures weighted { take result weights.new ≡ take result (values_of self.old) }
+        ensures kept { drop result keys.new ≡ drop result keys.old }
+        ensures kept_weights { drop result weights.new ≡ drop result weights.old }
+        ensures rest { self.new ≡ drop result self.old }
+    {
+        let mut left = TailIter {
+            low: self.low,
+            rest: self.rest,
+        };
+        let mut filled = 0usize;
+        for place in 0..keys.len() {
+            let Some((key, weight)) = left.next() else {
+                break;
+            };
+            keys[place] = key;
+            weights[place] = weight;
+            filled += 1;
+        }
+        *self = left;
         filled
     }
 }

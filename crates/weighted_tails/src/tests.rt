@@ -141,3 +141,19 @@ fn fills_blocks_with_keys(rt: HostRuntime) -> Result<(), Fail> {
     );
     Ok(())
 }
+
+#[test]
+fn fills_blocks_with_entries(rt: HostRuntime) -> Result<(), Fail> {
+    let tail = Tail::encode(rt.alloc(), Some(4), &[(5, 2), (6, 1), (9, -1)])?;
+    let mut entries = tail.iter();
+    let (mut keys, mut weights) = ([0; 2], [0; 2]);
+    assert!(rt;
+        entries.fill_weighted(&mut keys, &mut weights) == 2 && keys == [5, 6] && weights == [2, 1],
+        "two whole blocks"
+    );
+    assert!(rt;
+        entries.fill_weighted(&mut keys, &mut weights) == 1 && keys == [9, 6] && weights == [-1, 1],
+        "the last entry"
+    );
+    Ok(())
+}
