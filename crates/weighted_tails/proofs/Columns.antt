@@ -1,12 +1,14 @@
 -- Entries in columns, against the list of pairs.
-use Rattle.std.proofs.Common.{◌≡◌, ℕ, zero, suc, ◌<◌, ℤ, pos, Option, Some, None, List, [], ◌∷◌, length, take, drop, get_or, slice_set, refl, sym, ◌∙◌, ap, arith}
+use Rattle.std.proofs.Common.{◌≡◌, ℕ, zero, suc, ◌+◌, ◌-◌, ◌<◌, ℤ, pos, Option, Some, None, List, [], ◌∷◌, ◌++◌, length, take, drop, get_or, slice_set, refl, sym, ◌∙◌, ap, length-append, arith}
 use Rattle.std.specs.List.{zip}
+use Rattle.std.proofs.Math.ListN.{replicate}
 use Rattle.std.specs.Map.{keys_of}
 use Rattle.std.specs.Borrow.{Bor}
 use Rattle.std.specs.Option.{option_map, option_copied}
+use Rattle.std.proofs.lemmas.List.{length-replicate, take_all}
 use Rattle.std.proofs.lemmas.Slice.Zip.{length-zip, get_or-zip}
 use Rattle.std.proofs.lemmas.Map.Made.{keys_of-zip}
-use Rattle.weighted_tails.specs.Columns.{entries_in, AreColumns}
+use Rattle.weighted_tails.specs.Columns.{entries_in, AreColumns, AreAppended}
 
 pub length_in : (keys : List ℕ) (weights : Option (List ℤ)) → AreColumns keys weights → length (entries_in keys weights) ≡ length keys
 length_in [] None s = refl
@@ -54,6 +56,33 @@ drop_in (suc n) [] None = refl
 drop_in (suc n) (k ∷ ks) None = drop_in n ks None
 drop_in n ks (Some ws) = drop_zip n ks ws
 
+pub zip_append : (ks js : List ℕ) (ws vs : List ℤ) → length ws ≡ length ks → zip (ks ++ js) (ws ++ vs) ≡ zip ks ws ++ zip js vs
+zip_append [] js [] vs s = refl
+zip_append [] js (w ∷ ws) vs s = absurd (omega (arith, s))
+zip_append (k ∷ ks) js [] vs s = absurd (omega (arith, s))
+zip_append (k ∷ ks) js (w ∷ ws) vs s = ap (λ v. (k, w) ∷ v) (zip_append ks js ws vs (omega (arith, s)))
+
+-- a column of as many ones as there are keys
+pub zip_ones : (keys : List ℕ) → zip keys (replicate (length keys) (pos 1)) ≡ entries_in keys None
+zip_ones [] = refl
+zip_ones (k ∷ ks) = ap (λ v. (k, pos 1) ∷ v) (zip_ones ks)
+
+-- entries behind others, with a column of weights and without one
+pub appended_column : (old keys new : List ℕ) (old' weights new' : List ℤ) → length old' ≡ length old → length weights ≡ length keys → new ≡ old ++ keys → new' ≡ old' ++ weights → AreAppended old old' (zip keys weights) new new'
+appended_column old keys new old' weights new' same same' is is' =
+    rw (is, is') (record {
+      columns = omega (arith, length-append old keys, length-append old' weights, same, same');
+      whole = zip_append old keys old' weights same;
+    })
+
+pub appended_ones : (old keys new : List ℕ) (old' new' : List ℤ) (m n : ℕ) → length old' ≡ length old → m ≡ length old' → n ≡ length new → new ≡ old ++ keys → new' ≡ take n old' ++ replicate (n - m) (pos 1) → AreAppended old old' (entries_in keys None) new new'
+appended_ones old keys new old' new' m n same m_is n_is is is' =
+    let long : n ≡ length old + length keys = n_is ∙ ap length is ∙ length-append old keys in
+    let front : take n old' ≡ old' = take_all n old' (omega (arith, long, same)) in
+    let more : n - m ≡ length keys = omega (arith, long, same, m_is) in
+    let column : new' ≡ old' ++ replicate (length keys) (pos 1) = is' ∙ ap (λ v. v ++ replicate (n - m) (pos 1)) front ∙ ap (λ (k : ℕ). old' ++ replicate k (pos 1)) more in
+    rw (← zip_ones keys) (appended_column old keys new old' (replicate (length keys) (pos 1)) new' same (length-replicate (length keys) (pos 1)) is column)
+
 -- both columns are changed at one place
 pub set_zip : (n : ℕ) (keys : List ℕ) (weights : List ℤ) (k : ℕ) (w : ℤ) → zip (slice_set keys n k) (slice_set weights n w) ≡ slice_set (zip keys weights) n (k, w)
 set_zip n [] ws k w = refl
@@ -85,6 +114,13 @@ module _ (keys : List ℕ) (lent : Option (Bor (List ℤ))) (es : List (ℕ × �
 
     pub seen_zip : zip keys weights.now ≡ es
     seen_zip = rw some at seen
+
+  -- the keys that are seen, each with weight 1
+  pub only_ones : lent ≡ None → es ≡ entries_in (keys_of es) None
+  only_ones none =
+      let ones : entries_in keys None ≡ es = rw none at seen in
+      let same : keys ≡ keys_of es = sym (keys_in keys (option_copied lent) columns) ∙ ap keys_of seen in
+      sym ones ∙ ap (λ v. entries_in v None) same
 
   pub seen_ones : lent ≡ None → entries_in keys None ≡ es
   seen_ones none = rw none at seen

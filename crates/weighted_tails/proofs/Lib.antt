@@ -7,3 +7,5 @@ pub mod Continuing
 pub mod EntryNumbers
 pub mod Writing
 pub mod Filling
+pub mod MapMerging
+pub mod MapOnes

@@ -12,15 +12,15 @@ one_more : (n : ℕ) → suc n + 1 ≡ suc (n + 1)
 one_more n = omega arith
 
 module _ {V : Type 0} where
-  entries_below_none : (k low : ℕ) (es : List (ℕ × V)) → k ≤ low → AscendsFrom low (keys_of es) → entries_below k es ≡ []
+  pub entries_below_none : (k low : ℕ) (es : List (ℕ × V)) → k ≤ low → AscendsFrom low (keys_of es) → entries_below k es ≡ []
   entries_below_none k low [] le s = refl
   entries_below_none k low (e ∷ es) le s = rw (le-ltb e.0 k (omega (arith, s.0))) (entries_below_none k (e.0 + 1) es (omega (arith, s.0)) s.2)
 
-  entries_above_all : (k low : ℕ) (es : List (ℕ × V)) → k < low → AscendsFrom low (keys_of es) → entries_above k es ≡ es
+  pub entries_above_all : (k low : ℕ) (es : List (ℕ × V)) → k < low → AscendsFrom low (keys_of es) → entries_above k es ≡ es
   entries_above_all k low [] lt s = refl
   entries_above_all k low (e ∷ es) lt s = rw (lt-ltb k e.0 (omega (arith, s.0))) (ap (λ v. e ∷ v) (entries_above_all k (e.0 + 1) es (omega (arith, s.0)) s.2))
 
-  no_value : (k low : ℕ) (es : List (ℕ × V)) → k < low → AscendsFrom low (keys_of es) → lookup k es ≡ None
+  pub no_value : (k low : ℕ) (es : List (ℕ × V)) → k < low → AscendsFrom low (keys_of es) → lookup k es ≡ None
   no_value k low [] lt s = refl
   no_value k low (e ∷ es) lt s = rw (ne_eqb e.0 k (omega (arith, s.0))) (no_value k (e.0 + 1) es (omega (arith, s.0)) s.2)
 

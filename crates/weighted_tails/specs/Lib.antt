@@ -1,5 +1,6 @@
 pub mod Columns
 pub mod EntryCuts
+pub mod Operations
 pub mod Spelling
 pub mod Outcome
 pub mod Refusal

@@ -3,3 +3,4 @@ pub mod Decoding
 pub mod Reading
 pub mod Writing
 pub mod Bytes
+pub mod Merging

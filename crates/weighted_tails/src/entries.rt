@@ -1,12 +1,13 @@
 //! Lent entries in columns.
 
-ghost use Rattle.std.specs.Prelude.{◌≡◌, ◌↔◌, ◌<◌, ◌≤◌, ℤ, pos, Some, None, [], length, take, drop, get_or, IsTrue};
+ghost use Rattle.std.specs.Prelude.{◌≡◌, ◌↔◌, ◌<◌, ◌≤◌, ℤ, pos, Some, None, [], length, take, drop, get_or, IsTrue, OnOk};
 ghost use Rattle.std.specs.Map.{keys_of};
 ghost use Rattle.ascending_lists.specs.Ascending.{Ascends};
-ghost use Rattle.weighted_tails.specs.Columns.{entries_in};
+ghost use Rattle.weighted_tails.specs.Columns.{entries_in, AreAppended};
 ghost use Rattle.weighted_tails.specs.EntryCuts.{CutsEntries};
 
 use ascending_lists::cut_list;
+use std::alloc::AllocError;
 use std::marker::Model;
 
 /// Lent keys, each with a weight. A contract sees the list of pairs. Where all weights are 1 there may
@@ -75,6 +76,33 @@ impl<'a> Entries<'a> {
         ensures { result.now ≡ keys_of self.now }
     {
         self.keys
+    }
+
+    /// Whether there is no column of weights, so that each is 1.
+    #[inline]
+    pub(crate) fn has_only_ones(&self) -> bool
+        ensures { IsTrue result → self.now ≡ entries_in (keys_of self.now) None }
+    {
+        self.weights.is_none()
+    }
+
+    /// Writes the entries behind those of two columns.
+    ///
+    /// The only error is out of memory.
+    pub(crate) fn append_to(
+        &self,
+        keys: &mut Vec<u32>,
+        weights: &mut Vec<i64>,
+    ) -> Result<(), AllocError>
+        requires { length weights.old.items ≡ length keys.old.items }
+        ensures { OnOk result (AreAppended keys.old.items weights.old.items self.now keys.new.items
+            weights.new.items) }
+    {
+        keys.extend_from_slice(self.keys)?;
+        match self.weights {
+            None => weights.resize(keys.len(), 1),
+            Some(column) => weights.extend_from_slice(column),
+        }
     }
 
     /// The first entries, so many.

@@ -55,6 +55,16 @@ impl EntryList {
         }
     }
 
+    /// These keys, each with weight 1.
+    pub(crate) fn of_keys(keys: Vec<u32>) -> EntryList
+        ensures { result ≡ entries_in keys.items None }
+    {
+        EntryList {
+            keys,
+            weights: None,
+        }
+    }
+
     /// Pairs of a key and a weight in columns.
     ///
     /// The only error is out of memory.

@@ -11,7 +11,8 @@
 //!
 //! [`Entries`] lends keys and weights in columns, and an [`EntryList`] owns them; a contract sees the
 //! list of pairs. Where all weights are 1 there need be no column of them. `cut_entries` cuts entries
-//! at a key.
+//! at a key, and `merge_entries` gives the union or the difference of two maps, as a [`MapOperation`]
+//! says.
 //!
 //! `Tail::cut` gives what a tail has below a key and above it. `over` and `followed_by` write a tail
 //! over another base, and one tail after another. One list may also be put together in its bytes: those
@@ -32,6 +33,8 @@ mod entry_list;
 mod error;
 mod iter;
 mod laws;
+mod merging;
+mod operation;
 mod reading;
 mod rewrite;
 mod shared_bytes;
@@ -46,6 +49,8 @@ pub use entry_list::EntryList;
 pub use error::TailError;
 pub use iter::TailIter;
 pub use laws::{bytes_spell_one_list, lists_have_one_spelling};
+pub use merging::merge_entries;
+pub use operation::MapOperation;
 pub use rewrite::TailCut;
 pub use tail::Tail;
 pub use writer::{TailWriter, append_entry};

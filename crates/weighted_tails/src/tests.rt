@@ -1,5 +1,5 @@
 //! Bytes of tails, lists that are put together in them, and blocks of keys.
-use crate::{Tail, append_entry};
+use crate::{EntryList, MapOperation, Tail, append_entry, merge_entries};
 use std::alloc::Global;
 use std::test::Fail;
 
@@ -156,4 +156,75 @@ fn fills_blocks_with_entries(rt: HostRuntime) -> Result<(), Fail> {
         "the last entry"
     );
     Ok(())
+}
+
+// An operation, two maps, and what it makes of them.
+type Merge = (
+    MapOperation,
+    &'static [(u32, i64)],
+    &'static [(u32, i64)],
+    &'static [(u32, i64)],
+);
+
+const MERGES: [Merge; 8] = [
+    (
+        MapOperation::Union,
+        &[(1, 5), (3, 7)],
+        &[(0, 2), (1, 2), (4, 2)],
+        &[(0, 2), (1, 2), (3, 7), (4, 2)],
+    ),
+    (
+        MapOperation::UnionKeepingFirst,
+        &[(1, 5), (3, 7)],
+        &[(0, 2), (1, 2), (4, 2)],
+        &[(0, 2), (1, 5), (3, 7), (4, 2)],
+    ),
+    (
+        MapOperation::Difference,
+        &[(1, 5), (3, 7), (9, 1)],
+        &[(0, 2), (1, 2), (4, 2)],
+        &[(3, 7), (9, 1)],
+    ),
+    (
+        MapOperation::Union,
+        &[(1, 1), (3, 1)],
+        &[(1, 2)],
+        &[(1, 2), (3, 1)],
+    ),
+    (
+        MapOperation::UnionKeepingFirst,
+        &[(1, 1), (3, 1)],
+        &[(1, 2), (5, -2)],
+        &[(1, 1), (3, 1), (5, -2)],
+    ),
+    (
+        MapOperation::Union,
+        &[(1, 1), (3, 1)],
+        &[(2, 1), (3, 1)],
+        &[(1, 1), (2, 1), (3, 1)],
+    ),
+    (
+        MapOperation::Difference,
+        &[(1, 1), (3, 1)],
+        &[(3, 8)],
+        &[(1, 1)],
+    ),
+    (MapOperation::Difference, &[], &[(3, 8)], &[]),
+];
+
+#[test]
+fn merges_entries(rt: HostRuntime) -> Result<(), Fail> {
+    for (place, merge) in MERGES.iter().enumerate() {
+        assert!(rt; is_merged(rt.alloc(), *merge)?, "merge {place}");
+    }
+    Ok(())
+}
+
+// Whether the operation makes these entries of the two maps.
+fn is_merged(alloc: Global, (operation, first, second, both): Merge) -> Result<bool, Fail> {
+    let first = EntryList::from_pairs(alloc, first)?;
+    let second = EntryList::from_pairs(alloc, second)?;
+    let merged = merge_entries(alloc, operation, &first.lent(), &second.lent())?;
+    let tail = Tail::from_ascending(alloc, None, &merged.lent())?;
+    Ok(tail.iter().eq(both.iter().copied()))
 }

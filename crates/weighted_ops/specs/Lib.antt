@@ -1,0 +1,4 @@
+pub mod Outcome
+pub mod Refusal
+pub mod Answers
+pub mod Halving

@@ -1,0 +1,38 @@
+ghost use Rattle.std.specs.Prelude.{◌≡◌};
+ghost use Rattle.weighted_ops.specs.declared.error.SetError.TheVariants.{NoMemory};
+ghost use Rattle.weighted_ops.specs.Refusal.{number_of};
+
+use std::alloc::AllocError;
+use thiserror::Error;
+
+/// Why two sets, or a set and a list, were not put together.
+#[derive(Clone, Copy, Debug, PartialEq, Eq, Error)]
+pub enum SetError {
+    #[error("the numbers do not ascend")]
+    NotAscending,
+    #[error("the chunk sizes of two sets differ")]
+    ChunkSizesDiffer,
+    #[error("out of memory")]
+    NoMemory,
+}
+
+impl SetError {
+    /// The number by which scripts and users know the refusal: 101, 104 or 900.
+    pub fn number(self) -> u16
+        ensures { result ≡ number_of self }
+    {
+        match self {
+            SetError::NotAscending => 101,
+            SetError::ChunkSizesDiffer => 104,
+            SetError::NoMemory => 900,
+        }
+    }
+}
+
+impl From<AllocError> for SetError {
+    ghost from_gives = { λ _ e. e ≡ NoMemory };
+
+    fn from(_error: AllocError) -> SetError {
+        SetError::NoMemory
+    }
+}
