@@ -1,12 +1,12 @@
 -- Entries cut at a key.
-use Rattle.std.proofs.Common.{◌≡◌, ℕ, ℤ, zero, suc, ◌+◌, ◌-◌, ◌<◌, ◌≤◌, inl, inr, Some, None, List, [], ◌∷◌, pos, length, get_or, take, drop, slice_range, refl, sym, ◌∙◌, ap, arith, get_or-drop, length-drop}
+use Rattle.std.proofs.Common.{◌≡◌, ℕ, ℤ, zero, suc, ◌+◌, ◌-◌, ◌<◌, ◌≤◌, Some, None, List, [], ◌∷◌, ◌++◌, pos, length, get_or, take, drop, slice_range, refl, sym, ◌∙◌, ap, arith, get_or-drop, length-drop}
 use Rattle.std.specs.Map.{keys_of}
-use Rattle.std.proofs.lemmas.Bool.{lt-ltb, le-ltb, eq-eqb, ne_eqb}
-use Rattle.std.proofs.lemmas.List.{drop-drop, drop-map, length-map}
-use Rattle.ascending_lists.specs.Ascending.{AscendsFrom}
+use Rattle.std.specs.Option.{option_or}
+use Rattle.std.proofs.lemmas.Bool.{lt-ltb, le-ltb}
+use Rattle.std.proofs.lemmas.List.{drop-drop, drop_more, drop-map, get_or-map, take-append-drop}
 use Rattle.ascending_lists.specs.Maps.{lookup}
 use Rattle.ascending_lists.specs.MapOperations.{entries_below, entries_above}
-use Rattle.weighted_pages.proofs.Ascent.{low_at}
+use Rattle.ascending_lists.proofs.MapCuts.{lookup_append, lookup_first, nothing_below, nothing_above}
 
 -- the entries before an index, where they are those below a key
 below_is : (k n : ℕ) (ys : List (ℕ × ℤ)) → ((i : ℕ) → i < n → i < length ys → get_or (keys_of ys) i 0 < k) → ((i : ℕ) → n ≤ i → i < length ys → k ≤ get_or (keys_of ys) i 0) → take n ys ≡ entries_below k ys
@@ -43,10 +43,21 @@ module _ (k from j : ℕ) (xs : List (ℕ × ℤ)) (le : from ≤ j) where
       (λ i lt in_list. omega (arith, at i, under (from + i) (omega arith) (omega arith) (omega (arith, length-drop from xs))))
       (λ i ge in_list. omega (arith, at i, over (from + i) (omega arith) (omega (arith, length-drop from xs))))
 
--- the weight of a key that stands at an index
-pub weight_there : (k low i : ℕ) (xs : List (ℕ × ℤ)) → AscendsFrom low (keys_of xs) → i < length xs → get_or (keys_of xs) i 0 ≡ k → lookup k xs ≡ Some (get_or xs i (0, pos 1)).1
-weight_there k low i [] s lt is = absurd (omega (arith, lt))
-weight_there k low zero (x ∷ xs) s lt is = rw (eq-eqb x.0 k is) refl
-weight_there k low (suc i) (x ∷ xs) s lt is =
-    let small : i < length (keys_of xs) = omega (arith, lt, length-map xs (λ e. e.0)) in
-    rw (ne_eqb x.0 k (omega (arith, is, low_at (x.0 + 1) (keys_of xs) s.2 i small))) (weight_there k (x.0 + 1) i xs s.2 (omega (arith, lt)) is)
+-- the weight of a key that stands at an index, and of one that would stand there
+module _ (k at : ℕ) (es : List (ℕ × ℤ)) (front : slice_range es 0 at ≡ entries_below k (drop 0 es)) where
+  parts : (r : List (ℕ × ℤ)) → drop at es ≡ r → lookup k es ≡ lookup k r
+  parts r is =
+      let all : at - 0 ≡ at = omega arith in
+      let under : take at es ≡ entries_below k es = ap (λ n. take n es) (sym all) ∙ front in
+      ap (lookup k) (sym (take-append-drop at es) ∙ ap (λ l. l ++ drop at es) under ∙ ap (λ l. entries_below k es ++ l) is)
+      ∙ lookup_append k (entries_below k es) r
+      ∙ ap (λ o. option_or o (lookup k r)) (nothing_below k k es (omega arith))
+
+  pub weight_there : at < length es → get_or (keys_of es) at 0 ≡ k → Some (get_or es at (0, pos 1)).1 ≡ lookup k es
+  weight_there lt is =
+      let e : ℕ × ℤ = get_or es at (0, pos 1) in
+      let key : e.0 ≡ k = sym (get_or-map (λ e. e.0) es at (0, pos 1) 0 lt) ∙ is in
+      sym (parts (e ∷ drop (at + 1) es) (drop_more es at (0, pos 1) lt) ∙ lookup_first e (drop (at + 1) es) k key)
+
+  pub weight_missing : (next : ℕ) → at ≡ next → drop next es ≡ entries_above k (drop 0 es) → lookup k es ≡ None
+  weight_missing next same back = parts (entries_above k es) (ap (λ n. drop n es) same ∙ back) ∙ nothing_above k k es (omega arith)

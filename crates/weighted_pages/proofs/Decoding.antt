@@ -2,11 +2,10 @@
 use Rattle.std.proofs.Common.{◌≡◌, ℕ, zero, suc, ◌+◌, ◌-◌, ◌*◌, ◌^◌, ◌<◌, ◌≤◌, ℤ, pos, List, length, get_or, take, drop, refl, sym, ◌∙◌, ap, subst, arith, add-one}
 use Rattle.std.proofs.Math.Nat.{mul-le-mul_left}
 use Rattle.std.specs.Map.{keys_of, values_of}
-use Rattle.std.proofs.lemmas.List.{drop-drop, get_or-map}
+use Rattle.std.proofs.lemmas.List.{drop-drop, get_or-map, length-map}
 use Rattle.ascending_lists.specs.Ascending.{AscendsFrom}
 use Rattle.weighted_pages.specs.inside.Numbers.{number_of, number_at}
 use Rattle.weighted_pages.specs.inside.Packed.{after_first, list_of, entries_of, IsView, IsWeightedView}
-use Rattle.edge_updates.specs.Weighted.{weighted}
 use Rattle.edge_updates.proofs.Weighted.{things_of, length_weighted, weights_of}
 use Rattle.weighted_pages.specs.declared.weights.WeightWidth.{WeightWidth}
 use Rattle.weighted_pages.specs.inside.Weights.{weight_size, weight_in, weights_from}
@@ -90,7 +89,9 @@ module _ (first w mask n : ℕ) (v : WeightWidth) (bytes : List ℕ) (es : List 
   weights_room from m some le =
       let s : ℕ = weight_size v in
       let sum : s * (from + m) ≡ s * from + s * m = omega arith in
-      omega (arith, sum, ok.weights (omega (arith, entry_count, le, some)), mul-le-mul_left s (omega (arith, entry_count, le)))
+      let within : from + m ≤ n = omega (arith, entry_count, le) in
+      let below : s * (from + m) ≤ s * n = mul-le-mul_left s within in
+      omega (arith, sum, ok.weights (omega (arith, within, some)), below)
 
   pub weights_are : (from m : ℕ) → from + m ≤ length es → weights_from v m (drop (w * (n - 1) + weight_size v * from) bytes) ≡ take m (drop from (values_of es))
   weights_are from m le =
@@ -104,3 +105,6 @@ module _ (first w mask n : ℕ) (v : WeightWidth) (bytes : List ℕ) (es : List 
       ∙ sym (weight_found v n k (drop (w * (n - 1)) bytes) (pos 1) (omega (arith, entry_count, lt)))
       ∙ ap (λ ws. get_or ws k (pos 1)) weights_seen
       ∙ get_or-map (λ e. e.1) es k (0, pos 1) (pos 1) lt
+
+pub keys_long : (es : List (ℕ × ℤ)) → length (keys_of es) ≡ length es
+keys_long es = length-map es (λ e. e.0)

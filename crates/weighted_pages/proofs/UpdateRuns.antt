@@ -1,5 +1,5 @@
 -- Updates by vertices.
-use Rattle.std.proofs.Common.{◌≡◌, ◌≢◌, ℕ, ℤ, ◌+◌, ◌*◌, ◌/◌, ◌%◌, ◌^◌, ◌<◌, ◌≤◌, inl, inr, List, [], ◌∷◌, ◌++◌, length, get_or, take, drop, refl, sym, ◌∙◌, ap, subst, arith, append_assoc, get_or-drop, length-drop}
+use Rattle.std.proofs.Common.{◌≡◌, ◌≢◌, ℕ, ℤ, pos, ◌+◌, ◌*◌, ◌/◌, ◌%◌, ◌^◌, ◌<◌, ◌≤◌, inl, inr, List, [], ◌∷◌, ◌++◌, length, get_or, take, drop, refl, sym, ◌∙◌, ap, subst, arith, append_assoc, get_or-drop, length-drop}
 use Rattle.std.specs.Map.{keys_of}
 use Rattle.std.proofs.lemmas.Bool.{cases_eq, ne_eqb, eq-eqb}
 use Rattle.std.proofs.lemmas.List.{append-nil, drop_more, take_more}
@@ -8,6 +8,10 @@ use Rattle.edge_updates.specs.EdgeUpdate.{vertex_of, neighbour_of}
 use Rattle.edge_updates.specs.Updates.{IsBefore, FollowAscending, Ascend}
 use Rattle.weighted_pages.specs.Updates.{vertex_in_page, AreOfBlock, updates_of, NeighboursAscend, key_in_page, EdgesAscend}
 use Rattle.weighted_pages.proofs.Merging.{neighbour_small}
+
+-- an update for an index that is not there
+abbrev pub no_update : EdgeUpdate × ℤ
+no_update = (record { bits = 0 }, pos 0)
 
 -- an edge before another one of its block
 before_in_page : (a u : EdgeUpdate) → IsBefore a u → vertex_of a / 64 ≡ vertex_of u / 64 → key_in_page a + 1 ≤ key_in_page u

@@ -1,6 +1,7 @@
 -- Weights in bytes: by their indices, as they are written, and in columns.
-use Rattle.std.proofs.Common.{◌≡◌, ℕ, zero, suc, ◌+◌, ◌-◌, ◌*◌, ◌<◌, ◌≤◌, ℤ, pos, List, [], ◌∷◌, ◌++◌, replicate, length, get_or, take, drop, refl, sym, ◌∙◌, ap, arith, add-one}
-use Rattle.std.proofs.lemmas.List.{drop-drop, drop-take, take-take}
+use Rattle.std.proofs.Common.{◌≡◌, ℕ, zero, suc, ◌+◌, ◌-◌, ◌*◌, ◌<◌, ◌≤◌, ℤ, pos, List, [], ◌∷◌, ◌++◌, replicate, length, get_or, slice_set, take, drop, inl, inr, refl, sym, ◌∙◌, ap, subst, arith, add-one}
+use Rattle.std.proofs.lemmas.Bool.{cases_eq}
+use Rattle.std.proofs.lemmas.List.{drop-drop, drop-take, take_more_set}
 use Rattle.edge_updates.specs.Weighted.{weighted}
 use Rattle.weighted_pages.specs.declared.weights.WeightWidth.{WeightWidth}
 use Rattle.weighted_pages.specs.declared.weights.WeightWidth.TheVariants.{Ones, OneByte, TwoBytes, FourBytes, EightBytes}
@@ -88,6 +89,25 @@ weight_written v n place at w old new ws is front put this so_far =
     ∙ sym (column_more n ws)
     ∙ ap (λ k. column_of k ws) (sym (add-one n))
 
+-- a weight more is read into a block
+pub weight_filled : (v : WeightWidth) (n start place : ℕ) (x : ℤ) (bytes : List ℕ) (block : List ℤ) → n < length block → place ≡ start + weight_size v * n → x ≡ weight_in v (drop place bytes) → take n block ≡ weights_from v n (drop start bytes) → take (n + 1) (slice_set block n x) ≡ weights_from v (n + 1) (drop start bytes)
+weight_filled v n start place x bytes block lt is read so_far =
+    let s : ℕ = weight_size v in
+    let here : drop place bytes ≡ drop (s * n) (drop start bytes) = ap (λ p. drop p bytes) is ∙ sym (drop-drop (s * n) start bytes) in
+    take_more_set block n x lt
+    ∙ ap (λ ws. ws ++ x ∷ []) so_far
+    ∙ ap (λ w. weights_from v n (drop start bytes) ++ w ∷ []) (read ∙ ap (weight_in v) here)
+    ∙ sym (weights_more v n (drop start bytes))
+    ∙ ap (λ k. weights_from v k (drop start bytes)) (sym (add-one n))
+
+pub ones_filled : (n : ℕ) (bytes : List ℕ) → replicate n (pos 1) ≡ weights_from Ones n bytes
+ones_filled zero bytes = refl
+ones_filled (suc n) bytes = ap (λ v. pos 1 ∷ v) (ones_filled n bytes)
+
+-- what is true of the weights before an index and of that at it
+pub true_more : (P : ℤ → Type 0) (ws : List ℤ) (n : ℕ) → ((i : ℕ) → i < n → P (get_or ws i (pos 1))) → P (get_or ws n (pos 1)) → (i : ℕ) → i < n + 1 → P (get_or ws i (pos 1))
+true_more P ws n before here i lt = elim (cases_eq i n) [ inl at ↦ subst (λ k. P (get_or ws k (pos 1))) (sym at) here | inr other ↦ before i (omega (arith, other, lt)) ]
+
 -- where all are 1, no byte is read
 pub ones_written : (n : ℕ) (bytes : List ℕ) (ws : List ℤ) → ((i : ℕ) → get_or ws i (pos 1) ≡ pos 1) → weights_from Ones n bytes ≡ column_of n ws
 ones_written zero bytes ws all = refl
@@ -116,7 +136,9 @@ weighted_column (suc n) (x ∷ xs) (w ∷ ws) same = ap (λ v. (x, w) ∷ v) (we
 -- it is cut and filled up with 1
 pub padded : (n : ℕ) (ws : List ℤ) → take n ws ++ replicate (n - length (take n ws)) (pos 1) ≡ column_of n ws
 padded zero ws = refl
-padded (suc n) [] = ones (suc n)
+padded (suc n) [] =
+    let all : suc n - 0 ≡ suc n = omega arith in
+    ap (λ k. replicate k (pos 1)) all ∙ ones (suc n)
   where
     ones : (m : ℕ) → replicate m (pos 1) ≡ column_of m []
     ones zero = refl

@@ -83,6 +83,7 @@ impl Page {
         if keys.is_empty() {
             return Ok(());
         }
-        self.push(vertex, keys, weights)
+        self.push(vertex, keys, weights)?;
+        Ok(())
     }
 }

@@ -1,6 +1,6 @@
 //! Lists of entries in columns of their own.
 
-ghost use Rattle.std.specs.Prelude.{◌≡◌, ◌∷◌, ◌++◌, [], take, IfOk, OnOk, OnErr};
+ghost use Rattle.std.specs.Prelude.{◌≡◌, ◌∷◌, ◌++◌, [], IfOk};
 ghost use Rattle.edge_updates.specs.Weighted.{weighted};
 ghost use Rattle.weighted_pages.specs.inside.Weights.{column_of};
 
@@ -63,19 +63,19 @@ impl EntryColumns {
         self.weights.clear();
     }
 
-    /// Adds an entry behind the others. The only error is out of memory, and then the list is as it was.
+    /// Adds an entry behind the others. The only error is out of memory.
     #[inline]
     pub fn push(&mut self, neighbour: u32, weight: i64) -> Result<(), AllocError>
-        ensures ok { OnOk result (self.new ≡ self.old ++ (neighbour, weight) ∷ []) }
-        ensures err { OnErr result (self.new ≡ self.old) }
+        ensures { IfOk result (λ _. self.new ≡ self.old ++ (neighbour, weight) ∷ []) }
     {
         let len = self.keys.len();
         if weight == 1 {
             self.weights.truncate(len);
-        } else {
-            pad(&mut self.weights, len)?;
-            self.weights.push(weight)?;
+            self.keys.push(neighbour)?;
+            return Ok(());
         }
+        pad(&mut self.weights, len)?;
+        self.weights.push(weight)?;
         self.keys.push(neighbour)?;
         Ok(())
     }
@@ -83,8 +83,7 @@ impl EntryColumns {
 
 /// Makes a column one of so many weights. The only error is out of memory.
 pub(crate) fn pad(weights: &mut Vec<i64>, count: usize) -> Result<(), AllocError>
-    ensures ok { OnOk result (weights.new.items ≡ column_of count weights.old.items) }
-    ensures err { OnErr result (weights.new.items ≡ take count weights.old.items) }
+    ensures { IfOk result (λ _. weights.new.items ≡ column_of count weights.old.items) }
 {
     weights.truncate(count);
     weights.resize(count, 1)?;

@@ -282,7 +282,8 @@ impl<'a> Neighbours<'a> {
     {
         let count = to - from;
         self.append_weights(from, count, list.keys.len(), &mut list.weights)?;
-        self.append_keys(from, count, &mut list.keys)
+        self.append_keys(from, count, &mut list.keys)?;
+        Ok(())
     }
 
     /// Adds so many neighbours from an index on behind others. The only error is out of memory.
@@ -291,6 +292,7 @@ impl<'a> Neighbours<'a> {
         ensures { IfOk result (λ _. keys.new.items
             ≡ keys.old.items ++ take count (drop from (keys_of self.now))) }
     {
+        prove!(count <= self.len);
         let len = keys.len();
         keys.resize(len + count, 0)?;
         self.fill_from(from, &mut keys[len..]);
@@ -315,7 +317,8 @@ impl<'a> Neighbours<'a> {
             return Ok(());
         }
         pad(weights, others)?;
-        self.append_column(from, count, weights)
+        self.append_column(from, count, weights)?;
+        Ok(())
     }
 
     /// Adds the weights of so many neighbours from an index on behind others. The only error is out of
@@ -330,6 +333,7 @@ impl<'a> Neighbours<'a> {
         ensures { IfOk result (λ _. weights.new.items
             ≡ weights.old.items ++ take count (drop from (values_of self.now))) }
     {
+        prove!(count <= self.len);
         let len = weights.len();
         weights.resize(len + count, 1)?;
         self.fill_weights_from(from, &mut weights[len..]);

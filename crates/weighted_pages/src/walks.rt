@@ -76,11 +76,11 @@ impl<'a> Ascending<'a> {
         ensures kept_weights { drop result weights.new ≡ drop result weights.old }
         ensures rest { self.new ≡ drop result self.old }
     {
-        let count = keys.len().min(weights.len()).min(self.list.len() - self.at);
-        self.list.fill_from(self.at, &mut keys[..count]);
-        self.list.fill_weights_from(self.at, &mut weights[..count]);
-        self.at += count;
-        count
+        let filled = keys.len().min(weights.len()).min(self.list.len() - self.at);
+        self.list.fill_from(self.at, &mut keys[..filled]);
+        self.list.fill_weights_from(self.at, &mut weights[..filled]);
+        self.at += filled;
+        filled
     }
 }
 
@@ -172,12 +172,12 @@ impl<'a> Descending<'a> {
         ensures kept_weights { drop result weights.new ≡ drop result weights.old }
         ensures rest { self.new ≡ drop result self.old }
     {
-        let count = keys.len().min(weights.len()).min(self.left);
-        self.list.fill_below(self.left, &mut keys[..count]);
+        let filled = keys.len().min(weights.len()).min(self.left);
+        self.list.fill_below(self.left, &mut keys[..filled]);
         self.list
-            .fill_weights_below(self.left, &mut weights[..count]);
-        self.left -= count;
-        count
+            .fill_weights_below(self.left, &mut weights[..filled]);
+        self.left -= filled;
+        filled
     }
 }
 

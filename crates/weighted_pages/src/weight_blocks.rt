@@ -1,6 +1,6 @@
 //! Weights read into blocks, by a loop for each width.
 
-ghost use Rattle.std.specs.Prelude.{◌≡◌, ◌+◌, ◌*◌, ◌≤◌, length, drop};
+ghost use Rattle.std.specs.Prelude.{◌≡◌, pos, ◌+◌, ◌*◌, ◌≤◌, replicate, length, drop};
 ghost use Rattle.weighted_pages.specs.declared.weights.WeightWidth.{WeightWidth};
 ghost use Rattle.weighted_pages.specs.inside.Weights.{weight_size, weights_from};
 
@@ -19,6 +19,14 @@ fn fill_by(bytes: &[u8], width: WeightWidth, start: usize, block: &mut [i64])
     }
 }
 
+/// Fills a block with 1.
+#[inline(always)]
+fn fill_ones(block: &mut [i64])
+    ensures { block.new ≡ replicate (length block.old) (pos 1) }
+{
+    block.fill(1);
+}
+
 /// Fills a block with the weights from a place on, by the loop for their width.
 #[inline]
 pub(crate) fn fill_weights(bytes: &[u8], width: WeightWidth, start: usize, block: &mut [i64])
@@ -26,7 +34,7 @@ pub(crate) fn fill_weights(bytes: &[u8], width: WeightWidth, start: usize, block
     ensures { block.new ≡ weights_from width (length block.old) (drop start bytes.now) }
 {
     match width {
-        WeightWidth::Ones => block.fill(1),
+        WeightWidth::Ones => fill_ones(block),
         WeightWidth::OneByte => fill_by(bytes, WeightWidth::OneByte, start, block),
         WeightWidth::TwoBytes => fill_by(bytes, WeightWidth::TwoBytes, start, block),
         WeightWidth::FourBytes => fill_by(bytes, WeightWidth::FourBytes, start, block),
