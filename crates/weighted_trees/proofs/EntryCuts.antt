@@ -4,15 +4,7 @@ use Rattle.std.specs.Map.{keys_of}
 use Rattle.std.proofs.lemmas.Bool.{cases_lt, lt-ltb, le-ltb}
 use Rattle.ascending_lists.specs.Ascending.{AscendsFrom}
 use Rattle.ascending_lists.specs.MapOperations.{entries_below, entries_above}
-
-module _ {V : Type 0} where
-  none_below : (k low : ℕ) (es : List (ℕ × V)) → k ≤ low → AscendsFrom low (keys_of es) → entries_below k es ≡ []
-  none_below k low [] le s = refl
-  none_below k low (e ∷ es) le s = rw (le-ltb e.0 k (omega (arith, s.0))) (none_below k (e.0 + 1) es (omega (arith, s.0)) s.2)
-
-  all_above : (k low : ℕ) (es : List (ℕ × V)) → k < low → AscendsFrom low (keys_of es) → entries_above k es ≡ es
-  all_above k low [] lt s = refl
-  all_above k low (e ∷ es) lt s = rw (lt-ltb k e.0 (omega (arith, s.0))) (ap (λ v. e ∷ v) (all_above k (e.0 + 1) es (omega (arith, s.0)) s.2))
+use Rattle.weighted_tails.proofs.MapPlaces.{entries_below_none, entries_above_all}
 
 module _ {V : Type 0} (k : ℕ) (v : V) (r : List (ℕ × V)) where
   -- what stands before an entry is below it
@@ -21,20 +13,20 @@ module _ {V : Type 0} (k : ℕ) (v : V) (r : List (ℕ × V)) where
   before_it low (e ∷ l) s = omega (arith, s.0, before_it (e.0 + 1) l s.2)
 
   pub below_it : (low : ℕ) (l : List (ℕ × V)) → AscendsFrom low (keys_of (l ++ (k, v) ∷ r)) → entries_below k (l ++ (k, v) ∷ r) ≡ l
-  below_it low [] s = rw (le-ltb k k (omega arith)) (none_below k (k + 1) r (omega arith) s.2)
+  below_it low [] s = rw (le-ltb k k (omega arith)) (entries_below_none k (k + 1) r (omega arith) s.2)
   below_it low (e ∷ l) s =
       let lt : e.0 < k = omega (arith, before_it (e.0 + 1) l s.2) in
       rw (lt-ltb e.0 k lt) (ap (λ es. e ∷ es) (below_it (e.0 + 1) l s.2))
 
   pub above_it : (low : ℕ) (l : List (ℕ × V)) → AscendsFrom low (keys_of (l ++ (k, v) ∷ r)) → entries_above k (l ++ (k, v) ∷ r) ≡ r
-  above_it low [] s = rw (le-ltb k k (omega arith)) (all_above k (k + 1) r (omega arith) s.2)
+  above_it low [] s = rw (le-ltb k k (omega arith)) (entries_above_all k (k + 1) r (omega arith) s.2)
   above_it low (e ∷ l) s =
       let lt : e.0 < k = omega (arith, before_it (e.0 + 1) l s.2) in
       rw (le-ltb k e.0 (omega arith)) (above_it (e.0 + 1) l s.2)
 
 module _ {V : Type 0} (j k : ℕ) (v : V) (r : List (ℕ × V)) where
   pub below_before : (low : ℕ) (l : List (ℕ × V)) → AscendsFrom low (keys_of (l ++ (k, v) ∷ r)) → j ≤ k → entries_below j (l ++ (k, v) ∷ r) ≡ entries_below j l
-  below_before low [] s le = rw (le-ltb k j le) (none_below j (k + 1) r (omega arith) s.2)
+  below_before low [] s le = rw (le-ltb k j le) (entries_below_none j (k + 1) r (omega arith) s.2)
   below_before low (e ∷ l) s le =
       elim (cases_lt e.0 j) [
         | inl lt ↦ rw (lt-ltb e.0 j lt) (ap (λ es. e ∷ es) (below_before (e.0 + 1) l s.2 le))
@@ -42,7 +34,7 @@ module _ {V : Type 0} (j k : ℕ) (v : V) (r : List (ℕ × V)) where
       ]
 
   pub above_before : (low : ℕ) (l : List (ℕ × V)) → AscendsFrom low (keys_of (l ++ (k, v) ∷ r)) → j < k → entries_above j (l ++ (k, v) ∷ r) ≡ entries_above j l ++ (k, v) ∷ r
-  above_before low [] s lt = rw (lt-ltb j k lt) (ap (λ es. (k, v) ∷ es) (all_above j (k + 1) r (omega arith) s.2))
+  above_before low [] s lt = rw (lt-ltb j k lt) (ap (λ es. (k, v) ∷ es) (entries_above_all j (k + 1) r (omega arith) s.2))
   above_before low (e ∷ l) s lt =
       elim (cases_lt j e.0) [
         | inl a ↦ rw (lt-ltb j e.0 a) (ap (λ es. e ∷ es) (above_before (e.0 + 1) l s.2 lt))

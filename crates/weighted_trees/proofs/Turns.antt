@@ -5,7 +5,7 @@ use Rattle.std.specs.Map.{keys_of}
 use Rattle.std.proofs.lemmas.List.{append-nil}
 use Rattle.std.proofs.lemmas.List.Elements.{All-nil, All-cons, All-head, All-tail}
 use Rattle.ascending_lists.specs.Ascending.{Ascends}
-use Rattle.ascending_lists.specs.Maps.{Rises, IsMap, lookup}
+use Rattle.ascending_lists.specs.Maps.{IsMap, lookup}
 use Rattle.ascending_lists.proofs.MapKeys.{entries_rise}
 use Rattle.ascending_lists.proofs.MapOrder.{rises_from, rises_front, rises_right, lookup_left, lookup_here, lookup_right}
 use Rattle.weighted_tails.specs.Spelling.{BasedList}

@@ -1,4 +1,4 @@
-use Rattle.std.proofs.Common.{◌≡◌, ℕ, ◌+◌, ℤ, ◌∷◌, ◌++◌, [], Some, to_z, of_z, w64, ◌∙◌, ap, rules}
+use Rattle.std.proofs.Common.{◌≡◌, ℕ, ◌+◌, ℤ, ◌∷◌, ◌++◌, [], Some, ◌∙◌, ap, rules}
 use Rattle.std.specs.Map.{keys_of}
 use Rattle.ascending_lists.specs.Ascending.{AscendsFrom}
 use Rattle.weighted_tails.specs.Spelling.{based_list}

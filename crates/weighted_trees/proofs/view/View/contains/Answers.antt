@@ -1,4 +1,4 @@
-use Rattle.std.proofs.Common.{◌≡◌, ◌↔◌, ℕ, ℤ, inl, inr, List, [], ◌∷◌, IsTrue, refl}
+use Rattle.std.proofs.Common.{◌↔◌, ℕ, ℤ, inl, inr, List, [], ◌∷◌, IsTrue, refl}
 use Rattle.std.specs.List.{Contains}
 use Rattle.std.specs.Map.{keys_of}
 use Rattle.std.specs.Option.{is_some}
