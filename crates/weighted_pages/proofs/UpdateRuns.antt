@@ -24,12 +24,12 @@ before_in_page a u s block = elim (cases_eq (vertex_of a) (vertex_of u)) [
       omega (arith, below, neighbour_small a)
 ]
 
-follow_in_page : (block : ℕ) (a : EdgeUpdate) (us : List (EdgeUpdate × ℤ)) → FollowAscending a (keys_of us) → vertex_of a / 64 ≡ block → AreOfBlock block (keys_of us) → EdgesAscend (key_in_page a + 1) us
+follow_in_page : (block : ℕ) (a : EdgeUpdate) (us : List (EdgeUpdate × ℤ)) → FollowAscending a (keys_of us) → vertex_of a / 64 ≡ block → AreOfBlock block us → EdgesAscend (key_in_page a + 1) us
 follow_in_page block a [] s at t = tt
 follow_in_page block a (u ∷ us) s at t = (before_in_page a u.0 s.0 (at ∙ sym t.0), follow_in_page block u.0 us s.1 t.0 t.1)
 
 -- updates of a block that ascend
-pub ascend_in_page : (block : ℕ) (us : List (EdgeUpdate × ℤ)) → Ascend (keys_of us) → AreOfBlock block (keys_of us) → EdgesAscend 0 us
+pub ascend_in_page : (block : ℕ) (us : List (EdgeUpdate × ℤ)) → Ascend (keys_of us) → AreOfBlock block us → EdgesAscend 0 us
 ascend_in_page block [] s t = tt
 ascend_in_page block (u ∷ us) s t = (omega arith, follow_in_page block u.0 us s t.0 t.1)
 

@@ -9,9 +9,9 @@ abbrev pub vertex_in_page : EdgeUpdate → ℕ
 vertex_in_page u = vertex_of u % 64
 
 -- the updates are of the 64 vertices of a block
-abbrev pub AreOfBlock : ℕ → List EdgeUpdate → Type 0
+abbrev pub AreOfBlock : ℕ → List (EdgeUpdate × ℤ) → Type 0
 AreOfBlock block [] = Unit {0}
-AreOfBlock block (u ∷ us) = (vertex_of u / 64 ≡ block) × AreOfBlock block us
+AreOfBlock block (u ∷ us) = (vertex_of u.0 / 64 ≡ block) × AreOfBlock block us
 
 -- the neighbour that an update adds with its weight, before others
 abbrev pub added : EdgeUpdate × ℤ → List (ℕ × ℤ) → List (ℕ × ℤ)

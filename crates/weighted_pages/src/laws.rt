@@ -25,7 +25,7 @@ pub fn changes_decide()
 /// leaves them, ascend as [`Page::apply`](crate::Page::apply) asks. The call does nothing.
 pub fn blocks_ascend()
     ensures { (block : ℕ) (updates : List (EdgeUpdate × ℤ))
-        → Ascend (keys_of updates) → AreOfBlock block (keys_of updates) → EdgesAscend 0 updates }
+        → Ascend (keys_of updates) → AreOfBlock block updates → EdgesAscend 0 updates }
 {}
 
 /// The law of pages: two of them with the same neighbours of each vertex, with the same weights, are the same. The call does

@@ -5,7 +5,7 @@ ghost use Rattle.edge_updates.specs.Weighted.{weighted};
 ghost use Rattle.weighted_pages.specs.Keys.{AreKeysOf, keys_from, edges_of};
 
 use crate::page::{MAX_PACKED, Page};
-use crate::weights::WeightWidth;
+use crate::weights::weight_width_of;
 use crate::writing::width_of;
 use std::alloc::{AllocError, Global};
 
@@ -84,10 +84,10 @@ fn room_for(keys: &[u64], weights: &[i64]) -> (usize, usize) {
         let count = source_run(rest, *first / LIMIT).max(1);
         let span = rest[count - 1].saturating_sub(*first) % LIMIT;
         let (run_weights, other_weights) = split_column(rest_weights, count);
-        let weight_size = WeightWidth::of(run_weights).size();
+        let weight_width = weight_width_of(run_weights);
         vertices = vertices.saturating_add(1);
         size = size.saturating_add(width_of(span as u32).saturating_mul(count - 1));
-        size = size.saturating_add(weight_size.saturating_mul(count));
+        size = size.saturating_add(weight_width.saturating_mul(count));
         (rest, rest_weights) = (&rest[count..], other_weights);
     }
     (vertices, size.saturating_add(vertices.saturating_mul(4)))

@@ -1,5 +1,6 @@
-//! Pages with weights, built up, updated and read.
-use crate::{EntryColumns, Neighbours, Page};
+//! Lists with weights of each width, read from pages in each way.
+use crate::{EntryColumns, MAX_PACKED, Neighbours, Page, merge};
+use ascending_lists::ascends;
 use edge_updates::{EdgeUpdate, Updates};
 use std::alloc::Global;
 use std::test::Fail;
@@ -15,6 +16,8 @@ const MIXED: [(u32, i64); 9] = [
     (8, -1),
     (9, -2147483649),
 ];
+
+const VERTEX: u32 = 62;
 
 // Lists with weights of each width, and of 1 alone.
 const LISTS: [&'static [(u32, i64)]; 12] = [
@@ -34,53 +37,103 @@ const LISTS: [&'static [(u32, i64)]; 12] = [
 
 #[test]
 fn lists_are_read_as_they_are_written(rt: HostRuntime) -> Result<(), Fail> {
-    let mut page = Page::new(rt.alloc())?;
-    for index in 0..LISTS.len() {
-        let list = entries(rt.alloc(), LISTS[index])?;
-        let (keys, weights) = list.columns();
-        page.push(5 * index as u32, keys, weights)?;
+    for list in &LISTS {
+        let page = page_of(rt.alloc(), list)?;
+        assert!(rt; has_all(&page.list(VERTEX), list), "{list:?}");
+        assert!(rt;
+            page.degree(VERTEX) as usize == list.len() && page.len() == 1,
+            "{list:?}"
+        );
+        assert!(rt; page.list(VERTEX + 1).is_empty(), "{list:?}");
     }
-    for index in 0..LISTS.len() {
-        let list = LISTS[index];
-        assert!(rt; has_all(&page.list(5 * index as u32), list), "{list:?}");
-        assert!(rt; page.degree(5 * index as u32) as usize == list.len());
-        assert!(rt; page.list(5 * index as u32 + 1).is_empty());
+    Ok(())
+}
+
+#[test]
+fn blocks_have_both_columns(rt: HostRuntime) -> Result<(), Fail> {
+    for list in &LISTS {
+        let page = page_of(rt.alloc(), list)?;
+        for room in 1..5usize {
+            assert!(rt; fills_up(&page, list, room), "{list:?} {room}");
+            assert!(rt; fills_down(&page, list, room), "{list:?} {room}");
+        }
     }
     Ok(())
 }
 
 #[test]
 fn an_added_edge_that_is_there_gets_the_new_weight(rt: HostRuntime) -> Result<(), Fail> {
-    let mut page = Page::new(rt.alloc())?;
-    let list = entries(rt.alloc(), &MIXED)?;
-    let (keys, weights) = list.columns();
-    page.push(3, keys, weights)?;
-    let page = updated(rt.alloc(), &page, &[(3, 4, true)], &[])?;
+    let page = page_of(rt.alloc(), &MIXED)?;
+    let page = updated(rt.alloc(), &page, (4, true), &[])?;
     let mut expected = MIXED;
     expected[3] = (4, 1);
-    assert!(rt; has_all(&page.list(3), &expected));
-    let page = updated(rt.alloc(), &page, &[(3, 9, false), (4, 0, true)], &[7, -7])?;
-    assert!(rt; has_all(&page.list(3), &expected[..8]));
-    assert!(rt; has_all(&page.list(4), &[(0, -7)]));
-    let page = updated(rt.alloc(), &page, &[(4, 0, true), (4, 1, true)], &[])?;
-    assert!(rt; has_all(&page.list(4), &[(0, 1), (1, 1)]));
+    assert!(rt; has_all(&page.list(VERTEX), &expected));
+    let page = updated(rt.alloc(), &page, (9, false), &[-7])?;
+    assert!(rt; has_all(&page.list(VERTEX), &expected[..8]));
+    let page = updated(rt.alloc(), &page, (0, true), &[-7])?;
+    assert!(rt; page.degree(VERTEX) == 9 && page.list(VERTEX).get(0) == Some(-7));
     Ok(())
 }
 
-#[test]
-fn pages_are_built_from_edges(rt: HostRuntime) -> Result<(), Fail> {
-    let keys = [
-        (128u64 << 32) + 3,
-        (128u64 << 32) + 9,
-        (130u64 << 32) + 1,
-        (130u64 << 32) + 2,
-    ];
-    let page = Page::from_keys(rt.alloc(), 2, &keys, &[5, 1, 1])?;
-    assert!(rt; has_all(&page.list(0), &[(3, 5), (9, 1)]));
-    assert!(rt; has_all(&page.list(2), &[(1, 1), (2, 1)]));
-    let plain = Page::from_keys(rt.alloc(), 2, &keys, &[])?;
-    assert!(rt; has_all(&plain.list(0), &[(3, 1), (9, 1)]));
-    Ok(())
+// The page after an update of one neighbour, whose edge is added or removed.
+fn updated(
+    alloc: Global,
+    page: &Page,
+    (neighbour, is_added): (u32, bool),
+    weights: &[i64],
+) -> Result<Page, Fail> {
+    let updates = [EdgeUpdate::new(VERTEX, neighbour % 1024, is_added)];
+    let mut after = EntryColumns::with_capacity(alloc, MAX_PACKED)?;
+    merge(
+        &page.list(VERTEX),
+        &Updates::new(&updates, weights),
+        &mut after,
+    )?;
+    page_of_columns(alloc, &after)
+}
+
+// Whether walks upward and downward fill blocks of so many with the list and its weights.
+fn fills_up(page: &Page, list: &[(u32, i64)], room: usize) -> bool {
+    let mut walk = page.list(VERTEX).ascending();
+    let (mut keys, mut weights) = ([7u32; 4], [7i64; 4]);
+    let (mut read, mut same) = (0usize, true);
+    for _ in 0..10 {
+        let filled = walk.fill_weighted(&mut keys[..room.min(4)], &mut weights);
+        for place in 0..filled.min(4) {
+            same = same && list.get(read) == Some(&(keys[place], weights[place]));
+            read = read.saturating_add(1);
+        }
+    }
+    same && read == list.len() && walk.is_empty()
+}
+
+fn fills_down(page: &Page, list: &[(u32, i64)], room: usize) -> bool {
+    let mut walk = page.list(VERTEX).descending();
+    let (mut keys, mut weights) = ([7u32; 4], [7i64; 4]);
+    let (mut left, mut same) = (list.len(), true);
+    for _ in 0..10 {
+        let filled = walk.fill_weighted(&mut keys, &mut weights[..room.min(4)]);
+        for place in 0..filled.min(4) {
+            left = left.saturating_sub(1);
+            same = same && list.get(left) == Some(&(keys[place], weights[place]));
+        }
+    }
+    same && left == 0 && walk.is_empty()
+}
+
+// A page of one vertex.
+fn page_of(alloc: Global, list: &[(u32, i64)]) -> Result<Page, Fail> {
+    let columns = entries(alloc, list)?;
+    page_of_columns(alloc, &columns)
+}
+
+fn page_of_columns(alloc: Global, columns: &EntryColumns) -> Result<Page, Fail> {
+    let (keys, weights) = columns.columns();
+    let mut page = Page::new(alloc)?;
+    if !keys.is_empty() && keys.len() <= MAX_PACKED && ascends(None, keys) {
+        page.push(VERTEX, keys, weights)?;
+    }
+    Ok(page)
 }
 
 fn entries(alloc: Global, list: &[(u32, i64)]) -> Result<EntryColumns, Fail> {
@@ -89,20 +142,6 @@ fn entries(alloc: Global, list: &[(u32, i64)]) -> Result<EntryColumns, Fail> {
         columns.push(*neighbour, *weight)?;
     }
     Ok(columns)
-}
-
-// The page after updates: a vertex, a neighbour, and whether the edge is added.
-fn updated(
-    alloc: Global,
-    page: &Page,
-    changes: &[(u32, u32, bool)],
-    weights: &[i64],
-) -> Result<Page, Fail> {
-    let mut updates = Vec::new(alloc);
-    for (vertex, neighbour, is_added) in changes {
-        updates.push(EdgeUpdate::new(*vertex, *neighbour, *is_added))?;
-    }
-    Ok(page.apply(alloc, &Updates::new(&updates, weights))?)
 }
 
 // Whether a list has these neighbours with these weights, by each way of reading it.

@@ -80,6 +80,15 @@ impl WeightWidth {
     }
 }
 
+/// How many bytes each weight of a list takes where these are its weights: none where all are 1. It takes
+/// time in proportion to them.
+pub fn weight_width_of(weights: &[i64]) -> usize
+    ensures few { result ≤ 8 }
+    ensures ones { (result ≡ 0) ↔ ((i : ℕ) → get_or weights.now i (pos 1) ≡ pos 1) }
+{
+    WeightWidth::of(weights).size()
+}
+
 /// The weight in the bytes from a place on.
 #[inline(always)]
 pub(crate) fn weight_at(bytes: &[u8], width: WeightWidth, place: usize) -> i64
