@@ -53,10 +53,10 @@ impl<'a> Halves<'a> {
         let (left, right) = (left.share()?, right.share()?);
         Ok(OwnedHalves {
             left,
-            key,
-            weight,
             right,
             second,
+            key,
+            weight,
         })
     }
 }
@@ -64,10 +64,10 @@ impl<'a> Halves<'a> {
 /// As [`Halves`], to be lent to other threads.
 pub(crate) struct OwnedHalves {
     pub(crate) left: Part,
-    pub(crate) key: u32,
-    pub(crate) weight: i64,
     pub(crate) right: Part,
     pub(crate) second: Cut,
+    pub(crate) key: u32,
+    pub(crate) weight: i64,
 }
 
 impl OwnedHalves {
@@ -91,10 +91,10 @@ impl Drop for OwnedHalves {
     fn drop(self) {
         let OwnedHalves {
             left: _,
-            key: _,
-            weight: _,
             right: _,
             second: _,
+            key: _,
+            weight: _,
         } = self;
     }
 }

@@ -1,8 +1,9 @@
 //! Unions and differences of sets of several shapes, against maps worked out entry by entry.
 use crate::{Quiet, difference, difference_forked, insert_all, remove_all, union, union_forked};
+use ascending_lists::ascends;
 use std::alloc::Global;
 use std::test::Fail;
-use weighted_tails::{EntryList, MapOperation, merge_entries};
+use weighted_tails::{Entries, EntryList, MapOperation, merge_entries};
 use weighted_trees::CTree;
 
 // Keys and weights of a set: from, step, count, and the weight of the first key, which grows by 1 at each
@@ -109,17 +110,28 @@ impl Pair {
     fn is(&self, alloc: Global, operation: MapOperation, set: &CTree) -> Result<bool, Fail> {
         let first = EntryList::from_pairs(alloc, &self.first_entries)?;
         let second = EntryList::from_pairs(alloc, &self.second_entries)?;
-        let list = merge_entries(alloc, operation, &first.lent(), &second.lent())?;
-        let list = list.lent();
-        let mut place = 0;
-        for (key, weight) in set.iter() {
-            if place >= list.len() || list.keys()[place] != key || list.weight(place) != weight {
-                return Ok(false);
-            }
-            place += 1;
+        let (first, second) = (first.lent(), second.lent());
+        if !ascends(None, first.keys()) || !ascends(None, second.keys()) {
+            return Ok(false);
         }
-        Ok(place == list.len() && set.len() == list.len())
+        let list = merge_entries(alloc, operation, &first, &second)?;
+        let entries = set.view().entries(alloc)?;
+        let entries = entries.lent();
+        Ok(are_same(&list.lent(), &entries) && set.len() == entries.len())
     }
+}
+
+// Whether entries in columns are the same.
+fn are_same(some: &Entries<'_>, others: &Entries<'_>) -> bool {
+    if some.keys() != others.keys() || some.len() != others.len() {
+        return false;
+    }
+    for place in 0..some.len() {
+        if some.weight(place) != others.weight(place) {
+            return false;
+        }
+    }
+    true
 }
 
 fn entries_of(alloc: Global, (from, step, count, weight): Shape) -> Result<Vec<(u32, i64)>, Fail> {

@@ -21,3 +21,13 @@ from_ascending-requires c =
     let ys = c.args.second.now.entries in
     let is : c.lent-list.result ≡ without_keys xs (keys_of ys) = c.lent-list.ensures ∙ c.in_ok-list.ensures in
     rw (is, keys_without xs (keys_of ys)) (difference_ascends (least c.args.base) (keys_of xs) (keys_of ys) c.requires)
+
+pub returns : goal.returns
+returns c =
+    let xs = c.args.first.now in
+    let ys = c.args.second.now.entries in
+    let is : c.lent-list.result ≡ without_keys xs (keys_of ys) = c.lent-list.ensures ∙ c.in_ok-list.ensures in
+    record {
+      set = rw (is, c.chunk_size.ensures) at c.in_ok-part.ensures;
+      count = omega (arith, c.len.ensures, c.len-2.ensures, ap length is, combined_length Difference xs ys);
+    }

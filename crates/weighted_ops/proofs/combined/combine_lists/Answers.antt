@@ -1,8 +1,9 @@
-use Rattle.std.proofs.Common.{◌≡◌, length, ◌∙◌, ap, arith}
+use Rattle.std.proofs.Common.{◌≡◌, length, refl, ◌∙◌, ap, arith}
 use Rattle.std.specs.Map.{keys_of}
+use Rattle.ascending_lists.specs.Operations.{most}
 use Rattle.ascending_lists.specs.Ascending.{least}
 use Rattle.ascending_lists.proofs.Ascending.{ascends_from}
-use Rattle.weighted_tails.specs.Operations.{combined}
+use Rattle.weighted_tails.specs.Operations.{combined, on_keys}
 use Rattle.weighted_tails.proofs.Writing.{few_entries}
 use Rattle.weighted_ops.proofs.Laws.{combined_ascends, combined_length}
 use Rattle.weighted_ops.proofs.combined.combine_lists.Goals as goal
@@ -28,3 +29,16 @@ from_ascending-requires c =
     let op = c.args.task.operation in
     let is : c.lent-list.result ≡ combined op c.args.first.now c.args.second.now = c.lent-list.ensures ∙ c.in_ok-list.ensures in
     rw is (combined_ascends op (least c.args.task.base) c.args.first.now c.args.second.now c.requires.first_over c.requires.second_over)
+
+pub returns : goal.returns
+returns c =
+    let op = c.args.task.operation in
+    let xs = c.args.first.now in
+    let ys = c.args.second.now in
+    let is : c.lent-list.result ≡ combined op xs ys = c.lent-list.ensures ∙ c.in_ok-list.ensures in
+    let long : c.len-3.result ≡ length (combined op xs ys) = c.len-3.ensures ∙ ap length is in
+    let room : c.most-most.result ≡ most (on_keys op) (length xs) (length ys) = c.most-most.ensures ∙ rw (c.on_keys.ensures, c.len.ensures, c.len-2.ensures) refl in
+    record {
+      set = rw is at c.in_ok-part.ensures;
+      count = omega (arith, long, room, combined_length op xs ys);
+    }

@@ -1,8 +1,13 @@
+use denote.Exit.{no}
+use denote.Param.{param}
+use denote.Param.Send.{IsSync, sendable, param_send, arg_send, shr_send}
 use Rattle.std.proofs.Common.{◌≡◌, IfOk, Ok, subst, to_z, of_z, w64, arith, rules}
+use Rattle.std.proofs.Crossing.{sync as heap_sync}
 use Rattle.std.proofs.lemmas.Result.{IfOk-weaker}
 use Rattle.weighted_ops.specs.Answers.{IsRejoined, IsCombined}
 use Rattle.weighted_ops.specs.Halving.{AreHalves, AreAnswers, IsBelow, IsAbove}
 use Rattle.weighted_ops.proofs.Combining.{head_of, halves_over, halves_rejoin, ok_is}
+use Rattle.weighted_ops.proofs.Crossing.{halves_sync, task_sync, number_sync, seven_send}
 use Rattle.weighted_ops.proofs.forked.+forked.Goals as goal
 
 pub combine_forked-in_two-requires-after_bounds : goal.combine_forked-in_two-requires-after_bounds
@@ -73,6 +78,13 @@ combine_forked-returns g t c =
     (λ m. IsCombined op a.chunk_size a.entries b.entries m.part m.common)
     (halves_rejoin c.args.task.base a b h.left h.key h.weight h.right h.second is c.requires.first_over c.requires.second_over op c.in_ok-below.below c.in_ok-below.above are).whole
     c.rejoin.result (rw round at c.rejoin.ensures)
+
+pub in_two-join-below-requires-send-F : goal.in_two-join-below-requires-send-F
+in_two-join-below-requires-send-F g t c κs within =
+    let f : IsSync (param 1 g.row.F) = search sendable depth 6 in
+    let r : IsSync (param 0 g.row.R) = search sendable depth 6 in
+    param_send _ _ (arg_send _ no _ (seven_send _ _ _ _ _ _ _ _ (shr_send _ _ _ f) (shr_send _ _ _ number_sync) (shr_send _ _ _ halves_sync) (shr_send _ _ _ r) (shr_send _ _ _ heap_sync)
+    (shr_send _ _ _ task_sync) (shr_send _ _ _ number_sync)))
 
 pub in_two-returns : goal.in_two-returns
 in_two-returns g t c =
