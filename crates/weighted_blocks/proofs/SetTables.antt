@@ -1,6 +1,7 @@
 -- Sets of vertices that have many neighbours, by their places.
 use Rattle.std.proofs.Common.{◌≡◌, ℕ, zero, suc, ◌+◌, ◌*◌, ◌%◌, ◌^◌, ◌<◌, bit_or, List, [], ◌∷◌, ◌++◌, ◌-◌, length, get_or, take, drop, slice_range, sym, ◌∙◌, ap, subst, arith, append_assoc, take-append-drop}
 use Rattle.std.proofs.lemmas.List.{map-append, length-map, take-map, drop-map, take_more, drop_more}
+use Rattle.std.specs.Map.{keys_of}
 use Rattle.ascending_lists.specs.Ascending.{AscendsFrom}
 use Rattle.ascending_lists.specs.Maps.{Rises}
 use Rattle.weighted_pages.specs.inside.Index.{IsIndex}
@@ -24,7 +25,7 @@ pub sets_block : (bits : ℕ) (ss : List LargeSet) → AreSets bits ss → IsBlo
 sets_block bits ss ok = record { map = ok.index.map; lists = ok.lists }
 
 -- one more set
-pub sets_pushed : (bits v : ℕ) (ss : List LargeSet) (s : LargeSet) → AreSets bits ss → s.vertex ≡ v → Rises 0 v (set_lists ss) → v < 64 → 0 < length s.set.entries → AscendsFrom 0 s.set.entries → AreSets (bit_or bits (1 * 2 ^ v % 2 ^ 64)) (ss ++ s ∷ [])
+pub sets_pushed : (bits v : ℕ) (ss : List LargeSet) (s : LargeSet) → AreSets bits ss → s.vertex ≡ v → Rises 0 v (set_lists ss) → v < 64 → 0 < length s.set.entries → AscendsFrom 0 (keys_of s.set.entries) → AreSets (bit_or bits (1 * 2 ^ v % 2 ^ 64)) (ss ++ s ∷ [])
 sets_pushed bits v ss s ok is above lt some up =
     let whole : set_lists (ss ++ s ∷ []) ≡ set_lists ss ++ (v, s.set.entries) ∷ [] = map-append set_list ss (s ∷ []) ∙ ap (λ w. set_lists ss ++ (w, s.set.entries) ∷ []) is in
     record {

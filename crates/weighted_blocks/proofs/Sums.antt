@@ -2,6 +2,7 @@
 use Rattle.std.proofs.Common.{◌≡◌, ℕ, zero, suc, ℤ, ◌+◌, ◌*◌, ◌<◌, ◌≤◌, ◌⊎◌, inl, inr, Some, None, List, [], ◌∷◌, ◌++◌, length, refl, sym, ◌∙◌, ap, arith, length-append}
 use Rattle.std.proofs.lemmas.Bool.{cases_eq, eq-eqb, ne_eqb}
 use Rattle.std.proofs.lemmas.List.{append-nil}
+use Rattle.std.specs.Map.{keys_of}
 use Rattle.ascending_lists.specs.Ascending.{AscendsFrom}
 use Rattle.weighted_pages.specs.Vertices.{neighbours_of, ArePacked, IsPage}
 use Rattle.weighted_pages.specs.inside.Built.{entry_of, built}
@@ -33,30 +34,30 @@ lists_some (e ∷ es) ok zero lt = ok.0.some
 lists_some (e ∷ es) ok (suc i) lt = lists_some es ok.1 i (omega arith)
 
 -- the list of a vertex ascends
-pub list_ascends : (u : ℕ) (es : Block) → AreNeighbourLists es → AscendsFrom 0 (neighbours_of u es)
+pub list_ascends : (u : ℕ) (es : Block) → AreNeighbourLists es → AscendsFrom 0 (keys_of (neighbours_of u es))
 list_ascends u [] ok = tt
 list_ascends u (e ∷ es) ok = elim (cases_eq e.0 u) [
   | inl at ↦ rw (eq-eqb e.0 u at) ok.0.ascends
   | inr other ↦ rw (ne_eqb e.0 u other) (list_ascends u es ok.1)
 ]
 
-pub packed_ascends : (u : ℕ) (es : Block) → ArePacked es → AscendsFrom 0 (neighbours_of u es)
+pub packed_ascends : (u : ℕ) (es : Block) → ArePacked es → AscendsFrom 0 (keys_of (neighbours_of u es))
 packed_ascends u [] ok = tt
 packed_ascends u (e ∷ es) ok = elim (cases_eq e.0 u) [
   | inl at ↦ rw (eq-eqb e.0 u at) ok.0.ascends
   | inr other ↦ rw (ne_eqb e.0 u other) (packed_ascends u es ok.1)
 ]
 
-lists_entry : (u : ℕ) (xs : List (ℕ × ℤ)) → AscendsFrom 0 xs → AreNeighbourLists (entry_of u xs)
+lists_entry : (u : ℕ) (xs : List (ℕ × ℤ)) → AscendsFrom 0 (keys_of xs) → AreNeighbourLists (entry_of u xs)
 lists_entry u [] s = tt
 lists_entry u (x ∷ xs) s = (record { some = omega arith; ascends = s }, tt)
 
-lists_built : (f : ℕ → List (ℕ × ℤ)) (n : ℕ) → ((u : ℕ) → u < n → AscendsFrom 0 (f u)) → AreNeighbourLists (built f n)
+lists_built : (f : ℕ → List (ℕ × ℤ)) (n : ℕ) → ((u : ℕ) → u < n → AscendsFrom 0 (keys_of (f u))) → AreNeighbourLists (built f n)
 lists_built f zero up = tt
 lists_built f (suc u) up = lists_append (built f u) (entry_of u (f u)) (lists_built f u (λ v lt. up v (omega arith))) (lists_entry u (f u) (up u (omega arith)))
 
 -- one of two lists that are not both there
-pub either_ascends : (xs ys : List (ℕ × ℤ)) → (xs ≡ []) ⊎ (ys ≡ []) → AscendsFrom 0 xs → AscendsFrom 0 ys → AscendsFrom 0 (xs ++ ys)
+pub either_ascends : (xs ys : List (ℕ × ℤ)) → (xs ≡ []) ⊎ (ys ≡ []) → AscendsFrom 0 (keys_of xs) → AscendsFrom 0 (keys_of ys) → AscendsFrom 0 (keys_of (xs ++ ys))
 either_ascends xs ys (inl none) s t = rw none t
 either_ascends xs ys (inr none) s t = rw (none, append-nil xs) s
 

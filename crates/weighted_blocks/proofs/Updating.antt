@@ -30,17 +30,17 @@ module _ (updates : List (EdgeUpdate × ℤ)) (old : Option Block) where
   }
 
 -- an update of a smaller vertex is passed
-pub skip_one : (v n : ℕ) (us : List (EdgeUpdate × ℤ)) (d : EdgeUpdate) → n < length us → vertex_in_page (get_or us n d) < v → EdgesAscend 0 (drop n us) → EdgesAscend 0 (drop (n + 1) us) × (updates_of v (drop (n + 1) us) ≡ updates_of v (drop n us))
+pub skip_one : (v n : ℕ) (us : List (EdgeUpdate × ℤ)) (d : EdgeUpdate × ℤ) → n < length us → vertex_in_page (get_or us n d).0 < v → EdgesAscend 0 (drop n us) → EdgesAscend 0 (drop (n + 1) us) × (updates_of v (drop (n + 1) us) ≡ updates_of v (drop n us))
 skip_one v n us d lt small s =
-    let u : EdgeUpdate = get_or us n d in
+    let u : EdgeUpdate × ℤ = get_or us n d in
     let cells : drop n us ≡ u ∷ drop (n + 1) us = drop_more us n d lt in
     let parts : EdgesAscend 0 (u ∷ drop (n + 1) us) = subst (EdgesAscend 0) cells s in
-    (edges_from 0 (key_in_page u + 1) (drop (n + 1) us) (omega arith) parts.1, sym (ap (updates_of v) cells ∙ other v u (drop (n + 1) us) (omega (arith, small))))
+    (edges_from 0 (key_in_page u.0 + 1) (drop (n + 1) us) (omega arith) parts.1, sym (ap (updates_of v) cells ∙ other v u (drop (n + 1) us) (omega (arith, small))))
   where
-    other : (v : ℕ) (u : EdgeUpdate) (us : List (EdgeUpdate × ℤ)) → vertex_in_page u ≢ v → updates_of v (u ∷ us) ≡ updates_of v us
-    other v u us ne = rw (ne_eqb (vertex_in_page u) v ne) refl
+    other : (v : ℕ) (u : EdgeUpdate × ℤ) (us : List (EdgeUpdate × ℤ)) → vertex_in_page u.0 ≢ v → updates_of v (u ∷ us) ≡ updates_of v us
+    other v u us ne = rw (ne_eqb (vertex_in_page u.0) v ne) refl
 
 -- where the first is of no smaller vertex, all are
-pub from_vertex : (v : ℕ) (us : List (EdgeUpdate × ℤ)) (d : EdgeUpdate) → EdgesAscend 0 us → (0 < length us → v ≤ vertex_in_page (get_or us 0 d)) → EdgesAscend (v * 2 ^ 24) us
+pub from_vertex : (v : ℕ) (us : List (EdgeUpdate × ℤ)) (d : EdgeUpdate × ℤ) → EdgesAscend 0 us → (0 < length us → v ≤ vertex_in_page (get_or us 0 d).0) → EdgesAscend (v * 2 ^ 24) us
 from_vertex v [] d s le = tt
 from_vertex v (u ∷ us) d s le = (omega (arith, le (omega arith)), s.1)
