@@ -31,8 +31,6 @@ mod neighbour_walk;
 mod room;
 mod runs;
 mod set_walk;
-#[cfg(test)]
-mod tests;
 
 pub use block::VertexBlock;
 pub use block_iter::BlockIter;
