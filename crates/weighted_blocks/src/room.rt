@@ -84,9 +84,10 @@ fn run_end(updates: &Updates<'_>, start: usize) -> usize
     ensures order { start < result }
     ensures within { result ≤ length updates.now }
 {
+    let count = updates.len();
     let vertex = updates.update(start).vertex();
     let mut end = start + 1;
-    while end < updates.len() && updates.update(end).vertex() == vertex {
+    while end < count && updates.update(end).vertex() == vertex {
         end += 1;
     }
     end

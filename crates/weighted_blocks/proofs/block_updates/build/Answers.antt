@@ -14,8 +14,8 @@ pub loop-first-init : goal.loop-first-init
 loop-first-init c = record {
   low = omega arith;
   built = rw (c.in_ok-building.ensures.page, c.in_ok-building.ensures.sets) (built_none (list_after c.args.updates.now (option_copied c.args.old)));
-  coming = c.requires.updates;
-  passed = λ u le. refl;
+  coming = rw c.lend-rest.ensures c.requires.updates;
+  passed = λ u le. ap (updates_of u) (sym c.lend-rest.ensures);
 }
 
 pub carry-requires-clause-order : goal.carry-requires-clause-order
