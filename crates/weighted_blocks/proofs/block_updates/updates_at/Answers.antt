@@ -1,4 +1,4 @@
-use Rattle.std.proofs.Common.{◌≡◌, ◌∙◌, ◌%◌, ◌+◌, ◌<◌, ◌∷◌, length, drop, get_or, length-drop, ap, sym, arith}
+use Rattle.std.proofs.Common.{◌≡◌, ◌∙◌, ◌%◌, ◌+◌, ◌<◌, ◌∷◌, length, drop, get_or, length-drop, ap, arith}
 use Rattle.std.proofs.lemmas.List.{drop_more}
 use Rattle.weighted_pages.specs.Updates.{vertex_in_page}
 use Rattle.weighted_pages.proofs.UpdateRuns.{no_update}

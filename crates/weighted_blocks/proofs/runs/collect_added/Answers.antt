@@ -1,5 +1,4 @@
-use Rattle.std.proofs.Common.{◌≡◌, ◌+◌, ◌<◌, w64, ◌∷◌, [], ◌++◌, length, get_or, refl, sym, ◌∙◌, ap, arith, rules}
-use Rattle.std.specs.Map.{keys_of}
+use Rattle.std.proofs.Common.{◌≡◌, ◌<◌, w64, ◌∷◌, [], ◌++◌, length, get_or, refl, sym, ◌∙◌, ap, arith, rules}
 use Rattle.std.proofs.lemmas.Int.{to_z-of_z}
 use mir.Val.{SFits, to_z, of_z}
 use Rattle.weighted_pages.proofs.UpdateRuns.{no_update}

@@ -1,6 +1,5 @@
-use Rattle.std.proofs.Common.{◌≡◌, ◌+◌, ◌<◌, ℤ, List, w64, ◌∷◌, [], ◌++◌, length, length-append, get_or, refl, sym, ◌∙◌, ap, arith, rules}
+use Rattle.std.proofs.Common.{◌≡◌, ◌<◌, ℤ, w64, ◌∷◌, [], ◌++◌, length, length-append, get_or, refl, sym, ◌∙◌, ap, arith, rules}
 use Rattle.std.specs.List.{zip}
-use Rattle.std.specs.Map.{keys_of}
 use Rattle.std.proofs.lemmas.Int.{to_z-of_z}
 use mir.Val.{SFits, to_z, of_z}
 use Rattle.weighted_tails.proofs.Columns.{zip_append}

@@ -1,11 +1,9 @@
-use Rattle.std.proofs.Common.{◌≡◌, ◌++◌, ◌-◌, ℤ, List, pos, [], None, replicate, take, length, vec_len, refl, sym, ◌∙◌, ap, subst, arith, IfOk}
-use Rattle.std.specs.Map.{keys_of}
+use Rattle.std.proofs.Common.{◌≡◌, ◌++◌, ◌-◌, ℤ, List, pos, [], replicate, take, length, vec_len, refl, sym, ◌∙◌, ap, subst, arith, IfOk}
 use Rattle.std.proofs.lemmas.Bool.{eqb-true}
 use Rattle.std.proofs.lemmas.List.{nil_from_length}
-use Rattle.ascending_lists.specs.Ascending.{Ascends}
 use Rattle.edge_updates.specs.Weighted.{weighted}
 use Rattle.weighted_trees.specs.Chunks.{IsSetOf}
-use Rattle.weighted_blocks.proofs.Columns.{no_column, whole_length, whole_column}
+use Rattle.weighted_blocks.proofs.Columns.{no_column, whole_column}
 use Rattle.weighted_blocks.proofs.runs.set_of_columns.Goals as goal
 
 pub make_set-requires : goal.make_set-requires
