@@ -1,0 +1,10 @@
+pub mod Numbering
+pub mod Decisions
+pub mod Sums
+pub mod Carrying
+pub mod SetTables
+pub mod Vertices
+pub mod Putting
+pub mod Updating
+pub mod Crossing
+pub mod Columns

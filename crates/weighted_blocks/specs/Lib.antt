@@ -1,0 +1,4 @@
+pub mod Blocks
+pub mod Forms
+pub mod Changes
+pub mod inside
