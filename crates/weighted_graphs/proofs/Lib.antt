@@ -1,0 +1,15 @@
+pub mod Rising
+pub mod AllEdges
+pub mod Deciding
+pub mod Decided
+pub mod UnitWeights
+pub mod CutAround
+pub mod Listed
+pub mod Adjacency
+pub mod Columns
+pub mod BlockMembers
+pub mod Neighbourhoods
+pub mod Crossing
+pub mod BlocksOf
+pub mod Walking
+pub mod Lacking

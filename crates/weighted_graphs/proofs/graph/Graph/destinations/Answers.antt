@@ -1,0 +1,10 @@
+use Rattle.std.proofs.Common.{◌^◌}
+use Rattle.weighted_blocks.specs.Blocks.{lists_of}
+use Rattle.weighted_graphs.proofs.Adjacency.{destinations_are}
+use Rattle.weighted_graphs.proofs.Neighbourhoods.{graph_rises}
+use Rattle.weighted_graphs.proofs.graph.Graph.destinations.Goals as goal
+
+pub returns : goal.returns
+returns c =
+    let out = c.self.inside.outgoing.entries in
+    rw (← c.self.view_is, destinations_are 0 (2 ^ 24) c.args.source (lists_of out) (graph_rises out c.self.invariant.out)) c.neighbours.ensures

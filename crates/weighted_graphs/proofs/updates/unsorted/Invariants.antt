@@ -1,0 +1,14 @@
+use Rattle.std.proofs.Common.{◌≡◌, ◌≤◌, [], length, take, vec_len}
+use Rattle.std.specs.Vec.{vec_capacity}
+use Rattle.edge_updates.specs.Weighted.{weighted}
+use Rattle.weighted_updates.specs.WeightedUpdates.{decided_weight}
+use Rattle.weighted_graphs.specs.Edge.{Ends}
+use Rattle.weighted_graphs.specs.Entry.{decision}
+use Rattle.weighted_graphs.proofs.updates.unsorted.Given as goal
+
+abbrev pub invariant-loop-entry : goal.invariant-loop-entry
+invariant-loop-entry l = record {
+  same : (p : Ends) → decided_weight (weighted l.updates.items []) p ≡ decision (take l.entry-index l.entries) p;
+  len : vec_len l.updates ≤ l.entry-index;
+  room : length l.entries ≤ vec_capacity l.updates;
+}

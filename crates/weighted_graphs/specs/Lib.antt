@@ -1,0 +1,10 @@
+pub mod Edge
+pub mod Entry
+pub mod Sorted
+pub mod Digraph
+pub mod Neighbours
+pub mod VertexBlocks
+pub mod BlockCuts
+pub mod Forking
+pub mod Outcome
+pub mod Refusal

@@ -1,0 +1,62 @@
+//! What sorted updates make of a tree, and the same updates seen from the other end of their edges.
+
+ghost use Rattle.std.specs.Prelude.{◌≡◌, IfOk};
+ghost use Rattle.std.specs.Map.{keys_of};
+ghost use Rattle.edge_updates.specs.Updates.{Ascend};
+ghost use Rattle.weighted_updates.specs.WeightedUpdates.{decided_weight};
+ghost use Rattle.weighted_graphs.specs.Edge.{Ends};
+ghost use Rattle.weighted_graphs.specs.Forking.{IsChangedTree};
+ghost use Rattle.weighted_graphs.specs.Sorted.{sorted_pairs};
+
+use crate::cuts::changed;
+use crate::updates::SortedUpdates;
+use edge_updates::{Updates, sort_turned};
+use shared_tree::{Changed, Tree};
+use std::alloc::{AllocError, Global};
+use weighted_blocks::VertexBlock;
+use weighted_trees::ChunkSize;
+use weighted_updates::Columns;
+
+impl SortedUpdates {
+    /// Updates that ascend, seen from their neighbours, ascending again.
+    pub(crate) fn turned(self, alloc: Global) -> Result<SortedUpdates, AllocError>
+        requires { Ascend (keys_of (sorted_pairs self)) }
+        ensures order { IfOk result (λ s. Ascend (keys_of (sorted_pairs s))) }
+        ensures same { IfOk result (λ s. (p : Ends)
+            → decided_weight (sorted_pairs s) p ≡ decided_weight (sorted_pairs self) (p.1, p.0)) }
+    {
+        match self {
+            SortedUpdates::Unweighted(mut updates) => {
+                let mut scratch = Vec::new(alloc);
+                sort_turned(&mut updates, &mut scratch)?;
+                Ok(SortedUpdates::Unweighted(updates))
+            }
+            SortedUpdates::Weighted(mut updates) => {
+                let mut scratch = Vec::new(alloc);
+                weighted_updates::sort_turned(&mut updates, &mut scratch)?;
+                Ok(SortedUpdates::Weighted(updates))
+            }
+        }
+    }
+
+    /// The tree after updates whose edges ascend. Updates without weights are lent as they stand.
+    pub(crate) fn change(
+        &self,
+        alloc: Global,
+        tree: &Tree<VertexBlock>,
+        chunk_size: ChunkSize,
+    ) -> Result<Changed<VertexBlock>, AllocError>
+        requires { Ascend (keys_of (sorted_pairs self.now)) }
+        ensures { IfOk result (λ c. IsChangedTree (sorted_pairs self.now) tree.now.entries c) }
+    {
+        match self {
+            SortedUpdates::Unweighted(updates) => {
+                changed(alloc, tree, &Updates::new(updates, &[]), chunk_size)
+            }
+            SortedUpdates::Weighted(pairs) => {
+                let columns = Columns::of(alloc, pairs)?;
+                changed(alloc, tree, &columns.lend(), chunk_size)
+            }
+        }
+    }
+}
