@@ -36,7 +36,6 @@ pub(crate) fn sides_alone(
 }
 
 /// Two trees, each on a thread of its own.
-#[cycle(forked)]
 /// The block in the middle.
 pub(crate) fn block_after<R: Threads + Sync, F: Fork + Sync>(
     rt: &R,
