@@ -1,66 +1,76 @@
--- The one way in which a list is cut into chunks.
-use Rattle.std.specs.Prelude.{◌≡◌, ℕ, false, true, if◌then◌else◌, None, Some, List, [], ◌∷◌, ◌++◌}
+-- The one way in which entries are cut into chunks.
+use Rattle.std.specs.Prelude.{◌≡◌, ℕ, ℤ, false, true, if◌then◌else◌, None, Some, List, [], ◌∷◌, ◌++◌}
 use Rattle.std.specs.List.{All}
+use Rattle.std.specs.Map.{keys_of}
 use Rattle.ascending_lists.specs.Ascending.{Ascends}
 use Rattle.tail_codec.specs.Spelling.{BasedList, based_list}
 use Rattle.c_tree.specs.Heads.{IsChunkSize, is_head}
 
 -- what stands before the first head
-abbrev pub before_head : ℕ → List ℕ → List ℕ
+abbrev pub before_head : ℕ → List (ℕ × ℤ) → List (ℕ × ℤ)
 before_head b [] = []
-before_head b (x ∷ xs) = if is_head b x then [] else x ∷ before_head b xs
+before_head b (e ∷ es) = if is_head b e.0 then [] else e ∷ before_head b es
 
 -- the prefix: what stands before the first head, over no base
-abbrev pub prefix_of : ℕ → List ℕ → BasedList
-prefix_of b xs = based_list None (before_head b xs)
+abbrev pub prefix_of : ℕ → List (ℕ × ℤ) → BasedList
+prefix_of b es = based_list None (before_head b es)
 
--- the chunks: each head with its tail, which is what stands after it up to the next head, over the head
-abbrev pub chunks_of : ℕ → List ℕ → List (ℕ × BasedList)
+-- what a tree of chunks has at a head: the weight of the head, and the tail
+pub record HeadValue : Type 0 where
+  pub weight : ℤ
+  pub tail : BasedList
+
+abbrev pub head_value : ℤ → BasedList → HeadValue
+head_value w t = record { weight = w; tail = t }
+
+-- the chunks: each head with its weight and its tail, which is what stands after the head up to the
+-- next one, over the head
+abbrev pub chunks_of : ℕ → List (ℕ × ℤ) → List (ℕ × HeadValue)
 chunks_of b [] = []
-chunks_of b (x ∷ xs) =
-    if is_head b x
-    then (x, based_list (Some x) (before_head b xs)) ∷ chunks_of b xs
-    else chunks_of b xs
+chunks_of b (e ∷ es) =
+    if is_head b e.0
+    then (e.0, head_value e.1 (based_list (Some e.0) (before_head b es))) ∷ chunks_of b es
+    else chunks_of b es
 
--- the heads and tails of chunks one after another
-abbrev pub elements_of : List (ℕ × BasedList) → List ℕ
-elements_of [] = []
-elements_of (c ∷ cs) = c.0 ∷ (c.1.elements ++ elements_of cs)
+-- the entries of chunks one after another: that of the head, and those of its tail
+abbrev pub entries_of : List (ℕ × HeadValue) → List (ℕ × ℤ)
+entries_of [] = []
+entries_of (c ∷ cs) = (c.0, c.1.weight) ∷ (c.1.tail.entries ++ entries_of cs)
 
 -- a prefix and chunks put together
-abbrev pub together : BasedList → List (ℕ × BasedList) → List ℕ
-together prefix chunks = prefix.elements ++ elements_of chunks
+abbrev pub together : BasedList → List (ℕ × HeadValue) → List (ℕ × ℤ)
+together prefix chunks = prefix.entries ++ entries_of chunks
 
--- no element is a head
-abbrev pub HasNoHead : ℕ → List ℕ → Type 0
-HasNoHead b xs = All (λ x. is_head b x ≡ false) xs
+-- no key is a head
+abbrev pub HasNoHead : ℕ → List (ℕ × ℤ) → Type 0
+HasNoHead b es = All (λ k. is_head b k ≡ false) (keys_of es)
 
 -- a head with a tail that stands over it and has no head
-pub record IsChunk (b : ℕ) (c : ℕ × BasedList) : Type 0 where
+pub record IsChunk (b : ℕ) (c : ℕ × HeadValue) : Type 0 where
   pub head : is_head b c.0 ≡ true
-  pub base : c.1.base ≡ Some c.0
-  pub tail : HasNoHead b c.1.elements
+  pub base : c.1.tail.base ≡ Some c.0
+  pub tail : HasNoHead b c.1.tail.entries
 
--- A prefix and chunks that are xs cut at its heads.
-pub record IsChunking (b : ℕ) (xs : List ℕ) (prefix : BasedList) (chunks : List (ℕ × BasedList)) : Type 0 where
-  pub whole : xs ≡ together prefix chunks
+-- A prefix and chunks that are es cut at its heads.
+pub record IsChunking (b : ℕ) (es : List (ℕ × ℤ)) (prefix : BasedList) (chunks : List (ℕ × HeadValue)) : Type 0 where
+  pub whole : es ≡ together prefix chunks
   pub base : prefix.base ≡ None
-  pub front : HasNoHead b prefix.elements
+  pub front : HasNoHead b prefix.entries
   pub each : All (IsChunk b) chunks
 
--- an ascending list, the chunk size at which it is cut, and how many nodes the longest way down the
--- tree of its chunks has
+-- entries with ascending keys, the chunk size at which they are cut, and how many nodes the longest way
+-- down the tree of their chunks has
 pub record ChunkedSet : Type 0 where
-  pub elements : List ℕ
+  pub entries : List (ℕ × ℤ)
   pub chunk_size : ℕ
   pub depth : ℕ
 
--- The set s has these elements in chunks of size b.
-pub record IsSetOf (xs : List ℕ) (b : ℕ) (s : ChunkedSet) : Type 0 where
-  pub elements : s.elements ≡ xs
+-- The set s has these entries in chunks of size b.
+pub record IsSetOf (es : List (ℕ × ℤ)) (b : ℕ) (s : ChunkedSet) : Type 0 where
+  pub entries : s.entries ≡ es
   pub chunk_size : s.chunk_size ≡ b
 
 -- what is true of each set
 pub record IsChunkedSet (s : ChunkedSet) : Type 0 where
-  pub ascending : Ascends None s.elements
+  pub ascending : Ascends None (keys_of s.entries)
   pub chunk_size : IsChunkSize s.chunk_size

@@ -5,7 +5,7 @@ ghost use Rattle.c_tree.specs.Outcome.{Accepts};
 use crate::error::CTreeError;
 use std::marker::Model;
 
-/// A power of two from 1 to 256: about how many elements a chunk has. A contract sees the number.
+/// A power of two from 1 to 256: about how many entries a chunk has. A contract sees the number.
 #[derive(Clone, Copy, Debug, PartialEq, Eq)]
 pub struct ChunkSize {
     /// One less than the number: the bits of a hash that are 0 in a head's.
@@ -50,13 +50,13 @@ impl ChunkSize {
         u32::from(self.mask) + 1
     }
 
-    /// Whether an element is a head at this chunk size: the top byte of the low 32 bits of its
+    /// Whether a key is a head at this chunk size: the top byte of the low 32 bits of its
     /// product with 2654435769 is a multiple of the size.
     #[inline(always)]
-    pub fn is_head(self, element: u32) -> bool
-        ensures { result ≡ is_head self element }
+    pub fn is_head(self, key: u32) -> bool
+        ensures { result ≡ is_head self key }
     {
-        let hash = (element.wrapping_mul(2_654_435_769) >> 24) as u8;
+        let hash = (key.wrapping_mul(2_654_435_769) >> 24) as u8;
         hash & self.mask == 0
     }
 }

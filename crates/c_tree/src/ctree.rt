@@ -14,8 +14,8 @@ use std::alloc::AllocError;
 use std::marker::Model;
 use tail_codec::Tail;
 
-/// A set of numbers below 2^32, cut at its heads. A contract sees its elements as an ascending list,
-/// its chunk size, and the depth of its tree of chunks. It is 64 bytes beside what its prefix and its
+/// A set of entries, pairs of a key below 2^32 and a weight, cut at its heads. A contract sees its
+/// entries in ascending order of keys, its chunk size, and the depth of its tree of chunks. It is 64 bytes beside what its prefix and its
 /// tree of chunks take.
 pub struct CTree {
     prefix: Tail,
@@ -52,7 +52,7 @@ impl Model for CTree {
 }
 
 impl CTree {
-    /// The set of no elements in chunks of this size. It takes no memory.
+    /// The set of no entries in chunks of this size. It takes no memory.
     ///
     /// Error: `BadChunkSize` where the size is no power of two from 1 to 256.
     pub fn new(chunk_size: u32) -> Result<CTree, CTreeError>
@@ -62,7 +62,7 @@ impl CTree {
         Ok(CTree::from_parts(Tail::new(None), Tree::new(), 0, chunk_size))
     }
 
-    /// The set of a prefix and a tree of chunks that have `len` elements together.
+    /// The set of a prefix and a tree of chunks that have `len` entries together.
     pub(crate) fn from_parts(
         prefix: Tail,
         chunks: Tree<ChunkTail>,
@@ -80,10 +80,10 @@ impl CTree {
         }
     }
 
-    /// The prefix, and the tree of the tails by their heads.
+    /// The prefix, and the tree of the weights and tails by their heads.
     #[inline]
     pub(crate) fn parts(&self) -> (&Tail, &Tree<ChunkTail>)
-        ensures chunked { IsChunking self.now.chunk_size self.now.elements
+        ensures chunked { IsChunking self.now.chunk_size self.now.entries
             result.0.now result.1.now.entries }
         ensures depth { result.1.now.depth ≡ self.now.depth }
         ensures valid { IsChunkedSet self.now }
@@ -99,20 +99,20 @@ impl CTree {
         View::new(&self.prefix, &self.chunks, self.chunk_size)
     }
 
-    /// How many elements there are, at most 2^32. Takes no time that depends on it, and no memory.
+    /// How many entries there are, at most 2^32. Takes no time that depends on it, and no memory.
     #[inline]
     pub fn len(&self) -> usize
-        ensures len { result ≡ length self.now.elements }
+        ensures len { result ≡ length self.now.entries }
         ensures bounded { result ≤ 2 ^ 32 }
         ensures valid { IsChunkedSet self.now }
     {
         self.count
     }
 
-    /// Whether there is no element. It takes no memory.
+    /// Whether there is no entry. It takes no memory.
     #[inline]
     pub fn is_empty(&self) -> bool
-        ensures { IsTrue result ↔ (self.now.elements ≡ []) }
+        ensures { IsTrue result ↔ (self.now.entries ≡ []) }
     {
         self.len() == 0
     }
@@ -125,19 +125,19 @@ impl CTree {
         self.chunk_size
     }
 
-    /// The elements before the first head. It takes no memory.
+    /// The entries before the first head. It takes no memory.
     #[inline]
     pub fn prefix(&self) -> &Tail
-        ensures { result.now ≡ prefix_of self.now.chunk_size self.now.elements }
+        ensures { result.now ≡ prefix_of self.now.chunk_size self.now.entries }
     {
         self.parts().0
     }
 
-    /// The heads with their tails, ascending. It takes no memory.
+    /// The heads with their weights and tails, ascending. It takes no memory.
     #[inline]
     pub fn heads(&self) -> Heads<'_>
-        ensures heads { result ≡ chunks_of self.now.chunk_size self.now.elements }
-        ensures bounded { length (chunks_of self.now.chunk_size self.now.elements) ≤ 2 ^ 32 }
+        ensures heads { result ≡ chunks_of self.now.chunk_size self.now.entries }
+        ensures bounded { length (chunks_of self.now.chunk_size self.now.entries) ≤ 2 ^ 32 }
     {
         Heads::new(self.parts().1)
     }
@@ -147,12 +147,12 @@ impl CTree {
     pub fn depth(&self) -> u32
         ensures depth { result ≡ self.now.depth }
         ensures shallow { 2 ^ result
-            ≤ (length (chunks_of self.now.chunk_size self.now.elements) + 1)
-            * (length (chunks_of self.now.chunk_size self.now.elements) + 1) }
-        ensures room { length (chunks_of self.now.chunk_size self.now.elements) < 2 ^ result }
+            ≤ (length (chunks_of self.now.chunk_size self.now.entries) + 1)
+            * (length (chunks_of self.now.chunk_size self.now.entries) + 1) }
+        ensures room { length (chunks_of self.now.chunk_size self.now.entries) < 2 ^ result }
         ensures bounded { result ≤ 64 }
         ensures none { (result ≡ 0)
-            ↔ (chunks_of self.now.chunk_size self.now.elements ≡ []) }
+            ↔ (chunks_of self.now.chunk_size self.now.entries ≡ []) }
     {
         let (_, chunks) = self.parts();
         match chunks.parts() {
@@ -161,11 +161,11 @@ impl CTree {
         }
     }
 
-    /// The elements, ascending. It takes no memory.
+    /// The entries, in ascending order of keys. It takes no memory.
     #[inline]
     pub fn iter(&self) -> Iter<'_>
-        ensures elements { result ≡ self.now.elements }
-        ensures bounded { length self.now.elements ≤ 2 ^ 32 }
+        ensures entries { result ≡ self.now.entries }
+        ensures bounded { length self.now.entries ≤ 2 ^ 32 }
         ensures valid { IsChunkedSet self.now }
     {
         let (prefix, chunks) = self.parts();

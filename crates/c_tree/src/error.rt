@@ -8,7 +8,7 @@ use thiserror::Error;
 /// Why a set was not made.
 #[derive(Clone, Copy, Debug, PartialEq, Eq, Error)]
 pub enum CTreeError {
-    #[error("the numbers do not ascend")]
+    #[error("the keys do not ascend")]
     NotAscending,
     #[error("a chunk size is a power of two from 1 to 256")]
     BadChunkSize,

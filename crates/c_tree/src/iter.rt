@@ -1,5 +1,6 @@
 ghost use Rattle.std.specs.Prelude.{◌≡◌, ◌≤◌, length, take, drop, min};
 ghost use Rattle.std.specs.Iterator.{YieldsFirst, item_count};
+ghost use Rattle.std.specs.Map.{keys_of, values_of};
 ghost use Rattle.c_tree.specs.Blocks.{IsRead};
 ghost use Rattle.c_tree.specs.Chunks.{together};
 
@@ -8,7 +9,7 @@ use shared_tree::Tree;
 use std::marker::Model;
 use tail_codec::{Tail, TailIter};
 
-/// The elements of a set that are still to come, ascending.
+/// The entries of a set that are still to come, in ascending order of keys.
 #[derive(Drop)]
 pub struct Iter<'a> {
     /// Those before the next head.
@@ -17,16 +18,16 @@ pub struct Iter<'a> {
 }
 
 impl<'a> Model for Iter<'a> {
-    ghost use Rattle.std.specs.Prelude.{ℕ, List, ◌++◌};
-    ghost use Rattle.c_tree.specs.Chunks.{elements_of};
+    ghost use Rattle.std.specs.Prelude.{ℕ, ℤ, List, ◌++◌};
+    ghost use Rattle.c_tree.specs.Chunks.{entries_of};
 
-    ghost Value = { List ℕ };
+    ghost Value = { List (ℕ × ℤ) };
 
-    ghost view = { λ i. i.tail ++ elements_of i.chunks };
+    ghost view = { λ i. i.tail ++ entries_of i.chunks };
 }
 
 impl<'a> Iter<'a> {
-    /// The elements of a prefix and then those of chunks, each head before its tail. It takes no
+    /// The entries of a prefix and then those of chunks, each head before its tail. It takes no
     /// memory.
     #[inline]
     pub(crate) fn new(prefix: &'a Tail, chunks: &'a Tree<ChunkTail>) -> Iter<'a>
@@ -38,51 +39,92 @@ impl<'a> Iter<'a> {
         }
     }
 
-    /// Reads the next elements into the front of a block, as many as fit and are left, and gives
-    /// their number. It takes no memory, and the rest of the block stays as it was.
+    /// Reads the keys of the next entries into the front of a block, as many as fit and are left, and
+    /// gives their number. It takes no memory, and the rest of the block stays as it was.
     pub fn fill(&mut self, block: &mut [u32]) -> usize
         ensures count { result ≡ min (length block.old) (length self.old) }
-        ensures filled { take result block.new ≡ take result self.old }
+        ensures filled { take result block.new ≡ take result (keys_of self.old) }
         ensures kept { drop result block.new ≡ drop result block.old }
         ensures rest { self.new ≡ drop result self.old }
     {
         let mut filled = fill_from(&mut self.tail, block, 0);
         while filled < block.len() {
-            let Some((head, tail)) = self.chunks.next() else {
+            let Some((head, at_head)) = self.chunks.next() else {
                 break;
             };
             block[filled] = head;
-            self.tail = tail.tail().iter();
+            self.tail = at_head.tail().iter();
             filled = fill_from(&mut self.tail, block, filled + 1);
+        }
+        filled
+    }
+
+    /// Reads the keys and the weights of the next entries into the fronts of two blocks, as many as fit
+    /// and are left, and gives their number. It takes no memory, and the rest of each block stays as it
+    /// was.
+    pub fn fill_weighted(&mut self, keys: &mut [u32], weights: &mut [i64]) -> usize
+        requires { length weights.old ≡ length keys.old }
+        ensures count { result ≡ min (length keys.old) (length self.old) }
+        ensures filled { take result keys.new ≡ take result (keys_of self.old) }
+        ensures weighted { take result weights.new ≡ take result (values_of self.old) }
+        ensures kept { drop result keys.new ≡ drop result keys.old }
+        ensures kept_weights { drop result weights.new ≡ drop result weights.old }
+        ensures rest { self.new ≡ drop result self.old }
+    {
+        let mut filled = fill_weighted_from(&mut self.tail, keys, weights, 0);
+        while filled < keys.len() {
+            let Some((head, at_head)) = self.chunks.next() else {
+                break;
+            };
+            keys[filled] = head;
+            weights[filled] = at_head.weight();
+            self.tail = at_head.tail().iter();
+            filled = fill_weighted_from(&mut self.tail, keys, weights, filled + 1);
         }
         filled
     }
 }
 
-/// Reads the next elements of a tail into a block from a place on, as many as fit and are left, and
-/// gives the place after them.
+/// Reads the keys of the next entries of a tail into a block from a place on, as many as fit and are
+/// left, and gives the place after them.
 #[inline]
 fn fill_from(tail: &mut TailIter<'_>, block: &mut [u32], place: usize) -> usize
     requires { place ≤ length block.old }
-    ensures { IsRead place tail.old block.old result tail.new block.new }
+    ensures { IsRead (λ e. e.0) place tail.old block.old result tail.new block.new }
 {
     place + tail.fill(&mut block[place..])
 }
 
+/// As `fill_from`, with the weights into a second block.
+#[inline]
+fn fill_weighted_from(
+    tail: &mut TailIter<'_>,
+    keys: &mut [u32],
+    weights: &mut [i64],
+    place: usize,
+) -> usize
+    requires columns { length weights.old ≡ length keys.old }
+    requires room { place ≤ length keys.old }
+    ensures keys { IsRead (λ e. e.0) place tail.old keys.old result tail.new keys.new }
+    ensures weights { IsRead (λ e. e.1) place tail.old weights.old result tail.new weights.new }
+{
+    place + tail.fill_weighted(&mut keys[place..], &mut weights[place..])
+}
+
 impl<'a> Iterator for Iter<'a> {
-    type Item = u32;
+    type Item = (u32, i64);
 
     ghost next_gives = { YieldsFirst (λ i. i) };
 
     ghost remaining = { item_count (λ i. i) };
 
     #[inline(always)]
-    fn next(&mut self) -> Option<u32> {
-        if let Some(element) = self.tail.next() {
-            return Some(element);
+    fn next(&mut self) -> Option<(u32, i64)> {
+        if let Some(entry) = self.tail.next() {
+            return Some(entry);
         }
-        let (head, tail) = self.chunks.next()?;
-        self.tail = tail.tail().iter();
-        Some(head)
+        let (head, at_head) = self.chunks.next()?;
+        self.tail = at_head.tail().iter();
+        Some((head, at_head.weight()))
     }
 }

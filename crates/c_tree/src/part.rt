@@ -1,4 +1,5 @@
 ghost use Rattle.std.specs.Prelude.{◌≡◌, length, None, IfOk};
+ghost use Rattle.std.specs.Map.{keys_of};
 ghost use Rattle.ascending_lists.specs.Ascending.{Ascends};
 ghost use Rattle.c_tree.specs.Chunks.{HasNoHead, IsSetOf};
 ghost use Rattle.c_tree.specs.Parts.{IsPart, in_chunks};
@@ -12,7 +13,7 @@ use std::alloc::{AllocError, Global};
 use std::marker::Model;
 use tail_codec::Tail;
 
-/// Elements in chunks, of which a set may be made. A contract sees them as an ascending list, the
+/// Entries in chunks, of which a set may be made. A contract sees them in ascending order of keys, the
 /// chunk size, and the depth of the tree of chunks. Their number is not kept.
 pub struct Part {
     prefix: Tail,
@@ -55,11 +56,11 @@ impl Part {
         }
     }
 
-    /// Elements of which none is a head.
+    /// Entries of which no key is a head.
     pub(crate) fn of_prefix(prefix: Tail, chunk_size: ChunkSize) -> Part
-        requires ascending { Ascends None prefix.elements }
-        requires no_head { HasNoHead chunk_size prefix.elements }
-        ensures { IsSetOf prefix.elements chunk_size result }
+        requires ascending { Ascends None (keys_of prefix.entries) }
+        requires no_head { HasNoHead chunk_size prefix.entries }
+        ensures { IsSetOf prefix.entries chunk_size result }
     {
         Part::new(prefix, Tree::new(), chunk_size)
     }
@@ -77,18 +78,18 @@ impl Part {
         (prefix, chunks, chunk_size)
     }
 
-    /// The elements, where they stand. It takes no memory.
+    /// The entries, where they stand. It takes no memory.
     pub fn view(&self) -> View<'_>
         ensures { result ≡ self.now }
     {
         View::new(&self.prefix, &self.chunks, self.chunk_size)
     }
 
-    /// The set of the elements, of which there are `len`.
+    /// The set of the entries, of which there are `len`.
     ///
     /// The only error is out of memory.
     pub fn into_set(self, alloc: Global, len: usize) -> Result<CTree, AllocError>
-        requires { len ≡ length self.elements }
+        requires { len ≡ length self.entries }
         ensures { IfOk result (λ t. t ≡ self) }
     {
         let (prefix, chunks, chunk_size) = self.into_parts();

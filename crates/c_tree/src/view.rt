@@ -1,4 +1,5 @@
 ghost use Rattle.std.specs.Prelude.{◌≡◌, ◌↔◌, ◌^◌, ◌≤◌, None, [], length, IsTrue, IfOk, MatchOption};
+ghost use Rattle.std.specs.Map.{keys_of};
 ghost use Rattle.ascending_lists.specs.Ascending.{Ascends};
 ghost use Rattle.c_tree.specs.Chunks.{HasNoHead, chunks_of, together};
 ghost use Rattle.c_tree.specs.Parts.{IsPart, IsRoot, in_chunks};
@@ -11,10 +12,10 @@ use crate::tail::ChunkTail;
 use shared_tree::{Share, Tree};
 use std::alloc::{AllocError, Global};
 use std::marker::Model;
-use tail_codec::Tail;
+use tail_codec::{EntryList, Tail};
 
-/// A set that is lent, or what stands in it before a head, or after one. A contract sees the elements
-/// as an ascending list, the chunk size, and the depth of the tree of chunks.
+/// A set that is lent, or what stands in it before a head, or after one. A contract sees the entries
+/// in ascending order of keys, the chunk size, and the depth of the tree of chunks.
 #[derive(Drop)]
 pub struct View<'a> {
     pub(crate) prefix: &'a Tail,
@@ -50,16 +51,16 @@ impl<'a> View<'a> {
         }
     }
 
-    /// Whether there is no element. It takes no memory.
+    /// Whether there is no entry. It takes no memory.
     pub fn is_empty(&self) -> bool
-        ensures { IsTrue result ↔ (self.now.elements ≡ []) }
+        ensures { IsTrue result ↔ (self.now.entries ≡ []) }
     {
         self.prefix.is_empty() && self.chunks.is_empty()
     }
 
-    /// How many elements there are, at most 2^32. Takes time in proportion to the heads, and no memory.
+    /// How many entries there are, at most 2^32. Takes time in proportion to the heads, and no memory.
     pub fn len(&self) -> usize
-        ensures { result ≡ length self.now.elements }
+        ensures { result ≡ length self.now.entries }
     {
         total_len(self.prefix, Heads::new(self.chunks))
     }
@@ -80,55 +81,57 @@ impl<'a> View<'a> {
         self.chunks.depth()
     }
 
-    /// The heads, ascending, with their tails. It takes no memory.
+    /// The heads, ascending, with their weights and tails. It takes no memory.
     #[inline]
     pub fn heads(&self) -> Heads<'a>
-        ensures { result ≡ chunks_of self.now.chunk_size self.now.elements }
+        ensures { result ≡ chunks_of self.now.chunk_size self.now.entries }
     {
         Heads::new(self.chunks)
     }
 
-    /// The elements, ascending. It takes no memory.
+    /// The entries, in ascending order of keys. It takes no memory.
     #[inline]
     pub fn iter(&self) -> Iter<'a>
-        ensures elements { result ≡ self.now.elements }
-        ensures ascending { Ascends None self.now.elements }
+        ensures entries { result ≡ self.now.entries }
+        ensures ascending { Ascends None (keys_of self.now.entries) }
     {
         Iter::new(self.prefix, self.chunks)
     }
 
-    /// The elements as a list. The only error is out of memory.
-    pub fn elements(&self, alloc: Global) -> Result<Vec<u32>, AllocError>
-        ensures { IfOk result (λ v. v.items ≡ self.now.elements) }
+    /// The entries in columns. The only error is out of memory.
+    pub fn entries(&self, alloc: Global) -> Result<EntryList, AllocError>
+        ensures { IfOk result (λ l. l ≡ self.now.entries) }
     {
-        let mut list = Vec::new(alloc);
-        list.resize(self.len(), 0)?;
-        self.iter().fill(&mut list);
-        Ok(list)
+        let mut keys = Vec::new(alloc);
+        keys.resize(self.len(), 0)?;
+        let mut weights = Vec::new(alloc);
+        weights.resize(self.len(), 1)?;
+        self.iter().fill_weighted(&mut keys, &mut weights);
+        Ok(EntryList::new(keys, weights))
     }
 
-    /// What stands before the head at the root of the tree of chunks, the head, and what stands after
-    /// it, or `None` where there is no head. It takes no memory.
-    pub fn root(&self) -> Option<(View<'a>, u32, View<'a>)>
-        ensures { MatchOption result (HasNoHead self.now.chunk_size self.now.elements)
-            (λ p. IsRoot self.now p.0 p.1 p.2) }
+    /// What stands before the head at the root of the tree of chunks, the head, its weight, and what
+    /// stands after it, or `None` where there is no head. It takes no memory.
+    pub fn root(&self) -> Option<(View<'a>, u32, i64, View<'a>)>
+        ensures { MatchOption result (HasNoHead self.now.chunk_size self.now.entries)
+            (λ p. IsRoot self.now p.0 p.1 p.2 p.3) }
     {
-        let (below, key, tail, above) = self.chunks.parts()?;
+        let (below, key, at_head, above) = self.chunks.parts()?;
         let left = View::new(self.prefix, below, self.chunk_size);
-        let right = View::new(tail.tail(), above, self.chunk_size);
-        Some((left, key, right))
+        let right = View::new(at_head.tail(), above, self.chunk_size);
+        Some((left, key, at_head.weight(), right))
     }
 
-    /// The elements of a view that has no head.
+    /// The entries of a view that has no head.
     pub(crate) fn prefix(&self) -> &'a Tail
-        requires { HasNoHead self.now.chunk_size self.now.elements }
-        ensures elements { result.now.elements ≡ self.now.elements }
-        ensures ascending { Ascends None self.now.elements }
+        requires { HasNoHead self.now.chunk_size self.now.entries }
+        ensures entries { result.now.entries ≡ self.now.entries }
+        ensures ascending { Ascends None (keys_of self.now.entries) }
     {
         self.prefix
     }
 
-    /// The same elements with owners of their own. It takes no memory; the error comes where a count of
+    /// The same entries with owners of their own. It takes no memory; the error comes where a count of
     /// owners is full.
     pub fn share(&self) -> Result<Part, AllocError>
         ensures { IfOk result (λ p. p ≡ self.now) }
@@ -139,13 +142,13 @@ impl<'a> View<'a> {
     }
 }
 
-/// How many elements a tail and chunks have together.
+/// How many entries a tail and chunks have together.
 fn total_len(prefix: &Tail, heads: Heads<'_>) -> usize
     requires { length (together prefix.now heads) ≤ 2 ^ 32 }
     ensures { result ≡ length (together prefix.now heads.entry) }
 {
     let mut len = prefix.len();
-    for (_, tail) in heads {
+    for (_, _, tail) in heads {
         len += tail.len() + 1;
     }
     len

@@ -1,16 +1,18 @@
 -- What several sources give a destination.
-use Rattle.std.proofs.Common.{◌≡◌, ℕ, ◌+◌, ◌≤◌, ◌==◌, ℤ, Bool, true, false, cond, List, [], ◌∷◌, ◌++◌, length, take, drop, replicate, append_assoc, refl, sym, ap, ◌∙◌, subst, arith}
+use Rattle.std.proofs.Common.{◌≡◌, ℕ, ◌+◌, ◌≤◌, ◌==◌, ℤ, Bool, true, false, cond, List, [], ◌∷◌, ◌++◌, length, take, replicate, append_assoc, refl, sym, ap, ◌∙◌, subst, arith}
 use Rattle.std.proofs.lemmas.Bool.Decides.{nat_tests}
-use Rattle.std.proofs.lemmas.List.{length-take-le, map-append, take-append-drop}
+use Rattle.std.proofs.lemmas.List.{length-take-le, map-append}
 use Rattle.std.proofs.lemmas.Slice.{take-put_mid}
 use borrow.Rule.Slice.PartMut.{put_mid}
+use Rattle.edge_lists.specs.Edge.{Edge, unit_weight}
 use Rattle.apply_options.specs.declared.reduction.Reduction.{Reduction}
 use Rattle.algorithm_meaning.specs.Arithmetic.{reduced}
 use Rattle.algorithm_meaning.proofs.Reductions.{reductions}
 use Rattle.edge_fold.specs.declared.apply_context.SourceContribution.{SourceContribution}
-use Rattle.edge_fold.specs.Given.{column, each_given, for_vector, given_on, pairs, reduced_at}
+use Rattle.edge_fold.specs.Between.{firsts}
+use Rattle.edge_fold.specs.Given.{column, each_given, entries_of, for_vector, given_on, pairs, reduced_at}
 use Rattle.edge_fold.specs.ReducedContributions.{IsReducedTo, IsReducedContribution, numbers_given, reduced_with}
-use Rattle.edge_fold.proofs.Edges.{pairs-append}
+use Rattle.edge_fold.proofs.Edges.{pairs-append, unit_pairs-append}
 
 -- two numbers may be reduced to one before a third is reduced with them
 grouped : (r : Reduction) (h a b : ℤ) (q : Bool) → cond q (reduced r h (reduced r a b)) h ≡ cond q (reduced r (cond q (reduced r h a) h) b) (cond q (reduced r h a) h)
@@ -39,12 +41,12 @@ nothing_either : (b : Bool) (none : List (ℕ × ℤ)) → none ≡ [] → [] �
 nothing_either true none e = sym e
 nothing_either false none e = refl
 
-given_by_column : (x y d : ℕ) (r : Reduction) (number : ℕ → ℤ) (g : ℕ × ℕ → List (ℕ × Reduction × ℤ)) → ((s d : ℕ) → g (s, d) ≡ (y, r, number s) ∷ []) → (ss : List ℕ)
-    → given_on x g (column d ss) ≡ cond (y == x) (numbers_given number d ss) []
+given_by_column : (x y d : ℕ) (r : Reduction) (number : ℕ → ℤ) (g : Edge → List (ℕ × Reduction × ℤ)) → ((s d : ℕ) (w : ℤ) → g (s, d, w) ≡ (y, r, number s) ∷ []) → (es : List (ℕ × ℤ))
+    → given_on x g (column d es) ≡ cond (y == x) (numbers_given number d (firsts es)) []
 given_by_column x y d r number g same [] = nothing_either (y == x) [] refl
-given_by_column x y d r number g same (s ∷ ss) =
-    ap (λ (gs : List (ℕ × Reduction × ℤ)). for_vector x d gs ++ given_on x g (column d ss)) (same s d)
-    ∙ one_for y x d (number s) (y == x) (numbers_given number d ss) (given_on x g (column d ss)) (given_by_column x y d r number g same ss)
+given_by_column x y d r number g same (e ∷ es) =
+    ap (λ (gs : List (ℕ × Reduction × ℤ)). for_vector x d gs ++ given_on x g (column d es)) (same e.0 d e.1)
+    ∙ one_for y x d (number e.0) (y == x) (numbers_given number d (firsts es)) (given_on x g (column d es)) (given_by_column x y d r number g same es)
 
 equal : (m n : ℕ) → (m == n) ≡ true → m ≡ n
 equal m n h = grind (arith, nat_tests)
@@ -54,29 +56,46 @@ joined_at r s v h gs hs true own all = subst (λ (t : Reduction). reduced_at t v
 joined_at r s v h gs hs false own all = refl
 
 -- to join what is sent is to join what the edges give
-pub together_given : (r : Reduction) (x d v : ℕ) (h : ℤ) (sent : SourceContribution) (g : ℕ × ℕ → List (ℕ × Reduction × ℤ)) (ss : List ℕ) → IsReducedContribution sent g ss → (sent.vector ≡ x → sent.reduction ≡ r)
-    → reduced_at r v h (cond (sent.vector == x) (each_given sent.number (d ∷ [])) []) ≡ reduced_at r v h (given_on x g (column d ss))
-together_given r x d v h sent g ss is own =
+pub together_given : (r : Reduction) (x d v : ℕ) (h : ℤ) (sent : SourceContribution) (g : Edge → List (ℕ × Reduction × ℤ)) (ss : List ℕ) (es : List (ℕ × ℤ)) → IsReducedContribution sent g ss → (sent.vector ≡ x → sent.reduction ≡ r) → firsts es ≡ ss
+    → reduced_at r v h (cond (sent.vector == x) (each_given sent.number (d ∷ [])) []) ≡ reduced_at r v h (given_on x g (column d es))
+together_given r x d v h sent g ss es is own keys =
     joined_at r sent.reduction v h (each_given sent.number (d ∷ [])) (numbers_given is.number d ss) (sent.vector == x) (λ at. own (equal sent.vector x at)) (is.all d v h)
-    ∙ sym (ap (λ (gs : List (ℕ × ℤ)). reduced_at r v h gs) (given_by_column x sent.vector d sent.reduction is.number g is.each ss))
+    ∙ sym (ap (λ (gs : List (ℕ × ℤ)). reduced_at r v h gs) (given_by_column x sent.vector d sent.reduction is.number g is.each es
+    ∙ ap (λ (us : List ℕ). cond (sent.vector == x) (numbers_given is.number d us) []) keys))
 
 -- a column in two parts
-pub column_parts : (d k : ℕ) (ss : List ℕ) (es : List (ℕ × ℕ)) → (es ++ column d (take k ss)) ++ column d (drop k ss) ≡ es ++ column d ss
-column_parts d k ss es =
-    append_assoc es (column d (take k ss)) (column d (drop k ss))
-    ∙ ap (λ fs. es ++ fs) (sym (map-append (λ s. (s, d)) (take k ss) (drop k ss)) ∙ ap (column d) (take-append-drop k ss))
+pub column_parts : (d : ℕ) (first rest all : List (ℕ × ℤ)) (es : List Edge) → first ++ rest ≡ all → (es ++ column d first) ++ column d rest ≡ es ++ column d all
+column_parts d first rest all es whole =
+    append_assoc es (column d first) (column d rest)
+    ∙ ap (λ fs. es ++ fs) (sym (map-append (λ e. (e.0, d, e.1)) first rest) ∙ ap (column d) whole)
 
-pairs-column : (d : ℕ) (ss : List ℕ) → pairs ss (replicate (length ss) d) ≡ column d ss
-pairs-column d [] = refl
-pairs-column d (s ∷ ss) = ap (λ es. (s, d) ∷ es) (pairs-column d ss)
+pairs-column : (d : ℕ) (ss : List ℕ) (ws : List ℤ) → pairs ss (replicate (length ss) d) ws ≡ column d (entries_of ss ws)
+pairs-column d [] ws = refl
+pairs-column d (s ∷ ss) [] = ap (λ es. (s, d, unit_weight) ∷ es) (pairs-column d ss [])
+pairs-column d (s ∷ ss) (w ∷ ws) = ap (λ es. (s, d, w) ∷ es) (pairs-column d ss ws)
 
--- the first places of two lists after more were written after them
+-- the first places of lists after more were written after them
 pub waiting_into : (d n k : ℕ) (ss ts ys zs us : List ℕ) → n ≤ length ss → n ≤ length ts → length zs ≡ length us → zs ≡ replicate (length us) d → ys ≡ us
-    → pairs (take (n + length us) (put_mid n k ss ys)) (take (n + length us) (put_mid n k ts zs)) ≡ pairs (take n ss) (take n ts) ++ column d us
+    → pairs (take (n + length us) (put_mid n k ss ys)) (take (n + length us) (put_mid n k ts zs)) [] ≡ pairs (take n ss) (take n ts) [] ++ column d (entries_of us [])
 waiting_into d n k ss ts ys zs us l m long filled copied =
     let even : length ys ≡ length us = ap length copied in
     let sources = take-put_mid n k ss ys (n + length us) (omega (arith, even)) l ∙ ap (λ xs. take n ss ++ xs) copied in
     let destinations = take-put_mid n k ts zs (n + length us) (omega (arith, long)) m ∙ ap (λ xs. take n ts ++ xs) filled in
-    ap (λ xs. pairs xs (take (n + length us) (put_mid n k ts zs))) sources ∙ ap (λ xs. pairs (take n ss ++ us) xs) destinations
-    ∙ pairs-append (take n ss) (take n ts) us (replicate (length us) d) (length-take-le n ss l ∙ sym (length-take-le n ts m))
-    ∙ ap (λ es. pairs (take n ss) (take n ts) ++ es) (pairs-column d us)
+    ap (λ xs. pairs xs (take (n + length us) (put_mid n k ts zs)) []) sources ∙ ap (λ xs. pairs (take n ss ++ us) xs []) destinations
+    ∙ unit_pairs-append (take n ss) (take n ts) us (replicate (length us) d) (length-take-le n ss l ∙ sym (length-take-le n ts m))
+    ∙ ap (λ es. pairs (take n ss) (take n ts) [] ++ es) (pairs-column d us [])
+
+pub weighted_into : (d n k : ℕ) (ss ts ys zs us : List ℕ) (qs vs ws : List ℤ) → n ≤ length ss → n ≤ length ts → n ≤ length qs → length ws ≡ length us → length zs ≡ length us → zs ≡ replicate (length us) d → ys ≡ us → vs ≡ ws
+    → pairs (take (n + length us) (put_mid n k ss ys)) (take (n + length us) (put_mid n k ts zs)) (take (n + length us) (put_mid n k qs vs)) ≡ pairs (take n ss) (take n ts) (take n qs) ++ column d (entries_of us ws)
+weighted_into d n k ss ts ys zs us qs vs ws l m o same long filled copied weighed =
+    let even : length ys ≡ length us = ap length copied in
+    let level : length vs ≡ length us = ap length weighed ∙ same in
+    let sources = take-put_mid n k ss ys (n + length us) (omega (arith, even)) l ∙ ap (λ xs. take n ss ++ xs) copied in
+    let destinations = take-put_mid n k ts zs (n + length us) (omega (arith, long)) m ∙ ap (λ xs. take n ts ++ xs) filled in
+    let weights = take-put_mid n k qs vs (n + length us) (omega (arith, level)) o ∙ ap (λ xs. take n qs ++ xs) weighed in
+    let behind = replicate (length us) d in
+    ap (λ xs. pairs xs (take (n + length us) (put_mid n k ts zs)) (take (n + length us) (put_mid n k qs vs))) sources
+    ∙ ap (λ xs. pairs (take n ss ++ us) xs (take (n + length us) (put_mid n k qs vs))) destinations
+    ∙ ap (λ xs. pairs (take n ss ++ us) (take n ts ++ behind) xs) weights
+    ∙ pairs-append (take n ss) (take n ts) (take n qs) us behind ws (length-take-le n ss l ∙ sym (length-take-le n ts m)) (length-take-le n qs o ∙ sym (length-take-le n ts m))
+    ∙ ap (λ es. pairs (take n ss) (take n ts) (take n qs) ++ es) (pairs-column d us ws)

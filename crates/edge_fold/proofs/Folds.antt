@@ -1,6 +1,7 @@
 -- Reducing in parts, and in another order.
 use Rattle.std.proofs.Common.{◌≡◌, ℕ, ◌+◌, ◌==◌, ℤ, Bool, true, false, cond, List, [], ◌∷◌, ◌++◌, ◌<◌, length, drop, get_or, refl, sym, ap, ◌∙◌, append_assoc}
 use Rattle.std.proofs.lemmas.List.{drop_more}
+use Rattle.edge_lists.specs.Edge.{Edge}
 use Rattle.apply_options.specs.declared.reduction.Reduction.{Reduction}
 use Rattle.algorithm_meaning.specs.Arithmetic.{reduced}
 use Rattle.algorithm_meaning.proofs.Reductions.{reductions}
@@ -65,7 +66,7 @@ given_in_rounds r v x n a b i (d ∷ ds) =
     ∙ ap (λ (y : ℤ). reduced_at r v (reduced_at r v y B) more_b) (sym (reduced_at-append r v n A more_a))
     ∙ sym (reduced_at-append r v (reduced_at r v n (A ++ more_a)) B more_b)
 
-pub given_on-append : (x : ℕ) (gives : ℕ × ℕ → List (ℕ × Reduction × ℤ)) (es fs : List (ℕ × ℕ)) → given_on x gives (es ++ fs) ≡ given_on x gives es ++ given_on x gives fs
+pub given_on-append : (x : ℕ) (gives : Edge → List (ℕ × Reduction × ℤ)) (es fs : List Edge) → given_on x gives (es ++ fs) ≡ given_on x gives es ++ given_on x gives fs
 given_on-append x gives [] fs = refl
 given_on-append x gives (e ∷ es) fs =
     ap (λ (gs : List (ℕ × ℤ)). for_vector x e.1 (gives e) ++ gs) (given_on-append x gives es fs) ∙ sym (append_assoc (for_vector x e.1 (gives e)) (given_on x gives es) (given_on x gives fs))

@@ -1,6 +1,7 @@
 -- What was joined, one join after the other.
-use Rattle.std.proofs.Common.{◌≡◌, ℕ, ◌<◌, ◌≤◌, ◌==◌, ℤ, true, false, List, [], ◌++◌, length, get_or, set, take, refl, sym, ap, ◌∙◌, subst, arith}
+use Rattle.std.proofs.Common.{◌≡◌, ℕ, ◌<◌, ◌≤◌, ◌==◌, ℤ, Bool, true, false, List, [], ◌++◌, length, get_or, set, take, refl, sym, ap, ◌∙◌, subst, arith}
 use Rattle.std.proofs.lemmas.Bool.Decides.{nat_tests}
+use Rattle.edge_lists.specs.Edge.{Edge}
 use Rattle.apply_options.specs.declared.reduction.Reduction.{Reduction}
 use Rattle.algorithm_meaning.specs.Arithmetic.{reduced}
 use Rattle.algorithm_meaning.proofs.Reductions.{reductions}
@@ -92,7 +93,7 @@ joined_slot f x y p r before now after was t gs is place inside few slot vector 
     }
 
 -- edges that are joined at once, before those that wait, where what is joined comes to what they give
-pub folded_before_alike : (f : ApplyContext) (m : StateValue) (steps : List StepsTree) (es more : List (ℕ × ℕ)) (a b : Scratch) (x : ℕ) (r : Reduction) (gs : List (ℕ × ℤ)) → waiting b.pairs ≡ waiting a.pairs
+pub folded_before_alike : (f : ApplyContext) (m : StateValue) (steps : List StepsTree) (es more : List Edge) (a b : Scratch) (x : ℕ) (r : Reduction) (gs : List (ℕ × ℤ)) → waiting f.weighted b.pairs ≡ waiting f.weighted a.pairs
     → HaveJoined f x r a.slots b.slots gs → ((v : ℕ) (n : ℤ) → v < f.vertices → reduced_at r v n gs ≡ reduced_at r v n (given_on x (all_given m steps) more))
     → HasFoldedFor f m steps es a x r → HasFoldedFor f m steps (es ++ more) b x r
 folded_before_alike f m steps es more a b x r gs same joined alike has = record {
@@ -100,27 +101,28 @@ folded_before_alike f m steps es more a b x r gs same joined alike has = record 
       let g = all_given m steps in
       let o = first_entry f x v h in
       let n = held_in_with (combined f.start r) (active a.slots) x v o in
-      ap (λ (ws : List (ℕ × ℕ)). reduced_at r v (held_in_with (combined f.start r) (active b.slots) x v o) (given_on x g ws)) same
-      ∙ ap (λ (y : ℤ). reduced_at r v y (given_on x g (waiting a.pairs))) (joined.entries v h ∙ alike v n l)
-      ∙ fold_before r v x n o g (waiting a.pairs) es more (has.entries v h l);
+      ap (λ (ws : List Edge). reduced_at r v (held_in_with (combined f.start r) (active b.slots) x v o) (given_on x g ws)) same
+      ∙ ap (λ (y : ℤ). reduced_at r v y (given_on x g (waiting f.weighted a.pairs))) (joined.entries v h ∙ alike v n l)
+      ∙ fold_before r v x n o g (waiting f.weighted a.pairs) es more (has.entries v h l);
   reduction = joined.reduction has.reduction;
 }
 
-pub folded_before : (f : ApplyContext) (m : StateValue) (steps : List StepsTree) (es more : List (ℕ × ℕ)) (a b : Scratch) (x : ℕ) (r : Reduction) → waiting b.pairs ≡ waiting a.pairs
+pub folded_before : (f : ApplyContext) (m : StateValue) (steps : List StepsTree) (es more : List Edge) (a b : Scratch) (x : ℕ) (r : Reduction) → waiting f.weighted b.pairs ≡ waiting f.weighted a.pairs
     → HaveJoined f x r a.slots b.slots (given_on x (all_given m steps) more) → HasFoldedFor f m steps es a x r → HasFoldedFor f m steps (es ++ more) b x r
 folded_before f m steps es more a b x r same joined has = folded_before_alike f m steps es more a b x r (given_on x (all_given m steps) more) same joined (λ v n l. refl) has
 
 -- edges that wait
-pub folded_later : (f : ApplyContext) (m : StateValue) (steps : List StepsTree) (es more : List (ℕ × ℕ)) (a b : Scratch) (x : ℕ) (r : Reduction) → b.slots ≡ a.slots → waiting b.pairs ≡ waiting a.pairs ++ more
+pub folded_later : (f : ApplyContext) (m : StateValue) (steps : List StepsTree) (es more : List Edge) (a b : Scratch) (x : ℕ) (r : Reduction) (w : Bool) → f.weighted ≡ w → b.slots ≡ a.slots → waiting w b.pairs ≡ waiting w a.pairs ++ more
     → HasFoldedFor f m steps es a x r → HasFoldedFor f m steps (es ++ more) b x r
-folded_later f m steps es more a b x r same waits has = record {
+folded_later f m steps es more a b x r w counts same waits has = record {
   entries = λ v h l.
       let g = all_given m steps in
       let o = first_entry f x v h in
       let n = λ (s : VectorAccumulators). held_in_with (combined f.start r) (active s) x v o in
-      ap (λ (s : VectorAccumulators). reduced_at r v (n s) (given_on x g (waiting b.pairs))) same
-      ∙ ap (λ (ws : List (ℕ × ℕ)). reduced_at r v (n a.slots) (given_on x g ws)) waits
-      ∙ fold_more r v x (n a.slots) o g (waiting a.pairs) es more (has.entries v h l);
+      let at = subst (λ (k : Bool). waiting k b.pairs ≡ waiting k a.pairs ++ more) (sym counts) waits in
+      ap (λ (s : VectorAccumulators). reduced_at r v (n s) (given_on x g (waiting f.weighted b.pairs))) same
+      ∙ ap (λ (ws : List Edge). reduced_at r v (n a.slots) (given_on x g ws)) at
+      ∙ fold_more r v x (n a.slots) o g (waiting f.weighted a.pairs) es more (has.entries v h l);
   reduction = ap (λ (s : VectorAccumulators). reduction_in (active s) x r) same ∙ has.reduction;
 }
 

@@ -4,6 +4,8 @@ pub mod Folds
 pub mod Rows
 pub mod SlotRows
 pub mod JoinedSlots
+pub mod WeightColumns
+pub mod EntryRows
 pub mod Edges
 pub mod Columns
 pub mod Findings

@@ -4,19 +4,19 @@ use Rattle.std.proofs.lemmas.Bool.Decides.{nat_tests}
 use Rattle.std.proofs.lemmas.Bool.{false≢true}
 use Rattle.std.proofs.lemmas.List.Elements.{All-head, All-tail}
 use Rattle.std.specs.List.{All, filter}
-use Rattle.edge_lists.specs.Edge.{unit_edge, unit_edges}
+use Rattle.edge_lists.specs.Edge.{Edge}
 use Rattle.apply_options.specs.declared.reduction.Reduction.{Reduction}
 use Rattle.typed_tree.specs.StepTree.{StepsTree}
 use Rattle.algorithm_meaning.specs.declared.contribution.Contribution.{Contribution}
 use Rattle.algorithm_meaning.specs.Arithmetic.{reduced}
-use Rattle.algorithm_meaning.specs.EdgeApply.{all_give, gives}
+use Rattle.algorithm_meaning.specs.EdgeApply.{after_edges, all_give, gives}
 use Rattle.algorithm_meaning.specs.Laws.{IsGivenBy, given_to, reduced_all, for_vector as for_one}
 use Rattle.algorithm_meaning.specs.State.{StateValue}
 use Rattle.algorithm_meaning.specs.Value.{entry}
 use Rattle.algorithm_meaning.proofs.EdgeApplies.{entry_after_edges}
 use Rattle.algorithm_meaning.proofs.Reductions.{reduced_all-append}
 use Rattle.kernels.specs.FunctionCode.{each}
-use Rattle.edge_fold.specs.Given.{IsBy, IsReducedBy, after_ends, all_given, for_vector, given_on, reduced_at}
+use Rattle.edge_fold.specs.Given.{IsBy, IsReducedBy, all_given, for_vector, given_on, reduced_at}
 use Rattle.edge_fold.proofs.Folds.{reduced_at-append}
 
 same : (m n : ℕ) → (m == n) ≡ true → m ≡ n
@@ -29,11 +29,11 @@ each-append : (a b : List Contribution) → each (a ++ b) triple ≡ each a trip
 each-append [] b = refl
 each-append (c ∷ cs) b = ap (λ (gs : List (ℕ × Reduction × ℤ)). triple c ∷ gs) (each-append cs b)
 
-all_given_is : (m : StateValue) (steps : List StepsTree) (e : ℕ × ℕ) → all_given m steps e ≡ each (all_give steps m.sets m.vectors (unit_edge e)) triple
+all_given_is : (m : StateValue) (steps : List StepsTree) (e : Edge) → all_given m steps e ≡ each (all_give steps m.sets m.vectors e) triple
 all_given_is m [] e = refl
 all_given_is m (s ∷ ss) e =
-    ap (λ (gs : List (ℕ × Reduction × ℤ)). each (gives s m.sets m.vectors (unit_edge e)) triple ++ gs) (all_given_is m ss e)
-    ∙ sym (each-append (gives s m.sets m.vectors (unit_edge e)) (all_give ss m.sets m.vectors (unit_edge e)))
+    ap (λ (gs : List (ℕ × Reduction × ℤ)). each (gives s m.sets m.vectors e) triple ++ gs) (all_given_is m ss e)
+    ∙ sym (each-append (gives s m.sets m.vectors e) (all_give ss m.sets m.vectors e))
 
 -- by one reduction
 equal_test : (m n : ℕ) → m ≡ n → (m == n) ≡ true
@@ -52,7 +52,7 @@ is_by r x [] all = tt
 is_by r x (c ∷ cs) all = (by_head r x c (for_one x cs) (c.vector == x) refl all, is_by r x cs (by_tail r c (for_one x cs) (c.vector == x) all))
 
 pub given_by_one : (r : Reduction) (x : ℕ) (m : StateValue) (steps : List StepsTree) → IsGivenBy r x steps m.sets m.vectors → IsReducedBy r x m steps
-given_by_one r x m steps by e = subst (λ (gs : List (ℕ × Reduction × ℤ)). IsBy r x gs) (sym (all_given_is m steps e)) (is_by r x (all_give steps m.sets m.vectors (unit_edge e)) (by (unit_edge e)))
+given_by_one r x m steps by e = subst (λ (gs : List (ℕ × Reduction × ℤ)). IsBy r x gs) (sym (all_given_is m steps e)) (is_by r x (all_give steps m.sets m.vectors e) (by e))
 
 -- what one edge gives a vertex
 one_number : (r : Reduction) (v d : ℕ) (n : ℤ) (c : Contribution) (cs : List Contribution) (gs : List (ℕ × ℤ)) (p q : Bool) → (d == v) ≡ q
@@ -79,17 +79,17 @@ edge_numbers r x v d n (c ∷ cs) all =
     (λ k. edge_numbers r x v d k cs (by_tail r c (for_one x cs) (c.vector == x) all))
 
 -- what edges give a vertex
-edges_numbers : (r : Reduction) (x v : ℕ) (m : StateValue) (steps : List StepsTree) → IsGivenBy r x steps m.sets m.vectors → (n : ℤ) (es : List (ℕ × ℕ))
-    → reduced_all n (given_to x v steps m.sets m.vectors (unit_edges es)) ≡ reduced_at r v n (given_on x (all_given m steps) es)
+edges_numbers : (r : Reduction) (x v : ℕ) (m : StateValue) (steps : List StepsTree) → IsGivenBy r x steps m.sets m.vectors → (n : ℤ) (es : List Edge)
+    → reduced_all n (given_to x v steps m.sets m.vectors es) ≡ reduced_at r v n (given_on x (all_given m steps) es)
 edges_numbers r x v m steps by n [] = refl
 edges_numbers r x v m steps by n (e ∷ es) =
-    let cs = all_give steps m.sets m.vectors (unit_edge e) in
+    let cs = all_give steps m.sets m.vectors e in
     let here = cond (e.1 == v) (for_one x cs) [] in
-    let more = given_to x v steps m.sets m.vectors (unit_edges es) in
+    let more = given_to x v steps m.sets m.vectors es in
     let g = all_given m steps in
     reduced_all-append n here more
     ∙ edges_numbers r x v m steps by (reduced_all n here) es
-    ∙ ap (λ (k : ℤ). reduced_at r v k (given_on x g es)) (edge_numbers r x v e.1 n cs (by (unit_edge e)) ∙ ap (λ (gs : List (ℕ × Reduction × ℤ)). reduced_at r v n (for_vector x e.1 gs)) (sym (all_given_is m steps e)))
+    ∙ ap (λ (k : ℤ). reduced_at r v k (given_on x g es)) (edge_numbers r x v e.1 n cs (by e) ∙ ap (λ (gs : List (ℕ × Reduction × ℤ)). reduced_at r v n (for_vector x e.1 gs)) (sym (all_given_is m steps e)))
     ∙ sym (reduced_at-append r v n (for_vector x e.1 (g e)) (given_on x g es))
 
 -- the edges to another vertex do not matter
@@ -103,7 +103,7 @@ elsewhere r x v d n [] off = refl
 elsewhere r x v d n (g ∷ gs) off = elsewhere_at r x v d n g gs (g.0 == x) off (λ k. elsewhere r x v d k gs off)
 
 -- an edge whose destination passes, or not
-filtered_edge : (r : Reduction) (x v : ℕ) (n : ℤ) (test : ℕ → Bool) (g : ℕ × ℕ → List (ℕ × Reduction × ℤ)) (e : ℕ × ℕ) (es : List (ℕ × ℕ)) (p q : Bool) → test e.1 ≡ p → (e.1 == v) ≡ q
+filtered_edge : (r : Reduction) (x v : ℕ) (n : ℤ) (test : ℕ → Bool) (g : Edge → List (ℕ × Reduction × ℤ)) (e : Edge) (es : List Edge) (p q : Bool) → test e.1 ≡ p → (e.1 == v) ≡ q
     → ((k : ℤ) → reduced_at r v k (given_on x g (filter (λ e. test e.1) es)) ≡ cond (test v) (reduced_at r v k (given_on x g es)) k)
     → reduced_at r v n (given_on x g (cond p (e ∷ filter (λ e. test e.1) es) (filter (λ e. test e.1) es))) ≡ cond (test v) (reduced_at r v n (for_vector x e.1 (g e) ++ given_on x g es)) n
 filtered_edge r x v n test g e es true true is at more =
@@ -133,18 +133,18 @@ either_way : (b : Bool) (n : ℤ) → cond b n n ≡ n
 either_way true n = refl
 either_way false n = refl
 
-pub filtered_edges : (r : Reduction) (x v : ℕ) (n : ℤ) (test : ℕ → Bool) (g : ℕ × ℕ → List (ℕ × Reduction × ℤ)) (es : List (ℕ × ℕ))
+pub filtered_edges : (r : Reduction) (x v : ℕ) (n : ℤ) (test : ℕ → Bool) (g : Edge → List (ℕ × Reduction × ℤ)) (es : List Edge)
     → reduced_at r v n (given_on x g (filter (λ e. test e.1) es)) ≡ cond (test v) (reduced_at r v n (given_on x g es)) n
 filtered_edges r x v n test g [] = sym (either_way (test v) n)
 filtered_edges r x v n test g (e ∷ es) = filtered_edge r x v n test g e es (test e.1) (e.1 == v) refl refl (λ k. filtered_edges r x v k test g es)
 
 -- the entries after an apply of these edges, where those to vertices that do not pass are left out
-pub entries_after : (r : Reduction) (x v : ℕ) (m : StateValue) (steps : List StepsTree) (test : ℕ → Bool) (es : List (ℕ × ℕ)) → IsGivenBy r x steps m.sets m.vectors
+pub entries_after : (r : Reduction) (x v : ℕ) (m : StateValue) (steps : List StepsTree) (test : ℕ → Bool) (es : List Edge) → IsGivenBy r x steps m.sets m.vectors
     → v < length (slice_index_or m.vectors x [])
     → cond (test v) (reduced_at r v (entry m.vectors x v) (given_on x (all_given m steps) es)) (entry m.vectors x v)
-    ≡ entry (after_ends steps m.sets m.vectors (filter (λ e. test e.1) es) m.vectors) x v
+    ≡ entry (after_edges steps m.sets m.vectors (filter (λ e. test e.1) es) m.vectors) x v
 entries_after r x v m steps test es by inside =
-    let kept = filter (λ (e : ℕ × ℕ). test e.1) es in
+    let kept = filter (λ (e : Edge). test e.1) es in
     sym (filtered_edges r x v (entry m.vectors x v) test (all_given m steps) es)
     ∙ sym (edges_numbers r x v m steps by (entry m.vectors x v) kept)
-    ∙ sym (entry_after_edges steps m.sets m.vectors (unit_edges kept) m.vectors x v inside)
+    ∙ sym (entry_after_edges steps m.sets m.vectors kept m.vectors x v inside)

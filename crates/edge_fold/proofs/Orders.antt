@@ -1,7 +1,8 @@
 -- Edges may come in any order.
-use Rattle.std.proofs.Common.{◌≡◌, ℕ, ℤ, List, [], ◌∷◌, refl, sym, ap, ◌∙◌}
+use Rattle.std.proofs.Common.{◌≡◌, ℕ, ℤ, List, [], ◌∷◌, ◌++◌, refl, sym, ap, ◌∙◌}
 use Rattle.std.specs.List.{flat_map, fold}
 use Rattle.std.specs.List.Sorted.{IsPermutation}
+use Rattle.edge_lists.specs.Edge.{Edge}
 use Rattle.apply_options.specs.declared.reduction.Reduction.{Reduction}
 use Rattle.typed_tree.specs.StepTree.{StepsTree}
 use Rattle.algorithm_meaning.specs.State.{StateValue}
@@ -14,15 +15,23 @@ use Rattle.edge_fold.specs.FoldStarts.{first_entry}
 use Rattle.edge_fold.proofs.Folds.{given_on-append, reduced_at-append, reduced_at-swap}
 
 -- edges that give vertices the same
-pub folded_alike : (f : ApplyContext) (m : StateValue) (steps : List StepsTree) (es fs : List (ℕ × ℕ)) (s : Scratch)
+pub folded_alike : (f : ApplyContext) (m : StateValue) (steps : List StepsTree) (es fs : List Edge) (s : Scratch)
     → ((x v : ℕ) (r : Reduction) (n : ℤ) → reduced_at r v n (given_on x (all_given m steps) es) ≡ reduced_at r v n (given_on x (all_given m steps) fs))
     → HasFolded f m steps es s → HasFolded f m steps fs s
 folded_alike f m steps es fs s alike has x r by =
     let was = has x r by in
     record { entries = λ v h l. was.entries v h l ∙ alike x v r (first_entry f x v h); reduction = was.reduction }
 
+-- the same of edges that come last
+pub folded_more_alike : (f : ApplyContext) (m : StateValue) (steps : List StepsTree) (es more other : List Edge) (s : Scratch)
+    → ((x : ℕ) → given_on x (all_given m steps) more ≡ given_on x (all_given m steps) other) → HasFolded f m steps (es ++ more) s → HasFolded f m steps (es ++ other) s
+folded_more_alike f m steps es more other s alike =
+    let g = all_given m steps in
+    folded_alike f m steps (es ++ more) (es ++ other) s
+    (λ x v r n. ap (λ (gs : List (ℕ × ℤ)). reduced_at r v n gs) (given_on-append x g es more ∙ ap (λ (gs : List (ℕ × ℤ)). given_on x g es ++ gs) (alike x) ∙ sym (given_on-append x g es other)))
+
 -- groups of edges, one after the other
-module _ {K : Type 0} (r : Reduction) (x v : ℕ) (g : ℕ × ℕ → List (ℕ × Reduction × ℤ)) (edges_of : K → List (ℕ × ℕ)) where
+module _ {K : Type 0} (r : Reduction) (x v : ℕ) (g : Edge → List (ℕ × Reduction × ℤ)) (edges_of : K → List Edge) where
   group : ℤ → K → ℤ
   group n k = reduced_at r v n (given_on x g (edges_of k))
 
@@ -42,21 +51,21 @@ module _ {K : Type 0} (r : Reduction) (x v : ℕ) (g : ℕ × ℕ → List (ℕ 
       → reduced_at r v n (given_on x g (flat_map edges_of ks)) ≡ reduced_at r v n (given_on x g (flat_map edges_of ls))
   groups_in_any_order ks ls same n = group_by_group ks n ∙ fold-permutation K ℤ group groups_swap n ks ls same ∙ sym (group_by_group ls n)
 
-pub folded_in_any_order : {K : Type 0} (f : ApplyContext) (m : StateValue) (steps : List StepsTree) (edges_of : K → List (ℕ × ℕ)) (ks ls : List K) (s : Scratch) → IsPermutation ks ls
+pub folded_in_any_order : {K : Type 0} (f : ApplyContext) (m : StateValue) (steps : List StepsTree) (edges_of : K → List Edge) (ks ls : List K) (s : Scratch) → IsPermutation ks ls
     → HasFolded f m steps (flat_map edges_of ks) s → HasFolded f m steps (flat_map edges_of ls) s
 folded_in_any_order f m steps edges_of ks ls s same =
     folded_alike f m steps (flat_map edges_of ks) (flat_map edges_of ls) s (λ x v r n. groups_in_any_order r x v (all_given m steps) edges_of ks ls same n)
 
 -- edge by edge
-one_by_one : (es : List (ℕ × ℕ)) → flat_map (λ e. e ∷ []) es ≡ es
+one_by_one : (es : List Edge) → flat_map (λ e. e ∷ []) es ≡ es
 one_by_one [] = refl
 one_by_one (e ∷ es) = ap (λ fs. e ∷ fs) (one_by_one es)
 
-pub edges_in_any_order : (f : ApplyContext) (m : StateValue) (steps : List StepsTree) (es fs : List (ℕ × ℕ)) (s : Scratch) → IsPermutation es fs → HasFolded f m steps es s → HasFolded f m steps fs s
+pub edges_in_any_order : (f : ApplyContext) (m : StateValue) (steps : List StepsTree) (es fs : List Edge) (s : Scratch) → IsPermutation es fs → HasFolded f m steps es s → HasFolded f m steps fs s
 edges_in_any_order f m steps es fs s same has =
     folded_alike f m steps es fs s
     (λ x v r n.
     let g = all_given m steps in
-    let given = λ (ds : List (ℕ × ℕ)). reduced_at r v n (given_on x g ds) in
+    let given = λ (ds : List Edge). reduced_at r v n (given_on x g ds) in
     ap given (sym (one_by_one es)) ∙ groups_in_any_order r x v g (λ e. e ∷ []) es fs same n ∙ ap given (one_by_one fs))
     has

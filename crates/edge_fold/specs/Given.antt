@@ -1,11 +1,9 @@
 -- What edge functions give vertices, and entries reduced with it.
 use Rattle.std.specs.Prelude.{◌≡◌, ℕ, ◌+◌, ℤ, ◌==◌, if◌then◌else◌, List, [], ◌∷◌, ◌++◌, map}
-use Rattle.edge_lists.specs.Edge.{unit_edge, unit_edges}
+use Rattle.edge_lists.specs.Edge.{Edge, unit_weight}
 use Rattle.apply_options.specs.declared.reduction.Reduction.{Reduction}
 use Rattle.typed_tree.specs.StepTree.{StepsTree}
-use Rattle.algorithm_meaning.specs.declared.state.SetBinding.{SetBinding}
 use Rattle.algorithm_meaning.specs.Arithmetic.{reduced}
-use Rattle.algorithm_meaning.specs.EdgeApply.{after_edges}
 use Rattle.algorithm_meaning.specs.State.{StateValue}
 use Rattle.kernels.specs.Meaning.{given_in}
 
@@ -25,7 +23,7 @@ given_from x gives i [] = []
 given_from x gives i (d ∷ ds) = for_vector x d (gives i) ++ given_from x gives (i + 1) ds
 
 -- what is given for a vector on these edges
-abbrev pub given_on : (vector : ℕ) → (ℕ × ℕ → List (ℕ × Reduction × ℤ)) → List (ℕ × ℕ) → List (ℕ × ℤ)
+abbrev pub given_on : (vector : ℕ) → (Edge → List (ℕ × Reduction × ℤ)) → List Edge → List (ℕ × ℤ)
 given_on x gives [] = []
 given_on x gives (edge ∷ edges) = for_vector x edge.1 (gives edge) ++ given_on x gives edges
 
@@ -34,26 +32,24 @@ abbrev pub each_given : ℤ → List ℕ → List (ℕ × ℤ)
 each_given n [] = []
 each_given n (d ∷ ds) = (d, n) ∷ each_given n ds
 
--- the edges from a source to these destinations
-abbrev pub row : ℕ → List ℕ → List (ℕ × ℕ)
-row source destinations = map (λ d. (source, d)) destinations
+-- the edges from a source to neighbours; an entry is a neighbour and a weight
+abbrev pub row : ℕ → List (ℕ × ℤ) → List Edge
+row source entries = map (λ e. (source, e.0, e.1)) entries
 
--- the edges from these sources to a destination
-abbrev pub column : ℕ → List ℕ → List (ℕ × ℕ)
-column destination sources = map (λ s. (s, destination)) sources
+-- the edges from neighbours to a destination
+abbrev pub column : ℕ → List (ℕ × ℤ) → List Edge
+column destination entries = map (λ e. (e.0, destination, e.1)) entries
 
--- what a function gives on the edge between two ends, over the vectors of a state
-abbrev pub given_between : StateValue → StepsTree → ℕ × ℕ → List (ℕ × Reduction × ℤ)
-given_between m steps ends = given_in m steps (unit_edge ends)
-
--- the vectors after the edges between these ends; the functions read the vectors before the apply
-abbrev pub after_ends : List StepsTree → List SetBinding → (before : List (List ℤ)) → List (ℕ × ℕ) → List (List ℤ) → List (List ℤ)
-after_ends steps sets before ends vectors = after_edges steps sets before (unit_edges ends) vectors
+-- the entries of neighbours with the weights of the first of them; that of each other one is 1
+abbrev pub entries_of : (neighbours : List ℕ) → (weights : List ℤ) → List (ℕ × ℤ)
+entries_of [] ws = []
+entries_of (k ∷ ks) [] = (k, unit_weight) ∷ entries_of ks []
+entries_of (k ∷ ks) (w ∷ ws) = (k, w) ∷ entries_of ks ws
 
 -- what several functions give on an edge, over the vectors of a state
-abbrev pub all_given : StateValue → List StepsTree → ℕ × ℕ → List (ℕ × Reduction × ℤ)
+abbrev pub all_given : StateValue → List StepsTree → Edge → List (ℕ × Reduction × ℤ)
 all_given m [] edge = []
-all_given m (steps ∷ more) edge = given_between m steps edge ++ all_given m more edge
+all_given m (steps ∷ more) edge = given_in m steps edge ++ all_given m more edge
 
 -- what is given for the vector is given by this reduction
 abbrev pub IsBy : Reduction → (vector : ℕ) → List (ℕ × Reduction × ℤ) → Type 0
@@ -62,10 +58,11 @@ IsBy r x (g ∷ gs) = (g.0 ≡ x → g.1 ≡ r) × IsBy r x gs
 
 -- so it is on every edge
 abbrev pub IsReducedBy : Reduction → (vector : ℕ) → StateValue → List StepsTree → Type 0
-IsReducedBy r x m steps = (edge : ℕ × ℕ) → IsBy r x (all_given m steps edge)
+IsReducedBy r x m steps = (edge : Edge) → IsBy r x (all_given m steps edge)
 
--- pairs of sources and destinations
-abbrev pub pairs : (sources destinations : List ℕ) → List (ℕ × ℕ)
-pairs [] ds = []
-pairs (s ∷ ss) [] = []
-pairs (s ∷ ss) (d ∷ ds) = (s, d) ∷ pairs ss ds
+-- the edges from sources to destinations, pair by pair, with the weights of the first of them; that of each other one is 1
+abbrev pub pairs : (sources destinations : List ℕ) → (weights : List ℤ) → List Edge
+pairs [] ds ws = []
+pairs (s ∷ ss) [] ws = []
+pairs (s ∷ ss) (d ∷ ds) [] = (s, d, unit_weight) ∷ pairs ss ds []
+pairs (s ∷ ss) (d ∷ ds) (w ∷ ws) = (s, d, w) ∷ pairs ss ds ws

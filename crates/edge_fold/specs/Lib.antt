@@ -8,3 +8,4 @@ pub mod Folded
 pub mod Gathered
 pub mod Ends
 pub mod ReducedContributions
+pub mod EntryNumbers

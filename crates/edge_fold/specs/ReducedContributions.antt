@@ -1,5 +1,6 @@
 -- What several sources give a destination.
 use Rattle.std.specs.Prelude.{◌≡◌, ℕ, ℤ, List, [], ◌∷◌}
+use Rattle.edge_lists.specs.Edge.{Edge}
 use Rattle.apply_options.specs.declared.reduction.Reduction.{Reduction}
 use Rattle.algorithm_meaning.specs.Arithmetic.{reduced}
 use Rattle.edge_fold.specs.declared.apply_context.SourceContribution.{SourceContribution}
@@ -20,7 +21,7 @@ abbrev pub IsReducedTo : Reduction → (number : ℕ → ℤ) → List ℕ → �
 IsReducedTo r number ss n = (d v : ℕ) (h : ℤ) → reduced_at r v h ((d, n) ∷ []) ≡ reduced_at r v h (numbers_given number d ss)
 
 -- each edge gives the number of its source, and what is sent comes to those of these sources
-pub record IsReducedContribution (sent : SourceContribution) (gives : ℕ × ℕ → List (ℕ × Reduction × ℤ)) (ss : List ℕ) : Type 0 where
+pub record IsReducedContribution (sent : SourceContribution) (gives : Edge → List (ℕ × Reduction × ℤ)) (ss : List ℕ) : Type 0 where
   pub number : ℕ → ℤ
-  pub each : (s d : ℕ) → gives (s, d) ≡ (sent.vector, sent.reduction, number s) ∷ []
+  pub each : (s d : ℕ) (w : ℤ) → gives (s, d, w) ≡ (sent.vector, sent.reduction, number s) ∷ []
   pub all : IsReducedTo sent.reduction number ss sent.number

@@ -2,6 +2,7 @@
 ghost use Rattle.std.specs.Prelude.{◌≡◌, ℕ, ℤ, ◌==◌, ◌<◌, ◌≤◌, Contains, ◌++◌, Bool, if◌then◌else◌, List, [], length, slice_index_or, IfOk, OnOk};
 ghost use Rattle.std.specs.List.{filter};
 ghost use Rattle.std.specs.List.Sorted.{IsNonDecreasing};
+ghost use Rattle.edge_lists.specs.Edge.{Edge};
 ghost use Rattle.apply_options.specs.declared.reduction.Reduction.{Reduction};
 ghost use Rattle.typed_tree.specs.StepTree.{StepsTree};
 ghost use Rattle.algorithm_meaning.specs.Laws.{IsGivenBy};
@@ -16,7 +17,7 @@ ghost use Rattle.edge_fold.specs.Ends.{IsEndTest, IsTest};
 ghost use Rattle.edge_fold.specs.Folded.{IsContextOf, HasFolded};
 ghost use Rattle.edge_fold.specs.Held.{AreMarked, held, held_with};
 ghost use Rattle.edge_fold.specs.VectorAccumulators.{active, held_in};
-ghost use Rattle.edge_fold.specs.Given.{after_ends};
+ghost use Rattle.algorithm_meaning.specs.EdgeApply.{after_edges};
 
 use crate::apply_context::ApplyContext;
 use crate::passing::keep_passing;
@@ -37,10 +38,10 @@ impl Scratch {
         to: Option<EndpointFilter<'_>>,
     ) -> Result<Changes, AllocError>
         ensures once { IfOk result (λ c. AreApart c.vectors.items) }
-        ensures changes { IfOk result (λ c. (m : StateValue) (steps : List StepsTree) (edges : List (ℕ × ℕ)) (test : ℕ → Bool) → IsContextOf context.entry m steps → IsEndTest to.entry m test
+        ensures changes { IfOk result (λ c. (m : StateValue) (steps : List StepsTree) (edges : List Edge) (test : ℕ → Bool) → IsContextOf context.entry m steps → IsEndTest to.entry m test
             → HasFolded context.entry m steps edges self.old → context.entry.start ≡ OldEntry → (x : ℕ) (r : Reduction) → IsGivenBy r x steps m.sets m.vectors → context.entry.vertices ≤ length (slice_index_or m.vectors x [])
             → changes_of x c.vectors.items ≡ changed context.entry.vertices (entry m.vectors x)
-            (entry (after_ends steps m.sets m.vectors (filter (λ e. test e.1) edges) m.vectors) x)) }
+            (entry (after_edges steps m.sets m.vectors (filter (λ e. test e.1) edges) m.vectors) x)) }
     {
         self.flush(alloc, context)?;
         let changes = found_in_slots(alloc, context, to, &self.slots, &mut self.block)?;
@@ -58,7 +59,7 @@ impl Scratch {
     ) -> Result<(), AllocError>
         ensures kept { OnOk result ((m : StateValue) (test : ℕ → Bool) → context.entry.vectors.now.vectors ≡ m.vectors → HasSizes context.entry.sizes.now m → IsTest end.entry m test
             → kept.new.items ≡ kept.old.items ++ filter test vertices.now) }
-        ensures folded { (f : ApplyContext) (m : StateValue) (steps : List StepsTree) (edges : List (ℕ × ℕ)) → HasFolded f m steps edges self.old → HasFolded f m steps edges self.new }
+        ensures folded { (f : ApplyContext) (m : StateValue) (steps : List StepsTree) (edges : List Edge) → HasFolded f m steps edges self.old → HasFolded f m steps edges self.new }
     {
         keep_passing(context, end, vertices, &mut self.block, kept)?;
         Ok(())

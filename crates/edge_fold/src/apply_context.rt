@@ -1,5 +1,9 @@
 //! Apply context: the functions of an edge apply, and what they read.
-ghost use Rattle.std.specs.Prelude.{◌≡◌, ℕ, ℤ};
+ghost use Rattle.std.specs.Prelude.{◌≡◌, ℕ, ℤ, List, false};
+ghost use Rattle.typed_tree.specs.StepTree.{StepsTree};
+ghost use Rattle.algorithm_meaning.specs.State.{StateValue};
+ghost use Rattle.kernels.specs.Cells.{HasSizes};
+ghost use Rattle.edge_fold.specs.Folded.{AreKernels, AreWeightless, are_weighted};
 ghost use Rattle.edge_fold.specs.FoldStarts.{first_entry, opening_seed, start_of};
 
 use crate::initial_entries::InitialEntries;
@@ -17,11 +21,13 @@ pub enum FoldStart {
 }
 
 /// One edge function, or two that are applied together, and what they read: the vectors, the sizes of the vertex sets
-/// by their places, and how many vertices there are. `start` says what new entries begin with.
+/// by their places, and how many vertices there are. `start` says what new entries begin with, and `weighted` whether
+/// the weights of edges count, as [`reads_weights`] tells.
 #[derive(Clone, Copy)]
 pub struct ApplyContext<'a> {
     pub first: &'a EdgeKernel,
     pub second: Option<&'a EdgeKernel>,
+    pub weighted: bool,
     pub vectors: &'a Vectors,
     pub sizes: &'a [i64],
     pub vertices: u32,
@@ -39,6 +45,18 @@ impl<'a> ApplyContext<'a> {
             FoldStart::OldEntry => InitialEntries::Entries(self.vectors.lane(vector)),
             FoldStart::Unit => InitialEntries::Unit,
         }
+    }
+}
+
+/// Whether one of the functions of an apply reads the weights of edges. What functions that do not give on an edge is the
+/// same with any weight.
+pub fn reads_weights(first: &EdgeKernel, second: Option<&EdgeKernel>) -> bool
+    ensures told { result ≡ are_weighted first.now second.entry }
+    ensures weightless { result ≡ false → (m : StateValue) (sizes : List ℤ) (steps : List StepsTree) → HasSizes sizes m → AreKernels first.now second.entry steps → AreWeightless m steps }
+{
+    match second {
+        None => first.reads_weight(),
+        Some(second) => first.reads_weight() || second.reads_weight(),
     }
 }
 

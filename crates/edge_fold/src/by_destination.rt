@@ -1,16 +1,19 @@
 //! Folding by destination: edges to one destination.
-ghost use Rattle.std.specs.Prelude.{◌≤◌, ◌++◌, ℕ, List, length, OnOk};
+ghost use Rattle.std.specs.Prelude.{◌≡◌, ◌≤◌, ◌++◌, ℕ, ℤ, false, List, [], length, OnOk};
 ghost use Rattle.typed_tree.specs.StepTree.{StepsTree};
 ghost use Rattle.algorithm_meaning.specs.State.{StateValue};
 ghost use Rattle.edge_fold.specs.Folded.{IsContextOf, HasFolded};
-ghost use Rattle.edge_fold.specs.Given.{column};
+ghost use Rattle.edge_lists.specs.Edge.{Edge};
+ghost use Rattle.edge_fold.specs.Between.{firsts};
+ghost use Rattle.edge_fold.specs.Given.{column, entries_of};
 
 use crate::apply_context::ApplyContext;
 use crate::scratch::Scratch;
 use std::alloc::{AllocError, Global};
 
 impl Scratch {
-    /// Folds the edges from sources, at most 128, to a destination. The only error is out of memory.
+    /// Folds the edges from sources, at most 128, to a destination, with any weights, where no function reads weights. The
+    /// only error is out of memory.
     pub fn fold_into(
         &mut self,
         alloc: Global,
@@ -18,9 +21,10 @@ impl Scratch {
         sources: &[u32],
         destination: u32,
     ) -> Result<(), AllocError>
-        requires { length sources.now ≤ 128 }
-        ensures { OnOk result ((m : StateValue) (steps : List StepsTree) (edges : List (ℕ × ℕ)) → IsContextOf context.entry m steps
-            → HasFolded context.entry m steps edges self.old → HasFolded context.entry m steps (edges ++ column destination sources.now) self.new) }
+        requires few { length sources.now ≤ 128 }
+        requires unweighted { context.weighted ≡ false }
+        ensures { OnOk result ((m : StateValue) (steps : List StepsTree) (edges : List Edge) (entries : List (ℕ × ℤ)) → firsts entries ≡ sources.now → IsContextOf context.entry m steps
+            → HasFolded context.entry m steps edges self.old → HasFolded context.entry m steps (edges ++ column destination entries) self.new) }
     {
         if let Some(sent) = context.reduced_contribution(sources) {
             self.slots
@@ -38,9 +42,10 @@ impl Scratch {
         sources: &[u32],
         destination: u32,
     ) -> Result<(), AllocError>
-        requires { length sources.now ≤ 128 }
-        ensures { OnOk result ((m : StateValue) (steps : List StepsTree) (edges : List (ℕ × ℕ)) → IsContextOf context.entry m steps
-            → HasFolded context.entry m steps edges self.old → HasFolded context.entry m steps (edges ++ column destination sources.now) self.new) }
+        requires few { length sources.now ≤ 128 }
+        requires unweighted { context.weighted ≡ false }
+        ensures { OnOk result ((m : StateValue) (steps : List StepsTree) (edges : List Edge) → IsContextOf context.entry m steps
+            → HasFolded context.entry m steps edges self.old → HasFolded context.entry m steps (edges ++ column destination (entries_of sources.now [])) self.new) }
     {
         let room = self.pairs.room();
         if sources.len() <= room {

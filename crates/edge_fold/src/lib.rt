@@ -5,6 +5,11 @@
 //! destinations, and [`Scratch::fold_into`] a destination with up to 128 of its sources. [`Scratch::changes`] says at the
 //! end what has changed, for each vector once, by ascending vertices.
 //!
+//! Where a function reads weights ([`reads_weights`] tells), an engine lends them too, to [`Scratch::fold_weighted`] and
+//! [`Scratch::fold_into_weighted`]. Where none does, what is given is the same with any weight: no weight is lent, kept or
+//! read, and what is promised holds for edges with any weights.
+//! [`reduce_entries`] reduces to one number what sources give by an entry of theirs and a weight ([`EntryWith`]).
+//!
 //! A worker that does a piece of an apply lets new entries begin with the unit of the reduction ([`FoldStart`]).
 //! [`Scratch::gathered`] then says what its edges give, as numbers for vertices, and [`Scratch::join_gathered`] joins that
 //! to the entries of the whole, piece by piece in any order. [`Gathered::between`] cuts out what goes to a range of vertices,
@@ -37,6 +42,7 @@ mod apply_context;
 mod by_destination;
 mod changes;
 mod compared;
+mod entry_numbers;
 mod gathered;
 mod gathered_ranges;
 mod initial_entries;
@@ -51,11 +57,13 @@ mod source_contributions;
 mod source_numbers;
 mod vector_accumulator;
 mod vector_accumulators;
+mod weighted;
 
 pub use apply_changes::has_vector;
-pub use apply_context::{ApplyContext, FoldStart};
+pub use apply_context::{ApplyContext, FoldStart, reads_weights};
 pub use changes::push_change;
 pub use compared::compared_set;
+pub use entry_numbers::{EntryWith, reduce_entries};
 pub use gathered::{Gathered, GatheredIn};
 pub use scratch::Scratch;
 pub use source_numbers::{

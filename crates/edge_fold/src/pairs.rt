@@ -1,18 +1,31 @@
 //! Waiting pairs: edges that wait for a run of the kernels.
-ghost use Rattle.std.specs.Prelude.{◌≡◌, ℕ, ◌+◌, ◌<◌, ◌≤◌, ◌++◌, length};
+ghost use Rattle.std.specs.Prelude.{◌≡◌, ℕ, ◌+◌, ◌<◌, ◌≤◌, ◌++◌, [], false, if◌then◌else◌, length, take};
 
-/// Pairs of a source and a destination that wait for the kernels: the first ones, as many as there are.
+/// Pairs of a source and a destination that wait for the kernels, each with a weight: the first ones, as many as there
+/// are. The weights are written only where they count.
 #[derive(Drop)]
 pub(crate) struct Pairs {
     pub(crate) sources: [u32; 128],
     pub(crate) destinations: [u32; 128],
+    pub(crate) weights: [i64; 128],
     pub(crate) count: usize,
     ghost few: { count ≤ 128 },
 }
 
+/// Columns of pairs, at most 128, with the weights of the first of them; that of each other one is 1.
+#[derive(Clone, Copy)]
+pub(crate) struct PairColumns<'a> {
+    pub(crate) sources: &'a [u32],
+    pub(crate) destinations: &'a [u32],
+    pub(crate) weights: &'a [i64],
+    ghost few: { length sources.now ≤ 128 },
+    ghost same: { length destinations.now ≡ length sources.now },
+    ghost weighted: { length weights.now ≤ 128 },
+}
+
 impl Pairs {
-    ghost use Rattle.edge_fold.specs.Folded.{waiting};
-    ghost use Rattle.edge_fold.specs.Given.{column, row};
+    ghost use Rattle.edge_fold.specs.Folded.{edges_in, waiting};
+    ghost use Rattle.edge_fold.specs.Given.{column, entries_of, row};
 
     /// None.
     pub(crate) fn new() -> Pairs
@@ -21,6 +34,7 @@ impl Pairs {
         Pairs {
             sources: [0; 128],
             destinations: [0; 128],
+            weights: [0; 128],
             count: 0,
         }
     }
@@ -32,10 +46,33 @@ impl Pairs {
         128 - self.count
     }
 
-    /// Adds the edges from a source to destinations.
+    /// Those that wait, with their weights where these count.
+    pub(crate) fn columns(&self, weighted: bool) -> PairColumns<'_>
+        ensures { edges_in result ≡ waiting weighted self.now }
+    {
+        PairColumns {
+            sources: &self.sources[..self.count],
+            destinations: &self.destinations[..self.count],
+            weights: self.counting(weighted),
+        }
+    }
+
+    /// The weights of those that wait, where weights count.
+    fn counting(&self, weighted: bool) -> &[i64]
+        ensures weights { result.now ≡ (if weighted then take self.now.count self.now.weights else []) }
+        ensures few { length result.now ≤ 128 }
+    {
+        if weighted {
+            &self.weights[..self.count]
+        } else {
+            &[]
+        }
+    }
+
+    /// Adds the edges from a source to destinations, where no weight counts.
     pub(crate) fn add(&mut self, source: u32, destinations: &[u32])
         requires { self.old.count + length destinations.now ≤ 128 }
-        ensures waiting { waiting self.new ≡ waiting self.old ++ row source destinations.now }
+        ensures waiting { waiting false self.new ≡ waiting false self.old ++ row source (entries_of destinations.now []) }
         ensures count { self.new.count ≡ self.old.count + length destinations.now }
     {
         let end = self.count + destinations.len();
@@ -44,10 +81,10 @@ impl Pairs {
         self.count = end;
     }
 
-    /// Adds the edges from sources to a destination.
+    /// Adds the edges from sources to a destination, where no weight counts.
     pub(crate) fn add_into(&mut self, sources: &[u32], destination: u32)
         requires { self.old.count + length sources.now ≤ 128 }
-        ensures waiting { waiting self.new ≡ waiting self.old ++ column destination sources.now }
+        ensures waiting { waiting false self.new ≡ waiting false self.old ++ column destination (entries_of sources.now []) }
         ensures count { self.new.count ≡ self.old.count + length sources.now }
     {
         let end = self.count + sources.len();

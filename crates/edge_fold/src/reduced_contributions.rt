@@ -5,7 +5,8 @@ ghost use Rattle.algorithm_meaning.specs.State.{StateValue};
 ghost use Rattle.kernels.specs.Cells.{HasSizes};
 ghost use Rattle.kernels.specs.Kernels.{IsEdgeKernel};
 ghost use Rattle.edge_fold.specs.Folded.{IsContextOf};
-ghost use Rattle.edge_fold.specs.Given.{all_given, given_between};
+ghost use Rattle.kernels.specs.Meaning.{given_in};
+ghost use Rattle.edge_fold.specs.Given.{all_given};
 ghost use Rattle.edge_fold.specs.ReducedContributions.{IsReducedContribution};
 
 use crate::apply_context::{ApplyContext, SourceContribution};
@@ -29,7 +30,7 @@ impl ApplyContext<'_> {
     #[inline]
     fn together_by_first(self, sources: &[u32]) -> Option<SourceContribution>
         ensures { IfSome result (λ s. (m : StateValue) (steps : StepsTree) → self.entry.vectors.now.vectors ≡ m.vectors → HasSizes self.entry.sizes.now m
-            → IsEdgeKernel self.entry.first.now steps → IsReducedContribution s (given_between m steps) sources.now) }
+            → IsEdgeKernel self.entry.first.now steps → IsReducedContribution s (given_in m steps) sources.now) }
     {
         match self.first.shape() {
             Shape::Other => None,

@@ -1,5 +1,5 @@
 //! Scratch: the memory that a run keeps for its applies.
-ghost use Rattle.std.specs.Prelude.{◌≡◌, ℕ, ◌<◌, ◌≤◌, ◌++◌, List, [], length, IfSome, OnOk};
+ghost use Rattle.std.specs.Prelude.{◌≡◌, ℕ, ℤ, false, ◌<◌, ◌≤◌, ◌++◌, List, [], length, IfSome, OnOk};
 
 use crate::apply_context::ApplyContext;
 use crate::pairs::Pairs;
@@ -30,7 +30,9 @@ impl Scratch {
     ghost use Rattle.algorithm_meaning.specs.State.{StateValue};
     ghost use Rattle.edge_fold.specs.declared.apply_context.ApplyContext.{ApplyContext};
     ghost use Rattle.edge_fold.specs.Folded.{IsContextOf, HasFolded};
-    ghost use Rattle.edge_fold.specs.Given.{row};
+    ghost use Rattle.edge_lists.specs.Edge.{Edge};
+    ghost use Rattle.edge_fold.specs.Between.{firsts};
+    ghost use Rattle.edge_fold.specs.Given.{entries_of, row};
 
     /// Memory for applies, of which none is taken yet.
     pub fn new(alloc: Global) -> Scratch
@@ -51,7 +53,8 @@ impl Scratch {
         self.pairs.count = 0;
     }
 
-    /// Folds the edges from a source to destinations, at most 128. The only error is out of memory.
+    /// Folds the edges from a source to destinations, at most 128, with any weights, where no function reads weights. The
+    /// only error is out of memory.
     pub fn fold(
         &mut self,
         alloc: Global,
@@ -59,9 +62,10 @@ impl Scratch {
         source: u32,
         destinations: &[u32],
     ) -> Result<(), AllocError>
-        requires { length destinations.now ≤ 128 }
-        ensures { OnOk result ((m : StateValue) (steps : List StepsTree) (edges : List (ℕ × ℕ)) → IsContextOf context.entry m steps
-            → HasFolded context.entry m steps edges self.old → HasFolded context.entry m steps (edges ++ row source destinations.now) self.new) }
+        requires few { length destinations.now ≤ 128 }
+        requires unweighted { context.weighted ≡ false }
+        ensures { OnOk result ((m : StateValue) (steps : List StepsTree) (edges : List Edge) (entries : List (ℕ × ℤ)) → firsts entries ≡ destinations.now → IsContextOf context.entry m steps
+            → HasFolded context.entry m steps edges self.old → HasFolded context.entry m steps (edges ++ row source entries) self.new) }
     {
         if let Some(sent) = context.sent(source) {
             self.slots.join_number(alloc, context, sent, destinations)?;
@@ -78,9 +82,10 @@ impl Scratch {
         source: u32,
         destinations: &[u32],
     ) -> Result<(), AllocError>
-        requires { length destinations.now ≤ 128 }
-        ensures { OnOk result ((m : StateValue) (steps : List StepsTree) (edges : List (ℕ × ℕ)) → IsContextOf context.entry m steps
-            → HasFolded context.entry m steps edges self.old → HasFolded context.entry m steps (edges ++ row source destinations.now) self.new) }
+        requires few { length destinations.now ≤ 128 }
+        requires unweighted { context.weighted ≡ false }
+        ensures { OnOk result ((m : StateValue) (steps : List StepsTree) (edges : List Edge) → IsContextOf context.entry m steps
+            → HasFolded context.entry m steps edges self.old → HasFolded context.entry m steps (edges ++ row source (entries_of destinations.now [])) self.new) }
     {
         let room = self.pairs.room();
         if destinations.len() <= room {
@@ -96,21 +101,12 @@ impl Scratch {
 
     /// Lets the kernels run over the pairs that wait. The only error is out of memory.
     pub fn flush(&mut self, alloc: Global, context: ApplyContext<'_>) -> Result<(), AllocError>
-        ensures folded { OnOk result ((m : StateValue) (steps : List StepsTree) (edges : List (ℕ × ℕ)) → IsContextOf context.entry m steps
+        ensures folded { OnOk result ((m : StateValue) (steps : List StepsTree) (edges : List Edge) → IsContextOf context.entry m steps
             → HasFolded context.entry m steps edges self.old → HasFolded context.entry m steps edges self.new) }
         ensures none { OnOk result (self.new.pairs.count ≡ 0) }
     {
-        let pairs = &self.pairs;
-        let sources = &pairs.sources[..pairs.count];
-        let destinations = &pairs.destinations[..pairs.count];
-        run_functions(
-            alloc,
-            context,
-            sources,
-            destinations,
-            &mut self.block,
-            &mut self.slots,
-        )?;
+        let columns = self.pairs.columns(context.weighted);
+        run_functions(alloc, context, columns, &mut self.block, &mut self.slots)?;
         self.pairs.count = 0;
         Ok(())
     }

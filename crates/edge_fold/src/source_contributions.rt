@@ -1,11 +1,12 @@
 //! What an edge function gives, where it depends on the source alone.
-ghost use Rattle.std.specs.Prelude.{◌≡◌, ℕ, ◌∷◌, [], List, IfSome};
+ghost use Rattle.std.specs.Prelude.{◌≡◌, ℕ, ℤ, ◌∷◌, [], List, IfSome};
 ghost use Rattle.typed_tree.specs.StepTree.{StepsTree};
 ghost use Rattle.algorithm_meaning.specs.State.{StateValue};
 ghost use Rattle.kernels.specs.Cells.{HasSizes};
 ghost use Rattle.kernels.specs.Kernels.{IsEdgeKernel};
 ghost use Rattle.edge_fold.specs.Folded.{IsContextOf};
-ghost use Rattle.edge_fold.specs.Given.{all_given, given_between};
+ghost use Rattle.kernels.specs.Meaning.{given_in};
+ghost use Rattle.edge_fold.specs.Given.{all_given};
 
 use crate::apply_context::{ApplyContext, SourceContribution};
 use algorithm_meaning::arithmetic_of;
@@ -17,7 +18,7 @@ impl ApplyContext<'_> {
     #[inline]
     pub(crate) fn sent(self, source: u32) -> Option<SourceContribution>
         ensures { IfSome result (λ s. (m : StateValue) (steps : List StepsTree) → IsContextOf self.entry m steps
-            → (d : ℕ) → all_given m steps (source, d) ≡ (s.vector, s.reduction, s.number) ∷ []) }
+            → (d : ℕ) (w : ℤ) → all_given m steps (source, d, w) ≡ (s.vector, s.reduction, s.number) ∷ []) }
     {
         if self.second.is_some() {
             return None;
@@ -29,7 +30,7 @@ impl ApplyContext<'_> {
     #[inline]
     fn sent_by_first(self, source: u32) -> Option<SourceContribution>
         ensures { IfSome result (λ s. (m : StateValue) (steps : StepsTree) → self.entry.vectors.now.vectors ≡ m.vectors → HasSizes self.entry.sizes.now m
-            → IsEdgeKernel self.entry.first.now steps → (d : ℕ) → given_between m steps (source, d) ≡ (s.vector, s.reduction, s.number) ∷ []) }
+            → IsEdgeKernel self.entry.first.now steps → (d : ℕ) (w : ℤ) → given_in m steps (source, d, w) ≡ (s.vector, s.reduction, s.number) ∷ []) }
     {
         match self.first.shape() {
             Shape::Other => None,

@@ -1,12 +1,8 @@
 -- Ascending lists and their elements.
 use Rattle.std.proofs.Common.{◌≡◌, ◌≢◌, ℕ, zero, suc, ◌+◌, ◌^◌, ◌<◌, ◌≤◌, true, false, inl, inr, List, [], ◌∷◌, length, get_or, refl, arith}
 use Rattle.std.proofs.lemmas.Bool.{cases_eq, cases_lt, eq-eqb, ne_eqb}
-use Rattle.pages.specs.Lists.{AscendsFrom, has}
-
--- a list that ascends from a number ascends from a smaller one
-pub ascends_from : (low high : ℕ) (xs : List ℕ) → low ≤ high → AscendsFrom high xs → AscendsFrom low xs
-ascends_from low high [] le s = tt
-ascends_from low high (x ∷ xs) le s = (omega (arith, s.0), s.1, s.2)
+use Rattle.ascending_lists.specs.Ascending.{AscendsFrom}
+use Rattle.ascending_lists.specs.Sets.{has}
 
 -- the element at an index is below 2 ^ 32, and no lower than what the list ascends from
 pub small_at : (low : ℕ) (xs : List ℕ) → AscendsFrom low xs → (i : ℕ) → i < length xs → get_or xs i 0 < 2 ^ 32
@@ -19,14 +15,7 @@ low_at low [] s i lt = absurd (omega arith)
 low_at low (x ∷ xs) s zero lt = s.0
 low_at low (x ∷ xs) s (suc i) lt = omega (arith, s.0, low_at (x + 1) xs s.2 i (omega arith))
 
--- elements stand in the order of their indices
-pub rises : (low : ℕ) (xs : List ℕ) → AscendsFrom low xs → (i j : ℕ) → i ≤ j → j < length xs → get_or xs i 0 ≤ get_or xs j 0
-rises low [] s i j le lt = absurd (omega arith)
-rises low (x ∷ xs) s zero zero le lt = omega arith
-rises low (x ∷ xs) s zero (suc j) le lt = omega (arith, low_at (x + 1) xs s.2 j (omega arith))
-rises low (x ∷ xs) s (suc i) zero le lt = absurd (omega arith)
-rises low (x ∷ xs) s (suc i) (suc j) le lt = rises (x + 1) xs s.2 i j (omega arith) (omega arith)
-
+-- elements at different indices stand in their order
 pub rises_strictly : (low : ℕ) (xs : List ℕ) → AscendsFrom low xs → (i j : ℕ) → i < j → j < length xs → get_or xs i 0 < get_or xs j 0
 rises_strictly low [] s i j le lt = absurd (omega arith)
 rises_strictly low (x ∷ xs) s i zero le lt = absurd (omega arith)

@@ -1,47 +1,48 @@
 -- Pages that are built up vertex by vertex.
-use Rattle.std.proofs.Common.{◌≡◌, ◌≢◌, ℕ, zero, suc, ◌+◌, ◌-◌, ◌<◌, ◌≤◌, ◌⊎◌, inl, inr, List, [], ◌∷◌, ◌++◌, length, get_or, take, drop, slice_range, refl, sym, ◌∙◌, ap, subst, arith, add-one, append_assoc, get_or-drop, length-drop}
+use Rattle.std.proofs.Common.{◌≡◌, ◌≢◌, ℕ, zero, suc, ◌+◌, ◌-◌, ◌<◌, ◌≤◌, ◌⊎◌, inl, inr, List, [], ◌∷◌, ◌++◌, length, get_or, take, drop, slice_range, refl, sym, ◌∙◌, ap, subst, arith, add-one, append_assoc, get_or-drop, length-drop, ℤ}
 use Rattle.std.proofs.lemmas.Bool.{cases_lt, cases_eq, ne_eqb, eq-eqb}
 use Rattle.std.proofs.lemmas.List.{append-nil, take_all, take_more}
-use Rattle.pages.specs.Vertices.{Rises, neighbours_of, count_below, IsPacked, ArePacked}
+use Rattle.ascending_lists.specs.Maps.{Rises}
+use Rattle.pages.specs.Vertices.{neighbours_of, count_below, IsPacked, ArePacked}
 use Rattle.pages.specs.inside.Built.{entry_of, built}
-use Rattle.pages.proofs.Order.{rises_room, rises_append}
+use Rattle.ascending_lists.proofs.MapOrder.{rises_room, rises_append}
 use Rattle.pages.proofs.Ranks.{none_below, below_here, below_not, below_first, below_end}
 
-pub rises_entry : (u : ℕ) (xs : List ℕ) → Rises u (u + 1) (entry_of u xs)
+pub rises_entry : (u : ℕ) (xs : List (ℕ × ℤ)) → Rises u (u + 1) (entry_of u xs)
 rises_entry u [] = omega arith
 rises_entry u (x ∷ xs) = (omega arith, omega arith)
 
 -- the vertices rise
-pub rises_built : (f : ℕ → List ℕ) (n : ℕ) → Rises 0 n (built f n)
+pub rises_built : (f : ℕ → List (ℕ × ℤ)) (n : ℕ) → Rises 0 n (built f n)
 rises_built f zero = omega arith
 rises_built f (suc u) =
     let up : Rises 0 (u + 1) (built f u ++ entry_of u (f u)) = rises_append 0 u (u + 1) (built f u) (entry_of u (f u)) (rises_built f u) (rises_entry u (f u)) in
     subst (λ n. Rises 0 n (built f u ++ entry_of u (f u))) (add-one u) up
 
 -- the list of a vertex in vertices of which it is among the second ones, or not among them
-pub of_right : (u a n : ℕ) (l r : List (ℕ × List ℕ)) → Rises a n l → n ≤ u → neighbours_of u (l ++ r) ≡ neighbours_of u r
+pub of_right : (u a n : ℕ) (l r : List (ℕ × List (ℕ × ℤ))) → Rises a n l → n ≤ u → neighbours_of u (l ++ r) ≡ neighbours_of u r
 of_right u a n [] r s le = refl
 of_right u a n (e ∷ l) r s le =
     let other : e.0 ≢ u = omega (arith, rises_room (e.0 + 1) n l s.1) in
     rw (ne_eqb e.0 u other) (of_right u (e.0 + 1) n l r s.1 le)
 
-pub of_left : (u : ℕ) (l r : List (ℕ × List ℕ)) → neighbours_of u r ≡ [] → neighbours_of u (l ++ r) ≡ neighbours_of u l
+pub of_left : (u : ℕ) (l r : List (ℕ × List (ℕ × ℤ))) → neighbours_of u r ≡ [] → neighbours_of u (l ++ r) ≡ neighbours_of u l
 of_left u [] r none = none
 of_left u (e ∷ l) r none = elim (cases_eq e.0 u) [
   | inl at ↦ rw (eq-eqb e.0 u at) refl
   | inr other ↦ rw (ne_eqb e.0 u other) (of_left u l r none)
 ]
 
-pub entry_self : (u : ℕ) (xs : List ℕ) → neighbours_of u (entry_of u xs) ≡ xs
+pub entry_self : (u : ℕ) (xs : List (ℕ × ℤ)) → neighbours_of u (entry_of u xs) ≡ xs
 entry_self u [] = refl
 entry_self u (x ∷ xs) = rw (eq-eqb u u refl) refl
 
-pub entry_other : (u v : ℕ) (xs : List ℕ) → v ≢ u → neighbours_of u (entry_of v xs) ≡ []
+pub entry_other : (u v : ℕ) (xs : List (ℕ × ℤ)) → v ≢ u → neighbours_of u (entry_of v xs) ≡ []
 entry_other u v [] other = refl
 entry_other u v (x ∷ xs) other = rw (ne_eqb v u other) refl
 
 -- each vertex has the list that the function gives
-pub neighbours_built : (f : ℕ → List ℕ) (u n : ℕ) → u < n → neighbours_of u (built f n) ≡ f u
+pub neighbours_built : (f : ℕ → List (ℕ × ℤ)) (u n : ℕ) → u < n → neighbours_of u (built f n) ≡ f u
 neighbours_built f u zero lt = absurd (omega arith)
 neighbours_built f u (suc m) lt = elim (cases_eq u m) [
   | inl at ↦ of_right u 0 m (built f m) (entry_of m (f m)) (rises_built f m) (omega arith) ∙ ap (λ v. neighbours_of v (entry_of m (f m))) at ∙ entry_self m (f m) ∙ ap f (sym at)
@@ -49,7 +50,7 @@ neighbours_built f u (suc m) lt = elim (cases_eq u m) [
 ]
 
 -- how many vertices are below one, and below a greater one
-pub below_up : (u v : ℕ) (es : List (ℕ × List ℕ)) → u ≤ v → count_below u es ≤ count_below v es
+pub below_up : (u v : ℕ) (es : List (ℕ × List (ℕ × ℤ))) → u ≤ v → count_below u es ≤ count_below v es
 below_up u v [] le = omega arith
 below_up u v (e ∷ es) le = elim (cases_lt e.0 u) [
   | inl lt ↦ omega (arith, below_here u e es lt, below_here v e es (omega arith), below_up u v es le)
@@ -59,7 +60,7 @@ below_up u v (e ∷ es) le = elim (cases_lt e.0 u) [
   ]
 ]
 
-pub below_all : (u : ℕ) (es : List (ℕ × List ℕ)) → count_below u es ≤ length es
+pub below_all : (u : ℕ) (es : List (ℕ × List (ℕ × ℤ))) → count_below u es ≤ length es
 below_all u [] = omega arith
 below_all u (e ∷ es) = elim (cases_lt e.0 u) [
   | inl lt ↦ omega (arith, below_here u e es lt, below_all u es)
@@ -67,16 +68,16 @@ below_all u (e ∷ es) = elim (cases_lt e.0 u) [
 ]
 
 -- A vertex is not there, or it stands with its list at the index of how many are below it.
-pub record IsAbsent (u : ℕ) (es : List (ℕ × List ℕ)) : Type 0 where
+pub record IsAbsent (u : ℕ) (es : List (ℕ × List (ℕ × ℤ))) : Type 0 where
   pub same : count_below (u + 1) es ≡ count_below u es
   pub none : neighbours_of u es ≡ []
 
-pub record IsPresent (u : ℕ) (es : List (ℕ × List ℕ)) : Type 0 where
+pub record IsPresent (u : ℕ) (es : List (ℕ × List (ℕ × ℤ))) : Type 0 where
   pub more : count_below (u + 1) es ≡ count_below u es + 1
   pub within : count_below u es < length es
   pub at : get_or es (count_below u es) (0, []) ≡ (u, neighbours_of u es)
 
-pub there_or_not : (u a h : ℕ) (es : List (ℕ × List ℕ)) → Rises a h es → IsAbsent u es ⊎ IsPresent u es
+pub there_or_not : (u a h : ℕ) (es : List (ℕ × List (ℕ × ℤ))) → Rises a h es → IsAbsent u es ⊎ IsPresent u es
 there_or_not u a h [] s = inl (record { same = refl; none = refl })
 there_or_not u a h (e ∷ es) s = elim (cases_lt e.0 u) [
   | inl lt ↦
@@ -109,29 +110,29 @@ there_or_not u a h (e ∷ es) s = elim (cases_lt e.0 u) [
 ]
 
 -- each vertex has a neighbour
-abbrev pub HaveNeighbours : List (ℕ × List ℕ) → Type 0
+abbrev pub HaveNeighbours : List (ℕ × List (ℕ × ℤ)) → Type 0
 HaveNeighbours es = (i : ℕ) → i < length es → 0 < length ((get_or es i (0, [])).1)
 
-packed_at : (es : List (ℕ × List ℕ)) (i : ℕ) → ArePacked es → i < length es → IsPacked ((get_or es i (0, [])).1)
+packed_at : (es : List (ℕ × List (ℕ × ℤ))) (i : ℕ) → ArePacked es → i < length es → IsPacked ((get_or es i (0, [])).1)
 packed_at [] i ok lt = absurd (omega arith)
 packed_at (e ∷ es) zero ok lt = ok.0
 packed_at (e ∷ es) (suc i) ok lt = packed_at es i ok.1 (omega arith)
 
-pub packed_some : (es : List (ℕ × List ℕ)) → ArePacked es → HaveNeighbours es
+pub packed_some : (es : List (ℕ × List (ℕ × ℤ))) → ArePacked es → HaveNeighbours es
 packed_some es ok i lt = (packed_at es i ok lt).some
 
-pub entry_some : (u : ℕ) (xs : List ℕ) → 0 < length xs → (u, xs) ∷ [] ≡ entry_of u xs
+pub entry_some : (u : ℕ) (xs : List (ℕ × ℤ)) → 0 < length xs → (u, xs) ∷ [] ≡ entry_of u xs
 entry_some u [] lt = absurd (omega arith)
 entry_some u (x ∷ xs) lt = refl
 
-slice_more : (es : List (ℕ × List ℕ)) (a c : ℕ) → a ≤ c → c < length es → slice_range es a (c + 1) ≡ slice_range es a c ++ get_or es c (0, []) ∷ []
+slice_more : (es : List (ℕ × List (ℕ × ℤ))) (a c : ℕ) → a ≤ c → c < length es → slice_range es a (c + 1) ≡ slice_range es a c ++ get_or es c (0, []) ∷ []
 slice_more es a c le lt =
     let gap : c + 1 - a ≡ c - a + 1 = omega arith in
     let back : a + (c - a) ≡ c = omega arith in
     ap (λ k. take k (drop a es)) gap ∙ take_more (drop a es) (c - a) (0, []) (omega (arith, length-drop a es))
     ∙ ap (λ e. take (c - a) (drop a es) ++ e ∷ []) (get_or-drop a es (c - a) (0, []) ∙ ap (λ k. get_or es k (0, [])) back)
 
-module _ (es : List (ℕ × List ℕ)) (map : Rises 0 64 es) (some_each : HaveNeighbours es) where
+module _ (es : List (ℕ × List (ℕ × ℤ))) (map : Rises 0 64 es) (some_each : HaveNeighbours es) where
   -- the vertices from one up to another, and the next one
   next_slice : (a u : ℕ) → a ≤ count_below u es → slice_range es a (count_below (u + 1) es) ≡ slice_range es a (count_below u es) ++ entry_of u (neighbours_of u es)
   next_slice a u le = elim (there_or_not u 0 64 es map) [
@@ -143,7 +144,7 @@ module _ (es : List (ℕ × List ℕ)) (map : Rises 0 64 es) (some_each : HaveNe
   ]
 
   -- a run that is carried over builds up what is between
-  pub carried : (f : ℕ → List ℕ) (low high : ℕ) → low ≤ high → ((u : ℕ) → low ≤ u → u < high → f u ≡ neighbours_of u es) → built f low ++ slice_range es (count_below low es) (count_below high es) ≡ built f high
+  pub carried : (f : ℕ → List (ℕ × ℤ)) (low high : ℕ) → low ≤ high → ((u : ℕ) → low ≤ u → u < high → f u ≡ neighbours_of u es) → built f low ++ slice_range es (count_below low es) (count_below high es) ≡ built f high
   carried f low zero le same =
       let zero_is : low ≡ 0 = omega arith in
       let none : count_below low es - count_below low es ≡ 0 = omega arith in
@@ -168,11 +169,11 @@ module _ (es : List (ℕ × List ℕ)) (map : Rises 0 64 es) (some_each : HaveNe
       nothing n = omega arith
 
 -- a list of vertices is built up from its look-ups, and so from any function that gives the same
-pub built_same : (f g : ℕ → List ℕ) (n : ℕ) → ((u : ℕ) → u < n → f u ≡ g u) → built f n ≡ built g n
+pub built_same : (f g : ℕ → List (ℕ × ℤ)) (n : ℕ) → ((u : ℕ) → u < n → f u ≡ g u) → built f n ≡ built g n
 built_same f g zero same = refl
 built_same f g (suc u) same = rw (built_same f g u (λ v lt. same v (omega arith)), same u (omega arith)) refl
 
-pub is_built : (n : ℕ) (es : List (ℕ × List ℕ)) → n ≡ 64 → Rises 0 64 es → HaveNeighbours es → es ≡ built (λ u. neighbours_of u es) n
+pub is_built : (n : ℕ) (es : List (ℕ × List (ℕ × ℤ))) → n ≡ 64 → Rises 0 64 es → HaveNeighbours es → es ≡ built (λ u. neighbours_of u es) n
 is_built n es is map some_each =
     let none : count_below 0 es ≡ 0 = below_first 0 0 64 es map (omega arith) in
     let all : count_below n es ≡ length es = below_end n 0 64 es map (omega arith) in
@@ -180,6 +181,6 @@ is_built n es is map some_each =
     let slice : slice_range es (count_below 0 es) (count_below n es) ≡ es = rw (none, all) (ap (λ k. take k es) whole ∙ take_all (length es) es (omega arith)) in
     sym slice ∙ carried es map some_each (λ u. neighbours_of u es) 0 n (omega arith) (λ u ge lt. refl)
 
-pub same_pages : (n : ℕ) (p q : List (ℕ × List ℕ)) → n ≡ 64 → Rises 0 64 p → ArePacked p → Rises 0 64 q → ArePacked q → ((u : ℕ) → u < 64 → neighbours_of u p ≡ neighbours_of u q) → p ≡ q
+pub same_pages : (n : ℕ) (p q : List (ℕ × List (ℕ × ℤ))) → n ≡ 64 → Rises 0 64 p → ArePacked p → Rises 0 64 q → ArePacked q → ((u : ℕ) → u < 64 → neighbours_of u p ≡ neighbours_of u q) → p ≡ q
 same_pages n p q is map packed map' packed' same =
     is_built n p is map (packed_some p packed) ∙ built_same (λ u. neighbours_of u p) (λ u. neighbours_of u q) n (λ u lt. same u (omega arith)) ∙ sym (is_built n q is map' (packed_some q packed'))

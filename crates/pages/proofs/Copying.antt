@@ -1,16 +1,14 @@
 -- Runs of entries whose bytes are copied behind others.
-use Rattle.std.proofs.Common.{◌≡◌, ℕ, zero, suc, ◌+◌, ◌-◌, ◌*◌, ◌%◌, ◌^◌, ◌<◌, ◌≤◌, bit_or, List, [], ◌∷◌, ◌++◌, length, get_or, take, drop, refl, sym, ◌∙◌, ap, subst, arith, append_assoc, length-append, length-drop}
+use Rattle.std.proofs.Common.{◌≡◌, ℕ, zero, suc, ◌+◌, ◌-◌, ◌*◌, ◌%◌, ◌^◌, ◌<◌, ◌≤◌, bit_or, List, [], ◌∷◌, ◌++◌, length, get_or, take, drop, refl, sym, ◌∙◌, ap, subst, arith, append_assoc, length-append, length-drop, ℤ}
 use Rattle.std.proofs.lemmas.List.{drop-take, drop-drop, drop_more, take_more, take-take, take-append-drop, take_at, drop_at, length-take, length-take-le}
 use Rattle.pages.specs.declared.entry.ListEntry.{ListEntry}
-use Rattle.pages.specs.Lists.{AscendsFrom}
-use Rattle.pages.specs.Vertices.{Rises}
-use Rattle.pages.specs.inside.Packed.{elements_in}
+use Rattle.ascending_lists.specs.Ascending.{AscendsFrom}
+use Rattle.ascending_lists.specs.Maps.{Rises}
 use Rattle.pages.specs.inside.Index.{IsIndex}
 use Rattle.pages.specs.inside.Entries.{size_of, list_at, lists_in, end_of, AreListed, placed_at}
-use Rattle.pages.proofs.Encoding.{same_front}
-use Rattle.pages.proofs.Order.{rises_back, rises_left, rises_room}
+use Rattle.ascending_lists.proofs.MapOrder.{rises_back, rises_left, rises_room}
 use Rattle.pages.proofs.Ranks.{index_push}
-use Rattle.pages.proofs.Extending.{end_from, end_append, listed_append, lists_append, lists_stay}
+use Rattle.pages.proofs.Extending.{end_from, end_append, listed_append, lists_append, lists_stay, same_keys, same_list}
 
 -- the next list fits where all that are left do
 pub next_fits : (place i : ℕ) (es : List ListEntry) (d : ListEntry) → i < length es → place + size_of (get_or es i d) ≤ end_of place (drop i es)
@@ -74,13 +72,14 @@ are_placed from to n bytes bytes' (e ∷ es) ok ends same room =
     let k : ℕ = n - s in
     let up : s + k ≡ n = omega arith in
     let here : take s (drop to bytes') ≡ take s (drop from bytes) = sym (take-take s n (drop to bytes') within) ∙ ap (take s) same ∙ take-take s n (drop from bytes) within in
-    let at : drop from bytes ≡ drop e.start bytes = ap (λ p. drop p bytes) (sym ok.0) in
-    let list : list_at bytes' (record { start = to; degree = e.degree; width = e.width; vertex = e.vertex }) ≡ list_at bytes e = same_front e.width e.degree s (drop to bytes') (drop from bytes) ok.1.some (omega arith) here ∙ ap (λ b. elements_in e.width e.degree b) at in
+    let moved : take s (drop to bytes') ≡ take s (drop e.start bytes) = here ∙ ap (λ p. take s (drop p bytes)) (sym ok.0) in
+    let e' : ListEntry = record { start = to; last = e.last; width = e.width; weights = e.weights; vertex = e.vertex } in
+    let list : list_at bytes' e' ≡ list_at bytes e = same_list bytes bytes' e e' refl refl refl moved in
     let rest : take k (drop (to + s) bytes') ≡ take k (drop (from + s) bytes) =
     ap (take k) (sym (drop-drop s to bytes')) ∙ sym (drop-take s k (drop to bytes')) ∙ ap (λ j. drop s (take j (drop to bytes'))) up ∙ ap (drop s) same
     ∙ sym (ap (λ j. drop s (take j (drop from bytes))) up) ∙ drop-take s k (drop from bytes) ∙ ap (take k) (drop-drop s from bytes) in
     let others = are_placed (from + s) (to + s) k bytes bytes' es ok.2 (omega (arith, ends)) rest (omega arith) in (
-      (refl, record { wide = ok.1.wide; width = ok.1.width; some = ok.1.some; few = ok.1.few; within = omega arith; ascends = subst (AscendsFrom 0) (sym list) ok.1.ascends }, others.0),
+      (refl, record { wide = ok.1.wide; width = ok.1.width; few = ok.1.few; within = omega arith; ascends = subst (AscendsFrom 0) (sym (same_keys bytes bytes' e e' refl refl moved)) ok.1.ascends }, others.0),
       rw (list, others.1) refl,
       omega (arith, others.2),
     )
@@ -106,12 +105,12 @@ module _ (es run : List ListEntry) (bytes from bytes' : List ℕ) (start stop : 
       )
 
 -- a mark more
-pub mark_more : (bits i : ℕ) (es : List (ℕ × List ℕ)) (bytes : List ℕ) (run : List ListEntry) (d : ListEntry) → i < length run → Rises 0 64 (es ++ lists_in bytes run) → IsIndex bits (es ++ lists_in bytes (take i run)) → IsIndex (bit_or bits (1 * 2 ^ ((get_or run i d).vertex % 64) % 2 ^ 64)) (es ++ lists_in bytes (take (i + 1) run))
+pub mark_more : (bits i : ℕ) (es : List (ℕ × List (ℕ × ℤ))) (bytes : List ℕ) (run : List ListEntry) (d : ListEntry) → i < length run → Rises 0 64 (es ++ lists_in bytes run) → IsIndex bits (es ++ lists_in bytes (take i run)) → IsIndex (bit_or bits (1 * 2 ^ ((get_or run i d).vertex % 64) % 2 ^ 64)) (es ++ lists_in bytes (take (i + 1) run))
 mark_more bits i es bytes run d lt rises ok =
     let e : ListEntry = get_or run i d in
-    let x : List ℕ = list_at bytes e in
-    let before : List (ℕ × List ℕ) = es ++ lists_in bytes (take i run) in
-    let after : List (ℕ × List ℕ) = lists_in bytes (drop (i + 1) run) in
+    let x : List (ℕ × ℤ) = list_at bytes e in
+    let before : List (ℕ × List (ℕ × ℤ)) = es ++ lists_in bytes (take i run) in
+    let after : List (ℕ × List (ℕ × ℤ)) = lists_in bytes (drop (i + 1) run) in
     let whole : run ≡ take i run ++ e ∷ drop (i + 1) run = sym (take-append-drop i run) ∙ ap (λ ys. take i run ++ ys) (drop_more run i d lt) in
     let all : es ++ lists_in bytes run ≡ before ++ (e.vertex, x) ∷ after = ap (λ r. es ++ lists_in bytes r) whole ∙ ap (λ ls. es ++ ls) (lists_append bytes (take i run) (e ∷ drop (i + 1) run)) ∙ sym (append_assoc es (lists_in bytes (take i run)) ((e.vertex, x) ∷ after)) in
     let up : Rises 0 64 (before ++ (e.vertex, x) ∷ after) = subst (Rises 0 64) all rises in

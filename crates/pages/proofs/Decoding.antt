@@ -1,11 +1,16 @@
 -- The elements of a packed list, by their indices.
-use Rattle.std.proofs.Common.{◌≡◌, ℕ, zero, suc, ◌+◌, ◌-◌, ◌*◌, ◌^◌, ◌<◌, ◌≤◌, List, length, get_or, take, drop, refl, sym, ◌∙◌, ap, subst, arith, add-one}
+use Rattle.std.proofs.Common.{◌≡◌, ℕ, zero, suc, ◌+◌, ◌-◌, ◌*◌, ◌^◌, ◌<◌, ◌≤◌, ℤ, pos, List, length, get_or, take, drop, refl, sym, ◌∙◌, ap, subst, arith, add-one}
 use Rattle.std.proofs.Math.Nat.{mul-le-mul_left}
-use Rattle.std.proofs.lemmas.List.{drop-drop}
-use Rattle.pages.specs.Lists.{AscendsFrom}
+use Rattle.std.specs.Map.{keys_of, values_of}
+use Rattle.std.proofs.lemmas.List.{drop-drop, get_or-map, length-map}
+use Rattle.ascending_lists.specs.Ascending.{AscendsFrom}
 use Rattle.pages.specs.inside.Numbers.{number_of, number_at}
-use Rattle.pages.specs.inside.Packed.{after_first, list_of, IsView}
+use Rattle.pages.specs.inside.Packed.{after_first, list_of, entries_of, IsView, IsWeightedView}
+use Rattle.edge_updates.proofs.Weighted.{things_of, length_weighted, weights_of}
+use Rattle.pages.specs.declared.weights.WeightWidth.{WeightWidth}
+use Rattle.pages.specs.inside.Weights.{weight_size, weight_in, weights_from}
 use Rattle.pages.proofs.Ascent.{small_at}
+use Rattle.pages.proofs.Weighing.{weights_length, weight_found, weights_part}
 
 after_length : (first w n : ℕ) (bytes : List ℕ) → length (after_first first w n bytes) ≡ n
 after_length first w zero bytes = refl
@@ -63,3 +68,43 @@ module _ (first w mask n : ℕ) (bytes xs : List ℕ) (ok : IsView first w mask 
 
   pub ascending : AscendsFrom 0 xs
   ascending = subst (AscendsFrom 0) is ok.ascends
+
+-- a list with its weights
+module _ (first w mask n : ℕ) (v : WeightWidth) (bytes : List ℕ) (es : List (ℕ × ℤ)) (ok : IsWeightedView first w mask n v bytes) (is : entries_of first w n v bytes ≡ es) where
+  -- its elements alone
+  pub keys_seen : list_of first w n bytes ≡ keys_of es
+  keys_seen = sym (things_of (list_of first w n bytes) (weights_from v n (drop (w * (n - 1)) bytes))) ∙ ap keys_of is
+
+  pub entry_count : length es ≡ n
+  entry_count = ap length (sym is) ∙ length_weighted (list_of first w n bytes) (weights_from v n (drop (w * (n - 1)) bytes)) ∙ list_length first w n bytes
+
+  -- its weights alone
+  pub weights_seen : weights_from v n (drop (w * (n - 1)) bytes) ≡ values_of es
+  weights_seen =
+      sym (weights_of (list_of first w n bytes) (weights_from v n (drop (w * (n - 1)) bytes)) (weights_length v n (drop (w * (n - 1)) bytes) ∙ sym (list_length first w n bytes)))
+      ∙ ap values_of is
+
+  -- so many of them from an index on may be read, and are what is there
+  pub weights_room : (from m : ℕ) → 0 < m → from + m ≤ length es → w * (n - 1) + weight_size v * from + weight_size v * m ≤ length bytes
+  weights_room from m some le =
+      let s : ℕ = weight_size v in
+      let sum : s * (from + m) ≡ s * from + s * m = omega arith in
+      let within : from + m ≤ n = omega (arith, entry_count, le) in
+      let below : s * (from + m) ≤ s * n = mul-le-mul_left s within in
+      omega (arith, sum, ok.weights (omega (arith, within, some)), below)
+
+  pub weights_are : (from m : ℕ) → from + m ≤ length es → weights_from v m (drop (w * (n - 1) + weight_size v * from) bytes) ≡ take m (drop from (values_of es))
+  weights_are from m le =
+      ap (weights_from v m) (sym (drop-drop (weight_size v * from) (w * (n - 1)) bytes))
+      ∙ sym (weights_part v n from m (drop (w * (n - 1)) bytes) (omega (arith, entry_count, le)))
+      ∙ ap (λ ws. take m (drop from ws)) weights_seen
+
+  pub weight_is : (k : ℕ) → k < length es → weight_in v (drop (w * (n - 1) + weight_size v * k) bytes) ≡ (get_or es k (0, pos 1)).1
+  weight_is k lt =
+      ap (weight_in v) (sym (drop-drop (weight_size v * k) (w * (n - 1)) bytes))
+      ∙ sym (weight_found v n k (drop (w * (n - 1)) bytes) (pos 1) (omega (arith, entry_count, lt)))
+      ∙ ap (λ ws. get_or ws k (pos 1)) weights_seen
+      ∙ get_or-map (λ e. e.1) es k (0, pos 1) (pos 1) lt
+
+pub keys_long : (es : List (ℕ × ℤ)) → length (keys_of es) ≡ length es
+keys_long es = length-map es (λ e. e.0)

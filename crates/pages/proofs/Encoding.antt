@@ -3,10 +3,11 @@ use Rattle.std.proofs.Common.{◌≡◌, ℕ, zero, suc, ◌+◌, ◌-◌, ◌*�
 use Rattle.std.specs.Int.{w32, to_le_bytes}
 use Rattle.std.proofs.lemmas.List.{drop-drop, drop-take, take-take, take_more, get_or-take}
 use native.Mathlib.Nat.{mod-eq_of_lt}
-use Rattle.pages.specs.Lists.{AscendsFrom}
+use Rattle.ascending_lists.specs.Ascending.{AscendsFrom}
 use Rattle.pages.specs.inside.Numbers.{number_of, number_at}
 use Rattle.pages.specs.inside.Packed.{after_first, list_of, elements_in, span_of}
-use Rattle.pages.proofs.Ascent.{rises, small_at}
+use Rattle.ascending_lists.proofs.Cutting.{rises}
+use Rattle.pages.proofs.Ascent.{small_at}
 use Rattle.pages.proofs.Masks.{number_cut}
 
 -- four bytes that a number is written in make the number

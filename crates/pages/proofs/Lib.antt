@@ -2,11 +2,11 @@ pub mod Masks
 pub mod Ascent
 pub mod Decoding
 pub mod Filling
-pub mod Order
 pub mod Bits
 pub mod Ranks
-pub mod Storing
 pub mod Encoding
+pub mod Weighing
+pub mod Storing
 pub mod Extending
 pub mod Copying
 pub mod Cuts

@@ -1,44 +1,49 @@
 -- Pages that are built from keys.
-use Rattle.std.proofs.Common.{◌≡◌, ◌≢◌, ℕ, zero, suc, ◌+◌, ◌*◌, ◌/◌, ◌%◌, ◌^◌, ◌<◌, ◌≤◌, inl, inr, List, [], ◌∷◌, ◌++◌, map, length, get_or, take, drop, refl, sym, ◌∙◌, ap, subst, arith, append_assoc}
+use Rattle.std.proofs.Common.{◌≡◌, ◌≢◌, ℕ, zero, suc, ◌+◌, ◌*◌, ◌/◌, ◌%◌, ◌^◌, ◌<◌, ◌≤◌, inl, inr, List, [], ◌∷◌, ◌++◌, map, length, get_or, take, drop, refl, sym, ◌∙◌, ap, subst, arith, append_assoc, ℤ}
 use Rattle.std.proofs.lemmas.Bool.{cases_eq, ne_eqb, eq-eqb}
 use Rattle.std.proofs.lemmas.List.{append-nil, take-append-drop, get_or-take, length-map, length-take, length-take-le}
-use Rattle.pages.specs.Lists.{AscendsFrom}
-use Rattle.pages.specs.Vertices.{Rises}
-use Rattle.pages.specs.Keys.{AreKeysOf, keys_from, keys_of}
-use Rattle.pages.proofs.Order.{rises_to, rises_append}
+use Rattle.edge_updates.specs.Weighted.{weighted}
+use Rattle.edge_updates.proofs.Weighted.{take_weighted, drop_weighted}
+use Rattle.ascending_lists.specs.Ascending.{AscendsFrom}
+use Rattle.ascending_lists.specs.Maps.{Rises}
+use Rattle.pages.specs.Keys.{AreKeysOf, keys_from, edges_of}
+use Rattle.ascending_lists.proofs.MapOrder.{rises_to, rises_append}
 
 -- A page has the keys in front, and those that are left are of greater vertices.
-pub record IsLoading (block : ℕ) (keys : List ℕ) (page : List (ℕ × List ℕ)) (rest : List ℕ) : Type 0 where
+pub record IsLoading (block : ℕ) (keys : List ℕ) (weights : List ℤ) (page : List (ℕ × List (ℕ × ℤ))) (rest : List ℕ) (others : List ℤ) : Type 0 where
   pub next : ℕ
   pub within : next ≤ 64
   pub map : Rises 0 next page
   pub coming : AreKeysOf block ((64 * block + next) * 2 ^ 32) rest
-  pub whole : keys_of block page ++ rest ≡ keys
+  pub whole : edges_of block page ++ weighted rest others ≡ weighted keys weights
   pub few : (s : ℕ) → length (keys_from s rest) ≤ 256
 
 keys_lower : (block a b : ℕ) (ks : List ℕ) → a ≤ b → AreKeysOf block b ks → AreKeysOf block a ks
 keys_lower block a b [] le s = tt
 keys_lower block a b (k ∷ ks) le s = (omega (arith, s.0), s.1, s.2, s.3)
 
-pub nothing_loaded : (block : ℕ) (keys : List ℕ) → AreKeysOf block 0 keys → ((s : ℕ) → length (keys_from s keys) ≤ 256) → IsLoading block keys [] keys
-nothing_loaded block keys s few = record { next = 0; within = omega arith; map = omega arith; coming = start keys s; whole = refl; few = few }
+pub nothing_loaded : (block : ℕ) (keys : List ℕ) (weights : List ℤ) → AreKeysOf block 0 keys → ((s : ℕ) → length (keys_from s keys) ≤ 256) → IsLoading block keys weights [] keys weights
+nothing_loaded block keys weights s few = record { next = 0; within = omega arith; map = omega arith; coming = start keys s; whole = refl; few = few }
   where
     start : (ks : List ℕ) → AreKeysOf block 0 ks → AreKeysOf block ((64 * block + 0) * 2 ^ 32) ks
     start [] s = tt
     start (k ∷ ks) s = (omega (arith, s.1), s.1, s.2, s.3)
 
-keys_append : (block : ℕ) (p q : List (ℕ × List ℕ)) → keys_of block (p ++ q) ≡ keys_of block p ++ keys_of block q
-keys_append block [] q = refl
-keys_append block (e ∷ p) q =
-    ap (λ ks. map (λ v. (64 * block + e.0) * 2 ^ 32 + v) e.1 ++ ks) (keys_append block p q)
-    ∙ sym (append_assoc (map (λ v. (64 * block + e.0) * 2 ^ 32 + v) e.1) (keys_of block p) (keys_of block q))
+edges_append : (block : ℕ) (p q : List (ℕ × List (ℕ × ℤ))) → edges_of block (p ++ q) ≡ edges_of block p ++ edges_of block q
+edges_append block [] q = refl
+edges_append block (e ∷ p) q =
+    ap (λ ks. map (λ n. ((64 * block + e.0) * 2 ^ 32 + n.0, n.1)) e.1 ++ ks) (edges_append block p q)
+    ∙ sym (append_assoc (map (λ n. ((64 * block + e.0) * 2 ^ 32 + n.0, n.1)) e.1) (edges_of block p) (edges_of block q))
 
 -- they are their neighbours behind the source
-rebuilt : (s : ℕ) (ks : List ℕ) → ((i : ℕ) → i < length ks → get_or ks i 0 / 2 ^ 32 ≡ s) → map (λ v. s * 2 ^ 32 + v) (map (λ k. k % 2 ^ 32) ks) ≡ ks
-rebuilt s [] all = refl
-rebuilt s (k ∷ ks) all =
+rebuilt : (s : ℕ) (ks : List ℕ) (ws : List ℤ) → ((i : ℕ) → i < length ks → get_or ks i 0 / 2 ^ 32 ≡ s) → map (λ n. (s * 2 ^ 32 + n.0, n.1)) (weighted (map (λ k. k % 2 ^ 32) ks) ws) ≡ weighted ks ws
+rebuilt s [] ws all = refl
+rebuilt s (k ∷ ks) [] all =
     let here : s * 2 ^ 32 + k % 2 ^ 32 ≡ k = omega (arith, all 0 (omega arith)) in
-    rw (here, rebuilt s ks (λ i lt. all (suc i) (omega arith))) refl
+    rw (here, rebuilt s ks [] (λ i lt. all (suc i) (omega arith))) refl
+rebuilt s (k ∷ ks) (w ∷ ws) all =
+    let here : s * 2 ^ 32 + k % 2 ^ 32 ≡ k = omega (arith, all 0 (omega arith)) in
+    rw (here, rebuilt s ks ws (λ i lt. all (suc i) (omega arith))) refl
 
 -- their neighbours ascend
 run_ascends : (block s low : ℕ) (ks : List ℕ) → AreKeysOf block low ks → ((i : ℕ) → i < length ks → get_or ks i 0 / 2 ^ 32 ≡ s) → (n : ℕ) → s * 2 ^ 32 + n ≤ low → AscendsFrom n (map (λ k. k % 2 ^ 32) ks)
@@ -77,7 +82,7 @@ fewer t (suc n) (k ∷ ks) = elim (cases_eq (k / 2 ^ 32) t) [
 ]
 
 -- A run of keys in front, with a first one.
-module _ (block : ℕ) (keys : List ℕ) (page : List (ℕ × List ℕ)) (rest : List ℕ) (is : IsLoading block keys page rest) (n s : ℕ) (within : n ≤ length rest) (run : (i : ℕ) → i < n → get_or rest i 0 / 2 ^ 32 ≡ s) (ends : n < length rest → get_or rest n 0 / 2 ^ 32 ≢ s) (k : ℕ) (others : List ℕ) (first : rest ≡ k ∷ others) (at : k / 2 ^ 32 ≡ s) where
+module _ (block : ℕ) (keys : List ℕ) (weights : List ℤ) (page : List (ℕ × List (ℕ × ℤ))) (rest : List ℕ) (ws : List ℤ) (is : IsLoading block keys weights page rest ws) (n s : ℕ) (within : n ≤ length rest) (run : (i : ℕ) → i < n → get_or rest i 0 / 2 ^ 32 ≡ s) (ends : n < length rest → get_or rest n 0 / 2 ^ 32 ≢ s) (k : ℕ) (others : List ℕ) (first : rest ≡ k ∷ others) (at : k / 2 ^ 32 ≡ s) where
   head : AreKeysOf block ((64 * block + is.next) * 2 ^ 32) (k ∷ others)
   head = subst (AreKeysOf block ((64 * block + is.next) * 2 ^ 32)) first is.coming
 
@@ -116,23 +121,25 @@ module _ (block : ℕ) (keys : List ℕ) (page : List (ℕ × List ℕ)) (rest :
   pub page_below : Rises 0 (s % 64) page
   page_below = rises_to 0 is.next (s % 64) page is.map later
 
-  pub loaded_more : IsLoading block keys (page ++ (s % 64, map (λ x. x % 2 ^ 32) (take n rest)) ∷ []) (drop n rest)
+  pub loaded_more : IsLoading block keys weights (page ++ (s % 64, weighted (map (λ x. x % 2 ^ 32) (take n rest)) (take n ws)) ∷ []) (drop n rest) (drop n ws)
   loaded_more =
       let u : ℕ = s % 64 in
-      let xs : List ℕ = map (λ x. x % 2 ^ 32) (take n rest) in
+      let xs : List (ℕ × ℤ) = weighted (map (λ x. x % 2 ^ 32) (take n rest)) (take n ws) in
+      let run_of : ℕ → List (ℕ × ℤ) = λ j. map (λ e. (j * 2 ^ 32 + e.0, e.1)) xs in
       let next : (s + 1) * 2 ^ 32 ≡ (64 * block + (u + 1)) * 2 ^ 32 = ap (λ j. j * 2 ^ 32) (omega (arith, vertex_is)) in
-      let these : map (λ v. (64 * block + u) * 2 ^ 32 + v) xs ++ [] ≡ take n rest = append-nil (map (λ v. (64 * block + u) * 2 ^ 32 + v) xs) ∙ ap (λ j. map (λ v. j * 2 ^ 32 + v) xs) vertex_is ∙ rebuilt s (take n rest) all_run in
+      let these : run_of (64 * block + u) ++ [] ≡ take n (weighted rest ws) = append-nil (run_of (64 * block + u)) ∙ ap run_of vertex_is ∙ rebuilt s (take n rest) (take n ws) all_run ∙ sym (take_weighted n rest ws) in
       record {
         next = u + 1;
         within = omega arith;
         map = rises_append 0 u (u + 1) page ((u, xs) ∷ []) page_below (omega arith, omega arith);
         coming = subst (λ low. AreKeysOf block low (drop n rest)) next (keys_behind block s (s * 2 ^ 32) n rest from_source (omega arith) within run ends);
         whole =
-            ap (λ ks. ks ++ drop n rest) (keys_append block page ((u, xs) ∷ []) ∙ ap (λ ks. keys_of block page ++ ks) these)
-            ∙ append_assoc (keys_of block page) (take n rest) (drop n rest) ∙ ap (λ ks. keys_of block page ++ ks) (take-append-drop n rest) ∙ is.whole;
+            ap (λ es. es ++ weighted (drop n rest) (drop n ws)) (edges_append block page ((u, xs) ∷ []) ∙ ap (λ es. edges_of block page ++ es) these)
+            ∙ ap (λ es. (edges_of block page ++ take n (weighted rest ws)) ++ es) (sym (drop_weighted n rest ws))
+            ∙ append_assoc (edges_of block page) (take n (weighted rest ws)) (drop n (weighted rest ws)) ∙ ap (λ es. edges_of block page ++ es) (take-append-drop n (weighted rest ws)) ∙ is.whole;
         few = λ t. omega (arith, fewer t n rest, is.few t);
       }
 
--- at the end the page has all keys
-pub all_loaded : (block : ℕ) (keys : List ℕ) (page : List (ℕ × List ℕ)) (rest : List ℕ) → IsLoading block keys page rest → rest ≡ [] → keys_of block page ≡ keys
-all_loaded block keys page rest is none = sym (append-nil (keys_of block page)) ∙ ap (λ ks. keys_of block page ++ ks) (sym none) ∙ is.whole
+-- at the end the page has all edges
+pub all_loaded : (block : ℕ) (keys : List ℕ) (weights : List ℤ) (page : List (ℕ × List (ℕ × ℤ))) (rest : List ℕ) (others : List ℤ) → IsLoading block keys weights page rest others → rest ≡ [] → edges_of block page ≡ weighted keys weights
+all_loaded block keys weights page rest others is none = sym (append-nil (edges_of block page)) ∙ ap (λ ks. edges_of block page ++ weighted ks others) (sym none) ∙ is.whole

@@ -1,12 +1,13 @@
 -- Vertices in order, and how many are below a vertex.
-use Rattle.std.proofs.Common.{◌≡◌, ◌≢◌, ℕ, suc, ◌+◌, ◌*◌, ◌/◌, ◌%◌, ◌^◌, ◌<◌, ◌≤◌, bit_or, inl, inr, List, [], ◌∷◌, ◌++◌, length, get_or, refl, sym, ◌∙◌, ap, arith, add-one}
+use Rattle.std.proofs.Common.{◌≡◌, ◌≢◌, ℕ, suc, ◌+◌, ◌*◌, ◌/◌, ◌%◌, ◌^◌, ◌<◌, ◌≤◌, bit_or, inl, inr, List, [], ◌∷◌, ◌++◌, length, get_or, refl, sym, ◌∙◌, ap, arith, add-one, ℤ}
 use Rattle.std.specs.Int.RustNames.{count_ones}
 use Rattle.std.proofs.lemmas.Bool.{cases_lt, cases_eq, lt-ltb, le-ltb, ne_eqb, eq-eqb}
 use Rattle.std.proofs.lemmas.Nat.{pow_pos}
 use Rattle.std.proofs.Math.Nat.{pow-le-pow_right}
-use Rattle.pages.specs.Vertices.{Rises, neighbours_of, count_below}
+use Rattle.ascending_lists.specs.Maps.{Rises}
+use Rattle.pages.specs.Vertices.{neighbours_of, count_below}
 use Rattle.pages.specs.inside.Index.{IsIndex}
-use Rattle.pages.proofs.Order.{rises_room, rises_append, rises_back}
+use Rattle.ascending_lists.proofs.MapOrder.{rises_room, rises_append, rises_back}
 use Rattle.pages.proofs.Bits.{ones_zero, ones_more, mark_is, mark_above, mark_counted, mark_small}
 
 module _ {V : Type 0} where
@@ -35,14 +36,14 @@ module _ {V : Type 0} where
   below_push_not u (x ∷ es) e le = omega (arith, below_push_not u es e le)
 
 -- there is no list of a vertex below all others
-pub none_below : (u a h : ℕ) (es : List (ℕ × List ℕ)) → Rises a h es → u < a → neighbours_of u es ≡ []
+pub none_below : (u a h : ℕ) (es : List (ℕ × List (ℕ × ℤ))) → Rises a h es → u < a → neighbours_of u es ≡ []
 none_below u a h [] s lt = refl
 none_below u a h (e ∷ es) s lt =
     let other : e.0 ≢ u = omega (arith, s.0) in
     rw (ne_eqb e.0 u other) (none_below u (e.0 + 1) h es s.1 (omega (arith, s.0)))
 
 -- where no vertex more is below the next one, the vertex has no list
-pub absent : (u a h : ℕ) (es : List (ℕ × List ℕ)) → Rises a h es → count_below (u + 1) es ≡ count_below u es → neighbours_of u es ≡ []
+pub absent : (u a h : ℕ) (es : List (ℕ × List (ℕ × ℤ))) → Rises a h es → count_below (u + 1) es ≡ count_below u es → neighbours_of u es ≡ []
 absent u a h [] s same = refl
 absent u a h (e ∷ es) s same = elim (cases_lt e.0 u) [
   | inl lt ↦
@@ -57,7 +58,7 @@ absent u a h (e ∷ es) s same = elim (cases_lt e.0 u) [
 ]
 
 -- where one more is, the list of the vertex stands at that index
-pub present : (u a h : ℕ) (es : List (ℕ × List ℕ)) → Rises a h es → count_below (u + 1) es ≡ count_below u es + 1 → (count_below u es < length es) × ((get_or es (count_below u es) (0, [])).1 ≡ neighbours_of u es)
+pub present : (u a h : ℕ) (es : List (ℕ × List (ℕ × ℤ))) → Rises a h es → count_below (u + 1) es ≡ count_below u es + 1 → (count_below u es < length es) × ((get_or es (count_below u es) (0, [])).1 ≡ neighbours_of u es)
 present u a h [] s more = absurd (omega arith)
 present u a h (e ∷ es) s more = elim (cases_lt e.0 u) [
   | inl lt ↦
@@ -77,7 +78,7 @@ present u a h (e ∷ es) s more = elim (cases_lt e.0 u) [
       ]
 ]
 
-module _ (bits : ℕ) (es : List (ℕ × List ℕ)) (ok : IsIndex bits es) (v : ℕ) (lt : v < 64) where
+module _ (bits : ℕ) (es : List (ℕ × List (ℕ × ℤ))) (ok : IsIndex bits es) (v : ℕ) (lt : v < 64) where
   step : count_below (v + 1) es ≡ count_below v es + bits / 2 ^ v % 2
   step = ok.marks (v + 1) (omega arith) ∙ omega (arith, ones_more bits v, ok.marks v (omega arith))
 

@@ -1,13 +1,22 @@
 -- Entries and their lists, as they lie in bytes.
 use Rattle.std.proofs.Common.{◌≡◌, ℕ, zero, suc, ◌+◌, ◌-◌, ◌*◌, ◌/◌, ◌^◌, ◌<◌, ◌≤◌, List, [], ◌∷◌, length, get_or, drop, refl, sym, ◌∙◌, ap, subst, arith, length-drop}
+use Rattle.std.specs.Map.{keys_of}
 use Rattle.std.proofs.lemmas.List.{drop-drop}
+use Rattle.ascending_lists.specs.Ascending.{AscendsFrom}
+use Rattle.edge_updates.specs.Weighted.{weighted}
+use Rattle.edge_updates.proofs.Weighted.{things_of, length_weighted}
 use Rattle.pages.specs.declared.entry.ListEntry.{ListEntry}
-use Rattle.pages.specs.Lists.{AscendsFrom}
+use Rattle.pages.specs.declared.weights.WeightWidth.TheVariants.{Ones}
 use Rattle.pages.specs.Vertices.{IsPacked, ArePacked, IsPage}
 use Rattle.pages.specs.inside.Numbers.{number_at}
-use Rattle.pages.specs.inside.Packed.{list_of, IsView}
-use Rattle.pages.specs.inside.Entries.{size_of, list_at, lists_in, IsListed, AreListed, IsStored}
+use Rattle.pages.specs.inside.Weights.{weight_size, weights_from}
+use Rattle.pages.specs.inside.Packed.{list_of, entries_of, IsWeightedView}
+use Rattle.pages.specs.inside.Entries.{size_of, keys_at, weights_at, list_at, lists_in, IsListed, AreListed, IsStored}
 use Rattle.pages.proofs.Decoding.{list_length}
+
+-- an entry for an index that is not there
+abbrev pub no_entry : ListEntry
+no_entry = record { start = 0; last = 0; width = 0; weights = Ones; vertex = 0 }
 
 -- all bits of so many bytes
 mask_of : (w : ℕ) → 0 < w → w ≤ 4 → 4294967295 / 2 ^ (32 - 8 * w) ≡ 2 ^ (8 * w) - 1
@@ -19,25 +28,46 @@ mask_of (suc (suc (suc (suc zero)))) some le = refl
 mask_of (suc (suc (suc (suc (suc w))))) some le = absurd (omega arith)
 
 module _ (bytes : List ℕ) (e : ListEntry) (is : IsListed bytes e) where
+  one : e.last + 1 - 1 ≡ e.last
+  one = omega arith
+
   -- the list of an entry, by its first element and the bytes behind it
-  pub list_is : list_of (number_at 4 e.start bytes) e.width e.degree (drop (e.start + 4) bytes) ≡ list_at bytes e
-  list_is = ap (list_of (number_at 4 e.start bytes) e.width e.degree) (sym (drop-drop 4 e.start bytes))
+  keys_are : list_of (number_at 4 e.start bytes) e.width (e.last + 1) (drop (e.start + 4) bytes) ≡ keys_at bytes e
+  keys_are = ap (list_of (number_at 4 e.start bytes) e.width (e.last + 1)) (sym (drop-drop 4 e.start bytes))
 
-  pub listed_view : IsView (number_at 4 e.start bytes) e.width (4294967295 / 2 ^ (32 - 8 * e.width)) e.degree (drop (e.start + 4) bytes)
-  listed_view = record {
-    some = is.wide;
-    width = is.width;
-    mask_is = mask_of e.width is.wide is.width;
-    few = is.few;
-    within = λ some. omega (arith, is.within, length-drop (e.start + 4) bytes);
-    ascends = subst (AscendsFrom 0) (sym list_is) is.ascends;
-  }
+  weights_are : weights_from e.weights (e.last + 1) (drop (e.width * (e.last + 1 - 1)) (drop (e.start + 4) bytes)) ≡ weights_at bytes e
+  weights_are =
+      ap (weights_from e.weights (e.last + 1))
+      (ap (drop (e.width * (e.last + 1 - 1))) (sym (drop-drop 4 e.start bytes))
+      ∙ drop-drop (e.width * (e.last + 1 - 1)) 4 (drop e.start bytes)
+      ∙ ap (λ k. drop (4 + e.width * k) (drop e.start bytes)) one)
 
-  pub listed_length : length (list_at bytes e) ≡ e.degree
-  listed_length = ap length (sym list_is) ∙ list_length (number_at 4 e.start bytes) e.width e.degree (drop (e.start + 4) bytes)
+  pub list_is : entries_of (number_at 4 e.start bytes) e.width (e.last + 1) e.weights (drop (e.start + 4) bytes) ≡ list_at bytes e
+  list_is = ap (λ xs. weighted xs (weights_from e.weights (e.last + 1) (drop (e.width * (e.last + 1 - 1)) (drop (e.start + 4) bytes)))) keys_are ∙ ap (weighted (keys_at bytes e)) weights_are
+
+  pub listed_view : IsWeightedView (number_at 4 e.start bytes) e.width (4294967295 / 2 ^ (32 - 8 * e.width)) (e.last + 1) e.weights (drop (e.start + 4) bytes)
+  listed_view =
+      let room : e.start + 4 + e.width * (e.last + 1 - 1) + weight_size e.weights * (e.last + 1) + 3 ≤ length bytes = omega (arith, is.within, ap (λ k. e.width * k) one) in
+      record {
+        view = record {
+          some = is.wide;
+          width = is.width;
+          mask_is = mask_of e.width is.wide is.width;
+          few = omega (arith, is.few);
+          within = λ some. omega (arith, room, length-drop (e.start + 4) bytes);
+          ascends = subst (AscendsFrom 0) (sym keys_are) is.ascends;
+        };
+        weights = λ some. omega (arith, room, length-drop (e.start + 4) bytes);
+      }
+
+  pub keys_listed : keys_of (list_at bytes e) ≡ keys_at bytes e
+  keys_listed = things_of (keys_at bytes e) (weights_at bytes e)
+
+  pub listed_length : length (list_at bytes e) ≡ e.last + 1
+  listed_length = length_weighted (keys_at bytes e) (weights_at bytes e) ∙ ap length (sym keys_are) ∙ list_length (number_at 4 e.start bytes) e.width (e.last + 1) (drop (e.start + 4) bytes)
 
   pub listed_packed : IsPacked (list_at bytes e)
-  listed_packed = record { some = omega (arith, listed_length, is.some); few = omega (arith, listed_length, is.few); ascends = is.ascends }
+  listed_packed = record { some = omega (arith, listed_length); few = omega (arith, listed_length, is.few); ascends = subst (AscendsFrom 0) (sym keys_listed) is.ascends }
 
 module _ (bytes : List ℕ) where
   pub lists_length : (es : List ListEntry) → length (lists_in bytes es) ≡ length es

@@ -1,5 +1,5 @@
 -- Edges packed into numbers: the source times 2 ^ 32, and the neighbour.
-use Rattle.std.specs.Prelude.{ℕ, ◌+◌, ◌*◌, ◌/◌, ◌^◌, ◌<◌, ◌≤◌, ◌==◌, if◌then◌else◌, List, [], ◌∷◌, ◌++◌, map}
+use Rattle.std.specs.Prelude.{ℕ, ℤ, ◌+◌, ◌*◌, ◌/◌, ◌^◌, ◌<◌, ◌≤◌, ◌==◌, if◌then◌else◌, List, [], ◌∷◌, ◌++◌, map}
 
 -- the keys ascend from low on, and are of the 64 sources of a block
 abbrev pub AreKeysOf : ℕ → ℕ → List ℕ → Type 0
@@ -11,7 +11,7 @@ abbrev pub keys_from : ℕ → List ℕ → List ℕ
 keys_from s [] = []
 keys_from s (k ∷ ks) = if k / 2 ^ 32 == s then k ∷ keys_from s ks else keys_from s ks
 
--- the keys of the edges of a block's page, ascending
-abbrev pub keys_of : ℕ → List (ℕ × List ℕ) → List ℕ
-keys_of block [] = []
-keys_of block (e ∷ es) = map (λ v. (64 * block + e.0) * 2 ^ 32 + v) e.1 ++ keys_of block es
+-- the edges of a block's page, ascending: each by its key, with its weight
+abbrev pub edges_of : ℕ → List (ℕ × List (ℕ × ℤ)) → List (ℕ × ℤ)
+edges_of block [] = []
+edges_of block (e ∷ es) = map (λ n. ((64 * block + e.0) * 2 ^ 32 + n.0, n.1)) e.1 ++ edges_of block es

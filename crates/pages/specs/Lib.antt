@@ -1,4 +1,3 @@
-pub mod Lists
 pub mod Vertices
 pub mod Updates
 pub mod Keys

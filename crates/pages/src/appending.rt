@@ -1,12 +1,16 @@
 //! Lists that come behind those of a page.
 
-ghost use Rattle.std.specs.Prelude.{◌≡◌, ◌+◌, ◌^◌, ◌<◌, ◌≤◌, ◌∷◌, ◌++◌, [], length, take, IsOk};
+ghost use Rattle.std.specs.Prelude.{◌≡◌, ℕ, pos, ◌+◌, ◌*◌, ◌^◌, ◌<◌, ◌≤◌, ◌∷◌, ◌++◌, [], length, get_or, take, IsOk};
 ghost use Rattle.std.specs.Vec.{vec_len, vec_capacity};
-ghost use Rattle.pages.specs.Lists.{AscendsFrom};
-ghost use Rattle.pages.specs.inside.Entries.{lists_in, end_of, placed_at, AreListed, IsExtended};
+ghost use Rattle.ascending_lists.specs.Ascending.{AscendsFrom};
+ghost use Rattle.edge_updates.specs.Weighted.{weighted};
+ghost use Rattle.pages.specs.inside.Weights.{Allows};
+ghost use Rattle.pages.specs.inside.Packed.{span_of};
+ghost use Rattle.pages.specs.inside.Entries.{size_of, keys_at, list_at, lists_in, end_of, placed_at, AreListed, IsExtended};
 
 use crate::entry::ListEntry;
-use crate::writing::{width_of, write};
+use crate::weights::WeightWidth;
+use crate::writing::{width_of, write, write_weights};
 use std::alloc::AllocError;
 
 /// How many bytes stand behind the last list, so that each offset may be read as four bytes.
@@ -18,31 +22,56 @@ pub(crate) fn store(
     entries: &mut Vec<ListEntry>,
     bytes: &mut Vec<u8>,
     vertex: u32,
-    list: &[u32],
+    keys: &[u32],
+    weights: &[i64],
 ) -> Result<(), AllocError>
     requires listed { AreListed 0 bytes.old.items entries.old.items }
     requires ends { end_of 0 entries.old.items + 3 ≡ length bytes.old.items }
     requires vertex { vertex < 64 }
     requires room { length entries.old.items < 64 }
-    requires some { 0 < length list.now }
-    requires few { length list.now ≤ 256 }
-    requires ascending { AscendsFrom 0 list.now }
-    ensures { IsExtended entries.old.items bytes.old.items ((vertex, list.now) ∷ []) result
-        entries.new.items bytes.new.items }
+    requires some { 0 < length keys.now }
+    requires few { length keys.now ≤ 256 }
+    requires ascending { AscendsFrom 0 keys.now }
+    ensures { IsExtended entries.old.items bytes.old.items
+        ((vertex, weighted keys.now weights.now) ∷ []) result entries.new.items bytes.new.items }
 {
     let start = bytes.len() - PADDING;
-    let width = width_of(list[list.len() - 1] - list[0]);
-    let size = 4 + width * (list.len() - 1);
-    entries.reserve(1)?;
-    bytes.resize(bytes.len() + size, 0)?;
-    write(bytes, start, width, list);
-    entries.push(ListEntry {
+    let last = keys.len() - 1;
+    let entry = ListEntry {
         start: start as u32,
-        degree: list.len() as u16,
-        width: width as u8,
+        last: last as u8,
+        width: width_of(keys[last] - keys[0]) as u8,
+        weights: WeightWidth::of(weights),
         vertex: vertex as u8,
-    })?;
+    };
+    entries.reserve(1)?;
+    bytes.resize(bytes.len() + entry.size(), 0)?;
+    write_list(bytes, entry, keys, weights);
+    entries.push(entry)?;
     Ok(())
+}
+
+/// Writes the neighbours and the weights of an entry where it says.
+fn write_list(bytes: &mut [u8], entry: ListEntry, keys: &[u32], weights: &[i64])
+    requires count { length keys.now ≡ entry.last + 1 }
+    requires ascending { AscendsFrom 0 keys.now }
+    requires width { (0 < entry.width) × (entry.width ≤ 4) }
+    requires wide { span_of keys.now < 2 ^ (8 * entry.width) }
+    requires allows { (i : ℕ) → Allows entry.weights (get_or weights.now i (pos 1)) }
+    requires room { entry.start + size_of entry + 3 ≤ length bytes.old }
+    ensures front { take entry.start bytes.new ≡ take entry.start bytes.old }
+    ensures keys { keys_at bytes.new entry ≡ keys.now }
+    ensures list { list_at bytes.new entry ≡ weighted keys.now weights.now }
+{
+    let start = entry.start as usize;
+    write(bytes, start, usize::from(entry.width), keys);
+    write_weights(
+        bytes,
+        start + entry.keys_size(),
+        entry.weights,
+        keys.len(),
+        weights,
+    );
 }
 
 /// Adds the entries of a run behind others that have room, for lists which are one behind the other
@@ -60,11 +89,12 @@ fn append(
     for entry in run {
         entries.push(ListEntry {
             start: place as u32,
-            degree: entry.degree,
+            last: entry.last,
             width: entry.width,
+            weights: entry.weights,
             vertex: entry.vertex,
         })?;
-        place += 4 + usize::from(entry.width) * usize::from(entry.degree.saturating_sub(1));
+        place += entry.size();
     }
     Ok(())
 }

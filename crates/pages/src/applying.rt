@@ -1,25 +1,29 @@
 //! Pages that updates make of others.
 
 ghost use Rattle.std.specs.Prelude.{◌≡◌, ℕ, ◌+◌, ◌<◌, ◌≤◌, ◌++◌, length, slice_range, IfOk};
-ghost use Rattle.pages.specs.Lists.{AscendsFrom};
-ghost use Rattle.pages.specs.Vertices.{Rises, neighbours_of, count_below};
+ghost use Rattle.ascending_lists.specs.Ascending.{AscendsFrom};
+ghost use Rattle.ascending_lists.specs.Maps.{Rises};
+ghost use Rattle.edge_updates.specs.Weighted.{weighted};
+ghost use Rattle.pages.specs.Vertices.{neighbours_of, count_below};
 ghost use Rattle.pages.specs.Updates.{updated, updates_of, NeighboursAscend, EdgesAscend};
 ghost use Rattle.pages.specs.inside.Built.{entry_of};
 
+use crate::columns::EntryColumns;
 use crate::page::{MAX_PACKED, Page};
 use crate::updates::{merge, run_length};
-use edge_updates::EdgeUpdate;
+use edge_updates::Updates;
 use std::alloc::{AllocError, Global};
 
 impl Page {
     /// The page that updates make of this one, which stays as it is. They ascend by edge, where a
     /// vertex goes by its number in the page, its remainder by 64: updates of one block that ascend
     /// do so ([`blocks_ascend`](crate::blocks_ascend)). A vertex whose last neighbour is removed is not
-    /// present, and one that gets its first is. The bytes of lists that do not change are copied
-    /// whole. It takes time in proportion to the page.
+    /// present, and one that gets its first is. An added edge gets the update's weight, also where it
+    /// was there. The bytes of lists that do not change are copied whole. It takes time in proportion to
+    /// the page.
     ///
     /// The only error is out of memory.
-    pub fn apply(&self, alloc: Global, updates: &[EdgeUpdate]) -> Result<Page, AllocError>
+    pub fn apply(&self, alloc: Global, updates: &Updates<'_>) -> Result<Page, AllocError>
         requires updates { EdgesAscend 0 updates.now }
         requires few { (u : ℕ) → u < 64
             → length (updated (neighbours_of u self.now) (updates_of u updates.now)) ≤ MAX_PACKED }
@@ -27,12 +31,12 @@ impl Page {
             → neighbours_of u p ≡ updated (neighbours_of u self.now) (updates_of u updates.now)) }
     {
         let mut page = self.with_room(alloc, updates.len())?;
-        let mut list = Vec::with_capacity(alloc, MAX_PACKED)?;
-        let (mut low, mut rest) = (0, updates);
-        while let Some((first, _)) = rest.split_first() {
+        let mut list = EntryColumns::with_capacity(alloc, MAX_PACKED)?;
+        let (mut low, mut rest) = (0, updates.lend());
+        while let Some(first) = rest.first() {
             let vertex = first.vertex() % 64;
-            let (run, others) = rest.split_at(run_length(rest, vertex));
-            page.push_updated(self, low, vertex, run, &mut list)?;
+            let (run, others) = rest.split_at(run_length(&rest, vertex));
+            page.push_updated(self, low, vertex, &run, &mut list)?;
             low = vertex + 1;
             rest = others;
         }
@@ -47,8 +51,8 @@ impl Page {
         old: &Page,
         low: u32,
         vertex: u32,
-        updates: &[EdgeUpdate],
-        list: &mut Vec<u32>,
+        updates: &Updates<'_>,
+        list: &mut EntryColumns,
     ) -> Result<(), AllocError>
         requires order { low ≤ vertex }
         requires vertex { vertex < 64 }
@@ -62,21 +66,24 @@ impl Page {
     {
         self.push_run(old, old.index(low), old.index(vertex))?;
         merge(&old.list(vertex), updates, list)?;
-        self.push_any(vertex, list)
+        let (keys, weights) = list.columns();
+        self.push_any(vertex, keys, weights)
     }
 
     /// Adds a vertex that is above all others, with its neighbours if it has some. The only error is
     /// out of memory.
-    fn push_any(&mut self, vertex: u32, list: &[u32]) -> Result<(), AllocError>
+    fn push_any(&mut self, vertex: u32, keys: &[u32], weights: &[i64]) -> Result<(), AllocError>
         requires vertex { vertex < 64 }
         requires above { Rises 0 vertex self.old }
-        requires few { length list.now ≤ MAX_PACKED }
-        requires ascending { AscendsFrom 0 list.now }
-        ensures { IfOk result (λ _. self.new ≡ self.old ++ entry_of vertex list.now) }
+        requires few { length keys.now ≤ MAX_PACKED }
+        requires ascending { AscendsFrom 0 keys.now }
+        ensures { IfOk result (λ _. self.new ≡ self.old
+            ++ entry_of vertex (weighted keys.now weights.now)) }
     {
-        if list.is_empty() {
+        if keys.is_empty() {
             return Ok(());
         }
-        self.push(vertex, list)
+        self.push(vertex, keys, weights)?;
+        Ok(())
     }
 }

@@ -1,22 +1,53 @@
 //! Entries of a page, each of which says where a list lies.
 
-ghost use Rattle.std.specs.Prelude.{◌≡◌};
-ghost use Rattle.pages.specs.inside.Entries.{list_at, IsListed};
+ghost use Rattle.std.specs.Prelude.{◌≡◌, ◌+◌, ◌^◌, ◌<◌, ◌≤◌};
+ghost use Rattle.pages.specs.inside.Entries.{keys_size, size_of, list_at, IsListed};
 
 use crate::neighbours::Neighbours;
 use crate::offsets::number;
+use crate::weights::WeightWidth;
 
-/// A vertex that is present, with the place where its list starts, the number of its neighbours and
-/// how many bytes each offset takes.
+/// A vertex that is present, with the place where its list starts, the index of its last neighbour, and
+/// how many bytes each offset and each weight takes.
 #[derive(Clone, Copy)]
 pub(crate) struct ListEntry {
     pub(crate) start: u32,
-    pub(crate) degree: u16,
+    pub(crate) last: u8,
     pub(crate) width: u8,
+    pub(crate) weights: WeightWidth,
     pub(crate) vertex: u8,
 }
 
 const _: () = prove!(size_of::<ListEntry>() == 8);
+
+impl ListEntry {
+    /// How many neighbours the list has, 1 to 256.
+    #[inline]
+    pub(crate) fn degree(self) -> usize
+        ensures degree { result ≡ self.last + 1 }
+        ensures few { result ≤ 256 }
+    {
+        usize::from(self.last) + 1
+    }
+
+    /// How many bytes the neighbours take.
+    #[inline]
+    pub(crate) fn keys_size(self) -> usize
+        ensures size { result ≡ keys_size self }
+        ensures small { result < 2 ^ 17 }
+    {
+        4 + usize::from(self.width) * usize::from(self.last)
+    }
+
+    /// How many bytes the list takes.
+    #[inline]
+    pub(crate) fn size(self) -> usize
+        ensures size { result ≡ size_of self }
+        ensures small { result < 2 ^ 17 }
+    {
+        self.keys_size() + self.weights.size() * self.degree()
+    }
+}
 
 /// The list of an entry.
 #[inline]
@@ -27,6 +58,13 @@ pub(crate) fn list_of(bytes: &[u8], entry: ListEntry) -> Neighbours<'_>
     let (start, width) = (entry.start as usize, u32::from(entry.width));
     let first = number(bytes, start);
     let mask = u32::MAX >> (32 - 8 * width);
-    let len = usize::from(entry.degree);
-    Neighbours::new(first, width as usize, mask, len, &bytes[start + 4..])
+    let (len, weights) = (entry.degree(), entry.weights);
+    Neighbours::new(
+        first,
+        width as usize,
+        mask,
+        len,
+        weights,
+        &bytes[start + 4..],
+    )
 }

@@ -1,7 +1,7 @@
 //! A bit for each of the 64 vertices of a page, and ranks.
 
-ghost use Rattle.std.specs.Prelude.{◌≡◌, ℕ, ◌/◌, ◌%◌, ◌^◌, ◌<◌, ◌≤◌, ◌++◌, count_ones, List, MatchOption};
-ghost use Rattle.pages.specs.Vertices.{Rises};
+ghost use Rattle.std.specs.Prelude.{◌≡◌, ℕ, ℤ, ◌/◌, ◌%◌, ◌^◌, ◌<◌, ◌≤◌, ◌++◌, count_ones, List, MatchOption};
+ghost use Rattle.ascending_lists.specs.Maps.{Rises};
 ghost use Rattle.pages.specs.inside.Entries.{lists_in};
 ghost use Rattle.pages.specs.inside.Index.{IsIndex};
 
@@ -36,7 +36,7 @@ pub fn rank_below(present: u64, vertex: u32) -> usize
 
 /// Bits with those of the vertices of a run.
 pub(crate) fn with_marks(present: u64, run: &[ListEntry]) -> u64
-    ensures { (es : List (ℕ × List ℕ)) (bytes : List ℕ) → IsIndex present es
+    ensures { (es : List (ℕ × List (ℕ × ℤ))) (bytes : List ℕ) → IsIndex present es
         → Rises 0 64 (es ++ lists_in bytes run.now) → IsIndex result (es ++ lists_in bytes run.now) }
 {
     let mut bits = present;

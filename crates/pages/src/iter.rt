@@ -16,10 +16,10 @@ pub struct PageIter<'a> {
 }
 
 impl<'a> Model for PageIter<'a> {
-    ghost use Rattle.std.specs.Prelude.{ℕ, List};
+    ghost use Rattle.std.specs.Prelude.{ℕ, ℤ, List};
     ghost use Rattle.pages.specs.inside.Entries.{lists_in, AreFrom};
 
-    ghost Value = { List (ℕ × List ℕ) };
+    ghost Value = { List (ℕ × List (ℕ × ℤ)) };
 
     ghost view = { λ i. lists_in i.bytes.now i.entries.now };
 

@@ -1,16 +1,26 @@
 //! The neighbours of a vertex, as they lie packed in a page.
 
-ghost use Rattle.std.specs.Prelude.{◌≡◌, ◌↔◌, ◌+◌, ◌<◌, ◌≤◌, ◌++◌, [], length, slice_index, slice_range, take, drop, reverse, IfOk, IsTrue};
-ghost use Rattle.pages.specs.Lists.{AscendsFrom, has, below, above};
-ghost use Rattle.pages.specs.inside.Packed.{list_of, IsView};
+ghost use Rattle.std.specs.Prelude.{◌≡◌, ◌↔◌, pos, ◌+◌, ◌<◌, ◌≤◌, ◌++◌, [], length, slice_index, slice_range, get_or, take, drop, reverse, IfOk, IsTrue};
+ghost use Rattle.std.specs.Map.{keys_of, values_of};
+ghost use Rattle.ascending_lists.specs.Ascending.{AscendsFrom};
+ghost use Rattle.ascending_lists.specs.Sets.{has};
+ghost use Rattle.ascending_lists.specs.Maps.{lookup};
+ghost use Rattle.ascending_lists.specs.MapOperations.{entries_below, entries_above};
+ghost use Rattle.pages.specs.declared.weights.WeightWidth.{WeightWidth};
+ghost use Rattle.pages.specs.inside.Weights.{column_of};
+ghost use Rattle.pages.specs.inside.Packed.{entries_of, IsWeightedView};
 
 use crate::blocks::{fill_after, fill_before};
+use crate::columns::{EntryColumns, pad};
 use crate::offsets::offset;
 use crate::walks::{Ascending, Descending};
+use crate::weight_blocks::fill_weights;
+use crate::weights::{WeightWidth, weight_at};
 use std::alloc::AllocError;
 use std::marker::Model;
 
-/// The neighbours of a vertex, ascending: none, or at most 256. A contract sees the list of them.
+/// The neighbours of a vertex, ascending, each with a weight: none, or at most 256. A contract sees the
+/// list of the pairs.
 #[derive(Drop)]
 pub struct Neighbours<'a> {
     first: u32,
@@ -18,39 +28,43 @@ pub struct Neighbours<'a> {
     width: usize,
     mask: u32,
     len: usize,
-    /// The offsets from the first, with three bytes or more behind them.
+    /// How many bytes each weight takes.
+    weights: WeightWidth,
+    /// The offsets from the first, and the weights behind them, with three bytes or more behind those.
     offsets: &'a [u8],
 }
 
 impl<'a> Model for Neighbours<'a> {
-    ghost use Rattle.std.specs.Prelude.{ℕ, List};
-    ghost use Rattle.pages.specs.inside.Packed.{list_of, IsView};
+    ghost use Rattle.std.specs.Prelude.{ℕ, ℤ, List};
+    ghost use Rattle.pages.specs.inside.Packed.{entries_of, IsWeightedView};
 
-    ghost Value = { List ℕ };
+    ghost Value = { List (ℕ × ℤ) };
 
-    ghost view = { λ l. list_of l.first l.width l.len l.offsets.now };
+    ghost view = { λ l. entries_of l.first l.width l.len l.weights l.offsets.now };
 
-    ghost invariant = { λ l. IsView l.first l.width l.mask l.len l.offsets.now };
+    ghost invariant = { λ l. IsWeightedView l.first l.width l.mask l.len l.weights l.offsets.now };
 }
 
 impl<'a> Neighbours<'a> {
-    /// The list of a first neighbour and the offsets of the others.
+    /// The list of a first neighbour, the offsets of the others and the weights behind them.
     #[inline]
     pub(crate) fn new(
         first: u32,
         width: usize,
         mask: u32,
         len: usize,
+        weights: WeightWidth,
         offsets: &'a [u8],
     ) -> Neighbours<'a>
-        requires { IsView first width mask len offsets.now }
-        ensures { result ≡ list_of first width len offsets.now }
+        requires { IsWeightedView first width mask len weights offsets.now }
+        ensures { result ≡ entries_of first width len weights offsets.now }
     {
         Neighbours {
             first,
             width,
             mask,
             len,
+            weights,
             offsets,
         }
     }
@@ -60,7 +74,7 @@ impl<'a> Neighbours<'a> {
     pub fn none() -> Neighbours<'a>
         ensures { result ≡ [] }
     {
-        Neighbours::new(0, 1, 0xff, 0, &[])
+        Neighbours::new(0, 1, 0xff, 0, WeightWidth::Ones, &[])
     }
 
     /// How many neighbours there are, at most 256. It takes constant time.
@@ -68,7 +82,7 @@ impl<'a> Neighbours<'a> {
     pub fn len(&self) -> usize
         ensures count { result ≡ length self.now }
         ensures few { result ≤ 256 }
-        ensures ascending { AscendsFrom 0 self.now }
+        ensures ascending { AscendsFrom 0 (keys_of self.now) }
     {
         self.len
     }
@@ -83,9 +97,9 @@ impl<'a> Neighbours<'a> {
 
     /// The neighbour at an index. It takes constant time.
     #[inline]
-    pub fn get(&self, index: usize) -> u32
+    pub fn neighbour(&self, index: usize) -> u32
         requires { index < length self.now }
-        ensures { result ≡ slice_index self.now index }
+        ensures { result ≡ slice_index (keys_of self.now) index }
     {
         if index == 0 {
             return self.first;
@@ -93,15 +107,46 @@ impl<'a> Neighbours<'a> {
         self.first + offset(self.offsets, self.width, self.mask, index - 1)
     }
 
+    /// The weight at an index. It takes constant time.
+    #[inline]
+    pub fn weight(&self, index: usize) -> i64
+        requires { index < length self.now }
+        ensures { result ≡ (get_or self.now index (0, pos 1)).1 }
+    {
+        let start = self.width * (self.len - 1) + self.weights.size() * index;
+        weight_at(self.offsets, self.weights, start)
+    }
+
+    /// The neighbour at an index, with its weight. It takes constant time.
+    #[inline]
+    pub(crate) fn entry(&self, index: usize) -> (u32, i64)
+        requires { index < length self.now }
+        ensures { result ≡ get_or self.now index (0, pos 1) }
+    {
+        (self.neighbour(index), self.weight(index))
+    }
+
+    /// The weight of a neighbour, or `None` where it is not among them. It takes time `O(log len)`.
+    #[inline]
+    pub fn get(&self, neighbour: u32) -> Option<i64>
+        ensures { result ≡ lookup neighbour self.now }
+    {
+        let (at, next) = self.cut(0, neighbour);
+        if at < next {
+            return Some(self.weight(at));
+        }
+        None
+    }
+
     /// Whether a vertex is among the neighbours. It takes time `O(log len)`.
     #[inline]
     pub fn contains(&self, neighbour: u32) -> bool
-        ensures { result ≡ has neighbour self.now }
+        ensures { result ≡ has neighbour (keys_of self.now) }
     {
         let (mut low, mut high) = (0, self.len());
         while low < high {
             let middle = low + (high - low) / 2;
-            let found = self.get(middle);
+            let found = self.neighbour(middle);
             if found == neighbour {
                 return true;
             }
@@ -136,7 +181,7 @@ impl<'a> Neighbours<'a> {
     #[inline]
     pub(crate) fn fill_from(&self, from: usize, block: &mut [u32])
         requires { from + length block.old ≤ length self.now }
-        ensures { block.new ≡ take (length block.old) (drop from self.now) }
+        ensures { block.new ≡ take (length block.old) (drop from (keys_of self.now)) }
     {
         let (first, width, mask, len) = (self.first, self.width, self.mask, self.len);
         if from > 0 {
@@ -153,7 +198,7 @@ impl<'a> Neighbours<'a> {
     pub(crate) fn fill_below(&self, end: usize, block: &mut [u32])
         requires within { end ≤ length self.now }
         requires room { length block.old ≤ end }
-        ensures { block.new ≡ take (length block.old) (reverse (take end self.now)) }
+        ensures { block.new ≡ take (length block.old) (reverse (take end (keys_of self.now))) }
     {
         let (first, width, mask, len) = (self.first, self.width, self.mask, self.len);
         let count = block.len();
@@ -174,18 +219,43 @@ impl<'a> Neighbours<'a> {
         }
     }
 
+    /// Fills a block with the weights from an index on.
+    #[inline]
+    pub(crate) fn fill_weights_from(&self, from: usize, block: &mut [i64])
+        requires { from + length block.old ≤ length self.now }
+        ensures { block.new ≡ take (length block.old) (drop from (values_of self.now)) }
+    {
+        if block.is_empty() {
+            return;
+        }
+        let start = self.width * (self.len - 1) + self.weights.size() * from;
+        fill_weights(self.offsets, self.weights, start, block);
+    }
+
+    /// Fills a block with the weights below an index, downward.
+    #[inline]
+    pub(crate) fn fill_weights_below(&self, end: usize, block: &mut [i64])
+        requires within { end ≤ length self.now }
+        requires room { length block.old ≤ end }
+        ensures { block.new ≡ take (length block.old) (reverse (take end (values_of self.now))) }
+    {
+        self.fill_weights_from(end - block.len(), block);
+        block.reverse();
+    }
+
     /// The index up to which the neighbours from another on are below a vertex, and the index from
-    /// which they are above it.
+    /// which they are above it. Where the vertex is among them, it stands at the first index.
     pub(crate) fn cut(&self, from: usize, neighbour: u32) -> (usize, usize)
         requires { from ≤ length self.now }
         ensures order { (from ≤ result.0) × (result.0 ≤ result.1) × (result.1 ≤ length self.now) }
-        ensures below { slice_range self.now from result.0 ≡ below neighbour (drop from self.now) }
-        ensures above { drop result.1 self.now ≡ above neighbour (drop from self.now) }
+        ensures found { result.0 < result.1 → slice_index (keys_of self.now) result.0 ≡ neighbour }
+        ensures below { slice_range self.now from result.0 ≡ entries_below neighbour (drop from self.now) }
+        ensures above { drop result.1 self.now ≡ entries_above neighbour (drop from self.now) }
     {
         let (mut low, mut high) = (from, self.len());
         while low < high {
             let middle = low + (high - low) / 2;
-            let found = self.get(middle);
+            let found = self.neighbour(middle);
             if found == neighbour {
                 return (middle, middle + 1);
             }
@@ -198,22 +268,75 @@ impl<'a> Neighbours<'a> {
         (low, low)
     }
 
-    /// Adds the neighbours from an index up to another behind others. The only error is out of
-    /// memory.
+    /// Adds the neighbours from an index up to another behind others, with their weights if not all are
+    /// 1. The only error is out of memory.
     pub(crate) fn append_to(
         &self,
         from: usize,
         to: usize,
-        list: &mut Vec<u32>,
+        list: &mut EntryColumns,
     ) -> Result<(), AllocError>
         requires order { from ≤ to }
         requires within { to ≤ length self.now }
-        ensures { IfOk result (λ _. list.new.items ≡ list.old.items ++ slice_range self.now from to) }
+        ensures { IfOk result (λ _. list.new ≡ list.old ++ slice_range self.now from to) }
     {
-        prove!(to <= self.len);
-        let len = list.len();
-        list.resize(len + (to - from), 0)?;
-        self.fill_from(from, &mut list[len..]);
+        let count = to - from;
+        self.append_weights(from, count, list.keys.len(), &mut list.weights)?;
+        self.append_keys(from, count, &mut list.keys)?;
+        Ok(())
+    }
+
+    /// Adds so many neighbours from an index on behind others. The only error is out of memory.
+    fn append_keys(&self, from: usize, count: usize, keys: &mut Vec<u32>) -> Result<(), AllocError>
+        requires { from + count ≤ length self.now }
+        ensures { IfOk result (λ _. keys.new.items
+            ≡ keys.old.items ++ take count (drop from (keys_of self.now))) }
+    {
+        prove!(count <= self.len);
+        let len = keys.len();
+        keys.resize(len + count, 0)?;
+        self.fill_from(from, &mut keys[len..]);
+        Ok(())
+    }
+
+    /// Adds the weights of so many neighbours from an index on behind those of so many others, unless all
+    /// are 1. The only error is out of memory.
+    fn append_weights(
+        &self,
+        from: usize,
+        count: usize,
+        others: usize,
+        weights: &mut Vec<i64>,
+    ) -> Result<(), AllocError>
+        requires { from + count ≤ length self.now }
+        ensures { IfOk result (λ _. column_of (others + count) weights.new.items
+            ≡ column_of others weights.old.items ++ take count (drop from (values_of self.now))) }
+    {
+        if self.weights.is_ones() {
+            weights.truncate(others);
+            return Ok(());
+        }
+        pad(weights, others)?;
+        self.append_column(from, count, weights)?;
+        Ok(())
+    }
+
+    /// Adds the weights of so many neighbours from an index on behind others. The only error is out of
+    /// memory.
+    fn append_column(
+        &self,
+        from: usize,
+        count: usize,
+        weights: &mut Vec<i64>,
+    ) -> Result<(), AllocError>
+        requires { from + count ≤ length self.now }
+        ensures { IfOk result (λ _. weights.new.items
+            ≡ weights.old.items ++ take count (drop from (values_of self.now))) }
+    {
+        prove!(count <= self.len);
+        let len = weights.len();
+        weights.resize(len + count, 1)?;
+        self.fill_weights_from(from, &mut weights[len..]);
         Ok(())
     }
 }

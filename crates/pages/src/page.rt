@@ -1,8 +1,10 @@
 //! Pages of the neighbours of 64 vertices: what stands in one, look-ups, and building one up.
 
 ghost use Rattle.std.specs.Prelude.{◌≡◌, ◌+◌, ◌<◌, ◌≤◌, ◌↔◌, ◌∷◌, ◌++◌, [], length, slice_range, IfOk, OnOk, OnErr, IsTrue};
-ghost use Rattle.pages.specs.Lists.{AscendsFrom};
-ghost use Rattle.pages.specs.Vertices.{Rises, neighbours_of, count_below, IsPage};
+ghost use Rattle.ascending_lists.specs.Ascending.{AscendsFrom};
+ghost use Rattle.ascending_lists.specs.Maps.{Rises};
+ghost use Rattle.edge_updates.specs.Weighted.{weighted};
+ghost use Rattle.pages.specs.Vertices.{neighbours_of, count_below, IsPage};
 
 use crate::appending::{PADDING, copy, start_of, store};
 use crate::entry::{ListEntry, list_of};
@@ -15,8 +17,8 @@ use std::marker::Model;
 /// How many neighbours a vertex has at most in a page.
 pub const MAX_PACKED: usize = 256;
 
-/// The neighbours of 64 vertices. A contract sees the vertices that are present, ascending, each with
-/// its neighbours.
+/// The neighbours of 64 vertices, each with a weight. A contract sees the vertices that are present,
+/// ascending, each with its neighbours and their weights.
 pub struct Page {
     /// A bit for each vertex that is present.
     present: u64,
@@ -37,10 +39,10 @@ impl Drop for Page {
 }
 
 impl Model for Page {
-    ghost use Rattle.std.specs.Prelude.{ℕ, List};
+    ghost use Rattle.std.specs.Prelude.{ℕ, ℤ, List};
     ghost use Rattle.pages.specs.inside.Entries.{lists_in, IsStored};
 
-    ghost Value = { List (ℕ × List ℕ) };
+    ghost Value = { List (ℕ × List (ℕ × ℤ)) };
 
     ghost view = { λ p. lists_in p.bytes.items p.entries.items };
 
@@ -84,7 +86,7 @@ impl Page {
         ensures { result ≡ length (neighbours_of vertex self.now) }
     {
         match rank(self.present, vertex) {
-            Some(index) => u32::from(self.entries[index].degree),
+            Some(index) => u32::from(self.entries[index].last) + 1,
             None => 0,
         }
     }
@@ -110,7 +112,8 @@ impl Page {
     }
 
     /// A page of no vertex, with room in advance for so many vertices and so many bytes of lists: a
-    /// list takes 4 bytes, and 1 to 4 more for each neighbour after its first.
+    /// list takes 4 bytes, 1 to 4 more for each neighbour after its first, and where not all weights
+    /// are 1, 1 to 8 more for each neighbour.
     ///
     /// The only error is out of memory.
     pub fn with_capacity(alloc: Global, vertices: usize, size: usize) -> Result<Page, AllocError>
@@ -138,18 +141,20 @@ impl Page {
         Page::with_capacity(alloc, vertices, size)
     }
 
-    /// Adds a vertex that is above all others, with its neighbours. It takes time in proportion to
-    /// them. The only error is out of memory, and then the page is as it was.
-    pub fn push(&mut self, vertex: u32, list: &[u32]) -> Result<(), AllocError>
+    /// Adds a vertex that is above all others, with its neighbours and their weights; where the weights
+    /// are over, all are 1. It takes time in proportion to the neighbours. The only error is out of
+    /// memory, and then the page is as it was.
+    pub fn push(&mut self, vertex: u32, keys: &[u32], weights: &[i64]) -> Result<(), AllocError>
         requires vertex { vertex < 64 }
         requires above { Rises 0 vertex self.old }
-        requires some { 0 < length list.now }
-        requires few { length list.now ≤ MAX_PACKED }
-        requires ascending { AscendsFrom 0 list.now }
-        ensures ok { OnOk result (self.new ≡ self.old ++ (vertex, list.now) ∷ []) }
+        requires some { 0 < length keys.now }
+        requires few { length keys.now ≤ MAX_PACKED }
+        requires ascending { AscendsFrom 0 keys.now }
+        ensures ok { OnOk result (self.new ≡ self.old
+            ++ (vertex, weighted keys.now weights.now) ∷ []) }
         ensures err { OnErr result (self.new ≡ self.old) }
     {
-        store(&mut self.entries, &mut self.bytes, vertex, list)?;
+        store(&mut self.entries, &mut self.bytes, vertex, keys, weights)?;
         self.present |= 1 << vertex;
         Ok(())
     }

@@ -1,9 +1,13 @@
 //! Lists that are packed into bytes.
 
-ghost use Rattle.std.specs.Prelude.{◌≡◌, ◌+◌, ◌-◌, ◌*◌, ◌^◌, ◌<◌, ◌≤◌, length, take, drop};
-ghost use Rattle.std.specs.Int.{w32, to_le_bytes};
-ghost use Rattle.pages.specs.Lists.{AscendsFrom};
+ghost use Rattle.std.specs.Prelude.{◌≡◌, ℕ, ℤ, pos, ◌+◌, ◌-◌, ◌*◌, ◌^◌, ◌<◌, ◌≤◌, length, get_or, take, drop};
+ghost use Rattle.std.specs.Int.{w16, w32, w64, to_le_bytes};
+ghost use Rattle.ascending_lists.specs.Ascending.{AscendsFrom};
+ghost use Rattle.pages.specs.declared.weights.WeightWidth.{WeightWidth};
+ghost use Rattle.pages.specs.inside.Weights.{weight_size, weight_in, weights_from, Allows, column_of};
 ghost use Rattle.pages.specs.inside.Packed.{elements_in, span_of};
+
+use crate::weights::WeightWidth;
 
 /// How many bytes each offset takes where the greatest is `span`.
 #[inline]
@@ -46,5 +50,77 @@ pub(crate) fn write(bytes: &mut [u8], place: usize, width: usize, list: &[u32])
     for index in 1..list.len() {
         put(bytes, at, list[index] - first);
         at += width;
+    }
+}
+
+/// Writes one weight from a place on.
+#[inline(always)]
+fn put_weight(bytes: &mut [u8], place: usize, width: WeightWidth, weight: i64)
+    requires allows { Allows width weight }
+    requires room { place + weight_size width ≤ length bytes.old }
+    ensures front { take place bytes.new ≡ take place bytes.old }
+    ensures weight { weight_in width (drop place bytes.new) ≡ weight }
+{
+    match width {
+        WeightWidth::Ones => {}
+        WeightWidth::OneByte => bytes[place] = weight as u8,
+        WeightWidth::TwoBytes => put_two(bytes, place, weight as u16),
+        WeightWidth::FourBytes => put(bytes, place, (weight as i32).cast_unsigned()),
+        WeightWidth::EightBytes => put_eight(bytes, place, weight.cast_unsigned()),
+    }
+}
+
+/// Writes a number into the two bytes from a place on, the low byte first.
+#[inline(always)]
+fn put_two(bytes: &mut [u8], place: usize, number: u16)
+    requires { place + 2 ≤ length bytes.old }
+    ensures front { take place bytes.new ≡ take place bytes.old }
+    ensures part { take 2 (drop place bytes.new) ≡ to_le_bytes w16 number }
+{
+    bytes[place..place + 2].copy_from_slice(&number.to_le_bytes());
+}
+
+/// Writes a number into the eight bytes from a place on, the low byte first.
+#[inline(always)]
+fn put_eight(bytes: &mut [u8], place: usize, number: u64)
+    requires { place + 8 ≤ length bytes.old }
+    ensures front { take place bytes.new ≡ take place bytes.old }
+    ensures part { take 8 (drop place bytes.new) ≡ to_le_bytes w64 number }
+{
+    bytes[place..place + 8].copy_from_slice(&number.to_le_bytes());
+}
+
+/// Writes the weights of so many neighbours from a place on: those of a column, and 1 where it is over.
+pub(crate) fn write_weights(
+    bytes: &mut [u8],
+    place: usize,
+    width: WeightWidth,
+    count: usize,
+    weights: &[i64],
+)
+    requires allows { (i : ℕ) → Allows width (get_or weights.now i (pos 1)) }
+    requires room { place + weight_size width * count ≤ length bytes.old }
+    ensures front { take place bytes.new ≡ take place bytes.old }
+    ensures weights { weights_from width count (drop place bytes.new) ≡ column_of count weights.now }
+{
+    if width.is_ones() {
+        return;
+    }
+    let mut at = place;
+    for index in 0..count {
+        put_weight(bytes, at, width, weight_of(weights, index));
+        at += width.size();
+    }
+}
+
+/// The weight at an index of a column, 1 where the column is over.
+#[inline(always)]
+fn weight_of(weights: &[i64], index: usize) -> i64
+    ensures { result ≡ get_or weights.now index (pos 1) }
+{
+    if index < weights.len() {
+        weights[index]
+    } else {
+        1
     }
 }

@@ -1,2 +1,4 @@
+pub mod Cutting
 pub mod Laws
 pub mod Combining
+pub mod Crossing

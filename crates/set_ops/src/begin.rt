@@ -1,21 +1,24 @@
 //! The step before the halves.
 
 ghost use Rattle.std.specs.Prelude.{◌≡◌, IfOk};
+ghost use Rattle.std.specs.Map.{keys_of};
 ghost use Rattle.ascending_lists.specs.Ascending.{Ascends};
+ghost use Rattle.ascending_lists.specs.MapOperations.{without_keys};
 ghost use Rattle.c_tree.specs.Chunks.{HasNoHead};
 ghost use Rattle.set_ops.specs.Answers.{IsCombined};
 ghost use Rattle.set_ops.specs.Halving.{IsBegun};
 
 use crate::combined::{Combined, Task};
 use crate::with_list::combine_with_list;
-use ascending_lists::Operation;
 use c_tree::{Cut, Part, View};
 use std::alloc::{AllocError, Global};
+use tail_codec::{Entries, EntryList, MapOperation};
 
 /// Two views cut at the head at the first's root.
 pub(crate) struct Halves<'a> {
     pub(crate) left: View<'a>,
     pub(crate) key: u32,
+    pub(crate) weight: i64,
     pub(crate) right: View<'a>,
     pub(crate) second: Cut,
 }
@@ -26,6 +29,7 @@ impl<'a> Drop for Halves<'a> {
         let Halves {
             left: _,
             key: _,
+            weight: _,
             right: _,
             second: _,
         } = self;
@@ -35,44 +39,50 @@ impl<'a> Drop for Halves<'a> {
 impl<'a> Halves<'a> {
     /// The same with owners of their own. The error comes where a count of owners is full.
     pub(crate) fn into_owned(self) -> Result<OwnedHalves, AllocError>
-        ensures { IfOk result (λ h. (h.first.below ≡ self.entry.left) × (h.key ≡ self.entry.key)
-            × (h.first.above ≡ self.entry.right) × (h.second ≡ self.entry.second)) }
+        ensures { IfOk result (λ h. (h.left ≡ self.entry.left) × (h.key ≡ self.entry.key)
+            × (h.weight ≡ self.entry.weight) × (h.right ≡ self.entry.right)
+            × (h.second ≡ self.entry.second)) }
     {
         let Halves {
             left,
             key,
+            weight,
             right,
             second,
         } = self;
-        let first = Cut {
-            below: left.share()?,
-            found: true,
-            above: right.share()?,
-        };
-        Ok(OwnedHalves { key, first, second })
+        let (left, right) = (left.share()?, right.share()?);
+        Ok(OwnedHalves {
+            left,
+            right,
+            second,
+            key,
+            weight,
+        })
     }
 }
 
 /// As [`Halves`], to be lent to other threads.
 pub(crate) struct OwnedHalves {
-    pub(crate) key: u32,
-    pub(crate) first: Cut,
+    pub(crate) left: Part,
+    pub(crate) right: Part,
     pub(crate) second: Cut,
+    pub(crate) key: u32,
+    pub(crate) weight: i64,
 }
 
 impl OwnedHalves {
     /// What both have below the head.
     pub(crate) fn below(&self) -> (View<'_>, View<'_>)
-        ensures { (result.0 ≡ self.now.first.below) × (result.1 ≡ self.now.second.below) }
+        ensures { (result.0 ≡ self.now.left) × (result.1 ≡ self.now.second.below) }
     {
-        (self.first.below.view(), self.second.below.view())
+        (self.left.view(), self.second.below.view())
     }
 
     /// What both have above the head.
     pub(crate) fn above(&self) -> (View<'_>, View<'_>)
-        ensures { (result.0 ≡ self.now.first.above) × (result.1 ≡ self.now.second.above) }
+        ensures { (result.0 ≡ self.now.right) × (result.1 ≡ self.now.second.above) }
     {
-        (self.first.above.view(), self.second.above.view())
+        (self.right.view(), self.second.above.view())
     }
 }
 
@@ -80,9 +90,11 @@ impl OwnedHalves {
 impl Drop for OwnedHalves {
     fn drop(self) {
         let OwnedHalves {
-            key: _,
-            first: _,
+            left: _,
+            right: _,
             second: _,
+            key: _,
+            weight: _,
         } = self;
     }
 }
@@ -105,23 +117,24 @@ pub(crate) fn begin<'a>(
     second: &View<'_>,
 ) -> Result<Begun<'a>, AllocError>
     requires sizes { first.now.chunk_size ≡ second.now.chunk_size }
-    requires first_over { Ascends task.base first.now.elements }
-    requires second_over { Ascends task.base second.now.elements }
+    requires first_over { Ascends task.base (keys_of first.now.entries) }
+    requires second_over { Ascends task.base (keys_of second.now.entries) }
     ensures { IfOk result (IsBegun task.operation first.now second.now) }
 {
-    let Some((left, key, right)) = first.root() else {
+    let Some((left, key, weight, right)) = first.root() else {
         let combined = combine_plain(alloc, task, first, second)?;
         return Ok(Begun::Whole(combined));
     };
     if second.depth() == 0 {
-        let elements = second.elements(alloc)?;
-        let combined = combine_with_list(alloc, task, first, &elements)?;
+        let list = second.entries(alloc)?;
+        let combined = combine_with_list(alloc, task, first, &list.lent())?;
         return Ok(Begun::Whole(combined));
     }
     let second = second.cut(alloc, key)?;
     Ok(Begun::Halved(Halves {
         left,
         key,
+        weight,
         right,
         second,
     }))
@@ -135,36 +148,60 @@ fn combine_plain(
     second: &View<'_>,
 ) -> Result<Combined, AllocError>
     requires sizes { first.now.chunk_size ≡ second.now.chunk_size }
-    requires first_over { Ascends task.base first.now.elements }
-    requires second_over { Ascends task.base second.now.elements }
-    ensures { IfOk result (λ c. IsCombined task.operation first.now.chunk_size first.now.elements
-        second.now.elements c.part c.common) }
+    requires first_over { Ascends task.base (keys_of first.now.entries) }
+    requires second_over { Ascends task.base (keys_of second.now.entries) }
+    ensures { IfOk result (λ c. IsCombined task.operation first.now.chunk_size first.now.entries
+        second.now.entries c.part c.common) }
 {
-    let elements = first.elements(alloc)?;
+    let list = first.entries(alloc)?;
+    let list = list.lent();
     match task.operation {
-        Operation::Union => combine_with_list(alloc, task, second, &elements),
-        Operation::Difference => subtract(alloc, task.base, &elements, second),
+        MapOperation::Union => {
+            let task = task.doing(MapOperation::UnionKeepingFirst);
+            combine_with_list(alloc, task, second, &list)
+        }
+        MapOperation::UnionKeepingFirst => {
+            let task = task.doing(MapOperation::Union);
+            combine_with_list(alloc, task, second, &list)
+        }
+        MapOperation::Difference => subtract(alloc, task.base, &list, second),
     }
 }
 
-/// What a list has and a view lacks, in chunks of the view's size.
+/// The entries of a list whose keys a view lacks, in chunks of the view's size.
 fn subtract(
     alloc: Global,
     base: Option<u32>,
-    first: &[u32],
+    first: &Entries<'_>,
     second: &View<'_>,
 ) -> Result<Combined, AllocError>
-    requires { Ascends base first.now }
-    ensures { IfOk result (λ c. IsCombined Operation.Difference second.now.chunk_size first.now
-        second.now.elements c.part c.common) }
+    requires { Ascends base (keys_of first.now) }
+    ensures { IfOk result (λ c. IsCombined MapOperation.Difference second.now.chunk_size first.now
+        second.now.entries c.part c.common) }
 {
-    let mut list = Vec::new(alloc);
-    for element in first {
-        if !second.contains(*element) {
-            list.push(*element)?;
-        }
-    }
+    let list = without_common(alloc, first, second)?;
+    let list = list.lent();
     let common = first.len() - list.len();
     let part = Part::from_ascending(alloc, base, second.chunk_size(), &list)?;
     Ok(Combined { part, common })
+}
+
+/// The entries of a list whose keys a view lacks.
+fn without_common(
+    alloc: Global,
+    first: &Entries<'_>,
+    second: &View<'_>,
+) -> Result<EntryList, AllocError>
+    ensures { IfOk result (λ l. l ≡ without_keys first.now (keys_of second.now.entries)) }
+{
+    let first_keys = first.keys();
+    let (mut keys, mut weights) = (Vec::new(alloc), Vec::new(alloc));
+    for place in 0..first_keys.len() {
+        let key = first_keys[place];
+        if !second.contains(key) {
+            keys.push(key)?;
+            weights.push(first.weight(place))?;
+        }
+    }
+    Ok(EntryList::new(keys, weights))
 }

@@ -2,15 +2,15 @@
 
 ghost use Rattle.std.specs.Prelude.{◌≡◌, ◌+◌, ◌<◌, ◌≤◌, IfOk, Ok};
 ghost use denote.Param.Send.{IsSync};
+ghost use Rattle.std.specs.Map.{keys_of};
 ghost use Rattle.ascending_lists.specs.Ascending.{Ascends};
 ghost use Rattle.set_ops.specs.Answers.{IsCombined};
 ghost use Rattle.set_ops.specs.Halving.{HasForks, AreLent, AreLentAnswers, IsLentBelow, IsLentAbove};
 
 use crate::begin::{Begun, OwnedHalves, begin};
 use crate::combine::combine;
-use crate::combined::{Combined, Task, rejoin};
+use crate::combined::{Combined, Head, Task, rejoin};
 use crate::fork::Fork;
-use ascending_lists::Operation;
 use c_tree::View;
 use std::alloc::{AllocError, Global};
 use std::thread::{self, Threads};
@@ -29,11 +29,11 @@ pub(crate) fn combine_forked<R: Threads + Sync, F: Fork + Sync>(
     fork: &F,
 ) -> Result<Combined, AllocError>
     requires sizes { first.now.chunk_size ≡ second.now.chunk_size }
-    requires first_over { Ascends task.base first.now.elements }
-    requires second_over { Ascends task.base second.now.elements }
+    requires first_over { Ascends task.base (keys_of first.now.entries) }
+    requires second_over { Ascends task.base (keys_of second.now.entries) }
     requires few { forks + level ≤ 7 }
-    ensures { IfOk result (λ c. IsCombined task.operation first.now.chunk_size first.now.elements
-        second.now.elements c.part c.common) }
+    ensures { IfOk result (λ c. IsCombined task.operation first.now.chunk_size first.now.entries
+        second.now.entries c.part c.common) }
 {
     if forks == 0 {
         return combine(alloc, task, first, second);
@@ -43,14 +43,12 @@ pub(crate) fn combine_forked<R: Threads + Sync, F: Fork + Sync>(
         Begun::Halved(halves) => halves.into_owned()?,
     };
     let (below, above) = in_two(rt, alloc, task, &halves, forks, level, fork)?;
-    rejoin(
-        alloc,
-        task.operation,
-        halves.key,
-        halves.second.found,
-        below,
-        above,
-    )
+    let head = Head {
+        key: halves.key,
+        weight: halves.weight,
+        found: halves.second.found,
+    };
+    rejoin(alloc, task.operation, head, below, above)
 }
 
 /// The answers for the halves below and above a head, each on a thread of its own.

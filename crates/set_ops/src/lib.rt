@@ -1,30 +1,32 @@
-//! Union and difference of sets in chunks.
+//! Union and difference of sets in chunks whose elements have weights.
 //!
 //! `union` and `difference` take two sets of one chunk size and give a set of that chunk size; a
-//! contract sees the answer's list as the union or the difference of the two lists, which
-//! `ascending_lists` defines by cases with laws on their elements. As a C-tree has one chunking for each
-//! list, that says how the answer is cut, whatever chunks the two had. The two sets stay as they were.
+//! contract sees the answer's entries as the union or the difference of the two lists of entries, which
+//! `ascending_lists` defines by cases, with laws on their keys and on the weight at each key. Where both
+//! sets have a key, a union keeps the second's weight. As a C-tree has one chunking for each list of
+//! entries, that says how the answer is cut, whatever chunks the two had. The two sets stay as they were.
 //!
 //! Both sets are cut at the head at the first's root; what lies below it and above it is done each by
 //! itself, and joined. `specs/Answers.antt` says what that comes to. Where one side has nothing in a
-//! range, the other's chunks there are shared. The recursion counts the elements that both have, so the
-//! answer's number of elements takes no walk. Sets of k and n elements take the heads of the smaller
-//! and of what lies beside them, about `k log(n / k + 1)` nodes, beside the chunks that both sets
-//! reach into.
+//! range, the other's chunks there are shared. The recursion counts the keys that both have, so the
+//! answer's number of entries takes no walk. Sets of k and n entries take the heads of the smaller and
+//! of what lies beside them, about `k log(n / k + 1)` nodes, beside the chunks that both sets reach into.
 //!
 //! Where both sides have few heads, and about as many, and lie in one another's ranges, both are read
 //! as lists, the lists are merged, and the answer's chunks are made anew, which is faster than a cut at
 //! each head.
 //!
-//! `insert_all` and `remove_all` take an ascending list in place of the second set, and refuse one that
-//! does not ascend. The list is cut at the heads of the set, so that only the way down to the chunks
-//! that it reaches is made anew. A second set that has no head is taken as such a list too.
+//! `insert_all` takes entries in place of the second set, `remove_all` ascending keys, and both refuse
+//! keys that do not ascend. The list is cut at the heads of the set, so that only the way down to the
+//! chunks that it reaches is made anew. A second set that has no head is taken as such a list too, and
+//! so is a first one: a union then goes on with the two exchanged, and keeps the first's weights.
 //!
 //! `union_forked` and `difference_forked` give the same answers, with the halves on two threads at the
 //! first levels; a `Fork` is told of each half that begins. Only they need a handle of threads.
 //!
-//! Graphs stand on this crate. The recursion is that of "Just Join for Parallel Ordered Sets"
-//! (Blelloch, Ferizovic, Sun, SPAA 2016) as Aspen has it on C-trees (PLDI 2019).
+//! Nothing stands on this crate yet: graphs stand on `set_ops`, whose sets have no weights. The recursion
+//! is that of "Just Join for Parallel Ordered Sets" (Blelloch, Ferizovic, Sun, SPAA 2016) as Aspen has it
+//! on C-trees (PLDI 2019).
 #![tactic(auto)]
 
 mod begin;
@@ -36,6 +38,8 @@ mod forked;
 mod lists;
 mod mixed;
 mod sets;
+#[cfg(test)]
+mod tests;
 mod with_list;
 
 pub use error::SetError;

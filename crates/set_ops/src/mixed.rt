@@ -2,7 +2,7 @@
 
 use c_tree::{Heads, View};
 
-/// The deepest trees of heads that are merged element by element.
+/// The deepest trees of heads that are merged entry by entry.
 const DEEPEST: u32 = 8;
 
 /// Whether two views have few heads, and about as many, and lie in one another's ranges, so that hardly
@@ -25,9 +25,9 @@ fn longest_run(heads: Heads<'_>, others: Heads<'_>) -> u32 {
     let (mut heads, mut others) = (heads, others);
     let (mut next, mut bound) = (heads.next(), others.next());
     let (mut run, mut longest) = (0u32, 0u32);
-    while let Some((head, _)) = next {
+    while let Some((head, _, _)) = next {
         match bound {
-            Some((other, _)) if other <= head => {
+            Some((other, _, _)) if other <= head => {
                 bound = others.next();
                 run = 0;
             }

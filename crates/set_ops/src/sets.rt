@@ -9,27 +9,28 @@ use crate::combined::Task;
 use crate::error::SetError;
 use crate::fork::Fork;
 use crate::forked::combine_forked;
-use ascending_lists::Operation;
 use c_tree::{CTree, View};
 use std::alloc::Global;
 use std::thread::Threads;
+use tail_codec::MapOperation;
 
 /// The most levels at which halves go to two threads.
 const MOST_FORKS: u32 = 6;
 
-/// The set of the elements of both sets, in chunks of the size that both have. The two sets stay as
-/// they were, and the answer shares with them the chunks in whose range the other has nothing.
+/// The set of the entries of both sets, in chunks of the size that both have. Where both have a key, the
+/// weight is the second's. The two sets stay as they were, and the answer shares with them the chunks in
+/// whose range the other has nothing.
 ///
 /// Errors: `ChunkSizesDiffer` where the sets have different chunk sizes, else `NoMemory`.
 pub fn union(alloc: Global, first: &CTree, second: &CTree) -> Result<CTree, SetError>
     ensures { Unites first.now second.now result }
 {
     let (a, b) = views_of(first, second)?;
-    let united = combine(alloc, Task::new(Operation::Union), &a, &b)?;
-    Ok(united.into_set(alloc, Operation::Union, first.len(), second.len())?)
+    let united = combine(alloc, Task::new(MapOperation::Union), &a, &b)?;
+    Ok(united.into_set(alloc, MapOperation::Union, first.len(), second.len())?)
 }
 
-/// The set of the elements of the first set that the second lacks, in chunks of the size that both
+/// The set of the entries of the first set whose keys the second lacks, in chunks of the size that both
 /// have. The two sets stay as they were, and the answer shares with the first the chunks in whose
 /// range the second has nothing.
 ///
@@ -38,8 +39,8 @@ pub fn difference(alloc: Global, first: &CTree, second: &CTree) -> Result<CTree,
     ensures { Subtracts first.now second.now result }
 {
     let (a, b) = views_of(first, second)?;
-    let rest = combine(alloc, Task::new(Operation::Difference), &a, &b)?;
-    Ok(rest.into_set(alloc, Operation::Difference, first.len(), second.len())?)
+    let rest = combine(alloc, Task::new(MapOperation::Difference), &a, &b)?;
+    Ok(rest.into_set(alloc, MapOperation::Difference, first.len(), second.len())?)
 }
 
 /// As [`union`], with the two halves on two threads at so many levels, at most 6. Where no thread can
@@ -62,14 +63,14 @@ pub fn union_forked<R: Threads + Sync, F: Fork + Sync>(
     let both = combine_forked(
         rt,
         alloc,
-        Task::new(Operation::Union),
+        Task::new(MapOperation::Union),
         &a,
         &b,
         forks,
         1,
         fork,
     )?;
-    Ok(both.into_set(alloc, Operation::Union, first.len(), second.len())?)
+    Ok(both.into_set(alloc, MapOperation::Union, first.len(), second.len())?)
 }
 
 /// As [`difference`], with the two halves on two threads at so many levels, at most 6. Where no thread
@@ -92,14 +93,14 @@ pub fn difference_forked<R: Threads + Sync, F: Fork + Sync>(
     let left = combine_forked(
         rt,
         alloc,
-        Task::new(Operation::Difference),
+        Task::new(MapOperation::Difference),
         &a,
         &b,
         forks,
         1,
         fork,
     )?;
-    Ok(left.into_set(alloc, Operation::Difference, first.len(), second.len())?)
+    Ok(left.into_set(alloc, MapOperation::Difference, first.len(), second.len())?)
 }
 
 /// Both sets where they stand.

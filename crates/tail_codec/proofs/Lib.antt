@@ -1,3 +1,11 @@
-pub mod Steps
+pub mod Columns
+pub mod MapPlaces
+pub mod Numbers
+pub mod Weights
 pub mod Lists
+pub mod Continuing
+pub mod EntryNumbers
 pub mod Writing
+pub mod Filling
+pub mod MapMerging
+pub mod MapOnes

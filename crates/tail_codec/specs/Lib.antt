@@ -1,7 +1,8 @@
+pub mod Columns
+pub mod EntryCuts
+pub mod Operations
 pub mod Spelling
 pub mod Outcome
 pub mod Refusal
-pub mod Decoding
-pub mod Writing
 pub mod Appending
-pub mod Bytes
+pub mod inside

@@ -1,12 +1,16 @@
-ghost use Rattle.std.specs.Prelude.{◌≡◌, ℕ, ◌+◌, ◌^◌, ◌<◌, true, List, ◌∷◌, length, take, drop, min};
-ghost use Rattle.std.specs.Iterator.{YieldsFirst, item_count};
-ghost use Rattle.tail_codec.specs.Decoding.{elements_from, is_spelling_from};
-ghost use Rattle.tail_codec.specs.Spelling.{Spells};
+//! Entries that are read from the bytes of a tail.
 
-use ascending_lists::least_over;
+ghost use Rattle.std.specs.Prelude.{◌≡◌, ℕ, ℤ, List, ◌+◌, ◌^◌, ◌<◌, ◌≤◌, ◌∷◌, length, take, drop, min};
+ghost use Rattle.std.specs.Iterator.{YieldsFirst, item_count};
+ghost use Rattle.std.specs.Map.{keys_of, values_of};
+ghost use Rattle.tail_codec.specs.Spelling.{Spells, SpellsFrom};
+ghost use Rattle.tail_codec.specs.inside.Decoding.{decoded};
+
+use crate::base::least_over;
+use crate::reading::read_entry;
 use std::marker::Model;
 
-/// The elements of a tail that are still to come, ascending.
+/// The entries of a tail that are still to come, in ascending order of keys.
 #[derive(Drop)]
 pub struct TailIter<'a> {
     low: u64,
@@ -14,102 +18,128 @@ pub struct TailIter<'a> {
 }
 
 impl<'a> Model for TailIter<'a> {
-    ghost use Rattle.std.specs.Prelude.{◌≡◌, ℕ, List, true};
-    ghost use Rattle.tail_codec.specs.Decoding.{elements_from, is_spelling_from};
+    ghost use Rattle.std.specs.Prelude.{ℕ, ◌≤◌, ◌^◌, ℤ, List};
+    ghost use Rattle.tail_codec.specs.Spelling.{SpellsFrom};
+    ghost use Rattle.tail_codec.specs.inside.Decoding.{decoded};
 
-    ghost Value = { List ℕ };
+    ghost Value = { List (ℕ × ℤ) };
 
-    ghost view = { λ i. elements_from i.low 1 i.rest.now };
+    ghost view = { λ i. decoded i.low i.rest.now };
 
-    ghost invariant = { λ i. is_spelling_from i.low 1 i.rest.now ≡ true };
+    ghost invariant = { λ i. (i.low ≤ 2 ^ 32)
+        × SpellsFrom i.low (decoded i.low i.rest.now) i.rest.now };
 }
 
 impl<'a> TailIter<'a> {
-    /// The elements that the bytes spell from `low` on.
+    /// The entries that the bytes spell from `low` on.
     #[inline]
     pub(crate) fn new(low: u64, rest: &'a [u8]) -> TailIter<'a>
-        requires { is_spelling_from low 1 rest.now ≡ true }
-        ensures { result ≡ elements_from low 1 rest.now }
+        requires low { low ≤ 2 ^ 32 }
+        requires spelling { SpellsFrom low (decoded low rest.now) rest.now }
+        ensures { result ≡ decoded low rest.now }
     {
         TailIter { low, rest }
     }
 
-    /// The elements of the list that the bytes are known to spell over the base, ascending. It takes
-    /// no memory.
+    /// The entries that the bytes are known to spell over the base. It takes no memory.
     #[inline]
     pub fn over(base: Option<u32>, bytes: &'a [u8]) -> TailIter<'a>
-        requires { (xs : List ℕ) × Spells base xs bytes.now }
+        requires { (es : List (ℕ × ℤ)) × Spells base es bytes.now }
         ensures { Spells base result bytes.now }
     {
         TailIter::new(least_over(base), bytes)
     }
 
-    /// Reads the next elements into the front of a block, as many as fit and are left, and gives
-    /// their number. It takes no memory, and the rest of the block stays as it was.
+    /// Reads the keys of the next entries into the front of a block, as many as fit and are left, and
+    /// gives their number. It takes no memory, and the rest of the block stays as it was.
     #[inline]
     pub fn fill(&mut self, block: &mut [u32]) -> usize
         ensures count { result ≡ min (length block.old) (length self.old) }
-        ensures filled { take result block.new ≡ take result self.old }
+        ensures filled { take result block.new ≡ take result (keys_of self.old) }
         ensures kept { drop result block.new ≡ drop result block.old }
         ensures rest { self.new ≡ drop result self.old }
     {
-        let mut elements = TailIter {
+        let mut entries = TailIter {
             low: self.low,
             rest: self.rest,
         };
         let mut filled = 0usize;
         for place in block.iter_mut() {
-            let Some(element) = elements.next() else {
+            let Some(entry) = entries.next() else {
                 break;
             };
-            *place = element;
+            *place = entry.0;
             filled += 1;
         }
-        *self = elements;
+        *self = entries;
+        filled
+    }
+
+    /// Reads the keys and the weights of the next entries into the fronts of two blocks, as many as fit
+    /// and are left, and gives their number. It takes no memory, and the rest of each block stays as it
+    /// was.
+    #[inline]
+    pub fn fill_weighted(&mut self, keys: &mut [u32], weights: &mut [i64]) -> usize
+        requires { length weights.old ≡ length keys.old }
+        ensures count { result ≡ min (length keys.old) (length self.old) }
+        ensures filled { take result keys.new ≡ take result (keys_of self.old) }
+        ensures weighted { take result weights.new ≡ take result (values_of self.old) }
+        ensures kept { drop result keys.new ≡ drop result keys.old }
+        ensures kept_weights { drop result weights.new ≡ drop result weights.old }
+        ensures rest { self.new ≡ drop result self.old }
+    {
+        let mut left = TailIter {
+            low: self.low,
+            rest: self.rest,
+        };
+        let mut filled = 0usize;
+        for place in 0..keys.len() {
+            let Some((key, weight)) = left.next() else {
+                break;
+            };
+            keys[place] = key;
+            weights[place] = weight;
+            filled += 1;
+        }
+        *self = left;
         filled
     }
 }
 
 impl<'a> Iterator for TailIter<'a> {
-    type Item = u32;
+    type Item = (u32, i64);
 
     ghost next_gives = { YieldsFirst (λ i. i) };
 
     ghost remaining = { item_count (λ i. i) };
 
     #[inline]
-    fn next(&mut self) -> Option<u32> {
+    fn next(&mut self) -> Option<(u32, i64)> {
         let (first, rest) = self.rest.split_first()?;
-        let first = u64::from(*first);
-        if first < 128 {
-            let element = self.low + first;
-            self.low = element + 1;
+        if *first < 128 && *first % 2 == 0 {
+            let key = self.low + u64::from(*first / 2);
+            self.low = key + 1;
             self.rest = rest;
-            return Some(element as u32);
+            return Some((key as u32, 1));
         }
-        let (element, rest) = long_number(self.low + (first - 128), 128, rest);
-        self.low = element + 1;
+        let (key, weight, rest) = known_entry(self.low, self.rest);
+        self.low = u64::from(key) + 1;
         self.rest = rest;
-        Some(element as u32)
+        Some((key, weight))
     }
 }
 
-/// The element whose lower bytes have brought it up to `from`, where the next seven bits count
-/// `place` each, and the bytes after it.
-#[inline]
-fn long_number(mut from: u64, mut place: u64, bytes: &[u8]) -> (u64, &[u8])
-    requires place { 1 < place }
-    requires spelling { is_spelling_from from place bytes.now ≡ true }
-    ensures element { result.0 < 2 ^ 32 }
-    ensures elements { elements_from from place bytes.now
-        ≡ result.0 ∷ elements_from (result.0 + 1) 1 result.1.now }
-    ensures rest { is_spelling_from (result.0 + 1) 1 result.1.now ≡ true }
+/// The first of the entries that the bytes are known to spell from `low` on, and the bytes after it.
+fn known_entry(low: u64, bytes: &[u8]) -> (u32, i64, &[u8])
+    requires low { low ≤ 2 ^ 32 }
+    requires some { 0 < length bytes.now }
+    requires spelling { SpellsFrom low (decoded low bytes.now) bytes.now }
+    ensures entries { decoded low bytes.now
+        ≡ (result.0, result.1) ∷ decoded (result.0 + 1) result.2.now }
+    ensures rest { SpellsFrom (result.0 + 1) (decoded (result.0 + 1) result.2.now) result.2.now }
 {
-    let mut rest = bytes;
-    while rest[0] >= 128 {
-        from += place * (u64::from(rest[0]) - 128);
-        place *= 128;
-        rest = &rest[1..];
+    match read_entry(low, bytes) {
+        Some(read) => read,
+        None => unreachable!(),
     }
-    (from + place * u64::from(rest[0]), &rest[1..])
 }

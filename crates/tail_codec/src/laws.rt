@@ -1,22 +1,26 @@
 //! What the definitions that contracts cite come to.
 
-ghost use Rattle.std.specs.Prelude.{◌≡◌, ℕ, Option, List};
+ghost use Rattle.std.specs.Prelude.{◌≡◌, ℕ, ℤ, Option, List};
+ghost use Rattle.std.specs.Map.{keys_of};
 ghost use Rattle.ascending_lists.specs.Ascending.{Ascends};
-ghost use Rattle.tail_codec.specs.Spelling.{Spells};
+ghost use Rattle.tail_codec.specs.Spelling.{AreWeights, Spells};
 
-/// The law that bytes spell at most one list over a base. The call does nothing.
+/// The law that bytes spell at most one list of entries over a base. The call does nothing.
 pub fn bytes_spell_one_list()
-    ensures { (base : Option ℕ) (xs ys bytes : List ℕ)
+    ensures { (base : Option ℕ) (xs ys : List (ℕ × ℤ)) (bytes : List ℕ)
         → Spells base xs bytes → Spells base ys bytes → xs ≡ ys }
 {}
 
-/// The law that a list of numbers below 2^32 that ascends strictly, above its base if there is one,
-/// has exactly one spelling, and that no other list has one. The call does nothing.
+/// The law that a list of entries with weights of 64 bits, whose keys are below 2^32 and ascend
+/// strictly, above the base if there is one, has exactly one spelling, and that no other list has one.
+/// The call does nothing.
 pub fn lists_have_one_spelling()
-    ensures spelled { (base : Option ℕ) (xs : List ℕ)
-        → Ascends base xs → (bytes : List ℕ) × Spells base xs bytes }
-    ensures once { (base : Option ℕ) (xs one other : List ℕ)
-        → Spells base xs one → Spells base xs other → one ≡ other }
-    ensures ascending { (base : Option ℕ) (xs bytes : List ℕ)
-        → Spells base xs bytes → Ascends base xs }
+    ensures spelled { (base : Option ℕ) (es : List (ℕ × ℤ))
+        → Ascends base (keys_of es) → AreWeights es → (bytes : List ℕ) × Spells base es bytes }
+    ensures once { (base : Option ℕ) (es : List (ℕ × ℤ)) (one other : List ℕ)
+        → Spells base es one → Spells base es other → one ≡ other }
+    ensures ascending { (base : Option ℕ) (es : List (ℕ × ℤ)) (bytes : List ℕ)
+        → Spells base es bytes → Ascends base (keys_of es) }
+    ensures weights { (base : Option ℕ) (es : List (ℕ × ℤ)) (bytes : List ℕ)
+        → Spells base es bytes → AreWeights es }
 {}

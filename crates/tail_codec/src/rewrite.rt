@@ -1,39 +1,41 @@
 //! Tails that are made of other tails.
 
 ghost use Rattle.std.specs.Prelude.{◌≡◌, ◌++◌, length, IfOk};
-ghost use Rattle.ascending_lists.specs.Sets.{Cuts};
+ghost use Rattle.std.specs.Map.{keys_of};
 ghost use Rattle.ascending_lists.specs.Ascending.{Ascends};
+ghost use Rattle.tail_codec.specs.EntryCuts.{CutsEntries};
 ghost use Rattle.tail_codec.specs.Spelling.{based_list};
 
+use crate::entries::{Entries, cut_entries};
+use crate::entry_list::EntryList;
 use crate::tail::Tail;
-use ascending_lists::cut_list;
 use std::alloc::{AllocError, Global};
 
-/// What a tail has below a number, whether it has the number, and what it has above.
+/// What a tail has below a key, the weight of the key if the tail has it, and what it has above.
 #[derive(Drop)]
 pub struct TailCut {
     pub below: Tail,
-    pub found: bool,
+    pub found: Option<i64>,
     pub above: Tail,
 }
 
 impl Tail {
-    /// The same elements over another base, which is below them. A tail that is over this base
-    /// already is not written anew.
+    /// The same entries over another base, which is below them. A tail that is over this base already
+    /// is not written anew.
     ///
     /// The only error is out of memory.
     pub fn over(self, alloc: Global, base: Option<u32>) -> Result<Tail, AllocError>
-        requires { Ascends base self.elements }
-        ensures { IfOk result (λ t. t ≡ based_list base self.elements) }
+        requires { Ascends base (keys_of self.entries) }
+        ensures { IfOk result (λ t. t ≡ based_list base self.entries) }
     {
         if self.base() == base {
             return Ok(self);
         }
-        let elements = self.elements(alloc)?;
-        Tail::from_ascending(alloc, base, &elements)
+        let entries = self.entries(alloc)?;
+        Tail::from_ascending(alloc, base, &entries.lent())
     }
 
-    /// The elements of this tail and then those of another, over a base below them.
+    /// The entries of this tail and then those of another, over a base below them.
     ///
     /// The only error is out of memory.
     pub fn followed_by(
@@ -42,28 +44,33 @@ impl Tail {
         base: Option<u32>,
         more: &Tail,
     ) -> Result<Tail, AllocError>
-        requires { Ascends base (self.now.elements ++ more.now.elements) }
-        ensures { IfOk result (λ t. t
-            ≡ based_list base (self.now.elements ++ more.now.elements)) }
+        requires { Ascends base (keys_of (self.now.entries ++ more.now.entries)) }
+        ensures { IfOk result (λ t. t ≡ based_list base (self.now.entries ++ more.now.entries)) }
     {
-        let mut elements = self.elements(alloc)?;
-        elements.extend_from_slice(&more.elements(alloc)?)?;
-        Tail::from_ascending(alloc, base, &elements)
+        let len = self.len() + more.len();
+        let mut keys = Vec::new(alloc);
+        keys.resize(len, 0)?;
+        let mut weights = Vec::new(alloc);
+        weights.resize(len, 1)?;
+        let place = self.read_into(&mut keys, &mut weights, 0);
+        more.read_into(&mut keys, &mut weights, place);
+        let entries = EntryList::new(keys, weights);
+        Tail::from_ascending(alloc, base, &entries.lent())
     }
 
-    /// The tail cut at a number, each side over some base below it. A tail that lies on one side is
+    /// The tail cut at a key, each side over some base below it. A tail that lies on one side is
     /// shared.
     ///
     /// The only error is out of memory.
     pub fn cut(&self, alloc: Global, key: u32) -> Result<TailCut, AllocError>
-        ensures { IfOk result (λ c. Cuts key self.now.elements c.below.elements c.found
-            c.above.elements) }
+        ensures { IfOk result (λ c. CutsEntries key self.now.entries c.below.entries c.found
+            c.above.entries) }
     {
         let base = self.base();
-        let elements = self.elements(alloc)?;
-        let (below, found, above) = cut_list(&elements, key);
-        let below = self.side(alloc, base, below)?;
-        let above = self.side(alloc, Some(key), above)?;
+        let entries = self.entries(alloc)?;
+        let (below, found, above) = cut_entries(&entries.lent(), key);
+        let below = self.side(alloc, base, &below)?;
+        let above = self.side(alloc, Some(key), &above)?;
         Ok(TailCut {
             below,
             found,
@@ -71,17 +78,21 @@ impl Tail {
         })
     }
 
-    /// The tail of the elements on one side of a number, over a base below them. Where they are all
-    /// elements this tail is shared.
-    fn side(&self, alloc: Global, base: Option<u32>, elements: &[u32]) -> Result<Tail, AllocError>
-        requires over { Ascends base elements.now }
-        requires whole { length elements.now ≡ length self.now.elements
-            → elements.now ≡ self.now.elements }
-        ensures { IfOk result (λ t. t.elements ≡ elements.now) }
+    /// The tail of the entries on one side of a key, over a base below them. Where they are all entries
+    /// this tail is shared.
+    fn side(
+        &self,
+        alloc: Global,
+        base: Option<u32>,
+        entries: &Entries<'_>,
+    ) -> Result<Tail, AllocError>
+        requires over { Ascends base (keys_of entries.now) }
+        requires whole { length entries.now ≡ length self.now.entries → entries.now ≡ self.now.entries }
+        ensures { IfOk result (λ t. t.entries ≡ entries.now) }
     {
-        if elements.len() == self.len() {
+        if entries.len() == self.len() {
             return self.share();
         }
-        Tail::from_ascending(alloc, base, elements)
+        Tail::from_ascending(alloc, base, entries)
     }
 }

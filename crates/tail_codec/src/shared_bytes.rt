@@ -28,7 +28,7 @@ impl Model for SharedBytes {
 
     ghost Value = { List ℕ };
 
-    ghost use Rattle.tail_codec.specs.Bytes.{held_bytes};
+    ghost use Rattle.tail_codec.specs.inside.Bytes.{held_bytes};
 
     ghost view = { λ b. held_bytes b.held };
 }

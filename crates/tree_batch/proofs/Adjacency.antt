@@ -1,61 +1,66 @@
 -- The edges that vertices and the lists of their neighbours make.
-use Rattle.std.proofs.Common.{◌≡◌, ◌≢◌, ℕ, ◌+◌, ◌*◌, ◌^◌, ◌≤◌, ◌==◌, Bool, true, false, ◌||◌, ◌&&◌, inl, inr, List, [], ◌∷◌, ◌++◌, length, refl, ap, ◌∙◌, arith, length-append}
+use Rattle.std.proofs.Common.{◌≡◌, ◌≢◌, ℕ, ◌+◌, ◌*◌, ◌^◌, ◌≤◌, ◌==◌, ℤ, Option, Some, None, if◌then◌else◌, inl, inr, List, [], ◌∷◌, ◌++◌, length, refl, ap, ◌∙◌, arith, length-append}
 use Rattle.std.proofs.lemmas.Bool.{cases_Bool, cases_eq, ne_eqb, eq-eqb}
 use Rattle.std.proofs.lemmas.List.{append-nil}
+use Rattle.std.specs.Map.{keys_of}
+use Rattle.std.specs.Option.{option_or}
 use Rattle.shared_tree.specs.ChangedMaps.{total_weight}
-use Rattle.pages.specs.Lists.{AscendsFrom}
-use Rattle.pages.specs.Vertices as vertices
+use Rattle.ascending_lists.specs.Ascending.{AscendsFrom}
+use Rattle.ascending_lists.specs.Maps as maps
+use Rattle.ascending_lists.specs.Maps.{lookup}
+use Rattle.edge_lists.specs.Edge.{Edge}
 use Rattle.pages.specs.Vertices.{neighbours_of}
 use Rattle.pages.proofs.Ranks.{none_below}
 use Rattle.vertex_blocks.specs.Blocks.{Block, AreNeighbourLists, edge_total, numbered, lists_of}
-use Rattle.tree_batch.specs.Edge.{Edge, place, has_edge, Rises, edges_from}
-use Rattle.tree_batch.specs.Neighbours.{has_number, destinations_of, edges_of, has_neighbour}
-use Rattle.tree_batch.proofs.Rising.{has_edge-append, rises_from, rises_joined}
+use Rattle.tree_batch.specs.Edge.{Ends, ends_of, place, weight_in, Rises, edges_from}
+use Rattle.tree_batch.specs.Neighbours.{destinations_of, edges_of, weight_between}
+use Rattle.tree_batch.proofs.Rising.{weight_in-append, rises_from, rises_joined}
+use Rattle.tree_batch.proofs.Deciding.{option_or-none}
 
 -- the edges from a vertex to ascending neighbours rise
-pub rises_from_list : (u low : ℕ) (xs : List ℕ) → low ≤ 2 ^ 32 → AscendsFrom low xs → Rises (place (u, low)) ((u + 1) * 2 ^ 32) (edges_from u xs)
+pub rises_from_list : (u low : ℕ) (xs : List (ℕ × ℤ)) → low ≤ 2 ^ 32 → AscendsFrom low (keys_of xs) → Rises (place (u, low)) ((u + 1) * 2 ^ 32) (edges_from u xs)
 rises_from_list u low [] le s = omega arith
 rises_from_list u low (x ∷ xs) le s =
-    (omega (arith, s.0), s.1, rises_from (place (u, x + 1)) (place (u, x) + 1) ((u + 1) * 2 ^ 32) (edges_from u xs) (omega arith) (rises_from_list u (x + 1) xs (omega (arith, s.1)) s.2))
+    (omega (arith, s.0), s.1, rises_from (place (u, x.0 + 1)) (place (u, x.0) + 1) ((u + 1) * 2 ^ 32) (edges_from u xs) (omega arith) (rises_from_list u (x.0 + 1) xs (omega (arith, s.1)) s.2))
 
 -- the edges rise
-pub rises_edges : (low high : ℕ) (es : List (ℕ × List ℕ)) → vertices.Rises low high es → AreNeighbourLists es → Rises (low * 2 ^ 32) (high * 2 ^ 32) (edges_of es)
+pub rises_edges : (low high : ℕ) (es : List (ℕ × List (ℕ × ℤ))) → maps.Rises low high es → AreNeighbourLists es → Rises (low * 2 ^ 32) (high * 2 ^ 32) (edges_of es)
 rises_edges low high [] s ok = omega (arith, s)
 rises_edges low high (e ∷ es) s ok =
     rises_joined (low * 2 ^ 32) ((e.0 + 1) * 2 ^ 32) (high * 2 ^ 32) (edges_from e.0 e.1) (edges_of es)
     (rises_from (place (e.0, 0)) (low * 2 ^ 32) ((e.0 + 1) * 2 ^ 32) (edges_from e.0 e.1) (omega (arith, s.0)) (rises_from_list e.0 0 e.1 (omega arith) ok.0.ascends))
     (rises_edges (e.0 + 1) high es s.1 ok.1)
 
-distribute : (p a r : Bool) → ((p && a) || (p && r)) ≡ (p && (a || r))
-distribute true a r = refl
-distribute false a r = refl
+-- the edges from a vertex have the weights of the neighbours
+pub from_weights : (u : ℕ) (xs : List (ℕ × ℤ)) (p : Ends) → weight_in p (edges_from u xs) ≡ (if u == p.0 then lookup p.1 xs else None)
+from_weights u [] p = elim (cases_Bool (u == p.0)) [ inl a ↦ rw a | inr a ↦ rw a ]
+from_weights u (x ∷ xs) p = elim (cases_Bool (u == p.0)) [
+  | inl a ↦
+      let rest : weight_in p (edges_from u xs) ≡ lookup p.1 xs = from_weights u xs p ∙ rw a refl in
+      rw a (ap (λ (o : Option ℤ). if x.0 == p.1 then Some x.1 else o) rest)
+  | inr a ↦
+      let rest : weight_in p (edges_from u xs) ≡ None = from_weights u xs p ∙ rw a refl in
+      rw a rest
+]
 
-pub has_from : (u : ℕ) (xs : List ℕ) (e : Edge) → has_edge (edges_from u xs) e ≡ ((u == e.0) && has_number xs e.1)
-has_from u [] e = elim (cases_Bool (u == e.0)) [ inl a ↦ rw a | inr a ↦ rw a ]
-has_from u (x ∷ xs) e = rw (has_from u xs e) (distribute (u == e.0) (x == e.1) (has_number xs e.1))
-
-or_none : (a : Bool) → (a || false) ≡ a
-or_none true = refl
-or_none false = refl
-
--- an edge is there where its second end is a neighbour of the first
-pub has_edges : (low high : ℕ) (es : List (ℕ × List ℕ)) (e : Edge) → vertices.Rises low high es → has_edge (edges_of es) e ≡ has_neighbour es e
-has_edges low high [] e s = refl
-has_edges low high (x ∷ es) e s =
-    has_edge-append (edges_from x.0 x.1) (edges_of es) e
-    ∙ rw (has_from x.0 x.1 e, has_edges (x.0 + 1) high es e s.1) (elim (cases_eq x.0 e.0) [
+-- an edge has the weight of its second end as a neighbour of the first
+pub edge_weights : (low high : ℕ) (es : List (ℕ × List (ℕ × ℤ))) (p : Ends) → maps.Rises low high es → weight_in p (edges_of es) ≡ weight_between es p
+edge_weights low high [] p s = refl
+edge_weights low high (x ∷ es) p s =
+    weight_in-append (edges_from x.0 x.1) (edges_of es) p
+    ∙ rw (from_weights x.0 x.1 p, edge_weights (x.0 + 1) high es p s.1) (elim (cases_eq x.0 p.0) [
       | inl at ↦
-          let none : neighbours_of e.0 es ≡ [] = none_below e.0 (x.0 + 1) high es s.1 (omega arith) in
-          rw (eq-eqb x.0 e.0 at, none) (or_none (has_number x.1 e.1))
-      | inr other ↦ rw (ne_eqb x.0 e.0 other)
+          let none : neighbours_of p.0 es ≡ [] = none_below p.0 (x.0 + 1) high es s.1 (omega arith) in
+          rw (eq-eqb x.0 p.0 at, none) (option_or-none (lookup p.1 x.1))
+      | inr other ↦ rw (ne_eqb x.0 p.0 other) refl
     ])
 
-length_from : (u : ℕ) (xs : List ℕ) → length (edges_from u xs) ≡ length xs
+length_from : (u : ℕ) (xs : List (ℕ × ℤ)) → length (edges_from u xs) ≡ length xs
 length_from u [] = refl
 length_from u (x ∷ xs) = omega (arith, length_from u xs)
 
 -- the edges of a block, and those of others
-block_edges : (k : ℕ) (es : Block) (rest : List (ℕ × List ℕ)) → length (edges_of (numbered k es ++ rest)) ≡ edge_total es + length (edges_of rest)
+block_edges : (k : ℕ) (es : Block) (rest : List (ℕ × List (ℕ × ℤ))) → length (edges_of (numbered k es ++ rest)) ≡ edge_total es + length (edges_of rest)
 block_edges k [] rest = omega arith
 block_edges k (e ∷ es) rest = length-append (edges_from (64 * k + e.0) e.1) (edges_of (numbered k es ++ rest)) ∙ omega (arith, length_from (64 * k + e.0) e.1, block_edges k es rest)
 
@@ -65,17 +70,17 @@ edges_weigh [] = refl
 edges_weigh (b ∷ bs) = block_edges b.0 b.1 (lists_of bs) ∙ omega (arith, edges_weigh bs)
 
 -- the destinations in the edges from u, and after them
-destinations_here : (u : ℕ) (xs : List ℕ) (es : List Edge) → destinations_of u (edges_from u xs ++ es) ≡ xs ++ destinations_of u es
+destinations_here : (u : ℕ) (xs : List (ℕ × ℤ)) (es : List Edge) → destinations_of u (edges_from u xs ++ es) ≡ xs ++ destinations_of u es
 destinations_here u [] es = refl
 destinations_here u (x ∷ xs) es = rw (eq-eqb u u refl) (ap (λ ys. x ∷ ys) (destinations_here u xs es))
 
 -- those in the edges from another vertex
-destinations_elsewhere : (u w : ℕ) (xs : List ℕ) (es : List Edge) → w ≢ u → destinations_of u (edges_from w xs ++ es) ≡ destinations_of u es
+destinations_elsewhere : (u w : ℕ) (xs : List (ℕ × ℤ)) (es : List Edge) → w ≢ u → destinations_of u (edges_from w xs ++ es) ≡ destinations_of u es
 destinations_elsewhere u w [] es other = refl
 destinations_elsewhere u w (x ∷ xs) es other = rw (ne_eqb w u other) (destinations_elsewhere u w xs es other)
 
 -- the destinations are the neighbours
-pub destinations_are : (low high u : ℕ) (es : List (ℕ × List ℕ)) → vertices.Rises low high es → destinations_of u (edges_of es) ≡ neighbours_of u es
+pub destinations_are : (low high u : ℕ) (es : List (ℕ × List (ℕ × ℤ))) → maps.Rises low high es → destinations_of u (edges_of es) ≡ neighbours_of u es
 destinations_are low high u [] s = refl
 destinations_are low high u (e ∷ es) s = elim (cases_eq e.0 u) [
   | inl at ↦
@@ -89,4 +94,4 @@ destinations_are low high u (e ∷ es) s = elim (cases_eq e.0 u) [
 -- how many edges there is room for
 pub rises_room : (low high : ℕ) (es : List Edge) → Rises low high es → low + length es ≤ high
 rises_room low high [] s = omega arith
-rises_room low high (e ∷ es) s = omega (arith, s.0, rises_room (place e + 1) high es s.2)
+rises_room low high (e ∷ es) s = omega (arith, s.0, rises_room (place (ends_of e) + 1) high es s.2)

@@ -2,6 +2,7 @@ pub mod Rising
 pub mod AllEdges
 pub mod Deciding
 pub mod Decided
+pub mod UnitWeights
 pub mod CutAround
 pub mod Listed
 pub mod Adjacency

@@ -1,15 +1,16 @@
 -- The vertices of blocks and their lists.
-use Rattle.std.proofs.Common.{◌≡◌, ℕ, ◌+◌, ◌<◌, inl, inr, Option, Some, None, List, [], ◌∷◌, ◌++◌, length, refl, subst, arith}
+use Rattle.std.proofs.Common.{◌≡◌, ℕ, ℤ, ◌+◌, ◌<◌, inl, inr, Option, Some, None, List, [], ◌∷◌, ◌++◌, length, refl, subst, arith}
 use Rattle.std.proofs.lemmas.Bool.{cases_eq, ne_eqb, eq-eqb}
 use Rattle.ascending_lists.specs.Maps as maps
 use Rattle.ascending_lists.specs.Maps.{lookup}
 use Rattle.ascending_lists.proofs.MapOrder.{lookup_below}
-use Rattle.pages.specs.Lists.{AscendsFrom}
+use Rattle.ascending_lists.specs.Ascending.{AscendsFrom}
+use Rattle.std.specs.Map.{keys_of}
 use Rattle.pages.specs.Vertices.{neighbours_of}
 use Rattle.vertex_blocks.specs.Blocks.{Block, IsBlock, AreNeighbourLists, numbered, lists_of, AreBlocks}
 
 -- their lists are lists of neighbours
-numbered_lists : (k : ℕ) (es : Block) (rest : List (ℕ × List ℕ)) → AreNeighbourLists es → AreNeighbourLists rest → AreNeighbourLists (numbered k es ++ rest)
+numbered_lists : (k : ℕ) (es : Block) (rest : List (ℕ × List (ℕ × ℤ))) → AreNeighbourLists es → AreNeighbourLists rest → AreNeighbourLists (numbered k es ++ rest)
 numbered_lists k [] rest s t = t
 numbered_lists k (e ∷ es) rest s t = (s.0, numbered_lists k es rest s.1 t)
 
@@ -18,7 +19,7 @@ neighbour_lists [] ok = tt
 neighbour_lists (b ∷ bs) ok = numbered_lists b.0 b.1 (lists_of bs) ok.0.lists (neighbour_lists bs ok.2)
 
 -- the neighbours of each vertex ascend
-pub neighbours_ascend : (u : ℕ) (es : List (ℕ × List ℕ)) → AreNeighbourLists es → AscendsFrom 0 (neighbours_of u es)
+pub neighbours_ascend : (u : ℕ) (es : List (ℕ × List (ℕ × ℤ))) → AreNeighbourLists es → AscendsFrom 0 (keys_of (neighbours_of u es))
 neighbours_ascend u [] s = tt
 neighbours_ascend u (e ∷ es) s = elim (cases_eq e.0 u) [
   | inl at ↦ rw (eq-eqb e.0 u at) s.0.ascends

@@ -1,23 +1,22 @@
 -- Blocks and their vertices that are walked, and what is left of them.
-use Rattle.std.proofs.Common.{◌≡◌, ℕ, ◌+◌, ◌*◌, ◌^◌, ◌<◌, List, ◌∷◌, subst, arith}
+use Rattle.std.proofs.Common.{◌≡◌, ℕ, ℤ, ◌+◌, ◌*◌, ◌^◌, ◌<◌, List, ◌∷◌, subst, arith}
 use Rattle.ascending_lists.proofs.MapOrder as entries
-use Rattle.pages.proofs.Order.{rises_from, rises_room}
 use Rattle.vertex_blocks.specs.Blocks.{Block, IsBlock}
 use Rattle.tree_batch.specs.VertexBlocks.{AreGraphBlocks, AreBlocksLeft}
 
-module _ (k : ℕ) (left : Block) (bs : List (ℕ × Block)) (u : ℕ) (xs : List ℕ) (rest : Block) (ok : AreBlocksLeft k left bs) (is : left ≡ (u, xs) ∷ rest) where
+module _ (k : ℕ) (left : Block) (bs : List (ℕ × Block)) (u : ℕ) (xs : List (ℕ × ℤ)) (rest : Block) (ok : AreBlocksLeft k left bs) (is : left ≡ (u, xs) ∷ rest) where
   block : IsBlock ((u, xs) ∷ rest)
   block = subst IsBlock is ok.vertices
 
   -- the first vertex is below 2 ^ 24
   pub first_small : 64 * k + u < 2 ^ 24
-  first_small = omega (arith, ok.number, rises_room (u + 1) 64 rest block.map.1)
+  first_small = omega (arith, ok.number, entries.rises_room (u + 1) 64 rest block.map.1)
 
   -- without it the rest is left
   pub rest_left : AreBlocksLeft k rest bs
   rest_left = record {
     number = ok.number;
-    vertices = record { map = rises_from 0 (u + 1) 64 rest (omega arith) block.map.1; lists = block.lists.1 };
+    vertices = record { map = entries.rises_from 0 (u + 1) 64 rest (omega arith) block.map.1; lists = block.lists.1 };
     behind = ok.behind;
   }
 

@@ -1,28 +1,37 @@
 -- What the entries of a batch say of vertices and of edges.
-use Rattle.std.specs.Prelude.{◌≡◌, ℕ, nat_le, nat_lt, max, Bool, true, false, ◌||◌, Option, Some, None, MatchOption, unwrap_or, if◌then◌else◌, List, [], ◌∷◌}
+use Rattle.std.specs.Prelude.{◌≡◌, ℕ, ℤ, nat_le, nat_lt, max, Bool, not, false, ◌||◌, Option, Some, None, MatchOption, unwrap_or, if◌then◌else◌, List, [], ◌∷◌}
 use Rattle.std.specs.Option.{option_or}
 use Rattle.std.specs.List.{list_any}
+use Rattle.edge_lists.specs.Edge.{Edge}
 use Rattle.edge_updates.specs.declared.edge_update.EdgeUpdate.{EdgeUpdate}
-use Rattle.edge_updates.specs.EdgeUpdate.{vertex_of, neighbour_of, adds}
+use Rattle.edge_updates.specs.EdgeUpdate.{vertex_of, neighbour_of}
+use Rattle.tail_codec.specs.Spelling.{is_one}
+use Rattle.weighted_updates.specs.WeightedUpdates.{weight_said}
 use Rattle.tree_batch.specs.declared.batch.Entry.{Entry}
 use Rattle.tree_batch.specs.declared.batch.Entry.TheVariants.{Add, Remove, Grow}
-use Rattle.tree_batch.specs.Edge.{Edge, edge_eq, has_edge, IsWithin, IsAscending}
+use Rattle.tree_batch.specs.Edge.{Ends, ends_eq, weight_in, IsWithin, IsAscending}
 
--- the edge that an entry names, where it names one
-abbrev pub edge_of : Entry → Option Edge
-edge_of (Add u v) = Some (u, v)
-edge_of (Remove u v) = Some (u, v)
-edge_of (Grow n) = None
+-- the ends of the edge that an entry names, where it names one
+abbrev pub named_by : Entry → Option Ends
+named_by (Add u v w) = Some (u, v)
+named_by (Remove u v) = Some (u, v)
+named_by (Grow n) = None
 
--- whether an entry adds its edge
-abbrev pub is_add : Entry → Bool
-is_add (Add u v) = true
-is_add (Remove u v) = false
-is_add (Grow n) = false
+-- what an entry makes of its edge: one of this weight, or none
+abbrev pub made_by : Entry → Option ℤ
+made_by (Add u v w) = Some w
+made_by (Remove u v) = None
+made_by (Grow n) = None
+
+-- whether an entry adds its edge with a weight other than 1
+abbrev pub has_weight : Entry → Bool
+has_weight (Add u v w) = not (is_one w)
+has_weight (Remove u v) = false
+has_weight (Grow n) = false
 
 -- how many vertices an entry asks for, or 0
 abbrev pub count_asked : Entry → ℕ
-count_asked (Add u v) = 0
+count_asked (Add u v w) = 0
 count_asked (Remove u v) = 0
 count_asked (Grow n) = n
 
@@ -37,7 +46,7 @@ vertices_after n batch = max n (most_asked batch)
 
 -- whether an entry does not fit a batch by which n vertices become m: it names one that is none of the m, or it asks for fewer than the n or for more than a graph may have
 abbrev pub entry_misfits : ℕ → ℕ → Entry → Bool
-entry_misfits n m (Add u v) = nat_le m u || nat_le m v
+entry_misfits n m (Add u v w) = nat_le m u || nat_le m v
 entry_misfits n m (Remove u v) = nat_le m u || nat_le m v
 entry_misfits n m (Grow k) = nat_lt k n || nat_lt 16777216 k
 
@@ -45,39 +54,39 @@ entry_misfits n m (Grow k) = nat_lt k n || nat_lt 16777216 k
 unfoldable pub misfits : ℕ → List Entry → Bool
 misfits n batch = list_any (entry_misfits n (vertices_after n batch)) batch
 
--- whether it is this edge
-abbrev pub is_edge : Option Edge → Edge → Bool
-is_edge None e = false
-is_edge (Some x) e = edge_eq x e
+-- whether these are those ends
+abbrev pub is_between : Option Ends → Ends → Bool
+is_between None p = false
+is_between (Some q) p = ends_eq q p
 
--- what one entry says of an edge
-abbrev pub entry_decision : Entry → Edge → Option Bool
-entry_decision x e = if is_edge (edge_of x) e then Some (is_add x) else None
+-- what one entry says of the edge between two ends
+abbrev pub entry_decision : Entry → Ends → Option (Option ℤ)
+entry_decision x p = if is_between (named_by x) p then Some (made_by x) else None
 
--- what the last entry that names the edge says: that it is there, or that it is not; None where no entry names it
-abbrev pub decision : List Entry → Edge → Option Bool
-decision [] e = None
-decision (x ∷ xs) e = option_or (decision xs e) (entry_decision x e)
+-- what the last entry that names the edge says: its weight, or that it is not there; None where no entry names it
+abbrev pub decision : List Entry → Ends → Option (Option ℤ)
+decision [] p = None
+decision (x ∷ xs) p = option_or (decision xs p) (entry_decision x p)
 
--- whether an edge is there after a batch: as the batch decides, or else as before
-abbrev pub is_edge_after : List Edge → List Entry → Edge → Bool
-is_edge_after edges batch e = unwrap_or (decision batch e) (has_edge edges e)
+-- the weight of the edge after a batch, if it is there: as the batch decides, or else as before
+abbrev pub weight_after : List Edge → List Entry → Ends → Option ℤ
+weight_after edges batch p = unwrap_or (decision batch p) (weight_in p edges)
 
 -- no entry names the edge
-abbrev pub NoneNames : Edge → List Entry → Type 0
-NoneNames e [] = Unit {0}
-NoneNames e (x ∷ xs) = (is_edge (edge_of x) e ≡ false) × NoneNames e xs
+abbrev pub NoneNames : Ends → List Entry → Type 0
+NoneNames p [] = Unit {0}
+NoneNames p (x ∷ xs) = (is_between (named_by x) p ≡ false) × NoneNames p xs
 
--- the ends of the edge that an entry names, if it names one, are below n
+-- the ends that an entry names, if it names some, are below n
 abbrev pub NamesWithin : ℕ → Entry → Type 0
-NamesWithin n x = MatchOption (edge_of x) (Unit {0}) (IsWithin n)
+NamesWithin n x = MatchOption (named_by x) (Unit {0}) (IsWithin n)
 
--- an entry as an update of its edge, where it names one
-abbrev pub IsUpdateOf : Entry → Option EdgeUpdate → Type 0
-IsUpdateOf x None = edge_of x ≡ None
-IsUpdateOf x (Some u) = (edge_of x ≡ Some (vertex_of u, neighbour_of u)) × (adds u ≡ is_add x)
+-- an entry as an update of its edge with a weight, where it names one
+abbrev pub IsUpdateOf : Entry → Option (EdgeUpdate × ℤ) → Type 0
+IsUpdateOf x None = named_by x ≡ None
+IsUpdateOf x (Some u) = (named_by x ≡ Some (vertex_of u.0, neighbour_of u.0)) × (weight_said u ≡ made_by x)
 
 -- new is the edges after the batch, in order
 pub record AreEdgesAfter (edges : List Edge) (batch : List Entry) (new : List Edge) : Type 0 where
   pub ascending : IsAscending new
-  pub members : (e : Edge) → has_edge new e ≡ is_edge_after edges batch e
+  pub weights : (p : Ends) → weight_in p new ≡ weight_after edges batch p

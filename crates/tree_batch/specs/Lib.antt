@@ -1,5 +1,6 @@
 pub mod Edge
 pub mod Entry
+pub mod Sorted
 pub mod Digraph
 pub mod Neighbours
 pub mod VertexBlocks

@@ -1,31 +1,53 @@
 ghost use Rattle.std.specs.Prelude.{◌≡◌, ◌++◌, [], ◌∷◌, IfErr, OnOk, OnErr};
+ghost use Rattle.std.specs.List.{list_any};
 ghost use Rattle.tree_batch.specs.declared.error.GraphError.TheVariants.{NoMemory};
-ghost use Rattle.tree_batch.specs.Entry.{edge_of, entry_misfits, vertices_after, misfits};
+ghost use Rattle.tree_batch.specs.Entry.{count_asked, entry_misfits, has_weight, misfits, named_by, vertices_after};
 
 use crate::error::GraphError;
 use crate::graph::MAX_VERTICES;
+use edge_lists::UNIT_WEIGHT;
 use std::alloc::{AllocError, Global};
 use std::marker::Model;
 
-/// One change of a batch: an edge, by its source and its destination, to add or to remove, or how
-/// many vertices the graph has from then on.
+/// One change of a batch: an edge, by its source and its destination, to add with a weight or to
+/// remove, or how many vertices the graph has from then on.
 #[derive(Clone, Copy, Debug, PartialEq, Eq)]
 pub enum Entry {
-    Add(u32, u32),
+    Add(u32, u32, i64),
     Remove(u32, u32),
     Grow(u32),
 }
 
 impl Entry {
     /// The source and the destination of the edge that the entry names, or `None` where it names none.
-    pub fn edge(self) -> Option<(u32, u32)>
-        ensures { result ≡ edge_of self }
+    pub fn ends(self) -> Option<(u32, u32)>
+        ensures { result ≡ named_by self }
     {
         match self {
-            Entry::Add(source, destination) | Entry::Remove(source, destination) => {
+            Entry::Add(source, destination, _) | Entry::Remove(source, destination) => {
                 Some((source, destination))
             }
             Entry::Grow(_) => None,
+        }
+    }
+
+    /// How many vertices the entry asks for, or 0.
+    fn asked(self) -> u32
+        ensures { result ≡ count_asked self }
+    {
+        match self {
+            Entry::Grow(vertices) => vertices,
+            Entry::Add(_, _, _) | Entry::Remove(_, _) => 0,
+        }
+    }
+
+    /// Whether the entry adds its edge with a weight other than 1.
+    fn has_weight(self) -> bool
+        ensures { result ≡ has_weight self }
+    {
+        match self {
+            Entry::Add(_, _, weight) => weight != UNIT_WEIGHT,
+            Entry::Remove(_, _) | Entry::Grow(_) => false,
         }
     }
 
@@ -34,7 +56,7 @@ impl Entry {
         ensures { result ≡ entry_misfits before after self }
     {
         match self {
-            Entry::Add(source, destination) | Entry::Remove(source, destination) => {
+            Entry::Add(source, destination, _) | Entry::Remove(source, destination) => {
                 source >= after || destination >= after
             }
             Entry::Grow(vertices) => vertices < before || vertices > MAX_VERTICES,
@@ -50,18 +72,22 @@ pub struct Batch {
     entries: Vec<Entry>,
     /// The most vertices that an entry asks for, or 0.
     asked: u32,
+    /// Whether some edge is added with a weight other than 1.
+    weighted: bool,
 }
 
 impl Model for Batch {
     ghost use Rattle.std.specs.Prelude.{◌≡◌, List};
     ghost use Rattle.tree_batch.specs.declared.batch.Entry.{Entry};
-    ghost use Rattle.tree_batch.specs.Entry.{most_asked};
+    ghost use Rattle.std.specs.List.{list_any};
+    ghost use Rattle.tree_batch.specs.Entry.{has_weight, most_asked};
 
     ghost Value = { List Entry };
 
     ghost view = { λ b. b.entries.items };
 
-    ghost invariant = { λ b. b.asked ≡ most_asked b.entries.items };
+    ghost invariant = { λ b. (b.asked ≡ most_asked b.entries.items)
+        × (b.weighted ≡ list_any has_weight b.entries.items) };
 }
 
 impl Clone for Batch {
@@ -72,6 +98,7 @@ impl Clone for Batch {
         Ok(Batch {
             entries: Vec::from_slice(*self.entries.allocator(), &self.entries)?,
             asked: self.asked,
+            weighted: self.weighted,
         })
     }
 }
@@ -84,6 +111,7 @@ impl Batch {
         Batch {
             entries: Vec::new(alloc),
             asked: 0,
+            weighted: false,
         }
     }
 
@@ -93,17 +121,17 @@ impl Batch {
     ///
     /// ```
     /// let mut batch = Batch::new(alloc);
-    /// batch.push(Entry::Add(vertex - 1, vertex))?;
+    /// batch.push(Entry::Add(vertex - 1, vertex, weight))?;
     /// ```
+    #[tactic(auto, using(crate::proofs::Deciding::most_pushed, crate::proofs::Deciding::weighted_pushed))]
     pub fn push(&mut self, entry: Entry) -> Result<(), GraphError>
         ensures ok { OnOk result (self.new ≡ self.old ++ entry ∷ []) }
         ensures err { OnErr result (self.new ≡ self.old) }
         ensures no_memory { IfErr result (λ e. e ≡ NoMemory) }
     {
         self.entries.push(entry)?;
-        if let Entry::Grow(vertices) = entry {
-            self.asked = self.asked.max(vertices);
-        }
+        self.asked = self.asked.max(entry.asked());
+        self.weighted = self.weighted || entry.has_weight();
         Ok(())
     }
 
@@ -112,6 +140,13 @@ impl Batch {
         ensures { result.now ≡ self.now }
     {
         &self.entries
+    }
+
+    /// Whether some edge is added with a weight other than 1. It takes constant time.
+    pub fn is_weighted(&self) -> bool
+        ensures { result ≡ list_any has_weight self.now }
+    {
+        self.weighted
     }
 
     /// How many vertices a graph with this many has after the batch. It takes constant time.

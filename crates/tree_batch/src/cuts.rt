@@ -1,13 +1,14 @@
 //! What a batch says, by blocks of vertices.
 
 ghost use Rattle.std.specs.Prelude.{◌≤◌, ◌/◌, length, take, drop, IfOk};
+ghost use Rattle.std.specs.Map.{keys_of};
 ghost use Rattle.edge_updates.specs.Updates.{Ascend};
 ghost use Rattle.pages.specs.Updates.{AreOfBlock};
 ghost use Rattle.tree_batch.specs.BlockCuts.{AreCut, BeginsElsewhere};
 ghost use Rattle.tree_batch.specs.Forking.{IsChangedTree};
 
 use c_tree::ChunkSize;
-use edge_updates::EdgeUpdate;
+use edge_updates::Updates;
 use shared_tree::{Changed, Tree};
 use std::alloc::{AllocError, Global};
 use vertex_blocks::{BlockUpdates, VertexBlock};
@@ -19,10 +20,10 @@ pub(crate) const BLOCK: u32 = 64;
 pub(crate) fn changed(
     alloc: Global,
     tree: &Tree<VertexBlock>,
-    updates: &[EdgeUpdate],
+    updates: &Updates<'_>,
     chunk_size: ChunkSize,
 ) -> Result<Changed<VertexBlock>, AllocError>
-    requires { Ascend updates.now }
+    requires { Ascend (keys_of updates.now) }
     ensures { IfOk result (λ c. IsChangedTree updates.now tree.now.entries c) }
 {
     let changes = cut_by_block(alloc, updates, chunk_size)?;
@@ -30,19 +31,19 @@ pub(crate) fn changed(
 }
 
 /// Updates whose edges ascend, by blocks: each block that they name, ascending, with its updates.
-fn cut_by_block(
+fn cut_by_block<'a>(
     alloc: Global,
-    updates: &[EdgeUpdate],
+    updates: &Updates<'a>,
     chunk_size: ChunkSize,
-) -> Result<Vec<(u32, BlockUpdates<'_>)>, AllocError>
-    requires { Ascend updates.now }
+) -> Result<Vec<(u32, BlockUpdates<'a>)>, AllocError>
+    requires { Ascend (keys_of updates.now) }
     ensures { IfOk result (λ v. AreCut updates.now v.items) }
 {
     let mut changes = Vec::new(alloc);
-    let mut rest = updates;
-    while let Some((first, _)) = rest.split_first() {
+    let mut rest = updates.lend();
+    while let Some(first) = rest.first() {
         let block = first.vertex() / BLOCK;
-        let (cut, after) = rest.split_at(cut_length(rest, block));
+        let (cut, after) = rest.split_at(cut_length(&rest, block));
         changes.push((block, BlockUpdates::new(cut, chunk_size)))?;
         rest = after;
     }
@@ -50,14 +51,14 @@ fn cut_by_block(
 }
 
 /// How many updates in front are of this block.
-pub(crate) fn cut_length(updates: &[EdgeUpdate], block: u32) -> usize
+pub(crate) fn cut_length(updates: &Updates<'_>, block: u32) -> usize
     ensures bounded { result ≤ length updates.now }
     ensures cut { AreOfBlock block (take result updates.now) }
     ensures rest { BeginsElsewhere block (drop result updates.now) }
 {
     let mut count = 0;
     while count < updates.len() {
-        if updates[count].vertex() / BLOCK != block {
+        if updates.update(count).vertex() / BLOCK != block {
             return count;
         }
         count += 1;

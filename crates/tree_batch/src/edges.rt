@@ -11,7 +11,7 @@ use shared_tree::Tree;
 use std::marker::Model;
 use vertex_blocks::{NeighbourIter, VertexBlock};
 
-/// The edges of a graph that are still to come, in ascending order.
+/// The edges of a graph that are still to come, in ascending order, each with its weight.
 #[derive(Drop)]
 pub struct EdgeIter<'a> {
     source: u32,
@@ -23,7 +23,7 @@ pub struct EdgeIter<'a> {
 impl<'a> Model for EdgeIter<'a> {
     ghost use Rattle.std.specs.Prelude.{List, ◌++◌};
     ghost use Rattle.vertex_blocks.specs.Blocks.{AreNeighbourLists};
-    ghost use Rattle.tree_batch.specs.Edge.{Edge};
+    ghost use Rattle.edge_lists.specs.Edge.{Edge};
     ghost use Rattle.tree_batch.specs.Neighbours.{edges_of, edges_left};
 
     ghost Value = { List Edge };
@@ -48,25 +48,25 @@ impl<'a> EdgeIter<'a> {
 }
 
 impl<'a> Iterator for EdgeIter<'a> {
-    type Item = (u32, u32);
+    type Item = (u32, u32, i64);
 
     ghost next_gives = { YieldsFirst (λ i. i) };
 
     ghost remaining = { item_count (λ i. i) };
 
-    fn next(&mut self) -> Option<(u32, u32)> {
+    fn next(&mut self) -> Option<(u32, u32, i64)> {
         if let Some(destinations) = &mut self.destinations {
-            if let Some(destination) = destinations.next() {
-                return Some((self.source, destination));
+            if let Some((destination, weight)) = destinations.next() {
+                return Some((self.source, destination, weight));
             }
         }
         let (source, neighbours) = self.vertices.next()?;
         let mut destinations = neighbours.iter();
-        let Some(destination) = destinations.next() else {
+        let Some((destination, weight)) = destinations.next() else {
             unreachable!()
         };
         self.source = source;
         self.destinations = Some(destinations);
-        Some((source, destination))
+        Some((source, destination, weight))
     }
 }

@@ -1,8 +1,8 @@
-//! The pass over a tree of blocks by halves that go to two threads.
+//! Parts of a pass over a tree of blocks by halves: both sides of a block, the block, and the tree of both.
 
-ghost use Rattle.std.specs.Prelude.{ℕ, ◌+◌, ◌<◌, ◌≤◌, ◌≡◌, List, IfOk};
+ghost use Rattle.std.specs.Prelude.{ℕ, ℤ, ◌+◌, ◌<◌, ◌≤◌, ◌≡◌, List, IfOk};
 ghost use Rattle.std.specs.Option.{option_copied};
-ghost use denote.Param.Send.{IsSync};
+ghost use Rattle.std.specs.Map.{keys_of};
 ghost use Rattle.shared_tree.specs.ChangedMaps.{weight_at, GrewBy};
 ghost use Rattle.edge_updates.specs.declared.edge_update.EdgeUpdate.{EdgeUpdate};
 ghost use Rattle.edge_updates.specs.Updates.{Ascend};
@@ -11,160 +11,33 @@ ghost use Rattle.vertex_blocks.specs.Blocks.{Block, edge_total};
 ghost use Rattle.tree_batch.specs.Forking.{IsChangedTree, IsChangedBlock, AreSides, AreAround, CanRejoin};
 
 use crate::cuts::changed;
-use crate::middle::{Middle, cut_at_middle};
+use crate::middle::Middle;
 use c_tree::ChunkSize;
-use edge_updates::EdgeUpdate;
+use edge_updates::Updates;
 use set_ops::Fork;
 use shared_tree::{Changed, Tree, ValueChange, join_around};
 use std::alloc::{AllocError, Global};
-use std::thread::{self, Threads};
+use std::thread::Threads;
 use vertex_blocks::{BlockUpdates, VertexBlock};
 
-/// The tree after updates whose edges ascend, with halves on two threads at so many levels, the first
-/// of which is `level`. Where one block has more than half of the updates, that block goes by halves.
-#[cycle(forked)]
-pub(crate) fn change_forked<R: Threads + Sync, F: Fork + Sync>(
-    rt: &R,
-    alloc: Global,
-    tree: &Tree<VertexBlock>,
-    updates: &[EdgeUpdate],
-    chunk_size: ChunkSize,
-    forks: u32,
-    level: u32,
-    fork: &F,
-) -> Result<Changed<VertexBlock>, AllocError>
-    requires order { Ascend updates.now }
-    requires few { forks + level ≤ 7 }
-    ensures { IfOk result (λ c. IsChangedTree updates.now tree.now.entries c) }
-{
-    if forks == 0 {
-        return changed(alloc, tree, updates, chunk_size);
-    }
-    let Some(middle) = cut_at_middle(alloc, tree, updates)? else {
-        return changed(alloc, tree, updates, chunk_size);
-    };
-    let (below, above) = sides(rt, alloc, &middle, chunk_size, forks, level, fork)?;
-    let block = block_after(rt, alloc, &middle, chunk_size, forks, level, fork)?;
-    rejoin(alloc, &middle, below, block, above)
-}
-
-/// Both sides of a block, each on a thread of its own where the block has no more than half of the
-/// updates.
-#[cycle(forked)]
-fn sides<R: Threads + Sync, F: Fork + Sync>(
-    rt: &R,
-    alloc: Global,
-    middle: &Middle<'_>,
-    chunk_size: ChunkSize,
-    forks: u32,
-    level: u32,
-    fork: &F,
-) -> Result<(Changed<VertexBlock>, Changed<VertexBlock>), AllocError>
-    requires left { 0 < forks }
-    requires few { forks + level ≤ 7 }
-    requires below { Ascend middle.now.below.updates.now }
-    requires above { Ascend middle.now.above.updates.now }
-    ensures { IfOk result (λ p. AreSides middle.now p.0 p.1) }
-{
-    if middle.is_heavy {
-        return sides_alone(alloc, middle, chunk_size);
-    }
-    let (lower, upper) = (&middle.below, &middle.above);
-    let trees = (&lower.tree, &upper.tree);
-    in_two(
-        rt,
-        alloc,
-        trees.0,
-        lower.updates,
-        trees.1,
-        upper.updates,
-        chunk_size,
-        forks,
-        level,
-        fork,
-    )
-}
-
 /// Both sides of a block, one after the other.
-fn sides_alone(
+pub(crate) fn sides_alone(
     alloc: Global,
     middle: &Middle<'_>,
     chunk_size: ChunkSize,
 ) -> Result<(Changed<VertexBlock>, Changed<VertexBlock>), AllocError>
-    requires below { Ascend middle.now.below.updates.now }
-    requires above { Ascend middle.now.above.updates.now }
+    requires below { Ascend (keys_of middle.now.below.updates) }
+    requires above { Ascend (keys_of middle.now.above.updates) }
     ensures { IfOk result (λ p. AreSides middle.now p.0 p.1) }
 {
-    let below = changed(alloc, &middle.below.tree, middle.below.updates, chunk_size)?;
-    let above = changed(alloc, &middle.above.tree, middle.above.updates, chunk_size)?;
+    let below = changed(alloc, &middle.below.tree, &middle.below.updates, chunk_size)?;
+    let above = changed(alloc, &middle.above.tree, &middle.above.updates, chunk_size)?;
     Ok((below, above))
 }
 
 /// Two trees, each on a thread of its own.
-#[cycle(forked)]
-fn in_two<R: Threads + Sync, F: Fork + Sync>(
-    rt: &R,
-    alloc: Global,
-    lower: &Tree<VertexBlock>,
-    lower_updates: &[EdgeUpdate],
-    upper: &Tree<VertexBlock>,
-    upper_updates: &[EdgeUpdate],
-    chunk_size: ChunkSize,
-    forks: u32,
-    level: u32,
-    fork: &F,
-) -> Result<(Changed<VertexBlock>, Changed<VertexBlock>), AllocError>
-    requires left { 0 < forks }
-    requires few { forks + level ≤ 7 }
-    requires lower_order { Ascend lower_updates.now }
-    requires upper_order { Ascend upper_updates.now }
-    ensures { IfOk result (λ p. IsChangedTree lower_updates.now lower.now.entries p.0
-        × IsChangedTree upper_updates.now upper.now.entries p.1) }
-{
-    let (below, above) = thread::join(
-        rt,
-        || -> Result<Changed<VertexBlock>, AllocError>
-            requires { IsSync R.row × IsSync F.row × (0 < forks) × (forks + level ≤ 7)
-                × Ascend lower_updates.now }
-            ensures { IfOk result (λ c.
-                IsChangedTree lower_updates.entry.now lower.entry.now.entries c) }
-        {
-            fork.enter(level, false);
-            change_forked(
-                rt,
-                alloc,
-                lower,
-                lower_updates,
-                chunk_size,
-                forks - 1,
-                level + 1,
-                fork,
-            )
-        },
-        || -> Result<Changed<VertexBlock>, AllocError>
-            requires { IsSync R.row × IsSync F.row × (0 < forks) × (forks + level ≤ 7)
-                × Ascend upper_updates.now }
-            ensures { IfOk result (λ c.
-                IsChangedTree upper_updates.entry.now upper.entry.now.entries c) }
-        {
-            fork.enter(level, true);
-            change_forked(
-                rt,
-                alloc,
-                upper,
-                upper_updates,
-                chunk_size,
-                forks - 1,
-                level + 1,
-                fork,
-            )
-        },
-    );
-    Ok((below?, above?))
-}
-
 /// The block in the middle.
-fn block_after<R: Threads + Sync, F: Fork + Sync>(
+pub(crate) fn block_after<R: Threads + Sync, F: Fork + Sync>(
     rt: &R,
     alloc: Global,
     middle: &Middle<'_>,
@@ -173,11 +46,11 @@ fn block_after<R: Threads + Sync, F: Fork + Sync>(
     level: u32,
     fork: &F,
 ) -> Result<Option<VertexBlock>, AllocError>
-    requires { EdgesAscend 0 middle.now.updates.now }
-    ensures { IfOk result (IsChangedBlock middle.now.updates.now middle.now.found) }
+    requires { EdgesAscend 0 middle.now.updates }
+    ensures { IfOk result (IsChangedBlock middle.now.updates middle.now.found) }
 {
     let found = middle.found.as_ref();
-    let updates = BlockUpdates::new(middle.updates, chunk_size);
+    let updates = BlockUpdates::new(middle.updates.lend(), chunk_size);
     if middle.is_heavy {
         Ok(updates.change_forked(rt, alloc, found, forks, level, fork)?)
     } else {
@@ -186,7 +59,7 @@ fn block_after<R: Threads + Sync, F: Fork + Sync>(
 }
 
 /// The tree of both sides and the block between them.
-fn rejoin(
+pub(crate) fn rejoin(
     alloc: Global,
     middle: &Middle<'_>,
     below: Changed<VertexBlock>,
@@ -194,8 +67,8 @@ fn rejoin(
     above: Changed<VertexBlock>,
 ) -> Result<Changed<VertexBlock>, AllocError>
     requires { CanRejoin middle.now below block above }
-    ensures { IfOk result (λ c. (bs : List (ℕ × Block)) (us : List EdgeUpdate)
-        → Ascend us → AreAround bs us middle.now → IsChangedTree us bs c) }
+    ensures { IfOk result (λ c. (bs : List (ℕ × Block)) (us : List (EdgeUpdate × ℤ))
+        → Ascend (keys_of us) → AreAround bs us middle.now → IsChangedTree us bs c) }
 {
     let growth = growth(middle.found.as_ref(), block.as_ref());
     let tree = join_around(alloc, below.tree, middle.number, block, above.tree)?;

@@ -1,7 +1,8 @@
 //! Directed graphs.
 
 ghost use Rattle.std.specs.Prelude.{◌≡◌, length};
-ghost use Rattle.tree_batch.specs.Edge.{has_edge};
+ghost use Rattle.std.specs.Option.{is_some};
+ghost use Rattle.tree_batch.specs.Edge.{weight_in};
 ghost use Rattle.tree_batch.specs.Digraph.{IsDigraph};
 ghost use Rattle.vertex_blocks.specs.Blocks.{lists_of};
 ghost use Rattle.tree_batch.specs.Neighbours.{destinations_of, sources_of, edges_of, HasNeighbours};
@@ -9,30 +10,22 @@ ghost use Rattle.tree_batch.specs.VertexBlocks.{AreBlocksOf};
 ghost use Rattle.tree_batch.specs.Outcome.{Opens, Applies};
 
 use crate::batch::Batch;
-use crate::cuts::changed;
 use crate::edges::EdgeIter;
 use crate::error::GraphError;
-use crate::forked::change_forked;
 use crate::neighbours::neighbours;
-use crate::turned::{turned, turned_forked};
-use crate::updates::{updates, updates_forked};
+use crate::updates::updates;
 use c_tree::ChunkSize;
-use set_ops::Fork;
 use shared_tree::{Share, Tree};
 use std::alloc::{AllocError, Global};
 use std::fmt::{self, Debug};
 use std::marker::Model;
-use std::thread::Threads;
 use vertex_blocks::{NeighbourSet, VertexBlock};
 
 /// The greatest number of vertices of a graph.
 pub const MAX_VERTICES: u32 = 16_777_216;
 
-/// The most levels at which halves go to two threads.
-const MOST_FORKS: u32 = 6;
-
 /// A directed graph whose vertices are the numbers below `vertices`. Self-loops are allowed, and
-/// an edge is there once or not at all. No call changes a graph, and graphs share what they have in
+/// an edge is there once, with one weight, or not at all. No call changes a graph, and graphs share what they have in
 /// common.
 pub struct Graph {
     vertices: u32,
@@ -95,8 +88,8 @@ impl Graph {
     }
 
     /// The graph after a batch: it has as many vertices as the entry that asks for most, or as many as
-    /// before; for each edge that the batch names, its last entry that names the edge decides, and every
-    /// other edge is there as before. The graph itself stays as it is, and the new one shares with it
+    /// before; for each edge that the batch names, its last entry that names the edge decides whether it is
+    /// there and with which weight, and every other edge is there as before. The graph itself stays as it is, and the new one shares with it
     /// what the batch does not reach. For k entries and m edges it takes time in proportion to
     /// `k log(k + m)`, however much the graph grows.
     ///
@@ -109,11 +102,10 @@ impl Graph {
             return Err(GraphError::VertexRange);
         }
         let size = self.chunk_size;
-        let mut scratch = Vec::new(alloc);
-        let updates = updates(alloc, batch.entries(), &mut scratch)?;
-        let out = changed(alloc, &self.outgoing, &updates, size)?;
-        let turned = turned(updates, scratch)?;
-        let into = changed(alloc, &self.incoming, &turned, size)?;
+        let updates = updates(alloc, batch)?;
+        let out = updates.change(alloc, &self.outgoing, size)?;
+        let turned = updates.turned(alloc)?;
+        let into = turned.change(alloc, &self.incoming, size)?;
         Ok(Graph {
             vertices: batch.vertices_after(self.vertices),
             chunk_size: self.chunk_size,
@@ -123,47 +115,7 @@ impl Graph {
         })
     }
 
-    /// As [`Graph::apply`], with the entries sorted by threads, and with halves of the vertices on two
-    /// threads at so many levels, at most 6. Where one block of 64 vertices has more than half of the
-    /// entries, what is beside it is not forked, and where one vertex of it has more than half of these,
-    /// the set of that vertex goes by halves. Where no thread can be started, the caller does both
-    /// halves. The answer is that of `apply` whatever `forks` is. `fork` is told of each half that
-    /// begins, first of those of the edges by source and then of those by destination.
-    ///
-    /// Errors: those of [`Graph::apply`].
-    pub fn apply_forked<R: Threads + Sync, F: Fork + Sync>(
-        &self,
-        rt: &R,
-        alloc: Global,
-        batch: &Batch,
-        forks: u32,
-        fork: &F,
-    ) -> Result<Graph, GraphError>
-        ensures { Applies self.now batch.now result }
-    {
-        if forks == 0 {
-            return self.apply(alloc, batch);
-        }
-        if batch.misfits(self.vertices) {
-            return Err(GraphError::VertexRange);
-        }
-        let (size, most) = (self.chunk_size, forks.min(MOST_FORKS));
-        let updates = updates_forked(rt, alloc, batch.entries())?;
-        let tree = &self.outgoing;
-        let outs = change_forked(rt, alloc, tree, &updates, size, most, 1, fork)?;
-        let turned = turned_forked(rt, alloc, updates)?;
-        let tree = &self.incoming;
-        let ins = change_forked(rt, alloc, tree, &turned, size, most, 1, fork)?;
-        Ok(Graph {
-            vertices: batch.vertices_after(self.vertices),
-            chunk_size: self.chunk_size,
-            edge_count: self.edge_count.wrapping_add(outs.growth),
-            outgoing: outs.tree,
-            incoming: ins.tree,
-        })
-    }
-
-    /// The destinations of the edges from a vertex, or `None` where there is none. It takes
+    /// The destinations of the edges from a vertex, each with the weight of its edge, or `None` where there is none. It takes
     /// logarithmic time and no memory.
     pub fn out(&self, source: u32) -> Option<NeighbourSet<'_>>
         ensures { HasNeighbours (destinations_of source self.now.edges) result }
@@ -171,7 +123,7 @@ impl Graph {
         self.destinations(source)
     }
 
-    /// The sources of the edges to a vertex, or `None` where there is none. It takes logarithmic
+    /// The sources of the edges to a vertex, each with the weight of its edge, or `None` where there is none. It takes logarithmic
     /// time and no memory.
     pub fn in_(&self, destination: u32) -> Option<NeighbourSet<'_>>
         ensures { HasNeighbours (sources_of destination self.now.edges) result }
@@ -207,11 +159,19 @@ impl Graph {
     /// Whether the edge from `source` to `destination` is there. It takes logarithmic time and no
     /// memory.
     pub fn contains(&self, source: u32, destination: u32) -> bool
-        ensures { result ≡ has_edge self.now.edges (source, destination) }
+        ensures { result ≡ is_some (weight_in (source, destination) self.now.edges) }
+    {
+        self.weight(source, destination).is_some()
+    }
+
+    /// The weight of the edge from `source` to `destination`, or `None` where it is not there. It takes
+    /// logarithmic time and no memory.
+    pub fn weight(&self, source: u32, destination: u32) -> Option<i64>
+        ensures { result ≡ weight_in (source, destination) self.now.edges }
     {
         match neighbours(&self.outgoing, source) {
-            Some(destinations) => destinations.contains(destination),
-            None => false,
+            Some(destinations) => destinations.get(destination),
+            None => None,
         }
     }
 
@@ -230,7 +190,7 @@ impl Graph {
         self.vertices
     }
 
-    /// The edges as pairs of source and destination, ascending by source and then by
+    /// The edges, each its source, its destination and its weight, ascending by source and then by
     /// destination. It takes no memory.
     pub fn edges(&self) -> EdgeIter<'_>
         ensures edges { result ≡ self.now.edges }

@@ -4,23 +4,25 @@ ghost use Rattle.std.specs.Prelude.{◌≡◌, ℕ, ◌≤◌, ◌⊎◌, false,
 ghost use Rattle.std.specs.List.{Contains};
 ghost use Rattle.tree_batch.specs.declared.batch.Entry.{Entry};
 ghost use Rattle.tree_batch.specs.declared.batch.Entry.TheVariants.{Grow};
-ghost use Rattle.tree_batch.specs.Edge.{Edge, has_edge, IsWithin, IsAscending};
-ghost use Rattle.tree_batch.specs.Entry.{edge_of, is_add, vertices_after, misfits, NoneNames};
+ghost use Rattle.ascending_lists.specs.Maps.{lookup};
+ghost use Rattle.edge_lists.specs.Edge.{Edge};
+ghost use Rattle.tree_batch.specs.Edge.{Ends, weight_in, IsWithin, IsAscending};
+ghost use Rattle.tree_batch.specs.Entry.{made_by, misfits, named_by, vertices_after, NoneNames};
 ghost use Rattle.tree_batch.specs.Digraph.{Digraph, graph_after, IsDigraph};
-ghost use Rattle.tree_batch.specs.Neighbours.{has_number, destinations_of, sources_of};
+ghost use Rattle.tree_batch.specs.Neighbours.{destinations_of, sources_of};
 
 /// The law of a batch. For each edge that an entry names, with none behind it that does, the edge is
-/// there after the batch exactly where that entry adds it. An edge that no entry names is there exactly
-/// where it was. Both hold of the edges that the vertices may have after the batch. The call does
-/// nothing.
+/// after the batch what that entry makes of it: there with its weight, or not there. An edge that no
+/// entry names is as it was, with the weight that it had. Both hold of the edges that the vertices may
+/// have after the batch. The call does nothing.
 pub fn last_entry_decides()
-    ensures named { (g : Digraph) (front : List Entry) (entry : Entry) (back : List Entry) (e : Edge)
-        → IsWithin (vertices_after g.vertices (front ++ entry ∷ back)) e
-        → edge_of entry ≡ Some e → NoneNames e back
-        → has_edge (graph_after g (front ++ entry ∷ back)).edges e ≡ is_add entry }
-    ensures others { (g : Digraph) (batch : List Entry) (e : Edge)
-        → IsWithin (vertices_after g.vertices batch) e → NoneNames e batch
-        → has_edge (graph_after g batch).edges e ≡ has_edge g.edges e }
+    ensures named { (g : Digraph) (front : List Entry) (entry : Entry) (back : List Entry) (p : Ends)
+        → IsWithin (vertices_after g.vertices (front ++ entry ∷ back)) p
+        → named_by entry ≡ Some p → NoneNames p back
+        → weight_in p (graph_after g (front ++ entry ∷ back)).edges ≡ made_by entry }
+    ensures others { (g : Digraph) (batch : List Entry) (p : Ends)
+        → IsWithin (vertices_after g.vertices batch) p → NoneNames p batch
+        → weight_in p (graph_after g batch).edges ≡ weight_in p g.edges }
 {}
 
 /// The law of growth. A graph has no fewer vertices after a batch that fits than before it and than
@@ -35,20 +37,20 @@ pub fn graphs_never_shrink()
         ⊎ Contains batch (Grow (graph_after g batch).vertices) }
 {}
 
-/// The edges after a batch ascend, each once, and there is no other ascending list of the same
-/// edges. The call does nothing.
+/// The edges after a batch ascend, each once, and there is no other ascending list of edges with the
+/// same weights between the same ends. The call does nothing.
 pub fn edges_ascend()
     ensures ascending { (g : Digraph) (batch : List Entry) → IsDigraph g
         → misfits g.vertices batch ≡ false → IsAscending (graph_after g batch).edges }
     ensures only { (xs ys : List Edge) → IsAscending xs → IsAscending ys
-        → ((e : Edge) → has_edge xs e ≡ has_edge ys e) → xs ≡ ys }
+        → ((p : Ends) → weight_in p xs ≡ weight_in p ys) → xs ≡ ys }
 {}
 
 /// The destinations of the edges from a vertex, and the sources of those to one, are the converse
-/// of each other: both have what the edges have. The call does nothing.
+/// of each other: an edge has one weight, seen from both its ends. The call does nothing.
 pub fn directions_are_converse()
     ensures out { (edges : List Edge) (u v : ℕ)
-        → has_number (destinations_of u edges) v ≡ has_edge edges (u, v) }
+        → lookup v (destinations_of u edges) ≡ weight_in (u, v) edges }
     ensures into { (edges : List Edge) (u v : ℕ)
-        → has_number (sources_of v edges) u ≡ has_edge edges (u, v) }
+        → lookup u (sources_of v edges) ≡ weight_in (u, v) edges }
 {}

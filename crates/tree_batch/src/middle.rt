@@ -1,12 +1,13 @@
 //! Trees and updates cut where half of the updates are on either side.
 
 ghost use Rattle.std.specs.Prelude.{◌≤◌, length, take, drop, IfOk, IfSome};
+ghost use Rattle.std.specs.Map.{keys_of};
 ghost use Rattle.edge_updates.specs.Updates.{Ascend};
 ghost use Rattle.tree_batch.specs.BlockCuts.{AreBelow, BeginsFrom};
 ghost use Rattle.tree_batch.specs.Forking.{AreAround};
 
 use crate::cuts::{BLOCK, cut_length};
-use edge_updates::EdgeUpdate;
+use edge_updates::Updates;
 use shared_tree::Tree;
 use std::alloc::{AllocError, Global};
 use vertex_blocks::VertexBlock;
@@ -14,7 +15,7 @@ use vertex_blocks::VertexBlock;
 /// A tree, and updates of its vertices.
 pub(crate) struct Half<'a> {
     pub(crate) tree: Tree<VertexBlock>,
-    pub(crate) updates: &'a [EdgeUpdate],
+    pub(crate) updates: Updates<'a>,
 }
 
 impl Drop for Half<'_> {
@@ -31,7 +32,7 @@ pub(crate) struct Middle<'a> {
     pub(crate) below: Half<'a>,
     pub(crate) number: u32,
     pub(crate) found: Option<VertexBlock>,
-    pub(crate) updates: &'a [EdgeUpdate],
+    pub(crate) updates: Updates<'a>,
     pub(crate) above: Half<'a>,
     /// Whether the block has more than half of the updates.
     pub(crate) is_heavy: bool,
@@ -55,22 +56,24 @@ impl Drop for Middle<'_> {
 pub(crate) fn cut_at_middle<'a>(
     alloc: Global,
     tree: &Tree<VertexBlock>,
-    updates: &'a [EdgeUpdate],
+    updates: &Updates<'a>,
 ) -> Result<Option<Middle<'a>>, AllocError>
-    requires { Ascend updates.now }
+    requires { Ascend (keys_of updates.now) }
     ensures { IfOk result (λ o. IfSome o (AreAround tree.now.entries updates.now)) }
 {
     let half = updates.len() / 2;
-    let Some(middle) = updates.get(half) else {
+    if half >= updates.len() {
         return Ok(None);
-    };
-    let (below, rest) = updates.split_at(count_below(updates, middle.vertex() / BLOCK));
-    let Some((first, _)) = rest.split_first() else {
+    }
+    let middle = updates.update(half).vertex() / BLOCK;
+    let (below, rest) = updates.split_at(count_below(updates, middle));
+    let Some(first) = rest.first() else {
         return Ok(None);
     };
     let number = first.vertex() / BLOCK;
-    let (block, above) = rest.split_at(cut_length(rest, number));
+    let (block, above) = rest.split_at(cut_length(&rest, number));
     let (lower, found, upper) = tree.split(alloc, number)?;
+    let is_heavy = block.len() > half;
     Ok(Some(Middle {
         below: Half {
             tree: lower,
@@ -83,19 +86,19 @@ pub(crate) fn cut_at_middle<'a>(
             tree: upper,
             updates: above,
         },
-        is_heavy: block.len() > half,
+        is_heavy,
     }))
 }
 
 /// How many updates in front are of blocks below this one.
-fn count_below(updates: &[EdgeUpdate], block: u32) -> usize
+fn count_below(updates: &Updates<'_>, block: u32) -> usize
     ensures bounded { result ≤ length updates.now }
     ensures below { AreBelow block (take result updates.now) }
     ensures rest { BeginsFrom block (drop result updates.now) }
 {
     let mut count = 0;
     while count < updates.len() {
-        if updates[count].vertex() / BLOCK >= block {
+        if updates.update(count).vertex() / BLOCK >= block {
             return count;
         }
         count += 1;

@@ -1,40 +1,62 @@
-//! Updates seen from the other end of their edges.
+//! What sorted updates make of a tree, and the same updates seen from the other end of their edges.
 
 ghost use Rattle.std.specs.Prelude.{◌≡◌, IfOk};
-ghost use Rattle.edge_updates.specs.Updates.{decided, Ascend, NamesOnce};
-ghost use Rattle.tree_batch.specs.Edge.{Edge};
+ghost use Rattle.std.specs.Map.{keys_of};
+ghost use Rattle.edge_updates.specs.Updates.{Ascend};
+ghost use Rattle.weighted_updates.specs.WeightedUpdates.{decided_weight};
+ghost use Rattle.tree_batch.specs.Edge.{Ends};
+ghost use Rattle.tree_batch.specs.Forking.{IsChangedTree};
+ghost use Rattle.tree_batch.specs.Sorted.{sorted_pairs};
 
-use edge_updates::{EdgeUpdate, sort_forked, sort_turned, turn};
+use crate::cuts::changed;
+use crate::updates::SortedUpdates;
+use c_tree::ChunkSize;
+use edge_updates::{Updates, sort_turned};
+use shared_tree::{Changed, Tree};
 use std::alloc::{AllocError, Global};
-use std::thread::Threads;
+use vertex_blocks::VertexBlock;
+use weighted_updates::Columns;
 
-/// Updates that ascend, seen from their neighbours, ascending again. The memory of `scratch` is used for
-/// the sort, and given back.
-pub(crate) fn turned(
-    mut updates: Vec<EdgeUpdate>,
-    mut scratch: Vec<EdgeUpdate>,
-) -> Result<Vec<EdgeUpdate>, AllocError>
-    requires { Ascend updates.items }
-    ensures order { IfOk result (λ v. Ascend v.items) }
-    ensures same { IfOk result (λ v. (e : Edge)
-        → decided v.items e ≡ decided updates.items (e.1, e.0)) }
-{
-    sort_turned(&mut updates, &mut scratch)?;
-    Ok(updates)
-}
+impl SortedUpdates {
+    /// Updates that ascend, seen from their neighbours, ascending again.
+    pub(crate) fn turned(self, alloc: Global) -> Result<SortedUpdates, AllocError>
+        requires { Ascend (keys_of (sorted_pairs self)) }
+        ensures order { IfOk result (λ s. Ascend (keys_of (sorted_pairs s))) }
+        ensures same { IfOk result (λ s. (p : Ends)
+            → decided_weight (sorted_pairs s) p ≡ decided_weight (sorted_pairs self) (p.1, p.0)) }
+    {
+        match self {
+            SortedUpdates::Unweighted(mut updates) => {
+                let mut scratch = Vec::new(alloc);
+                sort_turned(&mut updates, &mut scratch)?;
+                Ok(SortedUpdates::Unweighted(updates))
+            }
+            SortedUpdates::Weighted(mut updates) => {
+                let mut scratch = Vec::new(alloc);
+                weighted_updates::sort_turned(&mut updates, &mut scratch)?;
+                Ok(SortedUpdates::Weighted(updates))
+            }
+        }
+    }
 
-/// Updates that name no edge twice, seen from their neighbours, ascending, sorted by as many threads as there are processors.
-pub(crate) fn turned_forked<R: Threads + Sync>(
-    rt: &R,
-    alloc: Global,
-    mut updates: Vec<EdgeUpdate>,
-) -> Result<Vec<EdgeUpdate>, AllocError>
-    requires { NamesOnce updates.items }
-    ensures order { IfOk result (λ v. Ascend v.items) }
-    ensures same { IfOk result (λ v. (e : Edge)
-        → decided v.items e ≡ decided updates.items (e.1, e.0)) }
-{
-    turn(&mut updates);
-    sort_forked(rt, alloc, &mut updates)?;
-    Ok(updates)
+    /// The tree after updates whose edges ascend. Updates without weights are lent as they stand.
+    pub(crate) fn change(
+        &self,
+        alloc: Global,
+        tree: &Tree<VertexBlock>,
+        chunk_size: ChunkSize,
+    ) -> Result<Changed<VertexBlock>, AllocError>
+        requires { Ascend (keys_of (sorted_pairs self.now)) }
+        ensures { IfOk result (λ c. IsChangedTree (sorted_pairs self.now) tree.now.entries c) }
+    {
+        match self {
+            SortedUpdates::Unweighted(updates) => {
+                changed(alloc, tree, &Updates::new(updates, &[]), chunk_size)
+            }
+            SortedUpdates::Weighted(pairs) => {
+                let columns = Columns::of(alloc, pairs)?;
+                changed(alloc, tree, &columns.lend(), chunk_size)
+            }
+        }
+    }
 }

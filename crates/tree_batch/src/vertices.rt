@@ -10,7 +10,7 @@ use shared_tree::Tree;
 use std::marker::Model;
 use vertex_blocks::{BlockIter, NeighbourSet, VertexBlock};
 
-/// The vertices that are still to come, ascending, each with its neighbours.
+/// The vertices that are still to come, ascending, each with its neighbours and their weights.
 #[derive(Drop)]
 pub(crate) struct AdjacencyIter<'a> {
     /// The number of the block that was begun.
@@ -22,11 +22,11 @@ pub(crate) struct AdjacencyIter<'a> {
 }
 
 impl<'a> Model for AdjacencyIter<'a> {
-    ghost use Rattle.std.specs.Prelude.{ℕ, List, ◌++◌};
+    ghost use Rattle.std.specs.Prelude.{ℕ, ℤ, List, ◌++◌};
     ghost use Rattle.vertex_blocks.specs.Blocks.{vertices_at, numbered, lists_of};
     ghost use Rattle.tree_batch.specs.VertexBlocks.{AreBlocksLeft};
 
-    ghost Value = { List (ℕ × List ℕ) };
+    ghost Value = { List (ℕ × List (ℕ × ℤ)) };
 
     ghost view = { λ i. numbered i.number (vertices_at i.vertices) ++ lists_of i.rest };
 

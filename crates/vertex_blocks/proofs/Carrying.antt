@@ -1,10 +1,11 @@
 -- Blocks that are built up vertex by vertex.
-use Rattle.std.proofs.Common.{◌≡◌, ℕ, ◌+◌, ◌<◌, ◌≤◌, ◌⊎◌, nat_lt, inl, inr, if◌then◌else◌, List, [], ◌++◌, slice_range, refl, sym, ◌∙◌, ap, subst, arith, add-one}
+use Rattle.std.proofs.Common.{◌≡◌, ℕ, ℤ, ◌+◌, ◌<◌, ◌≤◌, ◌⊎◌, nat_lt, inl, inr, if◌then◌else◌, List, [], ◌++◌, slice_range, refl, sym, ◌∙◌, ap, subst, arith, add-one}
 use Rattle.std.proofs.lemmas.Bool.{cases_lt, lt-ltb, le-ltb}
 use Rattle.std.proofs.lemmas.List.{append-nil}
-use Rattle.pages.specs.Vertices.{Rises, neighbours_of, count_below}
+use Rattle.ascending_lists.specs.Maps.{Rises}
+use Rattle.pages.specs.Vertices.{neighbours_of, count_below}
 use Rattle.pages.specs.inside.Built.{entry_of, built}
-use Rattle.pages.proofs.Order.{rises_to}
+use Rattle.ascending_lists.proofs.MapOrder.{rises_to}
 use Rattle.pages.proofs.Building.{HaveNeighbours, packed_some, rises_built, neighbours_built, built_same, carried}
 use Rattle.vertex_blocks.specs.Blocks.{Block, IsBlock}
 use Rattle.vertex_blocks.specs.inside.Joined.{IsMadeOf}
@@ -12,10 +13,10 @@ use Rattle.vertex_blocks.specs.inside.Steps.{IsBuilt, IsPut}
 use Rattle.vertex_blocks.proofs.Sums.{lists_some}
 
 -- lists of one function below a number, and of another from it on
-abbrev pub up_to : ℕ → (ℕ → List ℕ) → (ℕ → List ℕ) → ℕ → List ℕ
+abbrev pub up_to : ℕ → (ℕ → List (ℕ × ℤ)) → (ℕ → List (ℕ × ℤ)) → ℕ → List (ℕ × ℤ)
 up_to low f g u = if nat_lt u low then f u else g u
 
-module _ (low : ℕ) (f g : ℕ → List ℕ) where
+module _ (low : ℕ) (f g : ℕ → List (ℕ × ℤ)) where
   before : (u : ℕ) → u < low → up_to low f g u ≡ f u
   before u lt = rw (lt-ltb u low lt) refl
 
@@ -26,10 +27,10 @@ module _ (low : ℕ) (f g : ℕ → List ℕ) where
   built_before = built_same (up_to low f g) f low before
 
 -- lists of old vertices come behind others
-module _ (es : Block) (map : Rises 0 64 es) (some_each : HaveNeighbours es) (f : ℕ → List ℕ) (low high : ℕ) (p : Block) (le : low ≤ high) (is : p ≡ built f low) where
+module _ (es : Block) (map : Rises 0 64 es) (some_each : HaveNeighbours es) (f : ℕ → List (ℕ × ℤ)) (low high : ℕ) (p : Block) (le : low ≤ high) (is : p ≡ built f low) where
   pub carried_behind : p ++ slice_range es (count_below low es) (count_below high es) ≡ built (up_to low f (λ u. neighbours_of u es)) high
   carried_behind =
-      let g : ℕ → List ℕ = up_to low f (λ u. neighbours_of u es) in
+      let g : ℕ → List (ℕ × ℤ) = up_to low f (λ u. neighbours_of u es) in
       ap (λ l. l ++ slice_range es (count_below low es) (count_below high es)) (is ∙ sym (built_before low f (λ u. neighbours_of u es)))
       ∙ carried es map some_each g low high le (λ u ge lt. behind low f (λ v. neighbours_of v es) u ge)
 
@@ -38,7 +39,7 @@ module _ (es : Block) (map : Rises 0 64 es) (some_each : HaveNeighbours es) (f :
       rises_to 0 high 64 (p ++ slice_range es (count_below low es) (count_below high es))
       (subst (Rises 0 high) (sym carried_behind) (rises_built (up_to low f (λ u. neighbours_of u es)) high)) within
 
-module _ (f : ℕ → List ℕ) where
+module _ (f : ℕ → List (ℕ × ℤ)) where
   pub built_none : IsBuilt f 0 [] []
   built_none = record { small = λ u. []; large = λ u. []; page = refl; sets = refl; lists = λ u lt. absurd (omega arith); apart = λ u lt. absurd (omega arith) }
 
@@ -60,8 +61,8 @@ module _ (f : ℕ → List ℕ) where
   pub built_carried : (low high : ℕ) (p s b p' s' : Block) → IsMadeOf b p' s' → low ≤ high → high ≤ 64 → ((u : ℕ) → low ≤ u → u < high → f u ≡ neighbours_of u b) → IsBuilt f low p s
       → IsBuilt f high (p ++ slice_range p' (count_below low p') (count_below high p')) (s ++ slice_range s' (count_below low s') (count_below high s'))
   built_carried low high p s b p' s' made le within same ok =
-      let old : ℕ → List ℕ = λ u. neighbours_of u p' in
-      let old_large : ℕ → List ℕ = λ u. neighbours_of u s' in
+      let old : ℕ → List (ℕ × ℤ) = λ u. neighbours_of u p' in
+      let old_large : ℕ → List (ℕ × ℤ) = λ u. neighbours_of u s' in
       record {
         small = up_to low ok.small old;
         large = up_to low ok.large old_large;
@@ -78,10 +79,10 @@ module _ (f : ℕ → List ℕ) where
       }
 
   -- the next vertex with its list
-  pub built_put : (v : ℕ) (xs : List ℕ) (p s p' s' : Block) → IsBuilt f v p s → IsPut v xs p s p' s' → xs ≡ f v → IsBuilt f (v + 1) p' s'
+  pub built_put : (v : ℕ) (xs : List (ℕ × ℤ)) (p s p' s' : Block) → IsBuilt f v p s → IsPut v xs p s p' s' → xs ≡ f v → IsBuilt f (v + 1) p' s'
   built_put v xs p s p' s' ok put is =
-      let none : ℕ → List ℕ = λ u. put.small in
-      let none_large : ℕ → List ℕ = λ u. put.large in
+      let none : ℕ → List (ℕ × ℤ) = λ u. put.small in
+      let none_large : ℕ → List (ℕ × ℤ) = λ u. put.large in
       record {
         small = up_to v ok.small none;
         large = up_to v ok.large none_large;
@@ -97,7 +98,7 @@ module _ (f : ℕ → List ℕ) where
         ];
       }
     where
-      next : (g : ℕ → List ℕ) (x : List ℕ) (q q' : Block) → q ≡ built g v → q' ≡ q ++ entry_of v x → q' ≡ built (up_to v g (λ u. x)) (v + 1)
+      next : (g : ℕ → List (ℕ × ℤ)) (x : List (ℕ × ℤ)) (q q' : Block) → q ≡ built g v → q' ≡ q ++ entry_of v x → q' ≡ built (up_to v g (λ u. x)) (v + 1)
       next g x q q' was becomes =
           becomes ∙ ap (λ l. l ++ entry_of v x) (was ∙ sym (built_before v g (λ u. x)))
           ∙ ap (λ l. built (up_to v g (λ u. x)) v ++ entry_of v l) (sym (behind v g (λ u. x) v (omega arith)))

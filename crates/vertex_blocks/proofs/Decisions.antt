@@ -1,190 +1,134 @@
 -- Sets that updates of one vertex make of others, by additions and removals.
-use Rattle.std.proofs.Common.{◌≡◌, ◌≢◌, ℕ, ◌+◌, ◌<◌, ◌≤◌, ◌==◌, Bool, true, false, ◌||◌, ◌&&◌, not, inl, inr, None, if◌then◌else◌, List, [], ◌∷◌, ◌++◌, length, drop, Result, Ok, Err, IfOk, refl, sym, ◌∙◌, ap, subst, arith}
-use Rattle.std.proofs.lemmas.Bool.{cases_Bool, cases_eq, cases_order, true≢false, eq-eqb, ne_eqb}
-use Rattle.std.proofs.lemmas.List.{append-nil, drop_all}
+use Rattle.std.proofs.Common.{◌≡◌, ℕ, ℤ, ◌+◌, ◌^◌, ◌<◌, ◌≤◌, Bool, true, false, inl, inr, Option, None, if◌then◌else◌, List, [], ◌∷◌, ◌++◌, length, get_or, drop, append_assoc, Result, Ok, Err, IfOk, refl, sym, ◌∙◌, ap, subst, arith}
 use Rattle.std.specs.List.{Contains}
+use Rattle.std.specs.Map.{keys_of}
+use Rattle.std.specs.Option.{option_or}
+use Rattle.std.specs.declared.alloc.AllocError.{AllocError}
+use Rattle.std.proofs.lemmas.Bool.{cases_Bool, cases_eq, true≢false, eq-eqb, ne_eqb}
+use Rattle.std.proofs.lemmas.List.{append-nil, drop_all, drop_more}
+use Rattle.ascending_lists.specs.Ascending.{AscendsFrom, Ascends}
+use Rattle.ascending_lists.specs.Sets.{has}
+use Rattle.ascending_lists.specs.Maps.{IsMap, lookup}
+use Rattle.ascending_lists.specs.MapOperations.{union_keeping_second, without_keys}
+use Rattle.ascending_lists.proofs.Ascending.{ascends_from}
+use Rattle.ascending_lists.proofs.Membership.{has_if, has_only}
+use Rattle.ascending_lists.proofs.MapKeys.{entries_rise}
+use Rattle.ascending_lists.proofs.MapUnions.{value_of_second, map_of_second}
+use Rattle.ascending_lists.proofs.MapDifferences.{value_without, map_without}
+use Rattle.ascending_lists.proofs.MapValues.{same_entries}
 use Rattle.edge_updates.specs.declared.edge_update.EdgeUpdate.{EdgeUpdate}
 use Rattle.edge_updates.specs.EdgeUpdate.{neighbour_of, adds}
-use Rattle.ascending_lists.specs.Sets as sets
-use Rattle.ascending_lists.specs.Sets.{union, difference}
-use Rattle.ascending_lists.specs.Ascending as ascending
-use Rattle.ascending_lists.specs.Ascending.{Ascends}
-use Rattle.ascending_lists.proofs.Unions.{union_ascends}
-use Rattle.ascending_lists.proofs.Differences.{difference_ascends}
-use Rattle.ascending_lists.proofs.Membership.{union_members, difference_members, has_if, has_only}
-use Rattle.std.specs.declared.alloc.AllocError.{AllocError}
 use Rattle.c_tree.specs.Chunks.{ChunkedSet, IsSetOf}
 use Rattle.set_ops.specs.declared.error.SetError.{SetError}
 use Rattle.set_ops.specs.Outcome.{Inserts, Removes, Unites, Subtracts}
-use Rattle.pages.specs.Lists.{AscendsFrom, has}
-use Rattle.pages.specs.Updates.{updated, decided, NeighboursAscend}
-use Rattle.pages.proofs.Ascent.{ascends_from}
-use Rattle.pages.proofs.Merging.{neighbour_small, updated_ascends}
-use Rattle.pages.proofs.Deciding.{has_low, updated_has}
+use Rattle.pages.specs.Updates.{added, updated, decided, NeighboursAscend}
+use Rattle.pages.proofs.Merging.{neighbour_small, added_ascends, updated_ascends}
+use Rattle.pages.proofs.Deciding.{updated_weight}
+use Rattle.pages.proofs.UpdateRuns.{no_update}
 use Rattle.vertex_blocks.specs.inside.Runs.{added_in, removed_in}
 
--- one meaning of what ascends, and of what is an element
-pub ascends_here : (low : ℕ) (xs : List ℕ) → ascending.AscendsFrom low xs → AscendsFrom low xs
-ascends_here low [] s = tt
-ascends_here low (x ∷ xs) s = (s.0, s.1, ascends_here (x + 1) xs s.2)
-
-pub ascends_there : (low : ℕ) (xs : List ℕ) → AscendsFrom low xs → ascending.AscendsFrom low xs
-ascends_there low [] s = tt
-ascends_there low (x ∷ xs) s = (s.0, s.1, ascends_there (x + 1) xs s.2)
-
-pub has_same : (v : ℕ) (xs : List ℕ) → sets.has v xs ≡ has v xs
-has_same v [] = refl
-has_same v (x ∷ xs) = ap (λ b. if x == v then true else b) (has_same v xs)
-
 -- an element is there where the test says so
-has_not : (v : ℕ) (xs : List ℕ) → ¬ Contains xs v → sets.has v xs ≡ false
-has_not v xs out = elim (cases_Bool (sets.has v xs)) [ inl is ↦ absurd (out (has_only v xs is)) | inr isnt ↦ isnt ]
-
-not_there : (v : ℕ) (xs : List ℕ) → sets.has v xs ≡ false → ¬ Contains xs v
-not_there v xs isnt c = true≢false (sym (has_if v xs c) ∙ isnt)
-
 pub contains_is : (v : ℕ) (xs : List ℕ) (b : Bool) → (b ≡ true → Contains xs v) → (Contains xs v → b ≡ true) → b ≡ has v xs
 contains_is v xs b to from = elim (cases_Bool b) [
-  | inl is ↦ is ∙ sym (sym (has_same v xs) ∙ has_if v xs (to is))
-  | inr isnt ↦ isnt ∙ sym (sym (has_same v xs) ∙ has_not v xs (λ c. true≢false (sym (from c) ∙ isnt)))
+  | inl is ↦ is ∙ sym (has_if v xs (to is))
+  | inr isnt ↦ isnt ∙ sym (has_not v xs (λ c. true≢false (sym (from c) ∙ isnt)))
 ]
+  where
+    has_not : (v : ℕ) (xs : List ℕ) → ¬ Contains xs v → has v xs ≡ false
+    has_not v xs out = elim (cases_Bool (has v xs)) [ inl is ↦ absurd (out (has_only v xs is)) | inr isnt ↦ isnt ]
 
-and_false : (p : Bool) → (p && false) ≡ false
-and_false true = refl
-and_false false = refl
-
-or_true : (p : Bool) → (p || true) ≡ true
-or_true true = refl
-or_true false = refl
-
-kept : (p : Bool) → ((p || false) && true) ≡ p
-kept true = refl
-kept false = refl
-
--- what a union without some elements has
-member_of : (v : ℕ) (xs ys zs : List ℕ) → sets.has v (difference (union xs ys) zs) ≡ ((sets.has v xs || sets.has v ys) && not (sets.has v zs))
-member_of v xs ys zs =
-    let h : Bool = sets.has v xs in
-    let a : Bool = sets.has v ys in
-    let all : List ℕ = difference (union xs ys) zs in
-    elim (cases_Bool (sets.has v zs)) [
-      | inl gone ↦
-          has_not v all (λ c. ((difference_members (union xs ys) zs v).0 c).1 (has_only v zs gone))
-          ∙ sym (ap (λ r. (h || a) && not r) gone ∙ and_false (h || a))
-      | inr stays ↦
-          let out : ¬ Contains zs v = not_there v zs stays in
-          elim (cases_Bool (sets.has v xs)) [
-            | inl is ↦
-                has_if v all ((difference_members (union xs ys) zs v).1 ((union_members xs ys v).1 (inl (has_only v xs is)), out))
-                ∙ sym (ap (λ b. (b || a) && not (sets.has v zs)) is ∙ ap (λ r. not r) stays)
-            | inr isnt ↦ elim (cases_Bool (sets.has v ys)) [
-              | inl new ↦
-                  has_if v all ((difference_members (union xs ys) zs v).1 ((union_members xs ys v).1 (inr (has_only v ys new)), out))
-                  ∙ sym (ap (λ b. (b || a) && not (sets.has v zs)) isnt ∙ ap (λ b. b && not (sets.has v zs)) new ∙ ap (λ r. not r) stays)
-              | inr old ↦
-                  has_not v all (λ c. elim ((union_members xs ys v).0 ((difference_members (union xs ys) zs v).0 c).0) [ inl x ↦ not_there v xs isnt x | inr y ↦ not_there v ys old y ])
-                  ∙ sym (ap (λ b. (b || a) && not (sets.has v zs)) isnt ∙ ap (λ b. b && not (sets.has v zs)) old)
-            ]
-          ]
-    ]
+-- no element is below what a list ascends from
+has_low : (v low : ℕ) (xs : List ℕ) → v < low → AscendsFrom low xs → has v xs ≡ false
+has_low v low [] lt s = refl
+has_low v low (x ∷ xs) lt s = rw (ne_eqb x v (omega (arith, s.0))) (has_low v (x + 1) xs (omega (arith, s.0)) s.2)
 
 -- what is added ascends, and so does what is removed
-pub added_ascend : (low : ℕ) (us : List EdgeUpdate) → NeighboursAscend low us → AscendsFrom low (added_in us)
+pub added_ascend : (low : ℕ) (us : List (EdgeUpdate × ℤ)) → NeighboursAscend low us → AscendsFrom low (keys_of (added_in us))
 added_ascend low [] s = tt
-added_ascend low (u ∷ us) s = elim (cases_Bool (adds u)) [
-  | inl is ↦ rw is (s.0, omega (arith, neighbour_small u), added_ascend (neighbour_of u + 1) us s.1)
-  | inr isnt ↦ rw isnt (ascends_from low (neighbour_of u + 1) (added_in us) (omega (arith, s.0)) (added_ascend (neighbour_of u + 1) us s.1))
-]
+added_ascend low (u ∷ us) s = ascends_from low (neighbour_of u.0) (keys_of (added u (added_in us))) s.0 (added_ascends u (added_in us) (added_ascend (neighbour_of u.0 + 1) us s.1))
 
-pub removed_ascend : (low : ℕ) (us : List EdgeUpdate) → NeighboursAscend low us → AscendsFrom low (removed_in us)
+pub removed_ascend : (low : ℕ) (us : List (EdgeUpdate × ℤ)) → NeighboursAscend low us → AscendsFrom low (removed_in us)
 removed_ascend low [] s = tt
-removed_ascend low (u ∷ us) s = elim (cases_Bool (adds u)) [
-  | inl is ↦ rw is (ascends_from low (neighbour_of u + 1) (removed_in us) (omega (arith, s.0)) (removed_ascend (neighbour_of u + 1) us s.1))
-  | inr isnt ↦ rw isnt (s.0, omega (arith, neighbour_small u), removed_ascend (neighbour_of u + 1) us s.1)
+removed_ascend low (u ∷ us) s = elim (cases_Bool (adds u.0)) [
+  | inl is ↦ rw is (ascends_from low (neighbour_of u.0 + 1) (removed_in us) (omega (arith, s.0)) (removed_ascend (neighbour_of u.0 + 1) us s.1))
+  | inr isnt ↦ rw isnt (s.0, omega (arith, neighbour_small u.0), removed_ascend (neighbour_of u.0 + 1) us s.1)
 ]
 
 -- of no list the additions are left
-pub updated_nothing : (us : List EdgeUpdate) → updated [] us ≡ added_in us
+pub updated_nothing : (us : List (EdgeUpdate × ℤ)) → updated [] us ≡ added_in us
 updated_nothing [] = refl
-updated_nothing (u ∷ us) = elim (cases_Bool (adds u)) [
-  | inl is ↦ rw is (ap (λ ys. neighbour_of u ∷ ys) (updated_nothing us))
-  | inr isnt ↦ rw isnt (updated_nothing us)
-]
+updated_nothing (u ∷ us) = ap (added u) (updated_nothing us)
 
--- an update that names an element decides, by both lists
-decided_parts : (low v : ℕ) (us : List EdgeUpdate) (b : Bool) → NeighboursAscend low us → decided v us b ≡ ((b || has v (added_in us)) && not (has v (removed_in us)))
-decided_parts low v [] b s = sym (kept b)
-decided_parts low v (u ∷ us) b s =
-    let n : ℕ = neighbour_of u in
+-- an update that names a neighbour decides, by both lists
+decided_parts : (low v : ℕ) (us : List (EdgeUpdate × ℤ)) (was : Option ℤ) → NeighboursAscend low us → decided v us was ≡ (if has v (removed_in us) then None else option_or (lookup v (added_in us)) was)
+decided_parts low v [] was s = refl
+decided_parts low v (u ∷ us) was s =
+    let n : ℕ = neighbour_of u.0 in
     elim (cases_eq n v) [
       | inl at ↦
-          let less : v < n + 1 = omega (arith, at) in
-          let no_more : has v (added_in us) ≡ false = has_low v (n + 1) (added_in us) less (added_ascend (n + 1) us s.1) in
-          let no_less : has v (removed_in us) ≡ false = has_low v (n + 1) (removed_in us) less (removed_ascend (n + 1) us s.1) in
-          elim (cases_Bool (adds u)) [
-            | inl is ↦ rw (eq-eqb n v at, is) (rw (eq-eqb n v at, no_less) (sym (rw (or_true b) refl)))
-            | inr isnt ↦ rw (eq-eqb n v at, isnt) (rw (eq-eqb n v at) (sym (and_false (b || has v (added_in us)))))
+          let stays : has v (removed_in us) ≡ false = has_low v (n + 1) (removed_in us) (omega (arith, at)) (removed_ascend (n + 1) us s.1) in
+          elim (cases_Bool (adds u.0)) [
+            | inl is ↦ rw (eq-eqb n v at, is) (rw (eq-eqb n v at, stays) refl)
+            | inr isnt ↦ rw (eq-eqb n v at, isnt) (rw (eq-eqb n v at) refl)
           ]
-      | inr other ↦ elim (cases_Bool (adds u)) [
-        | inl is ↦ rw (ne_eqb n v other, is) (rw (ne_eqb n v other) (decided_parts (n + 1) v us b s.1))
-        | inr isnt ↦ rw (ne_eqb n v other, isnt) (rw (ne_eqb n v other) (decided_parts (n + 1) v us b s.1))
+      | inr other ↦ elim (cases_Bool (adds u.0)) [
+        | inl is ↦ rw (ne_eqb n v other, is) (rw (ne_eqb n v other) (decided_parts (n + 1) v us was s.1))
+        | inr isnt ↦ rw (ne_eqb n v other, isnt) (rw (ne_eqb n v other) (decided_parts (n + 1) v us was s.1))
       ]
     ]
 
-here : (x : ℕ) (xs : List ℕ) → has x (x ∷ xs) ≡ true
-here x xs = rw (eq-eqb x x refl) refl
-
-behind : (v x : ℕ) (xs : List ℕ) → x ≢ v → has v (x ∷ xs) ≡ has v xs
-behind v x xs other = rw (ne_eqb x v other) refl
-
--- ascending lists with the same elements are the same
-same_lists : (low : ℕ) (xs ys : List ℕ) → AscendsFrom low xs → AscendsFrom low ys → ((v : ℕ) → has v xs ≡ has v ys) → xs ≡ ys
-same_lists low [] [] s t same = refl
-same_lists low [] (y ∷ ys) s t same = absurd (true≢false (sym (here y ys) ∙ sym (same y)))
-same_lists low (x ∷ xs) [] s t same = absurd (true≢false (sym (here x xs) ∙ same x))
-same_lists low (x ∷ xs) (y ∷ ys) s t same = elim (cases_order x y) [
-  | inl at ↦
-      let up : AscendsFrom (x + 1) ys = ascends_from (x + 1) (y + 1) ys (omega (arith, at)) t.2 in
-      let rest : (v : ℕ) → has v xs ≡ has v ys = λ v. elim (cases_eq x v) [
-        | inl is ↦ has_low v (x + 1) xs (omega (arith, is)) s.2 ∙ sym (has_low v (x + 1) ys (omega (arith, is)) up)
-        | inr other ↦ sym (behind v x xs other) ∙ same v ∙ behind v y ys (λ e. other (at ∙ e))
-      ] in
-      ap (λ z. z ∷ xs) at ∙ ap (λ zs. y ∷ zs) (same_lists (x + 1) xs ys s.2 up rest)
-  | inr other ↦ elim other [
-    | inl lt ↦ absurd (true≢false (sym (here x xs) ∙ same x ∙ has_low x y (y ∷ ys) lt (omega arith, t.1, t.2)))
-    | inr gt ↦ absurd (true≢false (sym (here y ys) ∙ sym (same y) ∙ has_low y x (x ∷ xs) gt (omega arith, s.1, s.2)))
-  ]
-]
-
 -- additions and then removals do what the updates do
-pub updated_set : (xs : List ℕ) (us : List EdgeUpdate) → Ascends None xs → NeighboursAscend 0 us → difference (union xs (added_in us)) (removed_in us) ≡ updated xs us
+pub updated_set : (xs : List (ℕ × ℤ)) (us : List (EdgeUpdate × ℤ)) → Ascends None (keys_of xs) → NeighboursAscend 0 us → without_keys (union_keeping_second xs (added_in us)) (removed_in us) ≡ updated xs us
 updated_set xs us s t =
-    let zs : List ℕ = difference (union xs (added_in us)) (removed_in us) in
-    let up : Ascends None zs = difference_ascends 0 (union xs (added_in us)) (removed_in us) (union_ascends 0 xs (added_in us) s (ascends_there 0 (added_in us) (added_ascend 0 us t))) in
-    let whole : AscendsFrom 0 xs = ascends_here 0 xs s in
-    let same : (v : ℕ) → has v zs ≡ has v (updated xs us) = λ v.
-    sym (has_same v zs) ∙ member_of v xs (added_in us) (removed_in us)
-    ∙ ap (λ b. (b || sets.has v (added_in us)) && not (sets.has v (removed_in us))) (has_same v xs)
-    ∙ ap (λ b. (has v xs || b) && not (sets.has v (removed_in us))) (has_same v (added_in us))
-    ∙ ap (λ b. (has v xs || has v (added_in us)) && not b) (has_same v (removed_in us))
-    ∙ sym (decided_parts 0 v us (has v xs) t) ∙ sym (updated_has 0 v xs us whole t) in
-    same_lists 0 zs (updated xs us) (ascends_here 0 zs up) (updated_ascends 0 xs us whole t) same
+    let ys : List (ℕ × ℤ) = added_in us in
+    let all : List (ℕ × ℤ) = union_keeping_second xs ys in
+    let map : IsMap all = map_of_second xs ys (entries_rise 0 xs (omega arith) s) (entries_rise 0 ys (omega arith) (added_ascend 0 us t)) in
+    same_entries 0 (2 ^ 32) (without_keys all (removed_in us)) (updated xs us) (map_without all (removed_in us) map) (entries_rise 0 (updated xs us) (omega arith) (updated_ascends 0 xs us s t))
+    (λ v. value_without v all (removed_in us) ∙ ap (λ (o : Option ℤ). if has v (removed_in us) then None else o) (value_of_second v xs ys)
+    ∙ sym (decided_parts 0 v us (lookup v xs) t) ∙ sym (updated_weight 0 v xs us s t))
 
 -- at the end of a walk over updates all are parted
-pub parted_end : (n : ℕ) (f : List EdgeUpdate → List ℕ) (us : List EdgeUpdate) (xs : List ℕ) → f [] ≡ [] → length us ≤ n → xs ++ f (drop n us) ≡ f us → xs ≡ f us
+pub parted_end : {B : Type 0} (n : ℕ) (f : List (EdgeUpdate × ℤ) → List B) (us : List (EdgeUpdate × ℤ)) (xs : List B) → f [] ≡ [] → length us ≤ n → xs ++ f (drop n us) ≡ f us → xs ≡ f us
 parted_end n f us xs none le is = sym (append-nil xs) ∙ ap (λ ys. xs ++ ys) (sym none ∙ ap f (sym (drop_all n us le))) ∙ is
 
 -- what two steps of set operations gave
-pub set_updated : (r : Result ChunkedSet AllocError) (grown rest : Result ChunkedSet SetError) (a g : ChunkedSet) (added removed : List ℕ) (us : List EdgeUpdate) → Ascends None a.elements → NeighboursAscend 0 us → added ≡ added_in us → removed ≡ removed_in us → Inserts a added grown → grown ≡ Ok g → Removes g removed rest → IfOk r (λ t. rest ≡ Ok t) → IfOk r (λ t. t.elements ≡ updated a.elements us)
-set_updated (Ok t) grown rest a g added removed us s u is_added is_removed inserts made removes is =
-    let first : IsSetOf (union a.elements added) a.chunk_size g = (subst (Inserts a added) made inserts).1 in
-    let second : IsSetOf (difference g.elements removed) g.chunk_size t = (subst (Removes g removed) is removes).1 in
-    second.elements ∙ ap (λ xs. difference xs removed) first.elements ∙ ap (λ xs. difference (union a.elements xs) removed) is_added ∙ ap (λ xs. difference (union a.elements (added_in us)) xs) is_removed ∙ updated_set a.elements us s u
-set_updated (Err e) grown rest a g added removed us s u is_added is_removed inserts made removes is = tt
+pub set_updated : (r : Result ChunkedSet AllocError) (grown rest : Result ChunkedSet SetError) (a g : ChunkedSet) (more : List (ℕ × ℤ)) (fewer : List ℕ) (us : List (EdgeUpdate × ℤ)) → Ascends None (keys_of a.entries) → NeighboursAscend 0 us → more ≡ added_in us → fewer ≡ removed_in us → Inserts a more grown → grown ≡ Ok g → Removes g fewer rest → IfOk r (λ t. rest ≡ Ok t) → IfOk r (λ t. t.entries ≡ updated a.entries us)
+set_updated (Ok t) grown rest a g more fewer us s u is_added is_removed inserts made removes is =
+    let first : IsSetOf (union_keeping_second a.entries more) a.chunk_size g = (subst (Inserts a more) made inserts).1 in
+    let second : IsSetOf (without_keys g.entries fewer) g.chunk_size t = (subst (Removes g fewer) is removes).1 in
+    second.entries ∙ ap (λ xs. without_keys xs fewer) first.entries ∙ ap (λ xs. without_keys (union_keeping_second a.entries xs) fewer) is_added ∙ ap (without_keys (union_keeping_second a.entries (added_in us))) is_removed ∙ updated_set a.entries us s u
+set_updated (Err e) grown rest a g more fewer us s u is_added is_removed inserts made removes is = tt
 
-pub sets_updated : (r : Result ChunkedSet AllocError) (grown rest : Result ChunkedSet SetError) (a m g f : ChunkedSet) (added removed : List ℕ) (us : List EdgeUpdate) → Ascends None a.elements → NeighboursAscend 0 us → added ≡ added_in us → removed ≡ removed_in us → m.elements ≡ added → f.elements ≡ removed → Unites a m grown → grown ≡ Ok g → Subtracts g f rest → IfOk r (λ t. rest ≡ Ok t) → IfOk r (λ t. t.elements ≡ updated a.elements us)
-sets_updated (Ok t) grown rest a m g f added removed us s u is_added is_removed more fewer unites made subtracts is =
-    let first : IsSetOf (union a.elements m.elements) a.chunk_size g = (subst (Unites a m) made unites).1 in
-    let second : IsSetOf (difference g.elements f.elements) g.chunk_size t = (subst (Subtracts g f) is subtracts).1 in
-    second.elements ∙ ap (λ xs. difference xs f.elements) first.elements ∙ ap (λ xs. difference (union a.elements xs) f.elements) (more ∙ is_added) ∙ ap (λ xs. difference (union a.elements (added_in us)) xs) (fewer ∙ is_removed) ∙ updated_set a.elements us s u
-sets_updated (Err e) grown rest a m g f added removed us s u is_added is_removed more fewer unites made subtracts is = tt
+pub sets_updated : (r : Result ChunkedSet AllocError) (grown rest : Result ChunkedSet SetError) (a m g f : ChunkedSet) (us : List (EdgeUpdate × ℤ)) → Ascends None (keys_of a.entries) → NeighboursAscend 0 us → m.entries ≡ added_in us → keys_of f.entries ≡ removed_in us → Unites a m grown → grown ≡ Ok g → Subtracts g f rest → IfOk r (λ t. rest ≡ Ok t) → IfOk r (λ t. t.entries ≡ updated a.entries us)
+sets_updated (Ok t) grown rest a m g f us s u more fewer unites made subtracts is =
+    let first : IsSetOf (union_keeping_second a.entries m.entries) a.chunk_size g = (subst (Unites a m) made unites).1 in
+    let second : IsSetOf (without_keys g.entries (keys_of f.entries)) g.chunk_size t = (subst (Subtracts g f) is subtracts).1 in
+    second.entries ∙ ap (λ xs. without_keys xs (keys_of f.entries)) first.entries ∙ ap (λ xs. without_keys (union_keeping_second a.entries xs) (keys_of f.entries)) more ∙ ap (without_keys (union_keeping_second a.entries (added_in us))) fewer ∙ updated_set a.entries us s u
+sets_updated (Err e) grown rest a m g f us s u more fewer unites made subtracts is = tt
+
+-- one update more in a walk over them
+module _ (us : List (EdgeUpdate × ℤ)) (i : ℕ) (u : EdgeUpdate) (w : ℤ) (lt : i < length us) (at : (u, w) ≡ get_or us i no_update) where
+  cells : drop i us ≡ (u, w) ∷ drop (i + 1) us
+  cells = drop_more us i no_update lt ∙ ap (λ (p : EdgeUpdate × ℤ). p ∷ drop (i + 1) us) (sym at)
+
+  pub next_added : (xs ys : List (ℕ × ℤ)) → adds u ≡ true → ys ≡ xs ++ (neighbour_of u, w) ∷ [] → xs ++ added_in (drop i us) ≡ added_in us → ys ++ added_in (drop (i + 1) us) ≡ added_in us
+  next_added xs ys is more so_far =
+      let here : added_in ((u, w) ∷ drop (i + 1) us) ≡ (neighbour_of u, w) ∷ added_in (drop (i + 1) us) = rw is refl in
+      ap (λ zs. zs ++ added_in (drop (i + 1) us)) more ∙ append_assoc xs ((neighbour_of u, w) ∷ []) (added_in (drop (i + 1) us))
+      ∙ ap (λ zs. xs ++ zs) (sym (ap added_in cells ∙ here)) ∙ so_far
+
+  pub none_added : (xs : List (ℕ × ℤ)) → adds u ≡ false → xs ++ added_in (drop i us) ≡ added_in us → xs ++ added_in (drop (i + 1) us) ≡ added_in us
+  none_added xs isnt so_far =
+      let here : added_in ((u, w) ∷ drop (i + 1) us) ≡ added_in (drop (i + 1) us) = rw isnt refl in
+      ap (λ zs. xs ++ zs) (sym (ap added_in cells ∙ here)) ∙ so_far
+
+  pub next_removed : (xs ys : List ℕ) → adds u ≡ false → ys ≡ xs ++ neighbour_of u ∷ [] → xs ++ removed_in (drop i us) ≡ removed_in us → ys ++ removed_in (drop (i + 1) us) ≡ removed_in us
+  next_removed xs ys isnt more so_far =
+      let here : removed_in ((u, w) ∷ drop (i + 1) us) ≡ neighbour_of u ∷ removed_in (drop (i + 1) us) = rw isnt refl in
+      ap (λ zs. zs ++ removed_in (drop (i + 1) us)) more ∙ append_assoc xs (neighbour_of u ∷ []) (removed_in (drop (i + 1) us))
+      ∙ ap (λ zs. xs ++ zs) (sym (ap removed_in cells ∙ here)) ∙ so_far
+
+  pub none_removed : (xs : List ℕ) → adds u ≡ true → xs ++ removed_in (drop i us) ≡ removed_in us → xs ++ removed_in (drop (i + 1) us) ≡ removed_in us
+  none_removed xs is so_far =
+      let here : removed_in ((u, w) ∷ drop (i + 1) us) ≡ removed_in (drop (i + 1) us) = rw is refl in
+      ap (λ zs. xs ++ zs) (sym (ap removed_in cells ∙ here)) ∙ so_far

@@ -7,3 +7,4 @@ pub mod Vertices
 pub mod Putting
 pub mod Updating
 pub mod Crossing
+pub mod Columns

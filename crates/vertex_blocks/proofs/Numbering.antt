@@ -1,11 +1,9 @@
 -- Vertices of blocks by their numbers in a graph.
 use Rattle.std.proofs.Common.{◌≡◌, ℕ, ◌+◌, ◌*◌, ◌/◌, ◌%◌, ◌<◌, ◌≤◌, inl, inr, List, [], ◌∷◌, refl, sym, ◌∙◌, ap, arith}
 use Rattle.std.proofs.lemmas.Bool.{cases_eq, cases_lt, eq-eqb, ne_eqb}
-use Rattle.ascending_lists.specs.Maps as maps
-use Rattle.ascending_lists.specs.Maps.{lookup}
-use Rattle.ascending_lists.proofs.MapOrder.{lookup_below}
-use Rattle.pages.specs.Vertices.{Rises, neighbours_of}
-use Rattle.pages.proofs.Order.{rises_from, rises_append}
+use Rattle.ascending_lists.specs.Maps.{Rises, lookup}
+use Rattle.pages.specs.Vertices.{neighbours_of}
+use Rattle.ascending_lists.proofs.MapOrder.{rises_from, rises_append, lookup_below}
 use Rattle.pages.proofs.Ranks.{none_below}
 use Rattle.pages.proofs.Building.{of_left, of_right}
 use Rattle.vertex_blocks.specs.Blocks.{Block, AreBlocks, numbered, lists_of, vertices_at}
@@ -23,7 +21,7 @@ numbered_list k v (e ∷ es) le lt = elim (cases_eq e.0 (v % 64)) [
   | inr other ↦ rw (ne_eqb e.0 (v % 64) other, ne_eqb (64 * k + e.0) v (λ is. other (omega (arith, is)))) (numbered_list k v es le lt)
 ]
 
-pub lists_rise : (a top : ℕ) (bs : List (ℕ × Block)) → maps.Rises a top bs → AreBlocks bs → Rises (64 * a) (64 * top) (lists_of bs)
+pub lists_rise : (a top : ℕ) (bs : List (ℕ × Block)) → Rises a top bs → AreBlocks bs → Rises (64 * a) (64 * top) (lists_of bs)
 lists_rise a top [] s ok = omega (arith, s)
 lists_rise a top (b ∷ bs) s ok =
     let here : Rises (64 * b.0 + 0) (64 * b.0 + 64) (numbered b.0 b.1) = numbered_rises b.0 0 64 b.1 ok.0.map in
@@ -32,7 +30,7 @@ lists_rise a top (b ∷ bs) s ok =
     (rises_from (64 * a) (64 * b.0 + 0) (64 * b.0 + 64) (numbered b.0 b.1) (omega (arith, s.0)) here)
     (rises_from (64 * b.0 + 64) (64 * (b.0 + 1)) (64 * top) (lists_of bs) (omega arith) rest)
 
-pub list_in_blocks : (a top : ℕ) (bs : List (ℕ × Block)) (v : ℕ) → maps.Rises a top bs → AreBlocks bs → neighbours_of v (lists_of bs) ≡ neighbours_of (v % 64) (vertices_at (lookup (v / 64) bs))
+pub list_in_blocks : (a top : ℕ) (bs : List (ℕ × Block)) (v : ℕ) → Rises a top bs → AreBlocks bs → neighbours_of v (lists_of bs) ≡ neighbours_of (v % 64) (vertices_at (lookup (v / 64) bs))
 list_in_blocks a top [] v s ok = refl
 list_in_blocks a top (b ∷ bs) v s ok =
     let here : Rises (64 * b.0 + 0) (64 * b.0 + 64) (numbered b.0 b.1) = numbered_rises b.0 0 64 b.1 ok.0.map in

@@ -1,5 +1,5 @@
 -- Lists that come behind others, packed or as sets.
-use Rattle.std.proofs.Common.{◌≡◌, ℕ, ◌<◌, inl, inr, Option, Some, None, Result, Ok, Err, OnOk, IfOk, IfSome, List, [], ◌∷◌, ◌++◌, length, refl, sym, ◌∙◌, ap}
+use Rattle.std.proofs.Common.{◌≡◌, ℕ, ℤ, ◌<◌, inl, inr, Option, Some, None, Result, Ok, Err, OnOk, IfOk, IfSome, List, [], ◌∷◌, ◌++◌, length, refl, sym, ◌∙◌, ap}
 use Rattle.std.proofs.lemmas.List.{append-nil}
 use Rattle.pages.proofs.Building.{entry_some}
 use Rattle.vertex_blocks.specs.Blocks.{Block}
@@ -14,7 +14,7 @@ pub some_then : {A : Type 0} (o : Option A) (P Q : A → Type 0) → ((a : A) �
 some_then None P Q f h = tt
 some_then (Some a) P Q f h = f a h
 
-pub put_set : {T E : Type 0} (r : Result T E) (v : ℕ) (xs : List ℕ) (p s s' : Block) → 0 < length xs → OnOk r (s' ≡ s ++ (v, xs) ∷ []) → IfOk r (λ _. IsPut v xs p s p s')
+pub put_set : {T E : Type 0} (r : Result T E) (v : ℕ) (xs : List (ℕ × ℤ)) (p s s' : Block) → 0 < length xs → OnOk r (s' ≡ s ++ (v, xs) ∷ []) → IfOk r (λ _. IsPut v xs p s p s')
 put_set (Ok t) v xs p s s' some is = record {
   small = [];
   large = xs;
@@ -25,7 +25,7 @@ put_set (Ok t) v xs p s s' some is = record {
 }
 put_set (Err e) v xs p s s' some is = tt
 
-pub put_packed : {T E : Type 0} (r : Result T E) (v : ℕ) (xs : List ℕ) (p s p' : Block) → 0 < length xs → OnOk r (p' ≡ p ++ (v, xs) ∷ []) → IfOk r (λ _. IsPut v xs p s p' s)
+pub put_packed : {T E : Type 0} (r : Result T E) (v : ℕ) (xs : List (ℕ × ℤ)) (p s p' : Block) → 0 < length xs → OnOk r (p' ≡ p ++ (v, xs) ∷ []) → IfOk r (λ _. IsPut v xs p s p' s)
 put_packed (Ok t) v xs p s p' some is = record {
   small = xs;
   large = [];
@@ -36,7 +36,7 @@ put_packed (Ok t) v xs p s p' some is = record {
 }
 put_packed (Err e) v xs p s p' some is = tt
 
-pub put_none : (v : ℕ) (xs : List ℕ) (p s : Block) → xs ≡ [] → IsPut v xs p s p s
+pub put_none : (v : ℕ) (xs : List (ℕ × ℤ)) (p s : Block) → xs ≡ [] → IsPut v xs p s p s
 put_none v xs p s none = record {
   small = [];
   large = [];

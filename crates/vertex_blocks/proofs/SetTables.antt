@@ -1,10 +1,11 @@
 -- Sets of vertices that have many neighbours, by their places.
 use Rattle.std.proofs.Common.{◌≡◌, ℕ, zero, suc, ◌+◌, ◌*◌, ◌%◌, ◌^◌, ◌<◌, bit_or, List, [], ◌∷◌, ◌++◌, ◌-◌, length, get_or, take, drop, slice_range, sym, ◌∙◌, ap, subst, arith, append_assoc, take-append-drop}
 use Rattle.std.proofs.lemmas.List.{map-append, length-map, take-map, drop-map, take_more, drop_more}
-use Rattle.pages.specs.Lists.{AscendsFrom}
-use Rattle.pages.specs.Vertices.{Rises}
+use Rattle.std.specs.Map.{keys_of}
+use Rattle.ascending_lists.specs.Ascending.{AscendsFrom}
+use Rattle.ascending_lists.specs.Maps.{Rises}
 use Rattle.pages.specs.inside.Index.{IsIndex}
-use Rattle.pages.proofs.Order.{rises_room, rises_back, rises_left}
+use Rattle.ascending_lists.proofs.MapOrder.{rises_room, rises_back, rises_left}
 use Rattle.pages.proofs.Ranks.{index_push}
 use Rattle.vertex_blocks.specs.declared.large_sets.LargeSet.{LargeSet}
 use Rattle.vertex_blocks.specs.Blocks.{Block, AreNeighbourLists, IsBlock}
@@ -24,16 +25,16 @@ pub sets_block : (bits : ℕ) (ss : List LargeSet) → AreSets bits ss → IsBlo
 sets_block bits ss ok = record { map = ok.index.map; lists = ok.lists }
 
 -- one more set
-pub sets_pushed : (bits v : ℕ) (ss : List LargeSet) (s : LargeSet) → AreSets bits ss → s.vertex ≡ v → Rises 0 v (set_lists ss) → v < 64 → 0 < length s.set.elements → AscendsFrom 0 s.set.elements → AreSets (bit_or bits (1 * 2 ^ v % 2 ^ 64)) (ss ++ s ∷ [])
+pub sets_pushed : (bits v : ℕ) (ss : List LargeSet) (s : LargeSet) → AreSets bits ss → s.vertex ≡ v → Rises 0 v (set_lists ss) → v < 64 → 0 < length s.set.entries → AscendsFrom 0 (keys_of s.set.entries) → AreSets (bit_or bits (1 * 2 ^ v % 2 ^ 64)) (ss ++ s ∷ [])
 sets_pushed bits v ss s ok is above lt some up =
-    let whole : set_lists (ss ++ s ∷ []) ≡ set_lists ss ++ (v, s.set.elements) ∷ [] = map-append set_list ss (s ∷ []) ∙ ap (λ w. set_lists ss ++ (w, s.set.elements) ∷ []) is in
+    let whole : set_lists (ss ++ s ∷ []) ≡ set_lists ss ++ (v, s.set.entries) ∷ [] = map-append set_list ss (s ∷ []) ∙ ap (λ w. set_lists ss ++ (w, s.set.entries) ∷ []) is in
     record {
-      index = subst (IsIndex (bit_or bits (1 * 2 ^ v % 2 ^ 64))) (sym whole) (index_push bits (set_lists ss) ok.index v s.set.elements above lt);
-      lists = subst AreNeighbourLists (sym whole) (lists_append (set_lists ss) ((v, s.set.elements) ∷ []) ok.lists (record { some = some; ascends = up }, tt));
+      index = subst (IsIndex (bit_or bits (1 * 2 ^ v % 2 ^ 64))) (sym whole) (index_push bits (set_lists ss) ok.index v s.set.entries above lt);
+      lists = subst AreNeighbourLists (sym whole) (lists_append (set_lists ss) ((v, s.set.entries) ∷ []) ok.lists (record { some = some; ascends = up }, tt));
     }
 
 -- the list at a place is not empty
-pub some_at : (ss : List LargeSet) (i : ℕ) (s : LargeSet) → AreNeighbourLists (set_lists ss) → i < length ss → s ≡ get_or ss i s → 0 < length s.set.elements
+pub some_at : (ss : List LargeSet) (i : ℕ) (s : LargeSet) → AreNeighbourLists (set_lists ss) → i < length ss → s ≡ get_or ss i s → 0 < length s.set.entries
 some_at [] i s ok lt is = absurd (omega arith)
 some_at (x ∷ ss) zero s ok lt is = rw is ok.0.some
 some_at (x ∷ ss) (suc i) s ok lt is = some_at ss i s ok.1 (omega arith) is
@@ -67,8 +68,8 @@ pub set_above : (old : Block) (run : List LargeSet) (i : ℕ) (s : LargeSet) →
 set_above old run i s lt is map =
     let rest : Block = set_lists (drop (i + 1) run) in
     let parts : run ≡ take i run ++ s ∷ drop (i + 1) run = sym (take-append-drop i run) ∙ ap (λ ds. take i run ++ ds) (drop_more run i s lt) ∙ ap (λ x. take i run ++ x ∷ drop (i + 1) run) (sym is) in
-    let whole : old ++ set_lists run ≡ (old ++ set_lists (take i run)) ++ (s.vertex, s.set.elements) ∷ rest =
-    ap (λ rs. old ++ set_lists rs) parts ∙ ap (λ ls. old ++ ls) (map-append set_list (take i run) (s ∷ drop (i + 1) run)) ∙ sym (append_assoc old (set_lists (take i run)) ((s.vertex, s.set.elements) ∷ rest)) in
-    let up : Rises 0 64 ((old ++ set_lists (take i run)) ++ (s.vertex, s.set.elements) ∷ rest) = subst (Rises 0 64) whole map in
-    let behind : Rises 0 64 ((s.vertex, s.set.elements) ∷ rest) = rises_back 0 64 (old ++ set_lists (take i run)) ((s.vertex, s.set.elements) ∷ rest) up in
-    (rises_left 0 64 (old ++ set_lists (take i run)) s.vertex s.set.elements rest up, omega (arith, rises_room (s.vertex + 1) 64 rest behind.1))
+    let whole : old ++ set_lists run ≡ (old ++ set_lists (take i run)) ++ (s.vertex, s.set.entries) ∷ rest =
+    ap (λ rs. old ++ set_lists rs) parts ∙ ap (λ ls. old ++ ls) (map-append set_list (take i run) (s ∷ drop (i + 1) run)) ∙ sym (append_assoc old (set_lists (take i run)) ((s.vertex, s.set.entries) ∷ rest)) in
+    let up : Rises 0 64 ((old ++ set_lists (take i run)) ++ (s.vertex, s.set.entries) ∷ rest) = subst (Rises 0 64) whole map in
+    let behind : Rises 0 64 ((s.vertex, s.set.entries) ∷ rest) = rises_back 0 64 (old ++ set_lists (take i run)) ((s.vertex, s.set.entries) ∷ rest) up in
+    (rises_left 0 64 (old ++ set_lists (take i run)) s.vertex s.set.entries rest up, omega (arith, rises_room (s.vertex + 1) 64 rest behind.1))

@@ -1,8 +1,9 @@
 -- Blocks that are joined of a page and of sets, and how many neighbours they have.
-use Rattle.std.proofs.Common.{◌≡◌, ℕ, zero, suc, ◌+◌, ◌*◌, ◌<◌, ◌≤◌, ◌⊎◌, inl, inr, Some, None, List, [], ◌∷◌, ◌++◌, length, refl, sym, ◌∙◌, ap, arith, length-append}
+use Rattle.std.proofs.Common.{◌≡◌, ℕ, zero, suc, ℤ, ◌+◌, ◌*◌, ◌<◌, ◌≤◌, ◌⊎◌, inl, inr, Some, None, List, [], ◌∷◌, ◌++◌, length, refl, sym, ◌∙◌, ap, arith, length-append}
 use Rattle.std.proofs.lemmas.Bool.{cases_eq, eq-eqb, ne_eqb}
 use Rattle.std.proofs.lemmas.List.{append-nil}
-use Rattle.pages.specs.Lists.{AscendsFrom}
+use Rattle.std.specs.Map.{keys_of}
+use Rattle.ascending_lists.specs.Ascending.{AscendsFrom}
 use Rattle.pages.specs.Vertices.{neighbours_of, ArePacked, IsPage}
 use Rattle.pages.specs.inside.Built.{entry_of, built}
 use Rattle.pages.proofs.Building.{HaveNeighbours, packed_some, rises_built, neighbours_built, is_built}
@@ -13,12 +14,12 @@ pub total_append : (xs ys : Block) → edge_total (xs ++ ys) ≡ edge_total xs +
 total_append [] ys = omega arith
 total_append (x ∷ xs) ys = omega (arith, total_append xs ys)
 
-total_entry : (u : ℕ) (xs : List ℕ) → edge_total (entry_of u xs) ≡ length xs
+total_entry : (u : ℕ) (xs : List (ℕ × ℤ)) → edge_total (entry_of u xs) ≡ length xs
 total_entry u [] = refl
 total_entry u (x ∷ xs) = omega arith
 
 -- of lists in two parts, each part by itself
-total_built : (f g : ℕ → List ℕ) (n : ℕ) → edge_total (built (λ u. f u ++ g u) n) ≡ edge_total (built f n) + edge_total (built g n)
+total_built : (f g : ℕ → List (ℕ × ℤ)) (n : ℕ) → edge_total (built (λ u. f u ++ g u) n) ≡ edge_total (built f n) + edge_total (built g n)
 total_built f g zero = refl
 total_built f g (suc u) =
     omega (arith, total_append (built (λ v. f v ++ g v) u) (entry_of u (f u ++ g u)), total_append (built f u) (entry_of u (f u)), total_append (built g u) (entry_of u (g u)), total_entry u (f u ++ g u), total_entry u (f u), total_entry u (g u), length-append (f u) (g u), total_built f g u)
@@ -33,30 +34,30 @@ lists_some (e ∷ es) ok zero lt = ok.0.some
 lists_some (e ∷ es) ok (suc i) lt = lists_some es ok.1 i (omega arith)
 
 -- the list of a vertex ascends
-pub list_ascends : (u : ℕ) (es : Block) → AreNeighbourLists es → AscendsFrom 0 (neighbours_of u es)
+pub list_ascends : (u : ℕ) (es : Block) → AreNeighbourLists es → AscendsFrom 0 (keys_of (neighbours_of u es))
 list_ascends u [] ok = tt
 list_ascends u (e ∷ es) ok = elim (cases_eq e.0 u) [
   | inl at ↦ rw (eq-eqb e.0 u at) ok.0.ascends
   | inr other ↦ rw (ne_eqb e.0 u other) (list_ascends u es ok.1)
 ]
 
-pub packed_ascends : (u : ℕ) (es : Block) → ArePacked es → AscendsFrom 0 (neighbours_of u es)
+pub packed_ascends : (u : ℕ) (es : Block) → ArePacked es → AscendsFrom 0 (keys_of (neighbours_of u es))
 packed_ascends u [] ok = tt
 packed_ascends u (e ∷ es) ok = elim (cases_eq e.0 u) [
   | inl at ↦ rw (eq-eqb e.0 u at) ok.0.ascends
   | inr other ↦ rw (ne_eqb e.0 u other) (packed_ascends u es ok.1)
 ]
 
-lists_entry : (u : ℕ) (xs : List ℕ) → AscendsFrom 0 xs → AreNeighbourLists (entry_of u xs)
+lists_entry : (u : ℕ) (xs : List (ℕ × ℤ)) → AscendsFrom 0 (keys_of xs) → AreNeighbourLists (entry_of u xs)
 lists_entry u [] s = tt
 lists_entry u (x ∷ xs) s = (record { some = omega arith; ascends = s }, tt)
 
-lists_built : (f : ℕ → List ℕ) (n : ℕ) → ((u : ℕ) → u < n → AscendsFrom 0 (f u)) → AreNeighbourLists (built f n)
+lists_built : (f : ℕ → List (ℕ × ℤ)) (n : ℕ) → ((u : ℕ) → u < n → AscendsFrom 0 (keys_of (f u))) → AreNeighbourLists (built f n)
 lists_built f zero up = tt
 lists_built f (suc u) up = lists_append (built f u) (entry_of u (f u)) (lists_built f u (λ v lt. up v (omega arith))) (lists_entry u (f u) (up u (omega arith)))
 
 -- one of two lists that are not both there
-pub either_ascends : (xs ys : List ℕ) → (xs ≡ []) ⊎ (ys ≡ []) → AscendsFrom 0 xs → AscendsFrom 0 ys → AscendsFrom 0 (xs ++ ys)
+pub either_ascends : (xs ys : List (ℕ × ℤ)) → (xs ≡ []) ⊎ (ys ≡ []) → AscendsFrom 0 (keys_of xs) → AscendsFrom 0 (keys_of ys) → AscendsFrom 0 (keys_of (xs ++ ys))
 either_ascends xs ys (inl none) s t = rw none t
 either_ascends xs ys (inr none) s t = rw (none, append-nil xs) s
 
@@ -95,7 +96,7 @@ no_vertex [] ok none = refl
 no_vertex (e ∷ es) ok none = absurd (omega (arith, none, ok.0.some))
 
 -- the list of a vertex that has a set is that of the set, and else it is packed
-pub from_set : (b p s : Block) (u : ℕ) (xs : List ℕ) → IsMadeOf b p s → u < 64 → xs ≡ neighbours_of u s → 0 < length xs → xs ≡ neighbours_of u b
+pub from_set : (b p s : Block) (u : ℕ) (xs : List (ℕ × ℤ)) → IsMadeOf b p s → u < 64 → xs ≡ neighbours_of u s → 0 < length xs → xs ≡ neighbours_of u b
 from_set b p s u xs made lt is some = elim (made.apart u lt) [
   | inl none ↦ is ∙ sym (made.lists u lt ∙ ap (λ ys. ys ++ neighbours_of u s) none)
   | inr none ↦ absurd (omega (arith, some, ap length is, ap length none))

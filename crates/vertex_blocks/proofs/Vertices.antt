@@ -1,8 +1,9 @@
 -- The vertices of a block from a number on.
 use Rattle.std.proofs.Common.{◌≡◌, ◌≢◌, ℕ, ◌+◌, ◌<◌, ◌≤◌, inl, inr, [], ◌∷◌, length, refl, sym, ◌∙◌, ap, arith}
 use Rattle.std.proofs.lemmas.Bool.{cases_lt, cases_eq, lt-ltb, le-ltb, eq-eqb, ne_eqb}
-use Rattle.pages.specs.Vertices.{Rises, neighbours_of}
-use Rattle.pages.proofs.Order.{rises_room}
+use Rattle.ascending_lists.specs.Maps.{Rises}
+use Rattle.pages.specs.Vertices.{neighbours_of}
+use Rattle.ascending_lists.proofs.MapOrder.{rises_room}
 use Rattle.pages.proofs.Ranks.{none_below}
 use Rattle.vertex_blocks.specs.Blocks.{Block, AreNeighbourLists, vertices_from}
 

@@ -1,23 +1,24 @@
--- Blocks of 64 vertices with the lists of their neighbours.
-use Rattle.std.specs.Prelude.{ℕ, ◌+◌, ◌*◌, ◌<◌, nat_lt, if◌then◌else◌, Option, Some, None, List, [], ◌∷◌, ◌++◌, length}
-use Rattle.pages.specs.Lists.{AscendsFrom}
-use Rattle.pages.specs.Vertices.{Rises}
+-- Blocks of 64 vertices with the lists of their neighbours, each with a weight.
+use Rattle.std.specs.Prelude.{ℕ, ℤ, ◌+◌, ◌*◌, ◌<◌, nat_lt, if◌then◌else◌, Option, Some, None, List, [], ◌∷◌, ◌++◌, length}
+use Rattle.std.specs.Map.{keys_of}
+use Rattle.ascending_lists.specs.Ascending.{AscendsFrom}
+use Rattle.ascending_lists.specs.Maps.{Rises}
 
--- vertices by their numbers in a block, each with its neighbours
+-- vertices by their numbers in a block, each with its neighbours and their weights
 abbrev pub Block : Type 0
-Block = List (ℕ × List ℕ)
+Block = List (ℕ × List (ℕ × ℤ))
 
--- an ascending list of neighbours, of which there are some
-pub record IsNeighbourList (xs : List ℕ) : Type 0 where
+-- a list of entries, of which there are some, whose neighbours ascend
+pub record IsNeighbourList (xs : List (ℕ × ℤ)) : Type 0 where
   pub some : 0 < length xs
-  pub ascends : AscendsFrom 0 xs
+  pub ascends : AscendsFrom 0 (keys_of xs)
 
 -- so is the list of each vertex
 abbrev pub AreNeighbourLists : Block → Type 0
 AreNeighbourLists [] = Unit {0}
 AreNeighbourLists (e ∷ es) = IsNeighbourList e.1 × AreNeighbourLists es
 
--- vertices below 64, ascending, each with an ascending list of neighbours
+-- vertices below 64, ascending, each with neighbours that ascend
 pub record IsBlock (es : Block) : Type 0 where
   pub map : Rises 0 64 es
   pub lists : AreNeighbourLists es
@@ -38,12 +39,12 @@ vertices_from u [] = []
 vertices_from u (e ∷ es) = if nat_lt e.0 u then vertices_from u es else e ∷ es
 
 -- the vertices of the block k by their numbers in a graph
-abbrev pub numbered : ℕ → Block → List (ℕ × List ℕ)
+abbrev pub numbered : ℕ → Block → List (ℕ × List (ℕ × ℤ))
 numbered k [] = []
 numbered k (e ∷ es) = (64 * k + e.0, e.1) ∷ numbered k es
 
 -- the vertices of blocks by their numbers in a graph
-abbrev pub lists_of : List (ℕ × Block) → List (ℕ × List ℕ)
+abbrev pub lists_of : List (ℕ × Block) → List (ℕ × List (ℕ × ℤ))
 lists_of [] = []
 lists_of (b ∷ bs) = numbered b.0 b.1 ++ lists_of bs
 

@@ -1,13 +1,13 @@
 -- What updates make of a block.
-use Rattle.std.specs.Prelude.{◌≡◌, ℕ, ◌<◌, Option, List, length, IfSome}
+use Rattle.std.specs.Prelude.{◌≡◌, ℕ, ℤ, ◌<◌, Option, List, length, IfSome}
 use Rattle.edge_updates.specs.declared.edge_update.EdgeUpdate.{EdgeUpdate}
 use Rattle.pages.specs.Updates.{updated, updates_of}
 use Rattle.pages.specs.Vertices.{neighbours_of}
 use Rattle.vertex_blocks.specs.Blocks.{Block, IsBlock, vertices_at}
 
--- updates of the vertices of a block, and the chunk size of a set that begins
+-- updates of the vertices of a block with their weights, and the chunk size of a set that begins
 pub record BlockChange : Type 0 where
-  pub updates : List EdgeUpdate
+  pub updates : List (EdgeUpdate × ℤ)
   pub chunk_size : ℕ
 
 -- The block new is old with the lists that updates make of the old ones, and there is none where no vertex is left.

@@ -1,4 +1,4 @@
-//! Blocks of 64 vertices with their neighbours.
+//! Blocks of 64 vertices with their neighbours, each with a weight.
 
 ghost use Rattle.std.specs.Prelude.{◌≡◌, ◌<◌, ◌^◌, ◌++◌, length, IfOk};
 ghost use Rattle.pages.specs.Vertices.{neighbours_of, IsPage};
@@ -15,8 +15,8 @@ use std::alloc::{AllocError, Global};
 use std::marker::Model;
 use std::sync::Arc;
 
-/// The neighbours of 64 vertices. A contract sees the vertices that have some, ascending, each with its
-/// neighbours.
+/// The neighbours of 64 vertices, each with a weight. A contract sees the vertices that have some,
+/// ascending, each with its neighbours and their weights.
 pub struct VertexBlock {
     parts: Arc<Parts>,
 }
@@ -104,7 +104,7 @@ impl VertexBlock {
         }
     }
 
-    /// The neighbours of a vertex, by its number in the block. It takes constant time and no memory.
+    /// The neighbours of a vertex with their weights, by its number in the block. It takes constant time and no memory.
     #[inline]
     pub fn neighbours(&self, vertex: u32) -> NeighbourSet<'_>
         requires { vertex < 64 }

@@ -8,7 +8,7 @@ use crate::block::VertexBlock;
 use crate::neighbour_set::NeighbourSet;
 use std::marker::Model;
 
-/// The vertices of a block that are still to come, ascending, each with its neighbours.
+/// The vertices of a block that are still to come, ascending, each with its neighbours and their weights.
 #[derive(Drop)]
 pub struct BlockIter<'a> {
     block: &'a VertexBlock,

@@ -11,19 +11,19 @@ use crate::building::{Building, ReadySet, form_at};
 use crate::neighbour_set::NeighbourForm;
 use crate::runs::update_set_forked;
 use c_tree::ChunkSize;
-use edge_updates::EdgeUpdate;
-use pages::{MAX_PACKED, run_length};
+use edge_updates::Updates;
+use pages::{EntryColumns, MAX_PACKED, run_length};
 use set_ops::Fork;
 use shared_tree::ValueChange;
 use std::alloc::{AllocError, Global};
 use std::marker::Model;
 use std::thread::Threads;
 
-/// Updates of the vertices of one block that ascend by edge, and the chunk size of a set that begins. A
-/// vertex goes by its remainder by 64.
+/// Updates of the vertices of one block that ascend by edge, each with a weight for the edge if it is
+/// added, and the chunk size of a set that begins. A vertex goes by its remainder by 64.
 #[derive(Drop)]
 pub struct BlockUpdates<'a> {
-    updates: &'a [EdgeUpdate],
+    updates: Updates<'a>,
     chunk_size: ChunkSize,
 }
 
@@ -33,17 +33,17 @@ impl<'a> Model for BlockUpdates<'a> {
 
     ghost Value = { BlockChange };
 
-    ghost view = { λ b. record { updates = b.updates.now; chunk_size = b.chunk_size } };
+    ghost view = { λ b. record { updates = b.updates; chunk_size = b.chunk_size } };
 
-    ghost invariant = { λ b. EdgesAscend 0 b.updates.now };
+    ghost invariant = { λ b. EdgesAscend 0 b.updates };
 }
 
 impl<'a> BlockUpdates<'a> {
     /// These updates of one block, which ascend by edge
     /// ([`blocks_ascend`](pages::blocks_ascend)).
-    pub fn new(updates: &'a [EdgeUpdate], chunk_size: ChunkSize) -> BlockUpdates<'a>
-        requires { EdgesAscend 0 updates.now }
-        ensures updates { result.updates ≡ updates.now }
+    pub fn new(updates: Updates<'a>, chunk_size: ChunkSize) -> BlockUpdates<'a>
+        requires { EdgesAscend 0 updates }
+        ensures updates { result.updates ≡ updates.entry }
         ensures chunk_size { result.chunk_size ≡ chunk_size }
     {
         BlockUpdates {
@@ -73,7 +73,7 @@ impl<'a> BlockUpdates<'a> {
     ) -> Result<Option<VertexBlock>, AllocError>
         ensures { IfOk result (λ new. IsBlockAfter self.now (option_copied old.entry) new) }
     {
-        let ready = ready_set(rt, alloc, old, self.updates, forks, level, fork)?;
+        let ready = ready_set(rt, alloc, old, &self.updates, forks, level, fork)?;
         self.change_with(alloc, old, ready.as_ref())
     }
 
@@ -85,11 +85,11 @@ impl<'a> BlockUpdates<'a> {
         old: Option<&VertexBlock>,
         ready: Option<&ReadySet>,
     ) -> Result<Option<VertexBlock>, AllocError>
-        requires { IfSome (option_copied ready) (λ r. r.set.elements
+        requires { IfSome (option_copied ready) (λ r. r.set.entries
             ≡ list_after self.now.updates (option_copied old) r.vertex) }
         ensures { IfOk result (λ new. IsBlockAfter self.now (option_copied old.entry) new) }
     {
-        build(alloc, old, self.updates, self.chunk_size, ready)?.into_block(alloc)
+        build(alloc, old, &self.updates, self.chunk_size, ready)?.into_block(alloc)
     }
 }
 
@@ -99,24 +99,24 @@ fn ready_set<R: Threads + Sync, F: Fork + Sync>(
     rt: &R,
     alloc: Global,
     old: Option<&VertexBlock>,
-    updates: &[EdgeUpdate],
+    updates: &Updates<'_>,
     forks: u32,
     level: u32,
     fork: &F,
 ) -> Result<Option<ReadySet>, AllocError>
     requires { EdgesAscend 0 updates.now }
-    ensures { IfOk result (λ ready. IfSome ready (λ r. r.set.elements
+    ensures { IfOk result (λ ready. IfSome ready (λ r. r.set.entries
         ≡ list_after updates.now (option_copied old.entry) r.vertex)) }
 {
     let middle = updates.len() / 2;
     if forks == 0 || middle == 0 {
         return Ok(None);
     }
-    let vertex = updates[middle].vertex() % 64;
+    let vertex = updates.update(middle).vertex() % 64;
     let run = updates_at(updates, vertex);
     match form_at(old, vertex) {
         NeighbourForm::Chunked(set) if run.len() > middle => {
-            let set = update_set_forked(rt, alloc, set, run, forks, level, fork)?;
+            let set = update_set_forked(rt, alloc, set, &run, forks, level, fork)?;
             Ok(Some(ReadySet { vertex, set }))
         }
         _ => Ok(None),
@@ -124,41 +124,43 @@ fn ready_set<R: Threads + Sync, F: Fork + Sync>(
 }
 
 /// The updates of a vertex.
-fn updates_at(updates: &[EdgeUpdate], vertex: u32) -> &[EdgeUpdate]
+fn updates_at<'a>(updates: &Updates<'a>, vertex: u32) -> Updates<'a>
     requires updates { EdgesAscend 0 updates.now }
-    ensures run { result.now ≡ updates_of vertex updates.now }
-    ensures ascending { NeighboursAscend 0 result.now }
+    ensures run { result ≡ updates_of vertex updates.now }
+    ensures ascending { NeighboursAscend 0 result }
 {
     let mut start = 0;
-    while start < updates.len() && updates[start].vertex() % 64 < vertex {
+    while start < updates.len() && updates.update(start).vertex() % 64 < vertex {
         start += 1;
     }
-    let rest = &updates[start..];
-    &rest[..run_length(rest, vertex)]
+    let (_, rest) = updates.split_at(start);
+    let (run, _) = rest.split_at(run_length(&rest, vertex));
+    run
 }
 
-/// All vertices of a block after updates, with the set that is ready for a vertex. The only error is out of memory.
+/// All vertices of a block after updates, with the set that is ready for a vertex. The only error is out
+/// of memory.
 fn build(
     alloc: Global,
     old: Option<&VertexBlock>,
-    updates: &[EdgeUpdate],
+    updates: &Updates<'_>,
     chunk_size: ChunkSize,
     ready: Option<&ReadySet>,
 ) -> Result<Building, AllocError>
     requires updates { EdgesAscend 0 updates.now }
-    requires ready { IfSome (option_copied ready) (λ r. r.set.elements
+    requires ready { IfSome (option_copied ready) (λ r. r.set.entries
         ≡ list_after updates.now (option_copied old) r.vertex) }
     ensures { IfOk result (λ b.
         IsBuilt (list_after updates.now (option_copied old.entry)) 64 b.page b.sets) }
 {
     let mut building = Building::new(alloc, old, updates, chunk_size)?;
-    let mut list = Vec::with_capacity(alloc, MAX_PACKED)?;
-    let (mut low, mut rest) = (0, updates);
-    while let Some((first, _)) = rest.split_first() {
+    let mut list = EntryColumns::with_capacity(alloc, MAX_PACKED)?;
+    let (mut low, mut rest) = (0, updates.lend());
+    while let Some(first) = rest.first() {
         let vertex = first.vertex() % 64;
-        let (run, others) = rest.split_at(run_length(rest, vertex));
+        let (run, others) = rest.split_at(run_length(&rest, vertex));
         building.carry(old, low, vertex)?;
-        building.push_updated(alloc, old, vertex, run, ready, &mut list)?;
+        building.push_updated(alloc, old, vertex, &run, ready, &mut list)?;
         low = vertex + 1;
         rest = others;
     }

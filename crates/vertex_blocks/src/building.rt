@@ -1,9 +1,11 @@
 //! Blocks that are built up vertex by vertex.
 
-ghost use Rattle.std.specs.Prelude.{◌≡◌, ℕ, ◌<◌, ◌≤◌, [], List, IfOk, IfSome};
+ghost use Rattle.std.specs.Prelude.{◌≡◌, ℕ, ℤ, ◌<◌, ◌≤◌, [], List, IfOk, IfSome};
 ghost use Rattle.std.specs.Option.{option_copied};
-ghost use Rattle.pages.specs.Lists.{AscendsFrom};
-ghost use Rattle.pages.specs.Vertices.{Rises, neighbours_of};
+ghost use Rattle.std.specs.Map.{keys_of};
+ghost use Rattle.ascending_lists.specs.Ascending.{AscendsFrom};
+ghost use Rattle.ascending_lists.specs.Maps.{Rises};
+ghost use Rattle.pages.specs.Vertices.{neighbours_of};
 ghost use Rattle.pages.specs.Updates.{updated, NeighboursAscend};
 ghost use Rattle.vertex_blocks.specs.Blocks.{vertices_at};
 ghost use Rattle.vertex_blocks.specs.Forms.{listed};
@@ -14,10 +16,10 @@ use crate::block::VertexBlock;
 use crate::large_sets::LargeSets;
 use crate::neighbour_set::NeighbourForm;
 use crate::room::new_page;
-use crate::runs::{make_set, update_list, update_set};
+use crate::runs::{collect, set_of_columns, update_list, update_set};
 use c_tree::{CTree, ChunkSize};
-use edge_updates::EdgeUpdate;
-use pages::{MAX_PACKED, Neighbours, Page};
+use edge_updates::Updates;
+use pages::{EntryColumns, MAX_PACKED, Neighbours, Page};
 use shared_tree::Share;
 use std::alloc::{AllocError, Global};
 
@@ -54,7 +56,7 @@ impl Building {
     pub(crate) fn new(
         alloc: Global,
         old: Option<&VertexBlock>,
-        updates: &[EdgeUpdate],
+        updates: &Updates<'_>,
         chunk_size: ChunkSize,
     ) -> Result<Building, AllocError>
         ensures page { IfOk result (λ b. b.page ≡ []) }
@@ -81,8 +83,8 @@ impl Building {
     ) -> Result<(), AllocError>
         requires order { low ≤ high }
         requires within { high ≤ 64 }
-        requires built { (f : ℕ → List ℕ) × IsBuilt f low self.old.page self.old.sets }
-        ensures { IfOk result (λ _. (f : ℕ → List ℕ) → IsBuilt f low self.old.page self.old.sets
+        requires built { (f : ℕ → List (ℕ × ℤ)) × IsBuilt f low self.old.page self.old.sets }
+        ensures { IfOk result (λ _. (f : ℕ → List (ℕ × ℤ)) → IsBuilt f low self.old.page self.old.sets
             → ((u : ℕ) → low ≤ u → u < high
             → f u ≡ neighbours_of u (vertices_at (option_copied old.entry)))
             → IsBuilt f high self.new.page self.new.sets) }
@@ -102,15 +104,15 @@ impl Building {
         alloc: Global,
         old: Option<&VertexBlock>,
         vertex: u32,
-        updates: &[EdgeUpdate],
+        updates: &Updates<'_>,
         ready: Option<&ReadySet>,
-        list: &mut Vec<u32>,
+        list: &mut EntryColumns,
     ) -> Result<(), AllocError>
         requires vertex { vertex < 64 }
         requires above_page { Rises 0 vertex self.old.page }
         requires above_sets { Rises 0 vertex self.old.sets }
         requires updates { NeighboursAscend 0 updates.now }
-        requires ready { IfSome (option_copied ready) (λ r. r.vertex ≡ vertex → r.set.elements
+        requires ready { IfSome (option_copied ready) (λ r. r.vertex ≡ vertex → r.set.entries
             ≡ updated (neighbours_of vertex (vertices_at (option_copied old))) updates.now) }
         ensures { IfOk result (λ _. IsPut vertex
             (updated (neighbours_of vertex (vertices_at (option_copied old.entry))) updates.now)
@@ -123,46 +125,58 @@ impl Building {
             }
             NeighbourForm::Chunked(set) => {
                 let set = set_after(alloc, set, vertex, updates, ready)?;
-                self.push_set(alloc, vertex, set)
+                self.push_set(alloc, vertex, set, list)
             }
         }
     }
 
     /// Adds a vertex that is above all others, with its list if it is not empty: packed, or as a set
     /// where it is long. The only error is out of memory.
-    fn push_list(&mut self, alloc: Global, vertex: u32, list: &[u32]) -> Result<(), AllocError>
+    fn push_list(
+        &mut self,
+        alloc: Global,
+        vertex: u32,
+        list: &EntryColumns,
+    ) -> Result<(), AllocError>
         requires vertex { vertex < 64 }
         requires above_page { Rises 0 vertex self.old.page }
         requires above_sets { Rises 0 vertex self.old.sets }
-        requires ascending { AscendsFrom 0 list.now }
+        requires ascending { AscendsFrom 0 (keys_of list.now) }
         ensures { IfOk result (λ _. IsPut vertex list.now
             self.old.page self.old.sets self.new.page self.new.sets) }
     {
-        let count = list.len();
+        let (keys, weights) = list.columns();
+        let count = keys.len();
         if count > MAX_PACKED {
-            let set = make_set(alloc, self.chunk_size, list)?;
+            let set = set_of_columns(alloc, self.chunk_size, list)?;
             return self.sets.push(vertex, set);
         }
         if count == 0 {
             return Ok(());
         }
-        self.page.push(vertex, list)
+        self.page.push(vertex, keys, weights)
     }
 
     /// Adds a vertex that is above all others, with its set if it is not empty: packed where it is
-    /// small. The only error is out of memory.
-    fn push_set(&mut self, alloc: Global, vertex: u32, set: CTree) -> Result<(), AllocError>
+    /// small, and then `list` gives the room. The only error is out of memory.
+    fn push_set(
+        &mut self,
+        alloc: Global,
+        vertex: u32,
+        set: CTree,
+        list: &mut EntryColumns,
+    ) -> Result<(), AllocError>
         requires vertex { vertex < 64 }
         requires above_page { Rises 0 vertex self.old.page }
         requires above_sets { Rises 0 vertex self.old.sets }
-        ensures { IfOk result (λ _. IsPut vertex set.elements
+        ensures { IfOk result (λ _. IsPut vertex set.entries
             self.old.page self.old.sets self.new.page self.new.sets) }
     {
         if set.len() >= MIN_CHUNKED {
             return self.sets.push(vertex, set);
         }
-        let list = set.view().elements(alloc)?;
-        self.push_list(alloc, vertex, &list)
+        collect(&set, list)?;
+        self.push_list(alloc, vertex, list)
     }
 
     /// The block of the vertices that came, or `None` where there is none. The only error is out of
@@ -186,13 +200,13 @@ fn set_after(
     alloc: Global,
     set: &CTree,
     vertex: u32,
-    updates: &[EdgeUpdate],
+    updates: &Updates<'_>,
     ready: Option<&ReadySet>,
 ) -> Result<CTree, AllocError>
     requires updates { NeighboursAscend 0 updates.now }
-    requires ready { IfSome (option_copied ready) (λ r. r.vertex ≡ vertex → r.set.elements
-        ≡ updated set.now.elements updates.now) }
-    ensures { IfOk result (λ t. t.elements ≡ updated set.now.elements updates.now) }
+    requires ready { IfSome (option_copied ready) (λ r. r.vertex ≡ vertex → r.set.entries
+        ≡ updated set.now.entries updates.now) }
+    ensures { IfOk result (λ t. t.entries ≡ updated set.now.entries updates.now) }
 {
     match ready {
         Some(made) if made.vertex == vertex => made.set.share(),

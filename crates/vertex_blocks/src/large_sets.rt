@@ -1,7 +1,8 @@
 //! Sets of vertices that have many neighbours.
 
 ghost use Rattle.std.specs.Prelude.{◌≡◌, ◌^◌, ◌<◌, ◌≤◌, ◌∷◌, ◌++◌, [], length, slice_range, IfOk, OnOk, MatchOption};
-ghost use Rattle.pages.specs.Vertices.{Rises, neighbours_of, count_below};
+ghost use Rattle.ascending_lists.specs.Maps.{Rises};
+ghost use Rattle.pages.specs.Vertices.{neighbours_of, count_below};
 ghost use Rattle.vertex_blocks.specs.Blocks.{IsBlock, edge_total};
 
 use c_tree::CTree;
@@ -64,7 +65,7 @@ impl LargeSets {
     pub(crate) fn get(&self, vertex: u32) -> Option<&CTree>
         requires { vertex < 64 }
         ensures { MatchOption result (neighbours_of vertex self.now ≡ [])
-            (λ t. (t.now.elements ≡ neighbours_of vertex self.now) × (0 < length t.now.elements)) }
+            (λ t. (t.now.entries ≡ neighbours_of vertex self.now) × (0 < length t.now.entries)) }
     {
         match rank(self.present, vertex) {
             Some(index) => Some(&self.sets[index].set),
@@ -99,8 +100,8 @@ impl LargeSets {
     pub(crate) fn push(&mut self, vertex: u32, set: CTree) -> Result<(), AllocError>
         requires vertex { vertex < 64 }
         requires above { Rises 0 vertex self.old }
-        requires some { 0 < length set.elements }
-        ensures { OnOk result (self.new ≡ self.old ++ (vertex, set.elements) ∷ []) }
+        requires some { 0 < length set.entries }
+        ensures { OnOk result (self.new ≡ self.old ++ (vertex, set.entries) ∷ []) }
     {
         prove!(set.len() > 0);
         self.sets.push(LargeSet {

@@ -1,6 +1,7 @@
 //! Going over the neighbours of a vertex.
 
 ghost use Rattle.std.specs.Prelude.{◌≡◌, ◌↔◌, [], length, take, drop, min, IsTrue};
+ghost use Rattle.std.specs.Map.{keys_of, values_of};
 ghost use Rattle.std.specs.Iterator.{YieldsFirst, item_count};
 
 use crate::set_walk::SetWalk;
@@ -8,7 +9,7 @@ use c_tree::CTree;
 use pages::{Ascending, Neighbours};
 use std::marker::Model;
 
-/// The neighbours of a vertex that are still to come, ascending.
+/// The neighbours of a vertex that are still to come, ascending, each with its weight.
 #[derive(Drop)]
 pub struct NeighbourIter<'a> {
     form: WalkForm<'a>,
@@ -22,10 +23,10 @@ pub(crate) enum WalkForm<'a> {
 }
 
 impl<'a> Model for NeighbourIter<'a> {
-    ghost use Rattle.std.specs.Prelude.{ℕ, List};
+    ghost use Rattle.std.specs.Prelude.{ℕ, ℤ, List};
     ghost use Rattle.vertex_blocks.specs.inside.Walks.{coming};
 
-    ghost Value = { List ℕ };
+    ghost Value = { List (ℕ × ℤ) };
 
     ghost view = { λ i. coming i.form };
 }
@@ -52,7 +53,7 @@ impl<'a> NeighbourIter<'a> {
     /// The neighbours of a set.
     #[inline]
     pub(crate) fn chunked(set: &'a CTree) -> NeighbourIter<'a>
-        ensures { result ≡ set.now.elements }
+        ensures { result ≡ set.now.entries }
     {
         NeighbourIter {
             form: WalkForm::Chunked(SetWalk::new(set)),
@@ -83,7 +84,7 @@ impl<'a> NeighbourIter<'a> {
     #[inline]
     pub fn fill(&mut self, block: &mut [u32]) -> usize
         ensures count { result ≡ min (length block.old) (length self.old) }
-        ensures filled { take result block.new ≡ take result self.old }
+        ensures filled { take result block.new ≡ take result (keys_of self.old) }
         ensures kept { drop result block.new ≡ drop result block.old }
         ensures rest { self.new ≡ drop result self.old }
     {
@@ -92,17 +93,35 @@ impl<'a> NeighbourIter<'a> {
             WalkForm::Chunked(walk) => walk.fill(block),
         }
     }
+
+    /// Reads the next neighbours and their weights into the fronts of two blocks, as many as fit into
+    /// both and are left, and gives their number. It takes no memory, and the rest of the blocks stays
+    /// as it was.
+    #[inline]
+    pub fn fill_weighted(&mut self, keys: &mut [u32], weights: &mut [i64]) -> usize
+        ensures count { result ≡ min (min (length keys.old) (length weights.old)) (length self.old) }
+        ensures keys { take result keys.new ≡ take result (keys_of self.old) }
+        ensures weights { take result weights.new ≡ take result (values_of self.old) }
+        ensures kept_keys { drop result keys.new ≡ drop result keys.old }
+        ensures kept_weights { drop result weights.new ≡ drop result weights.old }
+        ensures rest { self.new ≡ drop result self.old }
+    {
+        match &mut self.form {
+            WalkForm::Packed(walk) => walk.fill_weighted(keys, weights),
+            WalkForm::Chunked(walk) => walk.fill_weighted(keys, weights),
+        }
+    }
 }
 
 impl<'a> Iterator for NeighbourIter<'a> {
-    type Item = u32;
+    type Item = (u32, i64);
 
     ghost next_gives = { YieldsFirst (λ i. i) };
 
     ghost remaining = { item_count (λ i. i) };
 
     #[inline]
-    fn next(&mut self) -> Option<u32> {
+    fn next(&mut self) -> Option<(u32, i64)> {
         match &mut self.form {
             WalkForm::Packed(walk) => walk.next(),
             WalkForm::Chunked(walk) => walk.next(),

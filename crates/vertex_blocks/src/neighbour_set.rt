@@ -1,7 +1,10 @@
-//! The neighbours of a vertex, packed or as a set in chunks.
+//! The neighbours of a vertex with their weights, packed or as a set in chunks.
 
 ghost use Rattle.std.specs.Prelude.{◌≡◌, ◌↔◌, [], length, IsTrue, IfSome};
-ghost use Rattle.pages.specs.Lists.{AscendsFrom, has};
+ghost use Rattle.std.specs.Map.{keys_of};
+ghost use Rattle.ascending_lists.specs.Ascending.{AscendsFrom};
+ghost use Rattle.ascending_lists.specs.Sets.{has};
+ghost use Rattle.ascending_lists.specs.Maps.{lookup};
 ghost use Rattle.vertex_blocks.specs.Forms.{listed};
 
 use crate::neighbour_iter::NeighbourIter;
@@ -9,7 +12,7 @@ use c_tree::CTree;
 use pages::Neighbours;
 use std::marker::Model;
 
-/// The neighbours of a vertex, ascending. A contract sees the list of them.
+/// The neighbours of a vertex, ascending, each with a weight. A contract sees the list of the pairs.
 #[derive(Drop)]
 pub struct NeighbourSet<'a> {
     form: NeighbourForm<'a>,
@@ -23,10 +26,10 @@ pub enum NeighbourForm<'a> {
 }
 
 impl<'a> Model for NeighbourSet<'a> {
-    ghost use Rattle.std.specs.Prelude.{ℕ, List};
+    ghost use Rattle.std.specs.Prelude.{ℕ, ℤ, List};
     ghost use Rattle.vertex_blocks.specs.Forms.{listed};
 
-    ghost Value = { List ℕ };
+    ghost Value = { List (ℕ × ℤ) };
 
     ghost view = { λ s. listed s.form };
 }
@@ -61,7 +64,7 @@ impl<'a> NeighbourSet<'a> {
     #[inline]
     pub fn len(&self) -> usize
         ensures count { result ≡ length self.now }
-        ensures ascending { AscendsFrom 0 self.now }
+        ensures ascending { AscendsFrom 0 (keys_of self.now) }
     {
         match &self.form {
             NeighbourForm::Packed(list) => list.len(),
@@ -79,7 +82,7 @@ impl<'a> NeighbourSet<'a> {
 
     /// Whether a vertex is among the neighbours. It takes logarithmic time and no memory.
     pub fn contains(&self, neighbour: u32) -> bool
-        ensures { result ≡ has neighbour self.now }
+        ensures { result ≡ has neighbour (keys_of self.now) }
     {
         match &self.form {
             NeighbourForm::Packed(list) => list.contains(neighbour),
@@ -87,10 +90,21 @@ impl<'a> NeighbourSet<'a> {
         }
     }
 
+    /// The weight of a neighbour, or `None` where it is not among them. It takes logarithmic time and no
+    /// memory.
+    pub fn get(&self, neighbour: u32) -> Option<i64>
+        ensures { result ≡ lookup neighbour self.now }
+    {
+        match &self.form {
+            NeighbourForm::Packed(list) => list.get(neighbour),
+            NeighbourForm::Chunked(set) => set.get(neighbour),
+        }
+    }
+
     /// The set in chunks, where the neighbours stand in one and are not packed. It takes constant time
     /// and no memory.
     pub fn chunked(&self) -> Option<&'a CTree>
-        ensures { IfSome result (λ t. t.now.elements ≡ self.now) }
+        ensures { IfSome result (λ t. t.now.entries ≡ self.now) }
     {
         match &self.form {
             NeighbourForm::Packed(_) => None,
@@ -98,7 +112,7 @@ impl<'a> NeighbourSet<'a> {
         }
     }
 
-    /// A walk over the neighbours, ascending. It takes no memory.
+    /// A walk over the neighbours, ascending, with their weights. It takes no memory.
     #[inline]
     pub fn iter(self) -> NeighbourIter<'a>
         ensures { result ≡ self.entry }

@@ -1,11 +1,11 @@
 //! Room for packed lists in advance.
 
-ghost use Rattle.std.specs.Prelude.{◌≡◌, ◌≤◌, [], length, IfOk};
+ghost use Rattle.std.specs.Prelude.{◌≡◌, ◌-◌, ◌<◌, ◌≤◌, [], length, IfOk};
 
 use crate::block::VertexBlock;
 use crate::large_sets::LargeSets;
-use edge_updates::EdgeUpdate;
-use pages::{MAX_PACKED, Page, width_of};
+use edge_updates::Updates;
+use pages::{MAX_PACKED, Page, weight_width_of, width_of};
 use std::alloc::{AllocError, Global};
 
 /// A page of no vertex, with room for the packed lists of a block after updates. No contract rests on
@@ -13,7 +13,7 @@ use std::alloc::{AllocError, Global};
 pub(crate) fn new_page(
     alloc: Global,
     old: Option<&VertexBlock>,
-    updates: &[EdgeUpdate],
+    updates: &Updates<'_>,
 ) -> Result<Page, AllocError>
     ensures { IfOk result (λ p. p ≡ []) }
 {
@@ -26,44 +26,69 @@ pub(crate) fn new_page(
 }
 
 /// How many updates are of vertices that have no set.
-fn packed_updates(sets: &LargeSets, updates: &[EdgeUpdate]) -> usize {
-    let mut total = 0usize;
-    let mut rest = updates;
-    while let Some((first, _)) = rest.split_first() {
-        let count = leading(rest, first.vertex()).max(1);
-        if sets.get(first.vertex() % 64).is_none() {
-            total = total.saturating_add(count);
+fn packed_updates(sets: &LargeSets, updates: &Updates<'_>) -> usize {
+    let (mut total, mut start) = (0usize, 0);
+    while start < updates.len() {
+        let vertex = updates.update(start).vertex();
+        let next = run_end(updates, start);
+        if sets.get(vertex % 64).is_none() {
+            total = total.saturating_add(next - start);
         }
-        rest = &rest[count..];
+        start = next;
     }
     total
 }
 
 /// How many vertices updates are of, and how many bytes the packed lists take that they add.
-fn room_for(updates: &[EdgeUpdate]) -> (usize, usize) {
-    let (mut vertices, mut size) = (0usize, 0usize);
-    let mut rest = updates;
-    while let Some((first, _)) = rest.split_first() {
-        let count = leading(rest, first.vertex()).max(1);
+fn room_for(updates: &Updates<'_>) -> (usize, usize) {
+    let (mut vertices, mut size, mut start) = (0usize, 0usize, 0);
+    while start < updates.len() {
+        let next = run_end(updates, start);
         vertices = vertices.saturating_add(1);
-        if count <= MAX_PACKED {
-            let span = rest[count - 1]
-                .neighbour()
-                .saturating_sub(first.neighbour());
-            size = size.saturating_add(4 + width_of(span) * (count - 1));
+        if next - start <= MAX_PACKED {
+            size = size.saturating_add(list_size(updates, start, next));
         }
-        rest = &rest[count..];
+        start = next;
     }
     (vertices, size)
 }
 
-/// How many updates in front are of a vertex.
-fn leading(updates: &[EdgeUpdate], vertex: u32) -> usize
-    ensures { result ≤ length updates.now }
+/// How many bytes a packed list takes of the neighbours and the weights of updates of one vertex, those
+/// from an index up to another.
+fn list_size(updates: &Updates<'_>, start: usize, end: usize) -> usize
+    requires order { start < end }
+    requires within { end ≤ length updates.now }
+    requires few { end - start ≤ MAX_PACKED }
 {
-    let mut count = 0;
-    while count < updates.len() && updates[count].vertex() == vertex {
-        count += 1;
+    let (first, last) = (updates.update(start), updates.update(end - 1));
+    let span = last.neighbour().saturating_sub(first.neighbour());
+    let count = end - start;
+    let size = 4 + width_of(span) * (count - 1);
+    size.saturating_add(weight_size(updates, start, end).saturating_mul(count))
+}
+
+/// How many bytes each weight of updates takes in a packed list, those from an index up to another.
+fn weight_size(updates: &Updates<'_>, start: usize, end: usize) -> usize
+    requires { end ≤ length updates.now }
+{
+    let mut size = 0;
+    for index in start..end {
+        size = weight_width_of(&[updates.weight(index)]).max(size);
     }
-    count
+    size
+}
+
+/// The index behind the updates from one on that are of the same vertex.
+fn run_end(updates: &Updates<'_>, start: usize) -> usize
+    requires { start < length updates.now }
+    ensures order { start < result }
+    ensures within { result ≤ length updates.now }
+{
+    let count = updates.len();
+    let vertex = updates.update(start).vertex();
+    let mut end = start + 1;
+    while end < count && updates.update(end).vertex() == vertex {
+        end += 1;
+    }
+    end
 }

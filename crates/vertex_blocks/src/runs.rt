@@ -1,31 +1,31 @@
 //! Lists and sets that updates of one vertex make of others.
 
 ghost use Rattle.std.specs.Prelude.{◌≡◌, None, Ok, IfOk, IfErr};
-ghost use Rattle.ascending_lists.specs.Sets.{union, difference};
-ghost use Rattle.ascending_lists.specs.Ascending.{Ascends};
+ghost use Rattle.std.specs.Map.{keys_of};
+ghost use Rattle.ascending_lists.specs.Ascending.{Ascends, AscendsFrom};
 ghost use Rattle.c_tree.specs.Chunks.{IsSetOf};
-ghost use Rattle.pages.specs.Lists.{AscendsFrom};
 ghost use Rattle.pages.specs.Updates.{updated, NeighboursAscend};
 ghost use Rattle.set_ops.specs.declared.error.SetError.TheVariants.{NoMemory};
 ghost use Rattle.vertex_blocks.specs.inside.Runs.{added_in, removed_in};
 
 use c_tree::{CTree, ChunkSize, Part};
-use edge_updates::EdgeUpdate;
-use pages::{Neighbours, merge};
+use edge_updates::Updates;
+use pages::{EntryColumns, Neighbours, merge};
 use set_ops::{Fork, SetError, difference_forked, insert_all, remove_all, union_forked};
 use std::alloc::{AllocError, Global};
 use std::thread::Threads;
+use tail_codec::{Entries, EntryList};
 
 /// Leaves the list that updates of one vertex make of another in `after`, in place of what it held.
 /// The only error is out of memory.
 pub(crate) fn update_list(
     list: &Neighbours<'_>,
-    updates: &[EdgeUpdate],
-    after: &mut Vec<u32>,
+    updates: &Updates<'_>,
+    after: &mut EntryColumns,
 ) -> Result<(), AllocError>
     requires { NeighboursAscend 0 updates.now }
-    ensures list { IfOk result (λ _. after.new.items ≡ updated list.now updates.now) }
-    ensures ascending { IfOk result (λ _. AscendsFrom 0 after.new.items) }
+    ensures list { IfOk result (λ _. after.new ≡ updated list.now updates.now) }
+    ensures ascending { IfOk result (λ _. AscendsFrom 0 (keys_of after.new)) }
 {
     if list.is_empty() {
         return collect_added(updates, after);
@@ -33,41 +33,46 @@ pub(crate) fn update_list(
     merge(list, updates, after)
 }
 
-/// Leaves the neighbours that updates of one vertex add in `added`, in place of what it held. The only
-/// error is out of memory.
-fn collect_added(updates: &[EdgeUpdate], added: &mut Vec<u32>) -> Result<(), AllocError>
+/// Leaves the neighbours that updates of one vertex add in `added`, with their weights, in place of
+/// what it held. The only error is out of memory.
+fn collect_added(updates: &Updates<'_>, added: &mut EntryColumns) -> Result<(), AllocError>
     requires { NeighboursAscend 0 updates.now }
-    ensures list { IfOk result (λ _. added.new.items ≡ added_in updates.now) }
-    ensures ascending { IfOk result (λ _. AscendsFrom 0 added.new.items) }
+    ensures list { IfOk result (λ _. added.new ≡ added_in updates.now) }
+    ensures ascending { IfOk result (λ _. AscendsFrom 0 (keys_of added.new)) }
 {
     added.clear();
-    for update in updates {
+    for index in 0..updates.len() {
+        let update = updates.update(index);
         if update.is_added() {
-            added.push(update.neighbour())?;
+            added.push(update.neighbour(), updates.weight(index))?;
         }
     }
     Ok(())
 }
 
-/// The neighbours that updates of one vertex add and those that they remove.
-fn parts(alloc: Global, updates: &[EdgeUpdate]) -> Result<(Vec<u32>, Vec<u32>), AllocError>
+/// The neighbours that updates of one vertex add, with their weights, and those that they remove. The
+/// only error is out of memory.
+fn parts(alloc: Global, updates: &Updates<'_>) -> Result<(EntryList, Vec<u32>), AllocError>
     requires { NeighboursAscend 0 updates.now }
-    ensures added { IfOk result (λ p. p.0.items ≡ added_in updates.now) }
+    ensures added { IfOk result (λ p. p.0 ≡ added_in updates.now) }
     ensures removed { IfOk result (λ p. p.1.items ≡ removed_in updates.now) }
-    ensures added_ascend { IfOk result (λ p. Ascends None p.0.items) }
+    ensures added_ascend { IfOk result (λ p. Ascends None (keys_of p.0)) }
     ensures removed_ascend { IfOk result (λ p. Ascends None p.1.items) }
 {
     let mut added = Vec::with_capacity(alloc, updates.len())?;
+    let mut weights = Vec::with_capacity(alloc, updates.len())?;
     let mut removed = Vec::new(alloc);
-    for update in updates {
+    for index in 0..updates.len() {
+        let update = updates.update(index);
         let neighbour = update.neighbour();
         if update.is_added() {
             added.push(neighbour)?;
+            weights.push(updates.weight(index))?;
         } else {
             removed.push(neighbour)?;
         }
     }
-    Ok((added, removed))
+    Ok((EntryList::new(added, weights), removed))
 }
 
 /// The set that updates of one vertex make of another, in chunks of that one's size. The only error is
@@ -75,14 +80,14 @@ fn parts(alloc: Global, updates: &[EdgeUpdate]) -> Result<(Vec<u32>, Vec<u32>), 
 pub(crate) fn update_set(
     alloc: Global,
     set: &CTree,
-    updates: &[EdgeUpdate],
+    updates: &Updates<'_>,
 ) -> Result<CTree, AllocError>
     requires { NeighboursAscend 0 updates.now }
-    ensures { IfOk result (λ t. t.elements ≡ updated set.now.elements updates.now) }
+    ensures { IfOk result (λ t. t.entries ≡ updated set.now.entries updates.now) }
 {
     prove!(set.len() <= 1 << 32);
     let (added, removed) = parts(alloc, updates)?;
-    let grown = united(insert_all(alloc, set, &added))?;
+    let grown = united(insert_all(alloc, set, &added.lent()))?;
     united(remove_all(alloc, &grown, &removed))
 }
 
@@ -92,20 +97,20 @@ pub(crate) fn update_set_forked<R: Threads + Sync, F: Fork + Sync>(
     rt: &R,
     alloc: Global,
     set: &CTree,
-    updates: &[EdgeUpdate],
+    updates: &Updates<'_>,
     forks: u32,
     level: u32,
     fork: &F,
 ) -> Result<CTree, AllocError>
     requires { NeighboursAscend 0 updates.now }
-    ensures { IfOk result (λ t. t.elements ≡ updated set.now.elements updates.now) }
+    ensures { IfOk result (λ t. t.entries ≡ updated set.now.entries updates.now) }
 {
     prove!(set.len() <= 1 << 32);
     let fork = DeeperFork { fork, level };
     let (added, removed) = parts(alloc, updates)?;
-    let more = make_set(alloc, set.chunk_size(), &added)?;
+    let more = make_set(alloc, set.chunk_size(), &added.lent())?;
     let grown = united(union_forked(rt, alloc, set, &more, forks, &fork))?;
-    let fewer = make_set(alloc, set.chunk_size(), &removed)?;
+    let fewer = make_set(alloc, set.chunk_size(), &Entries::of_keys(&removed))?;
     united(difference_forked(rt, alloc, &grown, &fewer, forks, &fork))
 }
 
@@ -128,17 +133,46 @@ impl<F: Fork + Sync> Fork for DeeperFork<'_, F> {
     }
 }
 
-/// The set of an ascending list. The only error is out of memory.
-pub(crate) fn make_set(
+/// The set of entries whose keys ascend. The only error is out of memory.
+fn make_set(
     alloc: Global,
     chunk_size: ChunkSize,
-    elements: &[u32],
+    entries: &Entries<'_>,
 ) -> Result<CTree, AllocError>
-    requires { Ascends None elements.now }
-    ensures { IfOk result (IsSetOf elements.now chunk_size) }
+    requires { Ascends None (keys_of entries.now) }
+    ensures { IfOk result (IsSetOf entries.now chunk_size) }
 {
-    let part = Part::from_ascending(alloc, None, chunk_size, elements)?;
-    part.into_set(alloc, elements.len())
+    let part = Part::from_ascending(alloc, None, chunk_size, entries)?;
+    part.into_set(alloc, entries.len())
+}
+
+/// The set of a list in columns whose keys ascend. The only error is out of memory.
+pub(crate) fn set_of_columns(
+    alloc: Global,
+    chunk_size: ChunkSize,
+    list: &EntryColumns,
+) -> Result<CTree, AllocError>
+    requires { Ascends None (keys_of list.now) }
+    ensures { IfOk result (IsSetOf list.now chunk_size) }
+{
+    let (keys, weights) = list.columns();
+    if weights.is_empty() {
+        return make_set(alloc, chunk_size, &Entries::of_keys(keys));
+    }
+    let mut column = Vec::from_slice(alloc, weights)?;
+    column.resize(keys.len(), 1)?;
+    make_set(alloc, chunk_size, &Entries::new(keys, &column))
+}
+
+/// Leaves the entries of a set in `list`, in place of what it held. The only error is out of memory.
+pub(crate) fn collect(set: &CTree, list: &mut EntryColumns) -> Result<(), AllocError>
+    ensures { IfOk result (λ _. list.new ≡ set.now.entries) }
+{
+    list.clear();
+    for (neighbour, weight) in set.iter() {
+        list.push(neighbour, weight)?;
+    }
+    Ok(())
 }
 
 /// The set that operations gave whose only error is out of memory.

@@ -1,6 +1,7 @@
 -- A bit for each vertex that is present.
 use Rattle.std.specs.Prelude.{◌≡◌, ℕ, ◌%◌, ◌^◌, ◌<◌, ◌≤◌, count_ones, List}
-use Rattle.pages.specs.Vertices.{Rises, count_below}
+use Rattle.ascending_lists.specs.Maps.{Rises}
+use Rattle.pages.specs.Vertices.{count_below}
 
 -- The vertices ascend below 64. So many of them are below a vertex as bits below its bit are set, and no
 -- bit is set behind the last of them.

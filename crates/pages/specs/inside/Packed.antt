@@ -1,7 +1,10 @@
--- Lists packed in bytes: a first element, and how far each other one is above it.
-use Rattle.std.specs.Prelude.{◌≡◌, ℕ, zero, suc, ◌+◌, ◌-◌, ◌*◌, ◌^◌, ◌<◌, ◌≤◌, List, [], ◌∷◌, length, slice_index, take, drop}
-use Rattle.pages.specs.Lists.{AscendsFrom}
+-- Lists packed in bytes: a first element, how far each other one is above it, and then the weights.
+use Rattle.std.specs.Prelude.{◌≡◌, ℕ, zero, suc, ℤ, ◌+◌, ◌-◌, ◌*◌, ◌^◌, ◌<◌, ◌≤◌, List, [], ◌∷◌, length, slice_index, take, drop}
+use Rattle.ascending_lists.specs.Ascending.{AscendsFrom}
+use Rattle.edge_updates.specs.Weighted.{weighted}
+use Rattle.pages.specs.declared.weights.WeightWidth.{WeightWidth}
 use Rattle.pages.specs.inside.Numbers.{number_of}
+use Rattle.pages.specs.inside.Weights.{weight_size, weights_from}
 
 -- n elements after the first, whose offsets from it are w bytes each
 abbrev pub after_first : ℕ → ℕ → ℕ → List ℕ → List ℕ
@@ -17,6 +20,10 @@ list_of first w (suc n) bytes = first ∷ after_first first w n bytes
 abbrev pub elements_in : ℕ → ℕ → List ℕ → List ℕ
 elements_in w n bytes = list_of (number_of (take 4 bytes)) w n (drop 4 bytes)
 
+-- n elements with their weights, which stand behind the offsets
+abbrev pub entries_of : ℕ → ℕ → ℕ → WeightWidth → List ℕ → List (ℕ × ℤ)
+entries_of first w n v bytes = weighted (list_of first w n bytes) (weights_from v n (drop (w * (n - 1)) bytes))
+
 -- Offsets of an ascending list of n elements, of at most four bytes each, with three bytes behind the last.
 pub record IsView (first w mask n : ℕ) (bytes : List ℕ) : Type 0 where
   pub some : 0 < w
@@ -25,6 +32,11 @@ pub record IsView (first w mask n : ℕ) (bytes : List ℕ) : Type 0 where
   pub few : n ≤ 256
   pub within : 0 < n → w * (n - 1) + 3 ≤ length bytes
   pub ascends : AscendsFrom 0 (list_of first w n bytes)
+
+-- the same, with the weights behind the offsets
+pub record IsWeightedView (first w mask n : ℕ) (v : WeightWidth) (bytes : List ℕ) : Type 0 where
+  pub view : IsView first w mask n bytes
+  pub weights : 0 < n → w * (n - 1) + weight_size v * n ≤ length bytes
 
 -- how far the last element is above the first
 abbrev pub span_of : List ℕ → ℕ

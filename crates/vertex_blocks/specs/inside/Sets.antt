@@ -1,12 +1,12 @@
 -- Sets of vertices that have many neighbours, as lists.
-use Rattle.std.specs.Prelude.{ℕ, List, map}
+use Rattle.std.specs.Prelude.{ℕ, ℤ, List, map}
 use Rattle.pages.specs.inside.Index.{IsIndex}
 use Rattle.vertex_blocks.specs.declared.large_sets.LargeSet.{LargeSet}
 use Rattle.vertex_blocks.specs.Blocks.{Block, AreNeighbourLists}
 
 -- a vertex with the list of its set
-abbrev pub set_list : LargeSet → ℕ × List ℕ
-set_list s = (s.vertex, s.set.elements)
+abbrev pub set_list : LargeSet → ℕ × List (ℕ × ℤ)
+set_list s = (s.vertex, s.set.entries)
 
 abbrev pub set_lists : List LargeSet → Block
 set_lists ss = map set_list ss

@@ -1,6 +1,5 @@
-use Rattle.std.proofs.Common.{rules, ◌≡◌, ◌+◌, ◌++◌, ℕ, ℤ, ◌<◌, FitsSigned, to_z, of_z, w64, length, get_or, take, ap, sym, ◌∙◌, subst}
+use Rattle.std.proofs.Common.{rules, ◌≡◌, ℕ, ℤ, ◌<◌, FitsSigned, to_z, of_z, w64, length, get_or, ap, sym, ◌∙◌}
 use Rattle.std.proofs.lemmas.Int.{to_z-of_z}
-use Rattle.std.specs.List.{filter}
 use Rattle.algorithm_meaning.specs.Arithmetic.{compared}
 use Rattle.vectors.specs.Lanes.{lane_entry}
 use Rattle.edge_fold.proofs.Findings.{one_more_kept}

@@ -1,6 +1,6 @@
 use Rattle.std.proofs.Common.{◌≡◌, ℕ, ◌+◌, ◌-◌, ◌*◌, take, drop, refl, sym, ◌∙◌, ap, arith}
 use Rattle.std.proofs.lemmas.List.{drop-drop}
-use Rattle.pages.proofs.Ascent.{rises}
+use Rattle.ascending_lists.proofs.Cutting.{rises}
 use Rattle.pages.proofs.Decoding.{times_more}
 use Rattle.pages.proofs.Encoding.{element_written, front_stays, middle_stays}
 use Rattle.pages.proofs.writing.write.Goals as goal

@@ -1,5 +1,5 @@
 use Rattle.std.proofs.Common.{ap, arith}
-use Rattle.pages.proofs.Order.{rises_room}
+use Rattle.ascending_lists.proofs.MapOrder.{rises_room}
 use Rattle.vertex_blocks.specs.Blocks.{edge_total}
 use Rattle.vertex_blocks.proofs.Sums.{packed_total}
 use Rattle.vertex_blocks.proofs.block.packed_edges.Goals as goal

@@ -12,5 +12,5 @@ masked n mask b k is power =
 pub returns : goal.returns
 unfolding is_head hash
 returns c =
-    let n = c.args.element * 2654435769 % 4294967296 / 16777216 in
+    let n = c.args.key * 2654435769 % 4294967296 / 16777216 in
     ap (λ (m : ℕ). nat_eq m 0) (masked n c.self.inside.mask c.args.self c.self.invariant.0 c.self.view_is c.self.invariant.2)

@@ -1,6 +1,5 @@
-use Rattle.std.proofs.Common.{arith}
-use Rattle.ascending_lists.proofs.Ascending.{ascends_room}
+use Rattle.tail_codec.proofs.Writing.{few_entries}
 use Rattle.c_tree.proofs.ctree.CTree.iter.Goals as goal
 
 pub returns-clause-bounded : goal.returns-clause-bounded
-returns-clause-bounded c = omega (arith, ascends_room 0 c.args.self.now.elements (omega arith) c.parts.ensures.valid.ascending)
+returns-clause-bounded c = few_entries 0 c.args.self.now.entries c.parts.ensures.valid.ascending

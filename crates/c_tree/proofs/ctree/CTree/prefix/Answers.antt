@@ -4,4 +4,4 @@ use Rattle.c_tree.proofs.ctree.CTree.prefix.Goals as goal
 pub returns : goal.returns
 returns c =
     let s = c.args.self.now in
-    one_prefix s.chunk_size s.elements _ _ c.parts.ensures.chunked
+    one_prefix s.chunk_size s.entries _ _ c.parts.ensures.chunked

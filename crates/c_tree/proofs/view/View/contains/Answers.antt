@@ -1,34 +1,25 @@
-use Rattle.std.proofs.Common.{ap, refl, arith}
-use Rattle.c_tree.specs.Chunks.{ChunkedSet, together}
-use Rattle.c_tree.proofs.Turns.{starts, turn_left, turn_right, at_head, stands_in_tail}
+use Rattle.std.proofs.Common.{◌↔◌, ℕ, ℤ, inl, inr, List, [], ◌∷◌, IsTrue, refl}
+use Rattle.std.specs.List.{Contains}
+use Rattle.std.specs.Map.{keys_of}
+use Rattle.std.specs.Option.{is_some}
+use Rattle.std.proofs.lemmas.Bool.{false≢true, cases_eq, eq-eqb, ne_eqb}
+use Rattle.ascending_lists.specs.Maps.{lookup}
+use Rattle.ascending_lists.proofs.Ascending.{contains_head, contains_tail, contains_none, contains_cases}
 use Rattle.c_tree.proofs.view.View.contains.Goals as goal
 
-pub loop-below-init : goal.loop-below-init
-loop-below-init c =
-    let v = c.self.inside in
-    starts c.args.element c.args.self.now.elements (together v.prefix.now v.chunks.now.entries) (ap (λ (s : ChunkedSet). s.elements) c.self.view_is) c.self.invariant.ascending
-
-pub loop-below-preserved-then-element-head-2 : goal.loop-below-preserved-then-element-head-2
-loop-below-preserved-then-element-head-2 c =
-    let l = c.loop-below in
-    let p = c.in-Some in
-    turn_left c.args.element c.args.self.now.elements l.tail.now l.chunks.now p.below.now p.head p.at_head.now p.above.now p.ensures l.invariant c.if-element-head-2.true
-
-pub loop-below-preserved : goal.loop-below-preserved
-loop-below-preserved c =
-    let l = c.loop-below in
-    let p = c.in-Some in
-    rw c.tail-tail.ensures (turn_right c.args.element c.args.self.now.elements l.tail.now l.chunks.now p.below.now p.head p.at_head.now p.above.now p.ensures l.invariant (omega (arith, c.if-element-head.false, c.if-element-head-2.false)))
-
-pub returns-then-element-head : goal.returns-then-element-head
-returns-then-element-head c =
-    let l = c.loop-below in
-    let p = c.in-Some in (
-      λ yes. at_head c.args.element c.args.self.now.elements l.tail.now l.chunks.now p.below.now p.head p.at_head.now p.above.now p.ensures l.invariant c.if-element-head.true,
-      λ there. refl,
-    )
+-- a key has a value just where it is among the keys
+has_value : (k : ℕ) (es : List (ℕ × ℤ)) → IsTrue (is_some (lookup k es)) ↔ Contains (keys_of es) k
+has_value k [] = (λ yes. absurd (false≢true yes), λ there. absurd (contains_none k there))
+has_value k (e ∷ es) =
+    elim (cases_eq e.0 k) [
+      | inl is ↦ rw (eq-eqb e.0 k is) (λ _. rw (← is) (contains_head e.0 (keys_of es)), λ _. refl)
+      | inr other ↦
+          let rest = has_value k es in
+          rw (ne_eqb e.0 k other) (
+            λ yes. contains_tail e.0 k (keys_of es) (rest.0 yes),
+            λ there. elim (contains_cases e.0 k (keys_of es) there) [ inl is ↦ absurd (other is) | inr later ↦ rest.1 later ],
+          )
+    ]
 
 pub returns : goal.returns
-returns c =
-    let l = c.loop-below in
-    stands_in_tail c.args.element c.args.self.now.elements l.tail.now l.chunks.now c.holds.result c.in_default.ensures l.invariant c.holds.ensures
+returns c = rw (c.is_some.ensures, c.get.ensures) (has_value c.args.key c.args.self.now.entries)

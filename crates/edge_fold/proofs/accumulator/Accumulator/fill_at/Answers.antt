@@ -1,4 +1,4 @@
-use Rattle.std.proofs.Common.{rules, ◌≡◌, ℕ, ◌<◌, ℤ, length, FitsSigned, to_z, of_z, w64, ap, ◌∙◌, false}
+use Rattle.std.proofs.Common.{rules, ◌≡◌, ◌<◌, length, FitsSigned, w64, ◌∙◌, false}
 use Rattle.std.proofs.lemmas.Int.{to_z-of_z}
 use Rattle.vectors.specs.Lanes.{lane_entry}
 use Rattle.vertex_marks.specs.Marks.{is_marked}

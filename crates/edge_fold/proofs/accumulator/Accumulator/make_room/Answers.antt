@@ -1,4 +1,4 @@
-use Rattle.std.proofs.Common.{◌+◌, ◌/◌, ◌*◌, ◌≤◌, length, arith, rules, vec_len}
+use Rattle.std.proofs.Common.{◌+◌, ◌/◌, ◌*◌, ◌≤◌, arith, rules, vec_len}
 use Rattle.vertex_marks.specs.Marks.{room}
 use Rattle.edge_fold.proofs.accumulator.Accumulator.make_room.Goals as goal
 

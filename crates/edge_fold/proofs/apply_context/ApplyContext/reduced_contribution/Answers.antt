@@ -1,7 +1,8 @@
 use Rattle.std.proofs.Common.{rules, ◌≡◌, None, List, ap, ◌∙◌}
 use Rattle.std.proofs.lemmas.List.{append-nil}
 use Rattle.typed_tree.specs.StepTree.{StepsTree}
-use Rattle.edge_fold.specs.Given.{all_given, given_between}
+use Rattle.kernels.specs.Meaning.{given_in}
+use Rattle.edge_fold.specs.Given.{all_given}
 use Rattle.edge_fold.proofs.Edges.{one_function}
 use Rattle.edge_fold.proofs.apply_context.ApplyContext.reduced_contribution.Goals as goal
 
@@ -13,6 +14,6 @@ returns c m steps are =
     let is = c.in_ok-sent.ensures m one.a are.vectors are.sizes one.kernel in
     record {
       number = is.number;
-      each = λ s d. ap (λ (ss : List StepsTree). all_given m ss (s, d)) one.alone ∙ append-nil (given_between m one.a (s, d)) ∙ is.each s d;
+      each = λ s d w. ap (λ (ss : List StepsTree). all_given m ss (s, d, w)) one.alone ∙ append-nil (given_in m one.a (s, d, w)) ∙ is.each s d w;
       all = is.all;
     }

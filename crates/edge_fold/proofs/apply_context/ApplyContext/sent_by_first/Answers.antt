@@ -1,31 +1,30 @@
 use Rattle.std.proofs.Common.{rules, ◌∷◌, [], ℤ, List, FitsSigned, to_z, of_z, w64, ap, sym, ◌∙◌}
 use Rattle.std.proofs.lemmas.Int.{to_z-of_z}
-use Rattle.edge_lists.specs.Edge.{unit_edge}
 use Rattle.typed_tree.specs.declared.expression.Operator.TheVariants as operator
 use Rattle.algorithm_meaning.specs.Arithmetic.{arithmetic}
 use Rattle.algorithm_meaning.specs.Value.{entry}
 use Rattle.edge_fold.proofs.apply_context.ApplyContext.sent_by_first.Goals as goal
 
 pub returns-in-Source : goal.returns-in-Source
-returns-in-Source c m steps vectors sizes kernel d =
+returns-in-Source c m steps vectors sizes kernel d w =
     let x = c.in-Source.vector in
     let r = c.in-Source.reduction in
     let fits : FitsSigned w64 c.from.result = search rules in
-    c.in-Source.ensures steps m c.args.self.sizes.now (unit_edge (c.args.source, d)) kernel sizes
+    c.in-Source.ensures steps m c.args.self.sizes.now (c.args.source, d, w) kernel sizes
     ∙ ap (λ (n : ℤ). (x, r, n) ∷ []) (sym (to_z-of_z w64 c.from.result fits ∙ c.from.ensures))
 
 pub returns-in-Entry : goal.returns-in-Entry
-returns-in-Entry c m steps vectors sizes kernel d =
+returns-in-Entry c m steps vectors sizes kernel d w =
     let x = c.in-Entry.vector in
     let r = c.in-Entry.reduction in
     let y = c.in-Entry.from in
     let s = c.args.source in
     let fits : FitsSigned w64 c.get.result = search rules in
     let number = to_z-of_z w64 c.get.result fits ∙ c.get.ensures ∙ c.lane.ensures s ∙ ap (λ (vs : List (List ℤ)). entry vs y s) vectors in
-    c.in-Entry.ensures steps m c.args.self.sizes.now (unit_edge (s, d)) kernel sizes ∙ ap (λ (n : ℤ). (x, r, n) ∷ []) (sym number)
+    c.in-Entry.ensures steps m c.args.self.sizes.now (s, d, w) kernel sizes ∙ ap (λ (n : ℤ). (x, r, n) ∷ []) (sym number)
 
 pub returns-in-EntryPlus : goal.returns-in-EntryPlus
-returns-in-EntryPlus c m steps vectors sizes kernel d =
+returns-in-EntryPlus c m steps vectors sizes kernel d w =
     let x = c.in-EntryPlus.vector in
     let r = c.in-EntryPlus.reduction in
     let y = c.in-EntryPlus.from in
@@ -38,4 +37,4 @@ returns-in-EntryPlus c m steps vectors sizes kernel d =
     let number = to_z-of_z w64 c.arithmetic_of.result fits ∙ c.arithmetic_of.ensures
     ∙ ap (λ (n : ℤ). arithmetic operator.Add n (to_z w64 (of_z w64 plus))) got
     ∙ ap (λ (n : ℤ). arithmetic operator.Add (entry m.vectors y s) n) (to_z-of_z w64 plus plus_fits) in
-    c.in-EntryPlus.ensures steps m c.args.self.sizes.now (unit_edge (s, d)) kernel sizes ∙ ap (λ (n : ℤ). (x, r, n) ∷ []) (sym number)
+    c.in-EntryPlus.ensures steps m c.args.self.sizes.now (s, d, w) kernel sizes ∙ ap (λ (n : ℤ). (x, r, n) ∷ []) (sym number)

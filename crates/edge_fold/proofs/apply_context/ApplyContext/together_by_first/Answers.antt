@@ -1,6 +1,5 @@
 use Rattle.std.proofs.Common.{rules, ◌∷◌, [], ℤ, List, FitsSigned, to_z, of_z, w64, ap, sym, ◌∙◌}
 use Rattle.std.proofs.lemmas.Int.{to_z-of_z}
-use Rattle.edge_lists.specs.Edge.{unit_edge}
 use Rattle.typed_tree.specs.declared.expression.Operator.TheVariants as operator
 use Rattle.algorithm_meaning.specs.Arithmetic.{arithmetic}
 use Rattle.algorithm_meaning.specs.Value.{entry}
@@ -18,7 +17,7 @@ returns-in_ok-reduce_numbers-in-Entry c m steps vectors sizes kernel =
     let fits : FitsSigned w64 n = search rules in
     record {
       number = lane_entry lane;
-      each = λ s d. c.in-Entry.ensures steps m c.args.self.sizes.now (unit_edge (s, d)) kernel sizes ∙ ap (λ (k : ℤ). (x, r, k) ∷ []) (sym (c.lane.ensures s ∙ ap (λ (vs : List (List ℤ)). entry vs y s) vectors));
+      each = λ s d w. c.in-Entry.ensures steps m c.args.self.sizes.now (s, d, w) kernel sizes ∙ ap (λ (k : ℤ). (x, r, k) ∷ []) (sym (c.lane.ensures s ∙ ap (λ (vs : List (List ℤ)). entry vs y s) vectors));
       all = λ d v h. ap (λ (k : ℤ). reduced_at r v h ((d, k) ∷ [])) (to_z-of_z w64 n fits) ∙ c.in_ok-reduce_numbers-in-Entry.ensures d v h;
     }
 
@@ -35,7 +34,7 @@ returns-in_ok-reduce_numbers-in-EntryPlus c m steps vectors sizes kernel =
     let sum = λ (k : ℤ) (l : ℤ). arithmetic operator.Add k l in
     record {
       number = λ s. sum (lane_entry lane s) (to_z w64 (of_z w64 plus));
-      each = λ s d. c.in-EntryPlus.ensures steps m c.args.self.sizes.now (unit_edge (s, d)) kernel sizes
+      each = λ s d w. c.in-EntryPlus.ensures steps m c.args.self.sizes.now (s, d, w) kernel sizes
           ∙ ap (λ (k : ℤ). (x, r, k) ∷ []) (sym (ap (sum (lane_entry lane s)) (to_z-of_z w64 plus plus_fits)
           ∙ ap (λ (k : ℤ). sum k plus) (c.lane-in-EntryPlus.ensures s ∙ ap (λ (vs : List (List ℤ)). entry vs y s) vectors)));
       all = λ d v h. ap (λ (k : ℤ). reduced_at r v h ((d, k) ∷ [])) (to_z-of_z w64 n fits) ∙ c.in_ok-reduce_numbers-in-EntryPlus.ensures d v h;
@@ -51,6 +50,6 @@ returns-in_ok-reduce_numbers-in-Constant c m steps vectors sizes kernel =
     let plus_fits : FitsSigned w64 plus = search rules in
     record {
       number = λ s. to_z w64 (of_z w64 plus);
-      each = λ s d. c.in-Constant.ensures steps m c.args.self.sizes.now (unit_edge (s, d)) kernel sizes ∙ ap (λ (k : ℤ). (x, r, k) ∷ []) (sym (to_z-of_z w64 plus plus_fits));
+      each = λ s d w. c.in-Constant.ensures steps m c.args.self.sizes.now (s, d, w) kernel sizes ∙ ap (λ (k : ℤ). (x, r, k) ∷ []) (sym (to_z-of_z w64 plus plus_fits));
       all = λ d v h. ap (λ (k : ℤ). reduced_at r v h ((d, k) ∷ [])) (to_z-of_z w64 n fits) ∙ c.in_ok-reduce_numbers-in-Constant.ensures d v h;
     }

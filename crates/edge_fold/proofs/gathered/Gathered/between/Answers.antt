@@ -1,4 +1,4 @@
-use Rattle.std.proofs.Common.{◌≡◌, ◌<◌, ◌≤◌, ◌++◌, ◌+◌, ◌∷◌, [], ℤ, Bool, cond, List, length, get_or, take, refl, sym, ap, ◌∙◌, subst}
+use Rattle.std.proofs.Common.{◌≡◌, ◌<◌, ◌≤◌, ◌++◌, ◌∷◌, [], ℤ, cond, length, get_or, take, sym, ap, ◌∙◌, subst}
 use Rattle.std.proofs.lemmas.List.{take_all, take_more}
 use Rattle.edge_fold.specs.declared.gathered.GatheredIn.{GatheredIn}
 use Rattle.edge_fold.specs.Gathered.{IsAscending, IsGatheredBy, gathered_for, is_between}

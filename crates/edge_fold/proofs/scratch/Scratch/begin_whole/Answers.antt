@@ -1,4 +1,4 @@
-use Rattle.std.proofs.Common.{ℕ, ℤ, List, [], ◌∷◌, refl, subst}
+use Rattle.std.proofs.Common.{pos, ℕ, ℤ, List, [], ◌∷◌, refl, subst}
 use Rattle.std.proofs.lemmas.Result.{on_ok_weaker}
 use Rattle.apply_options.specs.declared.reduction.Reduction.{Reduction}
 use Rattle.edge_fold.specs.Given.{IsBy}
@@ -14,6 +14,6 @@ returns c =
     let sent = c.in-Some.sent in
     on_ok_weaker c.fill.result
     (λ joined m steps are x r by.
-    let own : IsBy r x ((sent.vector, sent.reduction, sent.number) ∷ []) = subst (λ (gs : List (ℕ × Reduction × ℤ)). IsBy r x gs) (c.in-Some.ensures m steps are 0) (by (0, 0)) in
+    let own : IsBy r x ((sent.vector, sent.reduction, sent.number) ∷ []) = subst (λ (gs : List (ℕ × Reduction × ℤ)). IsBy r x gs) (c.in-Some.ensures m steps are 0 (pos 0)) (by (0, 0, pos 0)) in
     folded_before f m steps [] [] c.begin.new.self _ x r refl (joined x r own.0) (c.begin.ensures f m steps x r by))
     c.fill.ensures

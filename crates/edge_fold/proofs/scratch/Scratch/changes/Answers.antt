@@ -1,8 +1,10 @@
-use Rattle.std.proofs.Common.{ℕ, ◌<◌, if◌then◌else◌, ℤ, List, take, refl, sym, ap, ◌∙◌, arith}
+use Rattle.std.proofs.Common.{ℕ, ◌<◌, if◌then◌else◌, ℤ, [], List, take, refl, sym, ap, ◌∙◌, arith}
 use Rattle.std.specs.List.{filter}
+use Rattle.edge_lists.specs.Edge.{Edge}
+use Rattle.algorithm_meaning.specs.EdgeApply.{after_edges}
 use Rattle.algorithm_meaning.specs.Value.{entry}
 use Rattle.edge_fold.specs.Folded.{waiting}
-use Rattle.edge_fold.specs.Given.{after_ends, all_given, given_on, pairs, reduced_at}
+use Rattle.edge_fold.specs.Given.{all_given, given_on, pairs, reduced_at}
 use Rattle.edge_fold.specs.VectorAccumulators.{active, held_in}
 use Rattle.edge_fold.proofs.Findings.{changed_agree}
 use Rattle.edge_fold.proofs.JoinedSlots.{old_entries}
@@ -17,11 +19,11 @@ returns-clause-changes c m steps edges test are is has old x r by long =
     let o = entry m.vectors x in
     let g = all_given m steps in
     let h = λ (v : ℕ). held_in (active flushed.slots) x v (o v) in
-    let none = ap (λ (k : ℕ). pairs (take k flushed.pairs.sources) (take k flushed.pairs.destinations)) c.in_ok-flush.ensures.none in
+    let none = ap (λ (k : ℕ). pairs (take k flushed.pairs.sources) (take k flushed.pairs.destinations) (if f.weighted then take k flushed.pairs.weights else [])) c.in_ok-flush.ensures.none in
     let own = given_by_one r x m steps by in
     let now = c.in_ok-flush.ensures.folded m steps edges are has x r own in
-    let folded = λ (v : ℕ) (l : v < n). sym (ap (λ (ws : List (ℕ × ℕ)). reduced_at r v (h v) (given_on x g ws)) none)
-    ∙ old_entries f m x v r (active flushed.slots) (given_on x g (waiting flushed.pairs)) (given_on x g edges) old are.vectors (now.entries v (o v) l) in
+    let folded = λ (v : ℕ) (l : v < n). sym (ap (λ (ws : List Edge). reduced_at r v (h v) (given_on x g ws)) none)
+    ∙ old_entries f m x v r (active flushed.slots) (given_on x g (waiting f.weighted flushed.pairs)) (given_on x g edges) old are.vectors (now.entries v (o v) l) in
     c.in_ok-changes.ensures.changes m test are.vectors are.sizes is x
-    ∙ changed_agree o o (λ v. if test v then h v else o v) (entry (after_ends steps m.sets m.vectors (filter (λ e. test e.1) edges) m.vectors) x)
+    ∙ changed_agree o o (λ v. if test v then h v else o v) (entry (after_edges steps m.sets m.vectors (filter (λ e. test e.1) edges) m.vectors) x)
     (λ v. refl) 0 n (λ v l. ap (λ (y : ℤ). if test v then y else o v) (folded v (omega (arith, l))) ∙ entries_after r x v m steps test edges by (omega (arith, l, long)))

@@ -1,8 +1,17 @@
-use Rattle.std.proofs.Common.{◌∙◌}
+use Rattle.std.proofs.Common.{ℕ, ℤ, List, ap, ◌∙◌}
+use Rattle.edge_lists.specs.Edge.{Edge}
+use Rattle.edge_fold.specs.FoldStarts.{combined, first_entry}
+use Rattle.edge_fold.specs.Given.{all_given, given_on, reduced_at}
+use Rattle.edge_fold.specs.VectorAccumulators.{active, held_in_with}
 use Rattle.edge_fold.proofs.scratch.Scratch.flush.Goals as goal
 
 pub returns-clause-folded : goal.returns-clause-folded
 returns-clause-folded c m steps edges are has x r by =
+    let f = c.args.context in
     let joined = c.in_ok-run_functions.ensures m steps are x r by in
     let was = has x r by in
-    record { entries = λ v h l. joined.entries v h ∙ was.entries v h l; reduction = joined.reduction was.reduction }
+    let n = λ (v : ℕ) (h : ℤ). held_in_with (combined f.start r) (active c.args.self.now.slots) x v (first_entry f x v h) in
+    record {
+      entries = λ v h l. joined.entries v h ∙ ap (λ (es : List Edge). reduced_at r v (n v h) (given_on x (all_given m steps) es)) c.columns-columns.ensures ∙ was.entries v h l;
+      reduction = joined.reduction was.reduction;
+    }

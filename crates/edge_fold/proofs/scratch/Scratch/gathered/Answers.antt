@@ -1,4 +1,5 @@
-use Rattle.std.proofs.Common.{ℕ, ◌<◌, ℤ, if◌then◌else◌, List, take, sym, ap, ◌∙◌}
+use Rattle.std.proofs.Common.{ℕ, ◌<◌, ℤ, [], if◌then◌else◌, List, take, sym, ap, ◌∙◌}
+use Rattle.edge_lists.specs.Edge.{Edge}
 use Rattle.edge_fold.specs.declared.apply_context.FoldStart.TheVariants as start
 use Rattle.edge_fold.specs.Folded.{waiting}
 use Rattle.edge_fold.specs.Given.{all_given, given_on, pairs, reduced_at}
@@ -14,11 +15,11 @@ returns-clause-given c m steps edges test are is has unit x r by =
     let f = c.args.context in
     let g = all_given m steps in
     let ss = active flushed.slots in
-    let none = ap (λ (k : ℕ). pairs (take k flushed.pairs.sources) (take k flushed.pairs.destinations)) c.in_ok-flush.ensures.none in
+    let none = ap (λ (k : ℕ). pairs (take k flushed.pairs.sources) (take k flushed.pairs.destinations) (if f.weighted then take k flushed.pairs.weights else [])) c.in_ok-flush.ensures.none in
     let now = c.in_ok-flush.ensures.folded m steps edges are has x r by in
     let folded = λ (v : ℕ) (h : ℤ) (l : v < f.vertices).
-    sym (ap (λ (ws : List (ℕ × ℕ)). reduced_at r v (held_in_with (combined start.Unit r) ss x v h) (given_on x g ws)) none)
-    ∙ unit_entries f x v h r ss (given_on x g (waiting flushed.pairs)) (given_on x g edges) unit (now.entries v h l) in
+    sym (ap (λ (ws : List Edge). reduced_at r v (held_in_with (combined start.Unit r) ss x v h) (given_on x g ws)) none)
+    ∙ unit_entries f x v h r ss (given_on x g (waiting f.weighted flushed.pairs)) (given_on x g edges) unit (now.entries v h l) in
     record {
       reduction = c.in_ok-gathered.ensures.reduction x r now.reduction;
       numbers = λ v h l.

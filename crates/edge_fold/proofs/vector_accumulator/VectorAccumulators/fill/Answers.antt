@@ -1,4 +1,4 @@
-use Rattle.std.proofs.Common.{rules, ◌≤◌, ℕ, List, [], length, refl}
+use Rattle.std.proofs.Common.{rules, ◌≤◌, [], length, refl}
 use Rattle.edge_fold.specs.declared.vector_accumulator.VectorAccumulator.{VectorAccumulator}
 use Rattle.edge_fold.specs.FoldStarts.{start_of}
 use Rattle.edge_fold.proofs.JoinedSlots.{along, equal, joined_slot}

@@ -1,5 +1,8 @@
 use Rattle.std.proofs.Common.{ℕ, ◌+◌, ◌-◌, ◌/◌, arith}
-use Rattle.pages.proofs.Ascent.{rises, rises_strictly}
+use Rattle.ascending_lists.proofs.Cutting.{rises}
+use Rattle.pages.proofs.Ascent.{rises_strictly}
+use Rattle.std.specs.Map.{keys_of}
+use Rattle.pages.proofs.Decoding.{keys_long}
 use Rattle.pages.proofs.Cuts.{cut_below, cut_above}
 use Rattle.pages.proofs.neighbours.Neighbours.cut.Goals as goal
 
@@ -9,8 +12,8 @@ returns-then-found-neighbour-clause-below c =
     let xs = c.args.self.now in
     let middle : ℕ = l.low + (l.high - l.low) / 2 in
     cut_below c.args.neighbour c.args.from middle xs (omega arith)
-    (λ i ge lt in_list. omega (arith, rises_strictly 0 xs c.len-high.ensures.ascending i middle lt (omega arith), c.get-found.ensures))
-    (λ i ge in_list. omega (arith, rises 0 xs c.len-high.ensures.ascending middle i ge in_list, c.get-found.ensures))
+    (λ i ge lt in_list. omega (arith, rises_strictly 0 (keys_of xs) c.len-high.ensures.ascending i middle lt (omega (arith, keys_long xs)), c.neighbour-found.ensures))
+    (λ i ge in_list. omega (arith, rises 0 (keys_of xs) c.len-high.ensures.ascending middle i ge (omega (arith, in_list, keys_long xs)), c.neighbour-found.ensures))
 
 pub returns-then-found-neighbour-clause-above : goal.returns-then-found-neighbour-clause-above
 returns-then-found-neighbour-clause-above c =
@@ -18,8 +21,8 @@ returns-then-found-neighbour-clause-above c =
     let xs = c.args.self.now in
     let middle : ℕ = l.low + (l.high - l.low) / 2 in
     cut_above c.args.neighbour c.args.from (middle + 1) xs (omega arith)
-    (λ i ge lt in_list. omega (arith, rises 0 xs c.len-high.ensures.ascending i middle (omega arith) (omega arith), c.get-found.ensures))
-    (λ i ge in_list. omega (arith, rises_strictly 0 xs c.len-high.ensures.ascending middle i (omega arith) in_list, c.get-found.ensures))
+    (λ i ge lt in_list. omega (arith, rises 0 (keys_of xs) c.len-high.ensures.ascending i middle (omega arith) (omega (arith, keys_long xs)), c.neighbour-found.ensures))
+    (λ i ge in_list. omega (arith, rises_strictly 0 (keys_of xs) c.len-high.ensures.ascending middle i (omega arith) (omega (arith, in_list, keys_long xs)), c.neighbour-found.ensures))
 
 pub loop-low-preserved-then-found-neighbour-2 : goal.loop-low-preserved-then-found-neighbour-2
 loop-low-preserved-then-found-neighbour-2 c =
@@ -29,7 +32,7 @@ loop-low-preserved-then-found-neighbour-2 c =
       from = omega arith;
       order = omega arith;
       within = l.invariant.within;
-      below = λ i ge lt. omega (arith, rises 0 c.args.self.now c.len-high.ensures.ascending i middle (omega arith) (omega arith), c.get-found.ensures);
+      below = λ i ge lt. omega (arith, rises 0 (keys_of c.args.self.now) c.len-high.ensures.ascending i middle (omega arith) (omega (arith, keys_long c.args.self.now)), c.neighbour-found.ensures);
       above = l.invariant.above;
     }
 
@@ -42,7 +45,7 @@ loop-low-preserved c =
       order = omega arith;
       within = omega arith;
       below = l.invariant.below;
-      above = λ i ge in_list. omega (arith, rises 0 c.args.self.now c.len-high.ensures.ascending middle i ge in_list, c.get-found.ensures);
+      above = λ i ge in_list. omega (arith, rises 0 (keys_of c.args.self.now) c.len-high.ensures.ascending middle i ge (omega (arith, in_list, keys_long c.args.self.now)), c.neighbour-found.ensures);
     }
 
 pub returns-clause-below : goal.returns-clause-below

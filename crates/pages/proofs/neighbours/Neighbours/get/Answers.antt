@@ -1,21 +1,15 @@
-use Rattle.std.proofs.Common.{◌≡◌, ℕ, ◌+◌, ◌-◌, ◌∙◌, get_or, ap, arith}
-use Rattle.pages.proofs.Decoding.{room_at, read_at}
+use Rattle.std.proofs.Common.{Some, w64, sym, ◌∙◌, ap, arith, rules}
+use Rattle.std.proofs.lemmas.Int.{to_z-of_z}
+use mir.Val.{SFits}
+use Rattle.pages.proofs.Cuts.{weight_there, weight_missing}
 use Rattle.pages.proofs.neighbours.Neighbours.get.Goals as goal
 
-pub offset-requires-clause-room : goal.offset-requires-clause-room
-offset-requires-clause-room c =
-    let l = c.self.inside in
-    room_at l.first l.width l.mask l.len l.offsets.now c.args.self.now c.self.invariant c.self.view_is (c.args.index - 1) (omega arith)
-
-pub overflow_add-result : goal.overflow_add-result
-overflow_add-result c =
-    let l = c.self.inside in
-    omega (arith, (read_at l.first l.width l.mask l.len l.offsets.now c.args.self.now c.self.invariant c.self.view_is (c.args.index - 1) c.offset.result (omega arith) c.offset.ensures).1)
+pub returns-then-at-next : goal.returns-then-at-next
+returns-then-at-next c =
+    let fits : SFits w64 c.weight.result = search rules in
+    ap Some (to_z-of_z w64 c.weight.result fits ∙ c.weight.ensures)
+    ∙ weight_there c.args.neighbour c.cut-at.result.0 c.args.self.now c.cut-at.ensures.below (omega (arith, c.cut-at.ensures.order)) (c.cut-at.ensures.found c.if-at-next.true)
 
 pub returns : goal.returns
 returns c =
-    let l = c.self.inside in
-    let k : ℕ = c.args.index - 1 in
-    let back : k + 1 ≡ c.args.index = omega arith in
-    (read_at l.first l.width l.mask l.len l.offsets.now c.args.self.now c.self.invariant c.self.view_is k c.offset.result (omega arith) c.offset.ensures).0
-    ∙ ap (λ i. get_or c.args.self.now i 0) back
+    sym (weight_missing c.args.neighbour c.cut-at.result.0 c.args.self.now c.cut-at.ensures.below c.cut-at.result.1 (omega (arith, c.cut-at.ensures.order)) c.cut-at.ensures.above)

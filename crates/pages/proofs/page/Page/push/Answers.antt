@@ -1,7 +1,8 @@
 use Rattle.std.proofs.Common.{length, ap, arith}
-use Rattle.pages.specs.Vertices.{Rises}
+use Rattle.ascending_lists.specs.Maps.{Rises}
+use Rattle.edge_updates.specs.Weighted.{weighted}
 use Rattle.pages.specs.inside.Entries.{lists_in}
-use Rattle.pages.proofs.Order.{rises_room}
+use Rattle.ascending_lists.proofs.MapOrder.{rises_room}
 use Rattle.pages.proofs.Ranks.{index_push}
 use Rattle.pages.proofs.Storing.{lists_length}
 use Rattle.pages.proofs.page.Page.push.Goals as goal
@@ -19,5 +20,5 @@ invariant_of-self-2 c =
     record {
       listed = stored.0;
       ends = stored.1;
-      index = rw stored.2 (index_push p.present (lists_in p.bytes.items p.entries.items) c.self.invariant.index c.args.vertex c.args.list.now rises c.requires.vertex);
+      index = rw stored.2 (index_push p.present (lists_in p.bytes.items p.entries.items) c.self.invariant.index c.args.vertex (weighted c.args.keys.now c.args.weights.now) rises c.requires.vertex);
     }

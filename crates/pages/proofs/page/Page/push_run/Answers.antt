@@ -1,9 +1,9 @@
-use Rattle.std.proofs.Common.{◌≡◌, ℕ, ◌-◌, List, ◌++◌, length, take, drop, slice_range, refl, ◌∙◌, ap, arith, length-append, length-drop}
+use Rattle.std.proofs.Common.{◌≡◌, ℕ, ◌-◌, List, ◌++◌, length, take, drop, slice_range, refl, ◌∙◌, ap, arith, length-append, length-drop, ℤ}
 use Rattle.std.proofs.lemmas.List.{length-take}
 use Rattle.pages.specs.declared.entry.ListEntry.{ListEntry}
-use Rattle.pages.specs.Vertices.{Rises}
+use Rattle.ascending_lists.specs.Maps.{Rises}
 use Rattle.pages.specs.inside.Entries.{lists_in, end_of}
-use Rattle.pages.proofs.Order.{rises_room}
+use Rattle.ascending_lists.proofs.MapOrder.{rises_room}
 use Rattle.pages.proofs.Storing.{lists_length}
 use Rattle.pages.proofs.Copying.{listed_front, listed_behind, lists_take, lists_drop, end_between, end_within}
 use Rattle.pages.proofs.page.Page.push_run.Goals as goal
@@ -32,7 +32,7 @@ pub copy-requires-clause-room : goal.copy-requires-clause-room
 copy-requires-clause-room c =
     let p = c.self.inside in
     let q = c.page.inside in
-    let part : List (ℕ × List ℕ) = slice_range c.args.page.now c.args.from c.args.to in
+    let part : List (ℕ × List (ℕ × ℤ)) = slice_range c.args.page.now c.args.from c.args.to in
     omega (arith, rises_room 0 64 (c.args.self.now ++ part) c.requires.map, length-append c.args.self.now part, ap length c.self.view_is, lists_length p.bytes.items p.entries.items, ap length c.page.view_is, lists_length q.bytes.items q.entries.items, ap length c.as_slice-lists.ensures.value, length-take (c.args.to - c.args.from) (drop c.args.from c.args.page.now), length-drop c.args.from c.args.page.now, length-take (c.args.to - c.args.from) (drop c.args.from c.as_slice-lists.result.now), length-drop c.args.from c.as_slice-lists.result.now)
 
 pub copy-requires-clause-run : goal.copy-requires-clause-run
@@ -67,7 +67,7 @@ invariant_of-self-2 c =
     let p = c.self.inside in
     let bytes = c.as_slice-bytes.result.now in
     let run : List ListEntry = take (c.args.to - c.args.from) (drop c.args.from c.as_slice-lists.result.now) in
-    let old : List (ℕ × List ℕ) = lists_in p.bytes.items p.entries.items in
+    let old : List (ℕ × List (ℕ × ℤ)) = lists_in p.bytes.items p.entries.items in
     let rises : Rises 0 64 (old ++ lists_in bytes run) = rw (c.self.view_is, run_is c) c.requires.map in
     record {
       listed = c.in_ok-copy.ensures.0;

@@ -1,13 +1,14 @@
 use Rattle.std.proofs.Common.{◌≡◌, ◌≤◌, take, drop, length}
+use Rattle.std.specs.Map.{keys_of}
 use Rattle.tail_codec.proofs.iter.TailIter.fill.Given as goal
 
 abbrev pub invariant-loop-place : goal.invariant-loop-place
 invariant-loop-place l = record {
-  can : (goal.iterator-loop-place).can_next l.elements;
-  finite : (goal.iterator-loop-place).is_finite l.elements;
+  can : (goal.iterator-loop-place).can_next l.entries;
+  finite : (goal.iterator-loop-place).is_finite l.entries;
   count : l.filled ≡ l.place-index;
   left : l.filled ≤ length l.fn.self;
-  rest : l.elements ≡ drop l.filled l.fn.self;
-  front : take l.filled l.block ≡ take l.filled l.fn.self;
+  rest : l.entries ≡ drop l.filled l.fn.self;
+  front : take l.filled l.block ≡ take l.filled (keys_of l.fn.self);
   back : drop l.filled l.block ≡ drop l.filled l.fn.block;
 }

@@ -1,5 +1,5 @@
 use Rattle.std.proofs.Common.{[], ◌∷◌, length, take, ap, arith}
-use Rattle.pages.proofs.Order.{rises_room}
+use Rattle.ascending_lists.proofs.MapOrder.{rises_room}
 use Rattle.vertex_blocks.specs.Blocks.{edge_total}
 use Rattle.vertex_blocks.specs.inside.Sets.{set_list, set_lists}
 use Rattle.vertex_blocks.proofs.Sums.{total_append}

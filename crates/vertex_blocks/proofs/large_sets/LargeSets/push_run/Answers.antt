@@ -1,6 +1,6 @@
 use Rattle.std.proofs.Common.{◌++◌, slice_range, sym, ◌∙◌, ap, subst, arith}
 use Rattle.std.proofs.lemmas.List.{take_all}
-use Rattle.pages.specs.Vertices.{Rises}
+use Rattle.ascending_lists.specs.Maps.{Rises}
 use Rattle.vertex_blocks.specs.Blocks.{AreNeighbourLists}
 use Rattle.vertex_blocks.specs.inside.Sets.{set_lists}
 use Rattle.vertex_blocks.proofs.SetTables.{some_at, lists_between, run_is, set_above}

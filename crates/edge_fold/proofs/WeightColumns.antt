@@ -1,0 +1,70 @@
+-- Entries of neighbours, and weights that do not count.
+use Rattle.std.proofs.Common.{◌≡◌, ℕ, zero, suc, ℤ, Bool, true, false, cond, List, [], ◌∷◌, ◌++◌, length, take, drop, refl, sym, ap, ◌∙◌, arith}
+use Rattle.std.specs.List.{filter}
+use Rattle.edge_lists.specs.Edge.{Edge, unit_edge, unit_weight}
+use Rattle.apply_options.specs.declared.reduction.Reduction.{Reduction}
+use Rattle.typed_tree.specs.StepTree.{StepsTree}
+use Rattle.algorithm_meaning.specs.State.{StateValue}
+use Rattle.kernels.specs.Meaning.{given_in}
+use Rattle.edge_fold.specs.Between.{firsts}
+use Rattle.edge_fold.specs.Folded.{AreWeightless}
+use Rattle.edge_fold.specs.Given.{all_given, column, entries_of, for_vector, given_on, row}
+
+pub firsts_of : (ks : List ℕ) (ws : List ℤ) → firsts (entries_of ks ws) ≡ ks
+firsts_of [] ws = refl
+firsts_of (k ∷ ks) [] = ap (λ us. k ∷ us) (firsts_of ks [])
+firsts_of (k ∷ ks) (w ∷ ws) = ap (λ us. k ∷ us) (firsts_of ks ws)
+
+-- entries of neighbours that pass
+firsts_kept : (b : Bool) (e : ℕ × ℤ) (es : List (ℕ × ℤ)) (us : List ℕ) → firsts es ≡ us → firsts (cond b (e ∷ es) es) ≡ cond b (e.0 ∷ us) us
+firsts_kept true e es us same = ap (λ vs. e.0 ∷ vs) same
+firsts_kept false e es us same = same
+
+pub firsts-filter : (test : ℕ → Bool) (es : List (ℕ × ℤ)) → firsts (filter (λ e. test e.0) es) ≡ filter test (firsts es)
+firsts-filter test [] = refl
+firsts-filter test (e ∷ es) = firsts_kept (test e.0) e (filter (λ e. test e.0) es) (filter test (firsts es)) (firsts-filter test es)
+
+-- entries in two parts
+pub unit_parts : (n : ℕ) (ks : List ℕ) → entries_of (take n ks) [] ++ entries_of (drop n ks) [] ≡ entries_of ks []
+unit_parts zero ks = refl
+unit_parts (suc n) [] = refl
+unit_parts (suc n) (k ∷ ks) = ap (λ es. (k, unit_weight) ∷ es) (unit_parts n ks)
+
+pub entries_parts : (n : ℕ) (ks : List ℕ) (ws : List ℤ) → length ws ≡ length ks → entries_of (take n ks) (take n ws) ++ entries_of (drop n ks) (drop n ws) ≡ entries_of ks ws
+entries_parts zero ks ws same = refl
+entries_parts (suc n) [] [] same = refl
+entries_parts (suc n) [] (w ∷ ws) same = absurd (omega (arith, same))
+entries_parts (suc n) (k ∷ ks) [] same = absurd (omega (arith, same))
+entries_parts (suc n) (k ∷ ks) (w ∷ ws) same = ap (λ es. (k, w) ∷ es) (entries_parts n ks ws (omega (arith, same)))
+
+-- what is given on an edge is the same with any weight
+pub all_weightless : (m : StateValue) (steps : List StepsTree) → AreWeightless m steps → (e : Edge) → all_given m steps e ≡ all_given m steps (unit_edge (e.0, e.1))
+all_weightless m [] are e = refl
+all_weightless m (s ∷ ss) are e =
+    ap (λ (gs : List (ℕ × Reduction × ℤ)). gs ++ all_given m ss e) (are.0 e)
+    ∙ ap (λ (gs : List (ℕ × Reduction × ℤ)). given_in m s (unit_edge (e.0, e.1)) ++ gs) (all_weightless m ss are.1 e)
+
+-- so it is on the edges of a row, and on those of a column
+unit_row : (x s : ℕ) (g : Edge → List (ℕ × Reduction × ℤ)) → ((e : Edge) → g e ≡ g (unit_edge (e.0, e.1))) → (es : List (ℕ × ℤ))
+    → given_on x g (row s (entries_of (firsts es) [])) ≡ given_on x g (row s es)
+unit_row x s g same [] = refl
+unit_row x s g same (e ∷ es) =
+    ap (λ (gs : List (ℕ × Reduction × ℤ)). for_vector x e.0 gs ++ given_on x g (row s (entries_of (firsts es) []))) (sym (same (s, e.0, e.1)))
+    ∙ ap (λ (gs : List (ℕ × ℤ)). for_vector x e.0 (g (s, e.0, e.1)) ++ gs) (unit_row x s g same es)
+
+pub weightless_row : (x s : ℕ) (m : StateValue) (steps : List StepsTree) (ds : List ℕ) (es : List (ℕ × ℤ)) → AreWeightless m steps → firsts es ≡ ds
+    → given_on x (all_given m steps) (row s (entries_of ds [])) ≡ given_on x (all_given m steps) (row s es)
+weightless_row x s m steps ds es are keys =
+    ap (λ (us : List ℕ). given_on x (all_given m steps) (row s (entries_of us []))) (sym keys) ∙ unit_row x s (all_given m steps) (all_weightless m steps are) es
+
+unit_column : (x d : ℕ) (g : Edge → List (ℕ × Reduction × ℤ)) → ((e : Edge) → g e ≡ g (unit_edge (e.0, e.1))) → (es : List (ℕ × ℤ))
+    → given_on x g (column d (entries_of (firsts es) [])) ≡ given_on x g (column d es)
+unit_column x d g same [] = refl
+unit_column x d g same (e ∷ es) =
+    ap (λ (gs : List (ℕ × Reduction × ℤ)). for_vector x d gs ++ given_on x g (column d (entries_of (firsts es) []))) (sym (same (e.0, d, e.1)))
+    ∙ ap (λ (gs : List (ℕ × ℤ)). for_vector x d (g (e.0, d, e.1)) ++ gs) (unit_column x d g same es)
+
+pub weightless_column : (x d : ℕ) (m : StateValue) (steps : List StepsTree) (ss : List ℕ) (es : List (ℕ × ℤ)) → AreWeightless m steps → firsts es ≡ ss
+    → given_on x (all_given m steps) (column d (entries_of ss [])) ≡ given_on x (all_given m steps) (column d es)
+weightless_column x d m steps ss es are keys =
+    ap (λ (us : List ℕ). given_on x (all_given m steps) (column d (entries_of us []))) (sym keys) ∙ unit_column x d (all_given m steps) (all_weightless m steps are) es

@@ -1,0 +1,30 @@
+use Rattle.std.proofs.Common.{◌≡◌, ◌+◌, ◌-◌, ◌*◌, length, drop, ◌∙◌, ap, arith}
+use Rattle.std.proofs.lemmas.Grind.{common_steps}
+use Rattle.pages.specs.inside.Weights.{weight_size, weights_from}
+use Rattle.pages.proofs.Decoding.{weights_room, weights_are}
+use Rattle.pages.proofs.neighbours.Neighbours.fill_weights_from.Goals as goal
+
+pub overflow_mul-start-2 : goal.overflow_mul-start-2
+overflow_mul-start-2 c =
+    let l = c.self.inside in
+    let place : c.size.result * c.args.from ≡ weight_size l.weights * c.args.from = ap (λ s. s * c.args.from) c.size.ensures.size in
+    omega (arith, place, c.self.told, weights_room l.first l.width l.mask l.len l.weights l.offsets.now c.args.self.now c.self.invariant c.self.view_is c.args.from (length c.args.block.now) (grind (arith, common_steps)) c.requires)
+
+pub overflow_add-start : goal.overflow_add-start
+overflow_add-start c =
+    let l = c.self.inside in
+    let place : c.size.result * c.args.from ≡ weight_size l.weights * c.args.from = ap (λ s. s * c.args.from) c.size.ensures.size in
+    omega (arith, place, c.self.told, weights_room l.first l.width l.mask l.len l.weights l.offsets.now c.args.self.now c.self.invariant c.self.view_is c.args.from (length c.args.block.now) (grind (arith, common_steps)) c.requires)
+
+pub fill_weights-requires : goal.fill_weights-requires
+fill_weights-requires c =
+    let l = c.self.inside in
+    let place : c.size.result * c.args.from ≡ weight_size l.weights * c.args.from = ap (λ s. s * c.args.from) c.size.ensures.size in
+    omega (arith, place, weights_room l.first l.width l.mask l.len l.weights l.offsets.now c.args.self.now c.self.invariant c.self.view_is c.args.from (length c.args.block.now) (grind (arith, common_steps)) c.requires)
+
+pub returns : goal.returns
+returns c =
+    let l = c.self.inside in
+    let place : c.size.result * c.args.from ≡ weight_size l.weights * c.args.from = ap (λ s. s * c.args.from) c.size.ensures.size in
+    c.fill_weights.ensures ∙ ap (λ p. weights_from l.weights (length c.args.block.now) (drop (l.width * (l.len - 1) + p) l.offsets.now)) place
+    ∙ weights_are l.first l.width l.mask l.len l.weights l.offsets.now c.args.self.now c.self.invariant c.self.view_is c.args.from (length c.args.block.now) c.requires

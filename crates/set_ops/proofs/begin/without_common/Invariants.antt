@@ -1,0 +1,11 @@
+use Rattle.std.proofs.Common.{◌≡◌, ◌++◌, length, drop}
+use Rattle.std.specs.List.{zip}
+use Rattle.std.specs.Map.{keys_of}
+use Rattle.ascending_lists.specs.MapOperations.{without_keys}
+use Rattle.set_ops.proofs.begin.without_common.Given as goal
+
+abbrev pub invariant-loop-place : goal.invariant-loop-place
+invariant-loop-place l = record {
+  columns : length l.weights.items ≡ length l.keys.items;
+  whole : zip l.keys.items l.weights.items ++ without_keys (drop l.place l.first) (keys_of l.second.entries) ≡ without_keys l.first (keys_of l.second.entries);
+}

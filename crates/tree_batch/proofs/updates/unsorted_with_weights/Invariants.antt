@@ -1,0 +1,13 @@
+use Rattle.std.proofs.Common.{◌≡◌, ◌≤◌, length, take, vec_len}
+use Rattle.std.specs.Vec.{vec_capacity}
+use Rattle.weighted_updates.specs.WeightedUpdates.{decided_weight, pairs_in}
+use Rattle.tree_batch.specs.Edge.{Ends}
+use Rattle.tree_batch.specs.Entry.{decision}
+use Rattle.tree_batch.proofs.updates.unsorted_with_weights.Given as goal
+
+abbrev pub invariant-loop-entry : goal.invariant-loop-entry
+invariant-loop-entry l = record {
+  same : (p : Ends) → decided_weight (pairs_in l.updates.items) p ≡ decision (take l.entry-index l.entries) p;
+  len : vec_len l.updates ≤ l.entry-index;
+  room : length l.entries ≤ vec_capacity l.updates;
+}

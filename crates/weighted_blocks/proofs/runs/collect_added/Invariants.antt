@@ -1,6 +1,0 @@
-use Rattle.std.proofs.Common.{◌≡◌, ◌++◌, drop}
-use Rattle.weighted_blocks.specs.inside.Runs.{added_in}
-use Rattle.weighted_blocks.proofs.runs.collect_added.Given as goal
-
-abbrev pub invariant-loop-index : goal.invariant-loop-index
-invariant-loop-index l = l.added ++ added_in (drop l.index l.updates) ≡ added_in l.updates

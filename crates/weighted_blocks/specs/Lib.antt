@@ -1,4 +1,0 @@
-pub mod Blocks
-pub mod Forms
-pub mod Changes
-pub mod inside

@@ -1,6 +1,0 @@
--- What the code is made of: no public contract cites these definitions.
-pub mod Sets
-pub mod Joined
-pub mod Walks
-pub mod Steps
-pub mod Runs

@@ -1,7 +1,0 @@
-use Rattle.std.proofs.Common.{[], sym, subst}
-use Rattle.weighted_fold.specs.Held.{AreJoined}
-use Rattle.weighted_fold.specs.declared.initial_entries.InitialEntries.{InitialEntries}
-use Rattle.weighted_fold.proofs.accumulator.Accumulator.fill.Goals as goal
-
-pub returns-in-Entries : goal.returns-in-Entries
-returns-in-Entries c r = subst (λ (o : InitialEntries). AreJoined o r c.args.self.now c.fill_from.new.self []) (sym c.in-Entries.is) (c.fill_from.ensures r)

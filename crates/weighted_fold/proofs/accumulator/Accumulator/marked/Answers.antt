@@ -1,5 +1,0 @@
-use Rattle.weighted_fold.proofs.Findings.{never_falls}
-use Rattle.weighted_fold.proofs.accumulator.Accumulator.marked.Goals as goal
-
-pub returns-clause-ascending : goal.returns-clause-ascending
-returns-clause-ascending c = never_falls c.in_ok-found.found.items c.in_ok-found.ensures.ascending

@@ -1,5 +1,0 @@
-use Rattle.weighted_graphs.proofs.Listed.{neighbour_lists}
-use Rattle.weighted_graphs.proofs.edges.EdgeIter.new.Goals as goal
-
-pub invariant_of-result : goal.invariant_of-result
-invariant_of-result c = rw c.new.ensures (neighbour_lists c.args.blocks.now.entries c.requires.blocks)

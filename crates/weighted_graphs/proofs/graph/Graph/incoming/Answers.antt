@@ -1,7 +1,0 @@
-use Rattle.weighted_graphs.proofs.BlocksOf.{source_blocks}
-use Rattle.weighted_graphs.proofs.graph.Graph.incoming.Goals as goal
-
-pub returns : goal.returns
-returns c =
-    let g = c.self.inside in
-    rw (c.iter.ensures.entries, ← c.self.view_is) (record { blocks = source_blocks g.vertices g.edge_count g.outgoing.entries g.incoming.entries c.self.invariant })

@@ -1,6 +1,0 @@
-use Rattle.std.proofs.Common.{rules}
-use Rattle.weighted_graphs.proofs.Neighbourhoods.{size_is}
-use Rattle.weighted_graphs.proofs.graph.Graph.new.Goals as goal
-
-pub returns : goal.returns
-returns c = (search rules, size_is c.args.chunk_size c.in-Ok.ensures.0, search rules)

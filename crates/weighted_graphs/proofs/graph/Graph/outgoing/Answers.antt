@@ -1,7 +1,0 @@
-use Rattle.weighted_graphs.proofs.BlocksOf.{destination_blocks}
-use Rattle.weighted_graphs.proofs.graph.Graph.outgoing.Goals as goal
-
-pub returns-clause-blocks : goal.returns-clause-blocks
-returns-clause-blocks c =
-    let g = c.self.inside in
-    rw (c.iter.ensures.entries, ← c.self.view_is) (destination_blocks g.vertices g.edge_count g.outgoing.entries g.incoming.entries c.self.invariant)

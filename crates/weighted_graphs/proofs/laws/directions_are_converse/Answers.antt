@@ -1,8 +1,0 @@
-use Rattle.weighted_graphs.proofs.Columns.{destination_weight, source_weight}
-use Rattle.weighted_graphs.proofs.laws.directions_are_converse.Goals as goal
-
-pub returns-clause-out : goal.returns-clause-out
-returns-clause-out c = destination_weight
-
-pub returns-clause-into : goal.returns-clause-into
-returns-clause-into c = source_weight

@@ -1,6 +1,0 @@
-use Rattle.std.proofs.Common.{◌∙◌}
-use Rattle.weighted_graphs.proofs.UnitWeights.{same_units}
-use Rattle.weighted_graphs.proofs.updates.unweighted_updates_forked.Goals as goal
-
-pub returns-clause-same : goal.returns-clause-same
-returns-clause-same g c = λ p. same_units c.in_ok-updates.updates.items c.keep_last.new.updates.items p p (c.keep_last.ensures.same p ∙ c.in_ok-sort_forked.ensures.same p) ∙ c.in_ok-updates.ensures p

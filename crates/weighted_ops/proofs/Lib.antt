@@ -1,4 +1,0 @@
-pub mod Cutting
-pub mod Laws
-pub mod Combining
-pub mod Crossing

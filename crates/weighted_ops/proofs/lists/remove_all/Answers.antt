@@ -1,6 +1,0 @@
-use Rattle.std.proofs.Common.{None}
-use Rattle.weighted_tails.proofs.Columns.{keys_in}
-use Rattle.weighted_ops.proofs.lists.remove_all.Goals as goal
-
-pub returns : goal.returns
-returns c = rw (c.of_keys.ensures, keys_in c.args.keys.now None tt) at c.with_list.ensures

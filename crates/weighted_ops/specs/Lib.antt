@@ -1,4 +1,0 @@
-pub mod Outcome
-pub mod Refusal
-pub mod Answers
-pub mod Halving

@@ -1,6 +1,0 @@
-use Rattle.std.proofs.Common.{refl}
-use Rattle.weighted_pages.proofs.Building.{same_pages}
-use Rattle.weighted_pages.proofs.laws.pages_are_their_lists.Goals as goal
-
-pub returns : goal.returns
-returns c = λ p q is is'. same_pages 64 p q refl is.map is.packed is'.map is'.packed

@@ -1,7 +1,0 @@
-use Rattle.weighted_pages.proofs.Storing.{is_page}
-use Rattle.weighted_pages.proofs.page.Page.index.Goals as goal
-
-pub returns-clause-page : goal.returns-clause-page
-returns-clause-page c =
-    let p = c.self.inside in
-    rw (← c.self.view_is) (is_page p.present p.bytes.items p.entries.items c.self.invariant)

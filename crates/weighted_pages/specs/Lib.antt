@@ -1,4 +1,0 @@
-pub mod Vertices
-pub mod Updates
-pub mod Keys
-pub mod inside

@@ -1,9 +1,0 @@
-use Rattle.std.proofs.Common.{length, sym, ◌∙◌, ap}
-use Rattle.std.specs.Option.{option_copied}
-use Rattle.weighted_tails.proofs.Columns.{length_in}
-use Rattle.weighted_tails.proofs.entries.Entries.len.Goals as goal
-
-pub returns : goal.returns
-returns c =
-    let e = c.self.inside in
-    sym (length_in e.keys.now (option_copied e.weights) c.self.invariant) ∙ ap length c.self.view_is

@@ -1,6 +1,0 @@
-use Rattle.ascending_lists.specs.Ascending.{least}
-use Rattle.weighted_tails.proofs.Lists.{same_list}
-use Rattle.weighted_tails.proofs.laws.bytes_spell_one_list.Goals as goal
-
-pub returns : goal.returns
-returns c = λ base xs ys bytes one other. same_list (least base) xs ys bytes one other

@@ -1,7 +1,0 @@
-use Rattle.weighted_trees.proofs.Chunking.{one_prefix}
-use Rattle.weighted_trees.proofs.ctree.CTree.prefix.Goals as goal
-
-pub returns : goal.returns
-returns c =
-    let s = c.args.self.now in
-    one_prefix s.chunk_size s.entries _ _ c.parts.ensures.chunked

@@ -1,5 +1,0 @@
-use Rattle.std.proofs.Common.{length}
-use Rattle.weighted_trees.proofs.view.View.+cut.Given as goal
-
-abbrev pub decreases-cut : goal.decreases-cut
-decreases-cut l = length l.self.now.entries

@@ -1,8 +1,0 @@
-pub mod Heads
-pub mod Chunks
-pub mod Parts
-pub mod Outcome
-pub mod Refusal
-pub mod Cutting
-pub mod Blocks
-pub mod Spelled
