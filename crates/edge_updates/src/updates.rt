@@ -44,6 +44,14 @@ impl<'a> Updates<'a> {
         Updates::new(self.updates, self.weights)
     }
 
+    /// The updates and the column of their weights, as they are lent. It takes constant time.
+    #[inline]
+    pub fn columns(&self) -> (&'a [EdgeUpdate], &'a [i64])
+        ensures { weighted result.0.now result.1.now ≡ self.now }
+    {
+        (self.updates, self.weights)
+    }
+
     /// How many updates there are. It takes constant time.
     #[inline]
     pub fn len(&self) -> usize
