@@ -1,16 +1,16 @@
 -- Vertices of blocks by their numbers in a graph.
-use Rattle.std.proofs.Common.{◌≡◌, ◌≢◌, ℕ, zero, suc, ◌+◌, ◌*◌, ◌/◌, ◌%◌, ◌<◌, ◌≤◌, inl, inr, Option, List, [], ◌∷◌, ◌++◌, length, get_or, refl, sym, ◌∙◌, ap, subst, arith}
+use Rattle.std.proofs.Common.{◌≡◌, ◌≢◌, ℕ, ℤ, zero, suc, ◌+◌, ◌*◌, ◌/◌, ◌%◌, ◌<◌, ◌≤◌, inl, inr, Option, List, [], ◌∷◌, ◌++◌, length, get_or, refl, sym, ◌∙◌, ap, subst, arith}
 use Rattle.std.proofs.lemmas.Bool.{cases_eq, ne_eqb, eq-eqb}
 use Rattle.std.proofs.lemmas.List.{append_assoc, append-nil}
 use Rattle.ascending_lists.specs.Maps.{Rises}
 use Rattle.ascending_lists.proofs.MapOrder.{rises_append, rises_to, rises_room}
-use Rattle.pages.specs.Vertices.{Rises as Climbs, neighbours_of}
+use Rattle.pages.specs.Vertices.{neighbours_of}
 use Rattle.vertex_blocks.specs.Blocks.{Block, IsBlock, AreNeighbourLists, vertices_at, numbered}
 use Rattle.tree_batch.specs.VertexBlocks.{HaveFew}
 use Rattle.flat_snapshot.specs.Lists.{lists_in, AreBlocks}
 
 -- the vertices of a block rise
-pub numbered_rises : (k low high : ℕ) (es : Block) → Climbs low high es → Rises (64 * k + low) (64 * k + high) (numbered k es)
+pub numbered_rises : (k low high : ℕ) (es : Block) → Rises low high es → Rises (64 * k + low) (64 * k + high) (numbered k es)
 numbered_rises k low high [] s = omega (arith, s)
 numbered_rises k low high (e ∷ es) s =
     (omega (arith, s.0), subst (λ a. Rises a (64 * k + high) (numbered k es)) (omega arith) (numbered_rises k (e.0 + 1) high es s.1))
@@ -27,21 +27,21 @@ rises_in k (b ∷ bs) are =
     (omega arith)
 
 -- a vertex below all others has no list
-pub none_below : (u a h : ℕ) (es : List (ℕ × List ℕ)) → Rises a h es → u < a → neighbours_of u es ≡ []
+pub none_below : (u a h : ℕ) (es : List (ℕ × List (ℕ × ℤ))) → Rises a h es → u < a → neighbours_of u es ≡ []
 none_below u a h [] s lt = refl
 none_below u a h (e ∷ es) s lt =
     let other : e.0 ≢ u = omega (arith, s.0) in
     rw (ne_eqb e.0 u other) (none_below u (e.0 + 1) h es s.1 (omega (arith, s.0)))
 
 -- what is behind lists above a vertex makes no difference to it, nor does what is before lists below it
-above_all : (u a h : ℕ) (l r : List (ℕ × List ℕ)) → Rises a h r → u < a → neighbours_of u (l ++ r) ≡ neighbours_of u l
+above_all : (u a h : ℕ) (l r : List (ℕ × List (ℕ × ℤ))) → Rises a h r → u < a → neighbours_of u (l ++ r) ≡ neighbours_of u l
 above_all u a h [] r s lt = none_below u a h r s lt
 above_all u a h (e ∷ l) r s lt = elim (cases_eq e.0 u) [
   | inl at ↦ rw (eq-eqb e.0 u at) refl
   | inr other ↦ rw (ne_eqb e.0 u other) (above_all u a h l r s lt)
 ]
 
-below_all : (u a h : ℕ) (l r : List (ℕ × List ℕ)) → Rises a h l → h ≤ u → neighbours_of u (l ++ r) ≡ neighbours_of u r
+below_all : (u a h : ℕ) (l r : List (ℕ × List (ℕ × ℤ))) → Rises a h l → h ≤ u → neighbours_of u (l ++ r) ≡ neighbours_of u r
 below_all u a h [] r s le = refl
 below_all u a h (e ∷ l) r s le =
     let other : e.0 ≢ u = omega (arith, rises_room (e.0 + 1) h l s.1) in
@@ -70,7 +70,7 @@ list_in v k (suc i) (b ∷ bs) d are at lt =
     ∙ list_in v (k + 1) i bs d are.1 (omega (arith, at)) (omega (arith, lt))
 
 -- a vertex behind all blocks has none
-pub none_above : (u a h : ℕ) (es : List (ℕ × List ℕ)) → Rises a h es → h ≤ u → neighbours_of u es ≡ []
+pub none_above : (u a h : ℕ) (es : List (ℕ × List (ℕ × ℤ))) → Rises a h es → h ≤ u → neighbours_of u es ≡ []
 none_above u a h [] s le = refl
 none_above u a h (e ∷ es) s le =
     let other : e.0 ≢ u = omega (arith, rises_room (e.0 + 1) h es s.1) in
@@ -91,7 +91,7 @@ blocks_more [] b are is = (is, tt)
 blocks_more (x ∷ bs) b are is = (are.0, blocks_more bs b are.1 is)
 
 -- each vertex of blocks has neighbours
-pub numbered_lists : (k : ℕ) (es : Block) (rest : List (ℕ × List ℕ)) → AreNeighbourLists es → AreNeighbourLists rest → AreNeighbourLists (numbered k es ++ rest)
+pub numbered_lists : (k : ℕ) (es : Block) (rest : List (ℕ × List (ℕ × ℤ))) → AreNeighbourLists es → AreNeighbourLists rest → AreNeighbourLists (numbered k es ++ rest)
 numbered_lists k [] rest are more = more
 numbered_lists k (e ∷ es) rest are more = (are.0, numbered_lists k es rest are.1 more)
 
@@ -100,7 +100,7 @@ lists_in_are k [] are = tt
 lists_in_are k (b ∷ bs) are = numbered_lists k (vertices_at b) (lists_in (k + 1) bs) are.0.lists (lists_in_are (k + 1) bs are.1)
 
 -- there are few in the list of a vertex where there are few in each
-pub few_at : (u : ℕ) (es : List (ℕ × List ℕ)) → HaveFew es → length (neighbours_of u es) ≤ 16777216
+pub few_at : (u : ℕ) (es : List (ℕ × List (ℕ × ℤ))) → HaveFew es → length (neighbours_of u es) ≤ 16777216
 few_at u [] few = omega arith
 few_at u (e ∷ es) few = elim (cases_eq e.0 u) [
   | inl at ↦ rw (eq-eqb e.0 u at) few.0

@@ -1,5 +1,5 @@
 -- Lists of neighbours, and what a graph says of them.
-use Rattle.std.proofs.Common.{◌≡◌, ℕ, zero, suc, ◌+◌, ◌*◌, ◌<◌, ◌^◌, inl, inr, List, [], ◌∷◌, length, unwrap_or, refl, sym, ◌∙◌, ap, subst, arith}
+use Rattle.std.proofs.Common.{◌≡◌, ℕ, ℤ, zero, suc, ◌+◌, ◌*◌, ◌<◌, ◌^◌, inl, inr, List, [], ◌∷◌, length, unwrap_or, refl, sym, ◌∙◌, ap, subst, arith}
 use Rattle.std.specs.List.{All}
 use Rattle.std.proofs.lemmas.Bool.{cases_eq, ne_eqb, eq-eqb}
 use Rattle.ascending_lists.specs.Maps.{Rises, lookup}
@@ -13,7 +13,7 @@ use Rattle.flat_snapshot.specs.Lists.{degrees_of}
 use Rattle.flat_snapshot.specs.FlatEdges.{AreDegreesOf, IsFlat}
 use Rattle.flat_snapshot.proofs.Numbered.{numbered_rises, numbered_lists}
 
-rises_degrees : (a h : ℕ) (es : List (ℕ × List ℕ)) → Rises a h es → Rises a h (degrees_of es)
+rises_degrees : (a h : ℕ) (es : List (ℕ × List (ℕ × ℤ))) → Rises a h es → Rises a h (degrees_of es)
 rises_degrees a h [] s = s
 rises_degrees a h (e ∷ es) s = (s.0, rises_degrees (e.0 + 1) h es s.1)
 
@@ -26,7 +26,7 @@ rises_lists a h (b ∷ bs) s are =
     rises_from (64 * a) (64 * b.0) (64 * h) (lists_of (b ∷ bs)) (omega (arith, s.0))
     (rises_append (64 * b.0) (64 * b.0 + 64) (64 * h) (numbered b.0 b.1) (lists_of bs) front back)
 
-degrees_lengths : (u : ℕ) (es : List (ℕ × List ℕ)) → unwrap_or (lookup u (degrees_of es)) 0 ≡ length (neighbours_of u es)
+degrees_lengths : (u : ℕ) (es : List (ℕ × List (ℕ × ℤ))) → unwrap_or (lookup u (degrees_of es)) 0 ≡ length (neighbours_of u es)
 degrees_lengths u [] = refl
 degrees_lengths u (e ∷ es) = elim (cases_eq e.0 u) [
   | inl at ↦ rw (eq-eqb e.0 u at) refl
@@ -42,13 +42,13 @@ pub lists_are : (bs : List (ℕ × Block)) → AreBlocks bs → AreNeighbourList
 lists_are [] are = tt
 lists_are (b ∷ bs) are = numbered_lists b.0 b.1 (lists_of bs) are.0.lists (lists_are bs are.2)
 
-some_degrees : (es : List (ℕ × List ℕ)) → AreNeighbourLists es → All (λ d. 0 < d.1) (degrees_of es)
+some_degrees : (es : List (ℕ × List (ℕ × ℤ))) → AreNeighbourLists es → All (λ d. 0 < d.1) (degrees_of es)
 some_degrees [] are k d lt = absurd (omega arith)
 some_degrees (e ∷ es) are zero d lt = are.0.some
 some_degrees (e ∷ es) are (suc k) d lt = some_degrees es are.1 k d (omega arith)
 
 -- the degrees of vertices in blocks
-pub degrees_made : (neighbours : ℕ → List ℕ) (bs : List (ℕ × Block)) → AreBlocksOf neighbours bs → AreDegreesOf neighbours (degrees_of (lists_of bs))
+pub degrees_made : (neighbours : ℕ → List (ℕ × ℤ)) (bs : List (ℕ × Block)) → AreBlocksOf neighbours bs → AreDegreesOf neighbours (degrees_of (lists_of bs))
 degrees_made neighbours bs are = record {
   map = rises_degrees 0 (2 ^ 32) (lists_of bs) (rises_to 0 (64 * 2 ^ 18) (2 ^ 32) (lists_of bs) (rises_lists 0 (2 ^ 18) bs are.map are.blocks) (omega arith));
   some = some_degrees (lists_of bs) (lists_are bs are.blocks);

@@ -16,7 +16,7 @@ use std::marker::Model;
 use vertex_blocks::{NeighbourSet, VertexBlock};
 
 /// The neighbours of all vertices in one direction. A contract sees the vertices that have some,
-/// ascending, each with the list of them.
+/// ascending, each with the list of them and their weights.
 pub(crate) struct Adjacency {
     /// The block of the vertices from `64 * k` on at the index `k`, if one of them has neighbours.
     blocks: Vec<Option<VertexBlock>>,
@@ -30,11 +30,11 @@ impl Drop for Adjacency {
 }
 
 impl Model for Adjacency {
-    ghost use Rattle.std.specs.Prelude.{ℕ, List, ◌≤◌, ◌^◌, length};
+    ghost use Rattle.std.specs.Prelude.{ℕ, ℤ, List, ◌≤◌, ◌^◌, length};
     ghost use Rattle.tree_batch.specs.VertexBlocks.{HaveFew};
     ghost use Rattle.flat_snapshot.specs.Lists.{lists_in, AreBlocks as AreInPlace};
 
-    ghost Value = { List (ℕ × List ℕ) };
+    ghost Value = { List (ℕ × List (ℕ × ℤ)) };
 
     ghost view = { λ a. lists_in 0 a.blocks.items };
 

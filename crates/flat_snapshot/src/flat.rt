@@ -72,7 +72,7 @@ impl Flat {
         })
     }
 
-    /// The destinations of the edges from a vertex, ascending. A number that is no vertex has none.
+    /// The destinations of the edges from a vertex, ascending, each with the weight of its edge. A number that is no vertex has none.
     /// A look-up takes constant time and no memory.
     #[inline]
     pub fn out(&self, source: u32) -> NeighbourIter<'_>
@@ -81,7 +81,7 @@ impl Flat {
         self.outgoing.neighbours(source).iter()
     }
 
-    /// The sources of the edges to a vertex, ascending. A number that is no vertex has none. A
+    /// The sources of the edges to a vertex, ascending, each with the weight of its edge. A number that is no vertex has none. A
     /// look-up takes constant time and no memory.
     #[inline]
     pub fn in_(&self, destination: u32) -> NeighbourIter<'_>

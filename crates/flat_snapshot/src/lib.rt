@@ -1,8 +1,8 @@
 //! A graph's neighbours in arrays of blocks, for runs that look them up again and again.
 //!
 //! A contract sees a [`Flat`] as it sees a graph: its number of vertices and the ascending list of
-//! its edges. `Flat::of` makes the flat of a graph. `out` and `in_` give the neighbours of a vertex
-//! in both directions, ascending, one by one or many at once; `out_degree` and `in_degree` give their
+//! its edges with their weights. `Flat::of` makes the flat of a graph. `out` and `in_` give the neighbours
+//! of a vertex in both directions, ascending, with the weights, one by one or many at once; `out_degree` and `in_degree` give their
 //! number. `sources` and `destinations` go over the vertices that have edges. None of these takes
 //! memory.
 //!
