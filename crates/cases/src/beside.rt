@@ -11,31 +11,35 @@ use std::io;
 use std::io::ErrorKind;
 use tree_batch::{Batch, Entry, Graph};
 
-/// The edges of a graph, ascending, and its number of vertices.
-type Edges = (u32, &'static [(u32, u32)]);
+/// The edges of a graph with their weights, ascending, and its number of vertices.
+type Edges = (u32, &'static [(u32, u32, i64)]);
 
-/// A vertex alone; two that are tied; a fork that comes together; circles, a self loop and a hub.
+/// A vertex alone; two that are tied; a fork that comes together; circles, a self loop and a hub. Weights are small,
+/// negative, the least and the greatest.
 const GRAPHS: &[Edges] = &[
     (1, &[]),
-    (2, &[(0, 0), (0, 1), (1, 0)]),
-    (6, &[(0, 1), (0, 2), (1, 3), (2, 3), (3, 4)]),
+    (2, &[(0, 0, 1), (0, 1, 0), (1, 0, i64::MAX)]),
+    (
+        6,
+        &[(0, 1, 5), (0, 2, 9), (1, 3, 1), (2, 3, -7), (3, 4, 256)],
+    ),
     (
         9,
         &[
-            (0, 1),
-            (1, 0),
-            (1, 2),
-            (2, 1),
-            (3, 3),
-            (3, 4),
-            (4, 5),
-            (5, 3),
-            (8, 0),
-            (8, 1),
-            (8, 2),
-            (8, 3),
-            (8, 5),
-            (8, 6),
+            (0, 1, 1),
+            (1, 0, 1),
+            (1, 2, 1),
+            (2, 1, 1),
+            (3, 3, -1),
+            (3, 4, 70_000),
+            (4, 5, i64::MIN),
+            (5, 3, 2),
+            (8, 0, 1),
+            (8, 1, 255),
+            (8, 2, -256),
+            (8, 3, 1),
+            (8, 5, 1 << 32),
+            (8, 6, 0),
         ],
     ),
 ];
@@ -81,10 +85,10 @@ fn add_on_graph(
 }
 
 // A graph of so many vertices with these edges.
-fn graph_of(alloc: Global, vertices: u32, edges: &[(u32, u32)]) -> io::Result<Flat> {
+fn graph_of(alloc: Global, vertices: u32, edges: &[(u32, u32, i64)]) -> io::Result<Flat> {
     let mut batch = Batch::new(alloc);
-    for (source, destination) in edges {
-        if batch.push(Entry::Add(*source, *destination)).is_err() {
+    for (source, destination, weight) in edges {
+        if batch.push(Entry::Add(*source, *destination, *weight)).is_err() {
             return Err(io::Error::from(ErrorKind::OutOfMemory));
         }
     }

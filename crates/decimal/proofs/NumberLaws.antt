@@ -1,13 +1,17 @@
 -- Laws of the numbers that digits stand for.
-use Rattle.std.proofs.Common.{◌≡◌, ℕ, ◌+◌, ◌-◌, ◌*◌, ◌^◌, ◌<◌, ◌≤◌, ◌&&◌, true, false, List, [], ◌∷◌, ◌++◌, Some, None, length, take, replicate, get_or, decimal, zero, suc, refl, ◌∙◌, ap, arith, rules, length-append}
+use Rattle.std.proofs.Common.{◌≡◌, ℕ, ℤ, pos, negsuc, neg_ℤ, drop, FitsSigned, sym, subst, inl, inr, ◌+◌, ◌-◌, ◌*◌, ◌^◌, ◌<◌, ◌≤◌, ◌&&◌, true, false, List, [], ◌∷◌, ◌++◌, Some, None, length, take, replicate, get_or, decimal, zero, suc, refl, ◌∙◌, ap, arith, rules, length-append}
 use Rattle.std.specs.Char.{is_ascii_digit}
+use Rattle.std.specs.Fmt.{signed_decimal}
+use Rattle.std.specs.Int.{w64}
+use Rattle.std.specs.Option.{option_map}
 use Rattle.std.specs.Str.{all_ascii_digits}
 use Rattle.std.proofs.Math.Nat.{one-le-pow, mul-le-mul_left}
+use Rattle.std.proofs.lemmas.Bool.{cases_eq, ne_eqb, false≢true}
 use Rattle.std.proofs.lemmas.Fmt.{digits_decimal, digits_value-decimal, decimal_nonempty}
-use Rattle.std.proofs.lemmas.List.{take_more}
+use Rattle.std.proofs.lemmas.List.{drop_more, take-append-drop, take_more}
 use Rattle.std.proofs.lemmas.Nat.{pow-add}
 use Rattle.std.proofs.lemmas.Str.Parse.{IsNumeralModel, numerals_by_weight, tells_all_ascii_digits}
-use Rattle.decimal.specs.Numbers.{value_of, number_of, IsReadBack}
+use Rattle.decimal.specs.Numbers.{value_of, number_of, integer_of, IsReadBack}
 use Rattle.decimal.specs.Digits.{BeginsWithDigits, AreLeadingDigits}
 
 -- the words of this crate are std's words for digits and their value
@@ -84,3 +88,40 @@ too_large bytes i number within front digit large = (
   (omega arith, digits_more bytes i within front.0.1 digit),
   omega (arith, value_more bytes i within),
 )
+
+-- a word that begins with digits for 2 ^ 64 or more is no number below it
+pub number_of-overflow : (word : List ℕ) → AreLeadingDigits word None → number_of (2 ^ 64) word ≡ None
+number_of-overflow word (len, begins, large) =
+    number_of-large (2 ^ 64) word (subst (λ bytes. 2 ^ 64 ≤ value_of bytes) (take-append-drop len word) (value_of-longer (2 ^ 64) (take len word) (drop len word) large))
+
+-- nor is one with another byte behind its digits
+pub number_of-ended : (limit : ℕ) (word : List ℕ) (len : ℕ) → len < length word → is_ascii_digit (get_or word len 0) ≡ false → number_of limit word ≡ None
+number_of-ended limit word len within other =
+    ap (number_of limit) (sym (take-append-drop len word))
+    ∙ ap (λ rest. number_of limit (take len word ++ rest)) (drop_more word len 0 within)
+    ∙ number_of-other limit (get_or word len 0) (take len word) (drop (len + 1) word) other
+
+-- nor is one that begins with no digit
+pub number_of-begun : (limit : ℕ) (word : List ℕ) (len : ℕ) → len ≡ 0 → (len < length word → is_ascii_digit (get_or word len 0) ≡ false) → number_of limit word ≡ None
+number_of-begun limit [] len none other = refl
+number_of-begun limit (b ∷ word) len none other =
+    let within : len < length (b ∷ word) = omega (arith, none) in
+    number_of-ended limit (b ∷ word) len within (other within)
+
+-- digits without a sign are read as a number
+integer_of-digits : (word : List ℕ) → 0 < length word → all_ascii_digits word ≡ true → integer_of word ≡ option_map pos (number_of (2 ^ 63) word)
+integer_of-digits [] some digits = absurd (omega (arith, some))
+integer_of-digits (first ∷ rest) some digits = elim (cases_eq first 45) [
+  | inl sign ↦ absurd (false≢true (rw sign at digits))
+  | inr other ↦ rw (ne_eqb first 45 other) refl
+]
+
+-- digits that are written for an integer are read as it
+pub integer-read_back : (n : ℤ) → FitsSigned w64 n → integer_of (signed_decimal n) ≡ Some n
+integer-read_back (pos n) fits =
+    let small : n < 2 ^ 63 = omega (arith, fits) in
+    integer_of-digits (decimal n) (decimal_nonempty n (omega (arith, small))) (digits_decimal digits_model n (omega (arith, small)))
+    ∙ ap (option_map pos) (decimal-IsReadBack (2 ^ 63) n small (omega (arith, small)) 0)
+integer-read_back (negsuc n) fits =
+    let small : suc n < 2 ^ 63 + 1 = omega (arith, fits) in
+    ap (option_map (λ k. neg_ℤ (pos k))) (decimal-IsReadBack (2 ^ 63 + 1) (suc n) small (omega (arith, small)) 0)

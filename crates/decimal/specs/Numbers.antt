@@ -1,5 +1,6 @@
 -- The number that a word of decimal digits stands for.
-use Rattle.std.specs.Prelude.{◌≡◌, ℕ, ◌+◌, ◌-◌, ◌*◌, ◌^◌, ◌&&◌, nat_lt, List, [], ◌∷◌, ◌++◌, Option, Some, None, length, replicate, decimal, if◌then◌else◌}
+use Rattle.std.specs.Prelude.{◌≡◌, ℕ, ℤ, pos, neg_ℤ, ◌+◌, ◌-◌, ◌*◌, ◌^◌, ◌==◌, ◌&&◌, nat_lt, List, [], ◌∷◌, ◌++◌, Option, Some, None, length, replicate, decimal, if◌then◌else◌}
+use Rattle.std.specs.Option.{option_map}
 use Rattle.std.specs.Str.{all_ascii_digits}
 
 -- what digits stand for, the most significant first; the digit 0 is byte 48
@@ -17,3 +18,11 @@ number_of limit word =
 -- the digits of n are read as n, whatever zeros stand before them
 abbrev pub IsReadBack : ℕ → ℕ → Type 0
 IsReadBack limit n = (zeros : ℕ) → number_of limit (replicate zeros 48 ++ decimal n) ≡ Some n
+
+-- the integer of 64 bits that one or more digits stand for, negative behind the byte 45, which is `-`
+abbrev pub integer_of : List ℕ → Option ℤ
+integer_of [] = None
+integer_of (first ∷ rest) =
+    if first == 45
+    then option_map (λ n. neg_ℤ (pos n)) (number_of (2 ^ 63 + 1) rest)
+    else option_map pos (number_of (2 ^ 63) (first ∷ rest))

@@ -10,4 +10,6 @@
 
 mod numbers;
 
-pub use numbers::{leading_digits, push_integer, push_number, read_back};
+pub use numbers::{
+    integer, integer_read_back, leading_digits, push_integer, push_number, read_back,
+};

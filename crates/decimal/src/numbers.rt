@@ -1,8 +1,9 @@
 //! Numbers in decimal digits.
 ghost use Rattle.std.specs.Fmt.{signed_decimal};
-ghost use Rattle.std.specs.Prelude.{◌≡◌, ℕ, ◌<◌, ◌^◌, ◌++◌, OnOk, OnErr, decimal};
+ghost use Rattle.std.specs.Int.{w64};
+ghost use Rattle.std.specs.Prelude.{◌≡◌, ℕ, ℤ, Some, FitsSigned, ◌<◌, ◌^◌, ◌++◌, OnOk, OnErr, decimal};
 ghost use Rattle.decimal.specs.Digits.{AreLeadingDigits};
-ghost use Rattle.decimal.specs.Numbers.{IsReadBack};
+ghost use Rattle.decimal.specs.Numbers.{IsReadBack, integer_of, number_of};
 
 use itoa::Buffer;
 use std::alloc::AllocError;
@@ -50,4 +51,32 @@ pub fn leading_digits(bytes: &[u8]) -> Option<(u64, usize)>
 /// the number is below. The call does nothing.
 pub fn read_back()
     ensures { (limit n : ℕ) → n < limit → n < 2 ^ 64 → IsReadBack limit n }
+{}
+
+/// The integer that a word is: one or more digits, behind `-` where it is negative, from -2^63 to 2^63 - 1;
+/// or `None` where the word is another. A `+`, a second sign or a sign alone makes it none.
+pub fn integer(word: &[u8]) -> Option<i64>
+    ensures { result ≡ integer_of word.now }
+{
+    match word.split_first() {
+        Some((b'-', digits)) => 0i64.checked_sub_unsigned(number(digits)?),
+        _ => i64::try_from(number(word)?).ok(),
+    }
+}
+
+/// The number below 2^64 that a word of one or more digits is.
+#[inline]
+fn number(word: &[u8]) -> Option<u64>
+    ensures { result ≡ number_of (2 ^ 64) word.now }
+{
+    let (number, len) = leading_digits(word)?;
+    if len == 0 || len < word.len() {
+        return None;
+    }
+    Some(number)
+}
+
+/// The law that what `push_integer` writes is read as the same integer. The call does nothing.
+pub fn integer_read_back()
+    ensures { (n : ℤ) → FitsSigned w64 n → integer_of (signed_decimal n) ≡ Some n }
 {}

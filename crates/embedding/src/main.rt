@@ -39,11 +39,11 @@ fn main(rt: HostRuntime) -> Result<()> {
 
     let path = batch(
         alloc,
-        &[Entry::Add(0, 1), Entry::Add(1, 2), Entry::Add(2, 3)],
+        &[Entry::Add(0, 1, 1), Entry::Add(1, 2, 1), Entry::Add(2, 3, 1)],
     )?;
     let first = versions.commit(alloc, path)?;
     let (ticket, held) = versions.acquire(Which::Newest)?;
-    let shorter = batch(alloc, &[Entry::Remove(1, 2), Entry::Add(0, 3)])?;
+    let shorter = batch(alloc, &[Entry::Remove(1, 2), Entry::Add(0, 3, 1)])?;
     versions.commit(alloc, shorter)?;
 
     let (newest, graph) = versions.newest();

@@ -12,7 +12,7 @@ use kernels::{EdgeKernel, EndpointFilter, FilterKernel};
 use measuring::Random;
 use pull_engine::pull;
 use push_engine::push;
-use run_comparison::slow_run;
+use plain_run::plain_run;
 use runner::push_or_pull;
 use std::alloc::{AllocError, Global};
 use std::io;
@@ -220,7 +220,7 @@ impl Tried {
             (Some(edge), Some(filter)) => Ok(Tried {
                 edge: EdgeKernel::of_function(alloc, edge)?,
                 filter: FilterKernel::of_function(alloc, filter)?,
-                outcome: slow_run(alloc, program, sample.vertices, &sample.edges, 0)?,
+                outcome: plain_run(alloc, program, sample.vertices, &sample.edges, 0)?,
             }),
             _ => Err(Error::other("a program has no function")),
         }

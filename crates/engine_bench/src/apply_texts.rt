@@ -7,8 +7,9 @@ use std::io;
 use typed_tree::Typed;
 use vertex_sets::VertexSet;
 
-/// The functions that are applied: of each shape, with a test, and to two vectors.
-pub const FUNCTIONS: [&str; 8] = [
+/// The functions that are applied: of each shape, with a test, and to two vectors. The last ones read the weight of an
+/// edge.
+pub const FUNCTIONS: [&str; 13] = [
     "x[d] min= y[s];",
     "x[d] += y[s] + 2;",
     "x[d] max= s;",
@@ -17,6 +18,11 @@ pub const FUNCTIONS: [&str; 8] = [
     "if s < d x[d] += y[s]; end",
     "var t : int = x[s] * 3 - y[d]; if t % 2 == 0 x[d] max= t; else y[d] min= t; end",
     "y[d] max= s;",
+    "x[d] min= y[s] + a;",
+    "x[d] += a * y[s];",
+    "x[d] max= a;",
+    "y[d] min= a - x[s];",
+    "if a < 3 x[d] += y[s] - a; else y[d] += a; end",
 ];
 
 /// An end of an edge: none is given, the members of a set, or what a filter lets through.
@@ -66,12 +72,12 @@ pub fn vector_of(body: &str) -> usize {
 
 // What stands before the function that is applied.
 const HEAD: &str = "element Vertex end\nelement Edge end\n\
-    const edges : edgeset{Edge}(Vertex, Vertex) = load(argv[1]);\n\
+    const edges : edgeset{Edge}(Vertex, Vertex, int) = load(argv[1]);\n\
     const all : vertexset{Vertex} = edges.getVertices();\n\
     const x : vector{Vertex}(int) = 0; const y : vector{Vertex}(int) = 0;\n\
     func first(v : Vertex) x[v] = v * 7919 % 31; y[v] = 5 - v; end\n\
     func some(v : Vertex) -> o : bool o = x[v] % 3 != 0; end\n\
-    func f(s : Vertex, d : Vertex) ";
+    func f(s : Vertex, d : Vertex, a : int) ";
 
 // What stands after it, and before the members of the set.
 const MAIN: &str = " end\nfunc main()\n  all.apply(first);\n\

@@ -138,7 +138,7 @@ fn add_tail(alloc: Global, list: &[u32], tails: &mut Vec<Tail>) -> io::Result<()
 fn sum_of_flat(flat: &Flat) -> u64 {
     let mut sum = 0u64;
     for vertex in 0..flat.vertices() {
-        for element in flat.out(vertex) {
+        for (element, _) in flat.out(vertex) {
             sum = sum.wrapping_add(u64::from(element));
         }
     }

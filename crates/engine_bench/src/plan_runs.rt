@@ -3,8 +3,9 @@
 use crate::samples::Sample;
 use algorithm_meaning::Outcome;
 use measuring::{Benchmark, Random, Turns, print_head, print_rows, rmat_graph};
+use plain_run::plain_run;
 use run_comparison::{
-    PROGRAMS, SEARCHES_AND_LABELS, Scheduled, TestedProgram, shows_the_same, slow_run,
+    PROGRAMS, SEARCHES_AND_LABELS, Scheduled, TestedProgram, shows_the_same,
 };
 use runner::run_alone;
 use std::alloc::{AllocError, Global};
@@ -139,7 +140,7 @@ impl<'a> PlanBenchmark<'a> {
 
     fn slowly(&self, alloc: Global, turns: u64) -> Result<Outcome, AllocError> {
         let (vertices, edges) = (self.sample.vertices, self.sample.edges.as_slice());
-        slow_run(alloc, &self.program.typed, vertices, edges, turns)
+        plain_run(alloc, &self.program.typed, vertices, edges, turns)
     }
 }
 

@@ -7,7 +7,7 @@ use std::io;
 
 // What stands before the functions of every program. No edge function writes w.
 const HEAD: &str = "element Vertex end\nelement Edge end\n\
-    const edges : edgeset{Edge}(Vertex, Vertex) = load(argv[1]);\n\
+    const edges : edgeset{Edge}(Vertex, Vertex, int) = load(argv[1]);\n\
     const all : vertexset{Vertex} = edges.getVertices();\n\
     const w : vector{Vertex}(int) = 0; const x : vector{Vertex}(int) = 1;\n\
     const y : vector{Vertex}(int) = 0; const z : vector{Vertex}(int) = -2;\n\
@@ -15,7 +15,7 @@ const HEAD: &str = "element Vertex end\nelement Edge end\n\
     func some(v : Vertex) -> o : bool o = w[v] % 3 != 0; end\n\
     func low(v : Vertex) -> o : bool o = w[v] < 12; end\n";
 
-// What the first function may read, and what the second.
+// What the first function may read, and what the second. One with a third parameter reads that too.
 const FIRST_READS: [&str; 8] = ["s", "d", "w[s]", "w[d]", "x[s]", "y[s]", "x[d]", "3"];
 
 const SECOND_READS: [&str; 6] = ["s", "d", "w[s]", "z[s]", "z[d]", "-5"];
@@ -57,6 +57,22 @@ pub fn random_program(alloc: Global, random: &mut Random) -> io::Result<String> 
     Ok(text)
 }
 
+// What an edge function may read: these words, and the weight of the edge where it has a parameter for it.
+#[derive(Clone, Copy)]
+struct Reads<'a> {
+    words: &'a [&'static str],
+    has_weight: bool,
+}
+
+impl Reads<'_> {
+    fn pick(self, random: &mut Random) -> &'static str {
+        if self.has_weight && random.below(3) == 0 {
+            return "a";
+        }
+        pick(random, self.words)
+    }
+}
+
 // One of some words.
 fn pick(random: &mut Random, words: &[&'static str]) -> &'static str {
     let place = random.below(words.len().max(1) as u64) as usize;
@@ -78,7 +94,12 @@ fn add_function(
         pick(random, &REDUCTIONS)
     };
     let relation = pick(random, &RELATIONS);
-    write!(text, "func {name}(s : Vertex, d : Vertex) ")?;
+    let reads = Reads {
+        words: reads,
+        has_weight: random.below(2) == 0,
+    };
+    let weight = if reads.has_weight { ", a : int" } else { "" };
+    write!(text, "func {name}(s : Vertex, d : Vertex{weight}) ")?;
     let is_tested = random.below(3) == 0;
     if is_tested {
         write!(text, "if ")?;
@@ -99,7 +120,7 @@ fn add_function(
 fn add_reduction(
     text: &mut String,
     random: &mut Random,
-    reads: &[&'static str],
+    reads: Reads<'_>,
     vector: &str,
     by: &str,
 ) -> io::Result<()> {
@@ -110,11 +131,11 @@ fn add_reduction(
 }
 
 // One thing that is read, or two or three with operators between them.
-fn add_sum(text: &mut String, random: &mut Random, reads: &[&'static str]) -> io::Result<()> {
-    let read = pick(random, reads);
+fn add_sum(text: &mut String, random: &mut Random, reads: Reads<'_>) -> io::Result<()> {
+    let read = reads.pick(random);
     write!(text, "{read}")?;
     for _ in 0..random.below(3) {
-        let (operator, read) = (pick(random, &OPERATORS), pick(random, reads));
+        let (operator, read) = (pick(random, &OPERATORS), reads.pick(random));
         write!(text, " {operator} {read}")?;
     }
     Ok(())

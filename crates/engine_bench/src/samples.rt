@@ -1,17 +1,17 @@
 //! Random graphs on which what engines do is held beside the slow run.
 
 use flat_snapshot::Flat;
-use measuring::{Random, random_batch, told};
+use measuring::{Random, random_weighted_batch, told};
 use std::alloc::Global;
 use std::io;
 use tree_batch::{Batch, Graph};
 
 const CHUNK_SIZE: u32 = 4;
 
-/// A graph: its vertices, its edges, ascending, and its flat.
+/// A graph: its vertices, its edges with their weights, ascending, and its flat.
 pub struct Sample {
     pub vertices: u32,
-    pub edges: Vec<(u32, u32)>,
+    pub edges: Vec<(u32, u32, i64)>,
     pub flat: Flat,
 }
 
@@ -26,14 +26,14 @@ impl Drop for Sample {
 }
 
 impl Sample {
-    /// A random graph of so many vertices and about so many edges.
+    /// A random graph of so many vertices and about so many edges, with random weights.
     pub fn new(
         alloc: Global,
         random: &mut Random,
         vertices: u32,
         edges: u32,
     ) -> io::Result<Sample> {
-        let batch = random_batch(alloc, random, vertices, edges)?;
+        let batch = random_weighted_batch(alloc, random, vertices, edges)?;
         let graph = graph_of(alloc, vertices, &batch)?;
         Sample::of(alloc, &graph)
     }

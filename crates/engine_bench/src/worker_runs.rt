@@ -5,7 +5,8 @@ use crate::samples::Sample;
 use algorithm_meaning::Outcome;
 use crew::{Gate, Open};
 use measuring::Random;
-use run_comparison::{PROGRAMS, Scheduled, TestedProgram, are_the_same, slow_run};
+use plain_run::plain_run;
+use run_comparison::{PROGRAMS, Scheduled, TestedProgram, are_the_same};
 use runner::{RunError, run};
 use std::alloc::Global;
 use std::io;
@@ -99,7 +100,7 @@ fn compare<T: Threads + Sync>(
         return Err(Error::other("a program is refused"));
     };
     let edges = sample.edges.as_slice();
-    let slowly = slow_run(alloc, &program.typed, sample.vertices, edges, turns)?;
+    let slowly = plain_run(alloc, &program.typed, sample.vertices, edges, turns)?;
     let mut count = 0u64;
     for workers in &WORKERS {
         let who = (threads, *workers);

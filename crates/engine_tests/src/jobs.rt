@@ -24,7 +24,7 @@ const SEARCH: &[u8] = b"element Vertex end element Edge end \
 fn fork(alloc: Global) -> Result<Flat, Fail> {
     let mut batch = Batch::new(alloc);
     for (source, destination) in &[(0, 1), (0, 2), (1, 3), (2, 3), (3, 4)] {
-        batch.push(Entry::Add(*source, *destination))?;
+        batch.push(Entry::Add(*source, *destination, 1))?;
     }
     let graph = Graph::new(6, 64)?.apply(alloc, &batch)?;
     Ok(Flat::of(alloc, &graph)?)

@@ -48,7 +48,7 @@ const WAYS: [Way; 10] = [
 pub(crate) fn graph_of(alloc: Global, vertices: u32, edges: &[(u32, u32)]) -> Result<Flat, Fail> {
     let mut batch = Batch::new(alloc);
     for (source, destination) in edges {
-        batch.push(Entry::Add(*source, *destination))?;
+        batch.push(Entry::Add(*source, *destination, 1))?;
     }
     let graph = Graph::new(vertices, 64)?.apply(alloc, &batch)?;
     Ok(Flat::of(alloc, &graph)?)

@@ -5,24 +5,36 @@ use std::alloc::Global;
 use std::test::Fail;
 use tail_codec::Tail;
 
-// A prefix's bytes, and heads with their tails' bytes.
-type Cut = (&'static [u8], &'static [(u32, &'static [u8])]);
+// A head with its weight and its tail's bytes.
+type Chunk = (u32, i64, &'static [u8]);
+
+// A prefix's bytes, and the chunks behind it.
+type Cut = (&'static [u8], &'static [Chunk]);
 
 // Chunk sizes, lists, and their cuts.
-const CUTS: [(u32, &[u32], Cut); 5] = [
+const CUTS: [(u32, &[(u32, i64)], Cut); 6] = [
     (
         4,
-        &[1, 2, 3, 4, 5, 6],
-        (b"\x01", &[(2, b"\x00"), (4, b"\x00\x00")]),
+        &[(1, 1), (2, 1), (3, 1), (4, 1), (5, 1), (6, 1)],
+        (b"\x02", &[(2, 1, b"\x00"), (4, 1, b"\x00\x00")]),
     ),
-    (1, &[0, 1, 2], (b"", &[(0, b""), (1, b""), (2, b"")])),
+    (
+        1,
+        &[(0, 4), (1, -1), (2, 0)],
+        (b"", &[(0, 4, b""), (1, -1, b""), (2, 0, b"")]),
+    ),
     (
         64,
-        &[0, 1, 2, 3, 4, 5, 6, 7, 8, 9, 10],
-        (b"", &[(0, b"\x00\x00\x00\x00\x00\x00\x00\x00\x00\x00")]),
+        &[(0, 1), (1, 1), (2, 1), (3, 1), (4, 1), (5, 1)],
+        (b"", &[(0, 1, b"\x00\x00\x00\x00\x00")]),
     ),
     (64, &[], (b"", &[])),
-    (256, &[300, 301, 429], (b"\xac\x02\x00\x7f", &[])),
+    (
+        256,
+        &[(300, 1), (301, 1), (429, 1)],
+        (b"\xd8\x04\x00\xfe\x01", &[]),
+    ),
+    (4, &[(2, 9), (3, 1)], (b"", &[(2, 9, b"\x00")])),
 ];
 
 #[test]
@@ -34,9 +46,9 @@ fn cuts_lists(rt: HostRuntime) -> Result<(), Fail> {
     Ok(())
 }
 
-const ODD: Cut = (b"\x01\x01", &[]);
+const ODD: Cut = (b"\x02\x02", &[]);
 
-const ALL: Cut = (b"\x01", &[(2, b"\x00")]);
+const ALL: Cut = (b"\x02", &[(2, -7, b"\x00")]);
 
 #[test]
 fn cuts_unions_and_differences(rt: HostRuntime) -> Result<(), Fail> {
@@ -46,30 +58,31 @@ fn cuts_unions_and_differences(rt: HostRuntime) -> Result<(), Fail> {
 
 // Whether the union of two sets and its difference with one of them are cut as they are to be.
 fn are_cut_so(alloc: Global) -> Result<bool, Fail> {
-    let odd = CTree::from_sorted(alloc, 4, &[1, 3])?;
-    let two = CTree::from_sorted(alloc, 4, &[2])?;
+    let odd = CTree::from_sorted(alloc, 4, &[(1, 1), (3, 1)])?;
+    let two = CTree::from_sorted(alloc, 4, &[(2, -7)])?;
     let all = union(alloc, &odd, &two)?;
     let rest = difference(alloc, &all, &two)?;
-    let begun = is_cut_so(&odd, &[1, 3], ODD) && is_cut_so(&all, &[1, 2, 3], ALL);
-    Ok(begun && is_cut_so(&rest, &[1, 3], ODD))
+    let begun = is_cut_so(&odd, &[(1, 1), (3, 1)], ODD);
+    let united = is_cut_so(&all, &[(1, 1), (2, -7), (3, 1)], ALL);
+    Ok(begun && united && is_cut_so(&rest, &[(1, 1), (3, 1)], ODD))
 }
 
 // Whether the set has this list and this cut.
-fn is_cut_so(set: &CTree, list: &[u32], (prefix, chunks): Cut) -> bool {
+fn is_cut_so(set: &CTree, list: &[(u32, i64)], (prefix, chunks): Cut) -> bool {
     let same = set.prefix().bytes() == prefix && set.iter().eq(list.iter().copied());
     same && are_heads(set, chunks)
 }
 
-// Whether these are the heads of the set, with their tails' bytes.
-fn are_heads(set: &CTree, chunks: &[(u32, &[u8])]) -> bool {
+// Whether these are the heads of the set, with their weights and their tails' bytes.
+fn are_heads(set: &CTree, chunks: &[Chunk]) -> bool {
     let mut heads = set.heads();
     let mut same = true;
-    for (head, bytes) in chunks {
-        same = same && is_chunk_so(heads.next(), *head, bytes);
+    for chunk in chunks {
+        same = same && is_chunk_so(heads.next(), *chunk);
     }
     same && heads.next().is_none()
 }
 
-fn is_chunk_so(found: Option<(u32, &Tail)>, head: u32, bytes: &[u8]) -> bool {
-    found.is_some_and(|(other, tail)| other == head && tail.bytes() == bytes)
+fn is_chunk_so(found: Option<(u32, i64, &Tail)>, (head, weight, bytes): Chunk) -> bool {
+    found.is_some_and(|(key, at, tail)| key == head && at == weight && tail.bytes() == bytes)
 }

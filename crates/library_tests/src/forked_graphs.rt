@@ -16,13 +16,13 @@ fn batch_of(alloc: Global, entries: &[Entry]) -> Result<Batch, Fail> {
 
 // A loop in each of the first seven blocks of 64 vertices.
 const LOOPS: [Entry; 7] = [
-    Entry::Add(0, 0),
-    Entry::Add(64, 64),
-    Entry::Add(128, 128),
-    Entry::Add(192, 192),
-    Entry::Add(256, 256),
-    Entry::Add(320, 320),
-    Entry::Add(384, 384),
+    Entry::Add(0, 0, 1),
+    Entry::Add(64, 64, 1),
+    Entry::Add(128, 128, 1),
+    Entry::Add(192, 192, 1),
+    Entry::Add(256, 256, 1),
+    Entry::Add(320, 320, 1),
+    Entry::Add(384, 384, 1),
 ];
 
 // Whether these entries leave these edges in a graph of two vertices at so many forks.
@@ -30,20 +30,20 @@ fn leave<R: Threads + AllocGlobal + Sync>(
     rt: &R,
     entries: &[Entry],
     forks: u32,
-    edges: &[(u32, u32)],
+    edges: &[(u32, u32, i64)],
 ) -> Result<bool, Fail> {
     let batch = batch_of(rt.alloc(), entries)?;
     let after = Graph::new(2, 64)?.apply_forked(rt, rt.alloc(), &batch, forks, &Quiet)?;
     Ok(after.edges().eq(edges.iter().copied()))
 }
 
-const AGAIN: [Entry; 3] = [Entry::Add(0, 1), Entry::Remove(0, 1), Entry::Add(0, 1)];
+const AGAIN: [Entry; 3] = [Entry::Add(0, 1, 1), Entry::Remove(0, 1), Entry::Add(0, 1, -3)];
 
 #[test]
 fn has_the_same_edges_at_any_forks(rt: HostRuntime) -> Result<(), Fail> {
     for forks in [0, 1, 3, 6, 7] {
         let removed = leave(&rt, &AGAIN[..2], forks, &[])?;
-        let added = leave(&rt, &AGAIN, forks, &[(0, 1)])?;
+        let added = leave(&rt, &AGAIN, forks, &[(0, 1, -3)])?;
         assert!(rt; removed && added, "at {forks} forks");
     }
     Ok(())
@@ -54,21 +54,21 @@ fn after_batches(alloc: Global, graph: &Graph) -> Result<Graph, Fail> {
     let mut newest = graph.clone()?;
     for vertex in 0..100u32 {
         let first = vertex % 7 * 64;
-        let entries = [Entry::Remove(first, first), Entry::Add(3, vertex)];
+        let entries = [Entry::Remove(first, first), Entry::Add(3, vertex, 1)];
         let batch = batch_of(alloc, &entries)?;
         newest = newest.apply(alloc, &batch)?;
     }
     Ok(newest)
 }
 
-const LOOP_EDGES: [(u32, u32); 7] = [
-    (0, 0),
-    (64, 64),
-    (128, 128),
-    (192, 192),
-    (256, 256),
-    (320, 320),
-    (384, 384),
+const LOOP_EDGES: [(u32, u32, i64); 7] = [
+    (0, 0, 1),
+    (64, 64, 1),
+    (128, 128, 1),
+    (192, 192, 1),
+    (256, 256, 1),
+    (320, 320, 1),
+    (384, 384, 1),
 ];
 
 #[test]

@@ -59,16 +59,20 @@ fn comes(other: &AtomicBool) -> bool {
     false
 }
 
-// Every second number below 200, from the first on.
-fn every_second(alloc: Global, first: u32) -> Result<Vec<u32>, Fail> {
-    let doubled = (0..100u32).map(|place| place.wrapping_mul(2).wrapping_add(first));
-    Ok(doubled.collect(alloc)?)
+// Every second number below 200, from the first on, each with a weight.
+fn every_second(alloc: Global, first: u32) -> Result<Vec<(u32, i64)>, Fail> {
+    let mut entries = Vec::new(alloc);
+    for place in 0..100u32 {
+        let key = place.wrapping_mul(2).wrapping_add(first);
+        entries.push((key, i64::from(place) - 50))?;
+    }
+    Ok(entries)
 }
 
 // The set of every second number below 200, from the first on.
 fn set_of(alloc: Global, chunk_size: u32, first: u32) -> Result<CTree, Fail> {
-    let elements = every_second(alloc, first)?;
-    Ok(CTree::from_sorted(alloc, chunk_size, &elements)?)
+    let entries = every_second(alloc, first)?;
+    Ok(CTree::from_sorted(alloc, chunk_size, &entries)?)
 }
 
 #[test]

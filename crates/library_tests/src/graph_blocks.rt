@@ -8,7 +8,7 @@ use tree_batch::{Batch, Entry, Graph, Quiet};
 // Adds edges from a vertex to those from one up to another.
 fn add_run(batch: &mut Batch, source: u32, from: u32, to: u32) -> Result<(), Fail> {
     for destination in from..to {
-        batch.push(Entry::Add(source, destination))?;
+        batch.push(Entry::Add(source, destination, 1))?;
     }
     Ok(())
 }
@@ -26,7 +26,7 @@ fn has_run(graph: &Graph, source: u32, from: u32, to: u32, is_chunked: bool) -> 
     let Some(set) = graph.out(source) else {
         return from == to;
     };
-    set.chunked().is_some() == is_chunked && set.iter().eq(from..to)
+    set.chunked().is_some() == is_chunked && set.iter().eq((from..to).map(|vertex| (vertex, 1)))
 }
 
 // A count of neighbours that a vertex comes to have, and whether they are then a set in chunks.
@@ -95,10 +95,10 @@ const SPANS: [u32; 7] = [1, 255, 256, 65_535, 65_536, 16_777_213, 16_777_214];
 fn lists_reach_as_far_as_vertices(rt: HostRuntime) -> Result<(), Fail> {
     for span in SPANS {
         let mut batch = Batch::new(rt.alloc());
-        batch.push(Entry::Add(MOST - 1, 1 + span))?;
-        batch.push(Entry::Add(MOST - 1, 1))?;
+        batch.push(Entry::Add(MOST - 1, 1 + span, 1))?;
+        batch.push(Entry::Add(MOST - 1, 1, 1))?;
         let graph = Graph::new(MOST, 64)?.apply(rt.alloc(), &batch)?;
-        let edges = [(MOST - 1, 1), (MOST - 1, 1 + span)];
+        let edges = [(MOST - 1, 1, 1), (MOST - 1, 1 + span, 1)];
         let listed = graph.edges().eq(edges.iter().copied());
         let into = graph
             .in_(1 + span)
@@ -109,14 +109,21 @@ fn lists_reach_as_far_as_vertices(rt: HostRuntime) -> Result<(), Fail> {
 }
 
 // Edges at both ends of blocks, ascending.
-const ENDS: [(u32, u32); 6] = [(0, 63), (0, 64), (63, 0), (64, 127), (127, 128), (128, 0)];
+const ENDS: [(u32, u32, i64); 6] = [
+    (0, 63, 2),
+    (0, 64, 1),
+    (63, 0, -1),
+    (64, 127, 0),
+    (127, 128, 70_000),
+    (128, 0, i64::MIN),
+];
 
 #[test]
 fn blocks_are_cut_at_their_ends(rt: HostRuntime) -> Result<(), Fail> {
     let alloc = rt.alloc();
     let mut batch = Batch::new(alloc);
-    for (source, destination) in ENDS {
-        batch.push(Entry::Add(source, destination))?;
+    for (source, destination, weight) in ENDS {
+        batch.push(Entry::Add(source, destination, weight))?;
     }
     let graph = Graph::new(129, 64)?.apply(alloc, &batch)?;
     assert!(rt; graph.edges().eq(ENDS.iter().copied()));
@@ -161,8 +168,8 @@ fn after_uneven<R: Threads + AllocGlobal + Sync>(rt: &R, forks: u32) -> Result<G
     let batch = uneven_batch(rt.alloc())?;
     let mut less = Batch::new(rt.alloc());
     remove_run(&mut less, 130, 50, 590)?;
-    less.push(Entry::Add(129, 0))?;
-    less.push(Entry::Add(131, 9))?;
+    less.push(Entry::Add(129, 0, 1))?;
+    less.push(Entry::Add(131, 9, 1))?;
     let once = Graph::new(700, 1)?.apply_forked(rt, rt.alloc(), &batch, forks, &Quiet)?;
     let twice = once.apply_forked(rt, rt.alloc(), &batch, forks, &Quiet)?;
     Ok(twice.apply_forked(rt, rt.alloc(), &less, forks, &Quiet)?)

@@ -1,5 +1,5 @@
-//! Many random batches on small graphs, beside a plain table of pairs.
-use measuring::Random;
+//! Many random batches on small graphs, beside a plain table of the weights between pairs.
+use measuring::{Random, random_weight};
 use std::alloc::Global;
 use std::test::Fail;
 use tree_batch::{Batch, Entry, Graph};
@@ -12,11 +12,11 @@ struct Kind {
     additions: u32,
 }
 
-// A graph beside a table that tells of each pair of vertices whether its edge is there.
+// A graph beside a table that tells of each pair of vertices the weight of its edge, if that is there.
 #[derive(Drop)]
 struct Beside {
     graph: Graph,
-    table: Vec<bool>,
+    table: Vec<Option<i64>>,
     vertices: u32,
 }
 
@@ -25,7 +25,7 @@ impl Beside {
         let cells = (vertices as usize).saturating_mul(vertices as usize);
         Ok(Beside {
             graph: Graph::new(vertices, 2)?,
-            table: vec![in alloc; false; cells]?,
+            table: vec![in alloc; None; cells]?,
             vertices,
         })
     }
@@ -36,10 +36,10 @@ impl Beside {
     }
 
     // Notes an edge in the table.
-    fn put(&mut self, source: u32, destination: u32, is_there: bool) {
+    fn put(&mut self, source: u32, destination: u32, weight: Option<i64>) {
         let place = self.place(source, destination);
         if let Some(cell) = self.table.get_mut(place) {
-            *cell = is_there;
+            *cell = weight;
         }
     }
 
@@ -52,23 +52,30 @@ impl Beside {
             );
             let destination = numbers.below(u64::from(self.vertices.max(1))) as u32;
             let is_there = numbers.below(10) < u64::from(kind.additions);
-            self.put(source, destination, is_there);
-            batch.push(match is_there {
-                true => Entry::Add(source, destination),
-                false => Entry::Remove(source, destination),
+            let weight = is_there.then_some(random_weight(numbers));
+            self.put(source, destination, weight);
+            batch.push(match weight {
+                Some(weight) => Entry::Add(source, destination, weight),
+                None => Entry::Remove(source, destination),
             })?;
         }
         self.graph = self.graph.apply(alloc, &batch)?;
         Ok(())
     }
 
+    // Whether the destination has the source with this weight.
+    fn is_in(&self, source: u32, destination: u32, weight: i64) -> bool {
+        let sources = self.graph.in_(destination);
+        sources.is_some_and(|sources| sources.get(source) == Some(weight))
+    }
+
     // How many edges of the table the graph lists, while they ascend.
     fn listed(&self) -> usize {
         let (mut edges, mut next) = (0usize, 0usize);
-        for (source, destination) in self.graph.edges() {
+        for (source, destination, weight) in self.graph.edges() {
             let place = self.place(source, destination);
-            let is_there = self.table.get(place).copied().unwrap_or(false);
-            if place < next || !is_there {
+            let noted = self.table.get(place).copied().unwrap_or(None);
+            if place < next || noted != Some(weight) || !self.is_in(source, destination, weight) {
                 break;
             }
             edges = edges.wrapping_add(1);
@@ -80,8 +87,8 @@ impl Beside {
     // Whether the graph lists the edges of the table and no other.
     fn agrees(&self) -> bool {
         let mut edges = 0usize;
-        for is_there in &self.table {
-            edges = edges.wrapping_add(usize::from(*is_there));
+        for weight in &self.table {
+            edges = edges.wrapping_add(usize::from(weight.is_some()));
         }
         self.graph.edge_count() == edges && self.listed() == edges
     }

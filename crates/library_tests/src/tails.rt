@@ -3,14 +3,25 @@ use std::alloc::Global;
 use std::test::Fail;
 use tail_codec::Tail;
 
-// A base, a list above it, and the bytes that spell it.
-type Spelling = (Option<u32>, &'static [u32], &'static [u8]);
+// A base, a list of keys with weights above it, and the bytes that spell it.
+type Spelling = (Option<u32>, &'static [(u32, i64)], &'static [u8]);
 
-const SPELLINGS: [Spelling; 4] = [
-    (None, &[300, 301, 429], b"\xac\x02\x00\x7f"),
-    (None, &[301, 430], b"\xad\x02\x80\x01"),
-    (None, &[4_294_967_295], b"\xff\xff\xff\xff\x0f"),
-    (Some(4_294_967_294), &[4_294_967_295], b"\x00"),
+const SPELLINGS: [Spelling; 7] = [
+    (
+        None,
+        &[(300, 1), (301, 1), (429, 1)],
+        b"\xd8\x04\x00\xfe\x01",
+    ),
+    (None, &[(301, 1), (430, 1)], b"\xda\x04\x80\x02"),
+    (None, &[(4_294_967_295, 1)], b"\xfe\xff\xff\xff\x1f"),
+    (Some(4_294_967_294), &[(4_294_967_295, 1)], b"\x00"),
+    (None, &[(0, 2), (1, 1), (2, -1)], b"\x01\x04\x00\x01\x01"),
+    (
+        None,
+        &[(0, i64::MIN)],
+        b"\x01\xff\xff\xff\xff\xff\xff\xff\xff\xff\x01",
+    ),
+    (Some(10), &[(11, 7)], b"\x01\x0e"),
 ];
 
 #[test]

@@ -34,7 +34,7 @@ fn edges_of(versions: &Versions, ticket: Ticket) -> Option<usize> {
 fn a_trim_keeps_what_is_held(rt: HostRuntime) -> Result<(), Fail> {
     let alloc = rt.alloc();
     let mut versions = Versions::with_room(alloc, 3, 64, 5)?;
-    assert!(rt; commit(alloc, &mut versions, Entry::Add(0, 1)) == Ok(1));
+    assert!(rt; commit(alloc, &mut versions, Entry::Add(0, 1, 1)) == Ok(1));
     let ticket = hold(&mut versions)?;
     assert!(rt; commit(alloc, &mut versions, Entry::Remove(0, 1)) == Ok(2));
     assert!(rt; trim_twice(&mut versions) == Ok([3, 0]));

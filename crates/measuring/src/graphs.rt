@@ -40,7 +40,7 @@ pub fn rmat_graph(alloc: Global, vertices: u32, edges: u32) -> io::Result<Graph>
         let mut batch = Batch::new(alloc);
         for _ in 0..left.min(BATCH as usize) {
             let (source, destination) = rmat_edge(&mut random, scale);
-            batch.push(Entry::Add(source, destination)).map_err(told)?;
+            batch.push(Entry::Add(source, destination, 1)).map_err(told)?;
         }
         graph = graph.apply(alloc, &batch).map_err(told)?;
     }
@@ -78,11 +78,41 @@ pub fn random_batch(
     let mut batch = Batch::new(alloc);
     for _ in 0..count {
         let (from, to) = (random.below(bound), random.below(bound));
-        if batch.push(Entry::Add(from as u32, to as u32)).is_err() {
+        if batch.push(Entry::Add(from as u32, to as u32, 1)).is_err() {
             return Err(AllocError);
         }
     }
     Ok(batch)
+}
+
+/// As [`random_batch`], with random weights.
+pub fn random_weighted_batch(
+    alloc: Global,
+    random: &mut Random,
+    vertices: u32,
+    count: u32,
+) -> Result<Batch, AllocError> {
+    let bound = u64::from(vertices).max(1);
+    let mut batch = Batch::new(alloc);
+    for _ in 0..count {
+        let (from, to) = (random.below(bound), random.below(bound));
+        let weight = random_weight(random);
+        if batch.push(Entry::Add(from as u32, to as u32, weight)).is_err() {
+            return Err(AllocError);
+        }
+    }
+    Ok(batch)
+}
+
+/// The weight of an edge: most often from -50 to 149, else 1, the least, the greatest, or one of 33 bits.
+pub fn random_weight(random: &mut Random) -> i64 {
+    match random.below(16) {
+        0 => i64::MIN,
+        1 => i64::MAX,
+        2 => random.below(1 << 33) as i64,
+        3..=6 => 1,
+        _ => random.below(200) as i64 - 50,
+    }
 }
 
 /// The error as one of a device.

@@ -12,7 +12,9 @@ mod tails;
 mod timing;
 
 pub use arguments::{Arguments, is_printed, status_of, words_of};
-pub use graphs::{random_batch, random_graph, rmat_edge, rmat_graph, told};
+pub use graphs::{
+    random_batch, random_graph, random_weight, random_weighted_batch, rmat_edge, rmat_graph, told,
+};
 pub use random::Random;
 pub use table::{print_head, print_row, print_rows, print_times};
 pub use tails::{sum_by_blocks, sum_of, sum_of_tails, tail_error};

@@ -3,12 +3,12 @@
 use std::io::Error;
 use tail_codec::{Tail, TailError};
 
-/// The sum of all elements of the tails.
+/// The sum of all keys of the tails.
 pub fn sum_of_tails(tails: &[Tail]) -> u64 {
     let mut sum = 0u64;
     for tail in tails {
-        for element in tail.iter() {
-            sum = sum.wrapping_add(u64::from(element));
+        for (key, _) in tail.iter() {
+            sum = sum.wrapping_add(u64::from(key));
         }
     }
     sum

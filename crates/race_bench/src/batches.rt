@@ -1,6 +1,6 @@
 //! Batches of random changes, and the edges after some of them.
 
-use measuring::Random;
+use measuring::{Random, random_weight};
 use std::alloc::{AllocError, Global};
 use std::io;
 use tree_batch::{Batch, Entry};
@@ -35,7 +35,7 @@ impl RandomBatches {
             let to = random.below(u64::from(VERTICES)) as u32;
             let entry = match random.below(5) {
                 0 | 1 => Entry::Remove(from, to),
-                _ => Entry::Add(from, to),
+                _ => Entry::Add(from, to, random_weight(&mut random)),
             };
             entries.push(entry)?;
         }
@@ -51,21 +51,24 @@ impl RandomBatches {
         Ok(batches)
     }
 
-    /// The edges after the first batches, ascending: each pair of vertices whose last entry adds it.
+    /// The edges after the first batches, ascending: each pair of vertices whose last entry adds it, with its weight.
     pub fn edges_after(
         &self,
         alloc: Global,
         batches: usize,
-    ) -> Result<Vec<(u32, u32)>, AllocError> {
+    ) -> Result<Vec<(u32, u32, i64)>, AllocError> {
         let count = batches.min(COMMITS) * CHANGES;
-        let mut there = vec![in alloc; false; (VERTICES * VERTICES) as usize]?;
+        let mut there: Vec<Option<i64>> = vec![in alloc; None; (VERTICES * VERTICES) as usize]?;
         for entry in self.entries.iter().take(count) {
-            if let Some((from, to)) = entry.edge()
+            if let Some((from, to)) = entry.ends()
                 && let Some(place) = there.get_mut(
                     from as usize * VERTICES as usize + to as usize,
                 )
             {
-                *place = matches!(entry, Entry::Add(_, _));
+                *place = match entry {
+                    Entry::Add(_, _, weight) => Some(*weight),
+                    Entry::Remove(..) | Entry::Grow(_) => None,
+                };
             }
         }
         edges_of(alloc, &there)
@@ -80,12 +83,12 @@ fn batch_of(alloc: Global, entries: &[Entry]) -> io::Result<Batch> {
     Ok(batch)
 }
 
-// The pairs that are there.
-fn edges_of(alloc: Global, there: &[bool]) -> Result<Vec<(u32, u32)>, AllocError> {
+// The pairs that are there, each with its weight.
+fn edges_of(alloc: Global, there: &[Option<i64>]) -> Result<Vec<(u32, u32, i64)>, AllocError> {
     let mut edges = Vec::new(alloc);
-    for (place, is_there) in (0..VERTICES * VERTICES).zip(there) {
-        if *is_there {
-            edges.push((place / VERTICES, place % VERTICES))?;
+    for (place, weight) in (0..VERTICES * VERTICES).zip(there) {
+        if let Some(weight) = weight {
+            edges.push((place / VERTICES, place % VERTICES, *weight))?;
         }
     }
     Ok(edges)

@@ -3,7 +3,8 @@
 use crate::batches::{COMMITS, RandomBatches, VERTICES};
 use plans::Plan;
 use races::{Race, RaceError, RaceScript, VersionRun, race};
-use run_comparison::{PROGRAMS, Scheduled, TestedProgram, are_the_same, slow_run};
+use plain_run::plain_run;
+use run_comparison::{PROGRAMS, Scheduled, TestedProgram, are_the_same};
 use std::alloc::{AllocError, Global};
 use std::io::{self, Error};
 use std::sync::Wait;
@@ -120,6 +121,6 @@ fn shows_the_slow_run(
     run: &VersionRun,
 ) -> Result<bool, AllocError> {
     let edges = changes.edges_after(alloc, run.version as usize)?;
-    let slowly = slow_run(alloc, &program.typed, VERTICES, &edges, TURNS)?;
+    let slowly = plain_run(alloc, &program.typed, VERTICES, &edges, TURNS)?;
     Ok(run.version as usize <= COMMITS && are_the_same(&run.outcome, &slowly))
 }

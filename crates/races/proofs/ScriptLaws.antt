@@ -47,7 +47,7 @@ changed : (programs : List ProgramTree) (lines : List (List ℕ)) → Leaves pro
     → (option_map (λ s. s.versions) (state_after_lines programs (by_command programs (Some o) c).state lines) ≡ Some (state_after_commits o.versions bs))
     × ((by_command programs (Some o) c).text ++ replies_to_lines programs (by_command programs (Some o) c).state lines ≡ commit_replies o.versions bs)
 changed programs lines leaves None o bs e = absurd (none≢some bs e)
-changed programs lines leaves (Some (command.Add source destination)) o bs e = leaves (joined o (entry.Add source destination)).state bs e
+changed programs lines leaves (Some (command.Add source destination weight)) o bs e = leaves (joined o (entry.Add source destination)).state bs e
 changed programs lines leaves (Some (command.Remove source destination)) o bs e = leaves (joined o (entry.Remove source destination)).state bs e
 changed programs lines leaves (Some (command.Grow vertices)) o bs e = leaves (joined o (entry.Grow vertices)).state bs e
 changed programs lines leaves (Some command.Commit) o bs e = committed programs lines leaves o bs (batches_in [] lines) refl e
@@ -91,7 +91,7 @@ first_line : (programs : List ProgramTree) (lines : List (List ℕ)) (c : Option
     → IsOpened programs (by_command programs None c).state (by_command programs None c).text lines o
 first_line programs lines None o e may = absurd (none≢some o e)
 first_line programs lines (Some (command.Vertices n b)) o e may = opened_by programs lines n b o (batches_in [] lines) refl e may
-first_line programs lines (Some (command.Add source destination)) o e may = absurd (none≢some o e)
+first_line programs lines (Some (command.Add source destination weight)) o e may = absurd (none≢some o e)
 first_line programs lines (Some (command.Remove source destination)) o e may = absurd (none≢some o e)
 first_line programs lines (Some (command.Grow vertices)) o e may = absurd (none≢some o e)
 first_line programs lines (Some command.Commit) o e may = absurd (none≢some o e)

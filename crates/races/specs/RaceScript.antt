@@ -19,7 +19,7 @@ pub record Order : Type 0 where
 
 -- a line `add`, `del` or `grow` adds an entry to those that are pending, and `commit` makes a batch of them; no other line may stand here
 abbrev pub after_change : Option Command → List Entry → (List Entry → Option (List (List Entry))) → Option (List (List Entry))
-after_change (Some (command.Add source destination)) pending rest = rest (pending ++ entry.Add source destination ∷ [])
+after_change (Some (command.Add source destination weight)) pending rest = rest (pending ++ entry.Add source destination weight ∷ [])
 after_change (Some (command.Remove source destination)) pending rest = rest (pending ++ entry.Remove source destination ∷ [])
 after_change (Some (command.Grow vertices)) pending rest = rest (pending ++ entry.Grow vertices ∷ [])
 after_change (Some command.Commit) pending rest = option_map (λ batches. pending ∷ batches) (rest [])

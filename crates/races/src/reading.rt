@@ -117,8 +117,9 @@ impl Committed {
                 Command::Add {
                     source,
                     destination,
+                    weight,
                 },
-            ) => self.push(Entry::Add(source, destination)),
+            ) => self.push(Entry::Add(source, destination, weight)),
             Some(
                 Command::Remove {
                     source,

@@ -34,7 +34,7 @@ pub const VERTICES: u32 = 1024;
 // The batch of one edge, another one for each step.
 fn one_edge(alloc: Global, step: u32) -> Result<Batch, AllocError> {
     let mut batch = Batch::new(alloc);
-    match batch.push(Entry::Add(step % VERTICES, step / 7 % VERTICES)) {
+    match batch.push(Entry::Add(step % VERTICES, step / 7 % VERTICES, 1)) {
         Ok(()) => Ok(batch),
         Err(_) => Err(AllocError),
     }

@@ -145,7 +145,8 @@ fn push_labelled(out: &mut Vec<u8>, label: &[u8], number: u64) -> Result<(), All
     push_number(out, number)
 }
 
-fn push_spaced_integer(out: &mut Vec<u8>, integer: i64) -> Result<(), AllocError>
+/// Appends an integer behind a space.
+pub(crate) fn push_spaced_integer(out: &mut Vec<u8>, integer: i64) -> Result<(), AllocError>
     ensures { OnOk result (out.new.items ≡ out.old.items ++ 32 ∷ signed_decimal integer) }
 {
     out.push(b' ')?;

@@ -1,12 +1,14 @@
 //! Replies on their way to a writer: kept in a block, and written when the block is full.
 ghost use Rattle.std.specs.Prelude.{◌≡◌, [], ◌++◌, OnOk};
-ghost use Rattle.replies.specs.ReplyText.{word_line, ticket_line, edge_line, edges_text, line_text};
+ghost use Rattle.replies.specs.ReplyText.{word_line, ticket_line, edge_line, edges_text, line_text, weight_text};
 ghost use Rattle.replies.specs.Sending.{Emits};
 
 use crate::line_reply::LineReply;
+use crate::outcome_text::push_spaced_integer;
 use crate::send_error::SendError;
 use decimal::push_number;
 use devices::{Drain, write_all};
+use edge_lists::UNIT_WEIGHT;
 use std::alloc::AllocError;
 use std::marker::Model;
 use tree_batch::Graph;
@@ -68,7 +70,7 @@ impl<'a, W: Drain> ReplyWriter<'a, W> {
         Ok(())
     }
 
-    /// Sends how many edges a graph has, and a line for each.
+    /// Sends how many edges a graph has, and a line for each: its ends, and its weight where that is not 1.
     pub fn send_edges(&mut self, graph: &Graph) -> Result<(), SendError>
         ensures { Emits self.old self.new (edges_text graph.now.edges) result }
     {
@@ -79,7 +81,7 @@ impl<'a, W: Drain> ReplyWriter<'a, W> {
         Ok(())
     }
 
-    fn send_edge(&mut self, edge: (u32, u32)) -> Result<(), SendError>
+    fn send_edge(&mut self, edge: (u32, u32, i64)) -> Result<(), SendError>
         ensures { Emits self.old self.new (edge_line edge) result }
     {
         self.make_room()?;
@@ -143,12 +145,23 @@ fn push_ticket_line(out: &mut Vec<u8>, ticket: u64, version: u64) -> Result<(), 
     push_word_line(out, b"version", version)
 }
 
-fn push_edge_line(out: &mut Vec<u8>, edge: (u32, u32)) -> Result<(), AllocError>
+fn push_edge_line(out: &mut Vec<u8>, edge: (u32, u32, i64)) -> Result<(), AllocError>
     ensures { OnOk result (out.new.items ≡ out.old.items ++ edge_line edge) }
 {
     push_number(out, u64::from(edge.0))?;
     out.push(b' ')?;
     push_number(out, u64::from(edge.1))?;
+    push_weight(out, edge.2)?;
     out.push(b'\n')?;
     Ok(())
+}
+
+/// Appends the weight of an edge behind a space, where it is not 1.
+fn push_weight(out: &mut Vec<u8>, weight: i64) -> Result<(), AllocError>
+    ensures { OnOk result (out.new.items ≡ out.old.items ++ weight_text weight) }
+{
+    if weight == UNIT_WEIGHT {
+        return Ok(());
+    }
+    push_spaced_integer(out, weight)
 }

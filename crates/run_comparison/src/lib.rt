@@ -9,7 +9,6 @@
 mod programs;
 
 use algorithm_meaning::{NamedSet, NamedVector, Outcome};
-use edge_lists::UNIT_WEIGHT;
 use flat_snapshot::Flat;
 use lowering::lower;
 use parser::parse;
@@ -56,29 +55,14 @@ pub fn shows_the_same(
     alloc: Global,
     program: &TestedProgram,
     graph: &Flat,
-    edges: &[(u32, u32)],
+    edges: &[(u32, u32, i64)],
     turns: u64,
 ) -> Result<bool, AllocError> {
     let by_plan = run_alone(alloc, &program.plan, graph, turns)?;
-    match slow_run(alloc, &program.typed, graph.vertices(), edges, turns) {
+    match plain_run(alloc, &program.typed, graph.vertices(), edges, turns) {
         Ok(slowly) => Ok(are_the_same(&by_plan, &slowly)),
         Err(error) => Err(error),
     }
-}
-
-/// What the slow run of a program gives on a graph of these edges, each of weight 1. The only error is out of memory.
-pub fn slow_run(
-    alloc: Global,
-    program: &Typed,
-    vertices: u32,
-    ends: &[(u32, u32)],
-    turns: u64,
-) -> Result<Outcome, AllocError> {
-    let mut edges = Vec::with_capacity(alloc, ends.len())?;
-    for (source, destination) in ends {
-        edges.push((*source, *destination, UNIT_WEIGHT))?;
-    }
-    plain_run(alloc, program, vertices, &edges, turns)
 }
 
 /// Whether two outcomes are the same: ends, turns, texts, and vectors and sets in order.

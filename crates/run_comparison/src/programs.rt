@@ -3,8 +3,8 @@
 /// A program under a schedule: its name, its text, and the schedule's text.
 pub type Scheduled = (&'static str, &'static str, &'static str);
 
-/// The programs that are run, searches and labels first.
-pub const PROGRAMS: [Scheduled; 15] = [
+/// The programs that are run, searches and labels first. The last ones read the weights of edges.
+pub const PROGRAMS: [Scheduled; 21] = [
     ("search, push", SEARCH, ""),
     ("search, dense push", SEARCH, DENSE_PUSH),
     ("search, pull", SEARCH, PULL),
@@ -20,6 +20,12 @@ pub const PROGRAMS: [Scheduled; 15] = [
     ("a loop with a fault", FAULT, ""),
     ("a loop with a fault, fused", FAULT, FUSED),
     ("a loop with a fault, fields", FAULT, FIELDS),
+    ("shortest ways, push", SHORTEST, ""),
+    ("shortest ways, dense push", SHORTEST, DENSE_PUSH),
+    ("shortest ways, pull", SHORTEST, PULL),
+    ("shortest ways, hybrid", SHORTEST, HYBRID),
+    ("weighted sums, fused", SUMS, FUSED),
+    ("weighted sums, fused and pulled", SUMS, FUSED_PULL),
 ];
 
 /// How many of them are searches and labels.
@@ -88,6 +94,35 @@ const FAULT: &str = "element Vertex end\nelement Edge end\n\
     #s2# edges.apply(add);\n\
     b[i * i / 2] = a[i * 5];\n\
     print b[i * 5] / 2;\n\
+    end\nend\n";
+
+// The lengths of the shortest ways from vertex 0, after Bellman and Ford.
+const SHORTEST: &str = "element Vertex end\nelement Edge end\n\
+    const edges : edgeset{Edge}(Vertex, Vertex, int) = load(argv[1]);\n\
+    const x : vector{Vertex}(int) = 1000000;\n\
+    func relax(s : Vertex, d : Vertex, length : int) x[d] min= x[s] + length; end\n\
+    func main()\n\
+    var frontier : vertexset{Vertex} = new vertexset{Vertex}(0);\n\
+    frontier.addVertex(0);\n\
+    x[0] = 0;\n\
+    while frontier.getVertexSetSize() != 0\n\
+    #s1# frontier = edges.from(frontier).applyModified(relax, x);\n\
+    print frontier.getVertexSetSize();\n\
+    end\nend\n";
+
+// Sums of the neighbours' entries by weights, and beside them a function that reads no weight.
+const SUMS: &str = "element Vertex end\nelement Edge end\n\
+    const edges : edgeset{Edge}(Vertex, Vertex, int) = load(argv[1]);\n\
+    const vertices : vertexset{Vertex} = edges.getVertices();\n\
+    const a : vector{Vertex}(int) = 3;\n\
+    const b : vector{Vertex}(int) = 7;\n\
+    func low(v : Vertex) -> o : bool o = v % 5 != 3; end\n\
+    func sum(s : Vertex, d : Vertex, part : int) a[d] += s * part; end\n\
+    func least(s : Vertex, d : Vertex) b[d] min= s - 3; end\n\
+    func main()\n\
+    for i in 0:3\n\
+    #s1# edges.from(vertices).to(low).apply(sum);\n\
+    #s2# edges.from(vertices).to(low).apply(least);\n\
     end\nend\n";
 
 const DENSE_PUSH: &str = "schedule:\n  program->configApplyDirection(\"s1\", \"DensePush\")\

@@ -1,6 +1,6 @@
 -- The state of a run.
 use Rattle.std.specs.Prelude.{◌≡◌, ℕ, ◌<◌, List, [], length, map, slice_get, slice_index_or}
-use Rattle.edge_lists.specs.Edge.{unit_edges, unit_weight}
+use Rattle.edge_lists.specs.Edge.{unit_weight}
 use Rattle.typed_tree.specs.declared.program.Vector.{Vector}
 use Rattle.algorithm_meaning.specs.State.{GraphValue, StateValue, main_scope}
 use Rattle.algorithm_meaning.specs.Value.{members_of}
@@ -26,7 +26,7 @@ pub record IsRunState (r : RunState) : Type 0 where
 
 -- a graph as the meaning has it
 abbrev pub graph_value : Digraph → GraphValue
-graph_value d = record { vertices = d.vertices; edges = unit_edges d.edges }
+graph_value d = record { vertices = d.vertices; edges = d.edges }
 
 -- the state before the first statement, with these vectors and constant sets
 abbrev pub opened : Digraph → List Vector → (sets : List ℕ) → (turns : ℕ) → RunState

@@ -1,6 +1,5 @@
 -- What a run lends, in the words of the meaning.
 use Rattle.std.specs.Prelude.{◌≡◌, ℕ, ◌<◌, ◌≤◌, ℤ, List, [], length, slice_get, slice_index_or, Option, Some, None}
-use Rattle.edge_lists.specs.Edge.{unit_edges}
 use Rattle.typed_tree.specs.ProgramTree.{ProgramTree}
 use Rattle.algorithm_meaning.specs.State.{GraphValue, StateValue}
 use Rattle.algorithm_meaning.specs.Value.{members_of}
@@ -29,4 +28,4 @@ pub record IsViewOf (run : RunView) (p : ProgramTree) (m : StateValue) (g : Grap
   pub sizes : HasSizes run.sizes.now m
   pub vectors : run.vectors.now.vectors ≡ m.vectors
   pub vertices : run.graph.now.vertices ≡ g.vertices
-  pub edges : unit_edges run.graph.now.edges ≡ g.edges
+  pub edges : run.graph.now.edges ≡ g.edges

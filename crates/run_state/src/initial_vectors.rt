@@ -1,6 +1,5 @@
 //! Initial vectors: the entries before the first statement.
 ghost use Rattle.std.specs.Prelude.{◌≡◌, pos, map, IfOk};
-ghost use Rattle.edge_lists.specs.Edge.{unit_edges};
 ghost use Rattle.algorithm_meaning.specs.Arithmetic.{wrapped};
 ghost use Rattle.algorithm_meaning.specs.Meaning.{opening_entries, out_degree};
 ghost use Rattle.algorithm_meaning.specs.VertexSets.{all_below};
@@ -63,7 +62,7 @@ fn open_array(
 
 /// The out-degree of each vertex.
 fn out_degrees(alloc: Global, graph: &Flat) -> Result<Vec<i64>, AllocError>
-    ensures { IfOk result (λ v. v.items ≡ map (λ v. wrapped (pos (out_degree v (unit_edges graph.now.edges)))) (all_below graph.now.vertices)) }
+    ensures { IfOk result (λ v. v.items ≡ map (λ v. wrapped (pos (out_degree v graph.now.edges))) (all_below graph.now.vertices)) }
 {
     let mut degrees = Vec::new(alloc);
     'vertices: for vertex in 0..graph.vertices() {

@@ -1,7 +1,6 @@
 //! Run state: the variables, sets and vectors of a run, and the calls on them.
 ghost use Rattle.std.specs.Prelude.{◌≡◌, ℕ, pos, ◌+◌, ◌<◌, ◌≤◌, Bool, length, slice_get, slice_index_or, IfOk, IfSome, IsSomeAnd, IsTrue, MatchBool, OnErr, OnOk, None, option_and_then};
 ghost use Rattle.std.specs.Option.{ForSome};
-ghost use Rattle.edge_lists.specs.Edge.{unit_edges};
 ghost use Rattle.typed_tree.specs.IntegerTree.{IntegerTree};
 ghost use Rattle.typed_tree.specs.ConditionTree.{ConditionTree};
 ghost use Rattle.typed_tree.specs.ProgramTree.{ProgramTree};
@@ -476,7 +475,7 @@ impl State {
 
     /// Lends what an edge apply reads, beside the functions and the graph.
     pub fn view<'a>(&'a self, functions: &'a FunctionKernels, graph: &'a Flat) -> RunView<'a>
-        ensures seen { (p : ProgramTree) (g : GraphValue) → AreFunctionKernels functions.now p → graph.now.vertices ≡ g.vertices → unit_edges graph.now.edges ≡ g.edges
+        ensures seen { (p : ProgramTree) (g : GraphValue) → AreFunctionKernels functions.now p → graph.now.vertices ≡ g.vertices → graph.now.edges ≡ g.edges
             → IsViewOf result p self.now.state g }
         ensures entries { HasEntryForEach self.now.vertices self.now.state.vectors }
         ensures valid { IsRunState self.now }

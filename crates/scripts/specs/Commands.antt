@@ -1,10 +1,11 @@
 -- The command that a line asks for.
-use Rattle.std.specs.Prelude.{ℕ, ◌^◌, Bool, List, [], ◌∷◌, Option, Some, None, codes, if◌then◌else◌}
+use Rattle.std.specs.Prelude.{ℕ, ℤ, ◌^◌, Bool, List, [], ◌∷◌, Option, Some, None, codes, if◌then◌else◌}
 use Rattle.std.specs.Option.{option_and_then, option_map}
 use Rattle.std.specs.Str.{bytes_eq}
 use Rattle.scripts.specs.declared.commands.Command.{Command}
 use Rattle.scripts.specs.declared.commands.Command.TheVariants.{Vertices, Add, Remove, Grow, Commit, Hold, Release, Edges, EdgesOf, Run}
-use Rattle.decimal.specs.Numbers.{number_of}
+use Rattle.decimal.specs.Numbers.{number_of, integer_of}
+use Rattle.edge_lists.specs.Edge.{unit_weight}
 use Rattle.scripts.specs.Pieces.{words_of}
 
 -- whether the word is spelled so, byte for byte
@@ -23,10 +24,24 @@ vertices_of (vertices ∷ []) = option_map (λ n. Vertices n 64) (number_of (2 ^
 vertices_of (vertices ∷ chunk_size ∷ []) = with_numbers Vertices vertices chunk_size
 vertices_of _ = None
 
--- "add U V" and "del U V"
-abbrev pub edge_of : (ℕ → ℕ → Command) → List (List ℕ) → Option Command
-edge_of make (source ∷ destination ∷ []) = with_numbers make source destination
-edge_of make _ = None
+-- the weight that one word is, which may be left out where it is 1
+abbrev pub weight_of : List (List ℕ) → Option ℤ
+weight_of [] = Some unit_weight
+weight_of (word ∷ []) = integer_of word
+weight_of _ = None
+
+-- "add U V", where the weight is 1, and "add U V W"
+abbrev pub add_of : List (List ℕ) → Option Command
+add_of (source ∷ destination ∷ words) =
+    option_and_then (λ u. option_and_then (λ v.
+    option_map (Add u v) (weight_of words))
+    (number_of (2 ^ 32) destination)) (number_of (2 ^ 32) source)
+add_of _ = None
+
+-- "del U V"
+abbrev pub remove_of : List (List ℕ) → Option Command
+remove_of (source ∷ destination ∷ []) = with_numbers Remove source destination
+remove_of _ = None
 
 -- "grow N"
 abbrev pub grow_of : List (List ℕ) → Option Command
@@ -71,8 +86,8 @@ abbrev pub command_of_words : List (List ℕ) → Option Command
 command_of_words [] = None
 command_of_words (name ∷ words) =
     if name is codes "vertices" then vertices_of words else
-    if name is codes "add" then edge_of Add words else
-    if name is codes "del" then edge_of Remove words else
+    if name is codes "add" then add_of words else
+    if name is codes "del" then remove_of words else
     if name is codes "grow" then grow_of words else
     if name is codes "commit" then alone Commit words else
     if name is codes "hold" then hold_of words else

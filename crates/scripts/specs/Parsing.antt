@@ -1,8 +1,8 @@
 -- For proofs only: what the steps of the reader of lines say of bytes and words.
-use Rattle.std.specs.Prelude.{◌≡◌, ℕ, ◌^◌, List, [], ◌∷◌, ◌++◌, Option, Some, None, MatchOption}
+use Rattle.std.specs.Prelude.{◌≡◌, ℕ, ℤ, List, [], ◌∷◌, ◌++◌, Option, Some, None, MatchOption}
 use Rattle.std.specs.Borrow.{Bor}
-use Rattle.std.specs.Option.{option_and_then, option_map}
-use Rattle.decimal.specs.Numbers.{number_of}
+use Rattle.std.specs.Option.{option_map}
+use Rattle.decimal.specs.Numbers.{number_of, integer_of}
 use Rattle.scripts.specs.Pieces.{HasNone, words_of}
 
 -- what stands before the first separator c and what stands after it, or nothing where there is none
@@ -23,8 +23,11 @@ first_number limit (word ∷ words) = option_map (λ n. (n, words)) (number_of l
 abbrev pub IsFirstNumber : ℕ → List (List ℕ) → List (List ℕ) → Option ℕ → Type 0
 IsFirstNumber limit old new read = first_number limit old ≡ option_map (λ n. (n, new)) read
 
--- two words, both numbers below 2 ^ 32
-abbrev pub two_numbers : List (List ℕ) → Option (ℕ × ℕ)
-two_numbers (first ∷ second ∷ []) =
-    option_and_then (λ m. option_map (λ n. (m, n)) (number_of (2 ^ 32) second)) (number_of (2 ^ 32) first)
-two_numbers _ = None
+-- the integer that the first word is, and the words after it
+abbrev pub first_integer : List (List ℕ) → Option (ℤ × List (List ℕ))
+first_integer [] = None
+first_integer (word ∷ words) = option_map (λ n. (n, words)) (integer_of word)
+
+-- what is read is the first integer of the old words, and the new words are those after it
+abbrev pub IsFirstInteger : List (List ℕ) → List (List ℕ) → Option ℤ → Type 0
+IsFirstInteger old new read = first_integer old ≡ option_map (λ n. (n, new)) read

@@ -1,7 +1,6 @@
 -- What a script replies: its lines, one after another, at first with no graph open.
 use Rattle.std.specs.Prelude.{ℕ, zero, suc, nat_lt, Bool, false, not, ◌||◌, ◌&&◌, Option, Some, None, if◌then◌else◌, List, [], ◌∷◌, ◌++◌, codes}
 use Rattle.std.specs.List.{slice_get}
-use Rattle.edge_lists.specs.Edge.{unit_edges}
 use Rattle.algorithm_meaning.specs.ProgramTree.{ProgramTree}
 use Rattle.algorithm_meaning.specs.Shown.{meaning}
 use Rattle.algorithm_meaning.specs.declared.outcome.Outcome.{Outcome}
@@ -107,7 +106,7 @@ is_worker_count workers = nat_lt 0 workers && nat_lt workers 65
 
 -- what a program means on a graph
 abbrev pub meaning_on : Digraph → ProgramTree → ℕ → Outcome
-meaning_on g program turns = meaning program (record { vertices = g.vertices; edges = unit_edges g.edges }) turns
+meaning_on g program turns = meaning program (record { vertices = g.vertices; edges = g.edges }) turns
 
 -- a run is answered by what it shows
 abbrev pub ran : OpenState → Outcome → Answer OpenState
@@ -125,7 +124,7 @@ running o turns workers (Some program) (Some g) = if is_worker_count workers the
 -- a command on an open graph
 abbrev pub on_open : List ProgramTree → OpenState → Command → Answer OpenState
 on_open programs o (command.Vertices n b) = refused o 801
-on_open programs o (command.Add source destination) = joined o (entry.Add source destination)
+on_open programs o (command.Add source destination weight) = joined o (entry.Add source destination weight)
 on_open programs o (command.Remove source destination) = joined o (entry.Remove source destination)
 on_open programs o (command.Grow vertices) = joined o (entry.Grow vertices)
 on_open programs o command.Commit = stepping o (step.Commit o.pending) []

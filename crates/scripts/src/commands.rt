@@ -11,10 +11,11 @@ pub enum Command {
         vertices: u32,
         chunk_size: u32,
     },
-    /// `add U V`: an edge to add.
+    /// `add U V` or `add U V W`: an edge to add, and its weight, which is 1 where none is given.
     Add {
         source: u32,
         destination: u32,
+        weight: i64,
     },
     /// `del U V`: an edge to remove.
     Remove {

@@ -104,7 +104,8 @@ impl OpenGraph {
             Command::Add {
                 source,
                 destination,
-            } => self.join(Entry::Add(source, destination)),
+                weight,
+            } => self.join(Entry::Add(source, destination, weight)),
             Command::Remove {
                 source,
                 destination,

@@ -1,17 +1,17 @@
 //! Command parser: the command of a line.
 ghost use Rattle.std.specs.Prelude.{◌≡◌, ◌∷◌};
 ghost use Rattle.std.specs.Option.{option_map};
-ghost use Rattle.scripts.specs.declared.commands.Command.TheVariants.{Add, Remove, Commit, Release};
-ghost use Rattle.scripts.specs.Commands.{command_of, command_of_words, vertices_of, edge_of, grow_of, alone, hold_of, edges_of, run_of, ticket_of, one_number};
-ghost use Rattle.scripts.specs.Parsing.{two_numbers};
+ghost use Rattle.scripts.specs.declared.commands.Command.TheVariants.{Commit, Release};
+ghost use Rattle.scripts.specs.Commands.{command_of, command_of_words, vertices_of, add_of, weight_of, remove_of, grow_of, alone, hold_of, edges_of, run_of, ticket_of, one_number};
 
 use crate::commands::{Command, DEFAULT_CHUNK_SIZE};
 use crate::words::Words;
+use edge_lists::UNIT_WEIGHT;
 
 /// The command of a line without its line feed, or `None` where the line is no command. The numbers
-/// of `vertices`, `add`, `del` and `grow` are below 2^32, the others below 2^64. The line is a command as it
-/// stands, byte for byte: a space more, a tab, a carriage return, a sign or another case makes it
-/// none, and so the empty line is none.
+/// of `vertices`, `add`, `del` and `grow` are below 2^32, the others below 2^64; the weight of `add` is a signed
+/// number of 64 bits, behind `-` where it is negative. The line is a command as it stands, byte for byte: a space
+/// more, a tab, a carriage return, another sign or another case makes it none, and so the empty line is none.
 pub fn command(line: &[u8]) -> Option<Command>
     ensures { result ≡ command_of line.now }
 {
@@ -63,23 +63,27 @@ fn vertices(mut words: Words<'_>) -> Option<Command>
     })
 }
 
-/// An edge to add.
-fn add(words: Words<'_>) -> Option<Command>
-    ensures { result ≡ edge_of Add words.entry }
+/// An edge to add, and its weight.
+fn add(mut words: Words<'_>) -> Option<Command>
+    ensures { result ≡ add_of words.entry }
 {
-    let (source, destination) = edge(words)?;
+    let source = words.take_short_number()?;
+    let destination = words.take_short_number()?;
+    let weight = last_weight(words)?;
     Some(Command::Add {
         source,
         destination,
+        weight,
     })
 }
 
 /// An edge to remove.
-fn remove(words: Words<'_>) -> Option<Command>
-    ensures { result ≡ edge_of Remove words.entry }
+fn remove(mut words: Words<'_>) -> Option<Command>
+    ensures { result ≡ remove_of words.entry }
 {
-    let (source, destination) = edge(words)?;
-    Some(Command::Remove {
+    let source = words.take_short_number()?;
+    let destination = words.take_short_number()?;
+    words.is_empty().then_some(Command::Remove {
         source,
         destination,
     })
@@ -170,12 +174,14 @@ fn last_number(mut words: Words<'_>) -> Option<u64>
     words.is_empty().then_some(number)
 }
 
-/// The two ends of an edge.
+/// The weight that is the only word left, or 1 where none is left.
 #[inline]
-fn edge(mut words: Words<'_>) -> Option<(u32, u32)>
-    ensures { result ≡ two_numbers words.entry }
+fn last_weight(mut words: Words<'_>) -> Option<i64>
+    ensures { result ≡ weight_of words.entry }
 {
-    let source = words.take_short_number()?;
-    let destination = words.take_short_number()?;
-    words.is_empty().then_some((source, destination))
+    if words.is_empty() {
+        return Some(UNIT_WEIGHT);
+    }
+    let weight = words.take_integer()?;
+    words.is_empty().then_some(weight)
 }

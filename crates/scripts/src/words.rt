@@ -1,10 +1,10 @@
 //! The words of a line, read from the front.
 ghost use Rattle.std.specs.Prelude.{◌≡◌, ◌^◌, ℕ, List, [], ◌∷◌, IsTrue, ◌↔◌, MatchOption};
 ghost use Rattle.scripts.specs.Pieces.{words_of};
-ghost use Rattle.scripts.specs.Parsing.{words_left, IsFirstNumber};
+ghost use Rattle.scripts.specs.Parsing.{words_left, IsFirstInteger, IsFirstNumber};
 
 use crate::pieces::split_piece;
-use decimal::leading_digits;
+use decimal::{integer, leading_digits};
 use std::marker::Model;
 
 /// The words of a line that are not read yet. A contract sees them as the list of those words.
@@ -72,6 +72,14 @@ impl<'a> Words<'a> {
             Some(_) => return None,
         }
         Some(number)
+    }
+
+    /// Reads the next word, where it is an integer of 64 bits. After `None` the words may be any.
+    #[inline]
+    pub(crate) fn take_integer(&mut self) -> Option<i64>
+        ensures { IsFirstInteger self.old self.new result }
+    {
+        integer(self.take_word()?)
     }
 
     /// Reads the next word, where it is a number below 2^32. After `None` the words may be any.

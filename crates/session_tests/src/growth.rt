@@ -73,7 +73,7 @@ fn a_job_on_a_smaller_version_goes_on_after_growth(rt: HostRuntime) -> Result<()
     let eight = commit_and_hold(
         alloc,
         &mut session,
-        &[Entry::Add(4, 7), Entry::Grow(8), Entry::Grow(6)],
+        &[Entry::Add(4, 7, 1), Entry::Grow(8), Entry::Grow(6)],
     )?;
     let second = session.step(alloc, started(1, 2))?;
     let third = session.step(alloc, started(1, 1))?;
@@ -112,8 +112,8 @@ fn versions_of_three_sizes_run_side_by_side(rt: HostRuntime) -> Result<(), Fail>
     let alloc = rt.alloc();
     let mut session = session(alloc)?;
     let six = commit_and_hold(alloc, &mut session, FORK)?;
-    let eight = commit_and_hold(alloc, &mut session, &[Entry::Grow(8), Entry::Add(4, 7)])?;
-    let ten = commit_and_hold(alloc, &mut session, &[Entry::Add(7, 9), Entry::Grow(10)])?;
+    let eight = commit_and_hold(alloc, &mut session, &[Entry::Grow(8), Entry::Add(4, 7, 1)])?;
+    let ten = commit_and_hold(alloc, &mut session, &[Entry::Add(7, 9, 1), Entry::Grow(10)])?;
     for ticket in &[1, 2, 3] {
         session.step(alloc, started(1, *ticket))?;
     }
@@ -174,10 +174,10 @@ fn growth_is_refused_against_the_newest_version(rt: HostRuntime) -> Result<(), F
     steps.push(commit(alloc, &[Entry::Grow(8)])?)?;
     steps.push(commit(alloc, &[Entry::Grow(7)])?)?;
     steps.push(commit(alloc, &[Entry::Grow(9), Entry::Grow(7)])?)?;
-    steps.push(commit(alloc, &[Entry::Add(8, 0)])?)?;
+    steps.push(commit(alloc, &[Entry::Add(8, 0, 1)])?)?;
     steps.push(commit(alloc, &[Entry::Grow(16_777_217)])?)?;
     steps.push(commit(alloc, &[Entry::Grow(8), Entry::Remove(7, 7)])?)?;
-    steps.push(commit(alloc, &[Entry::Add(9, 0), Entry::Grow(10)])?)?;
+    steps.push(commit(alloc, &[Entry::Add(9, 0, 1), Entry::Grow(10)])?)?;
     let replies = session.run(alloc, &steps)?;
     drop(session);
     let wanted = [

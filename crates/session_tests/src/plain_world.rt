@@ -55,7 +55,7 @@ fn graph_of(alloc: Global, version: &PlainVersion) -> Result<Flat, Fail> {
     for source in 0..version.vertices {
         for destination in 0..version.vertices {
             if version.table.get(cell_of(source, destination)) == Some(&true) {
-                batch.push(Entry::Add(source, destination))?;
+                batch.push(Entry::Add(source, destination, 1))?;
             }
         }
     }
@@ -77,7 +77,7 @@ fn vertices_after(before: u32, entries: &[Entry]) -> u32 {
 // Whether an entry may be one of those by which so many vertices become so many.
 fn fits(entry: Entry, before: u32, after: u32) -> bool {
     match entry {
-        Entry::Add(source, destination) | Entry::Remove(source, destination) => {
+        Entry::Add(source, destination, _) | Entry::Remove(source, destination) => {
             source < after && destination < after
         }
         Entry::Grow(vertices) => vertices >= before,
@@ -86,10 +86,10 @@ fn fits(entry: Entry, before: u32, after: u32) -> bool {
 
 // Notes an entry in a table.
 fn note(table: &mut [bool], entry: Entry) {
-    if let Some((source, destination)) = entry.edge()
+    if let Some((source, destination)) = entry.ends()
         && let Some(cell) = table.get_mut(cell_of(source, destination))
     {
-        *cell = entry == Entry::Add(source, destination);
+        *cell = matches!(entry, Entry::Add(..));
     }
 }
 

@@ -25,11 +25,11 @@ pub(crate) const FAULTY: &[u8] = b"element Vertex end element Edge end \
 
 /// The edges of a fork that comes together, and of a tail; a sixth vertex has none.
 pub(crate) const FORK: &[Entry] = &[
-    Entry::Add(0, 1),
-    Entry::Add(0, 2),
-    Entry::Add(1, 3),
-    Entry::Add(2, 3),
-    Entry::Add(3, 4),
+    Entry::Add(0, 1, 1),
+    Entry::Add(0, 2, 1),
+    Entry::Add(1, 3, 1),
+    Entry::Add(2, 3, 1),
+    Entry::Add(3, 4, 1),
 ];
 
 /// How many vertices the graphs have.

@@ -30,7 +30,7 @@ fn random_entry(random: &mut Random) -> Entry {
     match random.below(12) {
         0 => Entry::Grow(random.below(u64::from(MOST_VERTICES) + 1) as u32),
         1 | 2 | 3 => Entry::Remove(source, destination),
-        _ => Entry::Add(source, destination),
+        _ => Entry::Add(source, destination, 1),
     }
 }
 

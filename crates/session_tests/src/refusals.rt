@@ -70,7 +70,7 @@ fn starts_and_steps_are_refused_by_number(rt: HostRuntime) -> Result<(), Fail> {
 fn refusals_of_the_versions_are_replies(rt: HostRuntime) -> Result<(), Fail> {
     let alloc = rt.alloc();
     let mut session = session(alloc)?;
-    let outside = session.step(alloc, commit(alloc, &[Entry::Add(6, 0)])?)?;
+    let outside = session.step(alloc, commit(alloc, &[Entry::Add(6, 0, 1)])?)?;
     let made = session.step(alloc, commit(alloc, FORK)?)?;
     let gone = session.step(alloc, SessionStep::Acquire(Which::At(0)))?;
     let open = session.step(alloc, SessionStep::Release(1))?;

@@ -48,7 +48,7 @@ fn grow_to<J: Naming, W: Wait + Drop, R: Threads + Wait + Sync>(
     number: u64,
 ) -> Result<u64, SharedError> {
     let vertex = number.min(MOST) as u32;
-    let entries = [Entry::Add(vertex, 0), Entry::Grow(vertex.wrapping_add(1))];
+    let entries = [Entry::Add(vertex, 0, 1), Entry::Grow(vertex.wrapping_add(1))];
     commit(rt, alloc, graph, me, &entries)
 }
 
@@ -139,7 +139,7 @@ fn is_refused<J: Naming, W: Wait + Drop, R: Threads + Wait + Sync>(
 ) -> bool {
     let fewer = commit(rt, alloc, graph, me, &[Entry::Grow(9), Entry::Grow(3)]);
     let many = commit(rt, alloc, graph, me, &[Entry::Grow(16_777_217)]);
-    let outside = commit(rt, alloc, graph, me, &[Entry::Add(4, 0), Entry::Grow(4)]);
+    let outside = commit(rt, alloc, graph, me, &[Entry::Add(4, 0, 1), Entry::Grow(4)]);
     let range = Err(SharedError::VertexRange);
     fewer == range && many == range && outside == range && is_newest(me, 3)
 }

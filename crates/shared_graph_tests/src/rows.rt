@@ -35,7 +35,7 @@ pub(crate) fn add<J: Naming, W: Wait + Drop, R: Threads + Wait + Sync>(
     (source, destination): (u32, u32),
 ) -> Result<u64, SharedError> {
     let mut batch = Batch::new(alloc);
-    if batch.push(Entry::Add(source, destination)).is_err() {
+    if batch.push(Entry::Add(source, destination, 1)).is_err() {
         return Err(SharedError::NoMemory);
     }
     graph.commit(rt, alloc, me, batch)

@@ -165,7 +165,7 @@ fn two_vertices<J: Naming, R: Threads + Wait + AllocGlobal + Sync>(
         return Err(SharedError::BadSeats);
     };
     let alloc = rt.alloc();
-    let first = commit(rt, alloc, &graph, me, &[Entry::Add(0, 1)]) == Ok(1);
+    let first = commit(rt, alloc, &graph, me, &[Entry::Add(0, 1, 1)]) == Ok(1);
     let small = match graph.hold(rt, alloc, me, Which::Newest) {
         Ok(held) => {
             let before = is_of(rt, alloc, programs, &held, ON_TWO);
@@ -188,7 +188,7 @@ fn grow_to_three<J: Naming, W: Wait + Drop, R: Threads + Wait + Sync>(
     programs: Programs<'_>,
     me: &mut Reader<J>,
 ) -> bool {
-    let made = commit(rt, alloc, graph, me, &[Entry::Add(2, 0), Entry::Grow(3)]) == Ok(2);
+    let made = commit(rt, alloc, graph, me, &[Entry::Add(2, 0, 1), Entry::Grow(3)]) == Ok(2);
     match graph.hold(rt, alloc, me, Which::Newest) {
         Ok(held) => {
             let before = is_of(rt, alloc, programs, &held, ON_THREE);
@@ -208,7 +208,7 @@ fn grow_to_five<J: Naming, W: Wait + Drop, R: Threads + Wait + Sync>(
     programs: Programs<'_>,
     me: &mut Reader<J>,
 ) -> bool {
-    let entries = [Entry::Grow(5), Entry::Grow(4), Entry::Add(1, 4)];
+    let entries = [Entry::Grow(5), Entry::Grow(4), Entry::Add(1, 4, 1)];
     let made = commit(rt, alloc, graph, me, &entries) == Ok(3);
     let refused = commit(rt, alloc, graph, me, &[Entry::Grow(4)]);
     match graph.hold(rt, alloc, me, Which::Newest) {

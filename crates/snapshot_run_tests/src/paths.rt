@@ -23,9 +23,9 @@ pub(crate) const SEARCH: &[u8] = b"element Vertex end element Edge end \
 // The batch that makes the version of this number: the path from vertex 0 is one edge longer, and the fourth has none again.
 fn step_to(alloc: Global, number: u64) -> Result<Batch, AllocError> {
     let entries: &[Entry] = match number % 4 {
-        1 => &[Entry::Add(0, 1)],
-        2 => &[Entry::Add(1, 2)],
-        3 => &[Entry::Add(2, 3)],
+        1 => &[Entry::Add(0, 1, 1)],
+        2 => &[Entry::Add(1, 2, 1)],
+        3 => &[Entry::Add(2, 3, 1)],
         _ => &[
             Entry::Remove(0, 1),
             Entry::Remove(1, 2),

@@ -1,6 +1,6 @@
-//! Random batches on a graph, beside a plain table of pairs.
+//! Random batches on a graph, beside a plain table of the weights between pairs.
 
-use measuring::{Random, told};
+use measuring::{Random, random_weight, told};
 use std::alloc::Global;
 use std::io;
 use std::io::Error;
@@ -60,7 +60,7 @@ fn print_series<T: Threads + Sync>(
 ) -> io::Result<()> {
     let (entries, batches, each) = series;
     let mut graph = Graph::new(VERTICES, CHUNK_SIZE).map_err(told)?;
-    let mut table = vec![in rt.alloc(); false; CELLS]?;
+    let mut table: Vec<Option<i64>> = vec![in rt.alloc(); None; CELLS]?;
     for turn in 0..batches {
         let batch = random_batch(rt.alloc(), random, entries)?;
         put_all(&mut table, batch.entries());
@@ -103,18 +103,26 @@ fn random_entry(random: &mut Random) -> Entry {
     let destination = random.below(u64::from(VERTICES)) as u32;
     match random.below(3) {
         0 => Entry::Remove(source, destination),
-        _ => Entry::Add(source, destination),
+        _ => Entry::Add(source, destination, random_weight(random)),
     }
 }
 
 // Does the entries one after another.
-fn put_all(table: &mut [bool], entries: &[Entry]) {
+fn put_all(table: &mut [Option<i64>], entries: &[Entry]) {
     for entry in entries {
-        if let Some((source, destination)) = entry.edge()
+        if let Some((source, destination)) = entry.ends()
             && let Some(cell) = table.get_mut(cell_of(source, destination))
         {
-            *cell = matches!(entry, Entry::Add(_, _));
+            *cell = weight_of(*entry);
         }
+    }
+}
+
+// The weight of the edge that an entry adds.
+fn weight_of(entry: Entry) -> Option<i64> {
+    match entry {
+        Entry::Add(_, _, weight) => Some(weight),
+        Entry::Remove(..) | Entry::Grow(_) => None,
     }
 }
 
@@ -124,7 +132,7 @@ fn cell_of(source: u32, destination: u32) -> usize {
 }
 
 // Whether the graph has just the edges of the table, in both directions, and lists them.
-fn is_same(graph: &Graph, table: &[bool]) -> bool {
+fn is_same(graph: &Graph, table: &[Option<i64>]) -> bool {
     let mut edges = 0usize;
     for source in 0..VERTICES {
         match edges_from(graph, table, source) {
@@ -136,11 +144,11 @@ fn is_same(graph: &Graph, table: &[bool]) -> bool {
 }
 
 // How many edges of the table go out of a vertex, if the graph has them all.
-fn edges_from(graph: &Graph, table: &[bool], source: u32) -> Option<usize> {
+fn edges_from(graph: &Graph, table: &[Option<i64>], source: u32) -> Option<usize> {
     let mut edges = 0usize;
     for destination in 0..VERTICES {
-        if has(table, source, destination) {
-            if !is_in(graph, source, destination) {
+        if let Some(weight) = noted(table, source, destination) {
+            if !is_in(graph, source, destination, weight) {
                 return None;
             }
             edges = edges.wrapping_add(1);
@@ -149,26 +157,30 @@ fn edges_from(graph: &Graph, table: &[bool], source: u32) -> Option<usize> {
     Some(edges)
 }
 
-fn has(table: &[bool], source: u32, destination: u32) -> bool {
+fn noted(table: &[Option<i64>], source: u32, destination: u32) -> Option<i64> {
     table
         .get(cell_of(source, destination))
         .copied()
-        .unwrap_or(false)
+        .unwrap_or(None)
 }
 
-fn is_in(graph: &Graph, source: u32, destination: u32) -> bool {
+// Whether the edge has this weight, from either end.
+fn is_in(graph: &Graph, source: u32, destination: u32, weight: i64) -> bool {
     match graph.in_(destination) {
-        Some(sources) => sources.contains(source) && graph.contains(source, destination),
+        Some(sources) => {
+            let from_there = sources.get(source);
+            from_there == Some(weight) && graph.weight(source, destination) == from_there
+        }
         None => false,
     }
 }
 
 // How many edges of the table the graph lists, while they ascend.
-fn listed(graph: &Graph, table: &[bool]) -> usize {
+fn listed(graph: &Graph, table: &[Option<i64>]) -> usize {
     let (mut edges, mut next) = (0usize, 0usize);
-    for (source, destination) in graph.edges() {
+    for (source, destination, weight) in graph.edges() {
         let cell = cell_of(source, destination);
-        if cell < next || !has(table, source, destination) {
+        if cell < next || noted(table, source, destination) != Some(weight) {
             break;
         }
         edges = edges.wrapping_add(1);

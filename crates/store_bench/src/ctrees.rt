@@ -66,7 +66,7 @@ fn print_size(
 
 // Lists, the sets of them, the prefixes and tails of the sets, and the number of elements.
 struct ChunkSetBenchmark {
-    lists: Vec<Vec<u32>>,
+    lists: Vec<Vec<(u32, i64)>>,
     sets: Vec<CTree>,
     tails: Vec<Tail>,
     elements: u64,
@@ -124,7 +124,7 @@ impl Benchmark for ChunkSetBenchmark {
 // Adds the set of a list, and its prefix and its tails.
 fn push_set(
     alloc: Global,
-    list: &[u32],
+    list: &[(u32, i64)],
     sets: &mut Vec<CTree>,
     tails: &mut Vec<Tail>,
 ) -> io::Result<()> {
@@ -135,7 +135,7 @@ fn push_set(
 
 fn push_tails(set: &CTree, tails: &mut Vec<Tail>) -> Result<(), AllocError> {
     tails.push(set.prefix().share()?)?;
-    for (_, tail) in set.heads() {
+    for (_, _, tail) in set.heads() {
         tails.push(tail.share()?)?;
     }
     Ok(())
@@ -143,7 +143,11 @@ fn push_tails(set: &CTree, tails: &mut Vec<Tail>) -> Result<(), AllocError> {
 
 // So many destinations of edges of an RMAT graph (Chakrabarti, Zhan, Faloutsos, SDM 2004) of 2^24
 // vertices, ascending; fewer where 16 draws for each do not give them.
-fn neighbours(alloc: Global, random: &mut Random, count: usize) -> Result<Vec<u32>, AllocError> {
+fn neighbours(
+    alloc: Global,
+    random: &mut Random,
+    count: usize,
+) -> Result<Vec<(u32, i64)>, AllocError> {
     let mut words = vec![in alloc; 0u64; WORDS]?;
     mark_some(&mut words, random, count);
     let mut list = Vec::new(alloc);
@@ -171,7 +175,7 @@ fn mark(words: &mut [u64], element: u32) -> bool {
     is_new
 }
 
-fn push_all_marked(list: &mut Vec<u32>, words: &[u64]) -> Result<(), AllocError> {
+fn push_all_marked(list: &mut Vec<(u32, i64)>, words: &[u64]) -> Result<(), AllocError> {
     let mut first = 0u32;
     for word in words {
         if *word != 0 {
@@ -183,10 +187,10 @@ fn push_all_marked(list: &mut Vec<u32>, words: &[u64]) -> Result<(), AllocError>
 }
 
 // Adds the elements that a word marks from the first on.
-fn push_marked(list: &mut Vec<u32>, first: u32, word: u64) -> Result<(), AllocError> {
+fn push_marked(list: &mut Vec<(u32, i64)>, first: u32, word: u64) -> Result<(), AllocError> {
     for place in 0..64u32 {
         if word >> place & 1 == 1 {
-            list.push(first.wrapping_add(place))?;
+            list.push((first.wrapping_add(place), 1))?;
         }
     }
     Ok(())
@@ -201,7 +205,7 @@ fn destination(random: &mut Random) -> u32 {
     element
 }
 
-fn encode_all(alloc: Global, lists: &[Vec<u32>]) -> io::Result<u64> {
+fn encode_all(alloc: Global, lists: &[Vec<(u32, i64)>]) -> io::Result<u64> {
     let mut tails = Vec::with_capacity(alloc, lists.len())?;
     for list in lists {
         push_encoded(alloc, list, &mut tails)?;
@@ -209,14 +213,14 @@ fn encode_all(alloc: Global, lists: &[Vec<u32>]) -> io::Result<u64> {
     Ok(tails.len() as u64)
 }
 
-fn push_encoded(alloc: Global, list: &[u32], tails: &mut Vec<Tail>) -> io::Result<()> {
+fn push_encoded(alloc: Global, list: &[(u32, i64)], tails: &mut Vec<Tail>) -> io::Result<()> {
     match Tail::encode(alloc, None, list) {
         Ok(tail) => Ok(tails.push(tail)?),
         Err(error) => Err(tail_error(error)),
     }
 }
 
-fn make_all(alloc: Global, lists: &[Vec<u32>]) -> io::Result<u64> {
+fn make_all(alloc: Global, lists: &[Vec<(u32, i64)>]) -> io::Result<u64> {
     let mut sets = Vec::with_capacity(alloc, lists.len())?;
     for list in lists {
         sets.push(set_of(alloc, list)?)?;
@@ -227,7 +231,7 @@ fn make_all(alloc: Global, lists: &[Vec<u32>]) -> io::Result<u64> {
 fn sum_of_sets(sets: &[CTree]) -> u64 {
     let mut sum = 0u64;
     for set in sets {
-        for element in set.iter() {
+        for (element, _) in set.iter() {
             sum = sum.wrapping_add(u64::from(element));
         }
     }

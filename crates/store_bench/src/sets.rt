@@ -137,8 +137,8 @@ impl SetPair {
     fn new(alloc: Global, random: &mut Random, size: u64) -> io::Result<SetPair> {
         let first = ascending(alloc, random, SIZE)?;
         let second = ascending(alloc, random, size)?;
-        let one = set_of(alloc, &first)?;
-        match set_of(alloc, &second) {
+        let one = set_of(alloc, &with_ones(alloc, &first)?)?;
+        match set_of(alloc, &with_ones(alloc, &second)?) {
             Ok(other) => Ok(SetPair {
                 first,
                 second,
@@ -187,13 +187,22 @@ fn length_of(set: Result<CTree, SetError>) -> io::Result<u64> {
     }
 }
 
-/// The set of an ascending list.
-pub fn set_of(alloc: Global, list: &[u32]) -> io::Result<CTree> {
+/// The set of a list of keys, ascending, with weights.
+pub fn set_of(alloc: Global, list: &[(u32, i64)]) -> io::Result<CTree> {
     match CTree::from_sorted(alloc, CHUNK_SIZE, list) {
         Ok(set) => Ok(set),
         Err(CTreeError::NoMemory) => Err(Error::other("out of memory")),
         Err(_) => Err(Error::other("a set was refused")),
     }
+}
+
+// The numbers, each with weight 1.
+fn with_ones(alloc: Global, numbers: &[u32]) -> Result<Vec<(u32, i64)>, AllocError> {
+    let mut entries = Vec::with_capacity(alloc, numbers.len())?;
+    for number in numbers {
+        entries.push((*number, 1))?;
+    }
+    Ok(entries)
 }
 
 // So many numbers, spread evenly, ascending.

@@ -88,7 +88,7 @@ fn print_gaps(rt: &HostRuntime, gaps: Gaps, rows: &Rows) -> io::Result<()> {
 
 // Lists and their tails.
 struct TailBenchmark {
-    lists: Vec<Vec<u32>>,
+    lists: Vec<Vec<(u32, i64)>>,
     tails: Vec<Tail>,
 }
 
@@ -126,7 +126,7 @@ impl Benchmark for TailBenchmark {
 }
 
 // The lists of tails, each above its own place.
-fn lists(alloc: Global, gaps: Gaps) -> Result<Vec<Vec<u32>>, AllocError> {
+fn lists(alloc: Global, gaps: Gaps) -> Result<Vec<Vec<(u32, i64)>>, AllocError> {
     let mut random = Random::new(SEED);
     let mut lists = Vec::new(alloc);
     for base in 0..TAILS {
@@ -140,18 +140,18 @@ fn list_above(
     base: u32,
     gaps: Gaps,
     random: &mut Random,
-) -> Result<Vec<u32>, AllocError> {
+) -> Result<Vec<(u32, i64)>, AllocError> {
     let mut list = Vec::new(alloc);
     let mut element = u64::from(base);
     for _ in 0..ELEMENTS {
         let gap = (random.next() & gaps.mask).saturating_add(gaps.least);
         element = element.saturating_add(gap).saturating_add(1);
-        list.push(u32::try_from(element).unwrap_or(u32::MAX))?;
+        list.push((u32::try_from(element).unwrap_or(u32::MAX), 1))?;
     }
     Ok(list)
 }
 
-fn encoded(alloc: Global, lists: &[Vec<u32>]) -> Result<Vec<Tail>, TailError> {
+fn encoded(alloc: Global, lists: &[Vec<(u32, i64)>]) -> Result<Vec<Tail>, TailError> {
     let mut tails = Vec::with_capacity(alloc, lists.len())?;
     let mut base = 0u32;
     for list in lists {

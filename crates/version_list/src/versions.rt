@@ -126,7 +126,7 @@ impl Versions {
     /// # Example
     ///
     /// ```
-    /// let shorter = batch(alloc, &[Entry::Remove(1, 2), Entry::Add(0, 3)])?;
+    /// let shorter = batch(alloc, &[Entry::Remove(1, 2), Entry::Add(0, 3, 1)])?;
     /// versions.commit(alloc, shorter)?;
     /// ```
     pub fn commit(&mut self, alloc: Global, batch: Batch) -> Result<u64, VersionError>

@@ -2,7 +2,6 @@ use Rattle.std.proofs.Common.{◌≡◌, ℕ, ℤ, ◌<◌, ◌^◌, List, [], �
 use Rattle.std.proofs.lemmas.Int.{to_z-of_z}
 use Rattle.std.specs.List.{range_with_len}
 use Rattle.std.proofs.lemmas.List.FromFn.{map-range_with_len_more}
-use Rattle.edge_lists.specs.Edge.{unit_edges}
 use Rattle.algorithm_meaning.specs.Arithmetic.{wrapped}
 use Rattle.algorithm_meaning.specs.Meaning.{out_degree}
 use Rattle.run_state.proofs.Degrees.{degree}
@@ -12,7 +11,7 @@ pub vertices-preserved : goal.vertices-preserved
 vertices-preserved c =
     let v = c.vertices.vertex in
     let es = c.args.graph.now.edges in
-    let f : ℕ → ℤ = λ u. wrapped (pos (out_degree u (unit_edges es))) in
+    let f : ℕ → ℤ = λ u. wrapped (pos (out_degree u es)) in
     let small : c.out_degree.result < 2 ^ 32 = omega arith in
     let here : c.from.result ≡ f v = c.from.ensures ∙ degree c.out_degree.result v es c.out_degree.ensures small in
     let fits : FitsSigned w64 c.from.result = search rules in
