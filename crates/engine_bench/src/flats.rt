@@ -121,14 +121,14 @@ impl Benchmark for FlatBenchmark {
 fn add_tails(alloc: Global, graph: &Graph, tails: &mut Vec<Tail>) -> io::Result<()> {
     for vertex in 0..graph.vertices().min(TAILS) {
         if let Some(set) = graph.out(vertex) {
-            let list: Vec<u32> = set.iter().collect(alloc)?;
+            let list: Vec<(u32, i64)> = set.iter().collect(alloc)?;
             add_tail(alloc, &list, tails)?;
         }
     }
     Ok(())
 }
 
-fn add_tail(alloc: Global, list: &[u32], tails: &mut Vec<Tail>) -> io::Result<()> {
+fn add_tail(alloc: Global, list: &[(u32, i64)], tails: &mut Vec<Tail>) -> io::Result<()> {
     match Tail::encode(alloc, None, list) {
         Ok(tail) => Ok(tails.push(tail)?),
         Err(error) => Err(tail_error(error)),

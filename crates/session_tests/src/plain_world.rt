@@ -1,5 +1,5 @@
-//! The world of a session, as a plain program: a version is a number of vertices and a table of pairs, and a job a count of
-//! steps that are done afresh each time.
+//! The world of a session, as a plain program: a version is a number of vertices and a table of the weights between
+//! pairs, and a job a count of steps that are done afresh each time.
 
 use crate::programs::VERTICES;
 use algorithm_meaning::Outcome;
@@ -16,11 +16,11 @@ use version_list::{Reply, Which};
 /// The most vertices that a graph grows to.
 pub(crate) const MOST_VERTICES: u32 = 12;
 
-// A version: how many vertices it has, and which pairs are edges.
+// A version: how many vertices it has, and the weight of each pair that is an edge.
 #[derive(Drop)]
 struct PlainVersion {
     vertices: u32,
-    table: Vec<bool>,
+    table: Vec<Option<i64>>,
 }
 
 // A job: the place of its program, the number of its version, its turns, and how many steps were asked of it.
@@ -54,8 +54,8 @@ fn graph_of(alloc: Global, version: &PlainVersion) -> Result<Flat, Fail> {
     let mut batch = Batch::new(alloc);
     for source in 0..version.vertices {
         for destination in 0..version.vertices {
-            if version.table.get(cell_of(source, destination)) == Some(&true) {
-                batch.push(Entry::Add(source, destination, 1))?;
+            if let Some(Some(weight)) = version.table.get(cell_of(source, destination)) {
+                batch.push(Entry::Add(source, destination, *weight))?;
             }
         }
     }
@@ -85,11 +85,14 @@ fn fits(entry: Entry, before: u32, after: u32) -> bool {
 }
 
 // Notes an entry in a table.
-fn note(table: &mut [bool], entry: Entry) {
+fn note(table: &mut [Option<i64>], entry: Entry) {
     if let Some((source, destination)) = entry.ends()
         && let Some(cell) = table.get_mut(cell_of(source, destination))
     {
-        *cell = matches!(entry, Entry::Add(..));
+        *cell = match entry {
+            Entry::Add(_, _, weight) => Some(weight),
+            Entry::Remove(..) | Entry::Grow(_) => None,
+        };
     }
 }
 
@@ -105,7 +108,7 @@ impl PlainWorld {
         let mut versions = Vec::new(alloc);
         versions.push(PlainVersion {
             vertices: VERTICES,
-            table: vec![in alloc; false; cells]?,
+            table: vec![in alloc; None; cells]?,
         })?;
         Ok(PlainWorld {
             versions,

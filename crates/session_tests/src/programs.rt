@@ -23,6 +23,15 @@ pub(crate) const FAULTY: &[u8] = b"element Vertex end element Edge end \
     const parent : vector{Vertex}(int) = -1; \
     func main() print 1; parent[9] = 0; print 2; end";
 
+/// The lengths of the shortest ways from vertex 0.
+pub(crate) const WAYS: &[u8] = b"element Vertex end element Edge end \
+    const edges : edgeset{Edge}(Vertex, Vertex, int) = load(argv[1]); const far : vector{Vertex}(int) = 1000; \
+    func relax(src : Vertex, dst : Vertex, length : int) far[dst] min= far[src] + length; end \
+    func main() var frontier : vertexset{Vertex} = new vertexset{Vertex}(0); \
+    frontier.addVertex(0); far[0] = 0; \
+    while frontier.getVertexSetSize() != 0 \
+    frontier = edges.from(frontier).applyModified(relax, far); end end";
+
 /// The edges of a fork that comes together, and of a tail; a sixth vertex has none.
 pub(crate) const FORK: &[Entry] = &[
     Entry::Add(0, 1, 1),
@@ -62,7 +71,7 @@ pub(crate) fn commit(alloc: Global, entries: &[Entry]) -> Result<SessionStep, Al
 /// The plans of the search and of the faulty program, in this order.
 pub(crate) fn plans(alloc: Global) -> Result<Vec<Plan>, Fail> {
     let mut plans = Vec::new(alloc);
-    for text in &[SEARCH, FAULTY] {
+    for text in &[SEARCH, FAULTY, WAYS] {
         plans.push(compiler::compile(alloc, text)?)?;
     }
     Ok(plans)

@@ -3,7 +3,7 @@
 use crate::plain_world::{MOST_VERTICES, PlainWorld};
 use crate::programs::{batch_of, plans, session};
 use algorithm_meaning::Outcome;
-use measuring::Random;
+use measuring::{Random, random_weight};
 use plans::Plan;
 use session::{Session, SessionStep};
 use std::alloc::{AllocError, Global};
@@ -30,7 +30,7 @@ fn random_entry(random: &mut Random) -> Entry {
     match random.below(12) {
         0 => Entry::Grow(random.below(u64::from(MOST_VERTICES) + 1) as u32),
         1 | 2 | 3 => Entry::Remove(source, destination),
-        _ => Entry::Add(source, destination, 1),
+        _ => Entry::Add(source, destination, random_weight(random)),
     }
 }
 
@@ -48,7 +48,7 @@ fn random_step(alloc: Global, random: &mut Random) -> Result<SessionStep, AllocE
         3 => SessionStep::Acquire(Which::At(random.below(8))),
         4 => SessionStep::Release(random.below(6)),
         5 | 6 => SessionStep::Start {
-            program: random.below(4),
+            program: random.below(5),
             ticket: random.below(6),
             turns: random.below(5),
         },

@@ -35,12 +35,12 @@ fn starts_and_steps_are_refused_by_number(rt: HostRuntime) -> Result<(), Fail> {
     // A program that there is not comes before a ticket that is not open.
     let starts = [
         started(alloc, &mut session, 0, 1)?,
-        started(alloc, &mut session, 3, 1)?,
+        started(alloc, &mut session, 4, 1)?,
         started(alloc, &mut session, 1, 1)?,
     ];
     let early = stepped(alloc, &mut session, 1, 1)?;
     let held = session.step(alloc, SessionStep::Acquire(Which::At(0)))?;
-    let no_program = started(alloc, &mut session, 3, 1)?;
+    let no_program = started(alloc, &mut session, 4, 1)?;
     let first = started(alloc, &mut session, 2, 1)?;
     let released = session.step(alloc, SessionStep::Release(1))?;
     let late = started(alloc, &mut session, 1, 1)?;
