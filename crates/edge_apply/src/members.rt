@@ -48,7 +48,7 @@ fn keep_set(words: &[u64], block: &mut [u32], count: usize) -> usize
 
 /// Whether the bit of a vertex is set.
 #[inline(always)]
-fn is_set(words: &[u64], vertex: u32) -> bool
+pub(crate) fn is_set(words: &[u64], vertex: u32) -> bool
     ensures { result ≡ is_set words.now vertex }
 {
     match words.get(vertex as usize / 64) {
