@@ -26,7 +26,8 @@ pub has_later : (b : Bool) (v w : ℤ) (o : Option ℤ) → o ≡ Some w → con
 has_later true v w o e = refl
 has_later false v w o e = e
 
-filter_agree : (p q : Edge → Bool) (es : List Edge) → ((e : Edge) (w : ℤ) → weight_in (ends_of e) es ≡ Some w → p e ≡ q e) → filter p es ≡ filter q es
+-- tests that agree on the edges of a list leave the same of them
+pub filter_agree : (p q : Edge → Bool) (es : List Edge) → ((e : Edge) (w : ℤ) → weight_in (ends_of e) es ≡ Some w → p e ≡ q e) → filter p es ≡ filter q es
 filter_agree p q [] same = refl
 filter_agree p q (e ∷ es) same =
     filtered_alike p q e (filter p es) (filter q es) (q e) (same e e.2 (has_first e es)) refl

@@ -1,9 +1,9 @@
 -- The edges that an apply looks at, and what it leaves alone.
-use Rattle.std.proofs.Common.{◌≡◌, ℕ, ◌<◌, ◌≤◌, ◌==◌, nat_lt, ℤ, Bool, true, false, cond, ◌&&◌, List, [], ◌∷◌, length, slice_index_or, refl, sym, ap, ap₂, ◌∙◌, arith}
+use Rattle.std.proofs.Common.{◌≡◌, ℕ, ◌<◌, ◌≤◌, ◌==◌, nat_lt, ℤ, Bool, true, false, cond, ◌&&◌, Some, List, [], ◌∷◌, length, slice_index_or, refl, sym, ap, ap₂, ◌∙◌, arith}
 use Rattle.std.proofs.lemmas.Bool.{false≢true}
 use Rattle.std.proofs.lemmas.Bool.Decides.{nat_tests}
 use Rattle.std.specs.List.{filter}
-use Rattle.edge_lists.specs.Edge.{Edge, unit_edge, unit_edges}
+use Rattle.edge_lists.specs.Edge.{Edge}
 use Rattle.typed_tree.specs.declared.statement.ApplyEnds.{ApplyEnds}
 use Rattle.typed_tree.specs.StepTree.{FunctionTree, StepsTree}
 use Rattle.algorithm_meaning.specs.declared.contribution.Contribution.{Contribution}
@@ -12,9 +12,9 @@ use Rattle.algorithm_meaning.specs.EdgeApply.{after_edges, all_give, is_end, mat
 use Rattle.algorithm_meaning.specs.State.{GraphValue, StateValue}
 use Rattle.algorithm_meaning.specs.Value.{entry, reduce_at}
 use Rattle.algorithm_meaning.proofs.WrittenEntries.{entry_elsewhere, length_stays}
-use Rattle.flat_snapshot.specs.Edge.{edge_eq, has_edge, IsWithin}
+use Rattle.flat_snapshot.specs.Edge.{Ends, ends_of, weight_in, IsWithin}
 use Rattle.edge_fold.specs.Between.{edges_between}
-use Rattle.edge_apply.proofs.Filtered.{has_first, has_later}
+use Rattle.edge_apply.proofs.Filtered.{filter_agree}
 use Rattle.runner.proofs.WrittenChanges.{count_after_entry}
 
 count_after_given : (u : ℕ) (cs : List Contribution) (vectors : List (List ℤ)) → length (with_given u cs vectors) ≡ length vectors
@@ -85,33 +85,16 @@ entry_past filters g m ends steps x v past =
     let to = second_holds (is_end filters g m ends.from e.0) (is_end filters g m ends.to e.1) t in
     is_apart e.1 v g.vertices (first_holds (nat_lt e.1 g.vertices) (passes filters m ends.to e.1) to) past)
 
-kept_alike : (b : Bool) (e : ℕ × ℕ) (ks : List (ℕ × ℕ)) → unit_edges (cond b (e ∷ ks) ks) ≡ cond b (unit_edge e ∷ unit_edges ks) (unit_edges ks)
-kept_alike true e ks = refl
-kept_alike false e ks = refl
-
-both_alike : (p : ℕ × ℕ → Bool) (q : Edge → Bool) (e : ℕ × ℕ) (ks : List (ℕ × ℕ)) (ls : List Edge) → p e ≡ q (unit_edge e) → unit_edges ks ≡ ls
-    → unit_edges (cond (p e) (e ∷ ks) ks) ≡ cond (q (unit_edge e)) (unit_edge e ∷ ls) ls
-both_alike p q e ks ls same more =
-    kept_alike (p e) e ks
-    ∙ ap (λ (b : Bool). cond b (unit_edge e ∷ unit_edges ks) (unit_edges ks)) same
-    ∙ ap (λ (ms : List Edge). cond (q (unit_edge e)) (unit_edge e ∷ ms) ms) more
-
-filters_alike : (p : ℕ × ℕ → Bool) (q : Edge → Bool) (es : List (ℕ × ℕ)) → ((e : ℕ × ℕ) → has_edge es e ≡ true → p e ≡ q (unit_edge e))
-    → unit_edges (filter p es) ≡ filter q (unit_edges es)
-filters_alike p q [] same = refl
-filters_alike p q (e ∷ es) same =
-    both_alike p q e (filter p es) (filter q (unit_edges es)) (same e (has_first e es)) (filters_alike p q es (λ f has. same f (has_later (edge_eq e f) (has_edge es f) has)))
-
 inside : (u n : ℕ) → u < n → nat_lt u n ≡ true
 inside u n h = grind (arith, nat_tests)
 
 -- where all edges are between vertices, those that an apply looks at are those between its ends
-pub matching_between : (filters : List FunctionTree) (g : GraphValue) (m : StateValue) (ends : ApplyEnds) (es : List (ℕ × ℕ)) → unit_edges es ≡ g.edges
-    → ((e : ℕ × ℕ) → has_edge es e ≡ true → IsWithin g.vertices e)
-    → unit_edges (edges_between (passes filters m ends.from) (passes filters m ends.to) es) ≡ matching filters g m ends
+pub matching_between : (filters : List FunctionTree) (g : GraphValue) (m : StateValue) (ends : ApplyEnds) (es : List Edge) → es ≡ g.edges
+    → ((p : Ends) (w : ℤ) → weight_in p es ≡ Some w → IsWithin g.vertices p)
+    → edges_between (passes filters m ends.from) (passes filters m ends.to) es ≡ matching filters g m ends
 matching_between filters g m ends es same within =
     let looked_at : Edge → Bool = λ e. is_end filters g m ends.from e.0 && is_end filters g m ends.to e.1 in
-    filters_alike (λ e. passes filters m ends.from e.0 && passes filters m ends.to e.1) looked_at es (λ e has.
-    let both = within e has in
+    filter_agree (λ e. passes filters m ends.from e.0 && passes filters m ends.to e.1) looked_at es (λ e w has.
+    let both = within (ends_of e) w has in
     sym (ap₂ (λ (a b : Bool). (a && passes filters m ends.from e.0) && (b && passes filters m ends.to e.1)) (inside e.0 g.vertices both.0) (inside e.1 g.vertices both.1)))
     ∙ ap (λ (fs : List Edge). filter looked_at fs) same

@@ -1,6 +1,6 @@
 -- What engines change, in the words of the meaning.
-use Rattle.std.proofs.Common.{◌≡◌, ℕ, ◌<◌, ◌≤◌, List, [], Result, Ok, Err, IfOk, length, slice_index_or, ap, sym, ◌∙◌, subst, subst₂, true}
-use Rattle.edge_lists.specs.Edge.{Edge, unit_edges}
+use Rattle.std.proofs.Common.{◌≡◌, ℕ, ℤ, ◌<◌, ◌≤◌, Some, List, [], Result, Ok, Err, IfOk, length, slice_index_or, ap, sym, ◌∙◌, subst, subst₂}
+use Rattle.edge_lists.specs.Edge.{Edge}
 use Rattle.typed_tree.specs.declared.statement.ApplyEnds.{ApplyEnds}
 use Rattle.typed_tree.specs.ProgramTree.{ProgramTree}
 use Rattle.typed_tree.specs.StepTree.{StepsTree}
@@ -10,7 +10,7 @@ use Rattle.algorithm_meaning.specs.Laws.{IsGivenBy}
 use Rattle.algorithm_meaning.specs.State.{GraphValue, StateValue}
 use Rattle.algorithm_meaning.specs.Value.{entry}
 use Rattle.flat_snapshot.specs.Digraph.{Digraph, IsDigraph}
-use Rattle.flat_snapshot.specs.Edge.{has_edge, IsWithin}
+use Rattle.flat_snapshot.specs.Edge.{Ends, weight_in, IsWithin}
 use Rattle.edge_fold.specs.Between.{edges_between}
 use Rattle.edge_fold.specs.Changed.{AreApart, changed, changes_of}
 use Rattle.kernels.specs.Cells.{HasSizes}
@@ -50,7 +50,7 @@ changes_on_matching p m g ends places cs long one apart are =
     }
 
 pub changes_are_meant : (d : Digraph) (p : ProgramTree) (m : StateValue) (g : GraphValue) (ends : ApplyEnds) (places : List ℕ) (cs : List VectorChanges) → IsDigraph d
-    → d.vertices ≡ g.vertices → unit_edges d.edges ≡ g.edges → HasEntryForEach g.vertices m.vectors
+    → d.vertices ≡ g.vertices → d.edges ≡ g.edges → HasEntryForEach g.vertices m.vectors
     → AreReduced (steps_at p.edge_functions places) m → AreApart cs
     → AreChangesOn d.vertices (edges_between (passes p.filters m ends.from) (passes p.filters m ends.to) d.edges) m (steps_at p.edge_functions places) cs
     → AreChangesTo g.vertices m.vectors (after_edge_apply p.filters p.edge_functions g ends places m) cs
@@ -58,8 +58,8 @@ changes_are_meant d p m g ends places cs graph count edges long one apart are =
     let steps = steps_at p.edge_functions places in
     let from = passes p.filters m ends.from in
     let to = passes p.filters m ends.to in
-    let within : (e : ℕ × ℕ) → has_edge d.edges e ≡ true → IsWithin g.vertices e =
-    subst (λ (n : ℕ). (e : ℕ × ℕ) → has_edge d.edges e ≡ true → IsWithin n e) count graph.within in
+    let within : (p : Ends) (w : ℤ) → weight_in p d.edges ≡ Some w → IsWithin g.vertices p =
+    subst (λ (n : ℕ). (p : Ends) (w : ℤ) → weight_in p d.edges ≡ Some w → IsWithin n p) count graph.within in
     let looked_at = matching_between p.filters g m ends d.edges edges within in
     changes_on_matching p m g ends places cs long one apart
     (subst₂ (λ (n : ℕ) (es : List Edge). AreChangesAlong n es m steps cs) count looked_at are)
@@ -71,7 +71,7 @@ apply_is_meant run asked apply cs graph is once changes p m g view long one =
     let places = places_of asked.first asked.second in
     let parts = is.parts p m view.functions view.sets in
     changes_are_meant apply.flat.now p m g asked.ends places cs (subst IsDigraph (sym is.graph) graph)
-    (ap (λ (d : Digraph). d.vertices) is.graph ∙ view.vertices) (ap (λ (d : Digraph). unit_edges d.edges) is.graph ∙ view.edges) long one once
+    (ap (λ (d : Digraph). d.vertices) is.graph ∙ view.vertices) (ap (λ (d : Digraph). d.edges) is.graph ∙ view.edges) long one once
     (changes m (steps_at p.edge_functions places) (passes p.filters m asked.ends.from) (passes p.filters m asked.ends.to)
     (ap (λ vs. vs.vectors) is.vectors ∙ view.vectors) (subst (λ ns. HasSizes ns m) (sym is.sizes) view.sizes) parts.0 parts.1 parts.2)
 

@@ -1,5 +1,4 @@
 use Rattle.std.proofs.Common.{◌≡◌, ◌∙◌, ◌+◌, ℕ, List, Option, ap, sym, subst}
-use Rattle.edge_lists.specs.Edge.{unit_edges}
 use Rattle.algorithm_meaning.specs.EdgeApply.{after_edge_apply}
 use Rattle.algorithm_meaning.specs.State.{GraphValue}
 use Rattle.run_state.specs.View.{HasEntryForEach}
@@ -22,7 +21,7 @@ returns-clause-done over c p g t same on functions is reduces =
     let second = c.args.second in
     let cs = c.in_ok-changes.changes.vectors.items in
     let vertices : c.args.graph.now.vertices ≡ g.vertices = sym (ap (λ (x : GraphValue). x.vertices) same) in
-    let edges : unit_edges c.args.graph.now.edges ≡ g.edges = sym (ap (λ (x : GraphValue). x.edges) same) in
+    let edges : c.args.graph.now.edges ≡ g.edges = sym (ap (λ (x : GraphValue). x.edges) same) in
     let view = c.view-view.ensures.seen p g functions vertices edges in
     let entries = subst (λ (n : ℕ). HasEntryForEach n s.vectors) on c.view-view.ensures.entries in
     let places = ap (λ (o : Option ℕ). places_of part.function o) c.function_of-both.ensures in
