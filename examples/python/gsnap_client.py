@@ -15,7 +15,8 @@
         print(then["vectors"]["parent"])   # [0, 0, 1, -1, -1, -1]
 
 One process of gsnap goes along with a Graph, and each call that has a reply is answered before it returns. A refused line
-raises Refused, and the graph goes on; where gsnap ends, Failed is raised. What is added, removed or grown has no reply, so
+raises Refused, and the graph goes on; where gsnap ends, Failed is raised. A reply to `edges` has pairs and, in the same order,
+their weights. What is added, removed or grown has no reply, so
 many edges go as fast as they can be written; `load` does that, and shows on a terminal how far it is.
 """
 import os
@@ -91,7 +92,9 @@ def belongs(last, words):
     if last is None:
         return False
     if last["reply"] == "edges" and len(last["edges"]) < last["count"]:
-        last["edges"].append((int(words[0]), int(words[1])))
+        source, destination, *weight = map(int, words)
+        last["edges"].append((source, destination))
+        last["weights"].append(weight[0] if weight else 1)
         return True
     return last["reply"] == "run" and take_run(last, words)
 
@@ -101,7 +104,7 @@ def first_line(words, text):
     if words[0] == "end":
         return end_of_run(words, text)
     if words[0] == "edges":
-        return {"reply": "edges", "count": int(words[1]), "edges": []}
+        return {"reply": "edges", "count": int(words[1]), "edges": [], "weights": []}
     return simple_reply(words)
 
 
@@ -165,8 +168,8 @@ class Graph:
         self.said.close()
         return self.process.returncode
 
-    def add(self, source, destination):
-        self.send(f"add {source} {destination}")
+    def add(self, source, destination, weight=1):
+        self.send(f"add {source} {destination} {weight}")
 
     def remove(self, source, destination):
         self.send(f"del {source} {destination}")
@@ -175,10 +178,10 @@ class Graph:
         self.send(f"grow {vertices}")
 
     def load(self, edges):
-        """Adds all edges of a sequence, and shows on a terminal how many they are so far."""
+        """Adds all edges of a sequence, pairs or with a weight each, and shows on a terminal how many they are so far."""
         count = 0
-        for count, (source, destination) in enumerate(edges, 1):
-            self.send(f"add {source} {destination}")
+        for count, edge in enumerate(edges, 1):
+            self.add(*edge)
             if count % STRIDE == 0:
                 tell(f"\r{count} edges")
         tell(f"\r{count} edges\n")

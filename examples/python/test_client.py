@@ -13,12 +13,12 @@ GSNAP = os.environ.get("GSNAP") or os.path.join(EXAMPLES, "..", "gsnap")
 
 class Replies(unittest.TestCase):
     def test_each_kind(self):
-        lines = "open 3;version 1;ticket 1 version 1;edges 1;0 2;true;-5;end fault 401 statement 2 turns 7;vector x: 1 -2 3;"
+        lines = "open 3;version 1;ticket 1 version 1;edges 2;0 2;1 0 -7;true;-5;end fault 401 statement 2 turns 7;vector x: 1 -2 3;"
         lines += "set s:;released 1;refused 801;edges 0;early 1 version 0;end finished turns 0"
         told = list(parse(line + "\n" for line in lines.split(";")))
         kinds = "open version ticket edges run released refused edges early run"
         self.assertEqual([it["reply"] for it in told], kinds.split())
-        self.assertEqual(told[3]["edges"], [(0, 2)])
+        self.assertEqual((told[3]["edges"], told[3]["weights"]), ([(0, 2), (1, 0)], [1, -7]))
         run = {"reply": "run", "end": "fault", "turns": 7, "statement": 2, "text": ["true", "-5"]}
         self.assertEqual(told[4], run | {"vectors": {"x": [1, -2, 3]}, "sets": {"s": []}})
 
@@ -29,7 +29,7 @@ class Calls(unittest.TestCase):
 
     def test_two_versions(self):
         with self.graph("reachability.program", "distances.program") as graph:
-            graph.load([(0, 1), (0, 2), (1, 3), (2, 3), (3, 4)])
+            graph.load([(0, 1), (0, 2, 5), (1, 3), (2, 3), (3, 4)])
             self.assertEqual(graph.commit()["version"], 1)
             held = graph.hold()["ticket"]
             graph.remove(1, 3)
@@ -41,7 +41,8 @@ class Calls(unittest.TestCase):
             self.assertEqual(now["vectors"]["parent"], [0, 0, 0, -1, -1, -1])
             self.assertEqual(then["vectors"]["parent"], [0, 0, 0, 2, 3, -1])
             self.assertEqual((cut["end"], cut["turns"], cut["sets"]["frontier"]), ("turns-over", 1, [1, 2]))
-            self.assertEqual(graph.edges()["edges"], [(0, 1), (0, 2), (3, 4)])
+            listed = graph.edges()
+            self.assertEqual((listed["edges"], listed["weights"]), ([(0, 1), (0, 2), (3, 4)], [1, 5, 1]))
             self.assertEqual(graph.release(held)["ticket"], held)
 
     def test_refused_lines(self):

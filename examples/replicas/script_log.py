@@ -5,7 +5,7 @@ import socket
 import subprocess
 
 # What may stand in the log: `vertices` as its first line, edits, and what makes and keeps versions.
-LINE = re.compile(r"(vertices|add|del|grow|release|hold at) [0-9]+( [0-9]+)?|hold|commit")
+LINE = re.compile(r"(vertices|add|del|grow|release|hold at) [0-9]+( [0-9]+)?|add [0-9]+ [0-9]+ -?[0-9]+|hold|commit")
 
 # The lock is for processes that begin at once: each would make the table.
 CREATE = (
