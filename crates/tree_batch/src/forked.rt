@@ -15,7 +15,7 @@ ghost use Rattle.tree_batch.specs.Forking.{IsChangedTree, IsChangedBlock, AreSid
 use crate::cuts::changed;
 use crate::middle::{Middle, cut_at_middle};
 use c_tree::ChunkSize;
-use edge_updates::{EdgeUpdate, Updates};
+use edge_updates::Updates;
 use set_ops::Fork;
 use shared_tree::{Changed, Tree, ValueChange, join_around};
 use std::alloc::{AllocError, Global};
@@ -71,24 +71,7 @@ fn sides<R: Threads + Sync, F: Fork + Sync>(
     if middle.is_heavy {
         return sides_alone(alloc, middle, chunk_size);
     }
-    let (lower, upper) = (&middle.below, &middle.above);
-    let trees = (&lower.tree, &upper.tree);
-    let (lower_updates, lower_weights) = lower.updates.columns();
-    let (upper_updates, upper_weights) = upper.updates.columns();
-    in_two(
-        rt,
-        alloc,
-        trees.0,
-        lower_updates,
-        lower_weights,
-        trees.1,
-        upper_updates,
-        upper_weights,
-        chunk_size,
-        forks,
-        level,
-        fork,
-    )
+    in_two(rt, alloc, middle, chunk_size, forks, level, fork)
 }
 
 /// Both sides of a block, one after the other.
@@ -106,17 +89,12 @@ fn sides_alone(
     Ok((below, above))
 }
 
-/// Two trees, each on a thread of its own. The columns of the updates of each are lent apart.
+/// Both sides of a block, each on a thread of its own.
 #[cycle(forked)]
 fn in_two<R: Threads + Sync, F: Fork + Sync>(
     rt: &R,
     alloc: Global,
-    lower: &Tree<VertexBlock>,
-    lower_updates: &[EdgeUpdate],
-    lower_weights: &[i64],
-    upper: &Tree<VertexBlock>,
-    upper_updates: &[EdgeUpdate],
-    upper_weights: &[i64],
+    middle: &Middle<'_>,
     chunk_size: ChunkSize,
     forks: u32,
     level: u32,
@@ -124,12 +102,13 @@ fn in_two<R: Threads + Sync, F: Fork + Sync>(
 ) -> Result<(Changed<VertexBlock>, Changed<VertexBlock>), AllocError>
     requires left { 0 < forks }
     requires few { forks + level ≤ 7 }
-    requires lower_order { Ascend (keys_of (weighted lower_updates.now lower_weights.now)) }
-    requires upper_order { Ascend (keys_of (weighted upper_updates.now upper_weights.now)) }
-    ensures { IfOk result (λ p.
-        IsChangedTree (weighted lower_updates.now lower_weights.now) lower.now.entries p.0
-        × IsChangedTree (weighted upper_updates.now upper_weights.now) upper.now.entries p.1) }
+    requires below { Ascend (keys_of middle.now.below.updates) }
+    requires above { Ascend (keys_of middle.now.above.updates) }
+    ensures { IfOk result (λ p. AreSides middle.now p.0 p.1) }
 {
+    let (lower, upper) = (&middle.below.tree, &middle.above.tree);
+    let (lower_updates, lower_weights) = middle.below.updates.columns();
+    let (upper_updates, upper_weights) = middle.above.updates.columns();
     let (below, above) = thread::join(
         rt,
         || -> Result<Changed<VertexBlock>, AllocError>

@@ -7,8 +7,8 @@ use Rattle.tree_batch.proofs.Lacking.{lacks_memory}
 use Rattle.tree_batch.proofs.Neighbourhoods.{graph_made, graph_is_after}
 use Rattle.tree_batch.proofs.graph.Graph.apply_forked.Goals as goal
 
-pub updates_forked-requires : goal.updates_forked-requires
-updates_forked-requires g c = (all_inside c.self.inside.vertices c.args.batch.now (few_vertices c.self.inside.vertices c.self.invariant.graph.count) (sym c.if-misfits.ensures))
+pub updates_forked-requires-after_bounds : goal.updates_forked-requires-after_bounds
+updates_forked-requires-after_bounds g c κs within = all_inside c.self.inside.vertices c.args.batch.now (few_vertices c.self.inside.vertices c.self.invariant.graph.count) (sym c.if-misfits.ensures)
 
 pub invariant_of-result : goal.invariant_of-result
 invariant_of-result g c =
