@@ -30,8 +30,8 @@ pub const MAX_VERTICES: u32 = 16_777_216;
 const MOST_FORKS: u32 = 6;
 
 /// A directed graph whose vertices are the numbers below `vertices`. Self-loops are allowed, and
-/// an edge is there once, with one weight, or not at all. No call changes a graph, and graphs share what they have in
-/// common.
+/// an edge is there once, with one weight, or not at all. No call changes a graph, and graphs share
+/// what they have in common.
 pub struct Graph {
     vertices: u32,
     chunk_size: ChunkSize,
@@ -94,9 +94,9 @@ impl Graph {
 
     /// The graph after a batch: it has as many vertices as the entry that asks for most, or as many as
     /// before; for each edge that the batch names, its last entry that names the edge decides whether it is
-    /// there and with which weight, and every other edge is there as before. The graph itself stays as it is, and the new one shares with it
-    /// what the batch does not reach. For k entries and m edges it takes time in proportion to
-    /// `k log(k + m)`, however much the graph grows.
+    /// there and with which weight, and every other edge is there as before. The graph itself stays as it
+    /// is, and the new one shares with it what the batch does not reach. For k entries and m edges it takes
+    /// time in proportion to `k log(k + m)`, however much the graph grows.
     ///
     /// Errors: `VertexRange` where an entry names a vertex that the new graph does not have, or asks for
     /// fewer vertices than there are or for more than 16,777,216, else `NoMemory`.
@@ -158,16 +158,16 @@ impl Graph {
         })
     }
 
-    /// The destinations of the edges from a vertex, each with the weight of its edge, or `None` where there is none. It takes
-    /// logarithmic time and no memory.
+    /// The destinations of the edges from a vertex, each with the weight of its edge, or `None` where
+    /// there is none. It takes logarithmic time and no memory.
     pub fn out(&self, source: u32) -> Option<NeighbourSet<'_>>
         ensures { HasNeighbours (destinations_of source self.now.edges) result }
     {
         self.destinations(source)
     }
 
-    /// The sources of the edges to a vertex, each with the weight of its edge, or `None` where there is none. It takes logarithmic
-    /// time and no memory.
+    /// The sources of the edges to a vertex, each with the weight of its edge, or `None` where there is
+    /// none. It takes logarithmic time and no memory.
     pub fn in_(&self, destination: u32) -> Option<NeighbourSet<'_>>
         ensures { HasNeighbours (sources_of destination self.now.edges) result }
     {
