@@ -3,7 +3,6 @@ use Rattle.std.proofs.Common.{◌≡◌, ◌≢◌, ℕ, ◌+◌, ◌*◌, ◌^�
 use Rattle.std.proofs.lemmas.Bool.{cases_Bool, cases_eq, ne_eqb, eq-eqb}
 use Rattle.std.proofs.lemmas.List.{append-nil}
 use Rattle.std.specs.Map.{keys_of}
-use Rattle.std.specs.Option.{option_or}
 use Rattle.shared_tree.specs.ChangedMaps.{total_weight}
 use Rattle.ascending_lists.specs.Ascending.{AscendsFrom}
 use Rattle.ascending_lists.specs.Maps as maps

@@ -1,5 +1,5 @@
 -- The blocks of all vertices of a graph.
-use Rattle.std.proofs.Common.{◌≡◌, ℕ, ℤ, ◌+◌, ◌<◌, ◌≤◌, ◌^◌, Option, Some, None, [], inl, inr, List, ◌∷◌, length, refl, sym, ◌∙◌, arith}
+use Rattle.std.proofs.Common.{◌≡◌, ℕ, ℤ, ◌+◌, ◌<◌, ◌≤◌, ◌^◌, Some, None, [], inl, inr, List, ◌∷◌, length, refl, sym, ◌∙◌, arith}
 use Rattle.std.proofs.lemmas.Bool.{cases_eq, ne_eqb, eq-eqb}
 use Rattle.std.specs.Map.{keys_of}
 use Rattle.ascending_lists.specs.Ascending.{AscendsFrom}

@@ -2,7 +2,7 @@
 use mathlib.Core.List.{[], ◌∷◌}
 use mir.Syntax.{Sym}
 use denote.RattleType.{RattleType}
-use denote.Builtin.{u32}
+use denote.Builtin.{u32, i64}
 use denote.Param.Send.{IsSend, IsSync, sendable}
 use denote.Param.SendFields.{as_row_send, declared_send}
 use denote.Struct.Field.{row_field}
@@ -30,9 +30,12 @@ graph_sync = search (sendable, size_sync, tree_sync) depth 12
 pub number_sync : IsSync u32
 number_sync = search sendable
 
--- a closure that captures eight values goes to another thread with them
-pub eight_send : (name : Sym) (A B C D E F G H : RattleType) → IsSend A → IsSend B → IsSend C → IsSend D → IsSend E → IsSend F → IsSend G → IsSend H → IsSend (TupleAt name (A ∷ B ∷ C ∷ D ∷ E ∷ F ∷ G ∷ H ∷ []))
-eight_send name A B C D E F G H a b c d e f g h = declared_send (type_at name (A ∷ B ∷ C ∷ D ∷ E ∷ F ∷ G ∷ H ∷ [])) (
+pub weight_sync : IsSync i64
+weight_sync = search sendable
+
+-- a closure that captures nine values goes to another thread with them
+pub nine_send : (name : Sym) (A B C D E F G H I : RattleType) → IsSend A → IsSend B → IsSend C → IsSend D → IsSend E → IsSend F → IsSend G → IsSend H → IsSend I → IsSend (TupleAt name (A ∷ B ∷ C ∷ D ∷ E ∷ F ∷ G ∷ H ∷ I ∷ []))
+nine_send name A B C D E F G H I a b c d e f g h i = declared_send (type_at name (A ∷ B ∷ C ∷ D ∷ E ∷ F ∷ G ∷ H ∷ I ∷ [])) (
   as_row_send (row_field A) a,
   (
     as_row_send (row_field B) b,
@@ -40,7 +43,7 @@ eight_send name A B C D E F G H a b c d e f g h = declared_send (type_at name (A
       as_row_send (row_field C) c,
       (
         as_row_send (row_field D) d,
-        (as_row_send (row_field E) e, (as_row_send (row_field F) f, (as_row_send (row_field G) g, (as_row_send (row_field H) h, tt)))),
+        (as_row_send (row_field E) e, (as_row_send (row_field F) f, (as_row_send (row_field G) g, (as_row_send (row_field H) h, (as_row_send (row_field I) i, tt))))),
       ),
     ),
   ),

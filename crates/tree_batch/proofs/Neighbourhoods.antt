@@ -6,14 +6,13 @@ use Rattle.shared_tree.specs.ChangedMaps.{MadeAt, GrewBy}
 use Rattle.c_tree.specs.Heads.{IsChunkSize}
 use Rattle.edge_updates.specs.declared.edge_update.EdgeUpdate.{EdgeUpdate}
 use Rattle.weighted_updates.specs.WeightedUpdates.{decided_weight}
-use Rattle.std.specs.Map.{keys_of}
 use Rattle.pages.specs.Vertices.{neighbours_of}
 use Rattle.pages.specs.Updates.{updated, updates_of}
 use Rattle.vertex_blocks.specs.declared.block.VertexBlock.{VertexBlock}
 use Rattle.vertex_blocks.specs.Blocks.{Block, IsBlock, vertices_at, lists_of}
 use Rattle.vertex_blocks.specs.Changes.{BlockChange, IsBlockAfter}
 use Rattle.tree_batch.specs.declared.batch.Entry.{Entry}
-use Rattle.tree_batch.specs.Edge.{Ends, weight_in, IsAscending}
+use Rattle.tree_batch.specs.Edge.{Ends, IsAscending}
 use Rattle.tree_batch.specs.Entry.{decision, vertices_after, misfits, AreEdgesAfter}
 use Rattle.tree_batch.specs.Digraph.{Digraph, digraph, IsDigraph, graph_after, is_chunk_size}
 use Rattle.tree_batch.specs.Neighbours.{edges_of, weight_between, sources_of}

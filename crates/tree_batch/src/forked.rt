@@ -1,27 +1,81 @@
-//! Parts of a pass over a tree of blocks by halves: both sides of a block, the block, and the tree of both.
+//! The pass over a tree of blocks by halves that go to two threads.
 
 ghost use Rattle.std.specs.Prelude.{ℕ, ℤ, ◌+◌, ◌<◌, ◌≤◌, ◌≡◌, List, IfOk};
 ghost use Rattle.std.specs.Option.{option_copied};
 ghost use Rattle.std.specs.Map.{keys_of};
+ghost use denote.Param.Send.{IsSync};
 ghost use Rattle.shared_tree.specs.ChangedMaps.{weight_at, GrewBy};
 ghost use Rattle.edge_updates.specs.declared.edge_update.EdgeUpdate.{EdgeUpdate};
 ghost use Rattle.edge_updates.specs.Updates.{Ascend};
+ghost use Rattle.edge_updates.specs.Weighted.{weighted};
 ghost use Rattle.pages.specs.Updates.{EdgesAscend};
 ghost use Rattle.vertex_blocks.specs.Blocks.{Block, edge_total};
 ghost use Rattle.tree_batch.specs.Forking.{IsChangedTree, IsChangedBlock, AreSides, AreAround, CanRejoin};
 
 use crate::cuts::changed;
-use crate::middle::Middle;
+use crate::middle::{Middle, cut_at_middle};
 use c_tree::ChunkSize;
 use edge_updates::Updates;
 use set_ops::Fork;
 use shared_tree::{Changed, Tree, ValueChange, join_around};
 use std::alloc::{AllocError, Global};
-use std::thread::Threads;
+use std::thread::{self, Threads};
 use vertex_blocks::{BlockUpdates, VertexBlock};
 
+/// The tree after updates whose edges ascend, with halves on two threads at so many levels, the first
+/// of which is `level`. Where one block has more than half of the updates, that block goes by halves.
+#[cycle(forked)]
+pub(crate) fn change_forked<R: Threads + Sync, F: Fork + Sync>(
+    rt: &R,
+    alloc: Global,
+    tree: &Tree<VertexBlock>,
+    updates: &Updates<'_>,
+    chunk_size: ChunkSize,
+    forks: u32,
+    level: u32,
+    fork: &F,
+) -> Result<Changed<VertexBlock>, AllocError>
+    requires order { Ascend (keys_of updates.now) }
+    requires few { forks + level ≤ 7 }
+    ensures { IfOk result (λ c. IsChangedTree updates.now tree.now.entries c) }
+{
+    if forks == 0 {
+        return changed(alloc, tree, updates, chunk_size);
+    }
+    let Some(middle) = cut_at_middle(alloc, tree, updates)? else {
+        return changed(alloc, tree, updates, chunk_size);
+    };
+    let (below, above) = sides(rt, alloc, &middle, chunk_size, forks, level, fork)?;
+    let block = block_after(rt, alloc, &middle, chunk_size, forks, level, fork)?;
+    rejoin(alloc, &middle, below, block, above)
+}
+
+/// Both sides of a block, each on a thread of its own where the block has no more than half of the
+/// updates.
+#[cycle(forked)]
+fn sides<R: Threads + Sync, F: Fork + Sync>(
+    rt: &R,
+    alloc: Global,
+    middle: &Middle<'_>,
+    chunk_size: ChunkSize,
+    forks: u32,
+    level: u32,
+    fork: &F,
+) -> Result<(Changed<VertexBlock>, Changed<VertexBlock>), AllocError>
+    requires left { 0 < forks }
+    requires few { forks + level ≤ 7 }
+    requires below { Ascend (keys_of middle.now.below.updates) }
+    requires above { Ascend (keys_of middle.now.above.updates) }
+    ensures { IfOk result (λ p. AreSides middle.now p.0 p.1) }
+{
+    if middle.is_heavy {
+        return sides_alone(alloc, middle, chunk_size);
+    }
+    in_two(rt, alloc, middle, chunk_size, forks, level, fork)
+}
+
 /// Both sides of a block, one after the other.
-pub(crate) fn sides_alone(
+fn sides_alone(
     alloc: Global,
     middle: &Middle<'_>,
     chunk_size: ChunkSize,
@@ -35,9 +89,72 @@ pub(crate) fn sides_alone(
     Ok((below, above))
 }
 
-/// Two trees, each on a thread of its own.
+/// Both sides of a block, each on a thread of its own.
+#[cycle(forked)]
+fn in_two<R: Threads + Sync, F: Fork + Sync>(
+    rt: &R,
+    alloc: Global,
+    middle: &Middle<'_>,
+    chunk_size: ChunkSize,
+    forks: u32,
+    level: u32,
+    fork: &F,
+) -> Result<(Changed<VertexBlock>, Changed<VertexBlock>), AllocError>
+    requires left { 0 < forks }
+    requires few { forks + level ≤ 7 }
+    requires below { Ascend (keys_of middle.now.below.updates) }
+    requires above { Ascend (keys_of middle.now.above.updates) }
+    ensures { IfOk result (λ p. AreSides middle.now p.0 p.1) }
+{
+    let (lower, upper) = (&middle.below.tree, &middle.above.tree);
+    let (lower_updates, lower_weights) = middle.below.updates.columns();
+    let (upper_updates, upper_weights) = middle.above.updates.columns();
+    let (below, above) = thread::join(
+        rt,
+        || -> Result<Changed<VertexBlock>, AllocError>
+            requires { IsSync R.row × IsSync F.row × (0 < forks) × (forks + level ≤ 7)
+                × Ascend (keys_of (weighted lower_updates.now lower_weights.now)) }
+            ensures { IfOk result (λ c. IsChangedTree
+                (weighted lower_updates.entry.now lower_weights.entry.now) lower.entry.now.entries c) }
+        {
+            fork.enter(level, false);
+            let updates = Updates::new(lower_updates, lower_weights);
+            change_forked(
+                rt,
+                alloc,
+                lower,
+                &updates,
+                chunk_size,
+                forks - 1,
+                level + 1,
+                fork,
+            )
+        },
+        || -> Result<Changed<VertexBlock>, AllocError>
+            requires { IsSync R.row × IsSync F.row × (0 < forks) × (forks + level ≤ 7)
+                × Ascend (keys_of (weighted upper_updates.now upper_weights.now)) }
+            ensures { IfOk result (λ c. IsChangedTree
+                (weighted upper_updates.entry.now upper_weights.entry.now) upper.entry.now.entries c) }
+        {
+            fork.enter(level, true);
+            let updates = Updates::new(upper_updates, upper_weights);
+            change_forked(
+                rt,
+                alloc,
+                upper,
+                &updates,
+                chunk_size,
+                forks - 1,
+                level + 1,
+                fork,
+            )
+        },
+    );
+    Ok((below?, above?))
+}
+
 /// The block in the middle.
-pub(crate) fn block_after<R: Threads + Sync, F: Fork + Sync>(
+fn block_after<R: Threads + Sync, F: Fork + Sync>(
     rt: &R,
     alloc: Global,
     middle: &Middle<'_>,
@@ -59,7 +176,7 @@ pub(crate) fn block_after<R: Threads + Sync, F: Fork + Sync>(
 }
 
 /// The tree of both sides and the block between them.
-pub(crate) fn rejoin(
+fn rejoin(
     alloc: Global,
     middle: &Middle<'_>,
     below: Changed<VertexBlock>,

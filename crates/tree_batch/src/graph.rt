@@ -13,20 +13,25 @@ use crate::batch::Batch;
 use crate::edges::EdgeIter;
 use crate::error::GraphError;
 use crate::neighbours::neighbours;
-use crate::updates::updates;
+use crate::updates::{updates, updates_forked};
 use c_tree::ChunkSize;
+use set_ops::Fork;
 use shared_tree::{Share, Tree};
 use std::alloc::{AllocError, Global};
 use std::fmt::{self, Debug};
 use std::marker::Model;
+use std::thread::Threads;
 use vertex_blocks::{NeighbourSet, VertexBlock};
 
 /// The greatest number of vertices of a graph.
 pub const MAX_VERTICES: u32 = 16_777_216;
 
+/// The most levels at which halves go to two threads.
+const MOST_FORKS: u32 = 6;
+
 /// A directed graph whose vertices are the numbers below `vertices`. Self-loops are allowed, and
-/// an edge is there once, with one weight, or not at all. No call changes a graph, and graphs share what they have in
-/// common.
+/// an edge is there once, with one weight, or not at all. No call changes a graph, and graphs share
+/// what they have in common.
 pub struct Graph {
     vertices: u32,
     chunk_size: ChunkSize,
@@ -89,9 +94,9 @@ impl Graph {
 
     /// The graph after a batch: it has as many vertices as the entry that asks for most, or as many as
     /// before; for each edge that the batch names, its last entry that names the edge decides whether it is
-    /// there and with which weight, and every other edge is there as before. The graph itself stays as it is, and the new one shares with it
-    /// what the batch does not reach. For k entries and m edges it takes time in proportion to
-    /// `k log(k + m)`, however much the graph grows.
+    /// there and with which weight, and every other edge is there as before. The graph itself stays as it
+    /// is, and the new one shares with it what the batch does not reach. For k entries and m edges it takes
+    /// time in proportion to `k log(k + m)`, however much the graph grows.
     ///
     /// Errors: `VertexRange` where an entry names a vertex that the new graph does not have, or asks for
     /// fewer vertices than there are or for more than 16,777,216, else `NoMemory`.
@@ -115,16 +120,54 @@ impl Graph {
         })
     }
 
-    /// The destinations of the edges from a vertex, each with the weight of its edge, or `None` where there is none. It takes
-    /// logarithmic time and no memory.
+    /// As [`Graph::apply`], with the entries sorted by threads, and with halves of the vertices on two
+    /// threads at so many levels, at most 6. Where one block of 64 vertices has more than half of the
+    /// entries, what is beside it is not forked, and where one vertex of it has more than half of these,
+    /// the set of that vertex goes by halves. Where no thread can be started, the caller does both
+    /// halves. The answer is that of `apply` whatever `forks` is. `fork` is told of each half that
+    /// begins, first of those of the edges by source and then of those by destination.
+    ///
+    /// Errors: those of [`Graph::apply`].
+    pub fn apply_forked<R: Threads + Sync, F: Fork + Sync>(
+        &self,
+        rt: &R,
+        alloc: Global,
+        batch: &Batch,
+        forks: u32,
+        fork: &F,
+    ) -> Result<Graph, GraphError>
+        ensures { Applies self.now batch.now result }
+    {
+        if forks == 0 {
+            return self.apply(alloc, batch);
+        }
+        if batch.misfits(self.vertices) {
+            return Err(GraphError::VertexRange);
+        }
+        let (size, most) = (self.chunk_size, forks.min(MOST_FORKS));
+        let updates = updates_forked(rt, alloc, batch)?;
+        let outs = updates.change_forked(rt, alloc, &self.outgoing, size, most, fork)?;
+        let turned = updates.turned_forked(rt, alloc)?;
+        let ins = turned.change_forked(rt, alloc, &self.incoming, size, most, fork)?;
+        Ok(Graph {
+            vertices: batch.vertices_after(self.vertices),
+            chunk_size: self.chunk_size,
+            edge_count: self.edge_count.wrapping_add(outs.growth),
+            outgoing: outs.tree,
+            incoming: ins.tree,
+        })
+    }
+
+    /// The destinations of the edges from a vertex, each with the weight of its edge, or `None` where
+    /// there is none. It takes logarithmic time and no memory.
     pub fn out(&self, source: u32) -> Option<NeighbourSet<'_>>
         ensures { HasNeighbours (destinations_of source self.now.edges) result }
     {
         self.destinations(source)
     }
 
-    /// The sources of the edges to a vertex, each with the weight of its edge, or `None` where there is none. It takes logarithmic
-    /// time and no memory.
+    /// The sources of the edges to a vertex, each with the weight of its edge, or `None` where there is
+    /// none. It takes logarithmic time and no memory.
     pub fn in_(&self, destination: u32) -> Option<NeighbourSet<'_>>
         ensures { HasNeighbours (sources_of destination self.now.edges) result }
     {

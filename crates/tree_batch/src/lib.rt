@@ -12,9 +12,9 @@
 //! counts, and leaves the old graph as it is. The entries are sorted by source and destination, and the
 //! last of each edge is kept; a batch in which every added edge has weight 1 is sorted without weights.
 //! These updates are cut by blocks, where they lie, and made in one pass over the tree; turned and
-//! sorted again, they are made the other way round. What a batch does not
-//! reach, the graphs share. The parts of a pass by halves on two threads stand in `forked`, and no call
-//! does it yet.
+//! sorted again, they are made the other way round. What a batch does not reach, the graphs share.
+//! `Graph::apply_forked` gives the same graph: it sorts by threads, and does a pass by halves of the
+//! updates that go to two threads.
 //!
 //! Graphs as trees of C-trees that are updated in batches are those of Dhulipala, Blelloch and Shun
 //! (Aspen, PLDI 2019).

@@ -1,6 +1,6 @@
 //! What sorted updates make of a tree, and the same updates seen from the other end of their edges.
 
-ghost use Rattle.std.specs.Prelude.{◌≡◌, IfOk};
+ghost use Rattle.std.specs.Prelude.{◌≡◌, ◌≤◌, IfOk};
 ghost use Rattle.std.specs.Map.{keys_of};
 ghost use Rattle.edge_updates.specs.Updates.{Ascend};
 ghost use Rattle.weighted_updates.specs.WeightedUpdates.{decided_weight};
@@ -9,11 +9,14 @@ ghost use Rattle.tree_batch.specs.Forking.{IsChangedTree};
 ghost use Rattle.tree_batch.specs.Sorted.{sorted_pairs};
 
 use crate::cuts::changed;
+use crate::forked::change_forked;
 use crate::updates::SortedUpdates;
 use c_tree::ChunkSize;
-use edge_updates::{Updates, sort_turned};
+use edge_updates::{Updates, sort_forked, sort_turned, turn};
+use set_ops::Fork;
 use shared_tree::{Changed, Tree};
 use std::alloc::{AllocError, Global};
+use std::thread::Threads;
 use vertex_blocks::VertexBlock;
 use weighted_updates::Columns;
 
@@ -39,6 +42,27 @@ impl SortedUpdates {
         }
     }
 
+    /// As `turned`, with updates without weights sorted by as many threads as there are processors.
+    pub(crate) fn turned_forked<R: Threads + Sync>(
+        self,
+        rt: &R,
+        alloc: Global,
+    ) -> Result<SortedUpdates, AllocError>
+        requires { Ascend (keys_of (sorted_pairs self)) }
+        ensures order { IfOk result (λ s. Ascend (keys_of (sorted_pairs s))) }
+        ensures same { IfOk result (λ s. (p : Ends)
+            → decided_weight (sorted_pairs s) p ≡ decided_weight (sorted_pairs self) (p.1, p.0)) }
+    {
+        match self {
+            SortedUpdates::Unweighted(mut updates) => {
+                turn(&mut updates);
+                sort_forked(rt, alloc, &mut updates)?;
+                Ok(SortedUpdates::Unweighted(updates))
+            }
+            SortedUpdates::Weighted(updates) => SortedUpdates::Weighted(updates).turned(alloc),
+        }
+    }
+
     /// The tree after updates whose edges ascend. Updates without weights are lent as they stand.
     pub(crate) fn change(
         &self,
@@ -56,6 +80,33 @@ impl SortedUpdates {
             SortedUpdates::Weighted(pairs) => {
                 let columns = Columns::of(alloc, pairs)?;
                 changed(alloc, tree, &columns.lend(), chunk_size)
+            }
+        }
+    }
+
+    /// As `change`, with halves of the tree on two threads at so many levels.
+    pub(crate) fn change_forked<R: Threads + Sync, F: Fork + Sync>(
+        &self,
+        rt: &R,
+        alloc: Global,
+        tree: &Tree<VertexBlock>,
+        chunk_size: ChunkSize,
+        forks: u32,
+        fork: &F,
+    ) -> Result<Changed<VertexBlock>, AllocError>
+        requires order { Ascend (keys_of (sorted_pairs self.now)) }
+        requires few { forks ≤ 6 }
+        ensures { IfOk result (λ c. IsChangedTree (sorted_pairs self.now) tree.now.entries c) }
+    {
+        match self {
+            SortedUpdates::Unweighted(updates) => {
+                let lent = Updates::new(updates, &[]);
+                change_forked(rt, alloc, tree, &lent, chunk_size, forks, 1, fork)
+            }
+            SortedUpdates::Weighted(pairs) => {
+                let columns = Columns::of(alloc, pairs)?;
+                let lent = columns.lend();
+                change_forked(rt, alloc, tree, &lent, chunk_size, forks, 1, fork)
             }
         }
     }

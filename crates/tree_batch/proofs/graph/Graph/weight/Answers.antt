@@ -1,4 +1,4 @@
-use Rattle.std.proofs.Common.{◌^◌, ◌∙◌}
+use Rattle.std.proofs.Common.{◌^◌}
 use Rattle.vertex_blocks.specs.Blocks.{lists_of}
 use Rattle.tree_batch.proofs.Adjacency.{edge_weights}
 use Rattle.tree_batch.proofs.Neighbourhoods.{graph_rises}
