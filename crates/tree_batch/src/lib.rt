@@ -38,4 +38,5 @@ pub use edges::EdgeIter;
 pub use error::GraphError;
 pub use graph::{Graph, MAX_VERTICES};
 pub use laws::{directions_are_converse, edges_ascend, graphs_never_shrink, last_entry_decides};
+pub use set_ops::{Fork, Quiet};
 pub use vertex_blocks::{NeighbourIter, NeighbourSet, VertexBlock};
