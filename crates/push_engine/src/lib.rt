@@ -21,6 +21,7 @@ mod apply;
 mod crew_apply;
 mod listed;
 mod merge;
+mod neighbour_block;
 mod sources;
 mod work;
 
