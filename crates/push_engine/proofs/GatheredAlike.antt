@@ -1,5 +1,5 @@
 -- What edges give where destinations are tested twice, or by tests that agree.
-use Rattle.std.proofs.Common.{◌≡◌, ℕ, ◌<◌, ℤ, Bool, true, cond, List, refl, sym, ap, ◌∙◌, subst}
+use Rattle.std.proofs.Common.{◌≡◌, ℕ, ◌<◌, Bool, true, cond, List, refl, sym, ap, ◌∙◌, subst}
 use Rattle.std.specs.List.{filter}
 use Rattle.edge_lists.specs.Edge.{Edge}
 use Rattle.kernels.specs.StepTree.{StepsTree}

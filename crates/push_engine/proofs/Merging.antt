@@ -1,6 +1,5 @@
 -- The pieces of an apply, put together.
-use Rattle.std.proofs.Common.{◌≡◌, ℕ, zero, suc, ◌+◌, ◌<◌, ℤ, Bool, true, false, List, [], ◌∷◌, ◌++◌, length, get_or, take, refl, sym, ap, ◌∙◌, subst, arith, append_assoc}
-use Rattle.std.proofs.lemmas.List.{append-nil, take_more}
+use Rattle.std.proofs.Common.{◌≡◌, ℕ, ℤ, Bool, true, false, List, [], ◌∷◌, ◌++◌, length, refl, sym, ap, ◌∙◌}
 use Rattle.std.proofs.lemmas.List.Elements.{filter-append}
 use Rattle.std.specs.List.{filter, flat_map, range_with_len}
 use Rattle.std.specs.List.Sorted.{IsPermutation}
@@ -8,19 +7,14 @@ use Rattle.edge_lists.specs.Edge.{Edge}
 use Rattle.apply_options.specs.declared.reduction.Reduction.{Reduction}
 use Rattle.kernels.specs.StepTree.{StepsTree}
 use Rattle.kernels.specs.State.{StateValue}
-use Rattle.crew.specs.declared.piece_results.Found.{Found}
 use Rattle.edge_fold.specs.declared.apply_context.ApplyContext.{ApplyContext}
-use Rattle.edge_fold.specs.declared.gathered.Gathered.{Gathered}
 use Rattle.edge_fold.specs.declared.scratch.Scratch.{Scratch}
 use Rattle.edge_fold.specs.Between.{edges_between}
 use Rattle.edge_fold.specs.Folded.{HasFolded}
-use Rattle.edge_fold.specs.Gathered.{AreGathered}
 use Rattle.edge_fold.specs.Given.{all_given, given_on, reduced_at}
 use Rattle.edge_fold.proofs.Orders.{folded_alike, groups_in_any_order}
 use Rattle.crew.specs.Partition.{AreEnds, piece_of}
 use Rattle.crew.proofs.PieceLists.{pieces_are_the_list}
-use Rattle.crew.specs.Pieces.{pieces_of}
-use Rattle.edge_apply.specs.Pieces.{EachGathered}
 use Rattle.push_engine.specs.Rows.{rows}
 use Rattle.push_engine.specs.Sources.{AreSources, passing_in}
 use Rattle.push_engine.proofs.RowFolds.{agree_on_rows, rows-append, rows_to_are_edges}

@@ -1,12 +1,10 @@
 -- Walks over sources, and the vertices with edges.
-use Rattle.std.proofs.Common.{◌≡◌, ℕ, ◌+◌, ◌<◌, ◌≤◌, ◌==◌, ℤ, Bool, true, false, cond, ◌||◌, ◌&&◌, List, [], ◌∷◌, ◌++◌, length, take, get_or, unwrap_or, Some, refl, sym, ap, ◌∙◌, append_assoc, arith}
-use Rattle.std.proofs.lemmas.Bool.Decides.{nat_tests}
+use Rattle.std.proofs.Common.{◌≡◌, ℕ, ◌+◌, ◌<◌, ℤ, Bool, true, ◌&&◌, List, [], ◌∷◌, ◌++◌, length, take, get_or, sym, ap, ◌∙◌, append_assoc}
 use Rattle.std.proofs.lemmas.List.{append-nil, map-append, take_more}
 use Rattle.std.proofs.lemmas.List.Elements.{filter-append}
 use Rattle.std.specs.List.{filter}
 use Rattle.edge_lists.specs.Edge.{Edge}
 use Rattle.kernels.specs.StepTree.{StepsTree}
-use Rattle.kernels.specs.EdgeApply.{is_member}
 use Rattle.kernels.specs.State.{StateValue}
 use Rattle.kernels.specs.declared.endpoint_filter.EndpointFilter.{EndpointFilter}
 use Rattle.edge_fold.specs.declared.apply_context.ApplyContext.{ApplyContext}
@@ -16,9 +14,8 @@ use Rattle.edge_fold.specs.Folded.{IsContextOf, HasFolded}
 use Rattle.edge_fold.specs.Given.{row}
 use Rattle.edge_fold.proofs.Walks.{FoldsMore, HasPassed, HasWalked, InRow, folded_along, pass_done, walk_done}
 use Rattle.flat_snapshot.specs.FlatEdges.{AreDegreesOf}
-use Rattle.flat_snapshot.specs.Maps.{lookup, Rises as Climbs}
 use Rattle.flat_snapshot.specs.Neighbours.{destinations_of}
-use Rattle.vertex_sets.proofs.Ascending.{Rises, rises_from_lower}
+use Rattle.vertex_sets.proofs.Ascending.{Rises}
 use Rattle.edge_fold.specs.Between.{edges_between, firsts}
 use Rattle.push_engine.specs.Rows.{rows_to}
 use Rattle.edge_apply.proofs.Listed.{degree_listed, degrees_rise, member_filtered, rises_filtered}

@@ -1,4 +1,4 @@
-use Rattle.std.proofs.Common.{ℕ, ap, sym, ◌∙◌, subst, arith}
+use Rattle.std.proofs.Common.{ap, sym, ◌∙◌, subst, arith}
 use Rattle.kernels.specs.EdgeApply.{is_member}
 use Rattle.kernels.specs.Cells.{HasSizes}
 use Rattle.kernels.specs.declared.endpoint_filter.EndpointFilter.{EndpointFilter}

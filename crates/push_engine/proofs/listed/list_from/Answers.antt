@@ -1,9 +1,7 @@
 use Rattle.std.proofs.Common.{ℕ, List, sym, ap, ◌∙◌, subst}
 use Rattle.std.specs.List.{filter, range_with_len}
-use Rattle.apply_options.specs.declared.apply_schedule.Direction.{Direction}
 use Rattle.kernels.specs.EdgeApply.{is_member}
 use Rattle.edge_apply.specs.Lists.{AscendsFrom}
-use Rattle.push_engine.specs.Sources.{cut_list}
 use Rattle.edge_apply.proofs.Listed.{ascends}
 use Rattle.push_engine.proofs.SourceLists.{filtered_sources}
 use Rattle.vertex_sets.proofs.Ascending.{rises_range}

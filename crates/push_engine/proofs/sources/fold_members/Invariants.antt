@@ -1,4 +1,3 @@
-use Rattle.std.proofs.Common.{◌≡◌}
 use Rattle.edge_fold.proofs.Walks.{HasWalked}
 use Rattle.push_engine.specs.Rows.{rows_to}
 use Rattle.edge_apply.specs.Words.{passes_words}

@@ -1,4 +1,4 @@
-use Rattle.std.proofs.Common.{◌≡◌, ℕ, List, length}
+use Rattle.std.proofs.Common.{ℕ, List, length}
 use Rattle.flat_snapshot.specs.FlatEdges.{AreDegreesOf}
 use Rattle.flat_snapshot.specs.Neighbours.{destinations_of}
 use Rattle.edge_fold.specs.Between.{firsts}

@@ -1,4 +1,4 @@
-use Rattle.std.proofs.Common.{◌≤◌, ◌++◌, length, take, refl, arith}
+use Rattle.std.proofs.Common.{take, refl, arith}
 use Rattle.std.specs.List.{filter}
 use Rattle.edge_fold.proofs.Walks.{parts_of, walk_begun, walk_done, walk_more}
 use Rattle.edge_apply.specs.Words.{passes_words}
@@ -15,10 +15,11 @@ rounds-preserved g c =
     let coming = g.W.NeighbourWalk.coming c.rounds.walk in
     let part = take n coming in
     let rest = g.W.NeighbourWalk.coming c.fill-count.new.self in
-    let keys = keys_kept to n coming _ _ c.fill-count.ensures.filled c.keep_members-kept.ensures.kept in
+    let kept = take c.keep_members-kept.result c.keep_members-kept.new.block in
+    let same = keys_kept to n coming c.fill-count.new.block kept c.fill-count.ensures.filled c.keep_members-kept.ensures.kept in
     walk_more a.context (row_to to u) (g.W.NeighbourWalk.coming a.walk) coming part rest a.scratch.now c.rounds.scratch c.fold.new.self
     (row_in_row to u) (parts_of n coming part rest refl c.fill-count.ensures.rest)
-    (λ m steps es are has. c.in_ok-fold.ensures m steps es (filter (λ e. to e.0) part) keys are has)
+    (λ m steps es are has. c.in_ok-fold.ensures m steps es (filter (λ e. to e.0) part) same are has)
     c.rounds.invariant
 
 pub returns : goal.returns

@@ -1,4 +1,4 @@
-use Rattle.std.proofs.Common.{◌≤◌, ◌++◌, length, take, refl, ap, arith}
+use Rattle.std.proofs.Common.{◌++◌, take, refl, ap, arith}
 use Rattle.edge_fold.specs.Given.{entries_of, row}
 use Rattle.edge_fold.proofs.Walks.{folded_along, parts_of, walk_begun, walk_done, walk_more}
 use Rattle.edge_apply.specs.Words.{passes_words}
@@ -16,11 +16,13 @@ rounds-preserved g c =
     let part = take n coming in
     let rest = g.W.NeighbourWalk.coming c.fill_weighted-count.new.self in
     let read = c.fill_weighted-count.ensures in
-    let kept = entries_kept to n coming _ _ _ read.keys read.weights c.keep_members_weighted-kept.ensures.kept in
+    let k = c.keep_members_weighted-kept.result in
+    let kept = entries_of (take k c.keep_members_weighted-kept.new.block) (take k c.keep_members_weighted-kept.new.weights) in
+    let same = entries_kept to n coming c.fill_weighted-count.new.keys c.fill_weighted-count.new.weights kept read.keys read.weights c.keep_members_weighted-kept.ensures.kept in
     let then = c.fold_weighted.new.self in
     walk_more a.context (row_to to u) (g.W.NeighbourWalk.coming a.walk) coming part rest a.scratch.now c.rounds.scratch then
     (row_in_row to u) (parts_of n coming part rest refl read.rest)
-    (λ m steps es are has. folded_along a.context m steps (es ++ row u _) (es ++ row_to to u part) then (ap (λ fs. es ++ row u fs) kept) (c.in_ok-fold_weighted.ensures m steps es are has))
+    (λ m steps es are has. folded_along a.context m steps (es ++ row u kept) (es ++ row_to to u part) then (ap (λ fs. es ++ row u fs) same) (c.in_ok-fold_weighted.ensures m steps es are has))
     c.rounds.invariant
 
 pub returns : goal.returns

@@ -1,4 +1,4 @@
-use Rattle.std.proofs.Common.{ℕ, List, true, refl}
+use Rattle.std.proofs.Common.{true, refl}
 use Rattle.crew.specs.Partition.{piece_of}
 use Rattle.edge_apply.specs.Words.{is_set}
 use Rattle.push_engine.specs.Rows.{rows}

@@ -1,4 +1,4 @@
-use Rattle.std.proofs.Common.{[], sym, ap, ◌∙◌}
+use Rattle.std.proofs.Common.{[], sym, ap}
 use Rattle.std.specs.List.{filter}
 use Rattle.edge_fold.proofs.Walks.{folded_along}
 use Rattle.edge_apply.specs.Words.{passes_words}

@@ -1,4 +1,4 @@
-use Rattle.std.proofs.Common.{◌-◌, ℕ, [], List, length, slice_range, sym, ap, ◌∙◌, subst, arith}
+use Rattle.std.proofs.Common.{◌-◌, ℕ, List, length, slice_range, ap, ◌∙◌, subst, arith}
 use Rattle.std.specs.List.{filter}
 use Rattle.crew.specs.Partition.{end_of, piece_of}
 use Rattle.edge_apply.proofs.Listed.{piece_inside}
