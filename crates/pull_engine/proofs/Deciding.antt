@@ -9,7 +9,7 @@ use Rattle.apply_options.specs.declared.reduction.Reduction.{Reduction}
 use Rattle.apply_options.specs.declared.reduction.Reduction.TheVariants as reduction
 use Rattle.kernels.specs.Arithmetic.{reduced}
 use Rattle.edge_fold.specs.ReducedContributions.{reduced_with}
-use Rattle.vertex_blocks.specs.Lists.{AscendsFrom}
+use Rattle.ascending_lists.specs.Ascending.{AscendsFrom}
 use Rattle.pull_engine.specs.EarlySources.{CountsOnce, first_of, last_of, last_or, reduced_once}
 
 -- of two numbers the greater decides alone, and the less

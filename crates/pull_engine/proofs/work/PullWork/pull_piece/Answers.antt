@@ -1,6 +1,7 @@
 use Rattle.std.proofs.Common.{rules, ◌≡◌, ◌-◌, ◌^◌, ◌<◌, ◌≤◌, ℕ, List, length, sym, ap, ◌∙◌, subst, arith}
 use Rattle.std.proofs.lemmas.List.FromFn.{length-range_with_len}
 use Rattle.std.proofs.lemmas.Result.{IfOk-weaker}
+use Rattle.edge_lists.specs.Edge.{Edge}
 use Rattle.crew.specs.Partition.{end_of}
 use Rattle.edge_apply.proofs.Filtered.{between_agree}
 use Rattle.edge_fold.specs.Between.{edges_between}
@@ -63,7 +64,7 @@ returns c =
     let same = between_agree w.apply.flat.now passes from to c.context-context.ensures.graph (λ v l. c.words_of-from.ensures v ∙ w.sources m from vectors sizes is_from v l) in
     subst (λ (e : ℕ). AreChangesFrom x (end_of w.cuts (k - 1)) (e - end_of w.cuts (k - 1)) es m steps cs.items) end
     (subst (λ (s : ℕ). AreChangesFrom x s (places.end - s) es m steps cs.items) start
-    (subst (λ (fs : List (ℕ × ℕ)). AreChangesFrom x places.start (places.end - places.start) fs m steps cs.items) same
+    (subst (λ (fs : List Edge). AreChangesFrom x places.start (places.end - places.start) fs m steps cs.items) same
     (changed m steps to (subst (λ (f : ApplyContext). IsContextOf f m steps) (sym c.context-context.ensures.context) (record { vectors = vectors; sizes = sizes; kernels = kernels })) is_to))))
     is)
     c.pull_shape.ensures
