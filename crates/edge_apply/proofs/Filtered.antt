@@ -2,6 +2,7 @@
 use Rattle.std.proofs.Common.{◌≡◌, ℕ, ◌<◌, ◌==◌, Bool, true, false, cond, ◌||◌, ◌&&◌, List, [], ◌∷◌, refl, sym, ap, ◌∙◌, subst}
 use Rattle.std.proofs.lemmas.Bool.Decides.{Decides-eqb}
 use Rattle.std.specs.List.{filter}
+use Rattle.edge_lists.specs.Edge.{Edge}
 use Rattle.kernels.specs.StepTree.{StepsTree}
 use Rattle.kernels.specs.State.{StateValue}
 use Rattle.flat_snapshot.specs.Edge.{edge_eq, has_edge}
@@ -10,11 +11,11 @@ use Rattle.vectors.specs.declared.changes.VectorChanges.{VectorChanges}
 use Rattle.edge_fold.specs.Between.{edges_between}
 use Rattle.edge_apply.specs.Applied.{AreChangesOn}
 
-filtered_alike : (p q : ℕ × ℕ → Bool) (e : ℕ × ℕ) (ks ls : List (ℕ × ℕ)) (b : Bool) → p e ≡ b → q e ≡ b → ks ≡ ls → cond (p e) (e ∷ ks) ks ≡ cond (q e) (e ∷ ls) ls
+filtered_alike : (p q : Edge → Bool) (e : Edge) (ks ls : List Edge) (b : Bool) → p e ≡ b → q e ≡ b → ks ≡ ls → cond (p e) (e ∷ ks) ks ≡ cond (q e) (e ∷ ls) ls
 filtered_alike p q e ks ls b here there more =
-    ap (λ (c : Bool). cond c (e ∷ ks) ks) (here ∙ sym there) ∙ ap (λ (ms : List (ℕ × ℕ)). cond (q e) (e ∷ ms) ms) more
+    ap (λ (c : Bool). cond c (e ∷ ks) ks) (here ∙ sym there) ∙ ap (λ (ms : List Edge). cond (q e) (e ∷ ms) ms) more
 
-pub has_first : (e : ℕ × ℕ) (es : List (ℕ × ℕ)) → has_edge (e ∷ es) e ≡ true
+pub has_first : (e : Edge) (es : List Edge) → has_edge (e ∷ es) e ≡ true
 has_first e es =
     ap (λ (b : Bool). (b && (e.1 == e.1)) || has_edge es e) ((Decides-eqb e.0 e.0).1 refl) ∙ ap (λ (b : Bool). (true && b) || has_edge es e) ((Decides-eqb e.1 e.1).1 refl)
 
@@ -22,19 +23,19 @@ pub has_later : (b c : Bool) → c ≡ true → b || c ≡ true
 has_later true c e = refl
 has_later false c e = e
 
-filter_agree : (p q : ℕ × ℕ → Bool) (es : List (ℕ × ℕ)) → ((e : ℕ × ℕ) → has_edge es e ≡ true → p e ≡ q e) → filter p es ≡ filter q es
+filter_agree : (p q : Edge → Bool) (es : List Edge) → ((e : Edge) → has_edge es e ≡ true → p e ≡ q e) → filter p es ≡ filter q es
 filter_agree p q [] same = refl
 filter_agree p q (e ∷ es) same =
     filtered_alike p q e (filter p es) (filter q es) (q e) (same e (has_first e es)) refl
     (filter_agree p q es (λ f has. same f (has_later (edge_eq e f) (has_edge es f) has)))
 
 -- ends that let the same vertices through
-pub between_same : (from other to : ℕ → Bool) (es : List (ℕ × ℕ)) → ((v : ℕ) → from v ≡ other v) → edges_between from to es ≡ edges_between other to es
+pub between_same : (from other to : ℕ → Bool) (es : List Edge) → ((v : ℕ) → from v ≡ other v) → edges_between from to es ≡ edges_between other to es
 between_same from other to es same =
     filter_agree (λ e. from e.0 && to e.1) (λ e. other e.0 && to e.1) es (λ e has. ap (λ (b : Bool). b && to e.1) (same e.0))
 
 -- the same of destinations
-pub to_same : (from to other : ℕ → Bool) (es : List (ℕ × ℕ)) → ((v : ℕ) → to v ≡ other v) → edges_between from to es ≡ edges_between from other es
+pub to_same : (from to other : ℕ → Bool) (es : List Edge) → ((v : ℕ) → to v ≡ other v) → edges_between from to es ≡ edges_between from other es
 to_same from to other es same =
     filter_agree (λ e. from e.0 && to e.1) (λ e. from e.0 && other e.1) es (λ e has. ap (λ (b : Bool). from e.0 && b) (same e.1))
 
@@ -53,8 +54,8 @@ to_agree g from to other is same =
     filter_agree (λ e. from e.0 && to e.1) (λ e. from e.0 && other e.1) g.edges (λ e has. ap (λ (b : Bool). from e.0 && b) (same e.1 (is.within e has).1))
 
 -- the changes of an apply to the same edges
-pub changes_along : (n : ℕ) (es fs : List (ℕ × ℕ)) (m : StateValue) (steps : List StepsTree) (cs : List VectorChanges) → fs ≡ es → AreChangesOn n es m steps cs → AreChangesOn n fs m steps cs
-changes_along n es fs m steps cs same are = subst (λ (ks : List (ℕ × ℕ)). AreChangesOn n ks m steps cs) (sym same) are
+pub changes_along : (n : ℕ) (es fs : List Edge) (m : StateValue) (steps : List StepsTree) (cs : List VectorChanges) → fs ≡ es → AreChangesOn n es m steps cs → AreChangesOn n fs m steps cs
+changes_along n es fs m steps cs same are = subst (λ (ks : List Edge). AreChangesOn n ks m steps cs) (sym same) are
 
 pub and_true : (b : Bool) → b && true ≡ b
 and_true true = refl

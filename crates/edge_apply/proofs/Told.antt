@@ -3,6 +3,7 @@ use Rattle.std.proofs.Common.{◌≡◌, ◌⊎◌, inl, inr, ℕ, zero, suc, �
 use Rattle.std.proofs.lemmas.Bool.Decides.{nat_tests}
 use Rattle.std.proofs.lemmas.List.{append-nil, drop-drop, get_or-drop}
 use Rattle.std.specs.List.{filter, flat_map, range_with_len}
+use Rattle.edge_lists.specs.Edge.{Edge}
 use Rattle.apply_options.specs.declared.reduction.Reduction.{Reduction}
 use Rattle.kernels.specs.StepTree.{StepsTree}
 use Rattle.kernels.specs.Laws.{IsGivenBy}
@@ -12,7 +13,8 @@ use Rattle.vectors.specs.declared.changes.EntryChange.{EntryChange}
 use Rattle.crew.specs.Partition.{AreEnds, end_of}
 use Rattle.edge_fold.specs.Changed.{change_at, changed, changed_from}
 use Rattle.edge_fold.specs.Gathered.{is_between}
-use Rattle.edge_fold.specs.Given.{after_ends, all_given, given_on, reduced_at}
+use Rattle.kernels.specs.EdgeApply.{after_edges}
+use Rattle.edge_fold.specs.Given.{all_given, given_on, reduced_at}
 use Rattle.edge_fold.proofs.Ascending.{within_test}
 use Rattle.edge_fold.proofs.ChangedRows.{changed_from-append, nothing_changed}
 use Rattle.edge_fold.proofs.Meaning.{entries_after}
@@ -85,24 +87,24 @@ only_range old part new low high n l k is =
     ∙ changed_alike old part new low (high - low) (λ u a b. is u (omega (arith, b, l, k)) ∙ ap (λ (c : Bool). cond c (new u) (old u)) (within_test low high u a (omega (arith, b, l))))
 
 -- an apply to the edges to the vertices of a range changes what one to all edges changes there
-pub changed_between : (n low high x : ℕ) (r : Reduction) (m : StateValue) (steps : List StepsTree) (es : List (ℕ × ℕ)) → IsGivenBy r x steps m.sets m.vectors → n ≤ length (slice_index_or m.vectors x []) → low ≤ high → high ≤ n
-    → changed n (entry m.vectors x) (entry (after_ends steps m.sets m.vectors (filter (λ e. is_between low high e.1) es) m.vectors) x)
-    ≡ changed_from (entry m.vectors x) (entry (after_ends steps m.sets m.vectors es m.vectors) x) low (high - low)
+pub changed_between : (n low high x : ℕ) (r : Reduction) (m : StateValue) (steps : List StepsTree) (es : List Edge) → IsGivenBy r x steps m.sets m.vectors → n ≤ length (slice_index_or m.vectors x []) → low ≤ high → high ≤ n
+    → changed n (entry m.vectors x) (entry (after_edges steps m.sets m.vectors (filter (λ e. is_between low high e.1) es) m.vectors) x)
+    ≡ changed_from (entry m.vectors x) (entry (after_edges steps m.sets m.vectors es m.vectors) x) low (high - low)
 changed_between n low high x r m steps es by long l k =
     let old = entry m.vectors x in
-    let new = entry (after_ends steps m.sets m.vectors es m.vectors) x in
+    let new = entry (after_edges steps m.sets m.vectors es m.vectors) x in
     let reached = λ (v : ℕ). reduced_at r v (old v) (given_on x (all_given m steps) es) in
     let all = λ (v : ℕ) (b : v < n). entries_after r x v m steps (λ _. true) es by (omega (arith, b, long))
-    ∙ ap (λ (fs : List (ℕ × ℕ)). entry (after_ends steps m.sets m.vectors fs m.vectors) x v) (filter_all (λ _. true) es (λ e. refl)) in
-    only_range old (entry (after_ends steps m.sets m.vectors (filter (λ e. is_between low high e.1) es) m.vectors) x) new low high n l k
+    ∙ ap (λ (fs : List Edge). entry (after_edges steps m.sets m.vectors fs m.vectors) x v) (filter_all (λ _. true) es (λ e. refl)) in
+    only_range old (entry (after_edges steps m.sets m.vectors (filter (λ e. is_between low high e.1) es) m.vectors) x) new low high n l k
     (λ v b. sym (entries_after r x v m steps (is_between low high) es by (omega (arith, b, long))) ∙ ap (λ (y : ℤ). cond (is_between low high v) y (old v)) (all v b))
 
 -- an apply to edges that give vertices the same
-pub changed_by_alike : (n x : ℕ) (r : Reduction) (m : StateValue) (steps : List StepsTree) (es fs : List (ℕ × ℕ)) → IsGivenBy r x steps m.sets m.vectors → n ≤ length (slice_index_or m.vectors x [])
+pub changed_by_alike : (n x : ℕ) (r : Reduction) (m : StateValue) (steps : List StepsTree) (es fs : List Edge) → IsGivenBy r x steps m.sets m.vectors → n ≤ length (slice_index_or m.vectors x [])
     → ((v : ℕ) (k : ℤ) → reduced_at r v k (given_on x (all_given m steps) es) ≡ reduced_at r v k (given_on x (all_given m steps) fs))
-    → changed n (entry m.vectors x) (entry (after_ends steps m.sets m.vectors es m.vectors) x) ≡ changed n (entry m.vectors x) (entry (after_ends steps m.sets m.vectors fs m.vectors) x)
+    → changed n (entry m.vectors x) (entry (after_edges steps m.sets m.vectors es m.vectors) x) ≡ changed n (entry m.vectors x) (entry (after_edges steps m.sets m.vectors fs m.vectors) x)
 changed_by_alike n x r m steps es fs by long alike =
     let old = entry m.vectors x in
-    let new = λ (gs : List (ℕ × ℕ)). entry (after_ends steps m.sets m.vectors gs m.vectors) x in
-    let all = λ (gs : List (ℕ × ℕ)) (v : ℕ) (b : v < n). entries_after r x v m steps (λ _. true) gs by (omega (arith, b, long)) ∙ ap (λ (hs : List (ℕ × ℕ)). new hs v) (filter_all (λ _. true) gs (λ e. refl)) in
+    let new = λ (gs : List Edge). entry (after_edges steps m.sets m.vectors gs m.vectors) x in
+    let all = λ (gs : List Edge) (v : ℕ) (b : v < n). entries_after r x v m steps (λ _. true) gs by (omega (arith, b, long)) ∙ ap (λ (hs : List Edge). new hs v) (filter_all (λ _. true) gs (λ e. refl)) in
     changed_alike old (new es) (new fs) 0 n (λ v a b. let inside : v < n = omega (arith, b) in sym (all es v inside) ∙ alike v (old v) ∙ all fs v inside)

@@ -1,5 +1,6 @@
 -- What an apply of edge functions changes.
 use Rattle.std.specs.Prelude.{◌≡◌, ℕ, ◌≤◌, Bool, List, [], length, slice_index_or}
+use Rattle.edge_lists.specs.Edge.{Edge}
 use Rattle.apply_options.specs.declared.reduction.Reduction.{Reduction}
 use Rattle.kernels.specs.StepTree.{StepsTree}
 use Rattle.kernels.specs.Laws.{IsGivenBy}
@@ -11,14 +12,14 @@ use Rattle.edge_fold.specs.Between.{edges_between}
 use Rattle.edge_fold.specs.Changed.{changed, changes_of}
 use Rattle.edge_fold.specs.Ends.{IsEndTest}
 use Rattle.edge_fold.specs.Folded.{AreKernels}
-use Rattle.edge_fold.specs.Given.{after_ends}
+use Rattle.kernels.specs.EdgeApply.{after_edges}
 use Rattle.edge_apply.specs.declared.apply.Apply.{Apply}
 
 -- for each vector that has an entry for each vertex and to which the functions give by one reduction, the vertices whose
 -- entry an apply to these edges of a graph of n vertices changes, ascending, with the entries after it
-abbrev pub AreChangesOn : (n : ℕ) → (edges : List (ℕ × ℕ)) → StateValue → List StepsTree → List VectorChanges → Type 0
+abbrev pub AreChangesOn : (n : ℕ) → (edges : List Edge) → StateValue → List StepsTree → List VectorChanges → Type 0
 AreChangesOn n edges m steps cs = (x : ℕ) (r : Reduction) → IsGivenBy r x steps m.sets m.vectors → n ≤ length (slice_index_or m.vectors x [])
-    → changes_of x cs ≡ changed n (entry m.vectors x) (entry (after_ends steps m.sets m.vectors edges m.vectors) x)
+    → changes_of x cs ≡ changed n (entry m.vectors x) (entry (after_edges steps m.sets m.vectors edges m.vectors) x)
 
 -- the changes are those of an apply to the edges between its ends, over the vectors and the sizes of the sets of a state
 abbrev pub AreChangesOf : Apply → List VectorChanges → Type 0

@@ -1,10 +1,13 @@
 //! Edge applies: what an apply of edge functions is given.
-ghost use Rattle.std.specs.Prelude.{◌≡◌};
+ghost use Rattle.std.specs.Prelude.{◌≡◌, List};
 ghost use Rattle.flat_snapshot.specs.Digraph.{IsDigraph};
-ghost use Rattle.edge_apply.specs.Contexts.{context_of};
+ghost use Rattle.kernels.specs.StepTree.{StepsTree};
+ghost use Rattle.kernels.specs.State.{StateValue};
+ghost use Rattle.edge_fold.specs.Folded.{IsContextOf};
+ghost use Rattle.edge_apply.specs.Contexts.{context_of, IsApplyOf};
 
 use apply_options::{Direction, Parallelization};
-use edge_fold::{ApplyContext, FoldStart};
+use edge_fold::{ApplyContext, FoldStart, reads_weights};
 use flat_snapshot::Flat;
 use kernels::{EdgeKernel, EndpointFilter};
 use vectors::Vectors;
@@ -26,14 +29,16 @@ pub struct Apply<'a> {
 }
 
 impl<'a> Apply<'a> {
-    /// The functions and what they read, and what new entries begin with.
+    /// The functions and what they read, whether weights are among it, and what new entries begin with.
     pub fn context(&self, start: FoldStart) -> ApplyContext<'a>
         ensures context { result ≡ context_of self.now start }
+        ensures reads { (m : StateValue) (steps : List StepsTree) → IsApplyOf self.now m steps → IsContextOf result m steps }
         ensures graph { IsDigraph self.now.flat.now }
     {
         ApplyContext {
             first: self.first,
             second: self.second,
+            weighted: reads_weights(self.first, self.second),
             vectors: self.vectors,
             sizes: self.sizes,
             vertices: self.flat.vertices(),

@@ -1,6 +1,7 @@
 //! What the pieces of an apply have found, put together.
 ghost use Rattle.std.specs.Prelude.{◌≡◌, ℕ, ◌≤◌, List, [], length, slice_range, OnOk};
 ghost use Rattle.std.specs.List.{filter, flat_map};
+ghost use Rattle.edge_lists.specs.Edge.{Edge};
 ghost use Rattle.crew.specs.Pieces.{pieces_of};
 ghost use Rattle.kernels.specs.StepTree.{StepsTree};
 ghost use Rattle.kernels.specs.State.{StateValue};
@@ -28,7 +29,7 @@ pub fn join_all(
     found: &[Found<Gathered>],
     scratch: &mut Scratch,
 ) -> Result<(), AllocError>
-    ensures { OnOk result ((m : StateValue) (steps : List StepsTree) (edges_of : ℕ → List (ℕ × ℕ)) → EachGathered context.entry.vertices m steps edges_of found.now
+    ensures { OnOk result ((m : StateValue) (steps : List StepsTree) (edges_of : ℕ → List Edge) → EachGathered context.entry.vertices m steps edges_of found.now
         → HasFolded context.entry m steps [] scratch.old → HasFolded context.entry m steps (flat_map edges_of (pieces_of found.now)) scratch.new) }
 {
     'found: for one in found {
@@ -47,7 +48,7 @@ pub(crate) fn join_between(
     high: u32,
     scratch: &mut Scratch,
 ) -> Result<(), AllocError>
-    ensures { OnOk result ((m : StateValue) (steps : List StepsTree) (edges_of : ℕ → List (ℕ × ℕ)) → EachAscending found.now → EachGathered context.entry.vertices m steps edges_of found.now
+    ensures { OnOk result ((m : StateValue) (steps : List StepsTree) (edges_of : ℕ → List Edge) → EachAscending found.now → EachGathered context.entry.vertices m steps edges_of found.now
         → HasFolded context.entry m steps [] scratch.old → HasFolded context.entry m steps (filter (λ e. is_between low high e.1) (flat_map edges_of (pieces_of found.now))) scratch.new) }
 {
     'found: for one in found {

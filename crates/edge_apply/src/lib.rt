@@ -19,7 +19,7 @@ mod vertices;
 
 pub use apply::Apply;
 pub use joining::{join_all, part_between};
-pub use members::{keep_members, passes};
+pub use members::{keep_members, keep_members_weighted, passes};
 pub use merging::{is_worth_workers, merge_by_ranges};
 pub use modified::apply_modified;
 pub use parts::take_part;

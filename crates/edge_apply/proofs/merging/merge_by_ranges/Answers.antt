@@ -10,7 +10,7 @@ use Rattle.edge_apply.specs.Merged.{changes_in_parts}
 use Rattle.edge_apply.proofs.PartChanges.{parts_in_order}
 use Rattle.edge_apply.proofs.Crossing.{merge_sync}
 use Rattle.edge_apply.proofs.Told.{told_in_piece, told_in_pieces}
-use Rattle.edge_fold.specs.Given.{after_ends}
+use Rattle.kernels.specs.EdgeApply.{after_edges}
 use Rattle.edge_apply.proofs.merging.merge_by_ranges.Goals as goal
 
 pub run_pieces-requires-sync-W : goal.run_pieces-requires-sync-W
@@ -25,7 +25,7 @@ returns-in-Ok-clause-changes g c =
     IfOk-weaker c.append_changes.result _ _
     (λ cs told m steps edges_of vectors sizes kernels up each x r by long.
     let old = entry m.vectors x in
-    let new = entry (after_ends steps m.sets m.vectors (flat_map edges_of (pieces_of c.args.found.now)) m.vectors) x in
+    let new = entry (after_edges steps m.sets m.vectors (flat_map edges_of (pieces_of c.args.found.now)) m.vectors) x in
     told x
     ∙ ap (changes_in_parts x) c.deref.ensures.value
     ∙ parts_in_order x c.pieces-pieces.result (told_in_piece old new ranges) c.in-Ok.parts.items found.0

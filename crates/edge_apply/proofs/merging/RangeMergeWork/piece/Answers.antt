@@ -1,5 +1,6 @@
 use Rattle.std.proofs.Common.{◌-◌, ◌≤◌, ℕ, true, List, refl, sym, ap, ◌∙◌, subst, arith}
 use Rattle.std.specs.List.{filter, flat_map}
+use Rattle.edge_lists.specs.Edge.{Edge}
 use Rattle.kernels.specs.Value.{entry}
 use Rattle.crew.specs.Partition.{end_of}
 use Rattle.crew.specs.Pieces.{pieces_of}
@@ -7,7 +8,7 @@ use Rattle.edge_fold.specs.declared.apply_context.ApplyContext.{ApplyContext}
 use Rattle.edge_fold.specs.Changed.{changed, changed_from}
 use Rattle.edge_fold.specs.Folded.{IsContextOf}
 use Rattle.edge_fold.specs.Gathered.{is_between}
-use Rattle.edge_fold.specs.Given.{after_ends}
+use Rattle.kernels.specs.EdgeApply.{after_edges}
 use Rattle.edge_apply.specs.Pieces.{EachGathered}
 use Rattle.edge_apply.proofs.Listed.{filter_all, piece_inside}
 use Rattle.edge_apply.proofs.Told.{changed_between}
@@ -41,19 +42,19 @@ returns-clause-out c m steps edges_of vectors sizes kernels up each x r by long 
     let high = c.piece-range.result.end in
     let inside = piece_inside n w.ranges k w.whole c.requires.piece.0 c.requires.piece.1 in
     let all = flat_map edges_of (pieces_of w.found.now) in
-    let part = filter (λ (e : ℕ × ℕ). is_between low high e.1) all in
+    let part = filter (λ (e : Edge). is_between low high e.1) all in
     let count = ap (λ (f : ApplyContext). f.vertices) c.context-context.ensures.context in
     let starts = ap (λ (f : ApplyContext). f.start) c.context-context.ensures.context in
     let reads = subst (λ (f : ApplyContext). IsContextOf f m steps) (sym c.context-context.ensures.context) (record { vectors = vectors; sizes = sizes; kernels = kernels }) in
     let given = subst (λ (v : ℕ). EachGathered v m steps edges_of w.found.now) (sym count) each in
     let has = c.in_ok-join_between.ensures m steps edges_of up given (c.begin.ensures _ m steps) in
     let old = entry m.vectors x in
-    let new = λ (es : List (ℕ × ℕ)). entry (after_ends steps m.sets m.vectors es m.vectors) x in
+    let new = λ (es : List Edge). entry (after_edges steps m.sets m.vectors es m.vectors) x in
     let order = let l = inside.0 in let s = c.piece-range.ensures.start in let e = c.piece-range.ensures.end in let o : low ≤ high = omega (arith, l, s, e) in o in
     let below = let l = inside.1 in let e = c.piece-range.ensures.end in let b : high ≤ n = omega (arith, l, e) in b in
     c.in_ok-changes.ensures.changes m steps part (λ _. true) reads (λ v. refl) has starts x r by (omega (arith, count, long))
     ∙ ap (λ (v : ℕ). changed v old (new (filter (λ e. true) part))) count
-    ∙ ap (λ (es : List (ℕ × ℕ)). changed n old (new es)) (filter_all (λ _. true) part (λ e. refl))
+    ∙ ap (λ (es : List Edge). changed n old (new es)) (filter_all (λ _. true) part (λ e. refl))
     ∙ changed_between n low high x r m steps all by long order below
     ∙ ap (λ (s : ℕ). changed_from old (new all) s (high - s)) c.piece-range.ensures.start
     ∙ ap (λ (e : ℕ). changed_from old (new all) (end_of w.ranges (k - 1)) (e - end_of w.ranges (k - 1))) c.piece-range.ensures.end
