@@ -1,5 +1,5 @@
 -- The edges into destinations, column by column, and all edges between two ends in their order.
-use Rattle.std.proofs.Common.{◌≡◌, ℕ, ◌+◌, ◌<◌, ◌==◌, ℤ, Bool, true, false, cond, ◌||◌, ◌&&◌, List, [], ◌∷◌, ◌++◌, length, take, refl, sym, ap, ◌∙◌, append_assoc, arith}
+use Rattle.std.proofs.Common.{◌≡◌, ℕ, ◌+◌, ◌<◌, ◌≤◌, ◌==◌, ℤ, Bool, true, false, cond, ◌||◌, ◌&&◌, List, [], ◌∷◌, ◌++◌, length, take, refl, sym, ap, ◌∙◌, append_assoc, arith}
 use Rattle.std.proofs.lemmas.Bool.Decides.{Decides-eqb}
 use Rattle.std.proofs.lemmas.List.{append-nil, map-append, take-map}
 use Rattle.std.proofs.lemmas.List.Elements.{filter-append}
@@ -72,6 +72,11 @@ filled_entries left keys weights count same weighed =
     ap (λ (ks : List ℕ). entries_of ks (take count weights)) (same ∙ take-map (λ (e : ℕ × ℤ). e.0) count left)
     ∙ ap (entries_of (keys_of (take count left))) (weighed ∙ take-map (λ (e : ℕ × ℤ). e.1) count left)
     ∙ both_columns (take count left)
+
+-- a walk that has come to its end
+pub none_left : (left : List (ℕ × ℤ)) → length left ≤ 0 → left ≡ []
+none_left [] l = refl
+none_left (s ∷ ss) l = absurd (omega (arith, l))
 
 -- of a column the edges into a vertex are all or none
 into_one : (v d : ℕ) (s : ℕ × ℤ) (rest ks : List Edge) (b : Bool) → rest ≡ cond b ks [] → cond b ((s.0, d, s.1) ∷ rest) rest ≡ cond b ((s.0, d, s.1) ∷ ks) []

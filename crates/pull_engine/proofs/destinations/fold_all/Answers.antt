@@ -16,6 +16,7 @@ destinations-init c =
     let ds = c.destinations-destination-items.result in
     record {
       room = search rules;
+      weights = search rules;
       walked = (
         ds,
         c.destinations-destination-items.ensures.degrees,
@@ -33,6 +34,7 @@ destinations-preserved c =
     let then = c.fold_column.new.scratch in
     record {
       room = search rules;
+      weights = search rules;
       walked = (
         w.0,
         w.1,

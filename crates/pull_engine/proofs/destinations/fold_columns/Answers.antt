@@ -15,6 +15,7 @@ destinations-preserved c =
     let inside : i < length us = c.destinations-test.true in
     record {
       room = search rules;
+      weights = search rules;
       folded = λ m steps es are has. folded_along c.args.context m steps _ (es ++ columns from edges (take (i + 1) us)) c.fold_column.new.scratch (columns_next from edges es us i inside)
           (c.in_ok-fold_column.ensures m steps (es ++ columns from edges (take i us)) are (c.destinations.invariant.folded m steps es are has));
     }

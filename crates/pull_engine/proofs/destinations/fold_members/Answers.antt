@@ -16,6 +16,7 @@ destinations-preserved c =
     let then = c.fold_column.new.scratch in
     record {
       room = search rules;
+      weights = search rules;
       walked = walk_more a.context (columns from edges) a.set.now.members c.destinations.destination-iterator (v ∷ []) c.next.new.self a.scratch.now c.destinations.scratch then
           (columns-append from edges) (sym c.in-Some.ensures.steps) (one_destination a.context from edges v c.destinations.scratch then c.in_ok-fold_column.ensures) c.destinations.invariant.walked;
     }
@@ -33,5 +34,6 @@ destinations-init c =
     let columns_of = columns (passes_words a.from) a.flat.now.edges in
     record {
       room = search rules;
+      weights = search rules;
       walked = subst (λ (left : List ℕ). HasWalked a.context columns_of a.set.now.members left a.scratch.now a.scratch.now) (sym (c.into_iter-destination-iterator.ensures.into_iter_gives ∙ c.iter-destination-items.ensures.members)) (walk_begun a.context columns_of a.set.now.members a.scratch.now refl);
     }

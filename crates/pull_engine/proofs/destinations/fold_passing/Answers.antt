@@ -31,6 +31,7 @@ parts-preserved c =
     let kept = c.keep_passing.new.kept.items in
     record {
       room = search rules;
+      weights = search rules;
       walked = (
         w.0,
         w.1,
@@ -50,5 +51,6 @@ parts-init c =
     let ds = c.destinations-destinations.result in
     record {
       room = search rules;
+      weights = search rules;
       walked = (ds, c.destinations-destinations.ensures.degrees, pass_begun a.to a.context columns_of (firsts ds) a.scratch.now refl);
     }

@@ -11,6 +11,7 @@ use Rattle.pull_engine.proofs.destinations.fold_passing.Given as goal
 abbrev pub invariant-parts : goal.invariant-parts
 invariant-parts l = record {
   room : length l.block ≡ 128;
+  weights : length l.weights ≡ 128;
   walked : (ds : List (ℕ × ℕ)) × AreDegreesOf (λ u. sources_of u l.flat.edges) ds
       × HasPassed l.to l.context (columns (passes_words l.from) l.flat.edges) (firsts ds) (firsts l.destinations) l.fn.scratch l.scratch;
 }

@@ -10,7 +10,6 @@ use Rattle.edge_apply.specs.Pieces.{EachGathered}
 use Rattle.edge_apply.proofs.Listed.{filter_all}
 use Rattle.pull_engine.specs.Pieces.{edges_into_piece}
 use Rattle.edge_fold.specs.declared.apply_context.ApplyContext.{ApplyContext}
-use Rattle.edge_fold.specs.Folded.{IsContextOf}
 use Rattle.pull_engine.proofs.Merging.{each_gathered, merged}
 use Rattle.pull_engine.proofs.work.PullWork.merge_gathered.Goals as goal
 
@@ -26,6 +25,6 @@ returns-clause-changes c answers order m steps from to vectors sizes kernels is_
     let each = subst (λ (n : ℕ). EachGathered n m steps edges_of fs) (sym count) (each_gathered w fs m steps from to answers vectors sizes kernels is_from is_to) in
     let has = c.in_ok-join_all.ensures m steps edges_of each (c.begin.ensures _ m steps) in
     let whole = merged _ m steps w.apply.flat.now from to w.cuts w.vertices.items (pieces_of fs) c.join_all.new.scratch c.context-context.ensures.graph w.whole w.all order has in
-    c.in_ok-changes.ensures.changes m steps (edges_between from to edges) (λ _. true) (subst (λ (f : ApplyContext). IsContextOf f m steps) (sym c.context-context.ensures.context) (record { vectors = vectors; sizes = sizes; kernels = kernels })) (λ v. refl) whole (ap (λ (f : ApplyContext). f.start) c.context-context.ensures.context) x r by (omega (arith, count, long))
+    c.in_ok-changes.ensures.changes m steps (edges_between from to edges) (λ _. true) (c.context-context.ensures.reads m steps (record { vectors = vectors; sizes = sizes; kernels = kernels })) (λ v. refl) whole (ap (λ (f : ApplyContext). f.start) c.context-context.ensures.context) x r by (omega (arith, count, long))
     ∙ ap (λ (n : ℕ). changed n old (new (filter (λ e. true) (edges_between from to edges)))) count
     ∙ ap (λ (es : List Edge). changed w.apply.flat.now.vertices old (new es)) (filter_all (λ _. true) (edges_between from to edges) (λ e. refl))
