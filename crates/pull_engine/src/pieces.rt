@@ -10,7 +10,7 @@ ghost use Rattle.pull_engine.specs.Pieces.{Answers, GathersPiece, IsPiecePulled}
 ghost use Rattle.pull_engine.specs.Ranges.{all_listed, shape_vector as vector_of};
 
 use crate::changes::changes_in;
-use crate::destinations::fold_part;
+use crate::destinations::{ColumnInput, fold_part};
 use crate::listed::words_of;
 use crate::ranges::PullRange;
 use crate::shapes::{ShapeTarget, pull_shape, shape_target};
@@ -85,17 +85,14 @@ impl PullWork<'_> {
         let context = self.apply.context(FoldStart::Unit);
         let places = self.cuts.piece(piece);
         let part = part_between(&self.vertices, places.start, places.end);
-        let words = words_of(&self.bits);
-        scratch.begin();
-        fold_part(
-            alloc,
-            self.apply.flat,
+        let from = words_of(&self.bits);
+        let input = ColumnInput {
+            flat: self.apply.flat,
             context,
-            words,
-            self.apply.to,
-            part,
-            scratch,
-        )?;
+            from,
+        };
+        scratch.begin();
+        fold_part(alloc, input, self.apply.to, part, scratch)?;
         let gathered = scratch.gathered(alloc, context, None)?;
         Ok(gathered)
     }

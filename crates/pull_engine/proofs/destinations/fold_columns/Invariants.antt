@@ -12,6 +12,6 @@ abbrev pub invariant-destinations : goal.invariant-destinations
 invariant-destinations l = record {
   room : length l.block ≡ 128;
   weights : length l.weights ≡ 128;
-  folded : (m : StateValue) (steps : List StepsTree) (edges : List Edge) → IsContextOf l.context m steps
-      → HasFolded l.context m steps edges l.fn.scratch → HasFolded l.context m steps (edges ++ columns (passes_words l.from) l.flat.edges (take l.destination-index l.destinations)) l.scratch;
+  folded : (m : StateValue) (steps : List StepsTree) (edges : List Edge) → IsContextOf l.input.context m steps
+      → HasFolded l.input.context m steps edges l.fn.scratch → HasFolded l.input.context m steps (edges ++ columns (passes_words l.input.from) l.input.flat.now.edges (take l.destination-index l.destinations)) l.scratch;
 }

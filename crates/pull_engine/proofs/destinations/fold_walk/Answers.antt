@@ -8,7 +8,7 @@ use Rattle.pull_engine.proofs.destinations.fold_walk.Goals as goal
 pub rounds-preserved : goal.rounds-preserved
 rounds-preserved g c =
     let a = c.args in
-    let from = passes_words a.from in
+    let from = passes_words a.input.from in
     let d = a.destination in
     let n = c.fill-count.result in
     let left = g.W.NeighbourWalk.coming c.rounds.walk in
@@ -18,7 +18,7 @@ rounds-preserved g c =
     let keys = kept_keys from left c.fill-count.new.block c.keep_members-kept.new.block n c.keep_members-kept.result c.fill-count.ensures.filled c.keep_members-kept.ensures.kept in
     record {
       room = search rules;
-      walked = walk_more a.context (column_from from d) (g.W.NeighbourWalk.coming a.walk) left part rest a.scratch.now c.rounds.scratch then
+      walked = walk_more a.input.context (column_from from d) (g.W.NeighbourWalk.coming a.walk) left part rest a.scratch.now c.rounds.scratch then
           (column_in_row from d) (parts_of n left part rest refl c.fill-count.ensures.rest)
           (λ m steps es are has. c.in_ok-fold_into.ensures m steps es (passing from part) keys are has)
           c.rounds.invariant.walked;
@@ -28,14 +28,14 @@ pub returns : goal.returns
 returns g c =
     let a = c.args in
     let none = none_left (g.W.NeighbourWalk.coming c.rounds.walk) (omega (arith, c.rounds-test.false, c.len.ensures)) in
-    walk_done a.context (column_from (passes_words a.from) a.destination) (g.W.NeighbourWalk.coming a.walk) (g.W.NeighbourWalk.coming c.rounds.walk) a.scratch.now c.rounds.scratch none c.rounds.invariant.walked
+    walk_done a.input.context (column_from (passes_words a.input.from) a.destination) (g.W.NeighbourWalk.coming a.walk) (g.W.NeighbourWalk.coming c.rounds.walk) a.scratch.now c.rounds.scratch none c.rounds.invariant.walked
 
 pub rounds-init : goal.rounds-init
 rounds-init g c =
     let a = c.args in
     let all = g.W.NeighbourWalk.coming a.walk in
-    let column_of = column_from (passes_words a.from) a.destination in
+    let column_of = column_from (passes_words a.input.from) a.destination in
     record {
       room = search rules;
-      walked = subst (λ (left : List (ℕ × ℤ)). HasWalked a.context column_of all left a.scratch.now a.scratch.now) refl (walk_begun a.context column_of all a.scratch.now refl);
+      walked = subst (λ (left : List (ℕ × ℤ)). HasWalked a.input.context column_of all left a.scratch.now a.scratch.now) refl (walk_begun a.input.context column_of all a.scratch.now refl);
     }
