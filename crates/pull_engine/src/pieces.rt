@@ -85,11 +85,11 @@ impl PullWork<'_> {
         let context = self.apply.context(FoldStart::Unit);
         let places = self.cuts.piece(piece);
         let part = part_between(&self.vertices, places.start, places.end);
-        let from = words_of(&self.bits);
+        let words = words_of(&self.bits);
         let input = ColumnInput {
             flat: self.apply.flat,
             context,
-            from,
+            from: words,
         };
         scratch.begin();
         fold_part(alloc, input, self.apply.to, part, scratch)?;

@@ -34,7 +34,7 @@ returns c m steps from to vectors sizes kernels is_from is_to x r by =
     let g = w.apply.flat.now in
     let k = c.args.piece in
     let found = c.in_ok-gathered.gathered in
-    let passes = passes_words c.words_of-from.result in
+    let passes = passes_words c.words_of-words.result in
     let part = c.part_between-part.ensures
     ∙ ap (λ (us : List ℕ). slice_range us c.piece-places.result.start c.piece-places.result.end) c.deref.ensures.value
     ∙ ap (λ (s : ℕ). slice_range w.vertices.items s c.piece-places.result.end) c.piece-places.ensures.start
@@ -44,6 +44,6 @@ returns c m steps from to vectors sizes kernels is_from is_to x r by =
     let gathered = c.in_ok-gathered.ensures.given m steps (columns passes g.edges (filter to c.part_between-part.result.now)) (λ _. true) reads (λ v. refl) has (ap (λ (f : ApplyContext). f.start) c.context-context.ensures.context) x r by in
     let same = filter_all (λ (e : Edge). true) (columns passes g.edges (filter to c.part_between-part.result.now)) (λ e. refl)
     ∙ ap (λ (us : List ℕ). columns passes g.edges (filter to us)) part
-    ∙ columns_agree g passes from c.context-context.ensures.graph (λ v l. c.words_of-from.ensures v ∙ w.sources m from vectors sizes is_from v l) (filter to (piece_of w.cuts w.vertices.items k)) in
+    ∙ columns_agree g passes from c.context-context.ensures.graph (λ v l. c.words_of-words.ensures v ∙ w.sources m from vectors sizes is_from v l) (filter to (piece_of w.cuts w.vertices.items k)) in
     subst (λ (n : ℕ). AreGatheredFor n m steps (columns from g.edges (filter to (piece_of w.cuts w.vertices.items k))) found x r) (ap (λ (f : ApplyContext). f.vertices) c.context-context.ensures.context)
     (subst (λ (es : List Edge). AreGatheredFor c.context-context.result.vertices m steps es found x r) same gathered)
