@@ -108,7 +108,7 @@ into_columns v from es low (u ∷ us) up =
 -- of the edges between two ends those into a vertex are all or none
 between_one : (from to : ℕ → Bool) (v : ℕ) (e : Edge) (rest : List Edge) (S : List (ℕ × ℤ)) (p q b : Bool) → from e.0 ≡ p → to e.1 ≡ q → (e.1 == v) ≡ b
     → into v rest ≡ cond (to v) (column v (passing from S)) []
-    → into v (cond (p && q) (e ∷ rest) rest) ≡ cond (to v) (column v (filter from (cond b ((e.0, e.2) ∷ S) S))) []
+    → into v (cond (p && q) (e ∷ rest) rest) ≡ cond (to v) (column v (passing from (cond b ((e.0, e.2) ∷ S) S))) []
 between_one from to v e rest S true true true passes is at more =
     let on : to v ≡ true = ap to (sym ((Decides-eqb e.1 v).0 at)) ∙ is in
     ap (λ (c : Bool). cond c (e ∷ into v rest) (into v rest)) at

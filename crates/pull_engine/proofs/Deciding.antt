@@ -1,7 +1,7 @@
 -- Which source alone counts.
 use Rattle.std.proofs.Common.{◌≡◌, ℕ, zero, suc, ◌+◌, ◌-◌, ◌<◌, ◌≤◌, ℤ, pos, Bool, true, false, cond, Option, Some, None, List, [], ◌∷◌, ◌++◌, length, take, drop, get_or, refl, sym, ap, ◌∙◌, arith}
 use Rattle.std.proofs.lemmas.Int.{ints, clamps}
-use Rattle.std.proofs.lemmas.List.{drop-map, drop_more, get_or-take, length-take-le, take_more, take-append-drop}
+use Rattle.std.proofs.lemmas.List.{drop-map, get_or-take, length-take-le, take_more, take-append-drop}
 use Rattle.std.proofs.lemmas.List.Elements.{filter-append}
 use Rattle.std.specs.Int.{int_min, int_max}
 use Rattle.std.specs.List.{filter}
@@ -82,14 +82,6 @@ last_passes p xs i b l is =
     ∙ ap last_of (filter-append p (take i xs) (x ∷ []))
     ∙ ap (λ (c : Bool). last_of (filter p (take i xs) ++ cond c (x ∷ []) [])) is
     ∙ last_with None (filter p (take i xs)) x b
-
--- the first of those that pass, where the one at a place does or does not
-first_with : (p : ℕ → Bool) (x : ℕ) (xs : List ℕ) (b : Bool) → p x ≡ b → first_of (filter p (x ∷ xs)) ≡ cond b (Some x) (first_of (filter p xs))
-first_with p x xs true is = ap (λ (c : Bool). first_of (cond c (x ∷ filter p xs) (filter p xs))) is
-first_with p x xs false is = ap (λ (c : Bool). first_of (cond c (x ∷ filter p xs) (filter p xs))) is
-
-pub first_passes : (p : ℕ → Bool) (xs : List ℕ) (i : ℕ) (b : Bool) → i < length xs → p (get_or xs i 0) ≡ b → first_of (filter p (drop i xs)) ≡ cond b (Some (get_or xs i 0)) (first_of (filter p (drop (i + 1) xs)))
-first_passes p xs i b l is = ap (λ (ys : List ℕ). first_of (filter p ys)) (drop_more xs i 0 l) ∙ first_with p (get_or xs i 0) (drop (i + 1) xs) b is
 
 -- the neighbours of the entries that are left
 pub keys_behind : (n : ℕ) (all rest : List (ℕ × ℤ)) → rest ≡ drop n all → keys_of rest ≡ drop n (keys_of all)

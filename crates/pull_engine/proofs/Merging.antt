@@ -1,6 +1,6 @@
 -- The pieces of an apply, put together.
 use Rattle.std.proofs.Common.{◌≡◌, ℕ, ℤ, ◌<◌, ◌==◌, ◌⊎◌, inl, inr, ◌&&◌, Bool, true, false, cond, Option, Some, None, List, [], ◌∷◌, ◌++◌, length, refl, sym, ap, ◌∙◌, subst, arith}
-use Rattle.std.specs.List.{All, filter, flat_map, range_with_len}
+use Rattle.std.specs.List.{filter, flat_map, range_with_len}
 use Rattle.std.specs.List.Sorted.{IsPermutation}
 use Rattle.edge_lists.specs.Edge.{Edge}
 use Rattle.kernels.specs.StepTree.{StepsTree}
@@ -48,7 +48,11 @@ there_later : (p : Ends) (e : Edge) (es : List Edge) (w : ℤ) (b : Bool) → en
 there_later p e es w true same is = (e.2, ap (λ (c : Bool). cond c (Some e.2) (weight_in p es)) same)
 there_later p e es w false same is = (w, ap (λ (c : Bool). cond c (Some e.2) (weight_in p es)) same ∙ is)
 
-all_within : (n : ℕ) (es : List Edge) → ((p : Ends) (w : ℤ) → weight_in p es ≡ Some w → IsWithin n p) → All (λ e. IsWithin n (ends_of e)) es
+abbrev AreWithin : ℕ → List Edge → Type 0
+AreWithin n [] = Unit {0}
+AreWithin n (e ∷ es) = IsWithin n (ends_of e) × AreWithin n es
+
+all_within : (n : ℕ) (es : List Edge) → ((p : Ends) (w : ℤ) → weight_in p es ≡ Some w → IsWithin n p) → AreWithin n es
 all_within n [] within = tt
 all_within n (e ∷ es) within = (
   within (ends_of e) e.2 (ap (λ (b : Bool). cond b (Some e.2) (weight_in (ends_of e) es)) (same_ends (ends_of e))),
@@ -60,7 +64,7 @@ agree_one : (p q : ℕ → Bool) (s : ℕ × ℤ) (S : List (ℕ × ℤ)) (b : B
 agree_one p q s S true here more = ap (λ (c : Bool). cond c (s ∷ passing p S) (passing p S)) here ∙ ap (λ (ks : List (ℕ × ℤ)). cond (q s.0) (s ∷ ks) ks) more
 agree_one p q s S false here more = more
 
-sources_agree : (p q : ℕ → Bool) (n v : ℕ) (es : List Edge) → All (λ e. IsWithin n (ends_of e)) es → ((u : ℕ) → u < n → p u ≡ q u) → passing p (sources_of v es) ≡ passing q (sources_of v es)
+sources_agree : (p q : ℕ → Bool) (n v : ℕ) (es : List Edge) → AreWithin n es → ((u : ℕ) → u < n → p u ≡ q u) → passing p (sources_of v es) ≡ passing q (sources_of v es)
 sources_agree p q n v [] within same = refl
 sources_agree p q n v (e ∷ es) within same =
     agree_one p q (e.0, e.2) (sources_of v es) (e.1 == v) (same e.0 within.0.0) (sources_agree p q n v es within.1 same)
@@ -76,7 +80,7 @@ found_first : (v : ℕ) (e : Edge) (es : List Edge) (same : Bool) → e.1 == v �
 found_first v e es true is some = inl ((Decides-eqb e.1 v).0 is)
 found_first v e es false is some = inr some
 
-found_within : (n v : ℕ) (es : List Edge) → All (λ e. IsWithin n (ends_of e)) es → 0 < length (sources_of v es) → v < n
+found_within : (n v : ℕ) (es : List Edge) → AreWithin n es → 0 < length (sources_of v es) → v < n
 found_within n v [] within some = absurd (omega (arith, some))
 found_within n v (e ∷ es) within some = elim (found_first v e es (e.1 == v) refl some) [
   | inl at ↦ let here = within.0.1 in omega (arith, at, here)
