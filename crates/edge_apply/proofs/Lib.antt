@@ -1,4 +1,5 @@
 pub mod Bits
+pub mod Kept
 pub mod Filtered
 pub mod Inserted
 pub mod Differences

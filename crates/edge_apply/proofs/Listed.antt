@@ -1,5 +1,5 @@
 -- Lists of vertices: those with edges, those that pass, and parts of them.
-use Rattle.std.proofs.Common.{◌≡◌, append_assoc, ℕ, zero, suc, ◌+◌, ◌-◌, ◌<◌, ◌≤◌, ◌==◌, Bool, true, false, cond, ◌&&◌, ◌||◌, Some, unwrap_or, List, [], ◌∷◌, ◌++◌, length, get_or, refl, sym, ap, ◌∙◌, arith}
+use Rattle.std.proofs.Common.{◌≡◌, append_assoc, ℕ, zero, suc, ◌+◌, ◌-◌, ◌<◌, ◌≤◌, ◌==◌, ℤ, Bool, true, false, cond, ◌&&◌, ◌||◌, Some, unwrap_or, List, [], ◌∷◌, ◌++◌, length, get_or, refl, sym, ap, ◌∙◌, arith}
 use Rattle.std.proofs.lemmas.Bool.{false≢true}
 use Rattle.std.proofs.lemmas.Bool.Decides.{nat_tests}
 use Rattle.std.proofs.lemmas.List.{append-nil}
@@ -42,7 +42,7 @@ rises_firsts : (low high : ℕ) (ds : List (ℕ × ℕ)) → Climbs low high ds 
 rises_firsts low high [] up = tt
 rises_firsts low high (d ∷ ds) up = (up.0, rises_firsts (d.0 + 1) high ds up.1)
 
-pub degrees_rise : (neighbours : ℕ → List ℕ) (ds : List (ℕ × ℕ)) → AreDegreesOf neighbours ds → Rises 0 (firsts ds)
+pub degrees_rise : (neighbours : ℕ → List (ℕ × ℤ)) (ds : List (ℕ × ℕ)) → AreDegreesOf neighbours ds → Rises 0 (firsts ds)
 degrees_rise neighbours ds are = rises_firsts 0 _ ds are.map
 
 listed_at : (u : ℕ) (d : ℕ × ℕ) (ds : List (ℕ × ℕ)) (b : Bool) → 0 < unwrap_or (cond b (Some d.1) (lookup u ds)) 0 → (0 < unwrap_or (lookup u ds) 0 → is_member u (firsts ds) ≡ true) → b || is_member u (firsts ds) ≡ true
@@ -53,7 +53,7 @@ listed : (u : ℕ) (ds : List (ℕ × ℕ)) → 0 < unwrap_or (lookup u ds) 0 �
 listed u [] l = absurd (omega (arith, l))
 listed u (d ∷ ds) l = listed_at u d ds (d.0 == u) l (listed u ds)
 
-pub degree_listed : (neighbours : ℕ → List ℕ) (ds : List (ℕ × ℕ)) (u : ℕ) → AreDegreesOf neighbours ds → 0 < length (neighbours u) → is_member u (firsts ds) ≡ true
+pub degree_listed : (neighbours : ℕ → List (ℕ × ℤ)) (ds : List (ℕ × ℕ)) (u : ℕ) → AreDegreesOf neighbours ds → 0 < length (neighbours u) → is_member u (firsts ds) ≡ true
 degree_listed neighbours ds u are l = let e = are.degrees u in listed u ds (omega (arith, e, l))
 
 -- those that pass

@@ -2,8 +2,9 @@
 //!
 //! [`Apply`] is what an apply is given. `AreChangesOf` says, in the words of `algorithm_meaning` (`after_edges`), what it
 //! changes: the engines promise it, whichever way they go over the edges. What they share stands here: all vertices in a
-//! list, those with edges in parts, the vertices that an end lets through as bits and a block's vertices tested by bits,
-//! what pieces have found put together, by one worker or by several, each for its own ranges of vertices, and the set of the vertices that an apply has changed.
+//! list, those with edges in parts, the vertices that an end lets through as bits, a block's vertices tested by bits, alone
+//! or with their weights, what pieces have found put together, by one worker or by several, each for its own ranges of
+//! vertices, and the set of the vertices that an apply has changed.
 #![tactic(auto)]
 
 mod appended;
@@ -16,12 +17,14 @@ mod parts;
 mod passing;
 mod range_merge;
 mod vertices;
+mod weighted_members;
 
 pub use apply::Apply;
 pub use joining::{join_all, part_between};
-pub use members::{keep_members, keep_members_weighted, passes};
+pub use members::{keep_members, passes};
 pub use merging::{is_worth_workers, merge_by_ranges};
 pub use modified::apply_modified;
 pub use parts::take_part;
 pub use passing::passing_set;
 pub use vertices::{all_vertices, number_between};
+pub use weighted_members::keep_members_weighted;

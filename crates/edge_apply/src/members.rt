@@ -1,7 +1,6 @@
 //! Tests of vertices in the bits of a set.
 ghost use Rattle.std.specs.Prelude.{◌≡◌, ◌≤◌, length, take};
 ghost use Rattle.std.specs.List.{filter};
-ghost use Rattle.edge_fold.specs.Given.{entries_of};
 ghost use Rattle.edge_apply.specs.Words.{is_set, passes_words};
 
 /// Keeps those of the first vertices of a block whose bits are set, in their order, at its front, and gives their
@@ -16,27 +15,6 @@ pub fn keep_members(words: Option<&[u64]>, block: &mut [u32], count: usize) -> u
     match words {
         None => count,
         Some(words) => keep_set(words, block, count),
-    }
-}
-
-/// The same of vertices with weights: those of the vertices that are kept come along.
-#[inline]
-pub fn keep_members_weighted(
-    words: Option<&[u64]>,
-    block: &mut [u32],
-    weights: &mut [i64],
-    count: usize,
-) -> usize
-    requires same { length weights.old ≡ length block.old }
-    requires inside { count ≤ length block.old }
-    ensures few { result ≤ count }
-    ensures room { length block.new ≡ length block.old }
-    ensures weights_room { length weights.new ≡ length weights.old }
-    ensures kept { entries_of (take result block.new) (take result weights.new) ≡ filter (λ e. passes_words words.entry e.0) (entries_of (take count block.old) (take count weights.old)) }
-{
-    match words {
-        None => count,
-        Some(words) => keep_set_weighted(words, block, weights, count),
     }
 }
 
@@ -68,29 +46,9 @@ fn keep_set(words: &[u64], block: &mut [u32], count: usize) -> usize
     kept
 }
 
-/// The same with weights.
-#[inline(always)]
-fn keep_set_weighted(words: &[u64], block: &mut [u32], weights: &mut [i64], count: usize) -> usize
-    requires same { length weights.old ≡ length block.old }
-    requires inside { count ≤ length block.old }
-    ensures few { result ≤ count }
-    ensures room { length block.new ≡ length block.old }
-    ensures weights_room { length weights.new ≡ length weights.old }
-    ensures kept { entries_of (take result block.new) (take result weights.new) ≡ filter (λ e. is_set words.now e.0) (entries_of (take count block.old) (take count weights.old)) }
-{
-    let mut kept = 0usize;
-    'places: for place in 0..count {
-        let vertex = block[place];
-        block[kept] = vertex;
-        weights[kept] = weights[place];
-        kept += usize::from(is_set(words, vertex));
-    }
-    kept
-}
-
 /// Whether the bit of a vertex is set.
 #[inline(always)]
-fn is_set(words: &[u64], vertex: u32) -> bool
+pub(crate) fn is_set(words: &[u64], vertex: u32) -> bool
     ensures { result ≡ is_set words.now vertex }
 {
     match words.get(vertex as usize / 64) {

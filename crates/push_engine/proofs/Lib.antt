@@ -1,4 +1,5 @@
 pub mod RowFolds
+pub mod Blocks
 pub mod Walked
 pub mod SourceLists
 pub mod Merging

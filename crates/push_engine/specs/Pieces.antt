@@ -1,6 +1,7 @@
 -- What the pieces of an apply answer.
 use Rattle.std.specs.Prelude.{◌≡◌, ℕ, Bool, List}
 use Rattle.std.specs.List.{filter}
+use Rattle.edge_lists.specs.Edge.{Edge}
 use Rattle.kernels.specs.StepTree.{StepsTree}
 use Rattle.kernels.specs.State.{StateValue}
 use Rattle.kernels.specs.Cells.{HasSizes}
@@ -15,7 +16,7 @@ use Rattle.push_engine.specs.Rows.{rows}
 use Rattle.push_engine.specs.Sources.{passing_in}
 
 -- the edges of an apply from the sources of a piece, where these tests are those of its ends
-abbrev pub edges_of_piece : PushWork → (from to : ℕ → Bool) → (piece : ℕ) → List (ℕ × ℕ)
+abbrev pub edges_of_piece : PushWork → (from to : ℕ → Bool) → (piece : ℕ) → List Edge
 edges_of_piece w from to k = filter (λ e. to e.1) (rows w.apply.flat.now.edges (passing_in w.tested from (piece_of w.cuts w.sources.items k)))
 
 -- what is gathered is what the edges of a piece give

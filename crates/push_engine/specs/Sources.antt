@@ -1,6 +1,7 @@
 -- The sources of an apply in pieces.
 use Rattle.std.specs.Prelude.{◌≡◌, ℕ, ◌<◌, length, Bool, if◌then◌else◌, List}
 use Rattle.std.specs.List.{filter, range_with_len}
+use Rattle.edge_lists.specs.Edge.{Edge}
 use Rattle.apply_options.specs.declared.apply_schedule.Direction.{Direction}
 use Rattle.apply_options.specs.declared.apply_schedule.Direction.TheVariants.{DensePush}
 use Rattle.kernels.specs.EdgeApply.{is_member}
@@ -12,7 +13,7 @@ abbrev pub passing_in : (tested : Bool) → (from : ℕ → Bool) → List ℕ �
 passing_in tested from us = if tested then filter from us else us
 
 -- the sources of an apply ascend, and those that pass are the vertices with edges that its end lets through
-pub record AreSources (edges : List (ℕ × ℕ)) (from : ℕ → Bool) (tested : Bool) (us : List ℕ) : Type 0 where
+pub record AreSources (edges : List Edge) (from : ℕ → Bool) (tested : Bool) (us : List ℕ) : Type 0 where
   pub ascending : AscendsFrom 0 us
   pub passing : (u : ℕ) → 0 < length (destinations_of u edges) → is_member u (passing_in tested from us) ≡ from u
 

@@ -6,13 +6,13 @@ ghost use Rattle.kernels.specs.State.{StateValue};
 ghost use Rattle.edge_fold.specs.Between.{edges_between};
 ghost use Rattle.edge_fold.specs.Changed.{AreApart};
 ghost use Rattle.edge_fold.specs.Ends.{IsEndTest, IsTest};
-ghost use Rattle.edge_fold.specs.declared.apply_context.FoldStart.TheVariants.{OldEntry};
-ghost use Rattle.edge_apply.specs.Contexts.{context_of};
+ghost use Rattle.edge_apply.specs.Contexts.{IsApplyOf};
 ghost use Rattle.edge_fold.specs.Folded.{IsContextOf, HasFolded};
 ghost use Rattle.edge_apply.specs.Applied.{AreChangesOf, AreChangesOn};
 ghost use Rattle.edge_apply.specs.Words.{passes_words};
 ghost use Rattle.push_engine.specs.Work.{work_from};
 
+use crate::neighbour_block::NeighbourBlock;
 use crate::sources::{fold_all, fold_members, fold_passing};
 use apply_options::Direction;
 use edge_apply::{Apply, passing_set};
@@ -92,7 +92,7 @@ fn push_tested(
     scratch: &mut Scratch,
 ) -> Result<Changes, AllocError>
     ensures once { IfOk result (λ c. AreApart c.vectors.items) }
-    ensures changes { IfOk result (λ c. (m : StateValue) (steps : List StepsTree) (from test : ℕ → Bool) → IsContextOf (context_of apply.now OldEntry) m steps → IsEndTest apply.now.from m from → IsTest to.entry m test → AreChangesOn apply.now.flat.now.vertices (edges_between from test apply.now.flat.now.edges) m steps c.vectors.items) }
+    ensures changes { IfOk result (λ c. (m : StateValue) (steps : List StepsTree) (from test : ℕ → Bool) → IsApplyOf apply.now m steps → IsEndTest apply.now.from m from → IsTest to.entry m test → AreChangesOn apply.now.flat.now.vertices (edges_between from test apply.now.flat.now.edges) m steps c.vectors.items) }
 {
     match to {
         EndpointFilter::Members(set) => push_to_members(alloc, apply, set, scratch),
@@ -112,7 +112,7 @@ fn push_to_members(
     scratch: &mut Scratch,
 ) -> Result<Changes, AllocError>
     ensures once { IfOk result (λ c. AreApart c.vectors.items) }
-    ensures changes { IfOk result (λ c. (m : StateValue) (steps : List StepsTree) (from to : ℕ → Bool) → IsContextOf (context_of apply.now OldEntry) m steps → IsEndTest apply.now.from m from → ((v : ℕ) → to v ≡ is_member v set.now.members) → AreChangesOn apply.now.flat.now.vertices (edges_between from to apply.now.flat.now.edges) m steps c.vectors.items) }
+    ensures changes { IfOk result (λ c. (m : StateValue) (steps : List StepsTree) (from to : ℕ → Bool) → IsApplyOf apply.now m steps → IsEndTest apply.now.from m from → ((v : ℕ) → to v ≡ is_member v set.now.members) → AreChangesOn apply.now.flat.now.vertices (edges_between from to apply.now.flat.now.edges) m steps c.vectors.items) }
 {
     if let Some(words) = set.words() {
         return push_to(alloc, apply, Some(words), None, scratch);
@@ -134,7 +134,7 @@ fn push_to(
     scratch: &mut Scratch,
 ) -> Result<Changes, AllocError>
     ensures once { IfOk result (λ c. AreApart c.vectors.items) }
-    ensures changes { IfOk result (λ c. (m : StateValue) (steps : List StepsTree) (from test : ℕ → Bool) → IsContextOf (context_of apply.now OldEntry) m steps → IsEndTest apply.now.from m from → IsEndTest to.entry m test
+    ensures changes { IfOk result (λ c. (m : StateValue) (steps : List StepsTree) (from test : ℕ → Bool) → IsApplyOf apply.now m steps → IsEndTest apply.now.from m from → IsEndTest to.entry m test
         → AreChangesOn apply.now.flat.now.vertices (edges_between from (λ v. passes_words words.entry v && test v) apply.now.flat.now.edges) m steps c.vectors.items) }
 {
     let context = apply.context(FoldStart::OldEntry);
@@ -172,7 +172,7 @@ fn fold_from(
     ensures { OnOk result ((m : StateValue) (steps : List StepsTree) (from : ℕ → Bool) → IsContextOf context.entry m steps → IsEndTest apply.now.from m from
         → HasFolded context.entry m steps [] scratch.old → HasFolded context.entry m steps (edges_between from (passes_words to.entry) apply.now.flat.now.edges) scratch.new) }
 {
-    let mut block = [0u32; 128];
+    let mut block = NeighbourBlock::new();
     match apply.from {
         None => {
             fold_all(alloc, apply.flat, context, to, &mut block, scratch)?;
@@ -192,10 +192,9 @@ fn fold_from_end(
     from: EndpointFilter<'_>,
     context: ApplyContext<'_>,
     to: Option<&[u64]>,
-    block: &mut [u32],
+    block: &mut NeighbourBlock,
     scratch: &mut Scratch,
 ) -> Result<(), AllocError>
-    requires { length block.old ≡ 128 }
     ensures { OnOk result ((m : StateValue) (steps : List StepsTree) (test : ℕ → Bool) → IsContextOf context.entry m steps → IsTest from.entry m test
         → HasFolded context.entry m steps [] scratch.old → HasFolded context.entry m steps (edges_between test (passes_words to.entry) apply.now.flat.now.edges) scratch.new) }
 {

@@ -6,8 +6,9 @@
 //!
 //! Sources that are members of a set are gone over in the set, so that an apply costs what these and their edges cost,
 //! and nothing in proportion to the graph. By the direction `DensePush` all vertices with edges are tested. A filter is
-//! run over the vertices with edges, 128 at a time. Neighbours are read in blocks of 128 and folded by `edge_fold`. Where
-//! many edges are to come, the destinations that pass are put into bits first, and a block keeps only these.
+//! run over the vertices with edges, 128 at a time. Neighbours are read in blocks of 128, with their weights where a
+//! function reads these, and folded by `edge_fold`. Where many edges are to come, the destinations that pass are put into
+//! bits first, and a block keeps only these.
 //!
 //! [`PushWork`] is an apply in pieces, for the workers of `crew`: the sources are listed once and cut as the schedule says
 //! (`crew::Partition`), a piece answers what the edges from its sources give, and [`PushWork::merge`] makes the changes of the
@@ -21,6 +22,7 @@ mod apply;
 mod crew_apply;
 mod listed;
 mod merge;
+mod neighbour_block;
 mod sources;
 mod work;
 

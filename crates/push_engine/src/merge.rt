@@ -20,6 +20,7 @@ ghost use Rattle.push_engine.specs.Rows.{rows_to};
 ghost use Rattle.push_engine.specs.Sources.{passing_in};
 
 use crate::listed::words_of_end;
+use crate::neighbour_block::NeighbourBlock;
 use crate::sources::fold_rows;
 use crate::work::PushWork;
 use crew::{Found, Work};
@@ -135,7 +136,7 @@ impl PushWork<'_> {
             fold_passing_part(alloc, &self.apply, context, part, to, scratch)?;
             return Ok(());
         }
-        let mut block = [0u32; 128];
+        let mut block = NeighbourBlock::new();
         fold_rows(
             alloc,
             self.apply.flat,
@@ -195,7 +196,7 @@ fn fold_passing_part(
     ensures { OnOk result ((m : StateValue) (steps : List StepsTree) (test : ℕ → Bool) → IsContextOf context.entry m steps → IsEndTest apply.now.from m test
         → HasFolded context.entry m steps [] scratch.old → HasFolded context.entry m steps (rows_to (passes_words to.entry) apply.now.flat.now.edges (filter test part.now)) scratch.new) }
 {
-    let mut block = [0u32; 128];
+    let mut block = NeighbourBlock::new();
     match apply.from {
         None => {
             fold_rows(alloc, apply.flat, context, part, to, &mut block, scratch)?;

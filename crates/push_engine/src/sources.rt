@@ -1,6 +1,7 @@
 //! Going over the sources of an apply.
-ghost use Rattle.std.specs.Prelude.{◌≡◌, ℕ, ◌++◌, Bool, true, List, [], length, OnOk};
+ghost use Rattle.std.specs.Prelude.{◌≡◌, ℕ, ◌++◌, Bool, false, true, List, [], OnOk};
 ghost use Rattle.std.specs.List.{filter};
+ghost use Rattle.edge_lists.specs.Edge.{Edge};
 ghost use Rattle.kernels.specs.StepTree.{StepsTree};
 ghost use Rattle.kernels.specs.EdgeApply.{is_member};
 ghost use Rattle.kernels.specs.State.{StateValue};
@@ -12,7 +13,8 @@ ghost use Rattle.flat_snapshot.specs.Neighbours.{destinations_of};
 ghost use Rattle.push_engine.specs.Rows.{rows_to};
 ghost use Rattle.edge_apply.specs.Words.{passes_words};
 
-use edge_apply::{keep_members, take_part};
+use crate::neighbour_block::NeighbourBlock;
+use edge_apply::{keep_members, keep_members_weighted, take_part};
 use edge_fold::{ApplyContext, Scratch};
 use flat_snapshot::Flat;
 use kernels::EndpointFilter;
@@ -26,10 +28,9 @@ pub(crate) fn fold_all(
     flat: &Flat,
     context: ApplyContext<'_>,
     to: Option<&[u64]>,
-    block: &mut [u32],
+    block: &mut NeighbourBlock,
     scratch: &mut Scratch,
 ) -> Result<(), AllocError>
-    requires { length block.old ≡ 128 }
     ensures { OnOk result ((m : StateValue) (steps : List StepsTree) (from : ℕ → Bool) → IsContextOf context.entry m steps → ((v : ℕ) → from v ≡ true)
         → HasFolded context.entry m steps [] scratch.old → HasFolded context.entry m steps (edges_between from (passes_words to.entry) flat.now.edges) scratch.new) }
 {
@@ -46,10 +47,9 @@ pub(crate) fn fold_members(
     context: ApplyContext<'_>,
     set: &VertexSet,
     to: Option<&[u64]>,
-    block: &mut [u32],
+    block: &mut NeighbourBlock,
     scratch: &mut Scratch,
 ) -> Result<(), AllocError>
-    requires { length block.old ≡ 128 }
     ensures { OnOk result ((m : StateValue) (steps : List StepsTree) (from : ℕ → Bool) → IsContextOf context.entry m steps → ((v : ℕ) → from v ≡ is_member v set.now.members)
         → HasFolded context.entry m steps [] scratch.old → HasFolded context.entry m steps (edges_between from (passes_words to.entry) flat.now.edges) scratch.new) }
 {
@@ -66,10 +66,9 @@ pub(crate) fn fold_passing(
     context: ApplyContext<'_>,
     from: EndpointFilter<'_>,
     to: Option<&[u64]>,
-    block: &mut [u32],
+    block: &mut NeighbourBlock,
     scratch: &mut Scratch,
 ) -> Result<(), AllocError>
-    requires { length block.old ≡ 128 }
     ensures { OnOk result ((m : StateValue) (steps : List StepsTree) (test : ℕ → Bool) → IsContextOf context.entry m steps → IsTest from.entry m test
         → HasFolded context.entry m steps [] scratch.old → HasFolded context.entry m steps (edges_between test (passes_words to.entry) flat.now.edges) scratch.new) }
 {
@@ -94,11 +93,10 @@ pub(crate) fn fold_rows(
     context: ApplyContext<'_>,
     sources: &[u32],
     to: Option<&[u64]>,
-    block: &mut [u32],
+    block: &mut NeighbourBlock,
     scratch: &mut Scratch,
 ) -> Result<(), AllocError>
-    requires { length block.old ≡ 128 }
-    ensures { OnOk result ((m : StateValue) (steps : List StepsTree) (edges : List (ℕ × ℕ)) → IsContextOf context.entry m steps
+    ensures { OnOk result ((m : StateValue) (steps : List StepsTree) (edges : List Edge) → IsContextOf context.entry m steps
         → HasFolded context.entry m steps edges scratch.old → HasFolded context.entry m steps (edges ++ rows_to (passes_words to.entry) flat.now.edges sources.now) scratch.new) }
 {
     'sources: for source in sources {
@@ -115,12 +113,11 @@ fn fold_row(
     context: ApplyContext<'_>,
     source: u32,
     to: Option<&[u64]>,
-    block: &mut [u32],
+    block: &mut NeighbourBlock,
     scratch: &mut Scratch,
 ) -> Result<(), AllocError>
-    requires { length block.old ≡ 128 }
-    ensures { OnOk result ((m : StateValue) (steps : List StepsTree) (edges : List (ℕ × ℕ)) → IsContextOf context.entry m steps
-        → HasFolded context.entry m steps edges scratch.old → HasFolded context.entry m steps (edges ++ row source (filter (passes_words to.entry) (destinations_of source flat.now.edges))) scratch.new) }
+    ensures { OnOk result ((m : StateValue) (steps : List StepsTree) (edges : List Edge) → IsContextOf context.entry m steps
+        → HasFolded context.entry m steps edges scratch.old → HasFolded context.entry m steps (edges ++ row source (filter (λ e. passes_words to.entry e.0) (destinations_of source flat.now.edges))) scratch.new) }
 {
     match flat.out_set(source).into_form() {
         NeighbourForm::Packed(list) => {
@@ -140,25 +137,69 @@ fn fold_row(
     }
 }
 
-/// The same to the destinations of a walk.
+/// The same to the destinations of a walk, whose weights are read where a function reads them.
 #[inline]
 fn fold_walk<W: NeighbourWalk + Drop>(
     alloc: Global,
     context: ApplyContext<'_>,
     source: u32,
     to: Option<&[u64]>,
-    mut walk: W,
-    block: &mut [u32],
+    walk: W,
+    block: &mut NeighbourBlock,
     scratch: &mut Scratch,
 ) -> Result<(), AllocError>
-    requires { length block.old ≡ 128 }
-    ensures { OnOk result ((m : StateValue) (steps : List StepsTree) (edges : List (ℕ × ℕ)) → IsContextOf context.entry m steps
-        → HasFolded context.entry m steps edges scratch.old → HasFolded context.entry m steps (edges ++ row source (filter (passes_words to.entry) (W.coming walk))) scratch.new) }
+    ensures { OnOk result ((m : StateValue) (steps : List StepsTree) (edges : List Edge) → IsContextOf context.entry m steps
+        → HasFolded context.entry m steps edges scratch.old → HasFolded context.entry m steps (edges ++ row source (filter (λ e. passes_words to.entry e.0) (W.coming walk))) scratch.new) }
+{
+    if context.weighted {
+        return fold_weighted(alloc, context, source, to, walk, block, scratch);
+    }
+    fold_unweighted(alloc, context, source, to, walk, block, scratch)
+}
+
+/// The same where no function reads weights.
+#[inline]
+fn fold_unweighted<W: NeighbourWalk + Drop>(
+    alloc: Global,
+    context: ApplyContext<'_>,
+    source: u32,
+    to: Option<&[u64]>,
+    mut walk: W,
+    block: &mut NeighbourBlock,
+    scratch: &mut Scratch,
+) -> Result<(), AllocError>
+    requires { context.weighted ≡ false }
+    ensures { OnOk result ((m : StateValue) (steps : List StepsTree) (edges : List Edge) → IsContextOf context.entry m steps
+        → HasFolded context.entry m steps edges scratch.old → HasFolded context.entry m steps (edges ++ row source (filter (λ e. passes_words to.entry e.0) (W.coming walk))) scratch.new) }
 {
     'rounds: while walk.len() > 0 {
-        let count = walk.fill(block);
-        let kept = keep_members(to, block, count);
-        scratch.fold(alloc, context, source, &block[..kept])?;
+        let count = walk.fill(&mut block.keys);
+        let kept = keep_members(to, &mut block.keys, count);
+        scratch.fold(alloc, context, source, &block.keys[..kept])?;
+    }
+    Ok(())
+}
+
+/// The same where a function reads weights.
+#[inline]
+fn fold_weighted<W: NeighbourWalk + Drop>(
+    alloc: Global,
+    context: ApplyContext<'_>,
+    source: u32,
+    to: Option<&[u64]>,
+    mut walk: W,
+    block: &mut NeighbourBlock,
+    scratch: &mut Scratch,
+) -> Result<(), AllocError>
+    requires { context.weighted ≡ true }
+    ensures { OnOk result ((m : StateValue) (steps : List StepsTree) (edges : List Edge) → IsContextOf context.entry m steps
+        → HasFolded context.entry m steps edges scratch.old → HasFolded context.entry m steps (edges ++ row source (filter (λ e. passes_words to.entry e.0) (W.coming walk))) scratch.new) }
+{
+    'rounds: while walk.len() > 0 {
+        let count = walk.fill_weighted(&mut block.keys, &mut block.weights);
+        let kept = keep_members_weighted(to, &mut block.keys, &mut block.weights, count);
+        let weights = &block.weights[..kept];
+        scratch.fold_weighted(alloc, context, source, &block.keys[..kept], weights)?;
     }
     Ok(())
 }

@@ -1,4 +1,4 @@
-use Rattle.std.proofs.Common.{rules, ℕ, List, [], ◌∷◌, ap, refl, subst, sym}
+use Rattle.std.proofs.Common.{ℕ, List, [], ◌∷◌, ap, refl, subst, sym}
 use Rattle.edge_fold.specs.Between.{firsts}
 use Rattle.edge_fold.proofs.Walks.{HasWalked, walk_begun, walk_more}
 use Rattle.flat_snapshot.specs.Neighbours.{destinations_of}
@@ -15,34 +15,27 @@ sources-init c =
     let to = passes_words a.to in
     let edges = a.flat.now.edges in
     let ds = c.sources-source-items.result in
-    record {
-      room = search rules;
-      walked = (ds, c.sources-source-items.ensures.degrees, subst (λ (is : List (ℕ × ℕ)). HasWalked a.context (rows_to to edges) (firsts ds) (firsts is) a.scratch.now a.scratch.now) (sym c.into_iter-source-iterator.ensures.into_iter_gives) (walk_begun a.context (rows_to to edges) (firsts ds) a.scratch.now refl));
-    }
+    (ds, c.sources-source-items.ensures.degrees, subst (λ (is : List (ℕ × ℕ)). HasWalked a.context (rows_to to edges) (firsts ds) (firsts is) a.scratch.now a.scratch.now) (sym c.into_iter-source-iterator.ensures.into_iter_gives) (walk_begun a.context (rows_to to edges) (firsts ds) a.scratch.now refl))
 
 pub sources-preserved : goal.sources-preserved
 sources-preserved c =
     let a = c.args in
     let to = passes_words a.to in
     let edges = a.flat.now.edges in
-    let w = c.sources.invariant.walked in
+    let w = c.sources.invariant in
     let u = c.in-Some.source in
-    let then = c.fold_row.new.scratch in
-    record {
-      room = search rules;
-      walked = (
-        w.0,
-        w.1,
-        walk_more a.context (rows_to to edges) (firsts w.0) (firsts c.sources.source-iterator) (u ∷ []) (firsts c.next.new.self) a.scratch.now c.sources.scratch then
-            (rows_to-append to edges) (sym (ap firsts c.in-Some.ensures.steps)) (one_source a.context to edges u c.sources.scratch then c.in_ok-fold_row.ensures) w.2,
-      );
-    }
+    let then = c.fold_row.new.scratch in (
+      w.0,
+      w.1,
+      walk_more a.context (rows_to to edges) (firsts w.0) (firsts c.sources.source-iterator) (u ∷ []) (firsts c.next.new.self) a.scratch.now c.sources.scratch then
+          (rows_to-append to edges) (sym (ap firsts c.in-Some.ensures.steps)) (one_source a.context to edges u c.sources.scratch then c.in_ok-fold_row.ensures) w.2,
+    )
 
 pub returns : goal.returns
 returns c m steps from are is =
     let a = c.args in
     let to = passes_words a.to in
     let edges = a.flat.now.edges in
-    let w = c.sources.invariant.walked in
+    let w = c.sources.invariant in
     walked_all a.context edges (firsts w.0) (firsts c.sources.source-iterator) a.scratch.now c.sources.scratch from to (ap firsts c.in-None.ensures.steps.0)
     (degrees_rise (λ u. destinations_of u edges) w.0 w.1) (sources_agree edges w.0 from w.1 is) w.2 m steps are

@@ -1,4 +1,4 @@
-use Rattle.std.proofs.Common.{◌≡◌, ℕ, List, length}
+use Rattle.std.proofs.Common.{◌≡◌, ℕ, List}
 use Rattle.flat_snapshot.specs.FlatEdges.{AreDegreesOf}
 use Rattle.flat_snapshot.specs.Neighbours.{destinations_of}
 use Rattle.edge_fold.specs.Between.{firsts}
@@ -9,7 +9,5 @@ use Rattle.push_engine.proofs.sources.fold_all.Given as goal
 
 -- some of the vertices with edges are folded, and the rest is left
 abbrev pub invariant-sources : goal.invariant-sources
-invariant-sources l = record {
-  room : length l.block ≡ 128;
-  walked : (ds : List (ℕ × ℕ)) × AreDegreesOf (λ u. destinations_of u l.flat.edges) ds × HasWalked l.context (rows_to (passes_words l.to) l.flat.edges) (firsts ds) (firsts l.source-iterator) l.fn.scratch l.scratch;
-}
+invariant-sources l =
+    (ds : List (ℕ × ℕ)) × AreDegreesOf (λ u. destinations_of u l.flat.edges) ds × HasWalked l.context (rows_to (passes_words l.to) l.flat.edges) (firsts ds) (firsts l.source-iterator) l.fn.scratch l.scratch

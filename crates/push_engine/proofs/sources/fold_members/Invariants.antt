@@ -1,4 +1,4 @@
-use Rattle.std.proofs.Common.{◌≡◌, length}
+use Rattle.std.proofs.Common.{◌≡◌}
 use Rattle.edge_fold.proofs.Walks.{HasWalked}
 use Rattle.push_engine.specs.Rows.{rows_to}
 use Rattle.edge_apply.specs.Words.{passes_words}
@@ -6,7 +6,4 @@ use Rattle.push_engine.proofs.sources.fold_members.Given as goal
 
 -- some members are folded, and the rest is left
 abbrev pub invariant-sources : goal.invariant-sources
-invariant-sources l = record {
-  room : length l.block ≡ 128;
-  walked : HasWalked l.context (rows_to (passes_words l.to) l.flat.edges) l.set.members l.source-iterator l.fn.scratch l.scratch;
-}
+invariant-sources l = HasWalked l.context (rows_to (passes_words l.to) l.flat.edges) l.set.members l.source-iterator l.fn.scratch l.scratch

@@ -1,4 +1,4 @@
-use Rattle.std.proofs.Common.{rules, ◌<◌, ◌≤◌, ◌++◌, ◌+◌, length, take, ap}
+use Rattle.std.proofs.Common.{◌<◌, ◌≤◌, ◌++◌, ◌+◌, length, take, ap}
 use Rattle.std.proofs.lemmas.List.{take_all}
 use Rattle.push_engine.specs.Rows.{rows_to}
 use Rattle.edge_apply.specs.Words.{passes_words}
@@ -13,11 +13,8 @@ sources-preserved c =
     let to = passes_words c.args.to in
     let edges = c.args.flat.now.edges in
     let inside : i < length us = c.sources-test.true in
-    record {
-      room = search rules;
-      folded = λ m steps es are has. folded_along c.args.context m steps _ (es ++ rows_to to edges (take (i + 1) us)) c.fold_row.new.scratch (rows_next to edges es us i inside)
-          (c.in_ok-fold_row.ensures m steps (es ++ rows_to to edges (take i us)) are (c.sources.invariant.folded m steps es are has));
-    }
+    λ m steps es are has. folded_along c.args.context m steps _ (es ++ rows_to to edges (take (i + 1) us)) c.fold_row.new.scratch (rows_next to edges es us i inside)
+    (c.in_ok-fold_row.ensures m steps (es ++ rows_to to edges (take i us)) are (c.sources.invariant m steps es are has))
 
 pub returns : goal.returns
 returns c m steps es are has =
@@ -26,4 +23,4 @@ returns c m steps es are has =
     let to = passes_words c.args.to in
     let edges = c.args.flat.now.edges in
     let all : length us ≤ i = c.sources-test.false in
-    folded_along c.args.context m steps (es ++ rows_to to edges (take i us)) (es ++ rows_to to edges us) c.sources.scratch (ap (λ ks. es ++ rows_to to edges ks) (take_all i us all)) (c.sources.invariant.folded m steps es are has)
+    folded_along c.args.context m steps (es ++ rows_to to edges (take i us)) (es ++ rows_to to edges us) c.sources.scratch (ap (λ ks. es ++ rows_to to edges ks) (take_all i us all)) (c.sources.invariant m steps es are has)

@@ -1,4 +1,5 @@
 use Rattle.std.proofs.Common.{◌≡◌, ℕ, ◌++◌, List, length, take}
+use Rattle.edge_lists.specs.Edge.{Edge}
 use Rattle.kernels.specs.StepTree.{StepsTree}
 use Rattle.kernels.specs.State.{StateValue}
 use Rattle.edge_fold.specs.Folded.{IsContextOf, HasFolded}
@@ -8,8 +9,5 @@ use Rattle.push_engine.proofs.sources.fold_rows.Given as goal
 
 -- the rows of the sources that have come are folded
 abbrev pub invariant-sources : goal.invariant-sources
-invariant-sources l = record {
-  room : length l.block ≡ 128;
-  folded : (m : StateValue) (steps : List StepsTree) (edges : List (ℕ × ℕ)) → IsContextOf l.context m steps
-      → HasFolded l.context m steps edges l.fn.scratch → HasFolded l.context m steps (edges ++ rows_to (passes_words l.to) l.flat.edges (take l.source-index l.sources)) l.scratch;
-}
+invariant-sources l = (m : StateValue) (steps : List StepsTree) (edges : List Edge) → IsContextOf l.context m steps
+    → HasFolded l.context m steps edges l.fn.scratch → HasFolded l.context m steps (edges ++ rows_to (passes_words l.to) l.flat.edges (take l.source-index l.sources)) l.scratch

@@ -6,7 +6,6 @@ use Rattle.crew.specs.Partition.{end_of}
 use Rattle.crew.specs.Pieces.{pieces_of}
 use Rattle.edge_fold.specs.declared.apply_context.ApplyContext.{ApplyContext}
 use Rattle.edge_fold.specs.Changed.{changed, changed_from}
-use Rattle.edge_fold.specs.Folded.{IsContextOf}
 use Rattle.edge_fold.specs.Gathered.{is_between}
 use Rattle.kernels.specs.EdgeApply.{after_edges}
 use Rattle.edge_apply.specs.Pieces.{EachGathered}
@@ -45,7 +44,7 @@ returns-clause-out c m steps edges_of vectors sizes kernels up each x r by long 
     let part = filter (λ (e : Edge). is_between low high e.1) all in
     let count = ap (λ (f : ApplyContext). f.vertices) c.context-context.ensures.context in
     let starts = ap (λ (f : ApplyContext). f.start) c.context-context.ensures.context in
-    let reads = subst (λ (f : ApplyContext). IsContextOf f m steps) (sym c.context-context.ensures.context) (record { vectors = vectors; sizes = sizes; kernels = kernels }) in
+    let reads = c.context-context.ensures.reads m steps (record { vectors = vectors; sizes = sizes; kernels = kernels }) in
     let given = subst (λ (v : ℕ). EachGathered v m steps edges_of w.found.now) (sym count) each in
     let has = c.in_ok-join_between.ensures m steps edges_of up given (c.begin.ensures _ m steps) in
     let old = entry m.vectors x in

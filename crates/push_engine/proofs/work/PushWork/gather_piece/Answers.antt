@@ -5,7 +5,6 @@ use Rattle.edge_apply.proofs.Listed.{piece_inside}
 use Rattle.edge_apply.specs.Words.{passes_words}
 use Rattle.edge_fold.specs.Gathered.{AreGatheredFor}
 use Rattle.edge_fold.specs.declared.apply_context.ApplyContext.{ApplyContext}
-use Rattle.edge_fold.specs.Folded.{IsContextOf}
 use Rattle.push_engine.specs.Rows.{rows_to}
 use Rattle.push_engine.specs.Sources.{passing_in}
 use Rattle.push_engine.proofs.work.PushWork.gather_piece.Goals as goal
@@ -39,7 +38,7 @@ returns-clause-given c m steps from test vectors sizes kernels is_from is_test x
     ∙ ap (λ (us : List ℕ). slice_range us c.piece-places.result.start c.piece-places.result.end) c.deref.ensures.value
     ∙ ap (λ (s : ℕ). slice_range w.sources.items s c.piece-places.result.end) c.piece-places.ensures.start
     ∙ ap (λ (e : ℕ). slice_range w.sources.items (end_of w.cuts (k - 1)) e) c.piece-places.ensures.end in
-    let reads = subst (λ (f : ApplyContext). IsContextOf f m steps) (sym c.context-context.ensures.context) (record { vectors = vectors; sizes = sizes; kernels = kernels }) in
+    let reads = c.context-context.ensures.reads m steps (record { vectors = vectors; sizes = sizes; kernels = kernels }) in
     let has = c.in_ok-fold_part.ensures m steps from reads is_from (c.begin.ensures _ m steps) in
     let gathered = c.in_ok-gathered.ensures.given m steps (folded c.part_between-part.result.now) test reads is_test has (ap (λ (f : ApplyContext). f.start) c.context-context.ensures.context) x r by in
     subst (λ (n : ℕ). AreGatheredFor n m steps (filter (λ e. test e.1) (folded (piece_of w.cuts w.sources.items k))) g x r) (ap (λ (f : ApplyContext). f.vertices) c.context-context.ensures.context)

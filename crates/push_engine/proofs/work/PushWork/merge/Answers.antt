@@ -1,11 +1,11 @@
 use Rattle.std.proofs.Common.{ℕ, true, List, refl, sym, ap, ◌∙◌, subst, arith}
 use Rattle.std.specs.List.{filter}
+use Rattle.edge_lists.specs.Edge.{Edge}
 use Rattle.kernels.specs.Value.{entry}
 use Rattle.edge_fold.specs.declared.apply_context.ApplyContext.{ApplyContext}
-use Rattle.edge_fold.specs.Folded.{IsContextOf}
 use Rattle.edge_fold.specs.Between.{edges_between}
 use Rattle.edge_fold.specs.Changed.{changed}
-use Rattle.edge_fold.specs.Given.{after_ends}
+use Rattle.kernels.specs.EdgeApply.{after_edges}
 use Rattle.crew.specs.Pieces.{pieces_of}
 use Rattle.edge_apply.specs.Pieces.{EachGathered}
 use Rattle.push_engine.specs.Pieces.{edges_of_piece}
@@ -20,14 +20,14 @@ returns-clause-changes c answers order m steps from to vectors sizes kernels is_
     let fs = c.args.found.now in
     let edges = w.apply.flat.now.edges in
     let edges_of = edges_of_piece w from to in
-    let reads = subst (λ (f : ApplyContext). IsContextOf f m steps) (sym c.context-context.ensures.context) (record { vectors = vectors; sizes = sizes; kernels = kernels }) in
+    let reads = c.context-context.ensures.reads m steps (record { vectors = vectors; sizes = sizes; kernels = kernels }) in
     let count = ap (λ (f : ApplyContext). f.vertices) c.context-context.ensures.context in
     let starts = ap (λ (f : ApplyContext). f.start) c.context-context.ensures.context in
     let old = entry m.vectors x in
-    let new = λ (es : List (ℕ × ℕ)). entry (after_ends steps m.sets m.vectors es m.vectors) x in
+    let new = λ (es : List Edge). entry (after_edges steps m.sets m.vectors es m.vectors) x in
     let each = subst (λ (n : ℕ). EachGathered n m steps edges_of fs) (sym count) (each_gathered w fs m steps from to answers vectors sizes kernels is_from is_to) in
     let has = c.in_ok-join_all.ensures m steps edges_of each (c.begin.ensures _ m steps) in
     let whole = merged _ m steps edges w.tested from to w.cuts w.sources.items (pieces_of fs) c.join_all.new.scratch w.whole (w.passing m from vectors sizes is_from) order has in
     c.in_ok-changes.ensures.changes m steps (edges_between from to edges) (λ _. true) reads (λ v. refl) whole starts x r by (omega (arith, count, long))
     ∙ ap (λ (n : ℕ). changed n old (new (filter (λ e. true) (edges_between from to edges)))) count
-    ∙ ap (λ (es : List (ℕ × ℕ)). changed w.apply.flat.now.vertices old (new es)) (filter_all (λ _. true) (edges_between from to edges) (λ e. refl))
+    ∙ ap (λ (es : List Edge). changed w.apply.flat.now.vertices old (new es)) (filter_all (λ _. true) (edges_between from to edges) (λ e. refl))
