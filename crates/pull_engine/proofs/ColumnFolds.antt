@@ -17,8 +17,10 @@ use Rattle.edge_fold.specs.Folded.{HasFolded}
 use Rattle.edge_fold.specs.Given.{column, entries_of, given_on, reduced_at}
 use Rattle.edge_fold.proofs.Meaning.{filtered_edges}
 use Rattle.edge_fold.proofs.Walks.{InRow}
+use Rattle.edge_fold.proofs.WeightColumns.{firsts-filter}
 use Rattle.flat_snapshot.specs.Neighbours.{sources_of}
 use Rattle.vertex_sets.proofs.Ascending.{Rises}
+use Rattle.edge_apply.proofs.Kept.{entries_read}
 use Rattle.edge_apply.proofs.Listed.{below_all}
 use Rattle.pull_engine.specs.Columns.{columns, passing}
 
@@ -44,34 +46,19 @@ column_from from d ss = column d (passing from ss)
 pub column_in_row : (from : ℕ → Bool) (d : ℕ) → InRow (column_from from d)
 column_in_row from d us vs = ap (column d) (filter-append (λ s. from s.0) us vs) ∙ map-append (λ s. (s.0, d, s.1)) (passing from us) (passing from vs)
 
--- the neighbours of the entries that pass are the neighbours that pass
-keys_with : (from : ℕ → Bool) (e : ℕ × ℤ) (es : List (ℕ × ℤ)) (b : Bool) → keys_of (passing from es) ≡ filter from (keys_of es) → keys_of (cond b (e ∷ passing from es) (passing from es)) ≡ cond b (e.0 ∷ filter from (keys_of es)) (filter from (keys_of es))
-keys_with from e es true more = ap (λ (ks : List ℕ). e.0 ∷ ks) more
-keys_with from e es false more = more
-
-pub keys_passing : (from : ℕ → Bool) (es : List (ℕ × ℤ)) → keys_of (passing from es) ≡ filter from (keys_of es)
-keys_passing from [] = refl
-keys_passing from (e ∷ es) = keys_with from e es (from e.0) (keys_passing from es)
-
--- one round of a walk: those that are kept are the neighbours of the entries that pass
+-- one round of a walk: what is kept are the sources that pass
 pub kept_keys : (from : ℕ → Bool) (left : List (ℕ × ℤ)) (first second : List ℕ) (count kept : ℕ) → take count first ≡ take count (keys_of left) → take kept second ≡ filter from (take count first)
     → keys_of (passing from (take count left)) ≡ take kept second
 kept_keys from left first second count kept filled keeps =
-    keys_passing from (take count left)
-    ∙ ap (filter from) (sym (take-map (λ (e : ℕ × ℤ). e.0) count left) ∙ sym filled)
-    ∙ sym keeps
+    firsts-filter from (take count left) ∙ ap (filter from) (sym (take-map (λ (e : ℕ × ℤ). e.0) count left) ∙ sym filled) ∙ sym keeps
 
 -- the same with their weights
-both_columns : (es : List (ℕ × ℤ)) → entries_of (keys_of es) (values_of es) ≡ es
-both_columns [] = refl
-both_columns (e ∷ es) = ap (λ (fs : List (ℕ × ℤ)). e ∷ fs) (both_columns es)
-
-pub filled_entries : (left : List (ℕ × ℤ)) (keys : List ℕ) (weights : List ℤ) (count : ℕ) → take count keys ≡ take count (keys_of left) → take count weights ≡ take count (values_of left)
-    → entries_of (take count keys) (take count weights) ≡ take count left
-filled_entries left keys weights count same weighed =
-    ap (λ (ks : List ℕ). entries_of ks (take count weights)) (same ∙ take-map (λ (e : ℕ × ℤ). e.0) count left)
-    ∙ ap (entries_of (keys_of (take count left))) (weighed ∙ take-map (λ (e : ℕ × ℤ). e.1) count left)
-    ∙ both_columns (take count left)
+pub kept_entries : (from : ℕ → Bool) (left : List (ℕ × ℤ)) (keys : List ℕ) (weights : List ℤ) (count : ℕ) (kept : List (ℕ × ℤ)) → take count keys ≡ take count (keys_of left) → take count weights ≡ take count (values_of left)
+    → kept ≡ passing from (entries_of (take count keys) (take count weights)) → kept ≡ passing from (take count left)
+kept_entries from left keys weights count kept same weighed keeps =
+    keeps
+    ∙ ap (passing from)
+    (ap (λ (ks : List ℕ). entries_of ks (take count weights)) same ∙ ap (entries_of (take count (keys_of left))) weighed ∙ entries_read count left)
 
 -- a walk that has come to its end
 pub none_left : (left : List (ℕ × ℤ)) → length left ≤ 0 → left ≡ []

@@ -38,41 +38,24 @@ use Rattle.pull_engine.specs.Pieces.{Answers, AnswersFor, GathersPiece, edges_in
 use Rattle.pull_engine.specs.Ranges.{entry_after, shape_vector}
 use Rattle.pull_engine.proofs.FoundParts.{ListParts}
 use Rattle.edge_apply.proofs.Told.{told_in_piece}
+use Rattle.edge_apply.proofs.Filtered.{has_first, has_later}
 use Rattle.pull_engine.proofs.ColumnFolds.{columns-append, folded_columns}
-
--- each edge of a graph stands between two of its vertices
-same_ends : (p : Ends) → ends_eq p p ≡ true
-same_ends p = ap (λ (b : Bool). b && (p.1 == p.1)) ((Decides-eqb p.0 p.0).1 refl) ∙ (Decides-eqb p.1 p.1).1 refl
-
-there_later : (p : Ends) (e : Edge) (es : List Edge) (w : ℤ) (b : Bool) → ends_eq (ends_of e) p ≡ b → weight_in p es ≡ Some w → (v : ℤ) × (weight_in p (e ∷ es) ≡ Some v)
-there_later p e es w true same is = (e.2, ap (λ (c : Bool). cond c (Some e.2) (weight_in p es)) same)
-there_later p e es w false same is = (w, ap (λ (c : Bool). cond c (Some e.2) (weight_in p es)) same ∙ is)
-
-abbrev AreWithin : ℕ → List Edge → Type 0
-AreWithin n [] = Unit {0}
-AreWithin n (e ∷ es) = IsWithin n (ends_of e) × AreWithin n es
-
-all_within : (n : ℕ) (es : List Edge) → ((p : Ends) (w : ℤ) → weight_in p es ≡ Some w → IsWithin n p) → AreWithin n es
-all_within n [] within = tt
-all_within n (e ∷ es) within = (
-  within (ends_of e) e.2 (ap (λ (b : Bool). cond b (Some e.2) (weight_in (ends_of e) es)) (same_ends (ends_of e))),
-  all_within n es (λ p w is. let there = there_later p e es w (ends_eq (ends_of e) p) refl is in within p there.0 there.1),
-)
 
 -- tests that agree on the sources of a graph let the same through
 agree_one : (p q : ℕ → Bool) (s : ℕ × ℤ) (S : List (ℕ × ℤ)) (b : Bool) → p s.0 ≡ q s.0 → passing p S ≡ passing q S → passing p (cond b (s ∷ S) S) ≡ passing q (cond b (s ∷ S) S)
 agree_one p q s S true here more = ap (λ (c : Bool). cond c (s ∷ passing p S) (passing p S)) here ∙ ap (λ (ks : List (ℕ × ℤ)). cond (q s.0) (s ∷ ks) ks) more
 agree_one p q s S false here more = more
 
-sources_agree : (p q : ℕ → Bool) (n v : ℕ) (es : List Edge) → AreWithin n es → ((u : ℕ) → u < n → p u ≡ q u) → passing p (sources_of v es) ≡ passing q (sources_of v es)
-sources_agree p q n v [] within same = refl
-sources_agree p q n v (e ∷ es) within same =
-    agree_one p q (e.0, e.2) (sources_of v es) (e.1 == v) (same e.0 within.0.0) (sources_agree p q n v es within.1 same)
+sources_agree : (p q : ℕ → Bool) (v : ℕ) (es : List Edge) → ((ends : Ends) (w : ℤ) → weight_in ends es ≡ Some w → p ends.0 ≡ q ends.0) → passing p (sources_of v es) ≡ passing q (sources_of v es)
+sources_agree p q v [] same = refl
+sources_agree p q v (e ∷ es) same =
+    agree_one p q (e.0, e.2) (sources_of v es) (e.1 == v) (same (ends_of e) e.2 (has_first e es))
+    (sources_agree p q v es (λ ends w has. same ends _ (has_later (ends_eq (ends_of e) ends) e.2 w (weight_in ends es) has)))
 
 pub columns_agree : (g : Digraph) (p q : ℕ → Bool) → IsDigraph g → ((v : ℕ) → v < g.vertices → p v ≡ q v) → (us : List ℕ) → columns p g.edges us ≡ columns q g.edges us
 columns_agree g p q is same [] = refl
 columns_agree g p q is same (u ∷ us) =
-    ap (λ (ss : List (ℕ × ℤ)). column u ss ++ columns p g.edges us) (sources_agree p q g.vertices u g.edges (all_within g.vertices g.edges is.within) same)
+    ap (λ (ss : List (ℕ × ℤ)). column u ss ++ columns p g.edges us) (sources_agree p q u g.edges (λ ends w has. same ends.0 (is.within ends w has).0))
     ∙ ap (λ (ks : List Edge). column u (passing q (sources_of u g.edges)) ++ ks) (columns_agree g p q is same us)
 
 -- a vertex to which an edge goes is one of the graph
@@ -80,19 +63,16 @@ found_first : (v : ℕ) (e : Edge) (es : List Edge) (same : Bool) → e.1 == v �
 found_first v e es true is some = inl ((Decides-eqb e.1 v).0 is)
 found_first v e es false is some = inr some
 
-found_within : (n v : ℕ) (es : List Edge) → AreWithin n es → 0 < length (sources_of v es) → v < n
-found_within n v [] within some = absurd (omega (arith, some))
-found_within n v (e ∷ es) within some = elim (found_first v e es (e.1 == v) refl some) [
-  | inl at ↦ let here = within.0.1 in omega (arith, at, here)
-  | inr later ↦ found_within n v es within.1 later
+pub destination_within : (n v : ℕ) (es : List Edge) → ((ends : Ends) (w : ℤ) → weight_in ends es ≡ Some w → IsWithin n ends) → 0 < length (sources_of v es) → v < n
+destination_within n v [] within some = absurd (omega (arith, some))
+destination_within n v (e ∷ es) within some = elim (found_first v e es (e.1 == v) refl some) [
+  | inl at ↦ let here = (within (ends_of e) e.2 (has_first e es)).1 in omega (arith, at, here)
+  | inr later ↦ destination_within n v es (λ ends w has. within ends _ (has_later (ends_eq (ends_of e) ends) e.2 w (weight_in ends es) has)) later
 ]
-
-pub destination_within : (g : Digraph) (v : ℕ) → IsDigraph g → 0 < length (sources_of v g.edges) → v < g.vertices
-destination_within g v is some = found_within g.vertices v g.edges (all_within g.vertices g.edges is.within) some
 
 filtered_destinations : (g : Digraph) (to : ℕ → Bool) → IsDigraph g → (v : ℕ) → 0 < length (sources_of v g.edges) → is_member v (filter to (range_with_len 0 g.vertices)) ≡ to v
 filtered_destinations g to is v some =
-    let within : v < g.vertices = destination_within g v is some in
+    let within : v < g.vertices = destination_within g.vertices v g.edges is.within some in
     member_filtered to v (range_with_len 0 g.vertices) ∙ ap (λ (b : Bool). b && to v) (member_of_range v g.vertices within)
 
 -- the edges into the vertices of all pieces

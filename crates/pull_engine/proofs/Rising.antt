@@ -69,7 +69,7 @@ no_sources : (g : Digraph) (v : ℕ) (ss : List (ℕ × ℤ)) → IsDigraph g �
 no_sources g v [] is same past = refl
 no_sources g v (s ∷ ss) is same past =
     let some : 0 < length (sources_of v g.edges) = let long = ap length same in omega (arith, long) in
-    let within = destination_within g v is some in
+    let within = destination_within g.vertices v g.edges is.within some in
     absurd (omega (arith, within, past))
 
 stays : (r : Reduction) (number : ℕ → ℤ) (old : ℕ → ℤ) (from : ℕ → Bool) (es : List Edge) (v : ℕ) → sources_of v es ≡ [] → pulled r number old from es v ≡ old v

@@ -1,9 +1,8 @@
-use Rattle.std.proofs.Common.{rules, ◌≡◌, ◌≤◌, ℕ, ℤ, ◌++◌, List, [], ◌∷◌, length, ap, refl, ◌∙◌, subst, take, arith}
+use Rattle.std.proofs.Common.{rules, ◌≡◌, ◌≤◌, ℕ, ℤ, ◌++◌, List, [], ◌∷◌, length, ap, refl, subst, take, arith}
 use Rattle.edge_fold.specs.Given.{column, entries_of}
 use Rattle.edge_fold.proofs.Walks.{HasWalked, folded_along, parts_of, walk_begun, walk_done, walk_more}
 use Rattle.edge_apply.specs.Words.{passes_words}
-use Rattle.pull_engine.specs.Columns.{passing}
-use Rattle.pull_engine.proofs.ColumnFolds.{column_from, column_in_row, filled_entries, none_left}
+use Rattle.pull_engine.proofs.ColumnFolds.{column_from, column_in_row, kept_entries, none_left}
 use Rattle.pull_engine.proofs.destinations.fold_weighted_walk.Goals as goal
 
 pub rounds-preserved : goal.rounds-preserved
@@ -19,7 +18,7 @@ rounds-preserved g c =
     let kept = c.keep_members_weighted-kept in
     let then = c.fold_into_weighted.new.self in
     let lent = entries_of (take kept.result kept.new.block) (take kept.result kept.new.weights) in
-    let same = kept.ensures.kept ∙ ap (passing from) (filled_entries left filled.new.keys filled.new.weights n filled.ensures.keys filled.ensures.weights) in
+    let same = kept_entries from left filled.new.keys filled.new.weights n lent filled.ensures.keys filled.ensures.weights kept.ensures.kept in
     record {
       room = search rules;
       weights = search rules;
