@@ -3,7 +3,6 @@ use Rattle.std.proofs.Common.{◌≡◌, ℕ, zero, suc, ◌+◌, ◌<◌, ℤ, 
 use Rattle.std.proofs.lemmas.List.{drop-set-lt, length-set, take-set}
 use Rattle.std.proofs.lemmas.List.Filters.{FiltersInPlace, FiltersInPlace-more_no, FiltersInPlace-more_set}
 use Rattle.std.specs.Map.{keys_of, values_of}
-use Rattle.edge_lists.specs.Edge.{unit_weight}
 use Rattle.edge_fold.specs.Given.{entries_of}
 
 -- what is read is written at the front, and counts where it passes
