@@ -1,15 +1,16 @@
 -- Which source alone counts.
 use Rattle.std.proofs.Common.{◌≡◌, ℕ, zero, suc, ◌+◌, ◌-◌, ◌<◌, ◌≤◌, ℤ, pos, Bool, true, false, cond, Option, Some, None, List, [], ◌∷◌, ◌++◌, length, take, drop, get_or, refl, sym, ap, ◌∙◌, arith}
 use Rattle.std.proofs.lemmas.Int.{ints, clamps}
-use Rattle.std.proofs.lemmas.List.{get_or-take, length-take-le, take_more, take-append-drop}
+use Rattle.std.proofs.lemmas.List.{drop-map, get_or-take, length-take-le, take_more, take-append-drop}
 use Rattle.std.proofs.lemmas.List.Elements.{filter-append}
 use Rattle.std.specs.Int.{int_min, int_max}
 use Rattle.std.specs.List.{filter}
+use Rattle.std.specs.Map.{keys_of}
 use Rattle.apply_options.specs.declared.reduction.Reduction.{Reduction}
 use Rattle.apply_options.specs.declared.reduction.Reduction.TheVariants as reduction
 use Rattle.kernels.specs.Arithmetic.{reduced}
 use Rattle.edge_fold.specs.ReducedContributions.{reduced_with}
-use Rattle.vertex_blocks.specs.Lists.{AscendsFrom}
+use Rattle.ascending_lists.specs.Ascending.{AscendsFrom}
 use Rattle.pull_engine.specs.EarlySources.{CountsOnce, first_of, last_of, last_or, reduced_once}
 
 -- of two numbers the greater decides alone, and the less
@@ -81,6 +82,10 @@ last_passes p xs i b l is =
     ∙ ap last_of (filter-append p (take i xs) (x ∷ []))
     ∙ ap (λ (c : Bool). last_of (filter p (take i xs) ++ cond c (x ∷ []) [])) is
     ∙ last_with None (filter p (take i xs)) x b
+
+-- the neighbours of the entries that are left
+pub keys_behind : (n : ℕ) (all rest : List (ℕ × ℤ)) → rest ≡ drop n all → keys_of rest ≡ drop n (keys_of all)
+keys_behind n all rest is = ap (λ (es : List (ℕ × ℤ)). keys_of es) is ∙ sym (drop-map (λ (e : ℕ × ℤ). e.0) n all)
 
 -- what comes before does not matter where one passes behind it
 pub last_behind : (o : Option ℕ) (xs ys : List ℕ) → last_or o (xs ++ ys) ≡ last_or (last_or o xs) ys

@@ -1,7 +1,8 @@
 -- The pieces of an apply, put together.
-use Rattle.std.proofs.Common.{◌≡◌, ℕ, ◌<◌, ◌==◌, ◌⊎◌, inl, inr, ◌&&◌, Bool, true, false, cond, Option, Some, None, List, [], ◌∷◌, ◌++◌, length, refl, sym, ap, ◌∙◌, subst, arith}
+use Rattle.std.proofs.Common.{◌≡◌, ℕ, ℤ, ◌<◌, ◌==◌, ◌⊎◌, inl, inr, ◌&&◌, Bool, true, false, cond, Option, Some, None, List, [], ◌∷◌, ◌++◌, length, refl, sym, ap, ◌∙◌, subst, arith}
 use Rattle.std.specs.List.{filter, flat_map, range_with_len}
 use Rattle.std.specs.List.Sorted.{IsPermutation}
+use Rattle.edge_lists.specs.Edge.{Edge}
 use Rattle.kernels.specs.StepTree.{StepsTree}
 use Rattle.kernels.specs.State.{StateValue}
 use Rattle.kernels.specs.Cells.{HasSizes}
@@ -19,7 +20,7 @@ use Rattle.edge_fold.proofs.Walks.{folded_along}
 use Rattle.crew.specs.Partition.{AreEnds, piece_of}
 use Rattle.crew.proofs.PieceLists.{pieces_are_the_list}
 use Rattle.flat_snapshot.specs.Digraph.{Digraph, IsDigraph}
-use Rattle.flat_snapshot.specs.Edge.{edge_eq, has_edge, IsWithin}
+use Rattle.flat_snapshot.specs.Edge.{Ends, IsWithin, ends_eq, ends_of, weight_in}
 use Rattle.flat_snapshot.specs.Neighbours.{sources_of}
 use Rattle.edge_apply.specs.Pieces.{EachGathered}
 use Rattle.edge_apply.proofs.Listed.{member_of_range}
@@ -29,7 +30,7 @@ use Rattle.kernels.specs.EdgeApply.{is_member}
 use Rattle.std.proofs.lemmas.List.Elements.{filter-append}
 use Rattle.std.proofs.lemmas.Bool.Decides.{Decides-eqb}
 use Rattle.pull_engine.specs.declared.work.PullWork.{PullWork}
-use Rattle.pull_engine.specs.Columns.{columns}
+use Rattle.pull_engine.specs.Columns.{columns, passing}
 use Rattle.apply_options.specs.declared.reduction.Reduction.{Reduction}
 use Rattle.kernels.specs.Value.{entry}
 use Rattle.edge_fold.specs.Given.{IsReducedBy}
@@ -37,36 +38,36 @@ use Rattle.pull_engine.specs.Pieces.{Answers, AnswersFor, GathersPiece, edges_in
 use Rattle.pull_engine.specs.Ranges.{entry_after, shape_vector}
 use Rattle.pull_engine.proofs.FoundParts.{ListParts}
 use Rattle.edge_apply.proofs.Told.{told_in_piece}
-use Rattle.pull_engine.proofs.ColumnFolds.{columns-append, folded_columns}
 use Rattle.edge_apply.proofs.Filtered.{has_first, has_later}
+use Rattle.pull_engine.proofs.ColumnFolds.{columns-append, folded_columns}
 
 -- tests that agree on the sources of a graph let the same through
-agree_one : (p q : ℕ → Bool) (u : ℕ) (S : List ℕ) (b : Bool) → p u ≡ q u → filter p S ≡ filter q S → filter p (cond b (u ∷ S) S) ≡ filter q (cond b (u ∷ S) S)
-agree_one p q u S true here more = ap (λ (c : Bool). cond c (u ∷ filter p S) (filter p S)) here ∙ ap (λ (ks : List ℕ). cond (q u) (u ∷ ks) ks) more
-agree_one p q u S false here more = more
+agree_one : (p q : ℕ → Bool) (s : ℕ × ℤ) (S : List (ℕ × ℤ)) (b : Bool) → p s.0 ≡ q s.0 → passing p S ≡ passing q S → passing p (cond b (s ∷ S) S) ≡ passing q (cond b (s ∷ S) S)
+agree_one p q s S true here more = ap (λ (c : Bool). cond c (s ∷ passing p S) (passing p S)) here ∙ ap (λ (ks : List (ℕ × ℤ)). cond (q s.0) (s ∷ ks) ks) more
+agree_one p q s S false here more = more
 
-sources_agree : (p q : ℕ → Bool) (v : ℕ) (es : List (ℕ × ℕ)) → ((e : ℕ × ℕ) → has_edge es e ≡ true → p e.0 ≡ q e.0) → filter p (sources_of v es) ≡ filter q (sources_of v es)
+sources_agree : (p q : ℕ → Bool) (v : ℕ) (es : List Edge) → ((ends : Ends) (w : ℤ) → weight_in ends es ≡ Some w → p ends.0 ≡ q ends.0) → passing p (sources_of v es) ≡ passing q (sources_of v es)
 sources_agree p q v [] same = refl
 sources_agree p q v (e ∷ es) same =
-    agree_one p q e.0 (sources_of v es) (e.1 == v) (same e (has_first e es))
-    (sources_agree p q v es (λ f has. same f (has_later (edge_eq e f) (has_edge es f) has)))
+    agree_one p q (e.0, e.2) (sources_of v es) (e.1 == v) (same (ends_of e) e.2 (has_first e es))
+    (sources_agree p q v es (λ ends w has. same ends _ (has_later (ends_eq (ends_of e) ends) e.2 w (weight_in ends es) has)))
 
 pub columns_agree : (g : Digraph) (p q : ℕ → Bool) → IsDigraph g → ((v : ℕ) → v < g.vertices → p v ≡ q v) → (us : List ℕ) → columns p g.edges us ≡ columns q g.edges us
 columns_agree g p q is same [] = refl
 columns_agree g p q is same (u ∷ us) =
-    ap (λ (ss : List ℕ). column u ss ++ columns p g.edges us) (sources_agree p q u g.edges (λ e has. same e.0 (is.within e has).0))
-    ∙ ap (λ (ks : List (ℕ × ℕ)). column u (filter q (sources_of u g.edges)) ++ ks) (columns_agree g p q is same us)
+    ap (λ (ss : List (ℕ × ℤ)). column u ss ++ columns p g.edges us) (sources_agree p q u g.edges (λ ends w has. same ends.0 (is.within ends w has).0))
+    ∙ ap (λ (ks : List Edge). column u (passing q (sources_of u g.edges)) ++ ks) (columns_agree g p q is same us)
 
 -- a vertex to which an edge goes is one of the graph
-found_first : (v : ℕ) (e : ℕ × ℕ) (es : List (ℕ × ℕ)) (same : Bool) → e.1 == v ≡ same → 0 < length (cond same (e.0 ∷ sources_of v es) (sources_of v es)) → ((e.1 ≡ v) ⊎ (0 < length (sources_of v es)))
+found_first : (v : ℕ) (e : Edge) (es : List Edge) (same : Bool) → e.1 == v ≡ same → 0 < length (cond same ((e.0, e.2) ∷ sources_of v es) (sources_of v es)) → ((e.1 ≡ v) ⊎ (0 < length (sources_of v es)))
 found_first v e es true is some = inl ((Decides-eqb e.1 v).0 is)
 found_first v e es false is some = inr some
 
-pub destination_within : (n v : ℕ) (es : List (ℕ × ℕ)) → ((e : ℕ × ℕ) → has_edge es e ≡ true → IsWithin n e) → 0 < length (sources_of v es) → v < n
+pub destination_within : (n v : ℕ) (es : List Edge) → ((ends : Ends) (w : ℤ) → weight_in ends es ≡ Some w → IsWithin n ends) → 0 < length (sources_of v es) → v < n
 destination_within n v [] within some = absurd (omega (arith, some))
 destination_within n v (e ∷ es) within some = elim (found_first v e es (e.1 == v) refl some) [
-  | inl at ↦ let here = (within e (has_first e es)).1 in omega (arith, at, here)
-  | inr later ↦ destination_within n v es (λ f has. within f (has_later (edge_eq e f) (has_edge es f) has)) later
+  | inl at ↦ let here = (within (ends_of e) e.2 (has_first e es)).1 in omega (arith, at, here)
+  | inr later ↦ destination_within n v es (λ ends w has. within ends _ (has_later (ends_eq (ends_of e) ends) e.2 w (weight_in ends es) has)) later
 ]
 
 filtered_destinations : (g : Digraph) (to : ℕ → Bool) → IsDigraph g → (v : ℕ) → 0 < length (sources_of v g.edges) → is_member v (filter to (range_with_len 0 g.vertices)) ≡ to v
@@ -75,10 +76,10 @@ filtered_destinations g to is v some =
     member_filtered to v (range_with_len 0 g.vertices) ∙ ap (λ (b : Bool). b && to v) (member_of_range v g.vertices within)
 
 -- the edges into the vertices of all pieces
-columns_of_all : (from to : ℕ → Bool) (edges : List (ℕ × ℕ)) (part : ℕ → List ℕ) (ks : List ℕ) → flat_map (λ k. columns from edges (filter to (part k))) ks ≡ columns from edges (filter to (flat_map part ks))
+columns_of_all : (from to : ℕ → Bool) (edges : List Edge) (part : ℕ → List ℕ) (ks : List ℕ) → flat_map (λ k. columns from edges (filter to (part k))) ks ≡ columns from edges (filter to (flat_map part ks))
 columns_of_all from to edges part [] = refl
 columns_of_all from to edges part (k ∷ ks) =
-    ap (λ (es : List (ℕ × ℕ)). columns from edges (filter to (part k)) ++ es) (columns_of_all from to edges part ks)
+    ap (λ (es : List Edge). columns from edges (filter to (part k)) ++ es) (columns_of_all from to edges part ks)
     ∙ sym (columns-append from edges (filter to (part k)) (filter to (flat_map part ks)))
     ∙ ap (columns from edges) (sym (filter-append to (part k) (flat_map part ks)))
 

@@ -4,6 +4,8 @@ use Rattle.std.proofs.lemmas.Bool.{ne_eqb}
 use Rattle.std.proofs.lemmas.Bool.Decides.{nat_tests}
 use Rattle.std.proofs.lemmas.List.{append-nil}
 use Rattle.std.specs.List.{filter}
+use Rattle.std.specs.Map.{keys_of}
+use Rattle.edge_lists.specs.Edge.{Edge}
 use Rattle.apply_options.specs.declared.reduction.Reduction.{Reduction}
 use Rattle.kernels.specs.EdgeApply.{is_member}
 use Rattle.vectors.specs.declared.changes.EntryChange.{EntryChange}
@@ -63,15 +65,15 @@ told_rising old new low high (u ∷ us) up quiet outside =
     later_none u v us other a = ap (λ (b : Bool). b || is_member v us) (ne_eqb u v (λ e. omega (arith, e, a))) ∙ other
 
 -- a vertex that is none of the graph has no source, and one that does not pass stays
-no_sources : (g : Digraph) (v : ℕ) (ss : List ℕ) → IsDigraph g → ss ≡ sources_of v g.edges → g.vertices ≤ v → ss ≡ []
+no_sources : (g : Digraph) (v : ℕ) (ss : List (ℕ × ℤ)) → IsDigraph g → ss ≡ sources_of v g.edges → g.vertices ≤ v → ss ≡ []
 no_sources g v [] is same past = refl
 no_sources g v (s ∷ ss) is same past =
     let some : 0 < length (sources_of v g.edges) = let long = ap length same in omega (arith, long) in
     let within = destination_within g.vertices v g.edges is.within some in
     absurd (omega (arith, within, past))
 
-stays : (r : Reduction) (number : ℕ → ℤ) (old : ℕ → ℤ) (from : ℕ → Bool) (es : List (ℕ × ℕ)) (v : ℕ) → sources_of v es ≡ [] → pulled r number old from es v ≡ old v
-stays r number old from es v none = ap (λ (ss : List ℕ). reduced_with r number (old v) (filter from ss)) none
+stays : (r : Reduction) (number : ℕ → ℤ) (old : ℕ → ℤ) (from : ℕ → Bool) (es : List Edge) (v : ℕ) → sources_of v es ≡ [] → pulled r number old from es v ≡ old v
+stays r number old from es v none = ap (λ (ss : List (ℕ × ℤ)). reduced_with r number (old v) (filter from (keys_of ss))) none
 
 member_told : (old new : ℕ → ℤ) (to : ℕ → Bool) (us : List ℕ) → ((v : ℕ) → is_member v us ≡ true → to v ≡ true) → changes_at old new us ≡ changes_at old (λ v. cond (to v) (new v) (old v)) us
 member_told old new to [] all = refl
@@ -97,7 +99,7 @@ members_told g r number lane old from to us found is up members same told =
     ∙ told_rising lane (new lane) 0 g.vertices us up (λ v other a b. ap (λ (c : Bool). cond c (pulled r number lane from g.edges v) (lane v)) (members v ∙ other))
     (λ v past. either_stays (to v) (pulled r number lane from g.edges v) (lane v) (stays r number lane from g.edges v (no_sources g v (sources_of v g.edges) is refl past)))
     ∙ ap (λ n. changed_from lane (new lane) 0 n) whole
-    ∙ changed_agree lane old (new lane) (new old) same 0 g.vertices (λ v b. ap (λ (z : ℤ). cond (to v) (reduced_with r number z (filter from (sources_of v g.edges))) z) (same v))
+    ∙ changed_agree lane old (new lane) (new old) same 0 g.vertices (λ v b. ap (λ (z : ℤ). cond (to v) (reduced_with r number z (filter from (keys_of (sources_of v g.edges)))) z) (same v))
   where
     either_stays : (b : Bool) (x y : ℤ) → x ≡ y → cond b x y ≡ y
     either_stays true x y e = e

@@ -1,6 +1,7 @@
 -- What the pieces of an apply answer.
 use Rattle.std.specs.Prelude.{◌≡◌, ℕ, ◌-◌, Bool, Option, Some, None, List}
 use Rattle.std.specs.List.{filter}
+use Rattle.edge_lists.specs.Edge.{Edge}
 use Rattle.kernels.specs.StepTree.{StepsTree}
 use Rattle.kernels.specs.State.{StateValue}
 use Rattle.kernels.specs.Cells.{HasSizes}
@@ -16,7 +17,7 @@ use Rattle.pull_engine.specs.Columns.{columns}
 use Rattle.pull_engine.specs.Ranges.{AreChangesFrom, all_listed, shape_vector}
 
 -- the edges of an apply into the vertices of a piece, where these tests are those of its ends
-abbrev pub edges_into_piece : PullWork → (from to : ℕ → Bool) → (piece : ℕ) → List (ℕ × ℕ)
+abbrev pub edges_into_piece : PullWork → (from to : ℕ → Bool) → (piece : ℕ) → List Edge
 edges_into_piece w from to k = columns from w.apply.flat.now.edges (filter to (piece_of w.cuts w.vertices.items k))
 
 -- a piece of an apply by any functions answers what its edges give

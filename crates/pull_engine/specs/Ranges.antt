@@ -1,6 +1,7 @@
 -- What a pull tells of a range of destinations.
 use Rattle.std.specs.Prelude.{◌≡◌, ℕ, ℤ, Bool, if◌then◌else◌, Option, Some, None, List, [], ◌∷◌, ◌++◌}
 use Rattle.std.specs.List.{filter}
+use Rattle.std.specs.Map.{keys_of}
 use Rattle.apply_options.specs.declared.reduction.Reduction.{Reduction}
 use Rattle.kernels.specs.StepTree.{StepsTree}
 use Rattle.kernels.specs.State.{StateValue}
@@ -11,7 +12,7 @@ use Rattle.kernels.specs.declared.kernel.EdgeKernel.{EdgeKernel}
 use Rattle.kernels.specs.declared.shape.Shape.{Shape}
 use Rattle.kernels.specs.declared.shape.Shape.TheVariants as shape
 use Rattle.std.specs.Borrow.{Bor}
-use Rattle.edge_lists.specs.Edge.{unit_edge}
+use Rattle.edge_lists.specs.Edge.{Edge}
 use Rattle.flat_snapshot.specs.Neighbours.{sources_of}
 use Rattle.vectors.specs.declared.changes.EntryChange.{EntryChange}
 use Rattle.edge_fold.specs.declared.gathered.GatheredIn.{GatheredIn}
@@ -26,11 +27,11 @@ changes_at old new [] = []
 changes_at old new (v ∷ vs) = change_at old new v ++ changes_at old new vs
 
 -- the entry at a vertex, reduced with the numbers of those of its sources that pass
-abbrev pub pulled : Reduction → (number : ℕ → ℤ) → (old : ℕ → ℤ) → (from : ℕ → Bool) → List (ℕ × ℕ) → ℕ → ℤ
-pulled r number old from es v = reduced_with r number (old v) (filter from (sources_of v es))
+abbrev pub pulled : Reduction → (number : ℕ → ℤ) → (old : ℕ → ℤ) → (from : ℕ → Bool) → List Edge → ℕ → ℤ
+pulled r number old from es v = reduced_with r number (old v) (filter from (keys_of (sources_of v es)))
 
 -- the same where the vertex passes, and else the entry
-abbrev pub pulled_to : Reduction → (number : ℕ → ℤ) → (old : ℕ → ℤ) → (from to : ℕ → Bool) → List (ℕ × ℕ) → ℕ → ℤ
+abbrev pub pulled_to : Reduction → (number : ℕ → ℤ) → (old : ℕ → ℤ) → (from to : ℕ → Bool) → List Edge → ℕ → ℤ
 pulled_to r number old from to es v = if to v then pulled r number old from es v else old v
 
 -- the place of the vector to which a function of a shape gives
@@ -44,14 +45,14 @@ shape_vector (shape.Constant x r n) = Some x
 -- what the functions give on every edge is what one of this shape gives
 abbrev pub IsShapeOfApply : Shape → EdgeKernel → Option (Bor EdgeKernel) → Type 0
 IsShapeOfApply t first second = (m : StateValue) (sizes : List ℤ) (steps : List StepsTree) → HasSizes sizes m → AreKernels first second steps
-    → (edge : ℕ × ℕ) → HasShape t m (unit_edge edge) (all_given m steps edge)
+    → (edge : Edge) → HasShape t m edge (all_given m steps edge)
 
 -- the entry at a vertex after an apply to these edges
-abbrev pub entry_after : StateValue → List StepsTree → (x : ℕ) → Reduction → List (ℕ × ℕ) → ℕ → ℤ
+abbrev pub entry_after : StateValue → List StepsTree → (x : ℕ) → Reduction → List Edge → ℕ → ℤ
 entry_after m steps x r es v = reduced_at r v (entry m.vectors x v) (given_on x (all_given m steps) es)
 
 -- the changes of a vector are those of an apply to these edges, at so many vertices from one on
-abbrev pub AreChangesFrom : (vector low count : ℕ) → (edges : List (ℕ × ℕ)) → StateValue → List StepsTree → List EntryChange → Type 0
+abbrev pub AreChangesFrom : (vector low count : ℕ) → (edges : List Edge) → StateValue → List StepsTree → List EntryChange → Type 0
 AreChangesFrom x low count es m steps cs = (r : Reduction) → IsReducedBy r x m steps → cs ≡ changed_from (entry m.vectors x) (entry_after m steps x r es) low count
 
 -- all that is listed, one vector after the other

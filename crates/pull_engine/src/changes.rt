@@ -11,7 +11,7 @@ ghost use Rattle.edge_fold.specs.Folded.{IsContextOf};
 ghost use Rattle.edge_apply.specs.Applied.{AreChangesOf, AreChangesOn};
 ghost use Rattle.edge_apply.specs.Words.{passes_words};
 
-use crate::destinations::fold_to;
+use crate::destinations::{ColumnInput, fold_to};
 use crate::ranges::PullRange;
 use crate::shapes::{apply_shape, pull_shape, shape_target};
 use edge_apply::{Apply, passing_set};
@@ -118,7 +118,12 @@ fn pull_folded(
         → AreChangesOn flat.now.vertices (edges_between (passes_words from.entry) test flat.now.edges) m steps c.vectors.items) }
 {
     scratch.begin();
-    fold_to(alloc, flat, context, from, to, scratch)?;
+    let input = ColumnInput {
+        flat,
+        context,
+        from,
+    };
+    fold_to(alloc, input, to, scratch)?;
     let changes = scratch.changes(alloc, context, None)?;
     Ok(changes)
 }

@@ -1,11 +1,12 @@
 //! The first and the last of a vertex's sources that pass.
 ghost use Rattle.std.specs.Prelude.{◌≡◌, ℕ, ℤ, pos, Bool, List, length};
 ghost use Rattle.std.specs.List.{filter};
+ghost use Rattle.std.specs.Map.{keys_of};
+ghost use Rattle.ascending_lists.specs.Ascending.{AscendsFrom};
 ghost use Rattle.apply_options.specs.declared.reduction.Reduction.{Reduction};
 ghost use Rattle.apply_options.specs.declared.reduction.Reduction.TheVariants.{Min, Max};
 ghost use Rattle.edge_apply.specs.Words.{passes_words};
 ghost use Rattle.edge_fold.specs.ReducedContributions.{reduced_with};
-ghost use Rattle.vertex_blocks.specs.Lists.{AscendsFrom};
 ghost use Rattle.pull_engine.specs.EarlySources.{CountsOnce, first_of, last_of, reduced_once};
 
 use edge_apply::{keep_members, passes};
@@ -26,7 +27,7 @@ pub fn one_source_decides()
 /// The first source whose bit is set. Sources that are packed are read one by one, so what stands after it is not.
 #[inline]
 pub(crate) fn first_passing(sources: NeighbourSet<'_>, from: Option<&[u64]>) -> Option<u32>
-    ensures { result ≡ first_of (filter (passes_words from.entry) sources.entry) }
+    ensures { result ≡ first_of (filter (passes_words from.entry) (keys_of sources.entry)) }
 {
     match sources.into_form() {
         NeighbourForm::Packed(list) => first_packed(list, from),
@@ -43,7 +44,7 @@ pub(crate) fn last_passing(
 ) -> Option<u32>
     requires { length block.old ≡ 128 }
     ensures room { length block.new ≡ 128 }
-    ensures last { result ≡ last_of (filter (passes_words from.entry) sources.entry) }
+    ensures last { result ≡ last_of (filter (passes_words from.entry) (keys_of sources.entry)) }
 {
     match sources.into_form() {
         NeighbourForm::Packed(list) => last_packed(list, from),
@@ -53,11 +54,11 @@ pub(crate) fn last_passing(
 
 #[inline]
 fn first_packed(sources: Neighbours<'_>, from: Option<&[u64]>) -> Option<u32>
-    ensures { result ≡ first_of (filter (passes_words from.entry) sources.entry) }
+    ensures { result ≡ first_of (filter (passes_words from.entry) (keys_of sources.entry)) }
 {
     let mut place = 0usize;
     'up: while place < sources.len() {
-        let source = sources.get(place);
+        let source = sources.neighbour(place);
         if passes(from, source) {
             return Some(source);
         }
@@ -68,12 +69,12 @@ fn first_packed(sources: Neighbours<'_>, from: Option<&[u64]>) -> Option<u32>
 
 #[inline]
 fn last_packed(sources: Neighbours<'_>, from: Option<&[u64]>) -> Option<u32>
-    ensures { result ≡ last_of (filter (passes_words from.entry) sources.entry) }
+    ensures { result ≡ last_of (filter (passes_words from.entry) (keys_of sources.entry)) }
 {
     let mut end = sources.len();
     'down: while end > 0 {
         end -= 1;
-        let source = sources.get(end);
+        let source = sources.neighbour(end);
         if passes(from, source) {
             return Some(source);
         }
@@ -82,9 +83,9 @@ fn last_packed(sources: Neighbours<'_>, from: Option<&[u64]>) -> Option<u32>
 }
 
 fn first_chunked(mut sources: SetWalk<'_>, from: Option<&[u64]>) -> Option<u32>
-    ensures { result ≡ first_of (filter (passes_words from.entry) sources.entry) }
+    ensures { result ≡ first_of (filter (passes_words from.entry) (keys_of sources.entry)) }
 {
-    'up: while let Some(source) = sources.next() {
+    'up: while let Some((source, _)) = sources.next() {
         if passes(from, source) {
             return Some(source);
         }
@@ -96,7 +97,7 @@ fn first_chunked(mut sources: SetWalk<'_>, from: Option<&[u64]>) -> Option<u32>
 fn last_chunked(mut sources: SetWalk<'_>, from: Option<&[u64]>, block: &mut [u32]) -> Option<u32>
     requires { length block.old ≡ 128 }
     ensures room { length block.new ≡ 128 }
-    ensures last { result ≡ last_of (filter (passes_words from.entry) sources.entry) }
+    ensures last { result ≡ last_of (filter (passes_words from.entry) (keys_of sources.entry)) }
 {
     let mut last = None;
     'rounds: while sources.len() > 0 {

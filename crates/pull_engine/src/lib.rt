@@ -8,8 +8,10 @@
 //! kept so, or bits that are made once for an apply. A filter is run over blocks of 128 vertices, once for each vertex; one
 //! that compares entries with a constant is tested as destinations come, where the function has one of the shapes below.
 //! Sources are read in blocks of 128, and what passes goes to `edge_fold`, where each destination has one writer.
+//! Where a function reads the weights of edges, a second block has those of the sources; that is asked once for a destination,
+//! and by other functions no weight is read.
 //!
-//! One function that gives a vector by its sources alone, in one of the shapes of `kernels`, needs no scratch: a pull of
+//! One function that gives a vector by its sources alone, whatever the weights, in one of the shapes of `kernels`, needs no scratch: a pull of
 //! a range of destinations is one loop that is made for the function. The entry of a destination is reduced with the
 //! numbers of its sources, and where that is another number, a change is added to an ascending list. Where one source
 //! decides ([`one_source_decides`]), the walk over the sources ends there: downward for the greatest source, upward for

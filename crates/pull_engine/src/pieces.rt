@@ -10,7 +10,7 @@ ghost use Rattle.pull_engine.specs.Pieces.{Answers, GathersPiece, IsPiecePulled}
 ghost use Rattle.pull_engine.specs.Ranges.{all_listed, shape_vector as vector_of};
 
 use crate::changes::changes_in;
-use crate::destinations::fold_part;
+use crate::destinations::{ColumnInput, fold_part};
 use crate::listed::words_of;
 use crate::ranges::PullRange;
 use crate::shapes::{ShapeTarget, pull_shape, shape_target};
@@ -86,16 +86,13 @@ impl PullWork<'_> {
         let places = self.cuts.piece(piece);
         let part = part_between(&self.vertices, places.start, places.end);
         let words = words_of(&self.bits);
-        scratch.begin();
-        fold_part(
-            alloc,
-            self.apply.flat,
+        let input = ColumnInput {
+            flat: self.apply.flat,
             context,
-            words,
-            self.apply.to,
-            part,
-            scratch,
-        )?;
+            from: words,
+        };
+        scratch.begin();
+        fold_part(alloc, input, self.apply.to, part, scratch)?;
         let gathered = scratch.gathered(alloc, context, None)?;
         Ok(gathered)
     }

@@ -1,6 +1,7 @@
 //! What the sources of a vertex give its entry, by one function.
 ghost use Rattle.std.specs.Prelude.{◌≡◌, ℕ, ℤ, pos, length};
 ghost use Rattle.std.specs.List.{filter};
+ghost use Rattle.std.specs.Map.{keys_of};
 ghost use Rattle.apply_options.specs.declared.reduction.Reduction.{Reduction as Reducing};
 ghost use Rattle.apply_options.specs.declared.reduction.Reduction.TheVariants.{Min, Max};
 ghost use Rattle.edge_apply.specs.Words.{passes_words};
@@ -30,7 +31,7 @@ pub(crate) trait SourceFold {
     ) -> i64
         requires { length block.old ≡ 128 }
         ensures room { length block.new ≡ 128 }
-        ensures number { result ≡ reduced_with (reduction self.now) (number self.now) old (filter (passes_words from.entry) sources.entry) };
+        ensures number { result ≡ reduced_with (reduction self.now) (number self.now) old (filter (passes_words from.entry) (keys_of sources.entry)) };
 }
 
 /// The greatest source: the walk goes downward, and ends at the first that passes.
@@ -172,7 +173,7 @@ fn fold_walk<N: SourceNumbers, W: NeighbourWalk + Drop>(
 ) -> i64
     requires { length block.old ≡ 128 }
     ensures room { length block.new ≡ 128 }
-    ensures number { result ≡ reduced_with reduction (N.number numbers.now) old (filter (passes_words from.entry) (W.coming sources)) }
+    ensures number { result ≡ reduced_with reduction (N.number numbers.now) old (filter (passes_words from.entry) (keys_of (W.coming sources))) }
 {
     let mut number = old;
     'rounds: while sources.len() > 0 {

@@ -1,6 +1,5 @@
 use Rattle.std.proofs.Common.{◌≡◌, ◌-◌, ℕ, List, IfSome, Option, subst, arith}
 use Rattle.std.proofs.lemmas.Result.{IfOk-weaker}
-use Rattle.edge_lists.specs.Edge.{unit_edge}
 use Rattle.edge_apply.specs.Words.{passes_words}
 use Rattle.edge_fold.specs.Between.{edges_between}
 use Rattle.edge_fold.specs.Given.{all_given}
@@ -23,6 +22,6 @@ returns-clause-changes c =
     let changed = subst (λ (o : Option ℕ). IfSome o (λ v. IsRangeChanged range v found.items)) c.in-Some.ensures.some c.in_ok-changes.ensures in
     let all : c.vertices.result - 0 ≡ a.flat.now.vertices = omega (arith, count) in
     whole_changes y a.flat.now.vertices (edges_between (passes_words a.from) test edges) m steps found.items cs.vectors.items told
-    (λ e. shape_gives_only c.apply_shape-shape.result y m (unit_edge e) (all_given m steps e) c.in-Some.ensures.some (c.apply_shape-shape.ensures m a.context.sizes.now steps are.sizes are.kernels e))
+    (λ e. shape_gives_only c.apply_shape-shape.result y m e (all_given m steps e) c.in-Some.ensures.some (c.apply_shape-shape.ensures m a.context.sizes.now steps are.sizes are.kernels e))
     (subst (λ (n : ℕ). AreChangesFrom y 0 n (edges_between (passes_words a.from) test edges) m steps found.items) all (changed m steps test are is)))
     c.changes_in.ensures.changes

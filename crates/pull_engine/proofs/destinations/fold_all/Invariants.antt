@@ -11,6 +11,7 @@ use Rattle.pull_engine.proofs.destinations.fold_all.Given as goal
 abbrev pub invariant-destinations : goal.invariant-destinations
 invariant-destinations l = record {
   room : length l.block ≡ 128;
-  walked : (ds : List (ℕ × ℕ)) × AreDegreesOf (λ u. sources_of u l.flat.edges) ds
-      × HasWalked l.context (columns (passes_words l.from) l.flat.edges) (firsts ds) (firsts l.destination-iterator) l.fn.scratch l.scratch;
+  weights : length l.weights ≡ 128;
+  walked : (ds : List (ℕ × ℕ)) × AreDegreesOf (λ u. sources_of u l.input.flat.now.edges) ds
+      × HasWalked l.input.context (columns (passes_words l.input.from) l.input.flat.now.edges) (firsts ds) (firsts l.destination-iterator) l.fn.scratch l.scratch;
 }

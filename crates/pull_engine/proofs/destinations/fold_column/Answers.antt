@@ -1,25 +1,21 @@
-use Rattle.std.proofs.Common.{◌++◌, ℕ, List, OnOk, sym, ap, ◌∙◌, subst}
-use Rattle.std.specs.List.{filter}
+use Rattle.std.proofs.Common.{◌++◌, ℕ, ℤ, List, OnOk, ◌∙◌, subst}
+use Rattle.edge_lists.specs.Edge.{Edge}
 use Rattle.kernels.specs.StepTree.{StepsTree}
 use Rattle.kernels.specs.State.{StateValue}
-use Rattle.edge_fold.specs.declared.scratch.Scratch.{Scratch}
 use Rattle.edge_fold.specs.Folded.{IsContextOf, HasFolded}
 use Rattle.edge_fold.specs.Given.{column}
-use Rattle.vertex_blocks.specs.declared.neighbour_set.NeighbourForm.{NeighbourForm}
-use Rattle.vertex_blocks.specs.Forms.{listed}
 use Rattle.edge_apply.specs.Words.{passes_words}
+use Rattle.pull_engine.specs.Columns.{passing}
 use Rattle.pull_engine.proofs.destinations.fold_column.Goals as goal
 
-pub returns-in-Packed : goal.returns-in-Packed
-returns-in-Packed c =
+pub returns-then-input : goal.returns-then-input
+returns-then-input c =
     let a = c.args in
-    let same = c.ascending.ensures ∙ ap listed (sym c.in-Packed.is) ∙ c.into_form.ensures ∙ c.in_set.ensures in
-    subst (λ (us : List ℕ). OnOk c.fold_walk.result ((m : StateValue) → (steps : List StepsTree) → (edges : List (ℕ × ℕ)) → IsContextOf a.context m steps → HasFolded a.context m steps edges a.scratch.now
-    → HasFolded a.context m steps (edges ++ column a.destination (filter (passes_words a.from) us)) c.fold_walk.new.scratch)) same c.fold_walk.ensures
+    subst (λ (us : List (ℕ × ℤ)). OnOk c.fold_weighted_sources.result ((m : StateValue) → (steps : List StepsTree) → (edges : List Edge) → IsContextOf a.input.context m steps → HasFolded a.input.context m steps edges a.scratch.now
+    → HasFolded a.input.context m steps (edges ++ column a.destination (passing (passes_words a.input.from) us)) c.fold_weighted_sources.new.scratch)) (c.into_form-sources.ensures ∙ c.in_set.ensures) c.fold_weighted_sources.ensures
 
-pub returns-in-Chunked : goal.returns-in-Chunked
-returns-in-Chunked c =
+pub returns : goal.returns
+returns c =
     let a = c.args in
-    let same = c.new.ensures ∙ ap listed (sym c.in-Chunked.is) ∙ c.into_form.ensures ∙ c.in_set.ensures in
-    subst (λ (us : List ℕ). OnOk c.fold_walk-in-Chunked.result ((m : StateValue) → (steps : List StepsTree) → (edges : List (ℕ × ℕ)) → IsContextOf a.context m steps → HasFolded a.context m steps edges a.scratch.now
-    → HasFolded a.context m steps (edges ++ column a.destination (filter (passes_words a.from) us)) c.fold_walk-in-Chunked.new.scratch)) same c.fold_walk-in-Chunked.ensures
+    subst (λ (us : List (ℕ × ℤ)). OnOk c.fold_sources.result ((m : StateValue) → (steps : List StepsTree) → (edges : List Edge) → IsContextOf a.input.context m steps → HasFolded a.input.context m steps edges a.scratch.now
+    → HasFolded a.input.context m steps (edges ++ column a.destination (passing (passes_words a.input.from) us)) c.fold_sources.new.scratch)) (c.into_form-sources.ensures ∙ c.in_set.ensures) c.fold_sources.ensures

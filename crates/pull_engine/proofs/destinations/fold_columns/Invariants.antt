@@ -1,4 +1,5 @@
 use Rattle.std.proofs.Common.{◌≡◌, ℕ, ◌++◌, List, length, take}
+use Rattle.edge_lists.specs.Edge.{Edge}
 use Rattle.kernels.specs.StepTree.{StepsTree}
 use Rattle.kernels.specs.State.{StateValue}
 use Rattle.edge_fold.specs.Folded.{IsContextOf, HasFolded}
@@ -10,6 +11,7 @@ use Rattle.pull_engine.proofs.destinations.fold_columns.Given as goal
 abbrev pub invariant-destinations : goal.invariant-destinations
 invariant-destinations l = record {
   room : length l.block ≡ 128;
-  folded : (m : StateValue) (steps : List StepsTree) (edges : List (ℕ × ℕ)) → IsContextOf l.context m steps
-      → HasFolded l.context m steps edges l.fn.scratch → HasFolded l.context m steps (edges ++ columns (passes_words l.from) l.flat.edges (take l.destination-index l.destinations)) l.scratch;
+  weights : length l.weights ≡ 128;
+  folded : (m : StateValue) (steps : List StepsTree) (edges : List Edge) → IsContextOf l.input.context m steps
+      → HasFolded l.input.context m steps edges l.fn.scratch → HasFolded l.input.context m steps (edges ++ columns (passes_words l.input.from) l.input.flat.now.edges (take l.destination-index l.destinations)) l.scratch;
 }

@@ -8,5 +8,6 @@ use Rattle.pull_engine.proofs.destinations.fold_members.Given as goal
 abbrev pub invariant-destinations : goal.invariant-destinations
 invariant-destinations l = record {
   room : length l.block ≡ 128;
-  walked : HasWalked l.context (columns (passes_words l.from) l.flat.edges) l.set.members l.destination-iterator l.fn.scratch l.scratch;
+  weights : length l.weights ≡ 128;
+  walked : HasWalked l.input.context (columns (passes_words l.input.from) l.input.flat.now.edges) l.set.members l.destination-iterator l.fn.scratch l.scratch;
 }

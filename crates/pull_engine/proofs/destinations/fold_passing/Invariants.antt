@@ -11,8 +11,9 @@ use Rattle.pull_engine.proofs.destinations.fold_passing.Given as goal
 abbrev pub invariant-parts : goal.invariant-parts
 invariant-parts l = record {
   room : length l.block ≡ 128;
-  walked : (ds : List (ℕ × ℕ)) × AreDegreesOf (λ u. sources_of u l.flat.edges) ds
-      × HasPassed l.to l.context (columns (passes_words l.from) l.flat.edges) (firsts ds) (firsts l.destinations) l.fn.scratch l.scratch;
+  weights : length l.weights ≡ 128;
+  walked : (ds : List (ℕ × ℕ)) × AreDegreesOf (λ u. sources_of u l.input.flat.now.edges) ds
+      × HasPassed l.to l.input.context (columns (passes_words l.input.from) l.input.flat.now.edges) (firsts ds) (firsts l.destinations) l.fn.scratch l.scratch;
 }
 
 abbrev pub decreases-parts : goal.decreases-parts

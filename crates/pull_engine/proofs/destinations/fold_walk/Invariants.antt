@@ -8,7 +8,7 @@ use Rattle.pull_engine.proofs.destinations.fold_walk.Given as goal
 abbrev pub invariant-rounds : goal.invariant-rounds
 invariant-rounds g l = record {
   room : length l.block ≡ 128;
-  walked : HasWalked l.context (column_from (passes_words l.from) l.destination) (g.W.NeighbourWalk.coming l.fn.walk) (g.W.NeighbourWalk.coming l.walk) l.fn.scratch l.scratch;
+  walked : HasWalked l.input.context (column_from (passes_words l.input.from) l.destination) (g.W.NeighbourWalk.coming l.fn.walk) (g.W.NeighbourWalk.coming l.walk) l.fn.scratch l.scratch;
 }
 
 abbrev pub decreases-rounds : goal.decreases-rounds

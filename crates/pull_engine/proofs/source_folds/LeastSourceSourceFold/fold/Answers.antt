@@ -1,5 +1,6 @@
 use Rattle.std.proofs.Common.{rules, ◌≡◌, ℕ, ℤ, pos, FitsSigned, to_z, of_z, w64, ap, sym, ◌∙◌}
 use Rattle.std.specs.List.{filter}
+use Rattle.std.specs.Map.{keys_of}
 use Rattle.std.proofs.lemmas.Int.{to_z-of_z}
 use Rattle.apply_options.specs.declared.reduction.Reduction.TheVariants.{Min}
 use Rattle.edge_apply.specs.Words.{passes_words}
@@ -11,11 +12,12 @@ use Rattle.pull_engine.proofs.source_folds.LeastSourceSourceFold.fold.Goals as g
 pub returns-in-Some-clause-number : goal.returns-in-Some-clause-number
 returns-in-Some-clause-number c =
     let p = passes_words c.args.from in
+    let sources = keys_of c.args.sources in
     let old = c.args.old in
     let fits : FitsSigned w64 c.reduce.result = search rules in
     let old_fits : FitsSigned w64 old = search rules in
     let source_fits : FitsSigned w64 c.from.result = search rules in
-    let decided = least old 0 (filter p c.args.sources) (ascends_filter p 0 c.args.sources c.len.ensures.ascending) in
+    let decided = least old 0 (filter p sources) (ascends_filter p 0 sources c.len.ensures.ascending) in
     to_z-of_z w64 c.reduce.result fits ∙ c.reduce.ensures
     ∙ ap (λ (n : ℤ). reduced Min n (to_z w64 (of_z w64 c.from.result))) (to_z-of_z w64 old old_fits)
     ∙ ap (λ (n : ℤ). reduced Min old n) (to_z-of_z w64 c.from.result source_fits ∙ c.from.ensures)

@@ -1,5 +1,6 @@
 use Rattle.std.proofs.Common.{rules, ◌≡◌, ℕ, ℤ, pos, FitsSigned, to_z, of_z, w64, ap, sym, ◌∙◌}
 use Rattle.std.specs.List.{filter}
+use Rattle.std.specs.Map.{keys_of}
 use Rattle.std.proofs.lemmas.Int.{to_z-of_z}
 use Rattle.edge_apply.specs.Words.{passes_words}
 use Rattle.kernels.specs.Arithmetic.{reduced}
@@ -19,4 +20,4 @@ returns-in-Some-clause-number c =
     ∙ ap (λ (n : ℤ). reduced f.reduction n (to_z w64 (of_z w64 f.number))) (to_z-of_z w64 old old_fits)
     ∙ ap (λ (n : ℤ). reduced f.reduction old n) (to_z-of_z w64 f.number number_fits)
     ∙ ap (λ o. reduced_once f.reduction (λ s. f.number) old o) c.in-Some.ensures
-    ∙ sym (one_number f.reduction f.once f.number old (filter p c.args.sources))
+    ∙ sym (one_number f.reduction f.once f.number old (filter p (keys_of c.args.sources)))

@@ -3,7 +3,6 @@ use Rattle.std.specs.List.{flat_map, range_with_len}
 use Rattle.std.specs.List.Sorted.{IsPermutation}
 use Rattle.std.proofs.lemmas.List.FromFn.{length-range_with_len}
 use Rattle.std.proofs.lemmas.Result.{IfOk-weaker}
-use Rattle.edge_lists.specs.Edge.{unit_edge}
 use Rattle.crew.specs.Partition.{AreEnds}
 use Rattle.crew.specs.Pieces.{pieces_of}
 use Rattle.kernels.specs.Value.{entry}
@@ -31,7 +30,7 @@ returns-in_ok-changes-in-Some-clause-changes c =
     (λ cs told answers order m steps from to vectors sizes kernels is_from is_to.
     let es = edges_between from to w.apply.flat.now.edges in
     whole_changes y n es m steps c.in_ok-changes-in-Some.changes.items cs.vectors.items told
-    (λ e. shape_gives_only w.shape y m (unit_edge e) (all_given m steps e) at (w.shaped m w.apply.sizes.now steps sizes kernels e))
+    (λ e. shape_gives_only w.shape y m e (all_given m steps e) at (w.shaped m w.apply.sizes.now steps sizes kernels e))
     (λ r by.
     let old = entry m.vectors y in
     let new = entry_after m steps y r es in

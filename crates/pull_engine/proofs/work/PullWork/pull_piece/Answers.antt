@@ -1,6 +1,7 @@
 use Rattle.std.proofs.Common.{rules, ◌≡◌, ◌-◌, ◌^◌, ◌<◌, ◌≤◌, ℕ, List, length, sym, ap, ◌∙◌, subst, arith}
 use Rattle.std.proofs.lemmas.List.FromFn.{length-range_with_len}
 use Rattle.std.proofs.lemmas.Result.{IfOk-weaker}
+use Rattle.edge_lists.specs.Edge.{Edge}
 use Rattle.crew.specs.Partition.{end_of}
 use Rattle.edge_apply.proofs.Filtered.{between_agree}
 use Rattle.edge_fold.specs.Between.{edges_between}
@@ -9,7 +10,6 @@ use Rattle.edge_apply.proofs.Listed.{piece_inside}
 use Rattle.edge_apply.specs.Words.{passes_words}
 use Rattle.pull_engine.specs.Ranges.{AreChangesFrom, IsShapeOfApply, shape_vector}
 use Rattle.edge_fold.specs.declared.apply_context.ApplyContext.{ApplyContext}
-use Rattle.edge_fold.specs.Folded.{IsContextOf}
 use Rattle.pull_engine.proofs.Shaped.{some_weaker}
 use Rattle.pull_engine.proofs.work.PullWork.pull_piece.Goals as goal
 
@@ -63,7 +63,7 @@ returns c =
     let same = between_agree w.apply.flat.now passes from to c.context-context.ensures.graph (λ v l. c.words_of-from.ensures v ∙ w.sources m from vectors sizes is_from v l) in
     subst (λ (e : ℕ). AreChangesFrom x (end_of w.cuts (k - 1)) (e - end_of w.cuts (k - 1)) es m steps cs.items) end
     (subst (λ (s : ℕ). AreChangesFrom x s (places.end - s) es m steps cs.items) start
-    (subst (λ (fs : List (ℕ × ℕ)). AreChangesFrom x places.start (places.end - places.start) fs m steps cs.items) same
-    (changed m steps to (subst (λ (f : ApplyContext). IsContextOf f m steps) (sym c.context-context.ensures.context) (record { vectors = vectors; sizes = sizes; kernels = kernels })) is_to))))
+    (subst (λ (fs : List Edge). AreChangesFrom x places.start (places.end - places.start) fs m steps cs.items) same
+    (changed m steps to (c.context-context.ensures.reads m steps (record { vectors = vectors; sizes = sizes; kernels = kernels })) is_to))))
     is)
     c.pull_shape.ensures
