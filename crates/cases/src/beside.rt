@@ -88,7 +88,10 @@ fn add_on_graph(
 fn graph_of(alloc: Global, vertices: u32, edges: &[(u32, u32, i64)]) -> io::Result<Flat> {
     let mut batch = Batch::new(alloc);
     for (source, destination, weight) in edges {
-        if batch.push(Entry::Add(*source, *destination, *weight)).is_err() {
+        if batch
+            .push(Entry::Add(*source, *destination, *weight))
+            .is_err()
+        {
             return Err(io::Error::from(ErrorKind::OutOfMemory));
         }
     }

@@ -164,7 +164,9 @@ fn graph_from(alloc: Global, members: &VertexSet, random: &mut Random) -> io::Re
 fn add_edges(batch: &mut Batch, source: u32, vertices: u32, random: &mut Random) -> io::Result<()> {
     for _ in 0..DEGREE {
         let destination = random.below(u64::from(vertices).max(1)) as u32;
-        batch.push(Entry::Add(source, destination, 1)).map_err(told)?;
+        batch
+            .push(Entry::Add(source, destination, 1))
+            .map_err(told)?;
     }
     Ok(())
 }

@@ -4,9 +4,7 @@ use crate::samples::Sample;
 use algorithm_meaning::Outcome;
 use measuring::{Benchmark, Random, Turns, print_head, print_rows, rmat_graph};
 use plain_run::plain_run;
-use run_comparison::{
-    PROGRAMS, SEARCHES_AND_LABELS, Scheduled, TestedProgram, shows_the_same,
-};
+use run_comparison::{PROGRAMS, SEARCHES_AND_LABELS, Scheduled, TestedProgram, shows_the_same};
 use runner::run_alone;
 use std::alloc::{AllocError, Global};
 use std::io;

@@ -37,7 +37,11 @@ fn leave<R: Threads + AllocGlobal + Sync>(
     Ok(after.edges().eq(edges.iter().copied()))
 }
 
-const AGAIN: [Entry; 3] = [Entry::Add(0, 1, 1), Entry::Remove(0, 1), Entry::Add(0, 1, -3)];
+const AGAIN: [Entry; 3] = [
+    Entry::Add(0, 1, 1),
+    Entry::Remove(0, 1),
+    Entry::Add(0, 1, -3),
+];
 
 #[test]
 fn has_the_same_edges_at_any_forks(rt: HostRuntime) -> Result<(), Fail> {

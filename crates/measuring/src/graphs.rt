@@ -40,7 +40,9 @@ pub fn rmat_graph(alloc: Global, vertices: u32, edges: u32) -> io::Result<Graph>
         let mut batch = Batch::new(alloc);
         for _ in 0..left.min(BATCH as usize) {
             let (source, destination) = rmat_edge(&mut random, scale);
-            batch.push(Entry::Add(source, destination, 1)).map_err(told)?;
+            batch
+                .push(Entry::Add(source, destination, 1))
+                .map_err(told)?;
         }
         graph = graph.apply(alloc, &batch).map_err(told)?;
     }
@@ -97,7 +99,10 @@ pub fn random_weighted_batch(
     for _ in 0..count {
         let (from, to) = (random.below(bound), random.below(bound));
         let weight = random_weight(random);
-        if batch.push(Entry::Add(from as u32, to as u32, weight)).is_err() {
+        if batch
+            .push(Entry::Add(from as u32, to as u32, weight))
+            .is_err()
+        {
             return Err(AllocError);
         }
     }

@@ -1,9 +1,9 @@
 //! Races whose runs are compared with the slow run.
 
 use crate::batches::{COMMITS, RandomBatches, VERTICES};
+use plain_run::plain_run;
 use plans::Plan;
 use races::{Race, RaceError, RaceScript, VersionRun, race};
-use plain_run::plain_run;
 use run_comparison::{PROGRAMS, Scheduled, TestedProgram, are_the_same};
 use std::alloc::{AllocError, Global};
 use std::io::{self, Error};
