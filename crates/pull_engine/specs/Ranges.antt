@@ -34,13 +34,14 @@ pulled r number old from es v = reduced_with r number (old v) (filter from (keys
 abbrev pub pulled_to : Reduction → (number : ℕ → ℤ) → (old : ℕ → ℤ) → (from to : ℕ → Bool) → List Edge → ℕ → ℤ
 pulled_to r number old from to es v = if to v then pulled r number old from es v else old v
 
--- the place of the vector to which a function of a shape gives
+-- the place of the vector to which a function of a shape gives by the sources alone
 abbrev pub shape_vector : Shape → Option ℕ
 shape_vector shape.Other = None
 shape_vector (shape.Source x r) = Some x
 shape_vector (shape.Entry x r y) = Some x
 shape_vector (shape.EntryPlus x r y n) = Some x
 shape_vector (shape.Constant x r n) = Some x
+shape_vector (shape.EntryWith x r y o) = None
 
 -- what the functions give on every edge is what one of this shape gives
 abbrev pub IsShapeOfApply : Shape → EdgeKernel → Option (Bor EdgeKernel) → Type 0
