@@ -19,7 +19,7 @@ use Rattle.edge_apply.specs.declared.apply.Apply.{Apply}
 use Rattle.vectors.specs.declared.changes.VectorChanges.{VectorChanges}
 use Rattle.plans.specs.Reducing.{AreReduced, places_of, steps_at}
 use Rattle.run_state.specs.declared.run_view.RunView.{RunView}
-use Rattle.runner.specs.EdgeMap.{AreChangesTo, AreChangesOfApply, IsApplyOf}
+use Rattle.runner.specs.EdgeMap.{AreChangesTo, AreChangesOfApply, IsApplyOfRun}
 use Rattle.runner.specs.declared.edge_maps.EdgeMap.{EdgeMap}
 use Rattle.run_state.specs.View.{HasEntryForEach}
 use Rattle.runner.proofs.Between.{count_after_edges, entry_past, matching_between, rows_after_edges}
@@ -65,7 +65,7 @@ changes_are_meant d p m g ends places cs graph count edges long one apart are =
     (subst₂ (λ (n : ℕ) (es : List Edge). AreChangesAlong n es m steps cs) count looked_at are)
 
 -- what an engine says of an apply is what a plan's edge apply asks
-pub apply_is_meant : (run : RunView) (asked : EdgeMap) (apply : Apply) (cs : List VectorChanges) → IsDigraph run.graph.now → IsApplyOf run asked apply
+pub apply_is_meant : (run : RunView) (asked : EdgeMap) (apply : Apply) (cs : List VectorChanges) → IsDigraph run.graph.now → IsApplyOfRun run asked apply
     → AreApart cs → AreChangesOf apply cs → AreChangesOfApply run asked cs
 apply_is_meant run asked apply cs graph is once changes p m g view long one =
     let places = places_of asked.first asked.second in

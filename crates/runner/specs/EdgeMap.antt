@@ -36,7 +36,7 @@ HasFunctionsAndEnds run asked apply = (p : ProgramTree) (m : StateValue) → Are
     × IsEndTest apply.from m (passes p.filters m asked.ends.from) × IsEndTest apply.to m (passes p.filters m asked.ends.to)
 
 -- an apply of the engines is an edge apply of a run
-pub record IsApplyOf (run : RunView) (asked : EdgeMap) (apply : Apply) : Type 0 where
+pub record IsApplyOfRun (run : RunView) (asked : EdgeMap) (apply : Apply) : Type 0 where
   pub graph : apply.flat.now ≡ run.graph.now
   pub vectors : apply.vectors.now ≡ run.vectors.now
   pub sizes : apply.sizes.now ≡ run.sizes.now

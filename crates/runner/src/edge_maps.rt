@@ -7,7 +7,7 @@ ghost use Rattle.kernels.specs.Kernels.{IsEdgeKernel};
 ghost use Rattle.kernels.specs.declared.kernel.EdgeKernel.{EdgeKernel};
 ghost use Rattle.plans.specs.Functions.{AreFunctionKernels};
 ghost use Rattle.plans.specs.Reducing.{places_of, steps_at};
-ghost use Rattle.runner.specs.EdgeMap.{AreChangesOfApply, IsApplyOf};
+ghost use Rattle.runner.specs.EdgeMap.{AreChangesOfApply, IsApplyOfRun};
 
 use crate::direction::push_or_pull;
 use crate::ends::end_of;
@@ -56,7 +56,7 @@ pub fn edge_map(
 /// the members of `no_members`, which has none.
 pub(crate) fn apply_of<'a>(run: RunView<'a>, asked: EdgeMap, no_members: &'a VertexSet) -> Apply<'a>
     requires { no_members.now.members ≡ [] }
-    ensures { IsApplyOf run.entry asked result }
+    ensures { IsApplyOfRun run.entry asked result }
 {
     let schedule = asked.schedule;
     Apply {
