@@ -1,5 +1,6 @@
 -- How a request ends, as an error and as an exit status.
 use Rattle.std.specs.Prelude.{ℕ, Bool, true, false, List, Result, Ok, Err}
+use Rattle.compiler.specs.Refusal.{number_of as compile_number}
 use Rattle.std.specs.Borrow.{Bor}
 use Rattle.std.specs.IoError.{error_kind}
 use Rattle.std.specs.declared.io.Error.{Error}
@@ -45,6 +46,16 @@ status_of WriteFailed = 5
 status_of (Refused file error) = 1
 status_of (RaceRefused file number) = 1
 status_of Closed = 4
+
+-- the number by which users know why a request was not done
+abbrev pub number_of : ServeError → ℕ
+number_of NoMemory = 900
+number_of ReadFailed = 901
+number_of (FileFailed file kind) = 901
+number_of WriteFailed = 902
+number_of (Refused file error) = compile_number error
+number_of (RaceRefused file number) = number
+number_of Closed = 125
 
 -- the exit status after a request: whether some run ended by a fault, or why it was not done
 abbrev pub status_of_end : Result Bool ServeError → ℕ

@@ -1,7 +1,7 @@
 //! Why a request is not done to its end.
 
 ghost use Rattle.std.specs.Prelude.{◌≡◌};
-ghost use Rattle.driver.specs.Endings.{of_file_read, of_script, of_send, status_of};
+ghost use Rattle.driver.specs.Endings.{number_of, of_file_read, of_script, of_send, status_of};
 ghost use Rattle.driver.specs.declared.error.ServeError.TheVariants.{NoMemory};
 
 use crate::status;
@@ -32,6 +32,21 @@ pub enum ServeError<'a> {
 }
 
 impl ServeError<'_> {
+    /// The number by which users know it: 900 where memory ran out, 901 where reading failed, 902 where writing did, 125
+    /// where nothing was published, else that of the text, the script or the graph that is refused.
+    pub fn number(&self) -> u16
+        ensures { result ≡ number_of self.now }
+    {
+        match self {
+            ServeError::NoMemory => 900,
+            ServeError::ReadFailed | ServeError::FileFailed { .. } => 901,
+            ServeError::WriteFailed => 902,
+            ServeError::Refused { error, .. } => error.number(),
+            ServeError::RaceRefused { number, .. } => *number,
+            ServeError::Closed => 125,
+        }
+    }
+
     /// The exit status: 4 where memory ran out or nothing was published, 5 where reading or writing failed, 1 where a
     /// text or what it opens is refused.
     pub fn status(&self) -> u8
@@ -50,15 +65,16 @@ impl ServeError<'_> {
 impl fmt::Display for ServeError<'_> {
     fn fmt<W: fmt::Write>(&self, f: &mut fmt::Formatter<W>) -> fmt::Result {
         match self {
-            ServeError::NoMemory => f.write_str("refused 900"),
-            ServeError::ReadFailed | ServeError::FileFailed { .. } => f.write_str("refused 901"),
-            ServeError::WriteFailed => f.write_str("refused 902"),
             ServeError::Refused { file, error } => match error.at() {
-                Some(at) => write!(f, "{file}: refused {} at {at}", error.number()),
-                None => write!(f, "{file}: refused {}", error.number()),
+                Some(at) => write!(f, "{file}: refused {} at {at}", self.number()),
+                None => write!(f, "{file}: refused {}", self.number()),
             },
-            ServeError::RaceRefused { file, number } => write!(f, "{file}: refused {number}"),
-            ServeError::Closed => f.write_str("refused 125"),
+            ServeError::RaceRefused { file, .. } => write!(f, "{file}: refused {}", self.number()),
+            ServeError::NoMemory
+            | ServeError::ReadFailed
+            | ServeError::FileFailed { .. }
+            | ServeError::WriteFailed
+            | ServeError::Closed => write!(f, "refused {}", self.number()),
         }
     }
 }
