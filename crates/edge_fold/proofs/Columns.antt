@@ -15,7 +15,7 @@ use Rattle.edge_fold.specs.ReducedContributions.{IsReducedTo, IsReducedContribut
 use Rattle.edge_fold.proofs.Edges.{pairs-append, unit_pairs-append}
 
 -- two numbers may be reduced to one before a third is reduced with them
-grouped : (r : Reduction) (h a b : ℤ) (q : Bool) → cond q (reduced r h (reduced r a b)) h ≡ cond q (reduced r (cond q (reduced r h a) h) b) (cond q (reduced r h a) h)
+pub grouped : (r : Reduction) (h a b : ℤ) (q : Bool) → cond q (reduced r h (reduced r a b)) h ≡ cond q (reduced r (cond q (reduced r h a) h) b) (cond q (reduced r h a) h)
 grouped r h a b true = (let law = reductions r in sym (law.associative h a b))
 grouped r h a b false = refl
 
@@ -33,11 +33,11 @@ is_reduced_to r number s all ss n first whole begins is d v h =
     ∙ ap (λ (us : List ℕ). reduced_at r v h (numbers_given number d us)) (sym whole)
 
 -- one number for each source
-one_for : (y x d : ℕ) (n : ℤ) (b : Bool) (more rest : List (ℕ × ℤ)) → rest ≡ cond b more [] → cond b ((d, n) ∷ []) [] ++ rest ≡ cond b ((d, n) ∷ more) []
+pub one_for : (y x d : ℕ) (n : ℤ) (b : Bool) (more rest : List (ℕ × ℤ)) → rest ≡ cond b more [] → cond b ((d, n) ∷ []) [] ++ rest ≡ cond b ((d, n) ∷ more) []
 one_for y x d n true more rest e = ap (λ (gs : List (ℕ × ℤ)). (d, n) ∷ gs) e
 one_for y x d n false more rest e = e
 
-nothing_either : (b : Bool) (none : List (ℕ × ℤ)) → none ≡ [] → [] ≡ cond b none []
+pub nothing_either : (b : Bool) (none : List (ℕ × ℤ)) → none ≡ [] → [] ≡ cond b none []
 nothing_either true none e = sym e
 nothing_either false none e = refl
 
@@ -48,10 +48,10 @@ given_by_column x y d r number g same (e ∷ es) =
     ap (λ (gs : List (ℕ × Reduction × ℤ)). for_vector x d gs ++ given_on x g (column d es)) (same e.0 d e.1)
     ∙ one_for y x d (number e.0) (y == x) (numbers_given number d (firsts es)) (given_on x g (column d es)) (given_by_column x y d r number g same es)
 
-equal : (m n : ℕ) → (m == n) ≡ true → m ≡ n
+pub equal : (m n : ℕ) → (m == n) ≡ true → m ≡ n
 equal m n h = grind (arith, nat_tests)
 
-joined_at : (r s : Reduction) (v : ℕ) (h : ℤ) (gs hs : List (ℕ × ℤ)) (b : Bool) → (b ≡ true → s ≡ r) → reduced_at s v h gs ≡ reduced_at s v h hs → reduced_at r v h (cond b gs []) ≡ reduced_at r v h (cond b hs [])
+pub joined_at : (r s : Reduction) (v : ℕ) (h : ℤ) (gs hs : List (ℕ × ℤ)) (b : Bool) → (b ≡ true → s ≡ r) → reduced_at s v h gs ≡ reduced_at s v h hs → reduced_at r v h (cond b gs []) ≡ reduced_at r v h (cond b hs [])
 joined_at r s v h gs hs true own all = subst (λ (t : Reduction). reduced_at t v h gs ≡ reduced_at t v h hs) (own refl) all
 joined_at r s v h gs hs false own all = refl
 

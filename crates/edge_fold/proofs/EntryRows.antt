@@ -1,13 +1,60 @@
 -- Numbers of sources and weights, one after the other.
-use Rattle.std.proofs.Common.{◌≡◌, ℕ, pos, ◌+◌, ◌<◌, ℤ, List, ◌∷◌, length, get_or, drop, sym, ap, ◌∙◌, arith}
+use Rattle.std.proofs.Common.{◌≡◌, ℕ, pos, ◌+◌, ◌<◌, ◌==◌, ℤ, if◌then◌else◌, cond, List, [], ◌∷◌, ◌++◌, length, get_or, drop, refl, sym, ap, ◌∙◌, arith}
 use Rattle.std.proofs.lemmas.List.{drop_more}
+use Rattle.edge_lists.specs.Edge.{Edge}
 use Rattle.apply_options.specs.declared.reduction.Reduction.{Reduction}
 use Rattle.algorithm_meaning.specs.Arithmetic.{reduced}
-use Rattle.edge_fold.specs.EntryNumbers.{reduced_over}
-use Rattle.edge_fold.specs.Given.{entries_of}
+use Rattle.edge_fold.specs.declared.apply_context.SourceContribution.{SourceContribution}
+use Rattle.edge_fold.specs.EntryNumbers.{IsEntryContribution, IsReducedOver, each_weighed, entry_numbers_given, reduced_over}
+use Rattle.edge_fold.specs.Given.{column, each_given, entries_of, for_vector, given_on, reduced_at, row}
+use Rattle.edge_fold.proofs.Columns.{equal, grouped, joined_at, nothing_either, one_for}
 
 pub one_entry_more : (r : Reduction) (f : ℕ → ℤ → ℤ) (n : ℤ) (k : ℕ) (ss : List ℕ) (ws : List ℤ) → k < length ss → length ws ≡ length ss
     → reduced_over r f (reduced r n (f (get_or ss k 0) (get_or ws k (pos 0)))) (entries_of (drop (k + 1) ss) (drop (k + 1) ws)) ≡ reduced_over r f n (entries_of (drop k ss) (drop k ws))
 one_entry_more r f n k ss ws l same =
     sym (ap (λ (xs : List ℕ). reduced_over r f n (entries_of xs (drop k ws))) (drop_more ss k 0 l)
     ∙ ap (λ (xs : List ℤ). reduced_over r f n (entries_of (get_or ss k 0 ∷ drop (k + 1) ss) xs)) (drop_more ws k (pos 0) (omega (arith, l, same))))
+
+-- the number of one weight more of a row
+pub one_weight_more : (r : Reduction) (v : ℕ) (f : ℤ → ℤ) (n : ℤ) (k : ℕ) (ds : List ℕ) (ws : List ℤ) → k < length ds → length ws ≡ length ds
+    → reduced_at r v (if get_or ds k 0 == v then reduced r n (f (get_or ws k (pos 0))) else n) (each_weighed f (entries_of (drop (k + 1) ds) (drop (k + 1) ws))) ≡ reduced_at r v n (each_weighed f (entries_of (drop k ds) (drop k ws)))
+one_weight_more r v f n k ds ws l same =
+    sym (ap (λ (xs : List ℕ). reduced_at r v n (each_weighed f (entries_of xs (drop k ws)))) (drop_more ds k 0 l)
+    ∙ ap (λ (xs : List ℤ). reduced_at r v n (each_weighed f (entries_of (get_or ds k 0 ∷ drop (k + 1) ds) xs))) (drop_more ws k (pos 0) (omega (arith, l, same))))
+
+-- what a row gives, a number for each weight
+pub weighed_row : (x y source : ℕ) (r : Reduction) (number : ℤ → ℤ) (g : Edge → List (ℕ × Reduction × ℤ)) → ((d : ℕ) (w : ℤ) → g (source, d, w) ≡ (y, r, number w) ∷ []) → (es : List (ℕ × ℤ))
+    → given_on x g (row source es) ≡ cond (y == x) (each_weighed number es) []
+weighed_row x y source r number g same [] = nothing_either (y == x) [] refl
+weighed_row x y source r number g same (e ∷ es) =
+    ap (λ (gs : List (ℕ × Reduction × ℤ)). for_vector x e.0 gs ++ given_on x g (row source es)) (same e.0 e.1)
+    ∙ one_for y x e.0 (number e.1) (y == x) (each_weighed number es) (given_on x g (row source es)) (weighed_row x y source r number g same es)
+
+-- a column's numbers, reduced to one before they are joined
+over_first : (r : Reduction) (f : ℕ → ℤ → ℤ) (d v : ℕ) (h n : ℤ) (es : List (ℕ × ℤ)) → reduced_at r v h ((d, reduced_over r f n es) ∷ []) ≡ reduced_at r v h ((d, n) ∷ entry_numbers_given f d es)
+over_first r f d v h n [] = refl
+over_first r f d v h n (e ∷ es) =
+    over_first r f d v h (reduced r n (f e.0 e.1)) es
+    ∙ ap (λ (y : ℤ). reduced_at r v y (entry_numbers_given f d es)) (grouped r h n (f e.0 e.1) (d == v))
+
+pub is_reduced_over : (r : Reduction) (f : ℕ → ℤ → ℤ) (s : ℕ) (w : ℤ) (all ss : List ℕ) (weights ws : List ℤ) (n first : ℤ) → all ≡ s ∷ ss → weights ≡ w ∷ ws → first ≡ f s w → n ≡ reduced_over r f first (entries_of ss ws)
+    → IsReducedOver r f (entries_of all weights) n
+is_reduced_over r f s w all ss weights ws n first whole weighed begins is d v h =
+    ap (λ (y : ℤ). reduced_at r v h ((d, y) ∷ [])) (is ∙ ap (λ (y : ℤ). reduced_over r f y (entries_of ss ws)) begins)
+    ∙ over_first r f d v h (f s w) (entries_of ss ws)
+    ∙ sym (ap (λ (us : List ℕ). reduced_at r v h (entry_numbers_given f d (entries_of us weights))) whole
+    ∙ ap (λ (qs : List ℤ). reduced_at r v h (entry_numbers_given f d (entries_of (s ∷ ss) qs))) weighed)
+
+weighed_column : (x y d : ℕ) (r : Reduction) (number : ℕ → ℤ → ℤ) (g : Edge → List (ℕ × Reduction × ℤ)) → ((s d : ℕ) (w : ℤ) → g (s, d, w) ≡ (y, r, number s w) ∷ []) → (es : List (ℕ × ℤ))
+    → given_on x g (column d es) ≡ cond (y == x) (entry_numbers_given number d es) []
+weighed_column x y d r number g same [] = nothing_either (y == x) [] refl
+weighed_column x y d r number g same (e ∷ es) =
+    ap (λ (gs : List (ℕ × Reduction × ℤ)). for_vector x d gs ++ given_on x g (column d es)) (same e.0 d e.1)
+    ∙ one_for y x d (number e.0 e.1) (y == x) (entry_numbers_given number d es) (given_on x g (column d es)) (weighed_column x y d r number g same es)
+
+-- to join what is sent is to join what the edges of a column give
+pub weighed_together : (r : Reduction) (x d v : ℕ) (h : ℤ) (sent : SourceContribution) (g : Edge → List (ℕ × Reduction × ℤ)) (es : List (ℕ × ℤ)) → IsEntryContribution sent g es → (sent.vector ≡ x → sent.reduction ≡ r)
+    → reduced_at r v h (cond (sent.vector == x) (each_given sent.number (d ∷ [])) []) ≡ reduced_at r v h (given_on x g (column d es))
+weighed_together r x d v h sent g es is own =
+    joined_at r sent.reduction v h (each_given sent.number (d ∷ [])) (entry_numbers_given is.number d es) (sent.vector == x) (λ at. own (equal sent.vector x at)) (is.all d v h)
+    ∙ sym (ap (λ (gs : List (ℕ × ℤ)). reduced_at r v h gs) (weighed_column x sent.vector d sent.reduction is.number g is.each es))

@@ -9,6 +9,7 @@ ghost use Rattle.edge_fold.specs.FoldStarts.{first_entry, opening_seed, start_of
 use crate::initial_entries::InitialEntries;
 use apply_options::Reduction;
 use kernels::EdgeKernel;
+use typed_tree::Operator;
 use vectors::Vectors;
 
 /// What the new entry of a vertex begins with, when the vertex is first given something.
@@ -66,4 +67,14 @@ pub(crate) struct SourceContribution {
     pub(crate) vector: usize,
     pub(crate) reduction: Reduction,
     pub(crate) number: i64,
+}
+
+/// What is given on every edge, where it is the source's entry of a vector and the weight with an operator between them: the
+/// place of the vector that is given something, the reduction, the place of the vector that is read, and the operator.
+#[derive(Clone, Copy)]
+pub(crate) struct EntryContribution {
+    pub(crate) vector: usize,
+    pub(crate) reduction: Reduction,
+    pub(crate) from: usize,
+    pub(crate) operator: Operator,
 }

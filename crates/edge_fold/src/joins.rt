@@ -2,17 +2,20 @@
 ghost use Rattle.std.specs.Prelude.{◌≡◌, ℕ, ℤ, pos, ◌^◌, ◌∷◌, [], ◌<◌, ◌≤◌, true, false, Contains, length, slice_index_or, vec_len, IfOk, OnOk};
 ghost use Rattle.std.specs.List.Sorted.{IsNonDecreasing};
 ghost use Rattle.edge_fold.specs.Gathered.{numbers_of};
-ghost use Rattle.edge_fold.specs.Given.{each_given, for_vector, given_from};
+ghost use Rattle.edge_fold.specs.EntryNumbers.{each_weighed, number_with};
+ghost use Rattle.edge_fold.specs.Given.{each_given, entries_of, for_vector, given_from};
 ghost use Rattle.edge_fold.specs.Held.{AreJoined, AreMarked, held, held_with, room};
 ghost use Rattle.vertex_marks.specs.Marks.{is_marked};
 ghost use Rattle.kernels.specs.ContributionColumns.{contribution_at, truth_at};
 
 use crate::accumulator::Accumulator;
+use crate::entry_numbers::NumberWith;
 use crate::initial_entries::InitialEntries;
 use algorithm_meaning::reduce;
 use apply_options::Reduction;
 use kernels::ContributionColumn;
 use std::alloc::{AllocError, Global};
+use typed_tree::Operator;
 use vectors::EntryChange;
 use vertex_marks::VertexMarks;
 
@@ -132,6 +135,93 @@ impl Accumulator {
     {
         'each: for vertex in destinations {
             self.join(reduction, opening, *vertex, number)?;
+        }
+        Ok(())
+    }
+
+    /// Reduces the entries at destinations with the numbers of these weights. The only error is out of memory, after which
+    /// a part was done.
+    pub(crate) fn join_weights(
+        &mut self,
+        reduction: Reduction,
+        opening: InitialEntries<'_>,
+        numbers: NumberWith,
+        destinations: &[u32],
+        weights: &[i64],
+    ) -> Result<(), AllocError>
+        requires { length weights.now ≡ length destinations.now }
+        ensures { OnOk result (AreJoined opening.entry reduction self.old self.new (each_weighed (number_with numbers) (entries_of destinations.now weights.now))) }
+    {
+        match reduction {
+            Reduction::Min => {
+                self.join_weights_by(Reduction::Min, opening, numbers, destinations, weights)
+            }
+            Reduction::Max => {
+                self.join_weights_by(Reduction::Max, opening, numbers, destinations, weights)
+            }
+            Reduction::Plus => {
+                self.join_weights_by(Reduction::Plus, opening, numbers, destinations, weights)
+            }
+        }
+    }
+
+    /// A loop for each operator, so that none asks which it is.
+    #[inline(always)]
+    fn join_weights_by(
+        &mut self,
+        reduction: Reduction,
+        opening: InitialEntries<'_>,
+        numbers: NumberWith,
+        destinations: &[u32],
+        weights: &[i64],
+    ) -> Result<(), AllocError>
+        requires { length weights.now ≡ length destinations.now }
+        ensures { OnOk result (AreJoined opening.entry reduction self.old self.new (each_weighed (number_with numbers) (entries_of destinations.now weights.now))) }
+    {
+        let number = numbers.number;
+        match numbers.operator {
+            Operator::Add => {
+                let operator = Operator::Add;
+                let sums = NumberWith { number, operator };
+                self.join_each_weight(reduction, opening, sums, destinations, weights)
+            }
+            Operator::Subtract => {
+                let operator = Operator::Subtract;
+                let differences = NumberWith { number, operator };
+                self.join_each_weight(reduction, opening, differences, destinations, weights)
+            }
+            Operator::Multiply => {
+                let operator = Operator::Multiply;
+                let products = NumberWith { number, operator };
+                self.join_each_weight(reduction, opening, products, destinations, weights)
+            }
+            Operator::Divide => {
+                let operator = Operator::Divide;
+                let quotients = NumberWith { number, operator };
+                self.join_each_weight(reduction, opening, quotients, destinations, weights)
+            }
+            Operator::Remainder => {
+                let operator = Operator::Remainder;
+                let remainders = NumberWith { number, operator };
+                self.join_each_weight(reduction, opening, remainders, destinations, weights)
+            }
+        }
+    }
+
+    #[inline(always)]
+    fn join_each_weight(
+        &mut self,
+        reduction: Reduction,
+        opening: InitialEntries<'_>,
+        numbers: NumberWith,
+        destinations: &[u32],
+        weights: &[i64],
+    ) -> Result<(), AllocError>
+        requires { length weights.now ≡ length destinations.now }
+        ensures { OnOk result (AreJoined opening.entry reduction self.old self.new (each_weighed (number_with numbers) (entries_of destinations.now weights.now))) }
+    {
+        'edges: for (k, vertex) in destinations.iter().enumerate() {
+            self.join(reduction, opening, *vertex, numbers.of(weights[k]))?;
         }
         Ok(())
     }

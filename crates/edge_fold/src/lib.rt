@@ -8,7 +8,8 @@
 //! Where a function reads weights ([`reads_weights`] tells), an engine lends them too, to [`Scratch::fold_weighted`] and
 //! [`Scratch::fold_into_weighted`]. Where none does, what is given is the same with any weight: no weight is lent, kept or
 //! read, and what is promised holds for edges with any weights.
-//! [`reduce_entries`] reduces to one number what sources give by an entry of theirs and a weight ([`EntryWith`]).
+//! What is an entry of the source with the weight, as `dist[src] + weight`, does not wait: a row joins its numbers to the
+//! destinations in one loop, and a column is first reduced to one number ([`reduce_entries`], [`EntryWith`]).
 //!
 //! A worker that does a piece of an apply lets new entries begin with the unit of the reduction ([`FoldStart`]).
 //! [`Scratch::gathered`] then says what its edges give, as numbers for vertices, and [`Scratch::join_gathered`] joins that
@@ -42,6 +43,7 @@ mod apply_context;
 mod by_destination;
 mod changes;
 mod compared;
+mod entry_contributions;
 mod entry_numbers;
 mod gathered;
 mod gathered_ranges;

@@ -33,7 +33,7 @@ impl ApplyContext<'_> {
             → IsEdgeKernel self.entry.first.now steps → (d : ℕ) (w : ℤ) → given_in m steps (source, d, w) ≡ (s.vector, s.reduction, s.number) ∷ []) }
     {
         match self.first.shape() {
-            Shape::Other => None,
+            Shape::Other | Shape::EntryWith(_, _, _, _) => None,
             Shape::Source(vector, reduction) => Some(SourceContribution {
                 vector,
                 reduction,

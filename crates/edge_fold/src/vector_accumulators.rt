@@ -1,7 +1,10 @@
 //! The vectors that an apply writes, found by their places.
 ghost use Rattle.std.specs.Prelude.{◌≡◌, ℕ, ℤ, ◌==◌, if◌then◌else◌, ◌<◌, ◌≤◌, [], length, vec_len, IfOk, OnOk};
 ghost use Rattle.edge_fold.specs.Gathered.{IsGatheredBy, gathered_for, numbers_of};
-ghost use Rattle.edge_fold.specs.Given.{IsBy, each_given, given_from};
+ghost use Rattle.algorithm_meaning.specs.Arithmetic.{arithmetic};
+ghost use Rattle.algorithm_meaning.specs.Value.{entry};
+ghost use Rattle.edge_fold.specs.EntryNumbers.{each_weighed};
+ghost use Rattle.edge_fold.specs.Given.{IsBy, each_given, entries_of, given_from};
 ghost use Rattle.edge_fold.specs.Held.{held_with};
 ghost use Rattle.edge_fold.specs.VectorAccumulators.{HaveJoined, active, held_in_with, place_in, reduction_in};
 ghost use Rattle.kernels.specs.ContributionColumns.{contribution_at};
@@ -9,7 +12,8 @@ ghost use Rattle.kernels.specs.Kernels.{HasCells, given_at};
 ghost use Rattle.apply_options.specs.declared.reduction.Reduction.{Reduction};
 
 use crate::accumulator::Accumulator;
-use crate::apply_context::{ApplyContext, SourceContribution};
+use crate::apply_context::{ApplyContext, EntryContribution, SourceContribution};
+use crate::entry_numbers::NumberWith;
 use crate::gathered::GatheredIn;
 use crate::joins::gives_some;
 use crate::vector_accumulator::{VectorAccumulator, VectorAccumulators};
@@ -157,6 +161,33 @@ impl VectorAccumulators {
         let opening = context.opening(sent.vector);
         let entries = &mut self.slots[place].entries;
         entries.join_number(sent.reduction, opening, sent.number, destinations)?;
+        Ok(())
+    }
+
+    /// Reduces the entries of a vector at destinations with what a source gives them by these weights. The only error is out
+    /// of memory, after which a part was done.
+    pub(crate) fn join_weights(
+        &mut self,
+        alloc: Global,
+        context: ApplyContext<'_>,
+        given: EntryContribution,
+        source: u32,
+        destinations: &[u32],
+        weights: &[i64],
+    ) -> Result<(), AllocError>
+        requires { length weights.now ≡ length destinations.now }
+        ensures { OnOk result ((x : ℕ) (r : Reduction) → (given.vector ≡ x → given.reduction ≡ r)
+            → HaveJoined context.entry x r self.old self.new
+            (if given.vector == x then each_weighed (arithmetic given.operator (entry context.entry.vectors.now.vectors given.from source)) (entries_of destinations.now weights.now) else [])) }
+    {
+        let place = self.place(alloc, given.vector, given.reduction, context.vertices)?;
+        let opening = context.opening(given.vector);
+        let numbers = NumberWith {
+            number: context.vectors.lane(given.from).get(source as usize),
+            operator: given.operator,
+        };
+        let entries = &mut self.slots[place].entries;
+        entries.join_weights(given.reduction, opening, numbers, destinations, weights)?;
         Ok(())
     }
 

@@ -44,9 +44,32 @@ impl Pairs {
 }
 
 impl Scratch {
-    /// Folds the edges from a source to destinations, at most 128, with these weights, where a function reads weights: what
-    /// is given depends on more than the source, so the edges wait for the kernels. The only error is out of memory.
+    /// Folds the edges from a source to destinations, at most 128, with these weights, where a function reads weights. The
+    /// only error is out of memory.
     pub fn fold_weighted(
+        &mut self,
+        alloc: Global,
+        context: ApplyContext<'_>,
+        source: u32,
+        destinations: &[u32],
+        weights: &[i64],
+    ) -> Result<(), AllocError>
+        requires few { length destinations.now ≤ 128 }
+        requires same { length weights.now ≡ length destinations.now }
+        requires weighted { context.weighted ≡ true }
+        ensures { OnOk result ((m : StateValue) (steps : List StepsTree) (edges : List Edge) → IsContextOf context.entry m steps
+            → HasFolded context.entry m steps edges self.old → HasFolded context.entry m steps (edges ++ row source (entries_of destinations.now weights.now)) self.new) }
+    {
+        if let Some(given) = context.entry_contribution() {
+            self.slots
+                .join_weights(alloc, context, given, source, destinations, weights)?;
+            return Ok(());
+        }
+        self.gather_weighted(alloc, context, source, destinations, weights)
+    }
+
+    /// Adds edges to those that wait, and lets the kernels run where these are 128.
+    fn gather_weighted(
         &mut self,
         alloc: Global,
         context: ApplyContext<'_>,
@@ -73,9 +96,32 @@ impl Scratch {
         Ok(())
     }
 
-    /// Folds the edges from sources, at most 128, with these weights, to a destination, where a function reads weights. They
-    /// wait for the kernels too. The only error is out of memory.
+    /// Folds the edges from sources, at most 128, with these weights, to a destination, where a function reads weights. The
+    /// only error is out of memory.
     pub fn fold_into_weighted(
+        &mut self,
+        alloc: Global,
+        context: ApplyContext<'_>,
+        sources: &[u32],
+        weights: &[i64],
+        destination: u32,
+    ) -> Result<(), AllocError>
+        requires few { length sources.now ≤ 128 }
+        requires same { length weights.now ≡ length sources.now }
+        requires weighted { context.weighted ≡ true }
+        ensures { OnOk result ((m : StateValue) (steps : List StepsTree) (edges : List Edge) → IsContextOf context.entry m steps
+            → HasFolded context.entry m steps edges self.old → HasFolded context.entry m steps (edges ++ column destination (entries_of sources.now weights.now)) self.new) }
+    {
+        if let Some(sent) = context.reduced_entries(sources, weights) {
+            self.slots
+                .join_number(alloc, context, sent, &[destination])?;
+            return Ok(());
+        }
+        self.gather_into_weighted(alloc, context, sources, weights, destination)
+    }
+
+    /// Adds edges to those that wait, and lets the kernels run where these are 128.
+    fn gather_into_weighted(
         &mut self,
         alloc: Global,
         context: ApplyContext<'_>,

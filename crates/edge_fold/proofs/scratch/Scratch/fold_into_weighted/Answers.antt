@@ -1,33 +1,22 @@
-use Rattle.std.proofs.Common.{ℕ, ℤ, List, ◌++◌, take, drop, true, refl, ap, ◌∙◌}
-use Rattle.edge_fold.specs.Folded.{waiting}
-use Rattle.edge_fold.specs.Given.{column, entries_of}
-use Rattle.edge_fold.proofs.Columns.{column_parts}
-use Rattle.edge_fold.proofs.JoinedSlots.{folded_later}
-use Rattle.edge_fold.proofs.Walks.{folded_along}
-use Rattle.edge_fold.proofs.WeightColumns.{entries_parts}
+use Rattle.std.proofs.Common.{◌==◌, pos, ℕ, ℤ, List, [], ◌∷◌, cond, refl, subst}
+use Rattle.apply_options.specs.declared.reduction.Reduction.{Reduction}
+use Rattle.edge_fold.specs.Given.{IsBy, all_given, column, each_given, entries_of, given_on}
+use Rattle.edge_fold.proofs.EntryRows.{weighed_together}
+use Rattle.edge_fold.proofs.JoinedSlots.{folded_before, joined_alike}
 use Rattle.edge_fold.proofs.scratch.Scratch.fold_into_weighted.Goals as goal
 
-pub returns-then-sources-room : goal.returns-then-sources-room
-returns-then-sources-room c m steps edges are has x r by =
-    folded_later c.args.context m steps edges (column c.args.destination (entries_of c.args.sources.now c.args.weights.now)) c.args.self.now _ x r true c.requires.weighted refl c.add_into_weighted.ensures.waiting (has x r by)
-
-pub returns : goal.returns
-returns c m steps edges are has =
+pub returns-in-Some : goal.returns-in-Some
+returns-in-Some c m steps edges are has x r by =
     let now = c.args.self.now in
-    let then = c.flush.new.self in
     let f = c.args.context in
     let d = c.args.destination in
-    let ss = c.args.sources.now in
-    let ws = c.args.weights.now in
-    let k = c.room-room.result in
-    let counts = c.requires.weighted in
-    let front = entries_of (take k ss) (take k ws) in
-    let back = entries_of (drop k ss) (drop k ws) in
-    let added = λ (us : List ℕ) (vs : List ℤ). waiting true now.pairs ++ column d (entries_of us vs) in
-    let more = λ (us : List ℕ) (vs : List ℤ). waiting true then.pairs ++ column d (entries_of us vs) in
-    let flushed = c.in_ok-flush.ensures.folded m steps (edges ++ column d front) are
-    (λ y t own. folded_later f m steps edges (column d front) now _ y t true counts refl
-    (c.add_into_weighted-2.ensures.waiting ∙ ap (λ us. added us c.split_at-2.result.0.now) c.split_at.ensures.front ∙ ap (added (take k ss)) c.split_at-2.ensures.front) (has y t own)) in
-    folded_along f m steps ((edges ++ column d front) ++ column d back) (edges ++ column d (entries_of ss ws)) _ (column_parts d front back (entries_of ss ws) edges (entries_parts k ss ws c.requires.same))
-    (λ x r by. folded_later f m steps (edges ++ column d front) (column d back) then _ x r true counts refl
-    (c.add_into_weighted-3.ensures.waiting ∙ ap (λ us. more us c.split_at-2.result.1.now) c.split_at.ensures.back ∙ ap (more (drop k ss)) c.split_at-2.ensures.back) (flushed x r by))
+    let es = entries_of c.args.sources.now c.args.weights.now in
+    let sent = c.in-Some.sent in
+    let g = all_given m steps in
+    let is = c.in-Some.ensures m steps are in
+    let own : IsBy r x ((sent.vector, sent.reduction, is.number 0 (pos 0)) ∷ []) = subst (λ (gs : List (ℕ × Reduction × ℤ)). IsBy r x gs) (is.each 0 d (pos 0)) (by (0, d, pos 0)) in
+    folded_before f m steps edges (column d es) now _ x r refl
+    (joined_alike f x r now.slots c.join_number.new.self (cond (sent.vector == x) (each_given sent.number (d ∷ [])) []) (given_on x g (column d es))
+    (λ v n. weighed_together r x d v n sent g es is own.0)
+    (c.in_ok-join_number.ensures x r own.0))
+    (has x r by)

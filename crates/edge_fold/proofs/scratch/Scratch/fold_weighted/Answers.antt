@@ -1,33 +1,27 @@
-use Rattle.std.proofs.Common.{ℕ, ℤ, List, ◌++◌, take, drop, true, refl, ap, ◌∙◌}
-use Rattle.edge_fold.specs.Folded.{waiting}
-use Rattle.edge_fold.specs.Given.{entries_of, row}
-use Rattle.edge_fold.proofs.Edges.{row_parts}
-use Rattle.edge_fold.proofs.JoinedSlots.{folded_later}
-use Rattle.edge_fold.proofs.Walks.{folded_along}
-use Rattle.edge_fold.proofs.WeightColumns.{entries_parts}
+use Rattle.std.proofs.Common.{◌==◌, pos, ℕ, ℤ, List, [], ◌∷◌, cond, refl, ap, sym, ◌∙◌, subst}
+use Rattle.apply_options.specs.declared.reduction.Reduction.{Reduction}
+use Rattle.algorithm_meaning.specs.Arithmetic.{arithmetic}
+use Rattle.algorithm_meaning.specs.Value.{entry}
+use Rattle.edge_fold.specs.EntryNumbers.{each_weighed}
+use Rattle.edge_fold.specs.Given.{IsBy, all_given, entries_of, given_on, reduced_at, row}
+use Rattle.edge_fold.proofs.EntryRows.{weighed_row}
+use Rattle.edge_fold.proofs.JoinedSlots.{folded_before, joined_alike}
 use Rattle.edge_fold.proofs.scratch.Scratch.fold_weighted.Goals as goal
 
-pub returns-then-destinations-room : goal.returns-then-destinations-room
-returns-then-destinations-room c m steps edges are has x r by =
-    folded_later c.args.context m steps edges (row c.args.source (entries_of c.args.destinations.now c.args.weights.now)) c.args.self.now _ x r true c.requires.weighted refl c.add_weighted.ensures.waiting (has x r by)
-
-pub returns : goal.returns
-returns c m steps edges are has =
+pub returns-in-Some : goal.returns-in-Some
+returns-in-Some c m steps edges are has x r by =
     let now = c.args.self.now in
-    let then = c.flush.new.self in
     let f = c.args.context in
-    let s = c.args.source in
-    let ds = c.args.destinations.now in
-    let ws = c.args.weights.now in
-    let k = c.room-room.result in
-    let counts = c.requires.weighted in
-    let front = entries_of (take k ds) (take k ws) in
-    let back = entries_of (drop k ds) (drop k ws) in
-    let added = λ (us : List ℕ) (vs : List ℤ). waiting true now.pairs ++ row s (entries_of us vs) in
-    let more = λ (us : List ℕ) (vs : List ℤ). waiting true then.pairs ++ row s (entries_of us vs) in
-    let flushed = c.in_ok-flush.ensures.folded m steps (edges ++ row s front) are
-    (λ y t own. folded_later f m steps edges (row s front) now _ y t true counts refl
-    (c.add_weighted-2.ensures.waiting ∙ ap (λ us. added us c.split_at-2.result.0.now) c.split_at.ensures.front ∙ ap (added (take k ds)) c.split_at-2.ensures.front) (has y t own)) in
-    folded_along f m steps ((edges ++ row s front) ++ row s back) (edges ++ row s (entries_of ds ws)) _ (row_parts s front back (entries_of ds ws) edges (entries_parts k ds ws c.requires.same))
-    (λ x r by. folded_later f m steps (edges ++ row s front) (row s back) then _ x r true counts refl
-    (c.add_weighted-3.ensures.waiting ∙ ap (λ us. more us c.split_at-2.result.1.now) c.split_at.ensures.back ∙ ap (more (drop k ds)) c.split_at-2.ensures.back) (flushed x r by))
+    let source = c.args.source in
+    let es = entries_of c.args.destinations.now c.args.weights.now in
+    let given = c.in-Some.given in
+    let g = all_given m steps in
+    let gives = c.in-Some.ensures m steps are in
+    let number = λ (w : ℤ). arithmetic given.operator (entry f.vectors.now.vectors given.from source) w in
+    let each = λ (d : ℕ) (w : ℤ). gives (source, d, w) ∙ ap (λ (vs : List (List ℤ)). (given.vector, given.reduction, arithmetic given.operator (entry vs given.from source) w) ∷ []) (sym are.vectors) in
+    let own : IsBy r x ((given.vector, given.reduction, number (pos 0)) ∷ []) = subst (λ (gs : List (ℕ × Reduction × ℤ)). IsBy r x gs) (each 0 (pos 0)) (by (source, 0, pos 0)) in
+    folded_before f m steps edges (row source es) now _ x r refl
+    (joined_alike f x r now.slots c.join_weights.new.self (cond (given.vector == x) (each_weighed number es) []) (given_on x g (row source es))
+    (λ v n. sym (ap (λ gs. reduced_at r v n gs) (weighed_row x given.vector source given.reduction number g each es)))
+    (c.in_ok-join_weights.ensures x r own.0))
+    (has x r by)
