@@ -11,8 +11,9 @@
 //! Where a function reads the weights of edges, a second block has those of the sources; that is asked once for a destination,
 //! and by other functions no weight is read.
 //!
-//! One function that gives a vector by its sources alone, whatever the weights, in one of the shapes of `kernels`, needs no scratch: a pull of
-//! a range of destinations is one loop that is made for the function. The entry of a destination is reduced with the
+//! One function that gives a vector by its sources, or by an entry of theirs with the weight, in one of the shapes of
+//! `kernels`, needs no scratch: a pull of a range of destinations is one loop that is made for the function, and only the
+//! loop for weights reads any. The entry of a destination is reduced with the
 //! numbers of its sources, and where that is another number, a change is added to an ascending list. Where one source
 //! decides ([`one_source_decides`]), the walk over the sources ends there: downward for the greatest source, upward for
 //! the least, and at the first for a number that all sources give. So breadth-first search reads of each vertex that it
