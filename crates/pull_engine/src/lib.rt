@@ -13,12 +13,11 @@
 //!
 //! One function that gives a vector by its sources, or by an entry of theirs with the weight, in one of the shapes of
 //! `kernels`, needs no scratch: a pull of a range of destinations is one loop that is made for the function, and only the
-//! loop for weights reads any. The entry of a destination is reduced with the
-//! numbers of its sources, and where that is another number, a change is added to an ascending list. Where one source
-//! decides ([`one_source_decides`]), the walk over the sources ends there: downward for the greatest source, upward for
-//! the least, and at the first for a number that all sources give. So breadth-first search reads of each vertex that it
-//! has not reached only the sources up to the first in the frontier, as the bottom-up step of direction-optimizing
-//! breadth-first search (Beamer, Asanović, Patterson, SC 2012).
+//! loop for weights reads any. The entry of a destination is reduced with the numbers of its sources, and where that is
+//! another number, a change is added to an ascending list. Where one source decides ([`one_source_decides`]), the walk over
+//! the sources ends there: downward for the greatest source, upward for the least, and at the first for a number that all
+//! sources give. So breadth-first search reads of each vertex that it has not reached only the sources up to the first in
+//! the frontier, as the bottom-up step of direction-optimizing breadth-first search (Beamer, Asanović, Patterson, SC 2012).
 //!
 //! [`PullWork`] is an apply in pieces, which workers may do side by side: the destinations are cut as the schedule says
 //! (`crew::Partition`), a piece answers what the edges into its destinations give, and [`PullWork::merge`] makes the changes of
