@@ -3,8 +3,6 @@ use Rattle.std.proofs.Common.{◌≡◌, ℕ, ◌+◌, ◌-◌, ◌<◌, ◌≤�
 use Rattle.std.proofs.lemmas.Bool.{ne_eqb}
 use Rattle.std.proofs.lemmas.Bool.Decides.{nat_tests}
 use Rattle.std.proofs.lemmas.List.{append-nil}
-use Rattle.std.specs.List.{filter}
-use Rattle.std.specs.Map.{keys_of}
 use Rattle.edge_lists.specs.Edge.{Edge}
 use Rattle.apply_options.specs.declared.reduction.Reduction.{Reduction}
 use Rattle.kernels.specs.EdgeApply.{is_member}
@@ -13,10 +11,11 @@ use Rattle.flat_snapshot.specs.Digraph.{Digraph, IsDigraph}
 use Rattle.flat_snapshot.specs.Neighbours.{sources_of}
 use Rattle.vertex_sets.proofs.Ascending.{Rises}
 use Rattle.edge_fold.specs.Changed.{change_at, changed_from}
-use Rattle.edge_fold.specs.ReducedContributions.{reduced_with}
+use Rattle.edge_fold.specs.EntryNumbers.{reduced_over}
 use Rattle.edge_fold.proofs.ChangedRows.{changed_from-append, nothing_changed, one_change}
 use Rattle.edge_fold.proofs.Findings.{changed_agree}
 use Rattle.edge_apply.proofs.Listed.{below_all}
+use Rattle.pull_engine.specs.Columns.{passing}
 use Rattle.pull_engine.specs.Ranges.{changes_at, pulled, pulled_to}
 use Rattle.pull_engine.proofs.Merging.{destination_within}
 use Rattle.pull_engine.proofs.Told.{no_change}
@@ -72,8 +71,8 @@ no_sources g v (s ∷ ss) is same past =
     let within = destination_within g.vertices v g.edges is.within some in
     absurd (omega (arith, within, past))
 
-stays : (r : Reduction) (number : ℕ → ℤ) (old : ℕ → ℤ) (from : ℕ → Bool) (es : List Edge) (v : ℕ) → sources_of v es ≡ [] → pulled r number old from es v ≡ old v
-stays r number old from es v none = ap (λ (ss : List (ℕ × ℤ)). reduced_with r number (old v) (filter from (keys_of ss))) none
+stays : (r : Reduction) (number : ℕ → ℤ → ℤ) (old : ℕ → ℤ) (from : ℕ → Bool) (es : List Edge) (v : ℕ) → sources_of v es ≡ [] → pulled r number old from es v ≡ old v
+stays r number old from es v none = ap (λ (ss : List (ℕ × ℤ)). reduced_over r number (old v) (passing from ss)) none
 
 member_told : (old new : ℕ → ℤ) (to : ℕ → Bool) (us : List ℕ) → ((v : ℕ) → is_member v us ≡ true → to v ≡ true) → changes_at old new us ≡ changes_at old (λ v. cond (to v) (new v) (old v)) us
 member_told old new to [] all = refl
@@ -90,7 +89,7 @@ member_told old new to (u ∷ us) all =
     later false c is = is
 
 -- what is pulled to the members of a set
-pub members_told : (g : Digraph) (r : Reduction) (number : ℕ → ℤ) (lane old : ℕ → ℤ) (from to : ℕ → Bool) (us : List ℕ) (found : List EntryChange) → IsDigraph g → Rises 0 us → ((v : ℕ) → to v ≡ is_member v us)
+pub members_told : (g : Digraph) (r : Reduction) (number : ℕ → ℤ → ℤ) (lane old : ℕ → ℤ) (from to : ℕ → Bool) (us : List ℕ) (found : List EntryChange) → IsDigraph g → Rises 0 us → ((v : ℕ) → to v ≡ is_member v us)
     → ((v : ℕ) → lane v ≡ old v) → found ≡ changes_at lane (pulled r number lane from g.edges) us → found ≡ changed_from old (pulled_to r number old from to g.edges) 0 g.vertices
 members_told g r number lane old from to us found is up members same told =
     let new = λ (o : ℕ → ℤ). pulled_to r number o from to g.edges in
@@ -99,7 +98,7 @@ members_told g r number lane old from to us found is up members same told =
     ∙ told_rising lane (new lane) 0 g.vertices us up (λ v other a b. ap (λ (c : Bool). cond c (pulled r number lane from g.edges v) (lane v)) (members v ∙ other))
     (λ v past. either_stays (to v) (pulled r number lane from g.edges v) (lane v) (stays r number lane from g.edges v (no_sources g v (sources_of v g.edges) is refl past)))
     ∙ ap (λ n. changed_from lane (new lane) 0 n) whole
-    ∙ changed_agree lane old (new lane) (new old) same 0 g.vertices (λ v b. ap (λ (z : ℤ). cond (to v) (reduced_with r number z (filter from (keys_of (sources_of v g.edges)))) z) (same v))
+    ∙ changed_agree lane old (new lane) (new old) same 0 g.vertices (λ v b. ap (λ (z : ℤ). cond (to v) (reduced_over r number z (passing from (sources_of v g.edges))) z) (same v))
   where
     either_stays : (b : Bool) (x y : ℤ) → x ≡ y → cond b x y ≡ y
     either_stays true x y e = e

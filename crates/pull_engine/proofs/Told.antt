@@ -1,17 +1,19 @@
 -- The changes of destinations that come one after the other.
-use Rattle.std.proofs.Common.{◌≡◌, ℕ, zero, suc, ◌+◌, ◌-◌, ◌<◌, ◌≤◌, ℤ, Bool, true, false, cond, List, [], ◌∷◌, ◌++◌, length, drop, get_or, refl, sym, ap, ◌∙◌, append_assoc, arith}
-use Rattle.std.proofs.lemmas.List.{append-nil, drop_all, drop_more}
-use Rattle.std.specs.Map.{keys_of}
+use Rattle.std.proofs.Common.{◌≡◌, ℕ, zero, suc, ◌+◌, ◌-◌, ◌<◌, ◌≤◌, ◌==◌, ℤ, Bool, true, false, cond, List, [], ◌∷◌, ◌++◌, length, drop, get_or, slice_index_or, refl, sym, ap, ◌∙◌, append_assoc, arith}
+use Rattle.std.proofs.lemmas.List.{append-nil, drop-drop, drop_all, drop_more, get_or-drop}
 use Rattle.edge_lists.specs.Edge.{Edge}
-use Rattle.std.specs.List.{filter, range_with_len}
+use Rattle.std.specs.List.{filter, flat_map, range_with_len}
 use Rattle.apply_options.specs.declared.reduction.Reduction.{Reduction}
 use Rattle.kernels.specs.Arithmetic.{int_equal}
 use Rattle.vectors.specs.declared.changes.EntryChange.{EntryChange}
 use Rattle.flat_snapshot.specs.Neighbours.{sources_of}
 use Rattle.edge_fold.specs.Changed.{change_at, changed_from}
-use Rattle.edge_fold.specs.ReducedContributions.{reduced_with}
+use Rattle.edge_fold.specs.EntryNumbers.{reduced_over}
 use Rattle.edge_fold.proofs.ChangedRows.{changed_from-append, equal_itself}
 use Rattle.edge_fold.proofs.Findings.{changed_agree}
+use Rattle.crew.specs.Partition.{AreEnds, end_of}
+use Rattle.edge_apply.proofs.Listed.{last_end}
+use Rattle.pull_engine.specs.Columns.{passing}
 use Rattle.pull_engine.specs.Ranges.{changes_at, pulled, pulled_to}
 
 -- the next of some destinations
@@ -50,7 +52,7 @@ told_in_row old new v zero = refl
 told_in_row old new v (suc n) = ap (λ cs. change_at old new v ++ cs) (told_in_row old new (v + 1) n)
 
 -- a range, and those vertices of the next part that pass
-pub range_more : (r : Reduction) (number : ℕ → ℤ) (lane old : ℕ → ℤ) (from to : ℕ → Bool) (es : List Edge) (low next stop : ℕ) (part kept : List ℕ) (found more : List EntryChange) → low ≤ next → next ≤ stop
+pub range_more : (r : Reduction) (number : ℕ → ℤ → ℤ) (lane old : ℕ → ℤ) (from to : ℕ → Bool) (es : List Edge) (low next stop : ℕ) (part kept : List ℕ) (found more : List EntryChange) → low ≤ next → next ≤ stop
     → ((v : ℕ) → lane v ≡ old v) → part ≡ range_with_len next (stop - next) → kept ≡ filter to part → more ≡ found ++ changes_at lane (pulled r number lane from es) kept
     → found ≡ changed_from old (pulled_to r number old from to es) low (next - low)
     → more ≡ changed_from old (pulled_to r number old from to es) low (stop - low)
@@ -63,13 +65,13 @@ range_more r number lane old from to es low next stop part kept found more l k s
     (ap (λ us. changes_at lane (pulled r number lane from es) us) (is_kept ∙ ap (λ us. filter to us) is_part)
     ∙ told_passing lane (pulled r number lane from es) to (range_with_len next (stop - next))
     ∙ told_in_row lane (new lane) next (stop - next)
-    ∙ changed_agree lane old (new lane) (new old) same next (stop - next) (λ v b. ap (λ (z : ℤ). cond (to v) (reduced_with r number z (filter from (keys_of (sources_of v es)))) z) (same v)))
+    ∙ changed_agree lane old (new lane) (new old) same next (stop - next) (λ v b. ap (λ (z : ℤ). cond (to v) (reduced_over r number z (passing from (sources_of v es))) z) (same v)))
     ∙ ap (λ u. changed_from old (new old) low (next - low) ++ changed_from old (new old) u (stop - next)) place
     ∙ sym (changed_from-append old (new old) low (next - low) (stop - next))
     ∙ ap (λ n. changed_from old (new old) low n) whole
 
 -- a range, and the next vertex where it passes
-vertex_more : (r : Reduction) (number : ℕ → ℤ) (lane old : ℕ → ℤ) (from to : ℕ → Bool) (es : List Edge) (low v : ℕ) (found more : List EntryChange) → low ≤ v
+vertex_more : (r : Reduction) (number : ℕ → ℤ → ℤ) (lane old : ℕ → ℤ) (from to : ℕ → Bool) (es : List Edge) (low v : ℕ) (found more : List EntryChange) → low ≤ v
     → ((u : ℕ) → lane u ≡ old u) → more ≡ found ++ changes_at lane (pulled r number lane from es) (cond (to v) (v ∷ []) [])
     → found ≡ changed_from old (pulled_to r number old from to es) low (v - low)
     → more ≡ changed_from old (pulled_to r number old from to es) low (v + 1 - low)
@@ -77,7 +79,7 @@ vertex_more r number lane old from to es low v found more l same is was =
     let one : 1 ≡ v + 1 - v = omega arith in
     range_more r number lane old from to es low v (v + 1) (v ∷ []) (filter to (v ∷ [])) found more l (omega arith) same (ap (range_with_len v) one) refl is was
 
-pub passed_more : (r : Reduction) (number : ℕ → ℤ) (lane old : ℕ → ℤ) (from to : ℕ → Bool) (es : List Edge) (low v : ℕ) (found more : List EntryChange) → low ≤ v
+pub passed_more : (r : Reduction) (number : ℕ → ℤ → ℤ) (lane old : ℕ → ℤ) (from to : ℕ → Bool) (es : List Edge) (low v : ℕ) (found more : List EntryChange) → low ≤ v
     → ((u : ℕ) → lane u ≡ old u) → to v ≡ true → more ≡ found ++ change_at lane (pulled r number lane from es) v
     → found ≡ changed_from old (pulled_to r number old from to es) low (v - low)
     → more ≡ changed_from old (pulled_to r number old from to es) low (v + 1 - low)
@@ -86,7 +88,7 @@ passed_more r number lane old from to es low v found more l same passes is was =
     vertex_more r number lane old from to es low v found more l same
     (is ∙ ap (λ cs. found ++ cs) (sym (append-nil (change_at lane new v))) ∙ ap (λ (b : Bool). found ++ changes_at lane new (cond b (v ∷ []) [])) (sym passes)) was
 
-pub left_more : (r : Reduction) (number : ℕ → ℤ) (lane old : ℕ → ℤ) (from to : ℕ → Bool) (es : List Edge) (low v : ℕ) (found : List EntryChange) → low ≤ v
+pub left_more : (r : Reduction) (number : ℕ → ℤ → ℤ) (lane old : ℕ → ℤ) (from to : ℕ → Bool) (es : List Edge) (low v : ℕ) (found : List EntryChange) → low ≤ v
     → ((u : ℕ) → lane u ≡ old u) → to v ≡ false
     → found ≡ changed_from old (pulled_to r number old from to es) low (v - low)
     → found ≡ changed_from old (pulled_to r number old from to es) low (v + 1 - low)

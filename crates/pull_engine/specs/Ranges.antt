@@ -1,7 +1,5 @@
 -- What a pull tells of a range of destinations.
 use Rattle.std.specs.Prelude.{◌≡◌, ℕ, ℤ, Bool, if◌then◌else◌, Option, Some, None, List, [], ◌∷◌, ◌++◌}
-use Rattle.std.specs.List.{filter}
-use Rattle.std.specs.Map.{keys_of}
 use Rattle.apply_options.specs.declared.reduction.Reduction.{Reduction}
 use Rattle.kernels.specs.StepTree.{StepsTree}
 use Rattle.kernels.specs.State.{StateValue}
@@ -19,29 +17,30 @@ use Rattle.edge_fold.specs.declared.gathered.GatheredIn.{GatheredIn}
 use Rattle.edge_fold.specs.Changed.{change_at, changed_from}
 use Rattle.edge_fold.specs.Folded.{AreKernels}
 use Rattle.edge_fold.specs.Given.{IsReducedBy, all_given, given_on, reduced_at}
-use Rattle.edge_fold.specs.ReducedContributions.{reduced_with}
+use Rattle.edge_fold.specs.EntryNumbers.{reduced_over}
+use Rattle.pull_engine.specs.Columns.{passing}
 
 -- those of the vertices whose entry differs, in their order
 abbrev pub changes_at : (old new : ℕ → ℤ) → List ℕ → List EntryChange
 changes_at old new [] = []
 changes_at old new (v ∷ vs) = change_at old new v ++ changes_at old new vs
 
--- the entry at a vertex, reduced with the numbers of those of its sources that pass
-abbrev pub pulled : Reduction → (number : ℕ → ℤ) → (old : ℕ → ℤ) → (from : ℕ → Bool) → List Edge → ℕ → ℤ
-pulled r number old from es v = reduced_with r number (old v) (filter from (keys_of (sources_of v es)))
+-- the entry at a vertex, reduced with the numbers of those of its sources that pass, by the sources and the weights
+abbrev pub pulled : Reduction → (number : ℕ → ℤ → ℤ) → (old : ℕ → ℤ) → (from : ℕ → Bool) → List Edge → ℕ → ℤ
+pulled r number old from es v = reduced_over r number (old v) (passing from (sources_of v es))
 
 -- the same where the vertex passes, and else the entry
-abbrev pub pulled_to : Reduction → (number : ℕ → ℤ) → (old : ℕ → ℤ) → (from to : ℕ → Bool) → List Edge → ℕ → ℤ
+abbrev pub pulled_to : Reduction → (number : ℕ → ℤ → ℤ) → (old : ℕ → ℤ) → (from to : ℕ → Bool) → List Edge → ℕ → ℤ
 pulled_to r number old from to es v = if to v then pulled r number old from es v else old v
 
--- the place of the vector to which a function of a shape gives by the sources alone
+-- the place of the vector to which a function of a shape gives by the sources and the weights
 abbrev pub shape_vector : Shape → Option ℕ
 shape_vector shape.Other = None
 shape_vector (shape.Source x r) = Some x
 shape_vector (shape.Entry x r y) = Some x
 shape_vector (shape.EntryPlus x r y n) = Some x
 shape_vector (shape.Constant x r n) = Some x
-shape_vector (shape.EntryWith x r y o) = None
+shape_vector (shape.EntryWith x r y o) = Some x
 
 -- what the functions give on every edge is what one of this shape gives
 abbrev pub IsShapeOfApply : Shape → EdgeKernel → Option (Bor EdgeKernel) → Type 0

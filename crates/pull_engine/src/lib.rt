@@ -7,17 +7,17 @@
 //! A destination is tested once, and before its sources are read. Sources are tested in bits: those of a set that is
 //! kept so, or bits that are made once for an apply. A filter is run over blocks of 128 vertices, once for each vertex; one
 //! that compares entries with a constant is tested as destinations come, where the function has one of the shapes below.
-//! Sources are read in blocks of 128, and what passes goes to `edge_fold`, where each destination has one writer. Where a
-//! function reads the weights of edges, a second block has those of the sources: that is asked once for a destination, and
-//! for other functions no weight is read.
+//! Sources are read in blocks of 128, and what passes goes to `edge_fold`, where each destination has one writer.
+//! Where a function reads the weights of edges, a second block has those of the sources; that is asked once for a destination,
+//! and by other functions no weight is read.
 //!
-//! One function that gives a vector by its sources alone, whatever the weights, in one of the shapes of `kernels`, needs
-//! no scratch: a pull of a range of destinations is one loop that is made for the function. The entry of a destination is
-//! reduced with the numbers of its sources, and where that is another number, a change is added to an ascending list.
-//! Where one source decides ([`one_source_decides`]), the walk over the sources ends there: downward for the greatest
-//! source, upward for the least, and at the first for a number that all sources give. So breadth-first search reads of
-//! each vertex that it has not reached only the sources up to the first in the frontier, as the bottom-up step of
-//! direction-optimizing breadth-first search (Beamer, Asanović, Patterson, SC 2012).
+//! One function that gives a vector by its sources, or by an entry of theirs with the weight, in one of the shapes of
+//! `kernels`, needs no scratch: a pull of a range of destinations is one loop that is made for the function, and only the
+//! loop for weights reads any. The entry of a destination is reduced with the numbers of its sources, and where that is
+//! another number, a change is added to an ascending list. Where one source decides ([`one_source_decides`]), the walk over
+//! the sources ends there: downward for the greatest source, upward for the least, and at the first for a number that all
+//! sources give. So breadth-first search reads of each vertex that it has not reached only the sources up to the first in
+//! the frontier, as the bottom-up step of direction-optimizing breadth-first search (Beamer, Asanović, Patterson, SC 2012).
 //!
 //! [`PullWork`] is an apply in pieces, which workers may do side by side: the destinations are cut as the schedule says
 //! (`crew::Partition`), a piece answers what the edges into its destinations give, and [`PullWork::merge`] makes the changes of

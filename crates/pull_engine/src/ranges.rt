@@ -1,4 +1,4 @@
-//! Pulls of a range of destinations, where one function gives each of them by its sources alone.
+//! Pulls of a range of destinations, where one function gives each of them by its sources and the weights of their edges.
 ghost use Rattle.std.specs.Prelude.{◌≡◌, ℕ, ◌≤◌, ◌++◌, Bool, length, IfOk, IfSome, OnOk};
 ghost use Rattle.std.specs.List.{filter};
 ghost use Rattle.kernels.specs.State.{StateValue};
@@ -86,6 +86,7 @@ fn pull_tested<F: SourceFold>(
 {
     let old = range.context.vectors.lane(vector);
     let mut block = [0u32; 128];
+    let mut weights = [0i64; 128];
     let mut changes = Vec::new(alloc);
     'vertices: for vertex in range.low..range.high {
         if test.passes(vertex) {
@@ -96,6 +97,7 @@ fn pull_tested<F: SourceFold>(
                 old,
                 vertex,
                 &mut block,
+                &mut weights,
                 &mut changes,
             )?;
         }
@@ -116,6 +118,7 @@ fn pull_members<F: SourceFold>(
 {
     let old = range.context.vectors.lane(vector);
     let mut block = [0u32; 128];
+    let mut weights = [0i64; 128];
     let mut changes = Vec::new(alloc);
     'members: for member in set.iter() {
         pull_one(
@@ -125,6 +128,7 @@ fn pull_members<F: SourceFold>(
             old,
             member,
             &mut block,
+            &mut weights,
             &mut changes,
         )?;
     }
@@ -193,8 +197,18 @@ fn pull_listed<F: SourceFold>(
         ++ changes_at (lane_entry old.entry) (pulled (F.reduction fold.now) (F.number fold.now) (lane_entry old.entry) (passes_words from.entry) flat.now.edges) destinations.now) }
 {
     let mut block = [0u32; 128];
+    let mut weights = [0i64; 128];
     'destinations: for destination in destinations {
-        pull_one(flat, fold, from, old, *destination, &mut block, changes)?;
+        pull_one(
+            flat,
+            fold,
+            from,
+            old,
+            *destination,
+            &mut block,
+            &mut weights,
+            changes,
+        )?;
     }
     Ok(())
 }
@@ -208,14 +222,17 @@ fn pull_one<F: SourceFold>(
     old: Lane<'_>,
     destination: u32,
     block: &mut [u32],
+    weights: &mut [i64],
     changes: &mut Vec<EntryChange>,
 ) -> Result<(), AllocError>
-    requires { length block.old ≡ 128 }
+    requires block { length block.old ≡ 128 }
+    requires weights { length weights.old ≡ 128 }
     ensures room { length block.new ≡ 128 }
+    ensures weights { length weights.new ≡ 128 }
     ensures change { OnOk result (changes.new.items ≡ changes.old.items
         ++ change_at (lane_entry old.entry) (pulled (F.reduction fold.now) (F.number fold.now) (lane_entry old.entry) (passes_words from.entry) flat.now.edges) destination) }
 {
     let before = old.get(destination as usize);
-    let number = fold.fold(before, flat.in_set(destination), from, block);
+    let number = fold.fold(before, flat.in_set(destination), from, block, weights);
     push_change(destination, before, number, changes)
 }

@@ -1,37 +1,39 @@
-//! What the sources of a vertex give its entry, by one function.
+//! What the sources of a vertex and the weights of their edges give its entry, by one function.
 ghost use Rattle.std.specs.Prelude.{◌≡◌, ℕ, ℤ, pos, length};
-ghost use Rattle.std.specs.List.{filter};
-ghost use Rattle.std.specs.Map.{keys_of};
 ghost use Rattle.apply_options.specs.declared.reduction.Reduction.{Reduction as Reducing};
 ghost use Rattle.apply_options.specs.declared.reduction.Reduction.TheVariants.{Min, Max};
 ghost use Rattle.edge_apply.specs.Words.{passes_words};
-ghost use Rattle.edge_fold.specs.ReducedContributions.{reduced_with};
+ghost use Rattle.edge_fold.specs.EntryNumbers.{entry_with, reduced_over};
+ghost use Rattle.pull_engine.specs.Columns.{passing};
 ghost use Rattle.pull_engine.specs.EarlySources.{CountsOnce};
 
 use crate::early_sources::{first_passing, last_passing};
 use algorithm_meaning::reduce;
 use apply_options::Reduction;
-use edge_apply::keep_members;
-use edge_fold::{SourceNumbers, reduce_sources};
+use edge_apply::{keep_members, keep_members_weighted};
+use edge_fold::{EntryWith, SourceNumbers, reduce_entries, reduce_sources};
 use vertex_blocks::{NeighbourForm, NeighbourSet, NeighbourWalk, SetWalk};
 
-/// An entry, reduced with the numbers of sources.
+/// An entry, reduced with the numbers of sources, by the sources and the weights of their edges.
 pub(crate) trait SourceFold {
     ghost reduction: { Self → Reducing };
 
-    ghost number: { Self → ℕ → ℤ };
+    ghost number: { Self → ℕ → ℤ → ℤ };
 
-    /// The entry reduced with the numbers of those sources whose bits are set. The block is lent.
+    /// The entry reduced with the numbers of those sources whose bits are set. The blocks are lent.
     fn fold(
         &self,
         old: i64,
         sources: NeighbourSet<'_>,
         from: Option<&[u64]>,
         block: &mut [u32],
+        weights: &mut [i64],
     ) -> i64
-        requires { length block.old ≡ 128 }
+        requires block { length block.old ≡ 128 }
+        requires weights { length weights.old ≡ 128 }
         ensures room { length block.new ≡ 128 }
-        ensures number { result ≡ reduced_with (reduction self.now) (number self.now) old (filter (passes_words from.entry) (keys_of sources.entry)) };
+        ensures weights { length weights.new ≡ 128 }
+        ensures number { result ≡ reduced_over (reduction self.now) (number self.now) old (passing (passes_words from.entry) sources.entry) };
 }
 
 /// The greatest source: the walk goes downward, and ends at the first that passes.
@@ -50,17 +52,24 @@ pub(crate) struct OneForAny {
     ghost once: { CountsOnce reduction },
 }
 
-/// A number of each source: the walk goes over all, in blocks.
+/// A number of each source, whatever the weight: the walk goes over all, in blocks.
 #[derive(Drop)]
 pub(crate) struct AllSources<N> {
     pub(crate) reduction: Reduction,
     pub(crate) numbers: N,
 }
 
+/// An entry of each source with the weight of its edge: the walk goes over all, in blocks, and reads the weights.
+#[derive(Drop)]
+pub(crate) struct WeightedSources<'a> {
+    pub(crate) reduction: Reduction,
+    pub(crate) numbers: EntryWith<'a>,
+}
+
 impl SourceFold for GreatestSource {
     ghost reduction = { λ _. Max };
 
-    ghost number = { λ _ s. pos s };
+    ghost number = { λ _ s _. pos s };
 
     #[inline]
     fn fold(
@@ -69,6 +78,7 @@ impl SourceFold for GreatestSource {
         sources: NeighbourSet<'_>,
         from: Option<&[u64]>,
         block: &mut [u32],
+        _weights: &mut [i64],
     ) -> i64 {
         if sources.len() == 0 {
             return old;
@@ -83,7 +93,7 @@ impl SourceFold for GreatestSource {
 impl SourceFold for LeastSource {
     ghost reduction = { λ _. Min };
 
-    ghost number = { λ _ s. pos s };
+    ghost number = { λ _ s _. pos s };
 
     #[inline]
     fn fold(
@@ -92,6 +102,7 @@ impl SourceFold for LeastSource {
         sources: NeighbourSet<'_>,
         from: Option<&[u64]>,
         _block: &mut [u32],
+        _weights: &mut [i64],
     ) -> i64 {
         if sources.len() == 0 {
             return old;
@@ -106,7 +117,7 @@ impl SourceFold for LeastSource {
 impl SourceFold for OneForAny {
     ghost reduction = { λ f. f.reduction };
 
-    ghost number = { λ f _. f.number };
+    ghost number = { λ f _ _. f.number };
 
     #[inline]
     fn fold(
@@ -115,6 +126,7 @@ impl SourceFold for OneForAny {
         sources: NeighbourSet<'_>,
         from: Option<&[u64]>,
         _block: &mut [u32],
+        _weights: &mut [i64],
     ) -> i64 {
         match first_passing(sources, from) {
             Some(_) => reduce(self.reduction, old, self.number),
@@ -126,7 +138,7 @@ impl SourceFold for OneForAny {
 impl<N: SourceNumbers> SourceFold for AllSources<N> {
     ghost reduction = { λ f. f.reduction };
 
-    ghost number = { λ f. N.number f.numbers };
+    ghost number = { λ f s _. N.number f.numbers s };
 
     #[inline]
     fn fold(
@@ -135,6 +147,7 @@ impl<N: SourceNumbers> SourceFold for AllSources<N> {
         sources: NeighbourSet<'_>,
         from: Option<&[u64]>,
         block: &mut [u32],
+        _weights: &mut [i64],
     ) -> i64 {
         match sources.into_form() {
             NeighbourForm::Packed(list) => {
@@ -161,6 +174,47 @@ impl<N: SourceNumbers> SourceFold for AllSources<N> {
     }
 }
 
+impl SourceFold for WeightedSources<'_> {
+    ghost reduction = { λ f. f.reduction };
+
+    ghost number = { λ f. entry_with f.numbers };
+
+    #[inline]
+    fn fold(
+        &self,
+        old: i64,
+        sources: NeighbourSet<'_>,
+        from: Option<&[u64]>,
+        block: &mut [u32],
+        weights: &mut [i64],
+    ) -> i64 {
+        match sources.into_form() {
+            NeighbourForm::Packed(list) => {
+                fold_weighted_walk(
+                    self.reduction,
+                    self.numbers,
+                    old,
+                    list.ascending(),
+                    from,
+                    block,
+                    weights,
+                )
+            }
+            NeighbourForm::Chunked(set) => {
+                fold_weighted_walk(
+                    self.reduction,
+                    self.numbers,
+                    old,
+                    SetWalk::new(set),
+                    from,
+                    block,
+                    weights,
+                )
+            }
+        }
+    }
+}
+
 /// The entry reduced with the numbers of all sources of a walk that pass.
 #[inline]
 fn fold_walk<N: SourceNumbers, W: NeighbourWalk + Drop>(
@@ -173,13 +227,40 @@ fn fold_walk<N: SourceNumbers, W: NeighbourWalk + Drop>(
 ) -> i64
     requires { length block.old ≡ 128 }
     ensures room { length block.new ≡ 128 }
-    ensures number { result ≡ reduced_with reduction (N.number numbers.now) old (filter (passes_words from.entry) (keys_of (W.coming sources))) }
+    ensures number { result ≡ reduced_over reduction (λ s _. N.number numbers.now s) old (passing (passes_words from.entry) (W.coming sources)) }
 {
     let mut number = old;
     'rounds: while sources.len() > 0 {
         let count = sources.fill(block);
         let kept = keep_members(from, block, count);
         number = reduce_sources(reduction, numbers, number, &block[..kept]);
+    }
+    number
+}
+
+/// The same with the weights of the sources' edges.
+#[inline]
+fn fold_weighted_walk<W: NeighbourWalk + Drop>(
+    reduction: Reduction,
+    numbers: EntryWith<'_>,
+    old: i64,
+    mut sources: W,
+    from: Option<&[u64]>,
+    block: &mut [u32],
+    weights: &mut [i64],
+) -> i64
+    requires block { length block.old ≡ 128 }
+    requires weights { length weights.old ≡ 128 }
+    ensures room { length block.new ≡ 128 }
+    ensures weights { length weights.new ≡ 128 }
+    ensures number { result ≡ reduced_over reduction (entry_with numbers.entry) old (passing (passes_words from.entry) (W.coming sources)) }
+{
+    let mut number = old;
+    'rounds: while sources.len() > 0 {
+        let count = sources.fill_weighted(block, weights);
+        let kept = keep_members_weighted(from, block, weights, count);
+        let lent = &weights[..kept];
+        number = reduce_entries(reduction, numbers, number, &block[..kept], lent);
     }
     number
 }

@@ -11,5 +11,6 @@ invariant-destinations g l =
     let new = pulled (g.F.SourceFold.reduction l.fold) (g.F.SourceFold.number l.fold) old (passes_words l.from) (l.flat.edges) in
     record {
       room : length l.block ≡ 128;
+      weights : length l.weights ≡ 128;
       told : l.changes.items ++ changes_at old new (drop l.destination-index l.destinations) ≡ l.fn.changes.items ++ changes_at old new l.destinations;
     }

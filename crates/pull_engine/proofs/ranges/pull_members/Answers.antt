@@ -1,4 +1,4 @@
-use Rattle.std.proofs.Common.{rules, ◌≡◌, ◌-◌, ◌++◌, ℤ, List, Option, append_assoc, sym, ap, ◌∙◌, subst, arith}
+use Rattle.std.proofs.Common.{rules, ◌≡◌, ◌-◌, ◌++◌, ℕ, ℤ, Bool, List, [], Option, append_assoc, sym, ap, ◌∙◌, subst, arith}
 use Rattle.std.proofs.lemmas.List.{append-nil}
 use Rattle.kernels.specs.Value.{entry}
 use Rattle.kernels.specs.declared.endpoint_filter.EndpointFilter.{EndpointFilter}
@@ -19,6 +19,7 @@ members-init g c =
     let all = c.into_iter-member-iterator.ensures.into_iter_gives ∙ c.iter-member-items.ensures.members in
     record {
       room = search rules;
+      weights = search rules;
       told = ap (λ cs. cs ++ changes_at old new c.into_iter-member-iterator.result) c.new-changes.ensures.items ∙ ap (λ us. changes_at old new us) all;
     }
 
@@ -30,6 +31,7 @@ members-preserved g c =
     let rest = changes_at old new c.next.new.self in
     record {
       room = search rules;
+      weights = search rules;
       told = ap (λ cs. cs ++ rest) c.in_ok-pull_one.ensures.change
           ∙ append_assoc c.members.changes.items (change_at old new c.in-Some.member) rest
           ∙ ap (λ us. c.members.changes.items ++ changes_at old new us) (sym c.in-Some.ensures.steps)

@@ -11,5 +11,6 @@ invariant-members g l =
     let new = pulled (g.F.SourceFold.reduction l.fold) (g.F.SourceFold.number l.fold) old (passes_words l.range.from) l.range.flat.now.edges in
     record {
       room : length l.block ≡ 128;
+      weights : length l.weights ≡ 128;
       told : l.changes.items ++ changes_at old new l.member-iterator ≡ changes_at old new l.set.members;
     }

@@ -12,6 +12,7 @@ use Rattle.pull_engine.proofs.ranges.pull_tested.Given as goal
 abbrev pub invariant-vertices : goal.invariant-vertices
 invariant-vertices g l = record {
   room : length l.block ≡ 128;
+  weights : length l.weights ≡ 128;
   begun : l.range.low ≤ l.vertex;
   told : (m : StateValue) (test : ℕ → Bool) → l.range.context.vectors.now.vectors ≡ m.vectors → HasSizes l.range.context.sizes.now m → IsEndTest l.range.to m test
       → l.changes.items ≡ changed_from (entry m.vectors l.vector)

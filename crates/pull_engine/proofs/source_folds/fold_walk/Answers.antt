@@ -1,10 +1,11 @@
-use Rattle.std.proofs.Common.{rules, ℕ, List, FitsSigned, to_z, of_z, w64, ap, ◌∙◌}
+use Rattle.std.proofs.Common.{rules, ◌≡◌, ℕ, ℤ, List, length, take, FitsSigned, to_z, of_z, w64, ap, sym, ◌∙◌}
 use Rattle.std.specs.List.{filter}
 use Rattle.std.specs.Map.{keys_of}
 use Rattle.std.proofs.lemmas.Int.{to_z-of_z}
 use Rattle.edge_apply.specs.Words.{passes_words}
 use Rattle.edge_fold.specs.ReducedContributions.{reduced_with}
 use Rattle.pull_engine.proofs.Deciding.{all_of_round, keys_behind}
+use Rattle.pull_engine.proofs.EntryFolds.{over_passing}
 use Rattle.pull_engine.proofs.source_folds.fold_walk.Goals as goal
 
 pub rounds-preserved : goal.rounds-preserved
@@ -18,8 +19,10 @@ rounds-preserved g c =
     let rest = g.W.NeighbourWalk.coming c.fill-count.new.self in
     record {
       room = search rules;
-      folded = ap (λ (us : List ℕ). reduced_with r number (to_z w64 (of_z w64 came)) (filter p us)) (keys_behind c.fill-count.result all rest c.fill-count.ensures.rest)
+      folded = over_passing r number (to_z w64 (of_z w64 came)) p rest
+          ∙ ap (λ (us : List ℕ). reduced_with r number (to_z w64 (of_z w64 came)) (filter p us)) (keys_behind c.fill-count.result all rest c.fill-count.ensures.rest)
           ∙ all_of_round p r number _ (to_z w64 (of_z w64 came)) (keys_of all) c.fill-count.new.block c.keep_members-kept.new.block c.fill-count.result c.keep_members-kept.result c.fill-count.ensures.filled c.keep_members-kept.ensures.kept
           (to_z-of_z w64 came fits ∙ c.reduce_sources-number.ensures)
+          ∙ sym (over_passing r number _ p all)
           ∙ c.rounds.invariant.folded;
     }

@@ -1,7 +1,9 @@
-use Rattle.std.proofs.Common.{ℕ, List, Option, IfSome, sym, subst}
+use Rattle.std.proofs.Common.{ℕ, List, Option, IfSome, sym, subst, ap, ◌∙◌}
 use Rattle.std.proofs.lemmas.Result.{IfOk-weaker}
 use Rattle.vectors.specs.declared.changes.EntryChange.{EntryChange}
 use Rattle.pull_engine.specs.Pieces.{AnswersFor, IsPiecePulled}
+use Rattle.edge_fold.specs.declared.apply_context.ApplyContext.{ApplyContext}
+use Rattle.edge_fold.specs.Folded.{IsContextOf}
 use Rattle.pull_engine.proofs.pieces.PullWorkWork.piece.Goals as goal
 
 pub returns-in_ok-changes-in-Some-clause-out : goal.returns-in_ok-changes-in-Some-clause-out

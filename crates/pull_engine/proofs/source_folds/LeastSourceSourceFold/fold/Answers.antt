@@ -1,4 +1,4 @@
-use Rattle.std.proofs.Common.{rules, ℤ, pos, FitsSigned, to_z, of_z, w64, ap, sym, ◌∙◌}
+use Rattle.std.proofs.Common.{rules, ◌≡◌, ℕ, ℤ, pos, FitsSigned, to_z, of_z, w64, ap, sym, ◌∙◌}
 use Rattle.std.specs.List.{filter}
 use Rattle.std.specs.Map.{keys_of}
 use Rattle.std.proofs.lemmas.Int.{to_z-of_z}
@@ -7,6 +7,7 @@ use Rattle.edge_apply.specs.Words.{passes_words}
 use Rattle.kernels.specs.Arithmetic.{reduced}
 use Rattle.pull_engine.specs.EarlySources.{reduced_once}
 use Rattle.pull_engine.proofs.Deciding.{ascends_filter, least}
+use Rattle.pull_engine.proofs.EntryFolds.{over_passing}
 use Rattle.pull_engine.proofs.source_folds.LeastSourceSourceFold.fold.Goals as goal
 
 pub returns-in-Some-clause-number : goal.returns-in-Some-clause-number
@@ -23,3 +24,13 @@ returns-in-Some-clause-number c =
     ∙ ap (λ (n : ℤ). reduced Min old n) (to_z-of_z w64 c.from.result source_fits ∙ c.from.ensures)
     ∙ ap (λ o. reduced_once Min (λ s. pos s) old o) c.in-Some.ensures
     ∙ sym decided
+    ∙ sym (over_passing Min (λ s. pos s) c.args.old p c.args.sources)
+
+pub returns-in-None-clause-number : goal.returns-in-None-clause-number
+returns-in-None-clause-number c =
+    let p = passes_words c.args.from in
+    let sources = keys_of c.args.sources in
+    let fits : FitsSigned w64 c.args.old = search rules in
+    let decided = least c.args.old 0 (filter p sources) (ascends_filter p 0 sources c.len.ensures.ascending) in
+    to_z-of_z w64 c.args.old fits ∙ ap (λ o. reduced_once Min (λ s. pos s) c.args.old o) c.in-None.ensures ∙ sym decided
+    ∙ sym (over_passing Min (λ s. pos s) c.args.old p c.args.sources)

@@ -1,4 +1,4 @@
-use Rattle.std.proofs.Common.{rules, ℤ, FitsSigned, to_z, of_z, w64, ap, sym, ◌∙◌}
+use Rattle.std.proofs.Common.{rules, ◌≡◌, ℕ, ℤ, pos, FitsSigned, to_z, of_z, w64, ap, sym, ◌∙◌}
 use Rattle.std.specs.List.{filter}
 use Rattle.std.specs.Map.{keys_of}
 use Rattle.std.proofs.lemmas.Int.{to_z-of_z}
@@ -6,6 +6,7 @@ use Rattle.edge_apply.specs.Words.{passes_words}
 use Rattle.kernels.specs.Arithmetic.{reduced}
 use Rattle.pull_engine.specs.EarlySources.{reduced_once}
 use Rattle.pull_engine.proofs.Deciding.{one_number}
+use Rattle.pull_engine.proofs.EntryFolds.{over_passing}
 use Rattle.pull_engine.proofs.source_folds.OneForAnySourceFold.fold.Goals as goal
 
 pub returns-in-Some-clause-number : goal.returns-in-Some-clause-number
@@ -21,3 +22,15 @@ returns-in-Some-clause-number c =
     ∙ ap (λ (n : ℤ). reduced f.reduction old n) (to_z-of_z w64 f.number number_fits)
     ∙ ap (λ o. reduced_once f.reduction (λ s. f.number) old o) c.in-Some.ensures
     ∙ sym (one_number f.reduction f.once f.number old (filter p (keys_of c.args.sources)))
+    ∙ sym (over_passing f.reduction (λ s. f.number) old p c.args.sources)
+
+pub returns-in-None-clause-number : goal.returns-in-None-clause-number
+returns-in-None-clause-number c =
+    let p = passes_words c.args.from in
+    let old = c.args.old in
+    let f = c.args.self.now in
+    let fits : FitsSigned w64 old = search rules in
+    to_z-of_z w64 old fits
+    ∙ ap (λ o. reduced_once f.reduction (λ s. f.number) old o) c.in-None.ensures
+    ∙ sym (one_number f.reduction f.once f.number old (filter p (keys_of c.args.sources)))
+    ∙ sym (over_passing f.reduction (λ s. f.number) old p c.args.sources)
