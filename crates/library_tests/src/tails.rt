@@ -38,3 +38,21 @@ fn is_spelled(alloc: Global, (base, list, bytes): Spelling) -> Result<bool, Fail
     let read = Tail::from_bytes(alloc, base, bytes)?.share()?;
     Ok(made && read.iter().eq(list.iter().copied()))
 }
+
+// How many strings of three bytes spell a list without a base.
+fn spellings_of_three(alloc: Global) -> u32 {
+    let mut count = 0u32;
+    for number in 0..1u32 << 24 {
+        let bytes = [number as u8, (number >> 8) as u8, (number >> 16) as u8];
+        if Tail::from_bytes(alloc, None, &bytes).is_ok() {
+            count = count.wrapping_add(1);
+        }
+    }
+    count
+}
+
+#[test]
+fn so_many_strings_of_three_bytes_spell_a_list(rt: HostRuntime) -> Result<(), Fail> {
+    assert_eq!(rt; spellings_of_three(rt.alloc()), 5_455_936);
+    Ok(())
+}
