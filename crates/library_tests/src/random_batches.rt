@@ -121,7 +121,7 @@ const ALL_OVER: Kind = Kind {
 
 #[test]
 fn many_batches_make_what_they_make_of_a_table(rt: HostRuntime) -> Result<(), Fail> {
-    assert!(rt; agree(rt.alloc(), 70, 10_000, (ALL_OVER, ALL_OVER))?);
+    assert!(rt; agree(rt.alloc(), 70, 6_000, (ALL_OVER, ALL_OVER))?);
     Ok(())
 }
 
@@ -140,6 +140,6 @@ const SHRINKING: Kind = Kind {
 
 #[test]
 fn lists_that_grow_and_shrink_are_those_of_a_table(rt: HostRuntime) -> Result<(), Fail> {
-    assert!(rt; agree(rt.alloc(), 330, 12_000, (GROWING, SHRINKING))?);
+    assert!(rt; agree(rt.alloc(), 330, 8_000, (GROWING, SHRINKING))?);
     Ok(())
 }

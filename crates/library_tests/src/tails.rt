@@ -43,8 +43,8 @@ fn is_spelled(alloc: Global, (base, list, bytes): Spelling) -> Result<bool, Fail
 fn spellings_of_three(alloc: Global) -> u32 {
     let mut count = 0u32;
     for number in 0..1u32 << 24 {
-        let bytes = [number as u8, (number >> 8) as u8, (number >> 16) as u8];
-        if Tail::from_bytes(alloc, None, &bytes).is_ok() {
+        let bytes = number.to_le_bytes();
+        if Tail::from_bytes(alloc, None, &bytes[..3]).is_ok() {
             count = count.wrapping_add(1);
         }
     }
