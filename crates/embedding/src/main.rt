@@ -39,7 +39,11 @@ fn main(rt: HostRuntime) -> Result<()> {
 
     let path = batch(
         alloc,
-        &[Entry::Add(0, 1, 1), Entry::Add(1, 2, 1), Entry::Add(2, 3, 1)],
+        &[
+            Entry::Add(0, 1, 1),
+            Entry::Add(1, 2, 1),
+            Entry::Add(2, 3, 1),
+        ],
     )?;
     let first = versions.commit(alloc, path)?;
     let (ticket, held) = versions.acquire(Which::Newest)?;

@@ -48,7 +48,10 @@ fn grow_to<J: Naming, W: Wait + Drop, R: Threads + Wait + Sync>(
     number: u64,
 ) -> Result<u64, SharedError> {
     let vertex = number.min(MOST) as u32;
-    let entries = [Entry::Add(vertex, 0, 1), Entry::Grow(vertex.wrapping_add(1))];
+    let entries = [
+        Entry::Add(vertex, 0, 1),
+        Entry::Grow(vertex.wrapping_add(1)),
+    ];
     commit(rt, alloc, graph, me, &entries)
 }
 
