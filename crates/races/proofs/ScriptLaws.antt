@@ -47,7 +47,7 @@ changed : (programs : List ProgramTree) (lines : List (List ℕ)) → Leaves pro
     → (option_map (λ s. s.versions) (state_after_lines programs (by_command programs (Some o) c).state lines) ≡ Some (state_after_commits o.versions bs))
     × ((by_command programs (Some o) c).text ++ replies_to_lines programs (by_command programs (Some o) c).state lines ≡ commit_replies o.versions bs)
 changed programs lines leaves None o bs e = absurd (none≢some bs e)
-changed programs lines leaves (Some (command.Add source destination weight)) o bs e = leaves (joined o (entry.Add source destination)).state bs e
+changed programs lines leaves (Some (command.Add source destination weight)) o bs e = leaves (joined o (entry.Add source destination weight)).state bs e
 changed programs lines leaves (Some (command.Remove source destination)) o bs e = leaves (joined o (entry.Remove source destination)).state bs e
 changed programs lines leaves (Some (command.Grow vertices)) o bs e = leaves (joined o (entry.Grow vertices)).state bs e
 changed programs lines leaves (Some command.Commit) o bs e = committed programs lines leaves o bs (batches_in [] lines) refl e
