@@ -104,7 +104,8 @@ fn commit_all<J: Naming, W: Wait + Drop, T: Threads + Wait + Sync>(
     let mut newest = 0;
     for vertex in 1..VERTICES {
         let mut batch = Batch::new(alloc);
-        batch.push(Entry::Add(vertex - 1, vertex, 1))?;
+        let weight = i64::from(vertex);
+        batch.push(Entry::Add(vertex - 1, vertex, weight))?;
         newest = graph.commit(threads, alloc, writer, batch)?;
     }
     Ok(newest)
