@@ -24,8 +24,8 @@
 //! set is 64 bytes beside its tails and its tree, which has 8 bytes for the weight of each head. One with
 //! no entry takes no memory, and one that is all prefix takes that of its prefix.
 //!
-//! Nothing stands on this crate yet. Operations on sets and graphs stand on `c_tree`, whose sets have no
-//! weights; they will stand on this crate in its place when edges have weights. C-trees are those of
+//! Operations on sets stand on this crate, and graphs, which keep the neighbours of a vertex that has
+//! many in such a set, each with the weight of its edge. C-trees are those of
 //! Aspen (Dhulipala, Blelloch, Shun, PLDI 2019), with a balanced tree of chunks and a hash of our own.
 #![tactic(auto)]
 

@@ -24,7 +24,7 @@
 //! `union_forked` and `difference_forked` give the same answers, with the halves on two threads at the
 //! first levels; a `Fork` is told of each half that begins. Only they need a handle of threads.
 //!
-//! Nothing stands on this crate yet: graphs stand on `set_ops`, whose sets have no weights. The recursion
+//! Graphs stand on this crate, where a batch changes the neighbours of a vertex that has many. The recursion
 //! is that of "Just Join for Parallel Ordered Sets" (Blelloch, Ferizovic, Sun, SPAA 2016) as Aspen has it
 //! on C-trees (PLDI 2019).
 #![tactic(auto)]
