@@ -9,11 +9,9 @@ use Rattle.edge_fold.specs.EntryNumbers.{IsEntryContribution, IsReducedOver, eac
 use Rattle.edge_fold.specs.Given.{column, each_given, entries_of, for_vector, given_on, reduced_at, row}
 use Rattle.edge_fold.proofs.Columns.{equal, grouped, joined_at, nothing_either, one_for}
 
-pub one_entry_more : (r : Reduction) (f : ℕ → ℤ → ℤ) (n : ℤ) (k : ℕ) (ss : List ℕ) (ws : List ℤ) → k < length ss → length ws ≡ length ss
-    → reduced_over r f (reduced r n (f (get_or ss k 0) (get_or ws k (pos 0)))) (entries_of (drop (k + 1) ss) (drop (k + 1) ws)) ≡ reduced_over r f n (entries_of (drop k ss) (drop k ws))
-one_entry_more r f n k ss ws l same =
-    sym (ap (λ (xs : List ℕ). reduced_over r f n (entries_of xs (drop k ws))) (drop_more ss k 0 l)
-    ∙ ap (λ (xs : List ℤ). reduced_over r f n (entries_of (get_or ss k 0 ∷ drop (k + 1) ss) xs)) (drop_more ws k (pos 0) (omega (arith, l, same))))
+pub one_entry_more : (r : Reduction) (f : ℕ → ℤ → ℤ) (n : ℤ) (k : ℕ) (es : List (ℕ × ℤ)) → k < length es
+    → reduced_over r f (reduced r n (f (get_or es k (0, pos 1)).0 (get_or es k (0, pos 1)).1)) (drop (k + 1) es) ≡ reduced_over r f n (drop k es)
+one_entry_more r f n k es l = sym (ap (λ (xs : List (ℕ × ℤ)). reduced_over r f n xs) (drop_more es k (0, pos 1) l))
 
 -- the number of one weight more of a row
 pub one_weight_more : (r : Reduction) (v : ℕ) (f : ℤ → ℤ) (n : ℤ) (k : ℕ) (ds : List ℕ) (ws : List ℤ) → k < length ds → length ws ≡ length ds

@@ -1,5 +1,5 @@
 //! Numbers that depend on the source of an edge and on its weight.
-ghost use Rattle.std.specs.Prelude.{◌≡◌, ℕ, ℤ, IfSome, length};
+ghost use Rattle.std.specs.Prelude.{◌≡◌, ◌<◌, ℕ, ℤ, pos, List, IfSome, length, get_or};
 ghost use Rattle.edge_fold.specs.Given.{entries_of};
 ghost use Rattle.edge_fold.specs.EntryNumbers.{IsReducedOver, entry_with, number_with, reduced_over};
 
@@ -24,6 +24,52 @@ impl EntryWith<'_> {
     }
 }
 
+/// Sources with the weights of their edges, each at an index.
+pub trait SourceEntries {
+    ghost entries: { Self → List (ℕ × ℤ) };
+
+    /// How many there are.
+    fn len(&self) -> usize
+        ensures { result ≡ length (entries self.now) };
+
+    /// The source at an index.
+    fn source(&self, index: usize) -> u32
+        requires { index < length (entries self.now) }
+        ensures { result ≡ (get_or (entries self.now) index (0, pos 1)).0 };
+
+    /// The weight at an index.
+    fn weight(&self, index: usize) -> i64
+        requires { index < length (entries self.now) }
+        ensures { result ≡ (get_or (entries self.now) index (0, pos 1)).1 };
+}
+
+/// Sources in a column, and the weights of their edges in another.
+#[derive(Drop)]
+struct EntryColumn<'a> {
+    sources: &'a [u32],
+    weights: &'a [i64],
+    ghost same: { length weights.now ≡ length sources.now },
+}
+
+impl SourceEntries for EntryColumn<'_> {
+    ghost entries = { λ c. entries_of c.sources.now c.weights.now };
+
+    #[inline(always)]
+    fn len(&self) -> usize {
+        self.sources.len()
+    }
+
+    #[inline(always)]
+    fn source(&self, index: usize) -> u32 {
+        self.sources[index]
+    }
+
+    #[inline(always)]
+    fn weight(&self, index: usize) -> i64 {
+        self.weights[index]
+    }
+}
+
 /// A number on the left of an operator, with the weight of an edge on its right.
 #[derive(Clone, Copy)]
 pub(crate) struct NumberWith {
@@ -42,7 +88,24 @@ impl NumberWith {
 
 /// A number reduced with those of sources and weights, in their order.
 #[inline]
-pub fn reduce_entries(
+pub fn reduce_entries<E: SourceEntries>(
+    reduction: Reduction,
+    numbers: EntryWith<'_>,
+    number: i64,
+    entries: &E,
+) -> i64
+    ensures { result ≡ reduced_over reduction (entry_with numbers.entry) number (E.entries entries.now) }
+{
+    match reduction {
+        Reduction::Min => reduce_by(Reduction::Min, numbers, number, entries),
+        Reduction::Max => reduce_by(Reduction::Max, numbers, number, entries),
+        Reduction::Plus => reduce_by(Reduction::Plus, numbers, number, entries),
+    }
+}
+
+/// The same, where sources and weights stand in columns.
+#[inline]
+pub fn reduce_columns(
     reduction: Reduction,
     numbers: EntryWith<'_>,
     number: i64,
@@ -52,11 +115,8 @@ pub fn reduce_entries(
     requires { length weights.now ≡ length sources.now }
     ensures { result ≡ reduced_over reduction (entry_with numbers.entry) number (entries_of sources.now weights.now) }
 {
-    match reduction {
-        Reduction::Min => reduce_by(Reduction::Min, numbers, number, sources, weights),
-        Reduction::Max => reduce_by(Reduction::Max, numbers, number, sources, weights),
-        Reduction::Plus => reduce_by(Reduction::Plus, numbers, number, sources, weights),
-    }
+    let columns = EntryColumn { sources, weights };
+    reduce_entries(reduction, numbers, number, &columns)
 }
 
 /// The numbers of sources and weights reduced to one, where there is a source.
@@ -72,66 +132,58 @@ pub(crate) fn reduce_all_entries(
     let (first, rest) = sources.split_first()?;
     let (weight, weights_of_rest) = weights.split_first()?;
     let begun = numbers.of(*first, *weight);
-    let number = reduce_entries(reduction, numbers, begun, rest, weights_of_rest);
+    let number = reduce_columns(reduction, numbers, begun, rest, weights_of_rest);
     Some(number)
 }
 
 /// A loop for each operator, so that none asks which it is.
 #[inline(always)]
-fn reduce_by(
+fn reduce_by<E: SourceEntries>(
     reduction: Reduction,
     numbers: EntryWith<'_>,
     first: i64,
-    sources: &[u32],
-    weights: &[i64],
+    entries: &E,
 ) -> i64
-    requires { length weights.now ≡ length sources.now }
-    ensures { result ≡ reduced_over reduction (entry_with numbers.entry) first (entries_of sources.now weights.now) }
+    ensures { result ≡ reduced_over reduction (entry_with numbers.entry) first (E.entries entries.now) }
 {
     let lane = numbers.lane;
     match numbers.operator {
         Operator::Add => {
             let operator = Operator::Add;
-            let sums = EntryWith { lane, operator };
-            reduce_each(reduction, sums, first, sources, weights)
+            reduce_each(reduction, EntryWith { lane, operator }, first, entries)
         }
         Operator::Subtract => {
             let operator = Operator::Subtract;
-            let differences = EntryWith { lane, operator };
-            reduce_each(reduction, differences, first, sources, weights)
+            reduce_each(reduction, EntryWith { lane, operator }, first, entries)
         }
         Operator::Multiply => {
             let operator = Operator::Multiply;
-            let products = EntryWith { lane, operator };
-            reduce_each(reduction, products, first, sources, weights)
+            reduce_each(reduction, EntryWith { lane, operator }, first, entries)
         }
         Operator::Divide => {
             let operator = Operator::Divide;
-            let quotients = EntryWith { lane, operator };
-            reduce_each(reduction, quotients, first, sources, weights)
+            reduce_each(reduction, EntryWith { lane, operator }, first, entries)
         }
         Operator::Remainder => {
             let operator = Operator::Remainder;
-            let remainders = EntryWith { lane, operator };
-            reduce_each(reduction, remainders, first, sources, weights)
+            reduce_each(reduction, EntryWith { lane, operator }, first, entries)
         }
     }
 }
 
 #[inline(always)]
-fn reduce_each(
+fn reduce_each<E: SourceEntries>(
     reduction: Reduction,
     numbers: EntryWith<'_>,
     first: i64,
-    sources: &[u32],
-    weights: &[i64],
+    entries: &E,
 ) -> i64
-    requires { length weights.now ≡ length sources.now }
-    ensures { result ≡ reduced_over reduction (entry_with numbers.entry) first (entries_of sources.now weights.now) }
+    ensures { result ≡ reduced_over reduction (entry_with numbers.entry) first (E.entries entries.now) }
 {
     let mut number = first;
-    'sources: for (k, source) in sources.iter().enumerate() {
-        number = reduce(reduction, number, numbers.of(*source, weights[k]));
+    'entries: for index in 0..entries.len() {
+        let given = numbers.of(entries.source(index), entries.weight(index));
+        number = reduce(reduction, number, given);
     }
     number
 }

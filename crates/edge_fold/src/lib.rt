@@ -65,7 +65,7 @@ pub use apply_changes::has_vector;
 pub use apply_context::{ApplyContext, FoldStart, reads_weights};
 pub use changes::push_change;
 pub use compared::compared_set;
-pub use entry_numbers::{EntryWith, reduce_entries};
+pub use entry_numbers::{EntryWith, SourceEntries, reduce_columns, reduce_entries};
 pub use gathered::{Gathered, GatheredIn};
 pub use scratch::Scratch;
 pub use source_numbers::{

@@ -29,6 +29,7 @@
 #![tactic(auto)]
 
 mod changes;
+mod chosen_sources;
 mod crew_apply;
 mod destinations;
 mod early_sources;

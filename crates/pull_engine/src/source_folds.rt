@@ -7,12 +7,13 @@ ghost use Rattle.edge_fold.specs.EntryNumbers.{entry_with, reduced_over};
 ghost use Rattle.pull_engine.specs.Columns.{passing};
 ghost use Rattle.pull_engine.specs.EarlySources.{CountsOnce};
 
+use crate::chosen_sources::fold_chosen;
 use crate::early_sources::{first_passing, last_passing};
 use algorithm_meaning::reduce;
 use apply_options::Reduction;
 use edge_apply::{keep_members, keep_members_weighted};
-use edge_fold::{EntryWith, SourceNumbers, reduce_entries, reduce_sources};
-use vertex_blocks::{NeighbourForm, NeighbourSet, NeighbourWalk, SetWalk};
+use edge_fold::{EntryWith, SourceNumbers, reduce_columns, reduce_sources};
+use vertex_blocks::{NeighbourForm, NeighbourSet, NeighbourWalk, Neighbours, SetWalk};
 
 /// An entry, reduced with the numbers of sources, by the sources and the weights of their edges.
 pub(crate) trait SourceFold {
@@ -59,7 +60,8 @@ pub(crate) struct AllSources<N> {
     pub(crate) numbers: N,
 }
 
-/// An entry of each source with the weight of its edge: the walk goes over all, in blocks, and reads the weights.
+/// An entry of each source with the weight of its edge: it goes over all, in blocks, and reads the weights, in a packed list
+/// only of those that pass.
 #[derive(Drop)]
 pub(crate) struct WeightedSources<'a> {
     pub(crate) reduction: Reduction,
@@ -190,11 +192,11 @@ impl SourceFold for WeightedSources<'_> {
     ) -> i64 {
         match sources.into_form() {
             NeighbourForm::Packed(list) => {
-                fold_weighted_walk(
+                fold_weighted_list(
                     self.reduction,
                     self.numbers,
                     old,
-                    list.ascending(),
+                    list,
                     from,
                     block,
                     weights,
@@ -238,7 +240,34 @@ fn fold_walk<N: SourceNumbers, W: NeighbourWalk + Drop>(
     number
 }
 
-/// The same with the weights of the sources' edges.
+/// The same of a packed list, with the weights of the sources' edges. Where sources are tested, only the weights of those
+/// are read that pass.
+#[inline]
+fn fold_weighted_list(
+    reduction: Reduction,
+    numbers: EntryWith<'_>,
+    old: i64,
+    list: Neighbours<'_>,
+    from: Option<&[u64]>,
+    block: &mut [u32],
+    weights: &mut [i64],
+) -> i64
+    requires block { length block.old ≡ 128 }
+    requires weights { length weights.old ≡ 128 }
+    ensures room { length block.new ≡ 128 }
+    ensures weights { length weights.new ≡ 128 }
+    ensures number { result ≡ reduced_over reduction (entry_with numbers.entry) old (passing (passes_words from.entry) list.entry) }
+{
+    match from {
+        Some(words) => fold_chosen(reduction, numbers, old, &list, words, block),
+        None => {
+            let walk = list.ascending();
+            fold_weighted_walk(reduction, numbers, old, walk, None, block, weights)
+        }
+    }
+}
+
+/// The same of a walk.
 #[inline]
 fn fold_weighted_walk<W: NeighbourWalk + Drop>(
     reduction: Reduction,
@@ -260,7 +289,7 @@ fn fold_weighted_walk<W: NeighbourWalk + Drop>(
         let count = sources.fill_weighted(block, weights);
         let kept = keep_members_weighted(from, block, weights, count);
         let lent = &weights[..kept];
-        number = reduce_entries(reduction, numbers, number, &block[..kept], lent);
+        number = reduce_columns(reduction, numbers, number, &block[..kept], lent);
     }
     number
 }

@@ -42,7 +42,7 @@ impl SortedUpdates {
         }
     }
 
-    /// As `turned`, with updates without weights sorted by as many threads as there are processors.
+    /// As `turned`, sorted by as many threads as there are processors.
     pub(crate) fn turned_forked<R: Threads + Sync>(
         self,
         rt: &R,
@@ -59,7 +59,10 @@ impl SortedUpdates {
                 sort_forked(rt, alloc, &mut updates)?;
                 Ok(SortedUpdates::Unweighted(updates))
             }
-            SortedUpdates::Weighted(updates) => SortedUpdates::Weighted(updates).turned(alloc),
+            SortedUpdates::Weighted(mut updates) => {
+                weighted_updates::sort_turned_forked(rt, alloc, &mut updates)?;
+                Ok(SortedUpdates::Weighted(updates))
+            }
         }
     }
 

@@ -18,5 +18,5 @@ mod weighted_update;
 
 pub use columns::Columns;
 pub use lasts::keep_last;
-pub use sorts::{sort, sort_forked, sort_turned};
+pub use sorts::{sort, sort_forked, sort_turned, sort_turned_forked};
 pub use weighted_update::WeightedUpdate;

@@ -12,7 +12,7 @@ rounds-preserved g c =
     let a = c.args in
     let p = passes_words a.from in
     let number = entry_with a.numbers in
-    let came = c.reduce_entries-number.result in
+    let came = c.reduce_columns-number.result in
     let fits : FitsSigned w64 came = search rules in
     let filled = c.fill_weighted-count in
     let kept = c.keep_members_weighted-kept in
@@ -24,6 +24,6 @@ rounds-preserved g c =
       room = search rules;
       weights = search rules;
       folded = entries_of_round p a.reduction number _ (to_z w64 (of_z w64 came)) all rest lent filled.result filled.ensures.rest same
-          (to_z-of_z w64 came fits ∙ c.reduce_entries-number.ensures)
+          (to_z-of_z w64 came fits ∙ c.reduce_columns-number.ensures)
           ∙ c.rounds.invariant.folded;
     }

@@ -4,7 +4,7 @@ use Rattle.edge_updates.specs.Updates.{Ascend}
 use Rattle.edge_updates.proofs.KeepingLast.{ascend_once}
 use Rattle.weighted_updates.specs.WeightedUpdates.{decided_weight}
 use Rattle.tree_batch.specs.Sorted.{sorted_pairs}
-use Rattle.tree_batch.proofs.UnitWeights.{same_units, units_ascend, units_alone}
+use Rattle.tree_batch.proofs.UnitWeights.{same_units, units_ascend, units_alone, pairs_ascend, pairs_alone}
 use Rattle.tree_batch.proofs.updates.SortedUpdates.turned_forked.Goals as goal
 
 pub returns-in_ok-sort_forked-in-Unweighted-clause-order : goal.returns-in_ok-sort_forked-in-Unweighted-clause-order
@@ -17,3 +17,9 @@ pub returns-in_ok-sort_forked-in-Unweighted-clause-same : goal.returns-in_ok-sor
 returns-in_ok-sort_forked-in-Unweighted-clause-same g c = λ p.
     same_units c.in-Unweighted.updates.items c.sort_forked.new.updates.items (p.1, p.0) p (c.in_ok-sort_forked-in-Unweighted.ensures.same p ∙ c.turn.ensures.same p.1 p.0)
     ∙ ap (λ s. decided_weight (sorted_pairs s) (p.1, p.0)) (sym c.in-Unweighted.is)
+
+pub sort_turned_forked-requires : goal.sort_turned_forked-requires
+sort_turned_forked-requires g c = pairs_alone c.in-Weighted.updates.items (subst (λ s. Ascend (keys_of (sorted_pairs s))) c.in-Weighted.is c.requires)
+
+pub returns-in_ok-sort_turned_forked-in-Weighted-clause-order : goal.returns-in_ok-sort_turned_forked-in-Weighted-clause-order
+returns-in_ok-sort_turned_forked-in-Weighted-clause-order g c = pairs_ascend c.sort_turned_forked.new.updates.items c.in_ok-sort_turned_forked-in-Weighted.ensures.order
