@@ -21,11 +21,6 @@ one_more p xs ys k i x n false at l is here counts stays =
     })
 
 -- the entries of two columns, place by place
-pub entries-length : (ks : List ℕ) (ws : List ℤ) → length (entries_of ks ws) ≡ length ks
-entries-length [] ws = refl
-entries-length (k ∷ ks) [] = ap suc (entries-length ks [])
-entries-length (k ∷ ks) (w ∷ ws) = ap suc (entries-length ks ws)
-
 pub entries-take : (n : ℕ) (ks : List ℕ) (ws : List ℤ) → length ws ≡ length ks → entries_of (take n ks) (take n ws) ≡ take n (entries_of ks ws)
 entries-take zero ks ws same = refl
 entries-take (suc n) [] ws same = refl
@@ -38,12 +33,6 @@ entries-set i [] (v ∷ vs) x w same = absurd (omega (arith, same))
 entries-set i (k ∷ ks) [] x w same = absurd (omega (arith, same))
 entries-set zero (k ∷ ks) (v ∷ vs) x w same = refl
 entries-set (suc i) (k ∷ ks) (v ∷ vs) x w same = ap (λ es. (k, v) ∷ es) (entries-set i ks vs x w (omega (arith, same)))
-
-pub entries-at : (i : ℕ) (ks : List ℕ) (ws : List ℤ) (d : ℕ) (e : ℤ) (f : ℕ × ℤ) → length ws ≡ length ks → i < length ks → (get_or ks i d, get_or ws i e) ≡ get_or (entries_of ks ws) i f
-entries-at i [] ws d e f same l = absurd (omega (arith, l))
-entries-at i (k ∷ ks) [] d e f same l = absurd (omega (arith, same))
-entries-at zero (k ∷ ks) (w ∷ ws) d e f same l = refl
-entries-at (suc i) (k ∷ ks) (w ∷ ws) d e f same l = entries-at i ks ws d e f (omega (arith, same)) (omega (arith, l))
 
 -- the first entries, read as columns
 pub entries_read : (n : ℕ) (es : List (ℕ × ℤ)) → entries_of (take n (keys_of es)) (take n (values_of es)) ≡ take n es

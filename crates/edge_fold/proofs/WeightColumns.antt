@@ -1,5 +1,5 @@
 -- Entries of neighbours, and weights that do not count.
-use Rattle.std.proofs.Common.{◌≡◌, ℕ, zero, suc, ℤ, Bool, true, false, cond, List, [], ◌∷◌, ◌++◌, length, take, drop, refl, sym, ap, ◌∙◌, arith}
+use Rattle.std.proofs.Common.{◌≡◌, ℕ, zero, suc, ◌<◌, ℤ, Bool, true, false, cond, List, [], ◌∷◌, ◌++◌, length, get_or, take, drop, refl, sym, ap, ◌∙◌, arith}
 use Rattle.std.specs.List.{filter}
 use Rattle.edge_lists.specs.Edge.{Edge, unit_edge, unit_weight}
 use Rattle.apply_options.specs.declared.reduction.Reduction.{Reduction}
@@ -36,6 +36,18 @@ entries_parts (suc n) [] [] same = refl
 entries_parts (suc n) [] (w ∷ ws) same = absurd (omega (arith, same))
 entries_parts (suc n) (k ∷ ks) [] same = absurd (omega (arith, same))
 entries_parts (suc n) (k ∷ ks) (w ∷ ws) same = ap (λ es. (k, w) ∷ es) (entries_parts n ks ws (omega (arith, same)))
+
+-- the entries of two columns, place by place
+pub entries-length : (ks : List ℕ) (ws : List ℤ) → length (entries_of ks ws) ≡ length ks
+entries-length [] ws = refl
+entries-length (k ∷ ks) [] = ap suc (entries-length ks [])
+entries-length (k ∷ ks) (w ∷ ws) = ap suc (entries-length ks ws)
+
+pub entries-at : (i : ℕ) (ks : List ℕ) (ws : List ℤ) (d : ℕ) (e : ℤ) (f : ℕ × ℤ) → length ws ≡ length ks → i < length ks → (get_or ks i d, get_or ws i e) ≡ get_or (entries_of ks ws) i f
+entries-at i [] ws d e f same l = absurd (omega (arith, l))
+entries-at i (k ∷ ks) [] d e f same l = absurd (omega (arith, same))
+entries-at zero (k ∷ ks) (w ∷ ws) d e f same l = refl
+entries-at (suc i) (k ∷ ks) (w ∷ ws) d e f same l = entries-at i ks ws d e f (omega (arith, same)) (omega (arith, l))
 
 -- what is given on an edge is the same with any weight
 pub all_weightless : (m : StateValue) (steps : List StepsTree) → AreWeightless m steps → (e : Edge) → all_given m steps e ≡ all_given m steps (unit_edge (e.0, e.1))

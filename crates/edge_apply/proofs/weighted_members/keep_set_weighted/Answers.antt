@@ -5,7 +5,8 @@ use Rattle.std.proofs.lemmas.List.Filters.{FiltersInPlace}
 use Rattle.std.specs.List.{filter}
 use Rattle.edge_fold.specs.Given.{entries_of}
 use Rattle.edge_apply.specs.Words.{is_set}
-use Rattle.edge_apply.proofs.Kept.{entries-at, entries-length, entries-set, entries-take, one_more}
+use Rattle.edge_fold.proofs.WeightColumns.{entries-at, entries-length}
+use Rattle.edge_apply.proofs.Kept.{entries-set, entries-take, one_more}
 use Rattle.edge_apply.proofs.weighted_members.keep_set_weighted.Goals as goal
 
 pub places-preserved : goal.places-preserved
