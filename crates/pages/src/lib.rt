@@ -47,6 +47,7 @@ mod laws;
 mod loading;
 mod neighbours;
 mod offsets;
+mod packed_list;
 mod page;
 #[cfg(test)]
 mod tests;
@@ -61,6 +62,7 @@ pub use index::{rank, rank_below};
 pub use iter::PageIter;
 pub use laws::{blocks_ascend, changes_decide, pages_are_their_lists};
 pub use neighbours::Neighbours;
+pub use packed_list::{MAX_LONG, PackedList};
 pub use page::{MAX_PACKED, Page};
 pub use updates::{merge, run_length};
 pub use walks::{Ascending, Descending};
