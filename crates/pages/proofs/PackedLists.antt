@@ -16,12 +16,12 @@ pub lent_view : (w n : ℕ) (v : WeightWidth) (bytes : List ℕ) → IsPackedIn 
 lent_view w n v bytes is = rw (mask_of w is.view.view.some is.view.view.width) is.view
 
 -- a list that was written, and then its weights behind it
-module _ (w : ℕ) (v : WeightWidth) (mid new xs : List ℕ) (ws : List ℤ) (some : 0 < length xs) (keys : elements_in w (length xs) mid ≡ xs) (front : take (4 + w * (length xs - 1)) new ≡ take (4 + w * (length xs - 1)) mid) where
+module _ (w : ℕ) (v : WeightWidth) (mid new xs : List ℕ) (some : 0 < length xs) (keys : elements_in w (length xs) mid ≡ xs) (front : take (4 + w * (length xs - 1)) new ≡ take (4 + w * (length xs - 1)) mid) where
   keys_written : elements_in w (length xs) new ≡ xs
   keys_written = same_front w (length xs) (4 + w * (length xs - 1)) new mid some (omega arith) front ∙ keys
 
-  pub list_written : weights_from v (length xs) (drop (4 + w * (length xs - 1)) new) ≡ column_of (length xs) ws → packed_in w (length xs) v new ≡ weighted xs ws
-  list_written column =
+  pub list_written : (ws : List ℤ) → weights_from v (length xs) (drop (4 + w * (length xs - 1)) new) ≡ column_of (length xs) ws → packed_in w (length xs) v new ≡ weighted xs ws
+  list_written ws column =
       let weights : weights_from v (length xs) (drop (w * (length xs - 1)) (drop 4 new)) ≡ column_of (length xs) ws =
       ap (weights_from v (length xs)) (drop-drop (w * (length xs - 1)) 4 new) ∙ column in
       ap (λ ks. weighted ks (weights_from v (length xs) (drop (w * (length xs - 1)) (drop 4 new)))) keys_written

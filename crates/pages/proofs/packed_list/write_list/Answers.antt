@@ -8,4 +8,4 @@ returns-clause-packed c =
 
 pub returns-clause-list : goal.returns-clause-list
 returns-clause-list c =
-    list_written c.args.width c.args.weight_width c.write.new.bytes c.write_weights.new.bytes c.args.keys.now c.args.weights.now c.requires.some c.write.ensures.list c.write_weights.ensures.front c.write_weights.ensures.weights
+    list_written c.args.width c.args.weight_width c.write.new.bytes c.write_weights.new.bytes c.args.keys.now c.requires.some c.write.ensures.list c.write_weights.ensures.front c.args.weights.now c.write_weights.ensures.weights
