@@ -4,7 +4,7 @@ use Rattle.std.proofs.lemmas.List.{drop-drop}
 use Rattle.ascending_lists.specs.Ascending.{AscendsFrom}
 use Rattle.edge_updates.specs.Weighted.{weighted}
 use Rattle.pages.specs.declared.weights.WeightWidth.{WeightWidth}
-use Rattle.pages.specs.inside.Numbers.{number_of, number_at}
+use Rattle.pages.specs.inside.Numbers.{number_at}
 use Rattle.pages.specs.inside.Weights.{weight_size, weights_from, column_of}
 use Rattle.pages.specs.inside.Packed.{elements_in, packed_in, IsWeightedView, IsPackedIn}
 use Rattle.pages.proofs.Encoding.{same_front}

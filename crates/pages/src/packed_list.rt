@@ -58,11 +58,7 @@ impl PackedList {
     /// time in proportion to the neighbours.
     ///
     /// The only error is out of memory.
-    pub fn new(
-        alloc: Global,
-        keys: &[u32],
-        weights: &[i64],
-    ) -> Result<PackedList, AllocError>
+    pub fn new(alloc: Global, keys: &[u32], weights: &[i64]) -> Result<PackedList, AllocError>
         requires some { 0 < length keys.now }
         requires few { length keys.now ≤ MAX_LONG }
         requires ascending { AscendsFrom 0 keys.now }

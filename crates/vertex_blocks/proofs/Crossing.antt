@@ -42,10 +42,10 @@ list_sync : IsSync list.the_row
 list_sync = search (sendable, set_sync, shared_sync) depth 12
 
 entry_send : IsSend entry.the_row
-entry_send = search (sendable, list_send) depth 12
+entry_send = search (sendable, list_send, list_sync) depth 20
 
 entry_sync : IsSync entry.the_row
-entry_sync = search (sendable, list_sync) depth 12
+entry_sync = search (sendable, list_send, list_sync) depth 20
 
 long_send : IsSend long.the_row
 long_send = search (sendable, crosses, entry_send) depth 12

@@ -8,8 +8,8 @@ use edge_updates::Updates;
 use pages::{MAX_PACKED, Page, weight_width_of, width_of};
 use std::alloc::{AllocError, Global};
 
-/// A page of no vertex, with room for those lists of a block after updates that go into it. No contract rests on
-/// the room. The only error is out of memory.
+/// A page of no vertex, with room for those lists of a block after updates that go into it. No contract
+/// rests on the room. The only error is out of memory.
 pub(crate) fn new_page(
     alloc: Global,
     old: Option<&VertexBlock>,

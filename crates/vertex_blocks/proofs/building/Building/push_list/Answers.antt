@@ -6,6 +6,12 @@ use Rattle.edge_updates.proofs.Weighted.{length_weighted, things_of}
 use Rattle.vertex_blocks.proofs.Putting.{put_packed, put_long}
 use Rattle.vertex_blocks.proofs.building.Building.push_list.Goals as goal
 
+pub of_columns-requires-clause-some : goal.of_columns-requires-clause-some
+of_columns-requires-clause-some c =
+    let keys = c.columns.result.0.now in
+    let ws = c.columns.result.1.now in
+    omega (arith, ap length c.columns.ensures, length_weighted keys ws, c.if-count-gt-MAX_PACKED.true)
+
 pub push-requires-clause-some : goal.push-requires-clause-some
 push-requires-clause-some c =
     let keys = c.columns.result.0.now in
