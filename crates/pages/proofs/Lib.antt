@@ -7,6 +7,7 @@ pub mod Ranks
 pub mod Encoding
 pub mod Weighing
 pub mod Storing
+pub mod PackedLists
 pub mod Extending
 pub mod Copying
 pub mod Cuts

@@ -19,7 +19,7 @@ abbrev pub no_entry : ListEntry
 no_entry = record { start = 0; last = 0; width = 0; weights = Ones; vertex = 0 }
 
 -- all bits of so many bytes
-mask_of : (w : ℕ) → 0 < w → w ≤ 4 → 4294967295 / 2 ^ (32 - 8 * w) ≡ 2 ^ (8 * w) - 1
+pub mask_of : (w : ℕ) → 0 < w → w ≤ 4 → 4294967295 / 2 ^ (32 - 8 * w) ≡ 2 ^ (8 * w) - 1
 mask_of zero some le = absurd (omega arith)
 mask_of (suc zero) some le = refl
 mask_of (suc (suc zero)) some le = refl

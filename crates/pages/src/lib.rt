@@ -3,18 +3,21 @@
 //! A contract sees a [`Page`] as the ascending list of the vertices that are present, each with the list
 //! of its entries: its neighbours, ascending, of which it has 1 to 256 ([`MAX_PACKED`]), each with a weight
 //! of 64 bits. `specs/Vertices.antt` says what is a page. A vertex goes by its number in the page, 0 to 63,
-//! and neighbours are numbers below 2^32. Whoever keeps larger sets keeps them apart.
+//! and neighbours are numbers below 2^32. Longer lists stand apart: a [`PackedList`] is the list of one
+//! vertex, of 1 to 2,048 neighbours ([`MAX_LONG`]), in an array of its own that is packed as a page packs
+//! a list.
 //!
-//! `list` gives the [`Neighbours`] of a vertex where they lie: one by one by index, as look-ups that give
-//! the weight, or as walks upward and downward that fill blocks ([`Ascending`], [`Descending`]), with the
-//! neighbours alone or with a second block for the weights. `iter` goes over the vertices. `push` and
-//! `push_run` build a page up, vertex by vertex and by runs of another page, whose bytes are copied whole;
-//! `from_keys` builds one from sorted edges (`specs/Keys.antt`). `apply` makes a new page of an old one and
-//! a list of updates, the `Updates` of `edge_updates`, which may be a run of a longer list as it stands
-//! there; the old page stays as it is, and an added edge gets the update's weight, also where it was there.
-//! [`merge`] makes the new list of one vertex, and [`run_length`] finds its updates. `specs/Updates.antt`
-//! says what updates make of a list. [`changes_decide`], [`blocks_ascend`] and [`pages_are_their_lists`] are
-//! laws of updates and of pages, and do nothing when called.
+//! `list` of a page, and `lend` of a list of its own, give the [`Neighbours`] of a vertex where they
+//! lie: one by one by index, as look-ups that give the weight, or as walks upward and downward that fill
+//! blocks ([`Ascending`], [`Descending`]), with the neighbours alone or with a second block for the
+//! weights. `iter` goes over the vertices. `push` and `push_run` build a page up, vertex by vertex and
+//! by runs of another page, whose bytes are copied whole; `from_keys` builds one from sorted edges
+//! (`specs/Keys.antt`). `apply` makes a new page of an old one and a list of updates, the `Updates` of
+//! `edge_updates`, which may be a run of a longer list as it stands there; the old page stays as it is,
+//! and an added edge gets the update's weight, also where it was there. [`merge`] makes the new list of
+//! one vertex, and [`run_length`] finds its updates. `specs/Updates.antt` says what updates make of a
+//! list. [`changes_decide`], [`blocks_ascend`] and [`pages_are_their_lists`] are laws of updates and of
+//! pages, and do nothing when called.
 //!
 //! Lists come and go in columns: neighbours, and their weights beside them ([`EntryColumns`]). Where the
 //! column of weights is over, all weights are 1. So data without weights has an empty column, and costs no
@@ -47,6 +50,7 @@ mod laws;
 mod loading;
 mod neighbours;
 mod offsets;
+mod packed_list;
 mod page;
 #[cfg(test)]
 mod tests;
@@ -61,6 +65,7 @@ pub use index::{rank, rank_below};
 pub use iter::PageIter;
 pub use laws::{blocks_ascend, changes_decide, pages_are_their_lists};
 pub use neighbours::Neighbours;
+pub use packed_list::{MAX_LONG, PackedList};
 pub use page::{MAX_PACKED, Page};
 pub use updates::{merge, run_length};
 pub use walks::{Ascending, Descending};

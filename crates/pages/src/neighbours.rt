@@ -1,4 +1,4 @@
-//! The neighbours of a vertex, as they lie packed in a page.
+//! The neighbours of a vertex, as they lie packed in bytes.
 
 ghost use Rattle.std.specs.Prelude.{◌≡◌, ◌↔◌, pos, ◌+◌, ◌<◌, ◌≤◌, ◌++◌, [], length, slice_index, slice_range, get_or, take, drop, reverse, IfOk, IsTrue};
 ghost use Rattle.std.specs.Map.{keys_of, values_of};
@@ -13,14 +13,15 @@ ghost use Rattle.pages.specs.inside.Packed.{entries_of, IsWeightedView};
 use crate::blocks::{fill_after, fill_before};
 use crate::columns::{EntryColumns, pad};
 use crate::offsets::offset;
+use crate::packed_list::MAX_LONG;
 use crate::walks::{Ascending, Descending};
 use crate::weight_blocks::fill_weights;
 use crate::weights::{WeightWidth, weight_at};
 use std::alloc::AllocError;
 use std::marker::Model;
 
-/// The neighbours of a vertex, ascending, each with a weight: none, or at most 256. A contract sees the
-/// list of the pairs.
+/// The neighbours of a vertex, ascending, each with a weight: none, or at most 2,048 ([`MAX_LONG`]). A
+/// contract sees the list of the pairs.
 #[derive(Drop)]
 pub struct Neighbours<'a> {
     first: u32,
@@ -77,11 +78,11 @@ impl<'a> Neighbours<'a> {
         Neighbours::new(0, 1, 0xff, 0, WeightWidth::Ones, &[])
     }
 
-    /// How many neighbours there are, at most 256. It takes constant time.
+    /// How many neighbours there are, at most 2,048. It takes constant time.
     #[inline]
     pub fn len(&self) -> usize
         ensures count { result ≡ length self.now }
-        ensures few { result ≤ 256 }
+        ensures few { result ≤ MAX_LONG }
         ensures ascending { AscendsFrom 0 (keys_of self.now) }
     {
         self.len

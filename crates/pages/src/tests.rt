@@ -1,5 +1,5 @@
-//! Lists with weights of each width, read from pages in each way.
-use crate::{EntryColumns, MAX_PACKED, Neighbours, Page, merge};
+//! Lists with weights of each width, read in each way from pages and from arrays of their own.
+use crate::{EntryColumns, MAX_LONG, MAX_PACKED, Neighbours, PackedList, Page, merge};
 use ascending_lists::ascends;
 use edge_updates::{EdgeUpdate, Updates};
 use std::alloc::Global;
@@ -59,6 +59,119 @@ fn blocks_have_both_columns(rt: HostRuntime) -> Result<(), Fail> {
         }
     }
     Ok(())
+}
+
+// How many neighbours a list has, and how far each is above the one before: offsets of 1 to 4 bytes for
+// each number of neighbours, but for those that one byte cannot number.
+const SHAPES: [(u32, u32); 15] = [
+    (1, 7),
+    (2, 255),
+    (2, 256),
+    (2, 65_536),
+    (2, 16_777_216),
+    (256, 1),
+    (256, 257),
+    (256, 258),
+    (256, 16_000_000),
+    (257, 1),
+    (257, 256),
+    (257, 65_536),
+    (2_048, 1),
+    (2_048, 33),
+    (2_048, 2_000_000),
+];
+
+// One weight of each width, and of the least and the greatest numbers.
+const WEIGHTS: [i64; 9] = [
+    1,
+    0,
+    255,
+    65_535,
+    65_536,
+    -1,
+    2_147_483_648,
+    -9_223_372_036_854_775_808,
+    9_223_372_036_854_775_807,
+];
+
+#[test]
+fn lists_of_their_own_are_read_as_they_are_written(rt: HostRuntime) -> Result<(), Fail> {
+    for (count, step) in &SHAPES {
+        for weight in &WEIGHTS {
+            let columns = spread(rt.alloc(), *count, *step, *weight)?;
+            let (keys, weights) = columns.columns();
+            assert!(rt; keys.len() == *count as usize, "{count} {step} {weight}");
+            let same = is_read_back(rt.alloc(), keys, weights)?;
+            assert!(rt; same, "{count} {step} {weight}");
+        }
+    }
+    Ok(())
+}
+
+// So many neighbours, each so far above the one before, of which every other one, and the last one, has
+// a weight, and the others have 1.
+fn spread(alloc: Global, count: u32, step: u32, weight: i64) -> Result<EntryColumns, Fail> {
+    let mut columns = EntryColumns::with_capacity(alloc, MAX_LONG)?;
+    for index in 0..count {
+        let is_last = index.saturating_add(1) == count;
+        let weight = if is_last || index % 2 == 0 { weight } else { 1 };
+        columns.push(index.saturating_mul(step).saturating_add(5), weight)?;
+    }
+    Ok(columns)
+}
+
+// Whether a list of these columns gives them again, by each way of reading it.
+fn is_read_back(alloc: Global, keys: &[u32], weights: &[i64]) -> Result<bool, Fail> {
+    if keys.is_empty() || keys.len() > MAX_LONG || !ascends(None, keys) {
+        return Ok(false);
+    }
+    let list = PackedList::new(alloc, keys, weights)?;
+    let same = list.len() == keys.len() && has_columns(&list.lend(), keys, weights);
+    Ok(same && comes_up(list.lend(), keys, weights) && comes_down(list.lend(), keys, weights))
+}
+
+fn has_columns(list: &Neighbours<'_>, keys: &[u32], weights: &[i64]) -> bool {
+    let mut same = list.len() == keys.len();
+    for index in 0..keys.len().min(list.len()) {
+        let (neighbour, weight) = (keys[index], weight_of(weights, index));
+        same = same && list.neighbour(index) == neighbour && list.weight(index) == weight;
+        same = same && list.get(neighbour) == Some(weight);
+    }
+    same && list.get(4).is_none() && list.get(4294967295).is_none()
+}
+
+fn comes_up(list: Neighbours<'_>, keys: &[u32], weights: &[i64]) -> bool {
+    let mut walk = list.ascending();
+    let (mut block, mut column) = ([0u32; 100], [0i64; 100]);
+    let (mut read, mut same) = (0usize, true);
+    for _ in 0..22 {
+        let filled = walk.fill_weighted(&mut block, &mut column);
+        for place in 0..filled.min(100) {
+            same = same && keys.get(read) == Some(&block[place]);
+            same = same && weight_of(weights, read) == column[place];
+            read = read.saturating_add(1);
+        }
+    }
+    same && read == keys.len() && walk.is_empty()
+}
+
+fn comes_down(list: Neighbours<'_>, keys: &[u32], weights: &[i64]) -> bool {
+    let mut walk = list.descending();
+    let (mut block, mut column) = ([0u32; 100], [0i64; 100]);
+    let (mut left, mut same) = (keys.len(), true);
+    for _ in 0..22 {
+        let filled = walk.fill_weighted(&mut block, &mut column);
+        for place in 0..filled.min(100) {
+            left = left.saturating_sub(1);
+            same = same && keys.get(left) == Some(&block[place]);
+            same = same && weight_of(weights, left) == column[place];
+        }
+    }
+    same && left == 0 && walk.is_empty()
+}
+
+fn weight_of(weights: &[i64], index: usize) -> i64 {
+    weights.get(index).copied().unwrap_or(1)
 }
 
 #[test]

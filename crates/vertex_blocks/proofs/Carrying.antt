@@ -41,20 +41,20 @@ module _ (es : Block) (map : Rises 0 64 es) (some_each : HaveNeighbours es) (f :
 
 module _ (f : ℕ → List (ℕ × ℤ)) where
   pub built_none : IsBuilt f 0 [] []
-  built_none = record { small = λ u. []; large = λ u. []; page = refl; sets = refl; lists = λ u lt. absurd (omega arith); apart = λ u lt. absurd (omega arith) }
+  built_none = record { small = λ u. []; large = λ u. []; page = refl; long = refl; lists = λ u lt. absurd (omega arith); apart = λ u lt. absurd (omega arith) }
 
   pub built_rises : (low : ℕ) (p s : Block) → IsBuilt f low p s → Rises 0 low p × Rises 0 low s
-  built_rises low p s ok = (subst (Rises 0 low) (sym ok.page) (rises_built ok.small low), subst (Rises 0 low) (sym ok.sets) (rises_built ok.large low))
+  built_rises low p s ok = (subst (Rises 0 low) (sym ok.page) (rises_built ok.small low), subst (Rises 0 low) (sym ok.long) (rises_built ok.large low))
 
   -- what was built up has the lists, each once
   pub built_lists : (top : ℕ) (p s : Block) → IsBuilt f top p s → (u : ℕ) → u < top → neighbours_of u p ++ neighbours_of u s ≡ f u
   built_lists top p s ok u lt =
-      rw (ap (neighbours_of u) ok.page ∙ neighbours_built ok.small u top lt, ap (neighbours_of u) ok.sets ∙ neighbours_built ok.large u top lt) (ok.lists u lt)
+      rw (ap (neighbours_of u) ok.page ∙ neighbours_built ok.small u top lt, ap (neighbours_of u) ok.long ∙ neighbours_built ok.large u top lt) (ok.lists u lt)
 
   pub built_apart : (top : ℕ) (p s : Block) → IsBuilt f top p s → (u : ℕ) → u < top → (neighbours_of u p ≡ []) ⊎ (neighbours_of u s ≡ [])
   built_apart top p s ok u lt = elim (ok.apart u lt) [
     | inl none ↦ inl (ap (neighbours_of u) ok.page ∙ neighbours_built ok.small u top lt ∙ none)
-    | inr none ↦ inr (ap (neighbours_of u) ok.sets ∙ neighbours_built ok.large u top lt ∙ none)
+    | inr none ↦ inr (ap (neighbours_of u) ok.long ∙ neighbours_built ok.large u top lt ∙ none)
   ]
 
   -- vertices whose lists are as they were
@@ -67,7 +67,7 @@ module _ (f : ℕ → List (ℕ × ℤ)) where
         small = up_to low ok.small old;
         large = up_to low ok.large old_large;
         page = carried_behind p' made.page.map (packed_some p' made.page.packed) ok.small low high p le ok.page;
-        sets = carried_behind s' made.sets.map (lists_some s' made.sets.lists) ok.large low high s le ok.sets;
+        long = carried_behind s' made.long.map (lists_some s' made.long.lists) ok.large low high s le ok.long;
         lists = λ u lt. elim (cases_lt u low) [
           | inl under ↦ rw (before low ok.small old u under, before low ok.large old_large u under) (ok.lists u under)
           | inr over ↦ rw (behind low ok.small old u over, behind low ok.large old_large u over) (sym (made.lists u (omega (arith, lt))) ∙ sym (same u over lt))
@@ -87,7 +87,7 @@ module _ (f : ℕ → List (ℕ × ℤ)) where
         small = up_to v ok.small none;
         large = up_to v ok.large none_large;
         page = next ok.small put.small p p' ok.page put.page;
-        sets = next ok.large put.large s s' ok.sets put.sets;
+        long = next ok.large put.large s s' ok.long put.long;
         lists = λ u lt. elim (cases_lt u v) [
           | inl under ↦ rw (before v ok.small none u under, before v ok.large none_large u under) (ok.lists u under)
           | inr over ↦ rw (behind v ok.small none u over, behind v ok.large none_large u over) (put.list ∙ is ∙ ap f (omega (arith, lt, over)))
@@ -112,4 +112,4 @@ module _ (f : ℕ → List (ℕ × ℤ)) where
       made_nothing : IsMadeOf [] [] []
       made_nothing =
           let block : IsBlock [] = record { map = omega arith; lists = tt } in
-          record { lists = λ u lt. refl; block = block; page = record { map = omega arith; packed = tt }; sets = block; apart = λ u lt. inl refl }
+          record { lists = λ u lt. refl; block = block; page = record { map = omega arith; packed = tt }; long = block; apart = λ u lt. inl refl }

@@ -10,8 +10,11 @@ use Rattle.c_tree.proofs.tail.ChunkTail.TheSendSync.{the_send as chunk_send, the
 use Rattle.c_tree.specs.contracts.ctree.CTree as set
 use Rattle.vertex_blocks.specs.contracts.block.VertexBlock as block
 use Rattle.vertex_blocks.specs.contracts.block.Parts as parts
-use Rattle.vertex_blocks.specs.contracts.large_sets.LargeSets as sets
-use Rattle.vertex_blocks.specs.contracts.large_sets.LargeSet as large
+use Rattle.vertex_blocks.specs.contracts.long_lists.LongLists as long
+use Rattle.vertex_blocks.specs.contracts.long_lists.LongEntry as entry
+use Rattle.vertex_blocks.specs.contracts.long_list.LongList as list
+use Rattle.vertex_blocks.specs.contracts.long_list.SharedList as shared
+use Rattle.pages.proofs.packed_list.PackedList.TheSendSync.{the_send as packed_send, the_sync as packed_sync}
 use Rattle.pages.proofs.page.Page.TheSendSync.{the_send as page_send, the_sync as page_sync}
 
 chunks_send : IsSend (tree.the_row chunk.the_row)
@@ -26,23 +29,35 @@ set_send = search (sendable, tail_send, chunks_send, size_send) depth 12
 pub set_sync : IsSync set.the_row
 set_sync = search (sendable, tail_sync, chunks_sync, size_sync) depth 12
 
-large_send : IsSend large.the_row
-large_send = search (sendable, set_send) depth 12
+shared_send : IsSend shared.the_row
+shared_send = search (sendable, crosses, packed_send, packed_sync) depth 12
 
-large_sync : IsSync large.the_row
-large_sync = search (sendable, set_sync) depth 12
+shared_sync : IsSync shared.the_row
+shared_sync = search (sendable, crosses, packed_send, packed_sync) depth 12
 
-sets_send : IsSend sets.the_row
-sets_send = search (sendable, crosses, large_send) depth 12
+list_send : IsSend list.the_row
+list_send = search (sendable, set_send, shared_send) depth 12
 
-sets_sync : IsSync sets.the_row
-sets_sync = search (sendable, crosses, large_sync) depth 12
+list_sync : IsSync list.the_row
+list_sync = search (sendable, set_sync, shared_sync) depth 12
+
+entry_send : IsSend entry.the_row
+entry_send = search (sendable, list_send, list_sync) depth 20
+
+entry_sync : IsSync entry.the_row
+entry_sync = search (sendable, list_send, list_sync) depth 20
+
+long_send : IsSend long.the_row
+long_send = search (sendable, crosses, entry_send) depth 12
+
+long_sync : IsSync long.the_row
+long_sync = search (sendable, crosses, entry_sync) depth 12
 
 parts_send : IsSend parts.the_row
-parts_send = search (sendable, page_send, sets_send) depth 12
+parts_send = search (sendable, page_send, long_send) depth 12
 
 parts_sync : IsSync parts.the_row
-parts_sync = search (sendable, page_sync, sets_sync) depth 12
+parts_sync = search (sendable, page_sync, long_sync) depth 12
 
 pub block_send : IsSend block.the_row
 block_send = search (sendable, crosses, parts_send, parts_sync) depth 12

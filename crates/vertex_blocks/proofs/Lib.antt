@@ -2,7 +2,7 @@ pub mod Numbering
 pub mod Decisions
 pub mod Sums
 pub mod Carrying
-pub mod SetTables
+pub mod LongTables
 pub mod Vertices
 pub mod Putting
 pub mod Updating

@@ -1,4 +1,4 @@
--- Blocks that are joined of a page and of sets, and how many neighbours they have.
+-- Blocks that are joined of a page and of long lists, and how many neighbours they have.
 use Rattle.std.proofs.Common.{◌≡◌, ℕ, zero, suc, ℤ, ◌+◌, ◌*◌, ◌<◌, ◌≤◌, ◌⊎◌, inl, inr, Some, None, List, [], ◌∷◌, ◌++◌, length, refl, sym, ◌∙◌, ap, arith, length-append}
 use Rattle.std.proofs.lemmas.Bool.{cases_eq, eq-eqb, ne_eqb}
 use Rattle.std.proofs.lemmas.List.{append-nil}
@@ -69,22 +69,22 @@ module _ (p s : Block) where
 
   pub joined_block : IsPage p → IsBlock s → AreApart p s → IsBlock (joined p s)
   unfolding joined
-  joined_block page sets apart = record {
+  joined_block page long apart = record {
     map = rises_built (λ v. neighbours_of v p ++ neighbours_of v s) 64;
-    lists = lists_built (λ v. neighbours_of v p ++ neighbours_of v s) 64 (λ u lt. either_ascends (neighbours_of u p) (neighbours_of u s) (apart u lt) (packed_ascends u p page.packed) (list_ascends u s sets.lists));
+    lists = lists_built (λ v. neighbours_of v p ++ neighbours_of v s) 64 (λ u lt. either_ascends (neighbours_of u p) (neighbours_of u s) (apart u lt) (packed_ascends u p page.packed) (list_ascends u s long.lists));
   }
 
   total_to : (n : ℕ) → n ≡ 64 → IsPage p → IsBlock s → edge_total (built (λ v. neighbours_of v p ++ neighbours_of v s) n) ≡ edge_total p + edge_total s
-  total_to n is page sets =
+  total_to n is page long =
       total_built (λ v. neighbours_of v p) (λ v. neighbours_of v s) n
-      ∙ rw (← is_built n p is page.map (packed_some p page.packed), ← is_built n s is sets.map (lists_some s sets.lists)) refl
+      ∙ rw (← is_built n p is page.map (packed_some p page.packed), ← is_built n s is long.map (lists_some s long.lists)) refl
 
   pub joined_total : IsPage p → IsBlock s → edge_total (joined p s) ≡ edge_total p + edge_total s
   unfolding joined
-  joined_total page sets = total_to 64 refl page sets
+  joined_total page long = total_to 64 refl page long
 
   pub made_of : (n : ℕ) → CanJoin p s n → IsMadeOf (joined p s) p s
-  made_of n ok = record { lists = joined_list; block = joined_block ok.page ok.sets ok.apart; page = ok.page; sets = ok.sets; apart = ok.apart }
+  made_of n ok = record { lists = joined_list; block = joined_block ok.page ok.long ok.apart; page = ok.page; long = ok.long; apart = ok.apart }
 
 -- a block with a neighbour has a vertex, and one without has none
 pub some_vertex : (es : Block) → 0 < edge_total es → 0 < length es
@@ -95,9 +95,9 @@ pub no_vertex : (es : Block) → AreNeighbourLists es → edge_total es ≡ 0 �
 no_vertex [] ok none = refl
 no_vertex (e ∷ es) ok none = absurd (omega (arith, none, ok.0.some))
 
--- the list of a vertex that has a set is that of the set, and else it is packed
-pub from_set : (b p s : Block) (u : ℕ) (xs : List (ℕ × ℤ)) → IsMadeOf b p s → u < 64 → xs ≡ neighbours_of u s → 0 < length xs → xs ≡ neighbours_of u b
-from_set b p s u xs made lt is some = elim (made.apart u lt) [
+-- the list of a vertex that has one of its own is that one, and else it is in the page
+pub from_long : (b p s : Block) (u : ℕ) (xs : List (ℕ × ℤ)) → IsMadeOf b p s → u < 64 → xs ≡ neighbours_of u s → 0 < length xs → xs ≡ neighbours_of u b
+from_long b p s u xs made lt is some = elim (made.apart u lt) [
   | inl none ↦ is ∙ sym (made.lists u lt ∙ ap (λ ys. ys ++ neighbours_of u s) none)
   | inr none ↦ absurd (omega (arith, some, ap length is, ap length none))
 ]
@@ -107,19 +107,19 @@ pub packed_total : (es : Block) → ArePacked es → edge_total es ≤ 256 * len
 packed_total [] ok = omega arith
 packed_total (e ∷ es) ok = omega (arith, ok.0.few, packed_total es ok.1)
 
--- a page and sets with no neighbour make no block, and else they make one
-module _ (p s : Block) (page : IsPage p) (sets : IsBlock s) (apart : AreApart p s) where
+-- a page and long lists with no neighbour make no block, and else they make one
+module _ (p s : Block) (page : IsPage p) (long : IsBlock s) (apart : AreApart p s) where
   pub no_block : edge_total p + edge_total s ≡ 0 → IsBlockOf p s None
   no_block none =
-      let empty : joined p s ≡ [] = no_vertex (joined p s) (joined_block p s page sets apart).lists (joined_total p s page sets ∙ none) in
+      let empty : joined p s ≡ [] = no_vertex (joined p s) (joined_block p s page long apart).lists (joined_total p s page long ∙ none) in
       record { lists = λ u lt. sym (ap (neighbours_of u) empty) ∙ joined_list p s u lt; block = tt; some = tt }
 
   pub one_block : 0 < edge_total p + edge_total s → IsBlockOf p s (Some (joined p s))
   one_block some = record {
     lists = joined_list p s;
-    block = joined_block p s page sets apart;
-    some = some_vertex (joined p s) (omega (arith, some, joined_total p s page sets));
+    block = joined_block p s page long apart;
+    some = some_vertex (joined p s) (omega (arith, some, joined_total p s page long));
   }
 
   pub can_join : (n : ℕ) → n ≡ edge_total p + edge_total s → CanJoin p s n
-  can_join n is = record { page = page; sets = sets; apart = apart; count = is ∙ sym (joined_total p s page sets) }
+  can_join n is = record { page = page; long = long; apart = apart; count = is ∙ sym (joined_total p s page long) }

@@ -1,5 +1,5 @@
 -- What the code is made of: no public contract cites these definitions.
-pub mod Sets
+pub mod LongLists
 pub mod Joined
 pub mod Walks
 pub mod Steps

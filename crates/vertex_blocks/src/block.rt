@@ -7,7 +7,7 @@ ghost use Rattle.vertex_blocks.specs.Forms.{listed};
 ghost use Rattle.vertex_blocks.specs.inside.Joined.{IsMadeOf, IsBlockOf, AreApart};
 
 use crate::block_iter::BlockIter;
-use crate::large_sets::LargeSets;
+use crate::long_lists::LongLists;
 use crate::neighbour_set::{NeighbourForm, NeighbourSet};
 use pages::Page;
 use shared_tree::Share;
@@ -27,10 +27,10 @@ impl Drop for VertexBlock {
     }
 }
 
-/// The packed lists, and the sets of the vertices that have many neighbours. No vertex is in both.
+/// The lists that are packed together, and those of their own. No vertex is in both.
 pub(crate) struct Parts {
     page: Page,
-    sets: LargeSets,
+    long: LongLists,
     edge_count: usize,
 }
 
@@ -38,7 +38,7 @@ impl Drop for Parts {
     fn drop(self) {
         let Parts {
             page: _,
-            sets: _,
+            long: _,
             edge_count: _,
         } = self;
     }
@@ -51,30 +51,30 @@ impl Model for VertexBlock {
 
     ghost Value = { Block };
 
-    ghost view = { λ b. joined (arc_value b.parts).page (arc_value b.parts).sets };
+    ghost view = { λ b. joined (arc_value b.parts).page (arc_value b.parts).long };
 
-    ghost invariant = { λ b. CanJoin (arc_value b.parts).page (arc_value b.parts).sets
+    ghost invariant = { λ b. CanJoin (arc_value b.parts).page (arc_value b.parts).long
         (arc_value b.parts).edge_count };
 }
 
 impl VertexBlock {
-    /// The block of a page and of sets, or `None` where both are empty. The only error is out of
+    /// The block of a page and of lists of their own, or `None` where both are empty. The only error is out of
     /// memory.
     pub(crate) fn new(
         alloc: Global,
         page: Page,
-        sets: LargeSets,
+        long: LongLists,
     ) -> Result<Option<VertexBlock>, AllocError>
-        requires { AreApart page sets }
-        ensures { IfOk result (IsBlockOf page sets) }
+        requires { AreApart page long }
+        ensures { IfOk result (IsBlockOf page long) }
     {
-        let edge_count = packed_edges(&page) + sets.edge_count();
+        let edge_count = packed_edges(&page) + long.edge_count();
         if edge_count == 0 {
             return Ok(None);
         }
         let parts = Parts {
             page,
-            sets,
+            long,
             edge_count,
         };
         Ok(Some(VertexBlock {
@@ -82,13 +82,13 @@ impl VertexBlock {
         }))
     }
 
-    /// The packed lists, and the sets.
+    /// The lists that are packed together, and those of their own.
     #[inline]
-    pub(crate) fn parts(&self) -> (&Page, &LargeSets)
+    pub(crate) fn parts(&self) -> (&Page, &LongLists)
         ensures { IsMadeOf self.now result.0.now result.1.now }
     {
         let parts = &*self.parts;
-        (&parts.page, &parts.sets)
+        (&parts.page, &parts.long)
     }
 
     /// The neighbours of a vertex, in the form in which they stand.
@@ -97,9 +97,9 @@ impl VertexBlock {
         requires { vertex < 64 }
         ensures { listed result ≡ neighbours_of vertex self.now }
     {
-        let (page, sets) = self.parts();
-        match sets.get(vertex) {
-            Some(set) => NeighbourForm::Chunked(set),
+        let (page, long) = self.parts();
+        match long.get(vertex) {
+            Some(list) => list.form(),
             None => NeighbourForm::Packed(page.list(vertex)),
         }
     }
@@ -120,9 +120,9 @@ impl VertexBlock {
         requires { vertex < 64 }
         ensures { result ≡ length (neighbours_of vertex self.now) }
     {
-        let (page, sets) = self.parts();
-        match sets.get(vertex) {
-            Some(set) => set.len(),
+        let (page, long) = self.parts();
+        match long.get(vertex) {
+            Some(list) => list.len(),
             None => page.degree(vertex) as usize,
         }
     }

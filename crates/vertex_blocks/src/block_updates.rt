@@ -151,7 +151,7 @@ fn build(
     requires ready { IfSome (option_copied ready) (λ r. r.set.entries
         ≡ list_after updates.now (option_copied old) r.vertex) }
     ensures { IfOk result (λ b.
-        IsBuilt (list_after updates.now (option_copied old.entry)) 64 b.page b.sets) }
+        IsBuilt (list_after updates.now (option_copied old.entry)) 64 b.page b.long) }
 {
     let mut building = Building::new(alloc, old, updates, chunk_size)?;
     let mut list = EntryColumns::with_capacity(alloc, MAX_PACKED)?;

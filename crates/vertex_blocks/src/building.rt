@@ -13,18 +13,19 @@ ghost use Rattle.vertex_blocks.specs.inside.Joined.{AreApart, IsBlockOf};
 ghost use Rattle.vertex_blocks.specs.inside.Steps.{IsBuilt, IsPut};
 
 use crate::block::VertexBlock;
-use crate::large_sets::LargeSets;
+use crate::long_list::LongList;
+use crate::long_lists::LongLists;
 use crate::neighbour_set::NeighbourForm;
 use crate::room::new_page;
-use crate::runs::{collect, set_of_columns, update_list, update_set};
+use crate::runs::{collect, update_list, update_set};
 use c_tree::{CTree, ChunkSize};
 use edge_updates::Updates;
-use pages::{EntryColumns, MAX_PACKED, Neighbours, Page};
+use pages::{EntryColumns, MAX_LONG, MAX_PACKED, Neighbours, Page};
 use shared_tree::Share;
 use std::alloc::{AllocError, Global};
 
 /// A set is packed again where it has fewer neighbours than this.
-const MIN_CHUNKED: usize = 192;
+const MIN_CHUNKED: usize = MAX_LONG / 4 * 3;
 
 /// A vertex with a set that was made of its old one.
 #[derive(Drop)]
@@ -36,7 +37,7 @@ pub(crate) struct ReadySet {
 /// A block under construction: the vertices that came so far.
 pub(crate) struct Building {
     page: Page,
-    sets: LargeSets,
+    long: LongLists,
     /// That of a set that begins.
     chunk_size: ChunkSize,
 }
@@ -45,7 +46,7 @@ impl Drop for Building {
     fn drop(self) {
         let Building {
             page: _,
-            sets: _,
+            long: _,
             chunk_size: _,
         } = self;
     }
@@ -60,21 +61,21 @@ impl Building {
         chunk_size: ChunkSize,
     ) -> Result<Building, AllocError>
         ensures page { IfOk result (λ b. b.page ≡ []) }
-        ensures sets { IfOk result (λ b. b.sets ≡ []) }
+        ensures long { IfOk result (λ b. b.long ≡ []) }
     {
-        let set_count = match old {
+        let long_count = match old {
             Some(block) => block.parts().1.len(),
             None => 0,
         };
         Ok(Building {
             page: new_page(alloc, old, updates)?,
-            sets: LargeSets::with_capacity(alloc, set_count)?,
+            long: LongLists::with_capacity(alloc, long_count)?,
             chunk_size,
         })
     }
 
-    /// Adds the vertices of an old block from one up to another. Packed lists are copied and sets are
-    /// shared. The only error is out of memory.
+    /// Adds the vertices of an old block from one up to another. The lists of the page are copied and
+    /// those of their own are shared. The only error is out of memory.
     pub(crate) fn carry(
         &mut self,
         old: Option<&VertexBlock>,
@@ -83,18 +84,18 @@ impl Building {
     ) -> Result<(), AllocError>
         requires order { low ≤ high }
         requires within { high ≤ 64 }
-        requires built { (f : ℕ → List (ℕ × ℤ)) × IsBuilt f low self.old.page self.old.sets }
-        ensures { IfOk result (λ _. (f : ℕ → List (ℕ × ℤ)) → IsBuilt f low self.old.page self.old.sets
+        requires built { (f : ℕ → List (ℕ × ℤ)) × IsBuilt f low self.old.page self.old.long }
+        ensures { IfOk result (λ _. (f : ℕ → List (ℕ × ℤ)) → IsBuilt f low self.old.page self.old.long
             → ((u : ℕ) → low ≤ u → u < high
             → f u ≡ neighbours_of u (vertices_at (option_copied old.entry)))
-            → IsBuilt f high self.new.page self.new.sets) }
+            → IsBuilt f high self.new.page self.new.long) }
     {
         let Some(block) = old else {
             return Ok(());
         };
-        let (page, sets) = block.parts();
+        let (page, long) = block.parts();
         self.page.push_run(page, page.index(low), page.index(high))?;
-        self.sets.push_run(sets, sets.index(low), sets.index(high))
+        self.long.push_run(long, long.index(low), long.index(high))
     }
 
     /// Adds a vertex that is above all others, with the list that updates make of its old one, for which
@@ -110,13 +111,13 @@ impl Building {
     ) -> Result<(), AllocError>
         requires vertex { vertex < 64 }
         requires above_page { Rises 0 vertex self.old.page }
-        requires above_sets { Rises 0 vertex self.old.sets }
+        requires above_long { Rises 0 vertex self.old.long }
         requires updates { NeighboursAscend 0 updates.now }
         requires ready { IfSome (option_copied ready) (λ r. r.vertex ≡ vertex → r.set.entries
             ≡ updated (neighbours_of vertex (vertices_at (option_copied old))) updates.now) }
         ensures { IfOk result (λ _. IsPut vertex
             (updated (neighbours_of vertex (vertices_at (option_copied old.entry))) updates.now)
-            self.old.page self.old.sets self.new.page self.new.sets) }
+            self.old.page self.old.long self.new.page self.new.long) }
     {
         match form_at(old, vertex) {
             NeighbourForm::Packed(old_list) => {
@@ -124,14 +125,14 @@ impl Building {
                 self.push_list(alloc, vertex, list)
             }
             NeighbourForm::Chunked(set) => {
-                let set = set_after(alloc, set, vertex, updates, ready)?;
-                self.push_set(alloc, vertex, set, list)
+                let after = set_after(alloc, set, vertex, updates, ready)?;
+                self.push_set(alloc, vertex, after, list)
             }
         }
     }
 
-    /// Adds a vertex that is above all others, with its list if it is not empty: packed, or as a set
-    /// where it is long. The only error is out of memory.
+    /// Adds a vertex that is above all others, with its list if it is not empty: in the page, or above
+    /// 256 neighbours as a list of its own. The only error is out of memory.
     fn push_list(
         &mut self,
         alloc: Global,
@@ -140,16 +141,16 @@ impl Building {
     ) -> Result<(), AllocError>
         requires vertex { vertex < 64 }
         requires above_page { Rises 0 vertex self.old.page }
-        requires above_sets { Rises 0 vertex self.old.sets }
+        requires above_long { Rises 0 vertex self.old.long }
         requires ascending { AscendsFrom 0 (keys_of list.now) }
         ensures { IfOk result (λ _. IsPut vertex list.now
-            self.old.page self.old.sets self.new.page self.new.sets) }
+            self.old.page self.old.long self.new.page self.new.long) }
     {
         let (keys, weights) = list.columns();
         let count = keys.len();
         if count > MAX_PACKED {
-            let set = set_of_columns(alloc, self.chunk_size, list)?;
-            return self.sets.push(vertex, set);
+            let long = LongList::of_columns(alloc, self.chunk_size, list)?;
+            return self.long.push(vertex, long);
         }
         if count == 0 {
             return Ok(());
@@ -168,12 +169,12 @@ impl Building {
     ) -> Result<(), AllocError>
         requires vertex { vertex < 64 }
         requires above_page { Rises 0 vertex self.old.page }
-        requires above_sets { Rises 0 vertex self.old.sets }
+        requires above_long { Rises 0 vertex self.old.long }
         ensures { IfOk result (λ _. IsPut vertex set.entries
-            self.old.page self.old.sets self.new.page self.new.sets) }
+            self.old.page self.old.long self.new.page self.new.long) }
     {
         if set.len() >= MIN_CHUNKED {
-            return self.sets.push(vertex, set);
+            return self.long.push(vertex, LongList::Chunked(set));
         }
         collect(&set, list)?;
         self.push_list(alloc, vertex, list)
@@ -182,15 +183,15 @@ impl Building {
     /// The block of the vertices that came, or `None` where there is none. The only error is out of
     /// memory.
     pub(crate) fn into_block(self, alloc: Global) -> Result<Option<VertexBlock>, AllocError>
-        requires { AreApart self.page self.sets }
-        ensures { IfOk result (IsBlockOf self.page self.sets) }
+        requires { AreApart self.page self.long }
+        ensures { IfOk result (IsBlockOf self.page self.long) }
     {
         let Building {
             page,
-            sets,
+            long,
             chunk_size: _,
         } = self;
-        VertexBlock::new(alloc, page, sets)
+        VertexBlock::new(alloc, page, long)
     }
 }
 

@@ -1,18 +1,19 @@
 //! Blocks of 64 vertices with their neighbours, each with a weight.
 //!
 //! A block is the vertices of a graph from `64 * k` on, each by its number in the block, 0 to 63. A
-//! vertex with few neighbours has them packed in the block's [`Page`](pages::Page); one with many
-//! has them as a set in chunks of its own, a [`CTree`](c_tree::CTree), which versions share where it
-//! does not change. A packed list becomes a set where it grows above 256 neighbours, and a set is packed
-//! again where it falls below 192, so that one that goes up and down near a size does not change its
-//! form each time. No answer depends on the form. A contract sees a block as its vertices, ascending,
-//! each with the list of its entries: its neighbours, ascending, each with a weight of 64 bits.
+//! vertex with at most 256 neighbours has them packed in the block's [`Page`](pages::Page); one with
+//! more has them in a list of its own, which versions share where it does not change: up to 2,048 an
+//! array that is packed as the page is ([`PackedList`](pages::PackedList)), and above a set in chunks
+//! ([`CTree`](c_tree::CTree)). A set is packed again where it falls below 1,536, so that one that goes
+//! up and down near 2,048 does not change its form each time. No answer depends on the form. A contract
+//! sees a block as its vertices, ascending, each with the list of its entries: its neighbours,
+//! ascending, each with a weight of 64 bits.
 //! `specs/Blocks.antt` says what is a block.
 //!
 //! A block is counted and never changes, so trees of versions share it. [`BlockUpdates`] makes the
 //! block after updates, of which `specs/Changes.antt` says what they make of one: an added edge gets the
-//! update's weight, also where it was there. The page and the sets that
-//! do not change are taken over: bytes are copied whole, and sets are shared. [`blocks_are_their_lists`]
+//! update's weight, also where it was there. What does not
+//! change is taken over: the bytes of a page are copied whole, and lists of their own are shared. [`blocks_are_their_lists`]
 //! is the law that leads from blocks to the vertices of a graph, and does nothing when called.
 //!
 //! A walk fills blocks with the neighbours alone, and then looks at no weight, or a second block with
@@ -23,8 +24,9 @@ mod block;
 mod block_iter;
 mod block_updates;
 mod building;
-mod large_sets;
 mod laws;
+mod long_list;
+mod long_lists;
 mod neighbour_iter;
 mod neighbour_set;
 mod neighbour_walk;

@@ -1,15 +1,15 @@
-//! Room for packed lists in advance.
+//! Room in advance for the lists of a page.
 
 ghost use Rattle.std.specs.Prelude.{◌≡◌, ◌-◌, ◌<◌, ◌≤◌, [], length, IfOk};
 
 use crate::block::VertexBlock;
-use crate::large_sets::LargeSets;
+use crate::long_lists::LongLists;
 use edge_updates::Updates;
 use pages::{MAX_PACKED, Page, weight_width_of, width_of};
 use std::alloc::{AllocError, Global};
 
-/// A page of no vertex, with room for the packed lists of a block after updates. No contract rests on
-/// the room. The only error is out of memory.
+/// A page of no vertex, with room for those lists of a block after updates that go into it. No contract
+/// rests on the room. The only error is out of memory.
 pub(crate) fn new_page(
     alloc: Global,
     old: Option<&VertexBlock>,
@@ -21,17 +21,18 @@ pub(crate) fn new_page(
         let (vertices, size) = room_for(updates);
         return Page::with_capacity(alloc, vertices, size);
     };
-    let (page, sets) = block.parts();
-    page.with_room(alloc, packed_updates(sets, updates))
+    let (page, long) = block.parts();
+    page.with_room(alloc, page_updates(long, updates))
 }
 
-/// How many updates are of vertices that have no set.
-fn packed_updates(sets: &LargeSets, updates: &Updates<'_>) -> usize {
+/// How many updates are of vertices that have no list of their own, and that get none: more than 256
+/// updates of one vertex are as good as always more than 256 neighbours of it.
+fn page_updates(long: &LongLists, updates: &Updates<'_>) -> usize {
     let (mut total, mut start) = (0usize, 0);
     while start < updates.len() {
         let vertex = updates.update(start).vertex();
         let next = run_end(updates, start);
-        if sets.get(vertex % 64).is_none() {
+        if next - start <= MAX_PACKED && long.get(vertex % 64).is_none() {
             total = total.saturating_add(next - start);
         }
         start = next;
@@ -39,7 +40,7 @@ fn packed_updates(sets: &LargeSets, updates: &Updates<'_>) -> usize {
     total
 }
 
-/// How many vertices updates are of, and how many bytes the packed lists take that they add.
+/// How many vertices updates are of, and how many bytes the lists take that they add to a page.
 fn room_for(updates: &Updates<'_>) -> (usize, usize) {
     let (mut vertices, mut size, mut start) = (0usize, 0usize, 0);
     while start < updates.len() {

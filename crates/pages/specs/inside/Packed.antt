@@ -29,7 +29,7 @@ pub record IsView (first w mask n : ℕ) (bytes : List ℕ) : Type 0 where
   pub some : 0 < w
   pub width : w ≤ 4
   pub mask_is : mask ≡ 2 ^ (8 * w) - 1
-  pub few : n ≤ 256
+  pub few : n ≤ 2048
   pub within : 0 < n → w * (n - 1) + 3 ≤ length bytes
   pub ascends : AscendsFrom 0 (list_of first w n bytes)
 
@@ -37,6 +37,15 @@ pub record IsView (first w mask n : ℕ) (bytes : List ℕ) : Type 0 where
 pub record IsWeightedView (first w mask n : ℕ) (v : WeightWidth) (bytes : List ℕ) : Type 0 where
   pub view : IsView first w mask n bytes
   pub weights : 0 < n → w * (n - 1) + weight_size v * n ≤ length bytes
+
+-- a list with its weights whose first element is in the first four bytes
+abbrev pub packed_in : ℕ → ℕ → WeightWidth → List ℕ → List (ℕ × ℤ)
+packed_in w n v bytes = entries_of (number_of (take 4 bytes)) w n v (drop 4 bytes)
+
+-- Bytes are such a list of 1 to 2,048 elements, with three bytes or more behind it.
+pub record IsPackedIn (w n : ℕ) (v : WeightWidth) (bytes : List ℕ) : Type 0 where
+  pub some : 0 < n
+  pub view : IsWeightedView (number_of (take 4 bytes)) w (2 ^ (8 * w) - 1) n v (drop 4 bytes)
 
 -- how far the last element is above the first
 abbrev pub span_of : List ℕ → ℕ

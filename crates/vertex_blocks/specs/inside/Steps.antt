@@ -11,7 +11,7 @@ pub record IsBuilt (f : ℕ → List (ℕ × ℤ)) (low : ℕ) (p s : Block) : T
   pub small : ℕ → List (ℕ × ℤ)
   pub large : ℕ → List (ℕ × ℤ)
   pub page : p ≡ built small low
-  pub sets : s ≡ built large low
+  pub long : s ≡ built large low
   pub lists : (u : ℕ) → u < low → small u ++ large u ≡ f u
   pub apart : (u : ℕ) → u < low → (small u ≡ []) ⊎ (large u ≡ [])
 
@@ -20,7 +20,7 @@ pub record IsPut (u : ℕ) (xs : List (ℕ × ℤ)) (p s p' s' : Block) : Type 0
   pub small : List (ℕ × ℤ)
   pub large : List (ℕ × ℤ)
   pub page : p' ≡ p ++ entry_of u small
-  pub sets : s' ≡ s ++ entry_of u large
+  pub long : s' ≡ s ++ entry_of u large
   pub list : small ++ large ≡ xs
   pub apart : (small ≡ []) ⊎ (large ≡ [])
 

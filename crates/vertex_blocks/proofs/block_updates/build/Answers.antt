@@ -13,7 +13,7 @@ use Rattle.vertex_blocks.proofs.block_updates.build.Goals as goal
 pub loop-first-init : goal.loop-first-init
 loop-first-init c = record {
   low = omega arith;
-  built = rw (c.in_ok-building.ensures.page, c.in_ok-building.ensures.sets) (built_none (list_after c.args.updates.now (option_copied c.args.old)));
+  built = rw (c.in_ok-building.ensures.page, c.in_ok-building.ensures.long) (built_none (list_after c.args.updates.now (option_copied c.args.old)));
   coming = rw c.lend-rest.ensures c.requires.updates;
   passed = λ u le. ap (updates_of u) (sym c.lend-rest.ensures);
 }
@@ -36,8 +36,8 @@ push_updated-requires-clause-above_page c =
     let first = first_vertex l.low v (c.in-Some.first, c.in-Some.ensures.0) c.in-Some.ensures.1 l.rest (ap (λ w. w % 64) c.vertex-vertex.ensures.value) c.in-Some.ensures.2 l.invariant.coming in
     (built_rises (list_after us old) v _ _ (c.in_ok-carry.ensures (list_after us old) l.invariant.built (kept_to us old l.low v l.rest first.2 l.invariant.passed))).0
 
-pub push_updated-requires-clause-above_sets : goal.push_updated-requires-clause-above_sets
-push_updated-requires-clause-above_sets c =
+pub push_updated-requires-clause-above_long : goal.push_updated-requires-clause-above_long
+push_updated-requires-clause-above_long c =
     let l = c.loop-first in
     let v : ℕ = c.vertex-vertex.result % 64 in
     let us = c.args.updates.now in

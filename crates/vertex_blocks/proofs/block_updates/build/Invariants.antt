@@ -7,7 +7,7 @@ use Rattle.vertex_blocks.proofs.block_updates.build.Given as goal
 abbrev pub invariant-loop-first : goal.invariant-loop-first
 invariant-loop-first l = record {
   low : l.low ≤ 64;
-  built : IsBuilt (list_after l.fn.updates (option_copied l.fn.old)) l.low l.building.page l.building.sets;
+  built : IsBuilt (list_after l.fn.updates (option_copied l.fn.old)) l.low l.building.page l.building.long;
   coming : EdgesAscend (l.low * 2 ^ 24) l.rest;
   passed : (u : ℕ) → l.low ≤ u → updates_of u l.fn.updates ≡ updates_of u l.rest;
 }

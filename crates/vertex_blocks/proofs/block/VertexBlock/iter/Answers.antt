@@ -4,9 +4,9 @@ use Rattle.vertex_blocks.proofs.block.VertexBlock.iter.Goals as goal
 pub new-requires : goal.new-requires
 new-requires c =
     let ok = c.self.invariant in
-    rw (← c.self.view_is) (joined_block _ _ ok.page ok.sets ok.apart)
+    rw (← c.self.view_is) (joined_block _ _ ok.page ok.long ok.apart)
 
 pub returns-clause-block : goal.returns-clause-block
 returns-clause-block c =
     let ok = c.self.invariant in
-    rw (← c.self.view_is) (joined_block _ _ ok.page ok.sets ok.apart)
+    rw (← c.self.view_is) (joined_block _ _ ok.page ok.long ok.apart)

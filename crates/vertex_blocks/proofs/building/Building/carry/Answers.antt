@@ -11,7 +11,7 @@ use Rattle.vertex_blocks.proofs.building.Building.carry.Goals as goal
 
 pub returns-in_default : goal.returns-in_default
 returns-in_default c = λ f ok same.
-    built_nothing f c.args.low c.args.high c.args.self.now.page c.args.self.now.sets c.requires.order c.requires.within (λ u ge lt. same u ge lt ∙ ap (λ o. neighbours_of u (vertices_at (option_copied o))) c.in_default.is) ok
+    built_nothing f c.args.low c.args.high c.args.self.now.page c.args.self.now.long c.requires.order c.requires.within (λ u ge lt. same u ge lt ∙ ap (λ o. neighbours_of u (vertices_at (option_copied o))) c.in_default.is) ok
 
 pub push_run-requires-clause-order : goal.push_run-requires-clause-order
 push_run-requires-clause-order c = omega (arith, c.index.ensures.index, c.index-2.ensures.index, below_up c.args.low c.args.high c.parts.result.0.now c.requires.order)
@@ -33,16 +33,16 @@ push_run-requires-2-clause-within c = omega (arith, c.index-4.ensures.index, bel
 
 pub push_run-requires-2-clause-map : goal.push_run-requires-2-clause-map
 push_run-requires-2-clause-map c =
-    let sets = c.parts.ensures.sets in
+    let long = c.parts.ensures.long in
     let built = c.requires.built.1 in
-    rw (c.index-3.ensures.index, c.index-4.ensures.index) (carried_rise c.parts.result.1.now sets.map (lists_some c.parts.result.1.now sets.lists) built.large c.args.low c.args.high c.args.self.now.sets c.requires.order built.sets c.requires.within)
+    rw (c.index-3.ensures.index, c.index-4.ensures.index) (carried_rise c.parts.result.1.now long.map (lists_some c.parts.result.1.now long.lists) built.large c.args.low c.args.high c.args.self.now.long c.requires.order built.long c.requires.within)
 
 pub returns : goal.returns
 returns c =
     let low = c.args.low in
     let high = c.args.high in
     let p = c.args.self.now.page in
-    let s = c.args.self.now.sets in
+    let s = c.args.self.now.long in
     let p' = c.parts.result.0.now in
     let s' = c.parts.result.1.now in
     let page_is : c.push_run.new.self ≡ p ++ slice_range p' (count_below low p') (count_below high p') =

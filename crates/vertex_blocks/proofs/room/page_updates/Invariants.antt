@@ -1,5 +1,5 @@
 use Rattle.std.proofs.Common.{◌-◌, ◌≤◌, length}
-use Rattle.vertex_blocks.proofs.room.packed_updates.Given as goal
+use Rattle.vertex_blocks.proofs.room.page_updates.Given as goal
 
 abbrev pub invariant-loop-start : goal.invariant-loop-start
 invariant-loop-start l = l.start ≤ length l.updates
