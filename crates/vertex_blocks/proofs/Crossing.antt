@@ -1,5 +1,6 @@
 -- That blocks go to other threads.
 use denote.Param.Send.{IsSend, IsSync, sendable}
+use denote.Param.SendFields.{declared_send, declared_sync}
 use Rattle.std.proofs.Crossing.{crosses}
 use Rattle.shared_tree.proofs.tree.Tree.TheLaws.TheKnot.{crosses as tree_crosses}
 use Rattle.shared_tree.specs.contracts.tree.Tree as tree
@@ -42,10 +43,10 @@ list_sync : IsSync list.the_row
 list_sync = search (sendable, set_sync, shared_sync) depth 12
 
 entry_send : IsSend entry.the_row
-entry_send = search (sendable, list_send, list_sync) depth 20
+entry_send = declared_send entry.the_type (search sendable, (search (sendable, list_send) depth 20, tt))
 
 entry_sync : IsSync entry.the_row
-entry_sync = search (sendable, list_send, list_sync) depth 20
+entry_sync = declared_sync entry.the_type (search sendable, (search (sendable, list_sync) depth 20, tt))
 
 long_send : IsSend long.the_row
 long_send = search (sendable, crosses, entry_send) depth 12
