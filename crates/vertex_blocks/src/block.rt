@@ -58,8 +58,8 @@ impl Model for VertexBlock {
 }
 
 impl VertexBlock {
-    /// The block of a page and of lists of their own, or `None` where both are empty. The only error is out of
-    /// memory.
+    /// The block of a page and of lists of their own, or `None` where both are empty. The only error is
+    /// out of memory.
     pub(crate) fn new(
         alloc: Global,
         page: Page,

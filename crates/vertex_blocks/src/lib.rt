@@ -10,11 +10,11 @@
 //! ascending, each with a weight of 64 bits.
 //! `specs/Blocks.antt` says what is a block.
 //!
-//! A block is counted and never changes, so trees of versions share it. [`BlockUpdates`] makes the
-//! block after updates, of which `specs/Changes.antt` says what they make of one: an added edge gets the
-//! update's weight, also where it was there. What does not
-//! change is taken over: the bytes of a page are copied whole, and lists of their own are shared. [`blocks_are_their_lists`]
-//! is the law that leads from blocks to the vertices of a graph, and does nothing when called.
+//! A block is counted and never changes, so trees of versions share it. [`BlockUpdates`] makes the block
+//! after updates, of which `specs/Changes.antt` says what they make of one: an added edge gets the
+//! update's weight, also where it was there. What does not change is taken over: the bytes of a page are
+//! copied whole, and lists of their own are shared. [`blocks_are_their_lists`] is the law that leads
+//! from blocks to the vertices of a graph, and does nothing when called.
 //!
 //! A walk fills blocks with the neighbours alone, and then looks at no weight, or a second block with
 //! their weights too.
