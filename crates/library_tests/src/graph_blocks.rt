@@ -32,21 +32,31 @@ fn has_run(graph: &Graph, source: u32, from: u32, to: u32, is_chunked: bool) -> 
 // A count of neighbours that a vertex comes to have, and whether they are then a set in chunks.
 type Size = (u32, bool);
 
-// Upward a list is a set from 257 neighbours on, and downward it is packed again below 192.
-const SIZES: [Size; 14] = [
+// Upward a list leaves its page from 257 neighbours on, which nobody sees, and is a set from 2,049 on; downward a set is
+// packed again below 1,536.
+const SIZES: [Size; 23] = [
     (1, false),
     (255, false),
     (256, false),
-    (257, true),
-    (256, true),
-    (255, true),
-    (193, true),
-    (192, true),
-    (191, false),
-    (192, false),
+    (257, false),
+    (1000, false),
+    (257, false),
     (256, false),
-    (400, true),
-    (190, false),
+    (255, false),
+    (400, false),
+    (1535, false),
+    (1536, false),
+    (2047, false),
+    (2048, false),
+    (2049, true),
+    (2048, true),
+    (1537, true),
+    (1536, true),
+    (1535, false),
+    (1536, false),
+    (2048, false),
+    (2500, true),
+    (100, false),
     (0, false),
 ];
 
@@ -63,7 +73,7 @@ fn resized(alloc: Global, graph: &Graph, source: u32, from: u32, to: u32) -> Res
 
 // Whether a vertex goes through the sizes in their forms, and what it had stays as it was.
 fn goes_through_sizes(alloc: Global, source: u32) -> Result<bool, Fail> {
-    let mut graph = Graph::new(1000, 4)?;
+    let mut graph = Graph::new(3000, 4)?;
     let mut had = 0;
     for (count, is_chunked) in SIZES {
         let next = resized(alloc, &graph, source, had, count)?;
@@ -79,7 +89,7 @@ fn goes_through_sizes(alloc: Global, source: u32) -> Result<bool, Fail> {
 
 #[test]
 fn lists_change_their_form_at_two_sizes(rt: HostRuntime) -> Result<(), Fail> {
-    for source in [0, 63, 64, 999] {
+    for source in [0, 63, 64, 2999] {
         let passed = goes_through_sizes(rt.alloc(), source)?;
         assert!(rt; passed, "at vertex {source}");
     }
