@@ -1,5 +1,5 @@
 -- Entries of a list at the indices that are chosen.
-use Rattle.std.proofs.Common.{◌≡◌, ℕ, pos, ◌+◌, ◌-◌, ◌<◌, ◌≤◌, ℤ, Bool, true, false, if◌then◌else◌, List, [], ◌∷◌, ◌++◌, length, get_or, set, map, take, drop, refl, sym, ap, ◌∙◌, subst, tt, arith}
+use Rattle.std.proofs.Common.{◌≡◌, ℕ, zero, suc, pos, ◌+◌, ◌-◌, ◌<◌, ◌≤◌, ℤ, Bool, true, false, if◌then◌else◌, List, [], ◌∷◌, ◌++◌, length, get_or, set, map, take, drop, refl, sym, ap, ◌∙◌, subst, arith}
 use Rattle.std.proofs.lemmas.List.{append-nil, drop-drop, get_or-drop, length-drop, map-append, take-set, take_more, take_more_set}
 use Rattle.std.proofs.lemmas.List.Elements.{All-append, filter-append}
 use Rattle.std.specs.List.{All}
@@ -37,9 +37,13 @@ chosen_more p es xs k i low n false at room from inside is counts stays =
     ∙ at
     ∙ sym (passing_more p es i low false from inside is ∙ append-nil (passing p (take (i - low) (drop low es))))
 
+all_of_one : (P : ℕ → Type 0) (i : ℕ) → P i → All P (i ∷ [])
+all_of_one P i it zero d lt = it
+all_of_one P i it (suc k) d lt = absurd (omega (arith, lt))
+
 pub inside_more : (P : ℕ → Type 0) (xs : List ℕ) (k i n : ℕ) (b : Bool) → All P (take k xs) → P i → k < length xs → (b ≡ true → n ≡ k + 1) → (b ≡ false → n ≡ k) → All P (take n (set xs k i))
 inside_more P xs k i n true at it room counts stays =
-    subst (λ (front : List ℕ). All P front) (sym (ap (λ (m : ℕ). take m (set xs k i)) (counts refl) ∙ take_more_set xs k i room)) (All-append P (take k xs) (i ∷ []) at (it, tt))
+    subst (λ (front : List ℕ). All P front) (sym (ap (λ (m : ℕ). take m (set xs k i)) (counts refl) ∙ take_more_set xs k i room)) (All-append P (take k xs) (i ∷ []) at (all_of_one P i it))
 inside_more P xs k i n false at it room counts stays =
     subst (λ (front : List ℕ). All P front) (sym (ap (λ (m : ℕ). take m (set xs k i)) (stays refl) ∙ take-set xs k i)) at
 

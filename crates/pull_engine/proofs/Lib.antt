@@ -8,3 +8,4 @@ pub mod Shaped
 pub mod Told
 pub mod FoundParts
 pub mod Crossing
+mod Chosen
