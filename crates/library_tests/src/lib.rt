@@ -8,11 +8,17 @@
 #[cfg(test)]
 mod chunked_sets;
 #[cfg(test)]
+mod compiled_program;
+#[cfg(test)]
 mod crew_runs;
+#[cfg(test)]
+mod cut_programs;
 #[cfg(test)]
 mod cut_sources;
 #[cfg(test)]
 mod failing_devices;
+#[cfg(test)]
+mod failing_runs;
 #[cfg(test)]
 mod forked_graphs;
 #[cfg(test)]
