@@ -57,12 +57,11 @@ fn count(
         counts.accepted = counts.accepted.saturating_add(1);
         return Ok(true);
     };
-    let counted = match refusal.number() {
-        201 => &mut counts.no_token,
-        228 => &mut counts.no_main,
-        _ => &mut counts.no_source,
-    };
-    *counted = counted.saturating_add(1);
+    match refusal.number() {
+        201 => counts.no_token = counts.no_token.saturating_add(1),
+        228 => counts.no_main = counts.no_main.saturating_add(1),
+        _ => counts.no_source = counts.no_source.saturating_add(1),
+    }
     match refusal.at() {
         Some(at) => may_be_refused(alloc, text, refusal.number(), at),
         None => Ok(false),
