@@ -11,7 +11,7 @@ use std::thread::Threads;
 use version_list::Which;
 
 // More than 2 to the power of 20.
-const COMMITS: u64 = 1_100_000;
+const COMMITS: u64 = 1_050_000;
 
 #[test]
 fn one_reader_commits_more_than_a_million_times(rt: HostRuntime) -> Result<(), Fail> {
