@@ -8,7 +8,17 @@
 #[cfg(test)]
 mod chunked_sets;
 #[cfg(test)]
+mod compiled_program;
+#[cfg(test)]
 mod crew_runs;
+#[cfg(test)]
+mod cut_programs;
+#[cfg(test)]
+mod cut_sources;
+#[cfg(test)]
+mod failing_devices;
+#[cfg(test)]
+mod failing_runs;
 #[cfg(test)]
 mod forked_graphs;
 #[cfg(test)]
@@ -16,11 +26,17 @@ mod forked_sets;
 #[cfg(test)]
 mod graph_blocks;
 #[cfg(test)]
+mod list_sizes;
+#[cfg(test)]
+mod long_holds;
+#[cfg(test)]
 mod random_batches;
 #[cfg(test)]
 mod script_devices;
 #[cfg(test)]
 mod sets_of_vertices;
+#[cfg(test)]
+mod slow_devices;
 #[cfg(test)]
 mod tails;
 #[cfg(test)]

@@ -2,18 +2,19 @@
 ghost use Rattle.std.specs.Prelude.{[], ◌∷◌};
 ghost use Rattle.library_tests.specs.Programs.{empty_program};
 
+use crate::slow_devices::{SlowReader, SmallWriter};
 use algorithm_meaning::Outcome;
 use devices::Device;
 use flat_snapshot::Flat;
 use scripts::{Programs, ScriptError, script};
 use std::alloc::{AllocError, Global};
 use std::io;
-use std::io::{Error, ErrorKind, Read, Write};
+use std::io::{Read, Write};
 use std::sync::atomic::{AtomicUsize, Ordering};
 use std::test::Fail;
 
-// One program, for whose runs there is never memory enough.
-struct StarvedProgram;
+/// One program, for whose runs there is never memory enough.
+pub(crate) struct StarvedProgram;
 
 impl Programs for StarvedProgram {
     ghost trees = { λ _. empty_program ∷ [] };
@@ -36,62 +37,10 @@ impl Programs for StarvedProgram {
     }
 }
 
-// Is interrupted before each read, and fails where another would end.
-#[derive(Drop)]
-struct BrokenReader<'a> {
-    bytes: &'a [u8],
-    is_interrupted: bool,
-}
-
-impl Read for BrokenReader<'_> {
-    fn read(&mut self, buffer: &mut [u8]) -> io::Result<usize> {
-        self.is_interrupted = !self.is_interrupted;
-        if self.is_interrupted {
-            return Err(Error::from(ErrorKind::Interrupted));
-        }
-        if self.bytes.is_empty() {
-            return Err(Error::from(ErrorKind::BrokenPipe));
-        }
-        let count = buffer.len().min(self.bytes.len());
-        buffer[..count].copy_from_slice(&self.bytes[..count]);
-        self.bytes = &self.bytes[count..];
-        Ok(count)
-    }
-}
-
-// Takes at most three bytes at a time, and fails where it has no room for one more.
-#[derive(Drop)]
-struct SmallWriter {
-    bytes: Vec<u8>,
-    room: usize,
-}
-
-impl Write for SmallWriter {
-    fn write(&mut self, bytes: &[u8]) -> io::Result<usize> {
-        if self.room == 0 {
-            return Err(Error::from(ErrorKind::BrokenPipe));
-        }
-        let count = bytes.len().min(3).min(self.room);
-        self.bytes.extend_from_slice(&bytes[..count])?;
-        self.room -= count;
-        Ok(count)
-    }
-
-    fn flush(&mut self) -> io::Result<()> {
-        Ok(())
-    }
-}
-
 // Runs a script into a writer that has so much room, and gives what it took.
 fn run(alloc: Global, bytes: &[u8], room: usize) -> (Result<bool, ScriptError>, Vec<u8>) {
-    let mut writer = SmallWriter {
-        bytes: Vec::new(alloc),
-        room,
-    };
-    let mut reader = Device::new(BrokenReader {
-        bytes,
-        is_interrupted: false,
-    });
+    let mut writer = SmallWriter::new(alloc, 3, room);
+    let mut reader = Device::new(SlowReader::failing(bytes, usize::MAX));
     let mut out = Device::new(&mut writer);
     let (result, _state) = script(alloc, &StarvedProgram, &mut reader, &mut out);
     drop(out);
@@ -105,7 +54,7 @@ const FIRST_REPLIES: &[u8] = b"open 4\nversion 1\nedges 2\n0 1\n3 0\n";
 // The replies are exactly those to the lines that ended before the reader failed.
 #[test]
 fn ends_where_the_reader_fails(rt: HostRuntime) {
-    for count in 0..FIRST.len() {
+    for count in 0..=FIRST.len() {
         assert!(rt; fails_at(rt.alloc(), count), "at {count}");
     }
 }

@@ -1,5 +1,5 @@
 //! Bytes of tails.
-use std::alloc::Global;
+use std::alloc::{AllocError, Global};
 use std::test::Fail;
 use tail_codec::Tail;
 
@@ -39,20 +39,73 @@ fn is_spelled(alloc: Global, (base, list, bytes): Spelling) -> Result<bool, Fail
     Ok(made && read.iter().eq(list.iter().copied()))
 }
 
-// How many strings of three bytes spell a list without a base.
-fn spellings_of_three(alloc: Global) -> u32 {
-    let mut count = 0u32;
-    for number in 0..1u32 << 24 {
+// How many of the strings of so many bytes, at most 3, spell a list without a base; or `None` where a list is spelled again
+// otherwise.
+fn spellings_of(alloc: Global, length: usize, strings: u32) -> Result<Option<u32>, Fail> {
+    let (mut count, mut list) = (0u32, Vec::new(alloc));
+    for number in 0..strings {
         let bytes = number.to_le_bytes();
-        if Tail::from_bytes(alloc, None, &bytes[..3]).is_ok() {
-            count = count.wrapping_add(1);
+        let spelling = &bytes[..length.min(3)];
+        let Ok(tail) = Tail::from_bytes(alloc, None, spelling) else {
+            continue;
+        };
+        list.clear();
+        list.extend(tail.iter())?;
+        if Tail::encode(alloc, None, &list)?.bytes() != spelling {
+            return Ok(None);
         }
+        count = count.wrapping_add(1);
     }
-    count
+    Ok(Some(count))
 }
 
+// A length, how many strings have it, and how many of these spell a list.
+const SHORT_STRINGS: [(usize, u32, u32); 4] = [
+    (0, 1, 1),
+    (1, 1 << 8, 64),
+    (2, 1 << 16, 20_352),
+    (3, 1 << 24, 5_455_936),
+];
+
 #[test]
-fn so_many_strings_of_three_bytes_spell_a_list(rt: HostRuntime) -> Result<(), Fail> {
-    assert_eq!(rt; spellings_of_three(rt.alloc()), 5_455_936);
+fn so_many_short_strings_spell_a_list(rt: HostRuntime) -> Result<(), Fail> {
+    for (length, strings, count) in SHORT_STRINGS {
+        let found = spellings_of(rt.alloc(), length, strings)?;
+        assert!(rt; found == Some(count), "of {length} bytes");
+    }
+    Ok(())
+}
+
+// The numbers from 0 on, so many, each with a weight.
+fn first_numbers(alloc: Global, count: u32, weight: i64) -> Result<Vec<(u32, i64)>, AllocError> {
+    (0..count).map(|key| (key, weight)).collect(alloc)
+}
+
+// Whether the first numbers with a weight are spelled by as many turns of these bytes.
+fn are_spelled(alloc: Global, count: u32, weight: i64, entry: &[u8]) -> Result<bool, Fail> {
+    let mut bytes = Vec::new(alloc);
+    for _ in 0..count {
+        bytes.extend_from_slice(entry)?;
+    }
+    let list = first_numbers(alloc, count, weight)?;
+    let made = Tail::encode(alloc, None, &list)?;
+    let read = Tail::from_bytes(alloc, None, &bytes)?.share()?;
+    Ok(made.bytes() == bytes.as_slice() && read.iter().eq(list.iter().copied()))
+}
+
+// Up to 127 bytes a tail is one allocation.
+#[test]
+fn long_tails_are_spelled(rt: HostRuntime) -> Result<(), Fail> {
+    for count in [63, 64, 126, 127, 128, 129, 1_000] {
+        let ones = are_spelled(rt.alloc(), count, 1, b"\x00")?;
+        let others = are_spelled(rt.alloc(), count, -1, b"\x01\x01")?;
+        let wide = are_spelled(
+            rt.alloc(),
+            count,
+            i64::MAX,
+            b"\x01\xfe\xff\xff\xff\xff\xff\xff\xff\xff\x01",
+        )?;
+        assert!(rt; ones && others && wide, "of {count} entries");
+    }
     Ok(())
 }

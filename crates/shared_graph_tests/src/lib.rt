@@ -7,6 +7,8 @@
 #[cfg(test)]
 mod growth;
 #[cfg(test)]
+mod many_commits;
+#[cfg(test)]
 mod rows;
 #[cfg(test)]
 mod trims;
