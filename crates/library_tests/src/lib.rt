@@ -18,6 +18,8 @@ mod graph_blocks;
 #[cfg(test)]
 mod random_batches;
 #[cfg(test)]
+mod refused_growths;
+#[cfg(test)]
 mod script_devices;
 #[cfg(test)]
 mod sets_of_vertices;

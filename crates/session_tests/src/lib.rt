@@ -15,4 +15,6 @@ mod random_steps;
 #[cfg(test)]
 mod refusals;
 #[cfg(test)]
+mod refused_growths;
+#[cfg(test)]
 mod rows;

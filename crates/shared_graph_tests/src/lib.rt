@@ -7,6 +7,8 @@
 #[cfg(test)]
 mod growth;
 #[cfg(test)]
+mod refused_growths;
+#[cfg(test)]
 mod rows;
 #[cfg(test)]
 mod trims;

@@ -6,4 +6,6 @@ mod growth;
 #[cfg(test)]
 mod paths;
 #[cfg(test)]
+mod refused_growths;
+#[cfg(test)]
 mod runs;
