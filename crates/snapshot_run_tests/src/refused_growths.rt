@@ -35,7 +35,7 @@ const PIECES: &[u8] = b"element Vertex end element Edge end \
     frontier.addVertex(0); parent[0] = 0; \
     while frontier.getVertexSetSize() != 0 \
     #s1# frontier = edges.from(frontier).to(unseen).applyModified(visit, parent); end end \
-    schedule: program->configApplyDirection(\"s1\", \"SparsePush\")\
+    schedule: program->configApplyDirection(\"s1\", \"DensePush\")\
     ->configApplyParallelization(\"s1\", \"static-vertex-parallel\");";
 
 // Counts the pieces.
