@@ -235,18 +235,16 @@ fn holds<J: Naming, W: Wait + Drop, R: Threads + Wait + Print + AllocGlobal + Sy
     let first = graph.hold(rt, rt.alloc(), me, Which::Newest);
     let is_refused = matches!(&first, Err(SharedError::NoMemory));
     let told = tell(rt, is_refused);
+    let stays = FIRST.is_newest(me) && FIRST.is_newest(other);
     let held = match first {
         Ok(held) => held,
-        Err(SharedError::NoMemory) if FIRST.is_newest(me) && FIRST.is_newest(other) => {
-            graph.hold(rt, rt.alloc(), me, Which::Newest)?
-        }
+        Err(SharedError::NoMemory) => graph.hold(rt, rt.alloc(), me, Which::Newest)?,
         Err(error) => return Err(error),
     };
-    let found = is_first(rt, graph, me, held) && FIRST.is_newest(other);
+    let found = is_first(rt, graph, me, held) && stays && FIRST.is_newest(other);
     Ok(asked && told && found && graph.trim(rt, other) == Ok(3))
 }
 
-// Whether the first version is released, be it at the second attempt, until when it is kept.
 fn releases<J: Naming, W: Wait + Drop, R: Threads + Wait + Print + AllocGlobal + Sync>(
     rt: &R,
     graph: &SharedGraph<J, W>,
@@ -254,10 +252,11 @@ fn releases<J: Naming, W: Wait + Drop, R: Threads + Wait + Print + AllocGlobal +
     other: &mut Reader<J>,
 ) -> Result<bool, SharedError> {
     commit(rt, graph, other, FIRST_ENTRIES)?;
-    commit_beside_hold(rt, graph, me, other)
+    releases_first(rt, graph, me, other)
 }
 
-fn commit_beside_hold<J: Naming, W: Wait + Drop, R: Threads + Wait + Print + AllocGlobal + Sync>(
+// Whether the first version is released, be it at the second attempt, and is kept until then.
+fn releases_first<J: Naming, W: Wait + Drop, R: Threads + Wait + Print + AllocGlobal + Sync>(
     rt: &R,
     graph: &SharedGraph<J, W>,
     me: &mut Reader<J>,
