@@ -32,6 +32,8 @@ mod long_holds;
 #[cfg(test)]
 mod random_batches;
 #[cfg(test)]
+mod refused_growths;
+#[cfg(test)]
 mod script_devices;
 #[cfg(test)]
 mod sets_of_vertices;

@@ -1,5 +1,5 @@
 //! Tests of sessions: jobs beside commits and growth, whose places were worked out by hand, two jobs in every order of their
-//! first steps, and random steps beside a plain world.
+//! first steps, random steps beside a plain world, and steps that memory may run out for.
 #![tactic(auto)]
 
 #[cfg(test)]
@@ -14,5 +14,7 @@ mod programs;
 mod random_steps;
 #[cfg(test)]
 mod refusals;
+#[cfg(test)]
+mod refused_growths;
 #[cfg(test)]
 mod rows;

@@ -14,7 +14,7 @@ use std::time::Duration;
 use tree_batch::{Batch, Entry};
 use version_list::Which;
 
-fn batch_of(alloc: Global, entries: &[Entry]) -> Result<Batch, AllocError> {
+pub(crate) fn batch_of(alloc: Global, entries: &[Entry]) -> Result<Batch, AllocError> {
     let mut batch = Batch::new(alloc);
     for entry in entries {
         if batch.push(*entry).is_err() {

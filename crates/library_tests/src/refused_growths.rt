@@ -1,0 +1,234 @@
+//! Calls that memory may run out for: what they are given is then as it was, and the same call is answered afterwards as if
+//! it had not been made before.
+//!
+//! With ample memory a test sees the answer alone. `bench/refused-growths` runs each again and again, and refuses one after
+//! another of the requests for memory that are made between the lines "asked" and "900" or "whole".
+ghost use Rattle.std.specs.Prelude.{[]};
+
+use algorithm_meaning::Outcome;
+use c_tree::{CTree, CTreeError};
+use devices::Device;
+use flat_snapshot::Flat;
+use scripts::{Programs, ScriptError, script};
+use set_ops::{Quiet, SetError, union_forked};
+use std::alloc::{AllocError, Global};
+use std::test::Fail;
+use tree_batch::{Batch, Entry, Graph};
+use version_list::{Reply, VersionError, Versions, Which};
+
+// Says that the requests for memory are those of the call from now on.
+fn ask<R: Print>(rt: &R) -> bool {
+    println!(rt; "asked").is_ok()
+}
+
+// Says that the call was answered, and whether by 900.
+fn tell<R: Print>(rt: &R, is_refused: bool) -> bool {
+    let answer = if is_refused { "900" } else { "whole" };
+    println!(rt; "{answer}").is_ok()
+}
+
+// Every third number below so many, from the first on, each with a weight.
+fn every_third(alloc: Global, first: u32, below: u32) -> Result<Vec<(u32, i64)>, AllocError> {
+    let mut entries = Vec::new(alloc);
+    for key in first..below {
+        if key % 3 == first % 3 {
+            entries.push((key, i64::from(key) - 50))?;
+        }
+    }
+    Ok(entries)
+}
+
+// Whether a set has these entries.
+fn has(set: &CTree, entries: &[(u32, i64)]) -> bool {
+    set.iter().eq(entries.iter().copied())
+}
+
+#[test]
+fn a_set_of_a_list(rt: HostRuntime) -> Result<(), Fail> {
+    let alloc = rt.alloc();
+    let entries = every_third(alloc, 0, 200)?;
+    let asked = ask(&rt);
+    let first = CTree::from_sorted(alloc, 4, &entries);
+    let is_refused = matches!(&first, Err(CTreeError::NoMemory));
+    let told = tell(&rt, is_refused);
+    let set = if is_refused {
+        CTree::from_sorted(alloc, 4, &entries)?
+    } else {
+        first?
+    };
+    let found = set.len() == 67 && has(&set, &entries);
+    assert!(rt; asked && told && found);
+    Ok(())
+}
+
+#[test]
+fn a_union(rt: HostRuntime) -> Result<(), Fail> {
+    let alloc = rt.alloc();
+    let (low, high) = (every_third(alloc, 0, 200)?, every_third(alloc, 1, 200)?);
+    let one = CTree::from_sorted(alloc, 4, &low)?;
+    let other = CTree::from_sorted(alloc, 4, &high)?;
+    let asked = ask(&rt);
+    let first = union_forked(&rt, alloc, &one, &other, 2, &Quiet);
+    let is_refused = matches!(&first, Err(SetError::NoMemory));
+    let told = tell(&rt, is_refused);
+    let stay = has(&one, &low) && has(&other, &high);
+    let both = if is_refused {
+        union_forked(&rt, alloc, &one, &other, 2, &Quiet)?
+    } else {
+        first?
+    };
+    let keys = (0..200u32).filter(|key| *key % 3 != 2);
+    let found = both.iter().eq(keys.map(|key| (key, i64::from(key) - 50)));
+    assert!(rt; asked && told && stay && found);
+    Ok(())
+}
+
+// A version: its number, its vertices and its edges.
+#[derive(Clone, Copy)]
+struct Version<'a> {
+    number: u64,
+    vertices: u32,
+    edges: &'a [(u32, u32, i64)],
+}
+
+const BEFORE: Version<'static> = Version {
+    number: 1,
+    vertices: 4,
+    edges: &[(0, 1, 7), (3, 0, -2)],
+};
+
+const AFTER: Version<'static> = Version {
+    number: 2,
+    vertices: 70,
+    edges: &[(0, 2, 9), (3, 0, 5), (69, 3, 1)],
+};
+
+// What makes the version before, and what makes the one after of it.
+const ENTRIES: [&[Entry]; 2] = [
+    &[Entry::Add(0, 1, 7), Entry::Grow(4), Entry::Add(3, 0, -2)],
+    &[
+        Entry::Remove(0, 1),
+        Entry::Add(0, 2, 9),
+        Entry::Add(3, 0, 5),
+        Entry::Grow(70),
+        Entry::Add(69, 3, 1),
+    ],
+];
+
+impl Version<'_> {
+    fn is(&self, number: u64, graph: &Graph) -> bool {
+        let edges = graph.edges().eq(self.edges.iter().copied());
+        number == self.number && graph.vertices() == self.vertices && edges
+    }
+
+    // Whether it is the newest, and the history has these replies.
+    fn is_newest(&self, versions: &Versions, replies: &[Reply]) -> bool {
+        let (number, graph) = versions.newest();
+        self.is(number, graph)
+            && versions
+                .history()
+                .iter()
+                .map(|done| done.reply)
+                .eq(replies.iter().copied())
+    }
+}
+
+fn batch_of(alloc: Global, entries: &[Entry]) -> Result<Batch, AllocError> {
+    let mut batch = Batch::new(alloc);
+    for entry in entries {
+        if batch.push(*entry).is_err() {
+            return Err(AllocError);
+        }
+    }
+    Ok(batch)
+}
+
+// Three vertices, the version before, and that it is held.
+fn held_versions(alloc: Global) -> Result<Versions, VersionError> {
+    let mut versions = Versions::new(alloc, 3, 64)?;
+    versions.commit(alloc, batch_of(alloc, ENTRIES[0])?)?;
+    versions.acquire(Which::Newest)?;
+    Ok(versions)
+}
+
+const REPLIES: [Reply; 3] = [Reply::Version(1), Reply::Ticket(1, 1), Reply::Version(2)];
+
+#[test]
+fn a_commit(rt: HostRuntime) -> Result<(), Fail> {
+    let alloc = rt.alloc();
+    let mut versions = held_versions(alloc)?;
+    let batch = batch_of(alloc, ENTRIES[1])?;
+    let asked = ask(&rt);
+    let first = versions.commit(alloc, batch);
+    let is_refused = first == Err(VersionError::NoMemory);
+    let told = tell(&rt, is_refused);
+    let number = if is_refused {
+        assert!(rt; BEFORE.is_newest(&versions, &REPLIES[..2]));
+        versions.commit(alloc, batch_of(alloc, ENTRIES[1])?)?
+    } else {
+        first?
+    };
+    let made = number == 2 && AFTER.is_newest(&versions, &REPLIES);
+    drop(versions);
+    assert!(rt; asked && told && made);
+    Ok(())
+}
+
+// No program.
+struct NoPrograms;
+
+impl Programs for NoPrograms {
+    ghost trees = { λ _. [] };
+
+    ghost are_ready = { λ _. Unit {0} };
+
+    fn count(&self) -> usize {
+        0
+    }
+
+    fn run(
+        &self,
+        _alloc: Global,
+        _place: usize,
+        _graph: &Flat,
+        _turns: u64,
+        _workers: u64,
+    ) -> Result<Outcome, AllocError> {
+        Err(AllocError)
+    }
+}
+
+const SCRIPT: &[u8] =
+    b"vertices 3\nadd 0 1\ncommit\nhold\nadd 1 2\ncommit\ndel 0 1\ncommit\nedges 1\nhold at 2\nrelease 1\n\
+    hold at 1\nrelease 1\nedges\ngrow 5\nadd 4 0 -3\ncommit\nedges\n";
+
+const WRITTEN: &[u8] =
+    b"open 3\nversion 1\nticket 1 version 1\nversion 2\nversion 3\nedges 1\n0 1\nrefused 121\nreleased 1\n\
+    refused 121\nrefused 122\nedges 1\n1 2\nversion 4\nedges 2\n1 2\n4 0 -3\n";
+
+// Runs the script into a writer that has room for all replies.
+fn run(alloc: Global, written: &mut Vec<u8>) -> Result<bool, ScriptError> {
+    let mut reader = Device::new(SCRIPT);
+    let mut writer = Device::new(written);
+    let (result, _state) = script(alloc, &NoPrograms, &mut reader, &mut writer);
+    result
+}
+
+#[test]
+fn a_script(rt: HostRuntime) -> Result<(), Fail> {
+    let alloc = rt.alloc();
+    let mut written = Vec::with_capacity(alloc, WRITTEN.len())?;
+    let asked = ask(&rt);
+    let first = run(alloc, &mut written);
+    let is_refused = first == Err(ScriptError::NoMemory);
+    let told = tell(&rt, is_refused);
+    if is_refused {
+        assert!(rt; WRITTEN.starts_with(written.as_slice()));
+        written.clear();
+        assert!(rt; run(alloc, &mut written) == Ok(false));
+    } else {
+        assert!(rt; first == Ok(false));
+    }
+    assert!(rt; asked && told && written.as_slice() == WRITTEN);
+    Ok(())
+}

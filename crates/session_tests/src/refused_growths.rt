@@ -1,0 +1,107 @@
+//! Steps of a session that memory may run out for: nothing is then changed, and the same step is answered afterwards as if it
+//! had not been taken before.
+//!
+//! With ample memory the test sees the answers alone. `bench/refused-growths` runs it again and again, and refuses one after
+//! another of the requests for memory that are made between the lines "asked" and "900" or "whole".
+
+use crate::programs::{GOING, ShownRun, commit, session, shows};
+use algorithm_meaning::End;
+use session::{Session, SessionError, SessionReply, SessionStep};
+use std::alloc::{AllocError, Global};
+use std::test::Fail;
+use tree_batch::Entry;
+use version_list::{Reply, Which};
+
+// Says that the requests for memory are those of the steps from now on.
+fn ask<R: Print>(rt: &R) -> bool {
+    println!(rt; "asked").is_ok()
+}
+
+// Says that the steps were answered, and whether one of them by 900.
+fn tell<R: Print>(rt: &R, is_refused: bool) -> bool {
+    let answer = if is_refused { "900" } else { "whole" };
+    println!(rt; "{answer}").is_ok()
+}
+
+// A fork with weights, and a seventh vertex.
+const GROWN_FORK: &[Entry] = &[
+    Entry::Add(0, 1, 4),
+    Entry::Add(0, 2, 1),
+    Entry::Add(1, 3, -6),
+    Entry::Add(2, 3, 1),
+    Entry::Grow(7),
+    Entry::Add(3, 6, 2),
+];
+
+// A commit, a hold, a search of what is held, and seven steps of it.
+fn ten_steps(alloc: Global) -> Result<Vec<SessionStep>, AllocError> {
+    let mut steps = Vec::new(alloc);
+    steps.push(commit(alloc, GROWN_FORK)?)?;
+    steps.push(SessionStep::Acquire(Which::Newest))?;
+    steps.push(SessionStep::Start {
+        program: 1,
+        ticket: 1,
+        turns: 10,
+    })?;
+    for _step in 0..7u32 {
+        steps.push(SessionStep::JobStep(1))?;
+    }
+    Ok(steps)
+}
+
+const REPLIES: [SessionReply; 10] = [
+    SessionReply::Of(Reply::Version(1)),
+    SessionReply::Of(Reply::Ticket(1, 1)),
+    SessionReply::Job(1),
+    GOING,
+    GOING,
+    GOING,
+    GOING,
+    GOING,
+    GOING,
+    GOING,
+];
+
+const HALFWAY: ShownRun<'static> = ShownRun {
+    parents: &[0, 0, 0, -1, -1, -1, -1],
+    frontier: &[1, 2],
+    end: End::TurnsOver,
+    turns: 1,
+};
+
+// How often steps were answered 900, and how often they were answered as they should be. A step that was answered 900 is
+// taken again.
+fn take(
+    alloc: Global,
+    session: &mut Session,
+    steps: Vec<SessionStep>,
+    again: Vec<SessionStep>,
+) -> Result<(u32, u32), SessionError> {
+    let (mut refused, mut answered) = (0u32, 0u32);
+    for ((step, again), wanted) in steps.into_iter().zip(again).zip(&REPLIES) {
+        let reply = match session.step(alloc, step) {
+            Err(SessionError::NoMemory) => {
+                refused = refused.wrapping_add(1);
+                session.step(alloc, again)?
+            }
+            other => other?,
+        };
+        answered = answered.wrapping_add(u32::from(reply == *wanted));
+    }
+    Ok((refused, answered))
+}
+
+#[test]
+fn ten_steps_of_a_session(rt: HostRuntime) -> Result<(), Fail> {
+    let alloc = rt.alloc();
+    let mut session = session(alloc)?;
+    let (steps, again) = (ten_steps(alloc)?, ten_steps(alloc)?);
+    let asked = ask(&rt);
+    let taken = take(alloc, &mut session, steps, again);
+    let told = tell(&rt, matches!(taken, Ok((1, _))));
+    let shown = shows(alloc, &session, 1, HALFWAY)?;
+    drop(session);
+    assert!(rt; asked && told && shown);
+    assert!(rt; taken == Ok((0, 10)) || taken == Ok((1, 10)));
+    Ok(())
+}
