@@ -18,8 +18,8 @@ returns-in_ok-sort_forked-in-Unweighted-clause-same g c = λ p.
     same_units c.in-Unweighted.updates.items c.sort_forked.new.updates.items (p.1, p.0) p (c.in_ok-sort_forked-in-Unweighted.ensures.same p ∙ c.turn.ensures.same p.1 p.0)
     ∙ ap (λ s. decided_weight (sorted_pairs s) (p.1, p.0)) (sym c.in-Unweighted.is)
 
-pub sort_turned_forked-requires : goal.sort_turned_forked-requires
-sort_turned_forked-requires g c = pairs_alone c.in-Weighted.updates.items (subst (λ s. Ascend (keys_of (sorted_pairs s))) c.in-Weighted.is c.requires)
+pub sort_turned_forked-requires-after_bounds : goal.sort_turned_forked-requires-after_bounds
+sort_turned_forked-requires-after_bounds g c κs within = pairs_alone c.in-Weighted.updates.items (subst (λ s. Ascend (keys_of (sorted_pairs s))) c.in-Weighted.is c.requires)
 
 pub returns-in_ok-sort_turned_forked-in-Weighted-clause-order : goal.returns-in_ok-sort_turned_forked-in-Weighted-clause-order
 returns-in_ok-sort_turned_forked-in-Weighted-clause-order g c = pairs_ascend c.sort_turned_forked.new.updates.items c.in_ok-sort_turned_forked-in-Weighted.ensures.order
