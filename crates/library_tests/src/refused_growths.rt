@@ -3,13 +3,10 @@
 //!
 //! With ample memory a test sees the answer alone. `bench/refused-growths` runs each again and again, and refuses one after
 //! another of the requests for memory that are made between the lines "asked" and "900" or "whole".
-ghost use Rattle.std.specs.Prelude.{[]};
-
-use algorithm_meaning::Outcome;
+use crate::script_devices::StarvedProgram;
 use c_tree::{CTree, CTreeError};
 use devices::Device;
-use flat_snapshot::Flat;
-use scripts::{Programs, ScriptError, script};
+use scripts::{ScriptError, script};
 use set_ops::{Quiet, SetError, union_forked};
 use std::alloc::{AllocError, Global};
 use std::test::Fail;
@@ -174,30 +171,6 @@ fn a_commit(rt: HostRuntime) -> Result<(), Fail> {
     Ok(())
 }
 
-// No program.
-struct NoPrograms;
-
-impl Programs for NoPrograms {
-    ghost trees = { λ _. [] };
-
-    ghost are_ready = { λ _. Unit {0} };
-
-    fn count(&self) -> usize {
-        0
-    }
-
-    fn run(
-        &self,
-        _alloc: Global,
-        _place: usize,
-        _graph: &Flat,
-        _turns: u64,
-        _workers: u64,
-    ) -> Result<Outcome, AllocError> {
-        Err(AllocError)
-    }
-}
-
 const SCRIPT: &[u8] =
     b"vertices 3\nadd 0 1\ncommit\nhold\nadd 1 2\ncommit\ndel 0 1\ncommit\nedges 1\nhold at 2\nrelease 1\n\
     hold at 1\nrelease 1\nedges\ngrow 5\nadd 4 0 -3\ncommit\nedges\n";
@@ -210,7 +183,7 @@ const WRITTEN: &[u8] =
 fn run(alloc: Global, written: &mut Vec<u8>) -> Result<bool, ScriptError> {
     let mut reader = Device::new(SCRIPT);
     let mut writer = Device::new(written);
-    let (result, _state) = script(alloc, &NoPrograms, &mut reader, &mut writer);
+    let (result, _state) = script(alloc, &StarvedProgram, &mut reader, &mut writer);
     result
 }
 

@@ -85,7 +85,7 @@ fn tell<R: Print>(rt: &R, is_refused: bool) -> bool {
 
 // The calls.
 #[derive(Clone, Copy)]
-enum Call {
+enum RefusedCall {
     Commit,
     SecondCommit,
     Hold,
@@ -95,35 +95,35 @@ enum Call {
 
 #[test]
 fn a_commit(rt: HostRuntime) -> Result<(), Fail> {
-    let found = three_vertices::<Brand, _>(&rt, Opening::new(), Call::Commit)?;
+    let found = three_vertices::<Brand, _>(&rt, Opening::new(), RefusedCall::Commit)?;
     assert!(rt; found);
     Ok(())
 }
 
 #[test]
 fn a_second_commit(rt: HostRuntime) -> Result<(), Fail> {
-    let found = three_vertices::<Brand, _>(&rt, Opening::new(), Call::SecondCommit)?;
+    let found = three_vertices::<Brand, _>(&rt, Opening::new(), RefusedCall::SecondCommit)?;
     assert!(rt; found);
     Ok(())
 }
 
 #[test]
 fn a_hold(rt: HostRuntime) -> Result<(), Fail> {
-    let found = three_vertices::<Brand, _>(&rt, Opening::new(), Call::Hold)?;
+    let found = three_vertices::<Brand, _>(&rt, Opening::new(), RefusedCall::Hold)?;
     assert!(rt; found);
     Ok(())
 }
 
 #[test]
 fn a_release(rt: HostRuntime) -> Result<(), Fail> {
-    let found = three_vertices::<Brand, _>(&rt, Opening::new(), Call::Release)?;
+    let found = three_vertices::<Brand, _>(&rt, Opening::new(), RefusedCall::Release)?;
     assert!(rt; found);
     Ok(())
 }
 
 #[test]
 fn a_trim(rt: HostRuntime) -> Result<(), Fail> {
-    let found = three_vertices::<Brand, _>(&rt, Opening::new(), Call::Trim)?;
+    let found = three_vertices::<Brand, _>(&rt, Opening::new(), RefusedCall::Trim)?;
     assert!(rt; found);
     Ok(())
 }
@@ -131,7 +131,7 @@ fn a_trim(rt: HostRuntime) -> Result<(), Fail> {
 fn three_vertices<J: Naming, R: Threads + Wait + Print + AllocGlobal + Sync>(
     rt: &R,
     opening: Opening,
-    call: Call,
+    call: RefusedCall,
 ) -> Result<bool, SharedError>
     requires book { opening ≡ J.book }
     requires vertices { J.vertices ≡ 3 }
@@ -142,11 +142,11 @@ fn three_vertices<J: Naming, R: Threads + Wait + Print + AllocGlobal + Sync>(
         return Err(SharedError::BadSeats);
     };
     match call {
-        Call::Commit => commits(rt, &graph, me, other),
-        Call::SecondCommit => commits_again(rt, &graph, me, other),
-        Call::Hold => holds(rt, &graph, me, other),
-        Call::Release => releases(rt, &graph, me, other),
-        Call::Trim => trims(rt, &graph, me, other),
+        RefusedCall::Commit => commits(rt, &graph, me, other),
+        RefusedCall::SecondCommit => commits_again(rt, &graph, me, other),
+        RefusedCall::Hold => holds(rt, &graph, me, other),
+        RefusedCall::Release => releases(rt, &graph, me, other),
+        RefusedCall::Trim => trims(rt, &graph, me, other),
     }
 }
 
