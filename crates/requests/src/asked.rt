@@ -2,7 +2,7 @@
 
 ghost use Rattle.std.specs.Prelude.{◌≡◌};
 ghost use Rattle.clap.specs.Words.{kind_of};
-ghost use Rattle.requests.specs.Refusal.{of_fault};
+ghost use Rattle.requests.specs.Refusal.{number_of, of_fault};
 ghost use Rattle.requests.specs.declared.asked.RequestError.TheVariants.{NoMemory};
 
 use clap::error::ErrorKind;
@@ -47,6 +47,18 @@ pub enum RequestError {
     /// The words are no request, or they ask for help.
     #[error("{0}")]
     Fault(clap::Error),
+}
+
+impl RequestError {
+    /// The number by which users know it: 900 where memory ran out, or `None` where the words are no request.
+    pub fn number(&self) -> Option<u16>
+        ensures { result ≡ number_of self.now }
+    {
+        match self {
+            RequestError::NoMemory => Some(900),
+            RequestError::NotText | RequestError::Fault(_) => None,
+        }
+    }
 }
 
 impl From<AllocError> for RequestError {

@@ -8,6 +8,7 @@ pub mod FunctionKind
 pub mod Literal
 pub mod Plain
 pub mod Program
+pub mod Refusal
 pub mod Statement
 pub mod Step
 pub mod Variables

@@ -1,5 +1,6 @@
 //! The error of the checker: why a source is no program.
 ghost use Rattle.std.specs.Prelude.{◌≡◌};
+ghost use Rattle.types.specs.Refusal.{number_of, offset_of};
 ghost use Rattle.types.specs.declared.error.CheckError.TheVariants.{NoMemory};
 
 use expression_types::Fault;
@@ -12,6 +13,28 @@ pub enum CheckError {
     /// with the least number.
     Faulty(Fault),
     NoMemory,
+}
+
+impl CheckError {
+    /// The number by which users know the refusal: 221 to 229, or 900.
+    pub fn number(self) -> u16
+        ensures { result ≡ number_of self }
+    {
+        match self {
+            CheckError::Faulty(fault) => fault.rule.number(),
+            CheckError::NoMemory => 900,
+        }
+    }
+
+    /// The offset of the fault, in bytes, or `None` where memory ran out.
+    pub fn at(self) -> Option<usize>
+        ensures { result ≡ offset_of self }
+    {
+        match self {
+            CheckError::Faulty(fault) => Some(fault.at),
+            CheckError::NoMemory => None,
+        }
+    }
 }
 
 impl From<AllocError> for CheckError {

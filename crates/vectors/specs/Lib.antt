@@ -4,3 +4,4 @@ pub mod NumberBytes
 pub mod Changes
 pub mod Lanes
 pub mod Layout
+pub mod Refusal

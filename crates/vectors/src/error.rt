@@ -1,5 +1,6 @@
 //! Grouping errors: why vectors are not put in groups.
 ghost use Rattle.std.specs.Prelude.{◌≡◌};
+ghost use Rattle.vectors.specs.Refusal.{number_of};
 ghost use Rattle.vectors.specs.declared.error.GroupError.TheVariants.{NoMemory};
 
 use std::alloc::AllocError;
@@ -14,6 +15,18 @@ pub enum GroupError {
     Unfit,
     #[error("out of memory")]
     NoMemory,
+}
+
+impl GroupError {
+    /// The number by which users know the refusal: 308, which is also that of groups that a schedule may not name, or 900.
+    pub fn number(self) -> u16
+        ensures { result ≡ number_of self }
+    {
+        match self {
+            GroupError::Unfit => 308,
+            GroupError::NoMemory => 900,
+        }
+    }
 }
 
 impl From<AllocError> for GroupError {
