@@ -61,7 +61,7 @@ fn joined(
     requires { IsMap (left.entries ++ (key, at_head) ∷ right.entries) }
     ensures { IfOk result (λ t. t.entries ≡ left.entries ++ (key, at_head) ∷ right.entries) }
 {
-    shared_tree::join(alloc, left, key, at_head, right)
+    shared_tree::join(alloc, left, key, at_head, right).map_err(|_| AllocError)
 }
 
 /// The chunks of one tree and then those of another.
@@ -73,7 +73,7 @@ fn concatenated(
     requires { IsMap (left.entries ++ right.entries) }
     ensures { IfOk result (λ t. t.entries ≡ left.entries ++ right.entries) }
 {
-    shared_tree::join2(alloc, left, right)
+    shared_tree::join2(alloc, left, right).map_err(|_| AllocError)
 }
 
 /// A part with more entries after it, of which no key is a head.

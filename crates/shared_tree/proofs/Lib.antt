@@ -3,7 +3,6 @@ pub mod Forks
 pub mod Rotations
 pub mod Splits
 pub mod Depths
-pub mod Edits
 pub mod Halves
 pub mod Ascending
 pub mod Stacks

@@ -2,7 +2,7 @@
 use Rattle.std.proofs.Common.{◌≡◌, ◌≢◌, ℕ, ◌+◌, ◌^◌, inl, inr, Option, Some, None, List, [], ◌∷◌, ◌++◌, refl, sym, ◌∙◌, arith}
 use Rattle.std.proofs.lemmas.Bool.{ne_eqb, eq-eqb, cases_order, cases_eq}
 use Rattle.ascending_lists.specs.Maps.{Rises, lookup}
-use Rattle.shared_tree.specs.Changes.{entry_at, IsSplit, Changes}
+use Rattle.shared_tree.specs.Changes.{entry_at, IsSplit}
 use Rattle.ascending_lists.proofs.MapOrder.{rises_room, lookup_below}
 
 module _ {V : Type 0} where
@@ -14,17 +14,5 @@ module _ {V : Type 0} where
       let other : e.0 ≢ k = omega (arith, rises_room (e.0 + 1) k f s.1) in
       rw (ne_eqb e.0 k other) (lookup_at h k f m b (e.0 + 1) s.1 t)
 
-  -- at another key it makes no difference what stands at the key
-  lookup_other : (k j : ℕ) (f : List (ℕ × V)) (m : Option V) (b : List (ℕ × V)) → j ≢ k → lookup j (f ++ (entry_at k m ++ b)) ≡ lookup j (f ++ b)
-  lookup_other k j [] None b ne = refl
-  lookup_other k j [] (Some v) b ne =
-      let other : k ≢ j = omega arith in
-      rw (ne_eqb k j other)
-  lookup_other k j (e ∷ f) m b ne = rw (lookup_other k j f m b ne)
-
   pub value_of_split : (k : ℕ) (es f : List (ℕ × V)) (m : Option V) (b : List (ℕ × V)) → IsSplit k es f m b → lookup k es ≡ m
   value_of_split k es f m b s = rw s.whole (lookup_at (2 ^ 32) k f m b 0 s.below s.above)
-
-  pub others_unchanged : (k j : ℕ) (es new : List (ℕ × V)) (old m : Option V) → Changes k es old m new → j ≢ k → lookup j new ≡ lookup j es
-  others_unchanged k j es new old m c ne =
-      rw (c.is.whole, c.was.whole) (lookup_other k j c.front m c.back ne ∙ sym (lookup_other k j c.front old c.back ne))

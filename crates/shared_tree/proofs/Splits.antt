@@ -1,7 +1,7 @@
--- Maps split at a key, and maps with one key changed, below and above an entry.
+-- Maps split at a key, below and above an entry.
 use Rattle.std.proofs.Common.{◌≡◌, ℕ, ◌+◌, ◌^◌, ◌<◌, Option, Some, None, List, ◌∷◌, ◌++◌, refl, sym, ap, ◌∙◌, append_assoc, arith}
 use Rattle.ascending_lists.specs.Maps.{Rises, IsMap}
-use Rattle.shared_tree.specs.Changes.{entry_at, IsSplit, Changes}
+use Rattle.shared_tree.specs.Changes.{entry_at, IsSplit}
 use Rattle.ascending_lists.proofs.MapOrder.{rises_from, rises_left, rises_right, rises_joined, rises_append, rises_front, rises_back, rises_between}
 
 module _ {V : Type 0} where
@@ -44,55 +44,3 @@ module _ {V : Type 0} (k j : ℕ) (v : V) (t l r : List (ℕ × V)) (map : IsMap
   -- an entry splits the whole at its key
   pub split_here : k ≡ j → IsSplit k t l (Some v) r
   split_here e = rw e (record { whole = is; below = side_left; above = side_right })
-
-  -- a change of what stands before an entry is one of the whole
-  pub change_left : (old m : Option V) (x n : List (ℕ × V)) → k < j → Changes k l old m x → n ≡ x ++ (j, v) ∷ r → Changes k t old m n
-  change_left old m x n lt c e =
-      let whole = split_left c.front old c.back (c.back ++ (j, v) ∷ r) lt c.was refl in
-      record {
-        front = c.front;
-        back = c.back ++ (j, v) ∷ r;
-        was = whole;
-        is = record {
-          whole = rw e (ap (λ l. l ++ (j, v) ∷ r) c.is.whole ∙ append_assoc c.front (entry_at k m ++ c.back) ((j, v) ∷ r) ∙ ap (λ x. c.front ++ x) (append_assoc (entry_at k m) c.back ((j, v) ∷ r)));
-          below = whole.below;
-          above = whole.above;
-        };
-      }
-
-  -- so is a change of what stands after it
-  pub change_right : (old m : Option V) (x n : List (ℕ × V)) → j < k → Changes k r old m x → n ≡ l ++ (j, v) ∷ x → Changes k t old m n
-  change_right old m x n lt c e =
-      let whole = split_right c.front old c.back (l ++ (j, v) ∷ c.front) lt c.was refl in
-      record {
-        front = l ++ (j, v) ∷ c.front;
-        back = c.back;
-        was = whole;
-        is = record {
-          whole = rw e (ap (λ r. l ++ (j, v) ∷ r) c.is.whole ∙ sym (append_assoc l ((j, v) ∷ c.front) (entry_at k m ++ c.back)));
-          below = whole.below;
-          above = whole.above;
-        };
-      }
-
-  -- a change of the entry itself
-  pub change_here : (m : Option V) (n : List (ℕ × V)) → k ≡ j → n ≡ l ++ (entry_at k m ++ r) → Changes k t (Some v) m n
-  change_here m n e p =
-      let whole = split_here e in
-      record { front = l; back = r; was = whole; is = record { whole = p; below = whole.below; above = whole.above } }
-
-  -- which leaves a map
-  pub map_changed_here : (m : Option V) → k ≡ j → IsMap (l ++ (entry_at k m ++ r))
-  map_changed_here m e = let whole = split_here e in rises_split (2 ^ 32) k l m r whole.below whole.above
-
-  -- a change before an entry leaves a map
-  pub map_changed_left : (old m : Option V) (x : List (ℕ × V)) → k < j → Changes k l old m x → IsMap (x ++ (j, v) ∷ r)
-  map_changed_left old m x lt c =
-      let whole = change_left old m x (x ++ (j, v) ∷ r) lt c refl in
-      split_map k (x ++ (j, v) ∷ r) whole.front m whole.back whole.is
-
-  -- a change after it too
-  pub map_changed_right : (old m : Option V) (x : List (ℕ × V)) → j < k → Changes k r old m x → IsMap (l ++ (j, v) ∷ x)
-  map_changed_right old m x lt c =
-      let whole = change_right old m x (l ++ (j, v) ∷ x) lt c refl in
-      split_map k (l ++ (j, v) ∷ x) whole.front m whole.back whole.is

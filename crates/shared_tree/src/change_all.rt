@@ -7,8 +7,8 @@ ghost use Rattle.shared_tree.specs.Changes.{entry_at, IsSplit};
 ghost use Rattle.shared_tree.specs.ChangedMaps.{IsChangedMap, total_weight, GrewBy};
 ghost use Rattle.shared_tree.specs.Halves.{AreHalves};
 
-use crate::joins::{join, join2};
-use crate::open::fork_new;
+use crate::joins::{concatenated, joined};
+use crate::open::{Slot, fork_new};
 use crate::share::Share;
 use crate::tree::Tree;
 use crate::value_change::{ValueChange, changed};
@@ -72,11 +72,12 @@ pub fn join_around<V: Share>(
         ≡ left.entries ++ (entry_at key value ++ right.entries)) }
 {
     let Some(value) = value else {
-        return join2(alloc, left, right);
+        return concatenated(alloc, left, right);
     };
     let (left_depth, right_depth) = (left.depth(), right.depth());
     if left_depth > right_depth + 1 || right_depth > left_depth + 1 {
-        return join(alloc, left, key, value, right);
+        let slot = Slot::new(alloc, value)?;
+        return joined(alloc, left, key, slot, right);
     }
     fork_new(alloc, left, key, value, right)
 }

@@ -1,15 +1,16 @@
 //! Joining trees, with rotations where the sides differ in depth.
 
-ghost use Rattle.std.specs.Prelude.{◌≡◌, ◌+◌, ◌≤◌, ◌∷◌, ◌++◌, IfOk};
+ghost use Rattle.std.specs.Prelude.{◌≡◌, ◌+◌, ◌≤◌, ◌∷◌, ◌++◌, IfOk, IfErr};
 ghost use Rattle.ascending_lists.specs.Maps.{IsMap};
 ghost use Rattle.shared_tree.specs.Joins.{IsJoin, IsConcatenation};
 ghost use Rattle.shared_tree.specs.Opened.{IsPopped};
+ghost use Rattle.shared_tree.specs.declared.error.TreeError.TheVariants.{NoMemory};
 
-use crate::open::{Opened, Slot, fork, fork_new, open, rooted, without_left, without_right};
+use crate::error::TreeError;
+use crate::open::{Opened, Slot, fork, open};
 use crate::share::Share;
-use crate::tree::{Node, Tree};
+use crate::tree::Tree;
 use std::alloc::{AllocError, Global};
-use std::sync::Arc;
 
 /// The tree of the entries of `left`, then `key` with `value`, then the entries of `right`. The
 /// caller sees to it that `key` is above all keys of `left` and below all of `right`. It takes time
@@ -22,19 +23,33 @@ pub fn join<V: Share>(
     key: u32,
     value: V,
     right: Tree<V>,
-) -> Result<Tree<V>, AllocError>
+) -> Result<Tree<V>, TreeError>
     requires { IsMap (left.entries ++ (key, value) ∷ right.entries) }
-    ensures { IfOk result (λ t. IsJoin left key value right t) }
+    ensures join { IfOk result (λ t. IsJoin left key value right t) }
+    ensures memory { IfErr result (λ e. e ≡ NoMemory) }
 {
     let slot = Slot::new(alloc, value)?;
-    joined(alloc, left, key, slot, right)
+    Ok(joined(alloc, left, key, slot, right)?)
 }
 
 /// The tree of the entries of `left` and then those of `right`. The caller sees to it that all keys
 /// of `left` are below all of `right`. It takes time in proportion to their depths.
 ///
 /// The only error is out of memory.
-pub fn join2<V: Share>(alloc: Global, left: Tree<V>, right: Tree<V>) -> Result<Tree<V>, AllocError>
+pub fn join2<V: Share>(alloc: Global, left: Tree<V>, right: Tree<V>) -> Result<Tree<V>, TreeError>
+    requires { IsMap (left.entries ++ right.entries) }
+    ensures join { IfOk result (λ t. IsConcatenation left right t) }
+    ensures memory { IfErr result (λ e. e ≡ NoMemory) }
+{
+    Ok(concatenated(alloc, left, right)?)
+}
+
+/// As `join2`.
+pub(crate) fn concatenated<V: Share>(
+    alloc: Global,
+    left: Tree<V>,
+    right: Tree<V>,
+) -> Result<Tree<V>, AllocError>
     requires { IsMap (left.entries ++ right.entries) }
     ensures { IfOk result (λ t. IsConcatenation left right t) }
 {
@@ -111,7 +126,7 @@ pub(crate) fn joined<V: Share>(
 }
 
 /// As `fork`, for sides that differ by at most two in depth.
-pub(crate) fn balance<V: Share>(
+fn balance<V: Share>(
     alloc: Global,
     left: Tree<V>,
     key: u32,
@@ -129,68 +144,6 @@ pub(crate) fn balance<V: Share>(
         rotate_left(alloc, left, key, slot, right)
     } else {
         fork(alloc, left, key, slot, right)
-    }
-}
-
-/// As `balance`, of a left side, a node without one, and the node's right side.
-#[inline]
-pub(crate) fn with_left<V: Share>(
-    alloc: Global,
-    left: Tree<V>,
-    key: u32,
-    node: Arc<Node<V>>,
-) -> Result<Tree<V>, AllocError>
-    requires map { IsMap (left.entries ++ (key, node.value.value) ∷ node.value.right.entries) }
-    requires left_near { left.depth ≤ node.value.right.depth + 2 }
-    requires right_near { node.value.right.depth ≤ left.depth + 2 }
-    ensures { IfOk result (λ t. IsJoin left key node.value.value node.value.right t) }
-{
-    let (left_depth, right_depth) = (left.depth(), node.right.depth());
-    if left_depth > right_depth + 1 || right_depth > left_depth + 1 {
-        let (right, node) = without_right(alloc, node)?;
-        return balance(alloc, left, key, Slot { node }, right);
-    }
-    let mut node = node;
-    match Arc::get_mut(&mut node) {
-        Some(inside) => {
-            inside.left = left;
-            Ok(rooted(key, node))
-        }
-        None => {
-            let value = node.value.share()?;
-            fork_new(alloc, left, key, value, node.right.share()?)
-        }
-    }
-}
-
-/// As `balance`, of a node without a right side, its left side, and a right side.
-#[inline]
-pub(crate) fn with_right<V: Share>(
-    alloc: Global,
-    right: Tree<V>,
-    key: u32,
-    node: Arc<Node<V>>,
-) -> Result<Tree<V>, AllocError>
-    requires map { IsMap (node.value.left.entries ++ (key, node.value.value) ∷ right.entries) }
-    requires left_near { node.value.left.depth ≤ right.depth + 2 }
-    requires right_near { right.depth ≤ node.value.left.depth + 2 }
-    ensures { IfOk result (λ t. IsJoin node.value.left key node.value.value right t) }
-{
-    let (left_depth, right_depth) = (node.left.depth(), right.depth());
-    if left_depth > right_depth + 1 || right_depth > left_depth + 1 {
-        let (left, node) = without_left(alloc, node)?;
-        return balance(alloc, left, key, Slot { node }, right);
-    }
-    let mut node = node;
-    match Arc::get_mut(&mut node) {
-        Some(inside) => {
-            inside.right = right;
-            Ok(rooted(key, node))
-        }
-        None => {
-            let value = node.value.share()?;
-            fork_new(alloc, node.left.share()?, key, value, right)
-        }
     }
 }
 

@@ -3,7 +3,7 @@
 //! A contract sees a [`Tree`] as the list of its entries, which are pairs of a key and a value in
 //! ascending order of keys, and as its depth in nodes. Each call is that of a finite map, said on
 //! that list: `find` is the look-up, `split` gives what is below a key, the value there and what is
-//! above, `join` and `join2` put trees together, `insert` and `remove` change one key and no other,
+//! above, `join` and `join2` put trees together,
 //! and `change_all` makes changes of the values at many keys in one pass: what a [`ValueChange`] is
 //! makes the new value of the old one, comes with a value where there was none, or leaves none. The
 //! sides of each node differ by at most one in depth, so that `2^depth <= (len + 1)^2`.
@@ -25,7 +25,6 @@ mod change_all;
 mod error;
 mod iter;
 mod joins;
-mod laws;
 mod open;
 mod share;
 mod sorted;
@@ -36,7 +35,6 @@ pub use change_all::{Changed, join_around};
 pub use error::TreeError;
 pub use iter::Iter;
 pub use joins::{join, join2};
-pub use laws::changes_one_key;
 pub use share::Share;
 pub use tree::Tree;
 pub use value_change::ValueChange;

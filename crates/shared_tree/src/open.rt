@@ -40,30 +40,6 @@ impl<V: Share> Slot<V> {
             node: Arc::new(alloc, node)?,
         })
     }
-
-    /// The slot with another value in it.
-    pub(crate) fn with(self, alloc: Global, value: V) -> Result<Slot<V>, AllocError>
-        ensures { IfOk result (λ slot. slot.node.value.value ≡ value) }
-    {
-        let mut node = self.node;
-        match Arc::get_mut(&mut node) {
-            Some(inside) => {
-                inside.value = value;
-                Ok(Slot { node })
-            }
-            None => Slot::new(alloc, value),
-        }
-    }
-
-    /// The value out of its block.
-    pub(crate) fn into_value(self) -> Result<V, AllocError>
-        ensures { IfOk result (λ value. value ≡ self.node.value.value) }
-    {
-        match Arc::try_unwrap(self.node) {
-            Ok(node) => Ok(node.value),
-            Err(node) => Ok(node.value.share()?),
-        }
-    }
 }
 
 /// The root apart from its sides, or `None` where the tree is empty.
@@ -79,7 +55,7 @@ pub(crate) fn open<V: Share>(alloc: Global, tree: Tree<V>) -> Result<Option<Open
 
 /// The root at this node apart from its sides.
 #[inline]
-pub(crate) fn take_apart<V: Share>(
+fn take_apart<V: Share>(
     alloc: Global,
     key: u32,
     node: Arc<Node<V>>,
@@ -105,58 +81,6 @@ pub(crate) fn take_apart<V: Share>(
             slot: Slot::new(alloc, node.value.share()?)?,
             right: node.right.share()?,
         }),
-    }
-}
-
-/// The left side of a node, and the node without it.
-#[inline]
-pub(crate) fn without_left<V: Share>(
-    alloc: Global,
-    node: Arc<Node<V>>,
-) -> Result<(Tree<V>, Arc<Node<V>>), AllocError>
-    ensures { IfOk result (λ p. (p.0 ≡ node.value.left)
-        × (p.1.value.value ≡ node.value.value) × (p.1.value.right ≡ node.value.right)) }
-{
-    let mut node = node;
-    match Arc::get_mut(&mut node) {
-        Some(inside) => {
-            let left = mem::replace(&mut inside.left, Tree::new());
-            Ok((left, node))
-        }
-        None => {
-            let rest = Node {
-                value: node.value.share()?,
-                left: Tree::new(),
-                right: node.right.share()?,
-            };
-            Ok((node.left.share()?, Arc::new(alloc, rest)?))
-        }
-    }
-}
-
-/// The right side of a node, and the node without it.
-#[inline]
-pub(crate) fn without_right<V: Share>(
-    alloc: Global,
-    node: Arc<Node<V>>,
-) -> Result<(Tree<V>, Arc<Node<V>>), AllocError>
-    ensures { IfOk result (λ p. (p.0 ≡ node.value.right)
-        × (p.1.value.value ≡ node.value.value) × (p.1.value.left ≡ node.value.left)) }
-{
-    let mut node = node;
-    match Arc::get_mut(&mut node) {
-        Some(inside) => {
-            let right = mem::replace(&mut inside.right, Tree::new());
-            Ok((right, node))
-        }
-        None => {
-            let rest = Node {
-                value: node.value.share()?,
-                left: node.left.share()?,
-                right: Tree::new(),
-            };
-            Ok((node.right.share()?, Arc::new(alloc, rest)?))
-        }
     }
 }
 
@@ -196,7 +120,7 @@ pub(crate) fn fork_new<V: Drop>(
 
 /// The tree whose root is this node.
 #[inline]
-pub(crate) fn rooted<V>(key: u32, node: Arc<Node<V>>) -> Tree<V>
+fn rooted<V>(key: u32, node: Arc<Node<V>>) -> Tree<V>
     requires map { IsMap (node.value.left.entries
         ++ (key, node.value.value) ∷ node.value.right.entries) }
     requires balanced { DifferByAtMostOne node.value.left.depth node.value.right.depth }

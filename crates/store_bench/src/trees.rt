@@ -1,7 +1,7 @@
 //! Persistent trees beside the `BTreeMap` of std, on the same work.
 
 use measuring::{Benchmark, Random, Turns, print_head, print_row};
-use shared_tree::{Share, Tree, TreeError};
+use shared_tree::{Tree, TreeError};
 use std::alloc::{AllocError, Global};
 use std::collections::BTreeMap;
 use std::io::Error;
@@ -17,8 +17,6 @@ const ENTRIES: u32 = 1_000_000;
 
 const FINDS: u32 = 1_000_000;
 
-const INSERTS: u32 = 100_000;
-
 // The keys stand so far apart, so that there is room for new ones between them.
 const GAP: u32 = 4;
 
@@ -30,21 +28,13 @@ enum Row {
     Build,
     Walk,
     Find,
-    Insert,
-    InsertShared,
 }
 
 // The rows, by their names for trees and for maps.
-const ROWS: [(&str, &str, Row); 5] = [
+const ROWS: [(&str, &str, Row); 3] = [
     ("from_sorted, tree", "from_sorted, map", Row::Build),
     ("iter, tree", "iter, map", Row::Walk),
     ("find, tree", "find, map", Row::Find),
-    ("insert, tree", "insert, map", Row::Insert),
-    (
-        "insert, shared tree",
-        "insert, map again",
-        Row::InsertShared,
-    ),
 ];
 
 /// Prints the times of trees and of maps. Fails where a tree and a map come to something else.
@@ -80,11 +70,6 @@ trait Ordered: Drop {
 
     // The value of a key.
     fn value(&self, key: u32) -> Option<u64>;
-
-    fn put(&mut self, alloc: Global, key: u32, value: u64) -> io::Result<()>;
-
-    // The same while what it was has a second owner, as a version that a reader holds.
-    fn put_shared(&mut self, alloc: Global, key: u32, value: u64) -> io::Result<()>;
 }
 
 impl Ordered for Tree<u64> {
@@ -107,19 +92,6 @@ impl Ordered for Tree<u64> {
     fn value(&self, key: u32) -> Option<u64> {
         self.find(key).copied()
     }
-
-    fn put(&mut self, alloc: Global, key: u32, value: u64) -> io::Result<()> {
-        let tree = mem::replace(self, Tree::new());
-        *self = tree.insert(alloc, key, value)?;
-        Ok(())
-    }
-
-    fn put_shared(&mut self, alloc: Global, key: u32, value: u64) -> io::Result<()> {
-        let before = self.share()?;
-        let put = self.put(alloc, key, value);
-        drop(before);
-        put
-    }
 }
 
 impl Ordered for BTreeMap<u32, u64> {
@@ -137,15 +109,6 @@ impl Ordered for BTreeMap<u32, u64> {
 
     fn value(&self, key: u32) -> Option<u64> {
         self.get(&key).copied()
-    }
-
-    fn put(&mut self, _alloc: Global, key: u32, value: u64) -> io::Result<()> {
-        self.insert(key, value)?;
-        Ok(())
-    }
-
-    fn put_shared(&mut self, alloc: Global, key: u32, value: u64) -> io::Result<()> {
-        self.put(alloc, key, value)
     }
 }
 
@@ -186,7 +149,6 @@ impl<T: Ordered> Benchmark for Kept<T> {
         match row {
             Row::Build | Row::Walk => u64::from(ENTRIES),
             Row::Find => u64::from(FINDS),
-            Row::Insert | Row::InsertShared => u64::from(INSERTS),
         }
     }
 
@@ -207,8 +169,6 @@ impl<T: Ordered> Benchmark for Kept<T> {
             Row::Build => self.build(rt.alloc()),
             Row::Walk => Ok(self.kept.sum()),
             Row::Find => Ok(found(&self.kept)),
-            Row::Insert => grow(rt.alloc(), &mut self.kept, false),
-            Row::InsertShared => grow(rt.alloc(), &mut self.kept, true),
         }
     }
 }
@@ -225,20 +185,6 @@ fn entries(alloc: Global) -> Result<Vec<(u32, u64)>, AllocError> {
 fn key_among(random: &mut Random) -> u32 {
     let bound = u64::from(ENTRIES) * u64::from(GAP);
     u32::try_from(random.next() % bound).unwrap_or(0)
-}
-
-// Puts new entries.
-fn grow<T: Ordered>(alloc: Global, kept: &mut T, shared: bool) -> io::Result<u64> {
-    let mut random = Random::new(SEED);
-    for i in 0..INSERTS {
-        let key = key_among(&mut random);
-        if shared {
-            kept.put_shared(alloc, key, u64::from(i))?;
-        } else {
-            kept.put(alloc, key, u64::from(i))?;
-        }
-    }
-    Ok(0)
 }
 
 // The sum of the values of random keys, 1 for a key that is not there.

@@ -2,6 +2,7 @@
 
 ghost use Rattle.std.specs.Prelude.{◌≤◌, length, take, drop, IfOk, IfSome};
 ghost use Rattle.std.specs.Map.{keys_of};
+ghost use Rattle.shared_tree.specs.Changes.{IsSplit};
 ghost use Rattle.edge_updates.specs.Updates.{Ascend};
 ghost use Rattle.tree_batch.specs.BlockCuts.{AreBelow, BeginsFrom};
 ghost use Rattle.tree_batch.specs.Forking.{AreAround};
@@ -72,7 +73,7 @@ pub(crate) fn cut_at_middle<'a>(
     };
     let number = first.vertex() / BLOCK;
     let (block, above) = rest.split_at(cut_length(&rest, number));
-    let (lower, found, upper) = tree.split(alloc, number)?;
+    let (lower, found, upper) = split_at(alloc, tree, number)?;
     let is_heavy = block.len() > half;
     Ok(Some(Middle {
         below: Half {
@@ -88,6 +89,17 @@ pub(crate) fn cut_at_middle<'a>(
         },
         is_heavy,
     }))
+}
+
+/// The tree of the blocks below this one, the block if there is one, and the tree of those above.
+fn split_at(
+    alloc: Global,
+    tree: &Tree<VertexBlock>,
+    number: u32,
+) -> Result<(Tree<VertexBlock>, Option<VertexBlock>, Tree<VertexBlock>), AllocError>
+    ensures { IfOk result (λ p. IsSplit number tree.now.entries p.0.entries p.1 p.2.entries) }
+{
+    tree.split(alloc, number).map_err(|_| AllocError)
 }
 
 /// How many updates in front are of blocks below this one.

@@ -14,35 +14,35 @@ split-requires-then-root_key-key g t c κs within =
     let short = fork_length _ _ _ _ _ c.in-Some.ensures in
     (omega arith, within)
 
-pub returns-in_default : goal.returns-in_default
-returns-in_default g t c =
+pub returns-in_default-clause-split : goal.returns-in_default-clause-split
+returns-in_default-clause-split g t c =
     rw (c.new.ensures, c.new-in_default.ensures) (record { whole = ap (λ tree. tree.entries) c.in_default.ensures; below = omega arith; above = omega arith })
 
 pub join-requires : goal.join-requires
 join-requires g t c =
     let root = c.in-Some.ensures in
-    let whole = split_left c.args.key _ _ _ _ _ root.map root.entries _ _ _ _ c.if-key-root_key.true c.in_ok-below.ensures refl in
+    let whole = split_left c.args.key _ _ _ _ _ root.map root.entries _ _ _ _ c.if-key-root_key.true c.in_ok-below.ensures.split refl in
     rw (c.in_ok-value.ensures, c.in_ok-right.ensures) (above_map c.args.key _ _ _ _ whole)
 
 pub join-requires-then-root_key-key : goal.join-requires-then-root_key-key
 join-requires-then-root_key-key g t c =
     let root = c.in-Some.ensures in
-    let whole = split_right c.args.key _ _ _ _ _ root.map root.entries _ _ _ _ c.if-root_key-key.true c.in_ok-inner.ensures refl in
+    let whole = split_right c.args.key _ _ _ _ _ root.map root.entries _ _ _ _ c.if-root_key-key.true c.in_ok-inner.ensures.split refl in
     rw (c.in_ok-left.ensures, c.in_ok-value.ensures) (below_map c.args.key _ _ _ _ whole)
 
-pub returns-in_ok-above : goal.returns-in_ok-above
-returns-in_ok-above g t c =
+pub returns-in_ok-above-clause-split : goal.returns-in_ok-above-clause-split
+returns-in_ok-above-clause-split g t c =
     let root = c.in-Some.ensures in
-    let above = rw (c.in_ok-value.ensures, c.in_ok-right.ensures) at c.in_ok-above.ensures.entries in
-    split_left c.args.key _ _ _ _ _ root.map root.entries _ _ _ _ c.if-key-root_key.true c.in_ok-below.ensures above
+    let above = rw (c.in_ok-value.ensures, c.in_ok-right.ensures) at c.in_ok-above.ensures.join.entries in
+    split_left c.args.key _ _ _ _ _ root.map root.entries _ _ _ _ c.if-key-root_key.true c.in_ok-below.ensures.split above
 
-pub returns-in_ok-below-2 : goal.returns-in_ok-below-2
-returns-in_ok-below-2 g t c =
+pub returns-in_ok-below-2-clause-split : goal.returns-in_ok-below-2-clause-split
+returns-in_ok-below-2-clause-split g t c =
     let root = c.in-Some.ensures in
-    let below = rw (c.in_ok-left.ensures, c.in_ok-value.ensures) at c.in_ok-below-2.ensures.entries in
-    split_right c.args.key _ _ _ _ _ root.map root.entries _ _ _ _ c.if-root_key-key.true c.in_ok-inner.ensures below
+    let below = rw (c.in_ok-left.ensures, c.in_ok-value.ensures) at c.in_ok-below-2.ensures.join.entries in
+    split_right c.args.key _ _ _ _ _ root.map root.entries _ _ _ _ c.if-root_key-key.true c.in_ok-inner.ensures.split below
 
-pub returns-in_ok-right-2 : goal.returns-in_ok-right-2
-returns-in_ok-right-2 g t c =
+pub returns-in_ok-right-2-clause-split : goal.returns-in_ok-right-2-clause-split
+returns-in_ok-right-2-clause-split g t c =
     let root = c.in-Some.ensures in
     rw (c.in_ok-value.ensures, c.in_ok-left-2.ensures, c.in_ok-right-2.ensures) (split_here c.args.key _ _ _ _ _ root.map root.entries (omega arith))
