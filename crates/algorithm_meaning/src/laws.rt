@@ -39,7 +39,8 @@ pub fn edge_applies_reduce_entries()
 
 /// The edges of an edge apply may come in any order, for each vector to which its functions give by one reduction.
 pub fn edges_come_in_any_order()
-    ensures { (r : Reduction) (functions : List StepsTree) (sets : List SetBinding) (before : List (List ℤ)) (edges others : List Edge) (vectors : List (List ℤ)) (vector v : ℕ)
+    ensures { (r : Reduction) (functions : List StepsTree) (sets : List SetBinding) (before : List (List ℤ)) (edges others : List Edge)
+        (vectors : List (List ℤ)) (vector v : ℕ)
         → IsGivenBy r vector functions sets before → IsPermutation edges others
         → entry (after_edges functions sets before edges vectors) vector v
         ≡ entry (after_edges functions sets before others vectors) vector v }

@@ -1,3 +1,5 @@
+//! Chunk sizes: powers of two from 1 to 256.
+
 ghost use Rattle.std.specs.Prelude.{◌≡◌, ◌≤◌};
 ghost use Rattle.c_tree.specs.Heads.{IsChunkSize, is_head};
 ghost use Rattle.c_tree.specs.Outcome.{Accepts};

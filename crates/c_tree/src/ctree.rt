@@ -1,3 +1,5 @@
+//! Sets of entries in chunks: how they are made, looked up and counted.
+
 ghost use Rattle.std.specs.Prelude.{◌≡◌, ◌↔◌, ◌+◌, ◌*◌, ◌^◌, ◌<◌, ◌≤◌, [], length, IsTrue, IfOk};
 ghost use Rattle.c_tree.specs.Chunks.{ChunkedSet, IsChunkedSet, IsChunking, prefix_of, chunks_of};
 ghost use Rattle.c_tree.specs.Outcome.{Opens};

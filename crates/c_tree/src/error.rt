@@ -1,3 +1,5 @@
+//! The error of sets in chunks: which chunk sizes and lists are refused.
+
 ghost use Rattle.std.specs.Prelude.{◌≡◌};
 ghost use Rattle.c_tree.specs.declared.error.CTreeError.TheVariants.{NoMemory};
 ghost use Rattle.c_tree.specs.Refusal.{number_of};

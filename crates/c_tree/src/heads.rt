@@ -1,3 +1,5 @@
+//! The iterator over the heads of a set.
+
 ghost use Rattle.std.specs.Prelude.{◌≡◌, ◌^◌, ◌≤◌, length};
 ghost use Rattle.std.specs.Iterator.{YieldsFirstBy, item_count};
 ghost use Rattle.c_tree.specs.Chunks.{head_value};

@@ -1,3 +1,5 @@
+//! The value of a tree of chunks: the weight of a head, with its tail.
+
 ghost use Rattle.std.specs.Prelude.{◌≡◌};
 ghost use Rattle.c_tree.specs.Chunks.{head_value};
 

@@ -1,3 +1,5 @@
+//! Sets that are lent, and what stands in them before a head or after one.
+
 ghost use Rattle.std.specs.Prelude.{◌≡◌, ◌↔◌, ◌^◌, ◌≤◌, None, [], length, IsTrue, IfOk, MatchOption};
 ghost use Rattle.std.specs.Map.{keys_of};
 ghost use Rattle.ascending_lists.specs.Ascending.{Ascends};

@@ -1,3 +1,5 @@
+//! The error of the compiler: which rule a text breaks, and where.
+
 ghost use Rattle.std.specs.Prelude.{◌≡◌};
 ghost use Rattle.compiler.specs.declared.error.CompileError.TheVariants.{NoMemory};
 ghost use Rattle.compiler.specs.Refusal.{number_of, offset_of, of_parser, of_schedule, of_types};

@@ -26,7 +26,8 @@ pub fn static_pieces_are_those_of_workers()
 /// The law that an edge-aware piece ends at the first vertex where its vertices and edges are the part of all that makes
 /// four pieces for each worker, and the last piece with the list.
 pub fn edge_aware_pieces_end_at_the_limit()
-    ensures { (workers : ℕ) (degrees : List ℕ) → 0 < workers → EachEndsAtLimit (div_ceil (weight degrees) (4 * workers)) 0 (edge_aware_ends workers degrees) degrees }
+    ensures { (workers : ℕ) (degrees : List ℕ) → 0 < workers
+        → EachEndsAtLimit (div_ceil (weight degrees) (4 * workers)) 0 (edge_aware_ends workers degrees) degrees }
 {}
 
 /// The law of some partitions that were worked out by hand.

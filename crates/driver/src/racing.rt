@@ -43,7 +43,8 @@ pub(crate) fn race_files<'a, T: Threads + Wait + Sync, F: Files, W: Drain>(
     files: &F,
     out: &mut W,
 ) -> Result<bool, ServeError<'a>>
-    ensures { RacesFiles (F.may_hold files.now) (F.may_fail files.now) names.entry.script.now (map (λ p. p.now) names.entry.programs.names.now) bounds.workers bounds.turns
+    ensures { RacesFiles (F.may_hold files.now) (F.may_fail files.now) names.entry.script.now (map (λ p. p.now) names.entry.programs.names.now)
+        bounds.workers bounds.turns
         (taken_by (W.taken out.old) (W.failures out.old))
         (taken_by (W.taken out.new) (W.failures out.new)) result }
 {

@@ -36,9 +36,11 @@ const STREAM: &str = "-";
 /// the threads that commit and run; a script may, for those of a run by more than one worker.
 ///
 /// `Check` and `Plan` write once the program is compiled. `Script` and `Race` compile each program before they read the next
-/// file, and read the script's file last; a script of the name `-` is `input`, whose lines are answered as they come. The status is 1 where a program's text is refused, or where the script is none of a
+/// file, and read the script's file last; a script of the name `-` is `input`, whose lines are answered as they come. The
+/// status is 1 where a program's text is refused, or where the script is none of a
 /// race, or its graph is refused; `err` is then told the file, `refused`, the number and where the fault stands, if
-/// that is known, and for a program's text the source line, what the number means and what to do; `out` took nothing. It is 4 where memory runs out, or a run of a race finds nothing published, and 5
+/// that is known, and for a program's text the source line, what the number means and what to do; `out` took nothing. It is 4
+/// where memory runs out, or a run of a race finds nothing published, and 5
 /// where a file or `input` cannot be read or `out` fails; `err` is then told `refused` and the number, and `out` took a
 /// beginning of that line or text or of the replies. A race writes nothing before all is run.
 pub fn serve<T: Threads + Wait + Sync, F: Files, R: Feed, W: Drain, E: Drain>(

@@ -48,8 +48,10 @@ pub(crate) fn join_between(
     high: u32,
     scratch: &mut Scratch,
 ) -> Result<(), AllocError>
-    ensures { OnOk result ((m : StateValue) (steps : List StepsTree) (edges_of : ℕ → List Edge) → EachAscending found.now → EachGathered context.entry.vertices m steps edges_of found.now
-        → HasFolded context.entry m steps [] scratch.old → HasFolded context.entry m steps (filter (λ e. is_between low high e.1) (flat_map edges_of (pieces_of found.now))) scratch.new) }
+    ensures { OnOk result ((m : StateValue) (steps : List StepsTree) (edges_of : ℕ → List Edge) → EachAscending found.now
+        → EachGathered context.entry.vertices m steps edges_of found.now
+        → HasFolded context.entry m steps [] scratch.old → HasFolded context.entry m steps
+        (filter (λ e. is_between low high e.1) (flat_map edges_of (pieces_of found.now))) scratch.new) }
 {
     'found: for one in found {
         let part = one.out.between(alloc, low, high)?;

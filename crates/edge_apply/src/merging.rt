@@ -71,7 +71,8 @@ pub fn merge_by_ranges<R: Threads + Sync>(
 ) -> Result<Changes, AllocError>
     requires { AreWorkers workers }
     ensures once { IfOk result (λ c. AreApart c.vectors.items) }
-    ensures changes { IfOk result (λ c. (m : StateValue) (steps : List StepsTree) (edges_of : ℕ → List Edge) → apply.now.vectors.now.vectors ≡ m.vectors → HasSizes apply.now.sizes.now m
+    ensures changes { IfOk result (λ c. (m : StateValue) (steps : List StepsTree) (edges_of : ℕ → List Edge)
+        → apply.now.vectors.now.vectors ≡ m.vectors → HasSizes apply.now.sizes.now m
         → AreKernels apply.now.first.now apply.now.second steps → EachAscending found.now → EachGathered apply.now.flat.now.vertices m steps edges_of found.now
         → AreChangesOn apply.now.flat.now.vertices (flat_map edges_of (pieces_of found.now)) m steps c.vectors.items) }
 {

@@ -22,7 +22,8 @@ pub fn apply_modified(
     dense: DenseVertexSet,
 ) -> Result<VertexSet, AllocError>
     ensures vertices { IfOk result (λ s. s.vertices ≡ vertices) }
-    ensures members { IfOk result (λ s. (before after : List (List ℤ)) → changes_of vector changes.now.vectors.items ≡ changed vertices (entry before vector) (entry after vector)
+    ensures members { IfOk result (λ s. (before after : List (List ℤ))
+        → changes_of vector changes.now.vectors.items ≡ changed vertices (entry before vector) (entry after vector)
         → s.members ≡ modified vertices vector before after) }
 {
     let members = changed_vertices(alloc, changes_in(changes, vector), vertices)?;

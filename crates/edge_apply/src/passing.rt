@@ -21,7 +21,8 @@ pub fn passing_set(
     scratch: &mut Scratch,
 ) -> Result<VertexSet, AllocError>
     ensures form { IfOk result (λ s. s.form ≡ Form.Bits) }
-    ensures members { IfOk result (λ s. (m : StateValue) (test : ℕ → Bool) → context.entry.vectors.now.vectors ≡ m.vectors → HasSizes context.entry.sizes.now m → IsTest end.entry m test
+    ensures members { IfOk result (λ s. (m : StateValue) (test : ℕ → Bool) → context.entry.vectors.now.vectors ≡ m.vectors
+        → HasSizes context.entry.sizes.now m → IsTest end.entry m test
         → (v : ℕ) → v < context.entry.vertices → is_member v s.members ≡ test v) }
 {
     if let EndpointFilter::Filter(kernel) = end {
@@ -40,7 +41,8 @@ fn tested_set(
     scratch: &mut Scratch,
 ) -> Result<VertexSet, AllocError>
     ensures form { IfOk result (λ s. s.form ≡ Form.Bits) }
-    ensures members { IfOk result (λ s. (m : StateValue) (test : ℕ → Bool) → context.entry.vectors.now.vectors ≡ m.vectors → HasSizes context.entry.sizes.now m → IsTest end.entry m test
+    ensures members { IfOk result (λ s. (m : StateValue) (test : ℕ → Bool) → context.entry.vectors.now.vectors ≡ m.vectors
+        → HasSizes context.entry.sizes.now m → IsTest end.entry m test
         → (v : ℕ) → v < context.entry.vertices → is_member v s.members ≡ test v) }
 {
     let vertices = context.vertices;

@@ -20,7 +20,8 @@ pub fn keep_members_weighted(
     ensures few { result ≤ count }
     ensures room { length block.new ≡ length block.old }
     ensures weights_room { length weights.new ≡ length weights.old }
-    ensures kept { entries_of (take result block.new) (take result weights.new) ≡ filter (λ e. passes_words words.entry e.0) (entries_of (take count block.old) (take count weights.old)) }
+    ensures kept { entries_of (take result block.new) (take result weights.new)
+        ≡ filter (λ e. passes_words words.entry e.0) (entries_of (take count block.old) (take count weights.old)) }
 {
     match words {
         None => count,
@@ -36,7 +37,8 @@ fn keep_set_weighted(words: &[u64], block: &mut [u32], weights: &mut [i64], coun
     ensures few { result ≤ count }
     ensures room { length block.new ≡ length block.old }
     ensures weights_room { length weights.new ≡ length weights.old }
-    ensures kept { entries_of (take result block.new) (take result weights.new) ≡ filter (λ e. is_set words.now e.0) (entries_of (take count block.old) (take count weights.old)) }
+    ensures kept { entries_of (take result block.new) (take result weights.new)
+        ≡ filter (λ e. is_set words.now e.0) (entries_of (take count block.old) (take count weights.old)) }
 {
     let mut kept = 0usize;
     'places: for place in 0..count {

@@ -29,7 +29,8 @@ use vectors::{Changes, EntryChange, VectorChanges};
 
 impl Scratch {
     /// What the edges that were folded change, at the vertices that an end lets through; one that is not given lets all
-    /// through. It promises so where new entries began with the old ones. There is one list for each vector that a function has given something, and a vector without one does
+    /// through. It promises so where new entries began with the old ones. There is one list for each vector that a function has
+    /// given something, and a vector without one does
     /// not change. The next call must be `begin`. The only error is out of memory.
     pub fn changes(
         &mut self,
@@ -38,8 +39,10 @@ impl Scratch {
         to: Option<EndpointFilter<'_>>,
     ) -> Result<Changes, AllocError>
         ensures once { IfOk result (λ c. AreApart c.vectors.items) }
-        ensures changes { IfOk result (λ c. (m : StateValue) (steps : List StepsTree) (edges : List Edge) (test : ℕ → Bool) → IsContextOf context.entry m steps → IsEndTest to.entry m test
-            → HasFolded context.entry m steps edges self.old → context.entry.start ≡ OldEntry → (x : ℕ) (r : Reduction) → IsGivenBy r x steps m.sets m.vectors → context.entry.vertices ≤ length (slice_index_or m.vectors x [])
+        ensures changes { IfOk result (λ c. (m : StateValue) (steps : List StepsTree) (edges : List Edge) (test : ℕ → Bool)
+            → IsContextOf context.entry m steps → IsEndTest to.entry m test
+            → HasFolded context.entry m steps edges self.old → context.entry.start ≡ OldEntry → (x : ℕ) (r : Reduction)
+            → IsGivenBy r x steps m.sets m.vectors → context.entry.vertices ≤ length (slice_index_or m.vectors x [])
             → changes_of x c.vectors.items ≡ changed context.entry.vertices (entry m.vectors x)
             (entry (after_edges steps m.sets m.vectors (filter (λ e. test e.1) edges) m.vectors) x)) }
     {
@@ -57,9 +60,11 @@ impl Scratch {
         vertices: &[u32],
         kept: &mut Vec<u32>,
     ) -> Result<(), AllocError>
-        ensures kept { OnOk result ((m : StateValue) (test : ℕ → Bool) → context.entry.vectors.now.vectors ≡ m.vectors → HasSizes context.entry.sizes.now m → IsTest end.entry m test
+        ensures kept { OnOk result ((m : StateValue) (test : ℕ → Bool) → context.entry.vectors.now.vectors ≡ m.vectors
+            → HasSizes context.entry.sizes.now m → IsTest end.entry m test
             → kept.new.items ≡ kept.old.items ++ filter test vertices.now) }
-        ensures folded { (f : ApplyContext) (m : StateValue) (steps : List StepsTree) (edges : List Edge) → HasFolded f m steps edges self.old → HasFolded f m steps edges self.new }
+        ensures folded { (f : ApplyContext) (m : StateValue) (steps : List StepsTree) (edges : List Edge) → HasFolded f m steps edges self.old
+            → HasFolded f m steps edges self.new }
     {
         keep_passing(context, end, vertices, &mut self.block, kept)?;
         Ok(())
@@ -75,7 +80,8 @@ fn found_in_slots(
     block: &mut Block,
 ) -> Result<Changes, AllocError>
     ensures once { IfOk result (λ c. AreApart c.vectors.items) }
-    ensures changes { IfOk result (λ c. (m : StateValue) (test : ℕ → Bool) → context.entry.vectors.now.vectors ≡ m.vectors → HasSizes context.entry.sizes.now m → IsEndTest to.entry m test
+    ensures changes { IfOk result (λ c. (m : StateValue) (test : ℕ → Bool) → context.entry.vectors.now.vectors ≡ m.vectors
+        → HasSizes context.entry.sizes.now m → IsEndTest to.entry m test
         → (x : ℕ) → changes_of x c.vectors.items ≡ changed context.entry.vertices (entry m.vectors x)
         (λ v. if test v then held_in (active slots.now) x v (entry m.vectors x v) else entry m.vectors x v)) }
 {
@@ -121,7 +127,8 @@ fn found_in_slot(
     block: &mut Block,
 ) -> Result<VectorChanges, AllocError>
     ensures vector { IfOk result (λ c. c.vector ≡ slot.now.vector) }
-    ensures changes { IfOk result (λ c. (m : StateValue) (test : ℕ → Bool) → context.entry.vectors.now.vectors ≡ m.vectors → HasSizes context.entry.sizes.now m → IsEndTest to.entry m test
+    ensures changes { IfOk result (λ c. (m : StateValue) (test : ℕ → Bool) → context.entry.vectors.now.vectors ≡ m.vectors
+        → HasSizes context.entry.sizes.now m → IsEndTest to.entry m test
         → c.changes.items ≡ changed context.entry.vertices (entry m.vectors slot.now.vector)
         (λ v. if test v then held slot.now.entries v (entry m.vectors slot.now.vector v) else entry m.vectors slot.now.vector v)) }
 {
@@ -143,7 +150,8 @@ fn found_among(
     requires given { AreMarked slot.now.entries marked.now }
     requires covers { (combine : ℤ → ℤ → ℤ) (v : ℕ) (h : ℤ) → v < context.vertices → ¬ Contains marked.now v → held_with combine slot.now.entries v h ≡ h }
     ensures vector { IfOk result (λ c. c.vector ≡ slot.now.vector) }
-    ensures changes { IfOk result (λ c. (m : StateValue) (test : ℕ → Bool) → context.entry.vectors.now.vectors ≡ m.vectors → HasSizes context.entry.sizes.now m → IsEndTest to.entry m test
+    ensures changes { IfOk result (λ c. (m : StateValue) (test : ℕ → Bool) → context.entry.vectors.now.vectors ≡ m.vectors
+        → HasSizes context.entry.sizes.now m → IsEndTest to.entry m test
         → c.changes.items ≡ changed context.entry.vertices (entry m.vectors slot.now.vector)
         (λ v. if test v then held slot.now.entries v (entry m.vectors slot.now.vector v) else entry m.vectors slot.now.vector v)) }
 {
@@ -190,7 +198,8 @@ fn passing_changes(
     requires ascending { IsNonDecreasing marked.now }
     requires given { AreMarked slot.now.entries marked.now }
     requires covers { (combine : ℤ → ℤ → ℤ) (v : ℕ) (h : ℤ) → v < context.vertices → ¬ Contains marked.now v → held_with combine slot.now.entries v h ≡ h }
-    ensures { IfOk result (λ cs. (m : StateValue) (test : ℕ → Bool) → context.entry.vectors.now.vectors ≡ m.vectors → HasSizes context.entry.sizes.now m → IsTest end.entry m test
+    ensures { IfOk result (λ cs. (m : StateValue) (test : ℕ → Bool) → context.entry.vectors.now.vectors ≡ m.vectors
+        → HasSizes context.entry.sizes.now m → IsTest end.entry m test
         → cs.items ≡ changed context.entry.vertices (entry m.vectors slot.now.vector)
         (λ v. if test v then held slot.now.entries v (entry m.vectors slot.now.vector v) else entry m.vectors slot.now.vector v)) }
 {

@@ -53,7 +53,8 @@ impl<'a> ApplyContext<'a> {
 /// same with any weight.
 pub fn reads_weights(first: &EdgeKernel, second: Option<&EdgeKernel>) -> bool
     ensures told { result ≡ are_weighted first.now second.entry }
-    ensures weightless { result ≡ false → (m : StateValue) (sizes : List ℤ) (steps : List StepsTree) → HasSizes sizes m → AreKernels first.now second.entry steps → AreWeightless m steps }
+    ensures weightless { result ≡ false → (m : StateValue) (sizes : List ℤ) (steps : List StepsTree) → HasSizes sizes m
+        → AreKernels first.now second.entry steps → AreWeightless m steps }
 {
     match second {
         None => first.reads_weight(),

@@ -23,7 +23,8 @@ impl Scratch {
     ) -> Result<(), AllocError>
         requires few { length sources.now ≤ 128 }
         requires unweighted { context.weighted ≡ false }
-        ensures { OnOk result ((m : StateValue) (steps : List StepsTree) (edges : List Edge) (entries : List (ℕ × ℤ)) → firsts entries ≡ sources.now → IsContextOf context.entry m steps
+        ensures { OnOk result ((m : StateValue) (steps : List StepsTree) (edges : List Edge) (entries : List (ℕ × ℤ)) → firsts entries ≡ sources.now
+            → IsContextOf context.entry m steps
             → HasFolded context.entry m steps edges self.old → HasFolded context.entry m steps (edges ++ column destination entries) self.new) }
     {
         if let Some(sent) = context.reduced_contribution(sources) {
@@ -45,7 +46,8 @@ impl Scratch {
         requires few { length sources.now ≤ 128 }
         requires unweighted { context.weighted ≡ false }
         ensures { OnOk result ((m : StateValue) (steps : List StepsTree) (edges : List Edge) → IsContextOf context.entry m steps
-            → HasFolded context.entry m steps edges self.old → HasFolded context.entry m steps (edges ++ column destination (entries_of sources.now [])) self.new) }
+            → HasFolded context.entry m steps edges self.old
+            → HasFolded context.entry m steps (edges ++ column destination (entries_of sources.now [])) self.new) }
     {
         let room = self.pairs.room();
         if sources.len() <= room {

@@ -20,7 +20,8 @@ impl Accumulator {
         kept: &[u32],
         vertices: u32,
     ) -> Result<Vec<EntryChange>, AllocError>
-        ensures { IsNonDecreasing kept.now → AreMarked self.now kept.now → (new : ℕ → ℤ) → ((v : ℕ) → Contains kept.now v → new v ≡ held self.now v (lane_entry old.entry v))
+        ensures { IsNonDecreasing kept.now → AreMarked self.now kept.now → (new : ℕ → ℤ)
+            → ((v : ℕ) → Contains kept.now v → new v ≡ held self.now v (lane_entry old.entry v))
             → ((v : ℕ) → v < vertices → ¬ Contains kept.now v → new v ≡ lane_entry old.entry v)
             → IfOk result (λ cs. cs.items ≡ changed vertices (lane_entry old.entry) new) }
     {

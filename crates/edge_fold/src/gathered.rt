@@ -58,8 +58,10 @@ impl Scratch {
         to: Option<EndpointFilter<'_>>,
     ) -> Result<Gathered, AllocError>
         ensures ascending { IfOk result (λ g. AreAscending g.vectors.items) }
-        ensures given { IfOk result (λ g. (m : StateValue) (steps : List StepsTree) (edges : List Edge) (test : ℕ → Bool) → IsContextOf context.entry m steps → IsEndTest to.entry m test
-            → HasFolded context.entry m steps edges self.old → context.entry.start ≡ FromUnit → AreGathered context.entry.vertices m steps (filter (λ e. test e.1) edges) g) }
+        ensures given { IfOk result (λ g. (m : StateValue) (steps : List StepsTree) (edges : List Edge) (test : ℕ → Bool)
+            → IsContextOf context.entry m steps → IsEndTest to.entry m test
+            → HasFolded context.entry m steps edges self.old → context.entry.start ≡ FromUnit
+            → AreGathered context.entry.vertices m steps (filter (λ e. test e.1) edges) g) }
     {
         self.flush(alloc, context)?;
         let gathered = gathered_in_slots(alloc, context, to, &self.slots, &mut self.block)?;
@@ -92,7 +94,8 @@ fn gathered_in_slots(
 ) -> Result<Gathered, AllocError>
     ensures ascending { IfOk result (λ g. AreAscending g.vectors.items) }
     ensures reduction { IfOk result (λ g. (x : ℕ) (r : Reduction) → reduction_in (active slots.now) x r ≡ r → IsGatheredBy r x g.vectors.items) }
-    ensures numbers { IfOk result (λ g. (m : StateValue) (test : ℕ → Bool) → context.entry.vectors.now.vectors ≡ m.vectors → HasSizes context.entry.sizes.now m → IsEndTest to.entry m test
+    ensures numbers { IfOk result (λ g. (m : StateValue) (test : ℕ → Bool) → context.entry.vectors.now.vectors ≡ m.vectors
+        → HasSizes context.entry.sizes.now m → IsEndTest to.entry m test
         → (x v : ℕ) (r : Reduction) (h : ℤ) → v < context.entry.vertices → reduced_at r v h (gathered_for x g.vectors.items)
         ≡ (if test v then held_in_with (combined FromUnit r) (active slots.now) x v h else h)) }
 {
@@ -121,7 +124,8 @@ fn numbers_in_slot(
     block: &mut Block,
 ) -> Result<Vec<EntryChange>, AllocError>
     ensures ascending { IfOk result (λ cs. IsAscending cs.items) }
-    ensures given { IfOk result (λ cs. (m : StateValue) (test : ℕ → Bool) → context.entry.vectors.now.vectors ≡ m.vectors → HasSizes context.entry.sizes.now m → IsEndTest to.entry m test
+    ensures given { IfOk result (λ cs. (m : StateValue) (test : ℕ → Bool) → context.entry.vectors.now.vectors ≡ m.vectors
+        → HasSizes context.entry.sizes.now m → IsEndTest to.entry m test
         → (r : Reduction) (v : ℕ) (h : ℤ) → v < context.entry.vertices
         → reduced_at r v h (numbers_of cs.items) ≡ (if test v then held_with (combined FromUnit r) slot.now.entries v h else h)) }
 {
@@ -151,7 +155,8 @@ impl Accumulator {
         vertices: u32,
     ) -> Result<Vec<EntryChange>, AllocError>
         ensures ascending { IfOk result (λ cs. IsAscending cs.items) }
-        ensures given { IsNonDecreasing kept.now → (r : Reduction) (h : ℤ) (new : ℕ → ℤ) → ((v : ℕ) → Contains kept.now v → new v ≡ held_with (combined FromUnit r) self.now v h)
+        ensures given { IsNonDecreasing kept.now → (r : Reduction) (h : ℤ) (new : ℕ → ℤ)
+            → ((v : ℕ) → Contains kept.now v → new v ≡ held_with (combined FromUnit r) self.now v h)
             → ((v : ℕ) → v < vertices → ¬ Contains kept.now v → new v ≡ h)
             → IfOk result (λ cs. (v : ℕ) → v < vertices → reduced_at r v h (numbers_of cs.items) ≡ new v) }
     {

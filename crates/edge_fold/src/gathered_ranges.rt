@@ -17,7 +17,8 @@ impl Gathered {
     /// What the edges give to the vertices from `low` on up to `high`, where the numbers stand by ascending vertices. It
     /// takes time in proportion to what it gives, and to the logarithm of all. The only error is out of memory.
     pub fn between(&self, alloc: Global, low: u32, high: u32) -> Result<Gathered, AllocError>
-        ensures { IfOk result (λ g. (vertices : ℕ) (m : StateValue) (steps : List StepsTree) (edges : List Edge) → AreAscending self.now.vectors.items → AreGathered vertices m steps edges self.now
+        ensures { IfOk result (λ g. (vertices : ℕ) (m : StateValue) (steps : List StepsTree) (edges : List Edge) → AreAscending self.now.vectors.items
+            → AreGathered vertices m steps edges self.now
             → AreGathered vertices m steps (filter (λ e. is_between low high e.1) edges) g) }
     {
         let mut vectors = Vec::with_capacity(alloc, self.vectors.len())?;

@@ -18,7 +18,8 @@ impl InitialEntries<'_> {
     /// The new entry of a vertex that is given its first number. The unit leaves that as it is.
     #[inline(always)]
     pub(crate) fn first(self, reduction: Reduction, vertex: usize, number: i64) -> i64
-        ensures { (h : ℤ) → combined (start_of self.entry) reduction (opening_seed self.entry vertex h) result ≡ reduced reduction (opening_seed self.entry vertex h) number }
+        ensures { (h : ℤ) → combined (start_of self.entry) reduction (opening_seed self.entry vertex h) result
+            ≡ reduced reduction (opening_seed self.entry vertex h) number }
     {
         match self {
             InitialEntries::Entries(old) => reduce(reduction, old.get(vertex), number),

@@ -60,7 +60,8 @@ impl Accumulator {
         destinations: &[u32],
     ) -> Result<(), AllocError>
         requires { length destinations.now ≤ length contribution.numbers.now }
-        ensures { OnOk result (AreJoined opening.entry contribution.entry.reduction self.old self.new (given_from contribution.entry.vector (contribution_at contribution.entry) 0 destinations.now)) }
+        ensures { OnOk result (AreJoined opening.entry contribution.entry.reduction self.old self.new
+            (given_from contribution.entry.vector (contribution_at contribution.entry) 0 destinations.now)) }
     {
         match contribution.reduction {
             Reduction::Min => self.join_all(Reduction::Min, opening, contribution, destinations),
@@ -78,7 +79,8 @@ impl Accumulator {
         destinations: &[u32],
     ) -> Result<(), AllocError>
         requires { length destinations.now ≤ length contribution.numbers.now }
-        ensures { OnOk result (AreJoined opening.entry reduction self.old self.new (given_from contribution.entry.vector (contribution_at contribution.entry) 0 destinations.now)) }
+        ensures { OnOk result (AreJoined opening.entry reduction self.old self.new
+            (given_from contribution.entry.vector (contribution_at contribution.entry) 0 destinations.now)) }
     {
         'pairs: for (k, vertex) in destinations.iter().enumerate() {
             self.join_pair(reduction, opening, contribution, k, *vertex)?;
@@ -97,7 +99,8 @@ impl Accumulator {
         vertex: u32,
     ) -> Result<(), AllocError>
         requires { place < length contribution.numbers.now }
-        ensures { OnOk result (AreJoined opening.entry reduction self.old self.new (for_vector contribution.entry.vector vertex (contribution_at contribution.entry place))) }
+        ensures { OnOk result (AreJoined opening.entry reduction self.old self.new
+            (for_vector contribution.entry.vector vertex (contribution_at contribution.entry place))) }
     {
         if is_given(contribution, place) {
             self.join(reduction, opening, vertex, contribution.numbers[place])?;
@@ -150,7 +153,8 @@ impl Accumulator {
         weights: &[i64],
     ) -> Result<(), AllocError>
         requires { length weights.now ≡ length destinations.now }
-        ensures { OnOk result (AreJoined opening.entry reduction self.old self.new (each_weighed (number_with numbers) (entries_of destinations.now weights.now))) }
+        ensures { OnOk result (AreJoined opening.entry reduction self.old self.new
+            (each_weighed (number_with numbers) (entries_of destinations.now weights.now))) }
     {
         match reduction {
             Reduction::Min => {
@@ -176,7 +180,8 @@ impl Accumulator {
         weights: &[i64],
     ) -> Result<(), AllocError>
         requires { length weights.now ≡ length destinations.now }
-        ensures { OnOk result (AreJoined opening.entry reduction self.old self.new (each_weighed (number_with numbers) (entries_of destinations.now weights.now))) }
+        ensures { OnOk result (AreJoined opening.entry reduction self.old self.new
+            (each_weighed (number_with numbers) (entries_of destinations.now weights.now))) }
     {
         let number = numbers.number;
         match numbers.operator {
@@ -218,7 +223,8 @@ impl Accumulator {
         weights: &[i64],
     ) -> Result<(), AllocError>
         requires { length weights.now ≡ length destinations.now }
-        ensures { OnOk result (AreJoined opening.entry reduction self.old self.new (each_weighed (number_with numbers) (entries_of destinations.now weights.now))) }
+        ensures { OnOk result (AreJoined opening.entry reduction self.old self.new
+            (each_weighed (number_with numbers) (entries_of destinations.now weights.now))) }
     {
         'edges: for (k, vertex) in destinations.iter().enumerate() {
             self.join(reduction, opening, *vertex, numbers.of(weights[k]))?;

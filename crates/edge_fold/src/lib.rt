@@ -19,7 +19,8 @@
 //! `HasFolded` (`specs/Folded.antt`) says which edges a scratch has folded: for each vector to which the functions give
 //! by one reduction, the new entries, reduced with what the edges that still wait give, are the old entries reduced with
 //! what those edges give. Where new entries begin with the unit, a number that is
-//! reduced with one is that number reduced with what those edges give (`specs/FoldStarts.antt`). `changes` then promises the entries after an apply of them (`after_edges` of
+//! reduced with one is that number reduced with what those edges give (`specs/FoldStarts.antt`). `changes` then promises the
+//! entries after an apply of them (`after_edges` of
 //! `algorithm_meaning`), for each vector that has an entry for each vertex. The functions read the vectors that are
 //! lent, which stay as they are until the changes are written.
 //!

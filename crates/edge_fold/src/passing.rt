@@ -25,7 +25,8 @@ pub(crate) fn keep_passing(
     block: &mut Block,
     kept: &mut Vec<u32>,
 ) -> Result<(), AllocError>
-    ensures { OnOk result ((m : StateValue) (test : ℕ → Bool) → context.entry.vectors.now.vectors ≡ m.vectors → HasSizes context.entry.sizes.now m → IsTest end.entry m test
+    ensures { OnOk result ((m : StateValue) (test : ℕ → Bool) → context.entry.vectors.now.vectors ≡ m.vectors → HasSizes context.entry.sizes.now m
+        → IsTest end.entry m test
         → kept.new.items ≡ kept.old.items ++ filter test vertices.now) }
 {
     match end {
@@ -52,7 +53,8 @@ fn keep_filtered(
     block: &mut Block,
     kept: &mut Vec<u32>,
 ) -> Result<(), AllocError>
-    ensures { OnOk result ((m : StateValue) (test : ℕ → Bool) → context.entry.vectors.now.vectors ≡ m.vectors → HasSizes context.entry.sizes.now m → IsFilterTest kernel.now m test
+    ensures { OnOk result ((m : StateValue) (test : ℕ → Bool) → context.entry.vectors.now.vectors ≡ m.vectors → HasSizes context.entry.sizes.now m
+        → IsFilterTest kernel.now m test
         → kept.new.items ≡ kept.old.items ++ filter test vertices.now) }
 {
     match kernel.shape() {
@@ -89,7 +91,8 @@ fn keep_in_parts(
     block: &mut Block,
     kept: &mut Vec<u32>,
 ) -> Result<(), AllocError>
-    ensures { OnOk result ((m : StateValue) (test : ℕ → Bool) → context.entry.vectors.now.vectors ≡ m.vectors → HasSizes context.entry.sizes.now m → IsFilterTest kernel.now m test
+    ensures { OnOk result ((m : StateValue) (test : ℕ → Bool) → context.entry.vectors.now.vectors ≡ m.vectors → HasSizes context.entry.sizes.now m
+        → IsFilterTest kernel.now m test
         → kept.new.items ≡ kept.old.items ++ filter test vertices.now) }
 {
     let mut rest = vertices;
@@ -110,7 +113,8 @@ fn keep_part(
     kept: &mut Vec<u32>,
 ) -> Result<(), AllocError>
     requires { length part.now ≤ 128 }
-    ensures { OnOk result ((m : StateValue) (test : ℕ → Bool) → context.entry.vectors.now.vectors ≡ m.vectors → HasSizes context.entry.sizes.now m → IsFilterTest kernel.now m test
+    ensures { OnOk result ((m : StateValue) (test : ℕ → Bool) → context.entry.vectors.now.vectors ≡ m.vectors → HasSizes context.entry.sizes.now m
+        → IsFilterTest kernel.now m test
         → kept.new.items ≡ kept.old.items ++ filter test part.now) }
 {
     block.make_room(kernel.room())?;

@@ -17,7 +17,8 @@ impl ApplyContext<'_> {
     /// What sources give each destination together, where each gives its own number and there is a source.
     #[inline]
     pub(crate) fn reduced_contribution(self, sources: &[u32]) -> Option<SourceContribution>
-        ensures { IfSome result (λ s. (m : StateValue) (steps : List StepsTree) → IsContextOf self.entry m steps → IsReducedContribution s (all_given m steps) sources.now) }
+        ensures { IfSome result (λ s. (m : StateValue) (steps : List StepsTree) → IsContextOf self.entry m steps
+            → IsReducedContribution s (all_given m steps) sources.now) }
     {
         if self.second.is_some() {
             return None;

@@ -64,7 +64,8 @@ impl Scratch {
     ) -> Result<(), AllocError>
         requires few { length destinations.now ≤ 128 }
         requires unweighted { context.weighted ≡ false }
-        ensures { OnOk result ((m : StateValue) (steps : List StepsTree) (edges : List Edge) (entries : List (ℕ × ℤ)) → firsts entries ≡ destinations.now → IsContextOf context.entry m steps
+        ensures { OnOk result ((m : StateValue) (steps : List StepsTree) (edges : List Edge) (entries : List (ℕ × ℤ))
+            → firsts entries ≡ destinations.now → IsContextOf context.entry m steps
             → HasFolded context.entry m steps edges self.old → HasFolded context.entry m steps (edges ++ row source entries) self.new) }
     {
         if let Some(sent) = context.sent(source) {
@@ -85,7 +86,8 @@ impl Scratch {
         requires few { length destinations.now ≤ 128 }
         requires unweighted { context.weighted ≡ false }
         ensures { OnOk result ((m : StateValue) (steps : List StepsTree) (edges : List Edge) → IsContextOf context.entry m steps
-            → HasFolded context.entry m steps edges self.old → HasFolded context.entry m steps (edges ++ row source (entries_of destinations.now [])) self.new) }
+            → HasFolded context.entry m steps edges self.old
+            → HasFolded context.entry m steps (edges ++ row source (entries_of destinations.now [])) self.new) }
     {
         let room = self.pairs.room();
         if destinations.len() <= room {

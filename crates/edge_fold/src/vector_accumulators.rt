@@ -43,7 +43,8 @@ impl VectorAccumulators {
     ) -> Result<usize, AllocError>
         ensures place { IfOk result (λ p. (p ≡ place_in vector (active self.new)) × (p < self.new.used)) }
         ensures held { (combine : ℤ → ℤ → ℤ) (x v : ℕ) (h : ℤ) → held_in_with combine (active self.new) x v h ≡ held_in_with combine (active self.old) x v h }
-        ensures reduction { (x : ℕ) (r : Reduction) → (vector ≡ x → reduction ≡ r) → reduction_in (active self.old) x r ≡ r → reduction_in (active self.new) x r ≡ r }
+        ensures reduction { (x : ℕ) (r : Reduction) → (vector ≡ x → reduction ≡ r) → reduction_in (active self.old) x r ≡ r
+            → reduction_in (active self.new) x r ≡ r }
     {
         let place = find(&self.slots[..self.used], vector);
         if place < self.used {
@@ -63,7 +64,8 @@ impl VectorAccumulators {
         requires { self.old.used ≤ place_in vector (active self.old) }
         ensures place { IfOk result (λ p. (p ≡ place_in vector (active self.new)) × (p < self.new.used)) }
         ensures held { (combine : ℤ → ℤ → ℤ) (x v : ℕ) (h : ℤ) → held_in_with combine (active self.new) x v h ≡ held_in_with combine (active self.old) x v h }
-        ensures reduction { (x : ℕ) (r : Reduction) → (vector ≡ x → reduction ≡ r) → reduction_in (active self.old) x r ≡ r → reduction_in (active self.new) x r ≡ r }
+        ensures reduction { (x : ℕ) (r : Reduction) → (vector ≡ x → reduction ≡ r) → reduction_in (active self.old) x r ≡ r
+            → reduction_in (active self.new) x r ≡ r }
     {
         if self.used < self.slots.len() {
             return self.add_old(vector, reduction, vertices);
@@ -82,7 +84,8 @@ impl VectorAccumulators {
         requires none { self.old.used ≤ place_in vector (active self.old) }
         ensures place { IfOk result (λ p. (p ≡ place_in vector (active self.new)) × (p < self.new.used)) }
         ensures held { (combine : ℤ → ℤ → ℤ) (x v : ℕ) (h : ℤ) → held_in_with combine (active self.new) x v h ≡ held_in_with combine (active self.old) x v h }
-        ensures reduction { (x : ℕ) (r : Reduction) → (vector ≡ x → reduction ≡ r) → reduction_in (active self.old) x r ≡ r → reduction_in (active self.new) x r ≡ r }
+        ensures reduction { (x : ℕ) (r : Reduction) → (vector ≡ x → reduction ≡ r) → reduction_in (active self.old) x r ≡ r
+            → reduction_in (active self.new) x r ≡ r }
     {
         let place = self.used;
         self.slots[place].begin(vector, reduction, vertices)?;
@@ -102,7 +105,8 @@ impl VectorAccumulators {
         requires none { self.old.used ≤ place_in vector (active self.old) }
         ensures place { IfOk result (λ p. (p ≡ place_in vector (active self.new)) × (p < self.new.used)) }
         ensures held { (combine : ℤ → ℤ → ℤ) (x v : ℕ) (h : ℤ) → held_in_with combine (active self.new) x v h ≡ held_in_with combine (active self.old) x v h }
-        ensures reduction { (x : ℕ) (r : Reduction) → (vector ≡ x → reduction ≡ r) → reduction_in (active self.old) x r ≡ r → reduction_in (active self.new) x r ≡ r }
+        ensures reduction { (x : ℕ) (r : Reduction) → (vector ≡ x → reduction ≡ r) → reduction_in (active self.old) x r ≡ r
+            → reduction_in (active self.new) x r ≡ r }
     {
         let mut entries = Accumulator::new(alloc);
         entries.begin(vertices)?;
@@ -178,7 +182,8 @@ impl VectorAccumulators {
         requires { length weights.now ≡ length destinations.now }
         ensures { OnOk result ((x : ℕ) (r : Reduction) → (given.vector ≡ x → given.reduction ≡ r)
             → HaveJoined context.entry x r self.old self.new
-            (if given.vector == x then each_weighed (arithmetic given.operator (entry context.entry.vectors.now.vectors given.from source)) (entries_of destinations.now weights.now) else [])) }
+            (if given.vector == x then each_weighed (arithmetic given.operator (entry context.entry.vectors.now.vectors given.from source))
+            (entries_of destinations.now weights.now) else [])) }
     {
         let place = self.place(alloc, given.vector, given.reduction, context.vertices)?;
         let opening = context.opening(given.vector);
@@ -199,7 +204,8 @@ impl VectorAccumulators {
         context: ApplyContext<'_>,
         gathered: &[GatheredIn],
     ) -> Result<(), AllocError>
-        ensures { OnOk result ((x : ℕ) (r : Reduction) → IsGatheredBy r x gathered.now → HaveJoined context.entry x r self.old self.new (gathered_for x gathered.now)) }
+        ensures { OnOk result ((x : ℕ) (r : Reduction) → IsGatheredBy r x gathered.now
+            → HaveJoined context.entry x r self.old self.new (gathered_for x gathered.now)) }
     {
         'vectors: for of_vector in gathered {
             self.join_numbers(alloc, context, of_vector)?;

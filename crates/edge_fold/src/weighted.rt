@@ -58,7 +58,8 @@ impl Scratch {
         requires same { length weights.now ≡ length destinations.now }
         requires weighted { context.weighted ≡ true }
         ensures { OnOk result ((m : StateValue) (steps : List StepsTree) (edges : List Edge) → IsContextOf context.entry m steps
-            → HasFolded context.entry m steps edges self.old → HasFolded context.entry m steps (edges ++ row source (entries_of destinations.now weights.now)) self.new) }
+            → HasFolded context.entry m steps edges self.old
+            → HasFolded context.entry m steps (edges ++ row source (entries_of destinations.now weights.now)) self.new) }
     {
         if let Some(given) = context.entry_contribution() {
             self.slots
@@ -81,7 +82,8 @@ impl Scratch {
         requires same { length weights.now ≡ length destinations.now }
         requires weighted { context.weighted ≡ true }
         ensures { OnOk result ((m : StateValue) (steps : List StepsTree) (edges : List Edge) → IsContextOf context.entry m steps
-            → HasFolded context.entry m steps edges self.old → HasFolded context.entry m steps (edges ++ row source (entries_of destinations.now weights.now)) self.new) }
+            → HasFolded context.entry m steps edges self.old
+            → HasFolded context.entry m steps (edges ++ row source (entries_of destinations.now weights.now)) self.new) }
     {
         let room = self.pairs.room();
         if destinations.len() <= room {
@@ -110,7 +112,8 @@ impl Scratch {
         requires same { length weights.now ≡ length sources.now }
         requires weighted { context.weighted ≡ true }
         ensures { OnOk result ((m : StateValue) (steps : List StepsTree) (edges : List Edge) → IsContextOf context.entry m steps
-            → HasFolded context.entry m steps edges self.old → HasFolded context.entry m steps (edges ++ column destination (entries_of sources.now weights.now)) self.new) }
+            → HasFolded context.entry m steps edges self.old
+            → HasFolded context.entry m steps (edges ++ column destination (entries_of sources.now weights.now)) self.new) }
     {
         if let Some(sent) = context.reduced_entries(sources, weights) {
             self.slots
@@ -133,7 +136,8 @@ impl Scratch {
         requires same { length weights.now ≡ length sources.now }
         requires weighted { context.weighted ≡ true }
         ensures { OnOk result ((m : StateValue) (steps : List StepsTree) (edges : List Edge) → IsContextOf context.entry m steps
-            → HasFolded context.entry m steps edges self.old → HasFolded context.entry m steps (edges ++ column destination (entries_of sources.now weights.now)) self.new) }
+            → HasFolded context.entry m steps edges self.old
+            → HasFolded context.entry m steps (edges ++ column destination (entries_of sources.now weights.now)) self.new) }
     {
         let room = self.pairs.room();
         if sources.len() <= room {

@@ -2,7 +2,8 @@
 ghost use Rattle.std.specs.Prelude.{◌≡◌, Some, false, IfOk, IsTrue};
 ghost use Rattle.std.specs.Option.{option_map};
 ghost use Rattle.expression_types.specs.WithFaults.{ReportsFaults, outcome};
-ghost use Rattle.expression_types.specs.Operators.{added, compared_value, entry_value, equated_value, function_entry, given, main_entry, multiplied, related_value};
+ghost use Rattle.expression_types.specs.Operators.{added, compared_value, entry_value, equated_value};
+ghost use Rattle.expression_types.specs.Operators.{function_entry, given, main_entry, multiplied, related_value};
 ghost use Rattle.expression_types.specs.Faults.{earlier};
 ghost use Rattle.expression_types.specs.Signs.{all_minus, all_not, signs_value};
 ghost use Rattle.expression_types.specs.ValueTree.{ErrorValue, is_condition, is_error, value_tree};
@@ -81,7 +82,8 @@ pub(crate) fn relate(
     at: usize,
     first_fault: &mut Option<Fault>,
 ) -> Result<Value, AllocError>
-    ensures { ReportsFaults value_tree first_fault.old first_fault.new result (given at TypeRule.WrongType (related_value operator (value_tree left) (value_tree right))) }
+    ensures { ReportsFaults value_tree first_fault.old first_fault.new result
+        (given at TypeRule.WrongType (related_value operator (value_tree left) (value_tree right))) }
 {
     match relation(alloc, operator, left, right)? {
         Some(value) => Ok(value),

@@ -3,7 +3,8 @@ ghost use Rattle.std.specs.Prelude.{◌≡◌, is_some};
 ghost use Rattle.std.specs.Option.{option_map};
 ghost use Rattle.typed_tree.specs.ConditionTree.{condition_tree};
 ghost use Rattle.typed_tree.specs.IntegerTree.{integer_tree};
-ghost use Rattle.expression_types.specs.ValueTree.{as_condition, as_integer, as_set, as_vertex, is_condition as condition, is_error as error, named_set, named_value, named_vector, operands_read_entry, reads_entry as entry_is_read, value_tree};
+ghost use Rattle.expression_types.specs.ValueTree.{as_condition, as_integer, as_set, as_vertex, is_condition as condition, is_error as error};
+ghost use Rattle.expression_types.specs.ValueTree.{named_set, named_value, named_vector, operands_read_entry, reads_entry as entry_is_read, value_tree};
 
 use crate::scope::Entity;
 use typed_tree::{BoolExpression, Endpoint, IntExpression, Operand, VarRef};

@@ -1,3 +1,5 @@
+//! The error of the lexer: why bytes are no tokens, and where.
+
 ghost use Rattle.std.specs.Prelude.{◌≡◌};
 ghost use Rattle.lexer.specs.declared.error.LexError.TheVariants.{NoMemory};
 ghost use Rattle.lexer.specs.Refusal.{number_of, offset_of};

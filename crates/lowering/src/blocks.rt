@@ -33,7 +33,9 @@ impl Lowering<'_> {
         visible: &mut Visible,
         code: &mut Vec<Instruction>,
     ) -> Result<(), AllocError>
-        ensures code { OnOk result (Puts (program_tree self.entry.program.now) code.old.items code.new.items (plan_all (program_tree self.entry.program.now) self.entry.schedule.now (length code.old.items) (depth_of visible.old) false (block_tree statements.now))) }
+        ensures code { OnOk result (Puts (program_tree self.entry.program.now) code.old.items code.new.items
+            (plan_all (program_tree self.entry.program.now) self.entry.schedule.now (length code.old.items) (depth_of visible.old) false
+            (block_tree statements.now))) }
         ensures visible { OnOk result (depth_of visible.new ≡ behind_all (block_tree statements.now) (depth_of visible.old)) }
     {
         let mut left = statements;
@@ -56,11 +58,15 @@ impl Lowering<'_> {
         visible: &mut Visible,
         code: &mut Vec<Instruction>,
     ) -> Result<bool, AllocError>
-        ensures next { IfOk result (λ next. next ≡ takes_next (fusion_role_of (program_tree self.entry.program.now) self.entry.schedule.now (depth_of visible.old) is_done statement.now.label (action_tree statement.now.action) (block_tree rest.now))) }
+        ensures next { IfOk result (λ next. next ≡ takes_next
+            (fusion_role_of (program_tree self.entry.program.now) self.entry.schedule.now (depth_of visible.old) is_done statement.now.label
+            (action_tree statement.now.action) (block_tree rest.now))) }
         ensures code { OnOk result (Puts (program_tree self.entry.program.now) code.old.items code.new.items
-            (plan_in (fusion_role_of (program_tree self.entry.program.now) self.entry.schedule.now (depth_of visible.old) is_done statement.now.label (action_tree statement.now.action) (block_tree rest.now))
+            (plan_in (fusion_role_of (program_tree self.entry.program.now) self.entry.schedule.now (depth_of visible.old) is_done statement.now.label
+            (action_tree statement.now.action) (block_tree rest.now))
             self.entry.schedule.now statement.now.number statement.now.label (depth_of visible.old)
-            (plan (program_tree self.entry.program.now) self.entry.schedule.now (length code.old.items) (depth_of visible.old) statement.now.number statement.now.label (action_tree statement.now.action)))) }
+            (plan (program_tree self.entry.program.now) self.entry.schedule.now (length code.old.items) (depth_of visible.old) statement.now.number
+            statement.now.label (action_tree statement.now.action)))) }
         ensures visible { OnOk result (depth_of visible.new ≡ behind (action_tree statement.now.action) (depth_of visible.old)) }
     {
         if is_done {
@@ -94,7 +100,9 @@ impl Lowering<'_> {
         visible: &mut Visible,
         code: &mut Vec<Instruction>,
     ) -> Result<(), AllocError>
-        ensures code { OnOk result (Puts (program_tree self.entry.program.now) code.old.items code.new.items (plan (program_tree self.entry.program.now) self.entry.schedule.now (length code.old.items) (depth_of visible.old) statement.now.number statement.now.label (action_tree statement.now.action))) }
+        ensures code { OnOk result (Puts (program_tree self.entry.program.now) code.old.items code.new.items
+            (plan (program_tree self.entry.program.now) self.entry.schedule.now (length code.old.items) (depth_of visible.old) statement.now.number
+            statement.now.label (action_tree statement.now.action))) }
         ensures visible { OnOk result (depth_of visible.new ≡ behind (action_tree statement.now.action) (depth_of visible.old)) }
     {
         let number = statement.number;
@@ -124,7 +132,9 @@ impl Lowering<'_> {
         visible: &mut Visible,
         code: &mut Vec<Instruction>,
     ) -> Result<(), AllocError>
-        ensures code { (label : Option ℕ) → OnOk result (Puts (program_tree self.entry.program.now) code.old.items code.new.items (plan (program_tree self.entry.program.now) self.entry.schedule.now (length code.old.items) (depth_of visible.old) number label (If (condition_tree c.now) (block_tree body.now)))) }
+        ensures code { (label : Option ℕ) → OnOk result (Puts (program_tree self.entry.program.now) code.old.items code.new.items
+            (plan (program_tree self.entry.program.now) self.entry.schedule.now (length code.old.items) (depth_of visible.old) number label
+            (If (condition_tree c.now) (block_tree body.now)))) }
         ensures visible { OnOk result (depth_of visible.new ≡ depth_of visible.old) }
     {
         let depth = visible.depth();
@@ -144,7 +154,9 @@ impl Lowering<'_> {
         visible: &mut Visible,
         code: &mut Vec<Instruction>,
     ) -> Result<(), AllocError>
-        ensures code { (label : Option ℕ) → OnOk result (Puts (program_tree self.entry.program.now) code.old.items code.new.items (plan (program_tree self.entry.program.now) self.entry.schedule.now (length code.old.items) (depth_of visible.old) number label (IfElse (condition_tree c.now) (block_tree body.now) (block_tree other.now)))) }
+        ensures code { (label : Option ℕ) → OnOk result (Puts (program_tree self.entry.program.now) code.old.items code.new.items
+            (plan (program_tree self.entry.program.now) self.entry.schedule.now (length code.old.items) (depth_of visible.old) number label
+            (IfElse (condition_tree c.now) (block_tree body.now) (block_tree other.now)))) }
         ensures visible { OnOk result (depth_of visible.new ≡ depth_of visible.old) }
     {
         let depth = visible.depth();
@@ -166,7 +178,9 @@ impl Lowering<'_> {
         visible: &mut Visible,
         code: &mut Vec<Instruction>,
     ) -> Result<(), AllocError>
-        ensures code { (label : Option ℕ) → OnOk result (Puts (program_tree self.entry.program.now) code.old.items code.new.items (plan (program_tree self.entry.program.now) self.entry.schedule.now (length code.old.items) (depth_of visible.old) number label (While (condition_tree c.now) (block_tree body.now)))) }
+        ensures code { (label : Option ℕ) → OnOk result (Puts (program_tree self.entry.program.now) code.old.items code.new.items
+            (plan (program_tree self.entry.program.now) self.entry.schedule.now (length code.old.items) (depth_of visible.old) number label
+            (While (condition_tree c.now) (block_tree body.now)))) }
         ensures visible { OnOk result (depth_of visible.new ≡ depth_of visible.old) }
     {
         let depth = visible.depth();
@@ -188,7 +202,9 @@ impl Lowering<'_> {
         visible: &mut Visible,
         code: &mut Vec<Instruction>,
     ) -> Result<(), AllocError>
-        ensures code { (label : Option ℕ) → OnOk result (Puts (program_tree self.entry.program.now) code.old.items code.new.items (plan (program_tree self.entry.program.now) self.entry.schedule.now (length code.old.items) (depth_of visible.old) number label (For name (integer_tree first.now) (integer_tree end.now) (block_tree body.now)))) }
+        ensures code { (label : Option ℕ) → OnOk result (Puts (program_tree self.entry.program.now) code.old.items code.new.items
+            (plan (program_tree self.entry.program.now) self.entry.schedule.now (length code.old.items) (depth_of visible.old) number label
+            (For name (integer_tree first.now) (integer_tree end.now) (block_tree body.now)))) }
         ensures visible { OnOk result (depth_of visible.new ≡ depth_of visible.old) }
     {
         let depth = visible.depth();
@@ -210,7 +226,9 @@ impl Lowering<'_> {
         visible: &mut Visible,
         code: &mut Vec<Instruction>,
     ) -> Result<(), AllocError>
-        ensures code { OnOk result (Puts (program_tree self.entry.program.now) code.old.items code.new.items (plan_all (program_tree self.entry.program.now) self.entry.schedule.now (length code.old.items) (depth_of visible.old) false (block_tree body.now))) }
+        ensures code { OnOk result (Puts (program_tree self.entry.program.now) code.old.items code.new.items
+            (plan_all (program_tree self.entry.program.now) self.entry.schedule.now (length code.old.items) (depth_of visible.old) false
+            (block_tree body.now))) }
         ensures visible { OnOk result (depth_of visible.new ≡ depth_of visible.old) }
     {
         let depth = visible.depth();

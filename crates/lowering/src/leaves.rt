@@ -163,7 +163,8 @@ impl Lowering<'_> {
         e: &IntExpression,
         code: &mut Vec<Instruction>,
     ) -> Result<(), AllocError>
-        ensures { OnOk result (Puts (program_tree self.entry.program.now) code.old.items code.new.items (plain_tree number depth (Do (DeclareInteger name (integer_tree e.now))) ∷ [])) }
+        ensures { OnOk result (Puts (program_tree self.entry.program.now) code.old.items code.new.items
+            (plain_tree number depth (Do (DeclareInteger name (integer_tree e.now))) ∷ [])) }
     {
         code.push(self.first(number, depth, name, e)?)?;
         Ok(())
@@ -177,7 +178,8 @@ impl Lowering<'_> {
         name: usize,
         e: &IntExpression,
     ) -> Result<Instruction, AllocError>
-        ensures { IfOk result (λ i. IsWritten (program_tree self.entry.program.now) i (plain_tree number depth (Do (DeclareInteger name (integer_tree e.now))))) }
+        ensures { IfOk result (λ i. IsWritten (program_tree self.entry.program.now) i
+            (plain_tree number depth (Do (DeclareInteger name (integer_tree e.now))))) }
     {
         let mut words = Vec::new(self.alloc);
         Lines {
@@ -203,7 +205,8 @@ impl Lowering<'_> {
         e: &IntExpression,
         code: &mut Vec<Instruction>,
     ) -> Result<(), AllocError>
-        ensures { OnOk result (Puts (program_tree self.entry.program.now) code.old.items code.new.items (loop_step number keep shown (Enter name (integer_tree e.now)) ∷ [])) }
+        ensures { OnOk result (Puts (program_tree self.entry.program.now) code.old.items code.new.items
+            (loop_step number keep shown (Enter name (integer_tree e.now)) ∷ [])) }
     {
         code.push(self.enter(number, keep, shown, name, e)?)?;
         Ok(())
@@ -258,7 +261,8 @@ impl Lowering<'_> {
         shown: Depth,
         code: &mut Vec<Instruction>,
     ) -> Result<usize, AllocError>
-        ensures { IfOk result (λ place. BeginsLoop (program_tree self.entry.program.now) code.old.items code.new.items place (loop_step number keep shown Turn)) }
+        ensures { IfOk result (λ place. BeginsLoop (program_tree self.entry.program.now) code.old.items code.new.items place
+            (loop_step number keep shown Turn)) }
     {
         let place = self.keep_place(number, shown, code)?;
         code.push(self.turn(number, keep, shown)?)?;
@@ -290,7 +294,8 @@ impl Lowering<'_> {
         test: usize,
         code: &mut Vec<Instruction>,
     ) -> Result<(), AllocError>
-        ensures { OnOk result (Puts (program_tree self.entry.program.now) code.old.items code.new.items (plain_tree number shown (Advance name) ∷ loop_step number keep shown (Jump test) ∷ [])) }
+        ensures { OnOk result (Puts (program_tree self.entry.program.now) code.old.items code.new.items (plain_tree number shown (Advance name)
+            ∷ loop_step number keep shown (Jump test) ∷ [])) }
     {
         code.push(self.advance(number, shown, name)?)?;
         self.put_jump(number, keep, shown, test, code)
@@ -306,7 +311,8 @@ impl Lowering<'_> {
         place: usize,
         code: &mut Vec<Instruction>,
     ) -> Result<(), AllocError>
-        ensures { OnOk result (Fills (program_tree self.entry.program.now) code.old.items code.new.items place (plain_tree number depth (Unless (condition_tree c.now) to))) }
+        ensures { OnOk result (Fills (program_tree self.entry.program.now) code.old.items code.new.items place
+            (plain_tree number depth (Unless (condition_tree c.now) to))) }
     {
         let unless = self.unless(number, depth, c, to)?;
         replace(code, place, unless);
@@ -323,7 +329,8 @@ impl Lowering<'_> {
         place: usize,
         code: &mut Vec<Instruction>,
     ) -> Result<(), AllocError>
-        ensures { OnOk result (Fills (program_tree self.entry.program.now) code.old.items code.new.items place (loop_step number keep shown (UnlessBelow name (length code.old.items)))) }
+        ensures { OnOk result (Fills (program_tree self.entry.program.now) code.old.items code.new.items place
+            (loop_step number keep shown (UnlessBelow name (length code.old.items)))) }
     {
         let below = self.unless_below(number, keep, shown, name, code.len())?;
         replace(code, place, below);
@@ -338,7 +345,8 @@ impl Lowering<'_> {
         place: usize,
         code: &mut Vec<Instruction>,
     ) -> Result<(), AllocError>
-        ensures { OnOk result (Fills (program_tree self.entry.program.now) code.old.items code.new.items place (loop_step number depth depth (Jump (length code.old.items)))) }
+        ensures { OnOk result (Fills (program_tree self.entry.program.now) code.old.items code.new.items place
+            (loop_step number depth depth (Jump (length code.old.items)))) }
     {
         let jump = self.jump(number, depth, depth, code.len())?;
         replace(code, place, jump);
@@ -374,7 +382,9 @@ impl Lowering<'_> {
         depth: Depth,
         code: &mut Vec<Instruction>,
     ) -> Result<(), AllocError>
-        ensures { HasNoBlock (action_tree statement.now.action) → OnOk result (Puts (program_tree self.entry.program.now) code.old.items code.new.items (chosen self.entry.schedule.now statement.now.number statement.now.label depth (Do (action_tree statement.now.action)) ∷ [])) }
+        ensures { HasNoBlock (action_tree statement.now.action)
+            → OnOk result (Puts (program_tree self.entry.program.now) code.old.items code.new.items
+            (chosen self.entry.schedule.now statement.now.number statement.now.label depth (Do (action_tree statement.now.action)) ∷ [])) }
     {
         let choice = self.schedule.choice_at(statement.label);
         let mut words = Vec::new(self.alloc);
@@ -402,7 +412,8 @@ impl Lowering<'_> {
         depth: Depth,
         code: &mut Vec<Instruction>,
     ) -> Result<(), AllocError>
-        ensures { OnOk result (Puts (program_tree self.entry.program.now) code.old.items code.new.items (chosen self.entry.schedule.now statement.now.number statement.now.label depth (together_tree pair) ∷ [])) }
+        ensures { OnOk result (Puts (program_tree self.entry.program.now) code.old.items code.new.items
+            (chosen self.entry.schedule.now statement.now.number statement.now.label depth (together_tree pair) ∷ [])) }
     {
         let choice = self.schedule.choice_at(statement.label);
         let mut words = Vec::new(self.alloc);
@@ -424,7 +435,8 @@ impl Lowering<'_> {
         pair: FusedPair,
         choice: ApplySchedule,
     ) -> Result<(), AllocError>
-        ensures { OnOk result (words.new.items ≡ words.old.items ++ spaced (operation_words (program_tree self.entry.program.now) choice (together_tree pair))) }
+        ensures { OnOk result (words.new.items ≡ words.old.items
+            ++ spaced (operation_words (program_tree self.entry.program.now) choice (together_tree pair))) }
     {
         let lines = Lines {
             program: self.program,

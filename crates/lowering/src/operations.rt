@@ -171,7 +171,8 @@ fn set_operation(action: &StatementKind) -> PlanOperation
 
 /// The edge apply that a statement is.
 fn edge_operation(action: &StatementKind) -> PlanOperation
-    ensures { (keep shown : Depth) (x : EdgeApplyTree) → edge_apply_in (action_tree action.now) ≡ Some x → IsOperation keep shown result (Do (action_tree action.now)) }
+    ensures { (keep shown : Depth) (x : EdgeApplyTree) → edge_apply_in (action_tree action.now) ≡ Some x
+        → IsOperation keep shown result (Do (action_tree action.now)) }
 {
     match edge_apply_of(action) {
         Some(apply) => PlanOperation::ApplyEdges {

@@ -270,7 +270,8 @@ fn otherwise(
     depth: u32,
 ) -> Result<(Action, Cursor<'_>), SyntaxError>
     ensures reads { Gives action_tree result
-        (otherwise_by (block_in depth) at test (block_tree body.items, terminals cursor.entry) (after_terminal (OfKeyword Keyword.Else) (terminals cursor.entry))) }
+        (otherwise_by (block_in depth) at test (block_tree body.items, terminals cursor.entry)
+        (after_terminal (OfKeyword Keyword.Else) (terminals cursor.entry))) }
     ensures shorter { IfOk result (λ x. length (terminals x.1) ≤ length (terminals cursor.entry)) }
 {
     match cursor.after_keyword(Keyword::Else) {

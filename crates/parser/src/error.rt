@@ -1,3 +1,5 @@
+//! The error of the parser: why a text is no source, and where.
+
 ghost use Rattle.std.specs.Prelude.{◌≡◌};
 ghost use Rattle.parser.specs.declared.error.ParseError.TheVariants.{NoMemory};
 ghost use Rattle.parser.specs.Refusal.{number_of, offset_of, of_lexer};

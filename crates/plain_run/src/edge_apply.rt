@@ -78,7 +78,8 @@ fn run_for_edges(
     before: &mut Vec<Sequence<i64>>,
     after: &mut Vec<Sequence<i64>>,
 ) -> Result<(), AllocError>
-    ensures after { OnOk result (after.new.items ≡ after_edges (steps_tree steps.now ∷ []) sets.now before.old.items (filter (flagged passing.now) edges.now) after.old.items) }
+    ensures after { OnOk result (after.new.items ≡ after_edges (steps_tree steps.now ∷ []) sets.now before.old.items
+        (filter (flagged passing.now) edges.now) after.old.items) }
     ensures before { OnOk result (before.new.items ≡ before.old.items) }
 {
     let mut frame = new_frame(alloc);

@@ -197,7 +197,8 @@ fn apply_in(
     state: &mut InterpreterState,
 ) -> Result<(), AllocError>
     ensures meaning { OnOk result (state_of state.new ≡ with_vectors (state_of state.old)
-        (after_edge_apply (program_tree program.now).filters (program_tree program.now).edge_functions (graph_of graph.now) ends (function ∷ []) (state_of state.old))) }
+        (after_edge_apply (program_tree program.now).filters (program_tree program.now).edge_functions (graph_of graph.now) ends (function ∷ [])
+        (state_of state.old))) }
     ensures turns { state.new.turns ≡ state.old.turns }
 {
     let after = apply_edges(

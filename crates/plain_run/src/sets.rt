@@ -112,7 +112,8 @@ fn filter_set(
     filters: &[Function],
     state: &mut InterpreterState,
 ) -> Result<Sequence<u32>, AllocError>
-    ensures members { IfOk result (λ members. members ≡ filtered (map function_tree filters.now) function state.old.sets.items state.old.vectors.items (members_of (slice_get state.old.sets.items place))) }
+    ensures members { IfOk result (λ members. members ≡ filtered (map function_tree filters.now) function state.old.sets.items state.old.vectors.items
+        (members_of (slice_get state.old.sets.items place))) }
     ensures vectors { OnOk result (state_of state.new ≡ state_of state.old) }
     ensures turns { state.new.turns ≡ state.old.turns }
 {
@@ -139,9 +140,11 @@ fn apply_modified(
     state: &mut InterpreterState,
 ) -> Result<Sequence<u32>, AllocError>
     ensures members { IfOk result (λ members. members ≡ modified graph.now.vertices vector state.old.vectors.items
-        (after_edge_apply (program_tree program.now).filters (program_tree program.now).edge_functions (graph_of graph.now) ends (function ∷ []) (state_of state.old))) }
+        (after_edge_apply (program_tree program.now).filters (program_tree program.now).edge_functions (graph_of graph.now) ends (function ∷ [])
+        (state_of state.old))) }
     ensures vectors { OnOk result (state_of state.new ≡ with_vectors (state_of state.old)
-        (after_edge_apply (program_tree program.now).filters (program_tree program.now).edge_functions (graph_of graph.now) ends (function ∷ []) (state_of state.old))) }
+        (after_edge_apply (program_tree program.now).filters (program_tree program.now).edge_functions (graph_of graph.now) ends (function ∷ [])
+        (state_of state.old))) }
     ensures turns { state.new.turns ≡ state.old.turns }
 {
     let after = apply_edges(

@@ -4,7 +4,8 @@ ghost use Rattle.std.specs.Prelude.{◌≡◌, ◌++◌, ◌∷◌, [], OnOk};
 ghost use Rattle.typed_tree.specs.IntegerTree.{integer_tree};
 ghost use Rattle.typed_tree.specs.ConditionTree.{condition_tree};
 ghost use Rattle.typed_tree.specs.ProgramTree.{program_tree};
-ghost use Rattle.plan_text.specs.Expressions.{comparison_word, condition_words, connective_word, entry_word, integer_words, operator_word, size_word, truth_word};
+ghost use Rattle.plan_text.specs.Expressions.{comparison_word, condition_words, connective_word, entry_word};
+ghost use Rattle.plan_text.specs.Expressions.{integer_words, operator_word, size_word, truth_word};
 ghost use Rattle.plan_text.specs.Rows.{connected_words, operand_words};
 ghost use Rattle.plan_text.specs.Words.{spaced};
 

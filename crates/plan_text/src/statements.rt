@@ -5,7 +5,8 @@ ghost use Rattle.typed_tree.specs.ConditionTree.{condition_tree};
 ghost use Rattle.typed_tree.specs.IntegerTree.{integer_tree};
 ghost use Rattle.typed_tree.specs.ProgramTree.{program_tree};
 ghost use Rattle.plan_text.specs.Expressions.{condition_words, integer_words, name_at};
-ghost use Rattle.plan_text.specs.Lines.{advance_words, below_words, bound_words, end_name, put_words, reducing_word, reduction_word, set_line, set_words, statement_words, unless_words, vertices_words};
+ghost use Rattle.plan_text.specs.Lines.{advance_words, below_words, bound_words, end_name, put_words, reducing_word};
+ghost use Rattle.plan_text.specs.Lines.{reduction_word, set_line, set_words, statement_words, unless_words, vertices_words};
 ghost use Rattle.plan_text.specs.Statements.{TakesValues};
 ghost use Rattle.plan_text.specs.Words.{bracketed, spaced};
 ghost use Rattle.apply_options.specs.declared.apply_schedule.ApplySchedule.{ApplySchedule};
@@ -27,7 +28,8 @@ impl Lines<'_> {
         action: &StatementKind,
         choice: ApplySchedule,
     ) -> Result<(), AllocError>
-        ensures { OnOk result (out.new.items ≡ out.old.items ++ spaced (statement_words (program_tree self.entry.program.now) (action_tree action.now) choice)) }
+        ensures { OnOk result (out.new.items ≡ out.old.items
+            ++ spaced (statement_words (program_tree self.entry.program.now) (action_tree action.now) choice)) }
     {
         match action {
             StatementKind::DeclareSet(name, value) => self.put_set(out, *name, *value, choice),
@@ -53,7 +55,8 @@ impl Lines<'_> {
     /// Puts the words of a statement that takes values of expressions, and has no block.
     fn put_values(self, out: &mut Vec<u8>, action: &StatementKind) -> Result<(), AllocError>
         requires { TakesValues action.now }
-        ensures { (choice : ApplySchedule) → OnOk result (out.new.items ≡ out.old.items ++ spaced (statement_words (program_tree self.entry.program.now) (action_tree action.now) choice)) }
+        ensures { (choice : ApplySchedule) → OnOk result (out.new.items ≡ out.old.items
+            ++ spaced (statement_words (program_tree self.entry.program.now) (action_tree action.now) choice)) }
     {
         match action {
             StatementKind::DeclareInteger(name, e) => self.put_set_integer(out, *name, e),
@@ -107,7 +110,8 @@ impl Lines<'_> {
 
     /// `i i.end <`
     fn put_test(self, out: &mut Vec<u8>, name: usize) -> Result<(), AllocError>
-        ensures { OnOk result (out.new.items ≡ out.old.items ++ spaced (name_at (program_tree self.entry.program.now) name ∷ end_name (program_tree self.entry.program.now) name ∷ codes "<" ∷ [])) }
+        ensures { OnOk result (out.new.items ≡ out.old.items
+            ++ spaced (name_at (program_tree self.entry.program.now) name ∷ end_name (program_tree self.entry.program.now) name ∷ codes "<" ∷ [])) }
     {
         put_word(out, self.name(name))?;
         put_marked(out, self.name(name), b".end")?;
@@ -148,7 +152,9 @@ impl Lines<'_> {
         name: usize,
         e: &IntExpression,
     ) -> Result<(), AllocError>
-        ensures { OnOk result (out.new.items ≡ out.old.items ++ spaced (set_words (name_at (program_tree self.entry.program.now) name) (integer_words (program_tree self.entry.program.now) (integer_tree e.now)))) }
+        ensures { OnOk result (out.new.items ≡ out.old.items
+            ++ spaced (set_words (name_at (program_tree self.entry.program.now) name)
+            (integer_words (program_tree self.entry.program.now) (integer_tree e.now)))) }
     {
         self.put_target(out, name)?;
         self.put_bracketed(out, e)
@@ -161,7 +167,9 @@ impl Lines<'_> {
         name: usize,
         c: &BoolExpression,
     ) -> Result<(), AllocError>
-        ensures { OnOk result (out.new.items ≡ out.old.items ++ spaced (set_words (name_at (program_tree self.entry.program.now) name) (condition_words (program_tree self.entry.program.now) (condition_tree c.now)))) }
+        ensures { OnOk result (out.new.items ≡ out.old.items
+            ++ spaced (set_words (name_at (program_tree self.entry.program.now) name)
+            (condition_words (program_tree self.entry.program.now) (condition_tree c.now)))) }
     {
         self.put_target(out, name)?;
         self.put_bracketed_condition(out, c)
@@ -176,7 +184,8 @@ impl Lines<'_> {
         e: &IntExpression,
     ) -> Result<(), AllocError>
         ensures { OnOk result (out.new.items ≡ out.old.items ++ spaced (set_words (name_at (program_tree self.entry.program.now) name)
-            (name_at (program_tree self.entry.program.now) name ∷ integer_words (program_tree self.entry.program.now) (integer_tree e.now) ++ reducing_word reduction ∷ []))) }
+            (name_at (program_tree self.entry.program.now) name ∷ integer_words (program_tree self.entry.program.now) (integer_tree e.now)
+            ++ reducing_word reduction ∷ []))) }
     {
         self.put_target(out, name)?;
         open_bracket(out)?;
@@ -193,7 +202,8 @@ impl Lines<'_> {
         e: &IntExpression,
     ) -> Result<(), AllocError>
         ensures { OnOk result (out.new.items ≡ out.old.items
-            ++ spaced (name_at (program_tree self.entry.program.now) name ∷ integer_words (program_tree self.entry.program.now) (integer_tree e.now) ++ reducing_word reduction ∷ [])) }
+            ++ spaced (name_at (program_tree self.entry.program.now) name ∷ integer_words (program_tree self.entry.program.now) (integer_tree e.now)
+            ++ reducing_word reduction ∷ [])) }
     {
         put_word(out, self.name(name))?;
         put_integer(out, self, e)?;
@@ -209,7 +219,8 @@ impl Lines<'_> {
         word: &[u8],
         e: &IntExpression,
     ) -> Result<(), AllocError>
-        ensures { OnOk result (out.new.items ≡ out.old.items ++ spaced (put_words (program_tree self.entry.program.now) vector (integer_tree index.now) word.now (integer_tree e.now))) }
+        ensures { OnOk result (out.new.items ≡ out.old.items
+            ++ spaced (put_words (program_tree self.entry.program.now) vector (integer_tree index.now) word.now (integer_tree e.now))) }
     {
         put_word(out, b"put")?;
         put_word(out, self.vector(vector))?;
@@ -300,7 +311,8 @@ impl Lines<'_> {
 
     /// `[e]`
     fn put_bracketed(self, out: &mut Vec<u8>, e: &IntExpression) -> Result<(), AllocError>
-        ensures { OnOk result (out.new.items ≡ out.old.items ++ spaced (bracketed (integer_words (program_tree self.entry.program.now) (integer_tree e.now)) ∷ [])) }
+        ensures { OnOk result (out.new.items ≡ out.old.items
+            ++ spaced (bracketed (integer_words (program_tree self.entry.program.now) (integer_tree e.now)) ∷ [])) }
     {
         open_bracket(out)?;
         put_integer(out, self, e)?;
@@ -313,7 +325,8 @@ impl Lines<'_> {
         out: &mut Vec<u8>,
         c: &BoolExpression,
     ) -> Result<(), AllocError>
-        ensures { OnOk result (out.new.items ≡ out.old.items ++ spaced (bracketed (condition_words (program_tree self.entry.program.now) (condition_tree c.now)) ∷ [])) }
+        ensures { OnOk result (out.new.items ≡ out.old.items
+            ++ spaced (bracketed (condition_words (program_tree self.entry.program.now) (condition_tree c.now)) ∷ [])) }
     {
         open_bracket(out)?;
         put_condition(out, self, c)?;

@@ -43,7 +43,8 @@ pub fn fused_applies_fit()
 /// it, pairs of vertex applies, of edge applies and of edge applies with results that the schedule fuses, and two edge
 /// applies that cannot be done together.
 pub fn examples_have_their_plans()
-    ensures search { (p : ProgramTree) (s : ScheduleTree) (frontier : VarRef) (ends : ApplyEnds) (visit parent : ℕ) → HasPlanOfSearch p s frontier ends visit parent }
+    ensures search { (p : ProgramTree) (s : ScheduleTree) (frontier : VarRef) (ends : ApplyEnds) (visit parent : ℕ)
+        → HasPlanOfSearch p s frontier ends visit parent }
     ensures loop_with_choice { (p : ProgramTree) (s : ScheduleTree) (i : ℕ) (first end : IntegerTree) (c : ConditionTree) (e f : IntegerTree)
         → HasPlanOfLoop p s i first end c e f }
     ensures vertex_pair { (p : ProgramTree) (name : ℕ) → HasPlanOfVertexPair p name }

@@ -62,8 +62,10 @@ fn pull_members(
     scratch: &mut Scratch,
 ) -> Result<Changes, AllocError>
     ensures once { IfOk result (λ c. AreApart c.vectors.items) }
-    ensures changes { IfOk result (λ c. (m : StateValue) (steps : List StepsTree) (from test : ℕ → Bool) → IsContextOf context.entry m steps → context.entry.vertices ≡ flat.now.vertices → context.entry.start ≡ OldEntry
-        → ((v : ℕ) → from v ≡ is_member v set.now.members) → IsEndTest to.entry m test → AreChangesOn flat.now.vertices (edges_between from test flat.now.edges) m steps c.vectors.items) }
+    ensures changes { IfOk result (λ c. (m : StateValue) (steps : List StepsTree) (from test : ℕ → Bool) → IsContextOf context.entry m steps
+        → context.entry.vertices ≡ flat.now.vertices → context.entry.start ≡ OldEntry
+        → ((v : ℕ) → from v ≡ is_member v set.now.members) → IsEndTest to.entry m test
+        → AreChangesOn flat.now.vertices (edges_between from test flat.now.edges) m steps c.vectors.items) }
 {
     if let Some(words) = set.words() {
         return pull_from(alloc, flat, context, Some(words), to, scratch);
@@ -85,7 +87,8 @@ fn pull_from(
     scratch: &mut Scratch,
 ) -> Result<Changes, AllocError>
     ensures once { IfOk result (λ c. AreApart c.vectors.items) }
-    ensures changes { IfOk result (λ c. (m : StateValue) (steps : List StepsTree) (test : ℕ → Bool) → IsContextOf context.entry m steps → context.entry.vertices ≡ flat.now.vertices → context.entry.start ≡ OldEntry → IsEndTest to.entry m test
+    ensures changes { IfOk result (λ c. (m : StateValue) (steps : List StepsTree) (test : ℕ → Bool) → IsContextOf context.entry m steps
+        → context.entry.vertices ≡ flat.now.vertices → context.entry.start ≡ OldEntry → IsEndTest to.entry m test
         → AreChangesOn flat.now.vertices (edges_between (passes_words from.entry) test flat.now.edges) m steps c.vectors.items) }
 {
     let shape = apply_shape(context.first, context.second);
@@ -114,7 +117,8 @@ fn pull_folded(
     scratch: &mut Scratch,
 ) -> Result<Changes, AllocError>
     ensures once { IfOk result (λ c. AreApart c.vectors.items) }
-    ensures changes { IfOk result (λ c. (m : StateValue) (steps : List StepsTree) (test : ℕ → Bool) → IsContextOf context.entry m steps → context.entry.vertices ≡ flat.now.vertices → context.entry.start ≡ OldEntry → IsEndTest to.entry m test
+    ensures changes { IfOk result (λ c. (m : StateValue) (steps : List StepsTree) (test : ℕ → Bool) → IsContextOf context.entry m steps
+        → context.entry.vertices ≡ flat.now.vertices → context.entry.start ≡ OldEntry → IsEndTest to.entry m test
         → AreChangesOn flat.now.vertices (edges_between (passes_words from.entry) test flat.now.edges) m steps c.vectors.items) }
 {
     scratch.begin();

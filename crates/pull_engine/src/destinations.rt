@@ -39,7 +39,8 @@ pub(crate) fn fold_to(
     scratch: &mut Scratch,
 ) -> Result<(), AllocError>
     ensures { OnOk result ((m : StateValue) (steps : List StepsTree) (test : ℕ → Bool) → IsContextOf input.entry.context m steps → IsEndTest to.entry m test
-        → HasFolded input.entry.context m steps [] scratch.old → HasFolded input.entry.context m steps (edges_between (passes_words input.entry.from) test input.entry.flat.now.edges) scratch.new) }
+        → HasFolded input.entry.context m steps [] scratch.old
+        → HasFolded input.entry.context m steps (edges_between (passes_words input.entry.from) test input.entry.flat.now.edges) scratch.new) }
 {
     let mut block = [0u32; 128];
     let mut weights = [0i64; 128];
@@ -70,7 +71,8 @@ fn fold_all(
     requires block { length block.old ≡ 128 }
     requires weights { length weights.old ≡ 128 }
     ensures { OnOk result ((m : StateValue) (steps : List StepsTree) (to : ℕ → Bool) → IsContextOf input.entry.context m steps → ((v : ℕ) → to v ≡ true)
-        → HasFolded input.entry.context m steps [] scratch.old → HasFolded input.entry.context m steps (edges_between (passes_words input.entry.from) to input.entry.flat.now.edges) scratch.new) }
+        → HasFolded input.entry.context m steps [] scratch.old
+        → HasFolded input.entry.context m steps (edges_between (passes_words input.entry.from) to input.entry.flat.now.edges) scratch.new) }
 {
     'destinations: for (destination, _) in input.flat.destinations() {
         fold_column(alloc, input, destination, block, weights, scratch)?;
@@ -89,8 +91,10 @@ fn fold_members(
 ) -> Result<(), AllocError>
     requires block { length block.old ≡ 128 }
     requires weights { length weights.old ≡ 128 }
-    ensures { OnOk result ((m : StateValue) (steps : List StepsTree) (to : ℕ → Bool) → IsContextOf input.entry.context m steps → ((v : ℕ) → to v ≡ is_member v set.now.members)
-        → HasFolded input.entry.context m steps [] scratch.old → HasFolded input.entry.context m steps (edges_between (passes_words input.entry.from) to input.entry.flat.now.edges) scratch.new) }
+    ensures { OnOk result ((m : StateValue) (steps : List StepsTree) (to : ℕ → Bool) → IsContextOf input.entry.context m steps
+        → ((v : ℕ) → to v ≡ is_member v set.now.members)
+        → HasFolded input.entry.context m steps [] scratch.old
+        → HasFolded input.entry.context m steps (edges_between (passes_words input.entry.from) to input.entry.flat.now.edges) scratch.new) }
 {
     'destinations: for destination in set.iter() {
         fold_column(alloc, input, destination, block, weights, scratch)?;
@@ -110,7 +114,8 @@ fn fold_passing(
     requires block { length block.old ≡ 128 }
     requires weights { length weights.old ≡ 128 }
     ensures { OnOk result ((m : StateValue) (steps : List StepsTree) (test : ℕ → Bool) → IsContextOf input.entry.context m steps → IsTest to.entry m test
-        → HasFolded input.entry.context m steps [] scratch.old → HasFolded input.entry.context m steps (edges_between (passes_words input.entry.from) test input.entry.flat.now.edges) scratch.new) }
+        → HasFolded input.entry.context m steps [] scratch.old
+        → HasFolded input.entry.context m steps (edges_between (passes_words input.entry.from) test input.entry.flat.now.edges) scratch.new) }
 {
     let mut destinations = input.flat.destinations();
     let mut part = Vec::new(alloc);
@@ -135,7 +140,8 @@ pub(crate) fn fold_part(
     scratch: &mut Scratch,
 ) -> Result<(), AllocError>
     ensures { OnOk result ((m : StateValue) (steps : List StepsTree) (test : ℕ → Bool) → IsContextOf input.entry.context m steps → IsEndTest to.entry m test
-        → HasFolded input.entry.context m steps [] scratch.old → HasFolded input.entry.context m steps (columns (passes_words input.entry.from) input.entry.flat.now.edges (filter test part.now)) scratch.new) }
+        → HasFolded input.entry.context m steps [] scratch.old
+        → HasFolded input.entry.context m steps (columns (passes_words input.entry.from) input.entry.flat.now.edges (filter test part.now)) scratch.new) }
 {
     let mut block = [0u32; 128];
     let mut weights = [0i64; 128];
@@ -165,7 +171,8 @@ fn fold_columns(
     requires block { length block.old ≡ 128 }
     requires weights { length weights.old ≡ 128 }
     ensures { OnOk result ((m : StateValue) (steps : List StepsTree) (edges : List Edge) → IsContextOf input.entry.context m steps
-        → HasFolded input.entry.context m steps edges scratch.old → HasFolded input.entry.context m steps (edges ++ columns (passes_words input.entry.from) input.entry.flat.now.edges destinations.now) scratch.new) }
+        → HasFolded input.entry.context m steps edges scratch.old
+        → HasFolded input.entry.context m steps (edges ++ columns (passes_words input.entry.from) input.entry.flat.now.edges destinations.now) scratch.new) }
 {
     'destinations: for destination in destinations {
         fold_column(alloc, input, *destination, block, weights, scratch)?;
@@ -186,7 +193,9 @@ fn fold_column(
     requires block { length block.old ≡ 128 }
     requires weights { length weights.old ≡ 128 }
     ensures { OnOk result ((m : StateValue) (steps : List StepsTree) (edges : List Edge) → IsContextOf input.entry.context m steps
-        → HasFolded input.entry.context m steps edges scratch.old → HasFolded input.entry.context m steps (edges ++ column destination (passing (passes_words input.entry.from) (sources_of destination input.entry.flat.now.edges))) scratch.new) }
+        → HasFolded input.entry.context m steps edges scratch.old
+        → HasFolded input.entry.context m steps (edges ++ column destination
+        (passing (passes_words input.entry.from) (sources_of destination input.entry.flat.now.edges))) scratch.new) }
 {
     let sources = input.flat.in_set(destination).into_form();
     if input.context.weighted {
@@ -208,7 +217,8 @@ fn fold_sources(
     requires unweighted { input.context.weighted ≡ false }
     requires block { length block.old ≡ 128 }
     ensures { OnOk result ((m : StateValue) (steps : List StepsTree) (edges : List Edge) → IsContextOf input.entry.context m steps
-        → HasFolded input.entry.context m steps edges scratch.old → HasFolded input.entry.context m steps (edges ++ column destination (passing (passes_words input.entry.from) (listed sources.entry))) scratch.new) }
+        → HasFolded input.entry.context m steps edges scratch.old
+        → HasFolded input.entry.context m steps (edges ++ column destination (passing (passes_words input.entry.from) (listed sources.entry))) scratch.new) }
 {
     match sources {
         NeighbourForm::Packed(list) => {
@@ -233,7 +243,8 @@ fn fold_walk<W: NeighbourWalk + Drop>(
     requires unweighted { input.context.weighted ≡ false }
     requires block { length block.old ≡ 128 }
     ensures { OnOk result ((m : StateValue) (steps : List StepsTree) (edges : List Edge) → IsContextOf input.entry.context m steps
-        → HasFolded input.entry.context m steps edges scratch.old → HasFolded input.entry.context m steps (edges ++ column destination (passing (passes_words input.entry.from) (W.coming walk))) scratch.new) }
+        → HasFolded input.entry.context m steps edges scratch.old
+        → HasFolded input.entry.context m steps (edges ++ column destination (passing (passes_words input.entry.from) (W.coming walk))) scratch.new) }
 {
     'rounds: while walk.len() > 0 {
         let count = walk.fill(block);
@@ -257,7 +268,8 @@ fn fold_weighted_sources(
     requires block { length block.old ≡ 128 }
     requires weights { length weights.old ≡ 128 }
     ensures { OnOk result ((m : StateValue) (steps : List StepsTree) (edges : List Edge) → IsContextOf input.entry.context m steps
-        → HasFolded input.entry.context m steps edges scratch.old → HasFolded input.entry.context m steps (edges ++ column destination (passing (passes_words input.entry.from) (listed sources.entry))) scratch.new) }
+        → HasFolded input.entry.context m steps edges scratch.old
+        → HasFolded input.entry.context m steps (edges ++ column destination (passing (passes_words input.entry.from) (listed sources.entry))) scratch.new) }
 {
     match sources {
         NeighbourForm::Packed(list) => {
@@ -286,7 +298,8 @@ fn fold_weighted_walk<W: NeighbourWalk + Drop>(
     requires block { length block.old ≡ 128 }
     requires weights { length weights.old ≡ 128 }
     ensures { OnOk result ((m : StateValue) (steps : List StepsTree) (edges : List Edge) → IsContextOf input.entry.context m steps
-        → HasFolded input.entry.context m steps edges scratch.old → HasFolded input.entry.context m steps (edges ++ column destination (passing (passes_words input.entry.from) (W.coming walk))) scratch.new) }
+        → HasFolded input.entry.context m steps edges scratch.old
+        → HasFolded input.entry.context m steps (edges ++ column destination (passing (passes_words input.entry.from) (W.coming walk))) scratch.new) }
 {
     'rounds: while walk.len() > 0 {
         let count = walk.fill_weighted(block, weights);

@@ -29,7 +29,8 @@ pub(crate) fn cut_vertices(
     vertices: &[u32],
 ) -> Result<Partition, AllocError>
     requires { AreWorkers workers }
-    ensures ends { IfOk result (λ c. c ≡ boundaries parallelization workers (length vertices.now) (map (λ v. length (sources_of v flat.now.edges)) vertices.now)) }
+    ensures ends { IfOk result (λ c. c ≡ boundaries parallelization workers (length vertices.now)
+        (map (λ v. length (sources_of v flat.now.edges)) vertices.now)) }
     ensures whole { IfOk result (λ c. AreEnds 0 (length vertices.now) c) }
 {
     let count = vertices.len();
@@ -76,7 +77,8 @@ pub(crate) fn source_bits(
     scratch: &mut Scratch,
 ) -> Result<Option<VertexSet>, AllocError>
     ensures form { IfOk result (λ b. IfSome b (λ s. s.form ≡ Form.Bits)) }
-    ensures passing { IfOk result (λ b. (m : StateValue) (test : ℕ → Bool) → context.entry.vectors.now.vectors ≡ m.vectors → HasSizes context.entry.sizes.now m → IsEndTest from.entry m test
+    ensures passing { IfOk result (λ b. (m : StateValue) (test : ℕ → Bool) → context.entry.vectors.now.vectors ≡ m.vectors
+        → HasSizes context.entry.sizes.now m → IsEndTest from.entry m test
         → (v : ℕ) → v < context.entry.vertices → passes_set b v ≡ test v) }
 {
     match from {

@@ -41,7 +41,8 @@ impl PullWork<'_> {
         scratch: &mut Scratch,
     ) -> Result<Changes, AllocError>
         ensures once { IfOk result (λ c. AreApart c.vectors.items) }
-        ensures changes { IfOk result (λ c. AreAnswers (Answers self.now) found.now → IsPermutation (pieces_of found.now) (range_with_len 1 (length self.now.cuts))
+        ensures changes { IfOk result (λ c. AreAnswers (Answers self.now) found.now
+            → IsPermutation (pieces_of found.now) (range_with_len 1 (length self.now.cuts))
             → AreChangesOf self.now.apply c.vectors.items) }
     {
         match shape_target(self.shape) {
@@ -61,7 +62,8 @@ impl PullWork<'_> {
         scratch: &mut Scratch,
     ) -> Result<Changes, AllocError>
         ensures once { IfOk result (λ c. AreApart c.vectors.items) }
-        ensures changes { IfOk result (λ c. AreAnswers (GathersPiece self.now) found.now → IsPermutation (pieces_of found.now) (range_with_len 1 (length self.now.cuts))
+        ensures changes { IfOk result (λ c. AreAnswers (GathersPiece self.now) found.now
+            → IsPermutation (pieces_of found.now) (range_with_len 1 (length self.now.cuts))
             → AreChangesOf self.now.apply c.vectors.items) }
     {
         let context = self.apply.context(FoldStart::OldEntry);
@@ -203,7 +205,8 @@ fn append_listed(vectors: &[GatheredIn], changes: &mut Vec<EntryChange>) -> Resu
 /// What was found of a piece. It takes constant time where the pieces come in their order.
 fn find_piece(found: &[Found<Gathered>], piece: usize) -> Option<&Gathered>
     requires { 0 < piece }
-    ensures some { IfSome result (λ g. (parts : ℕ → List Change) → AreAnswers (λ k g. all_listed g.vectors.items ≡ parts k) found.now → all_listed g.now.vectors.items ≡ parts piece) }
+    ensures some { IfSome result (λ g. (parts : ℕ → List Change) → AreAnswers (λ k g. all_listed g.vectors.items ≡ parts k) found.now
+        → all_listed g.now.vectors.items ≡ parts piece) }
     ensures none { IfNone result (¬ Contains (pieces_of found.now) piece) }
 {
     if piece <= found.len() && found[piece - 1].piece == piece {

@@ -168,7 +168,8 @@ fn keep_destinations(
     kept: &mut Vec<u32>,
     scratch: &mut Scratch,
 ) -> Result<(), AllocError>
-    ensures { OnOk result ((m : StateValue) (test : ℕ → Bool) → range.entry.context.vectors.now.vectors ≡ m.vectors → HasSizes range.entry.context.sizes.now m → IsEndTest range.entry.to m test
+    ensures { OnOk result ((m : StateValue) (test : ℕ → Bool) → range.entry.context.vectors.now.vectors ≡ m.vectors
+        → HasSizes range.entry.context.sizes.now m → IsEndTest range.entry.to m test
         → kept.new.items ≡ filter test part.now) }
 {
     kept.clear();
@@ -194,7 +195,8 @@ fn pull_listed<F: SourceFold>(
     changes: &mut Vec<EntryChange>,
 ) -> Result<(), AllocError>
     ensures { OnOk result (changes.new.items ≡ changes.old.items
-        ++ changes_at (lane_entry old.entry) (pulled (F.reduction fold.now) (F.number fold.now) (lane_entry old.entry) (passes_words from.entry) flat.now.edges) destinations.now) }
+        ++ changes_at (lane_entry old.entry) (pulled (F.reduction fold.now) (F.number fold.now) (lane_entry old.entry) (passes_words from.entry)
+        flat.now.edges) destinations.now) }
 {
     let mut block = [0u32; 128];
     let mut weights = [0i64; 128];
@@ -230,7 +232,8 @@ fn pull_one<F: SourceFold>(
     ensures room { length block.new ≡ 128 }
     ensures weights { length weights.new ≡ 128 }
     ensures change { OnOk result (changes.new.items ≡ changes.old.items
-        ++ change_at (lane_entry old.entry) (pulled (F.reduction fold.now) (F.number fold.now) (lane_entry old.entry) (passes_words from.entry) flat.now.edges) destination) }
+        ++ change_at (lane_entry old.entry) (pulled (F.reduction fold.now) (F.number fold.now) (lane_entry old.entry) (passes_words from.entry)
+        flat.now.edges) destination) }
 {
     let before = old.get(destination as usize);
     let number = fold.fold(before, flat.in_set(destination), from, block, weights);

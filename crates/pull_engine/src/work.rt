@@ -69,7 +69,8 @@ impl<'a> PullWork<'a> {
         ensures refused { result ≡ Err BadWorkers → ¬ AreWorkers workers }
         ensures memory { result ≡ Err NoMemory → AreWorkers workers }
         ensures apply { IfOk result (λ w. w.apply ≡ apply.now) }
-        ensures cuts { IfOk result (λ w. w.cuts ≡ boundaries apply.now.parallelization workers apply.now.flat.now.vertices (map (λ v. length (sources_of v apply.now.flat.now.edges)) (range_with_len 0 apply.now.flat.now.vertices))) }
+        ensures cuts { IfOk result (λ w. w.cuts ≡ boundaries apply.now.parallelization workers apply.now.flat.now.vertices
+            (map (λ v. length (sources_of v apply.now.flat.now.edges)) (range_with_len 0 apply.now.flat.now.vertices))) }
     {
         if !is_crew(workers) {
             return Err(CrewError::BadWorkers);

@@ -92,7 +92,9 @@ fn push_tested(
     scratch: &mut Scratch,
 ) -> Result<Changes, AllocError>
     ensures once { IfOk result (λ c. AreApart c.vectors.items) }
-    ensures changes { IfOk result (λ c. (m : StateValue) (steps : List StepsTree) (from test : ℕ → Bool) → IsApplyOf apply.now m steps → IsEndTest apply.now.from m from → IsTest to.entry m test → AreChangesOn apply.now.flat.now.vertices (edges_between from test apply.now.flat.now.edges) m steps c.vectors.items) }
+    ensures changes { IfOk result (λ c. (m : StateValue) (steps : List StepsTree) (from test : ℕ → Bool) → IsApplyOf apply.now m steps
+        → IsEndTest apply.now.from m from → IsTest to.entry m test
+        → AreChangesOn apply.now.flat.now.vertices (edges_between from test apply.now.flat.now.edges) m steps c.vectors.items) }
 {
     match to {
         EndpointFilter::Members(set) => push_to_members(alloc, apply, set, scratch),
@@ -112,7 +114,9 @@ fn push_to_members(
     scratch: &mut Scratch,
 ) -> Result<Changes, AllocError>
     ensures once { IfOk result (λ c. AreApart c.vectors.items) }
-    ensures changes { IfOk result (λ c. (m : StateValue) (steps : List StepsTree) (from to : ℕ → Bool) → IsApplyOf apply.now m steps → IsEndTest apply.now.from m from → ((v : ℕ) → to v ≡ is_member v set.now.members) → AreChangesOn apply.now.flat.now.vertices (edges_between from to apply.now.flat.now.edges) m steps c.vectors.items) }
+    ensures changes { IfOk result (λ c. (m : StateValue) (steps : List StepsTree) (from to : ℕ → Bool) → IsApplyOf apply.now m steps
+        → IsEndTest apply.now.from m from → ((v : ℕ) → to v ≡ is_member v set.now.members)
+        → AreChangesOn apply.now.flat.now.vertices (edges_between from to apply.now.flat.now.edges) m steps c.vectors.items) }
 {
     if let Some(words) = set.words() {
         return push_to(alloc, apply, Some(words), None, scratch);
@@ -134,8 +138,10 @@ fn push_to(
     scratch: &mut Scratch,
 ) -> Result<Changes, AllocError>
     ensures once { IfOk result (λ c. AreApart c.vectors.items) }
-    ensures changes { IfOk result (λ c. (m : StateValue) (steps : List StepsTree) (from test : ℕ → Bool) → IsApplyOf apply.now m steps → IsEndTest apply.now.from m from → IsEndTest to.entry m test
-        → AreChangesOn apply.now.flat.now.vertices (edges_between from (λ v. passes_words words.entry v && test v) apply.now.flat.now.edges) m steps c.vectors.items) }
+    ensures changes { IfOk result (λ c. (m : StateValue) (steps : List StepsTree) (from test : ℕ → Bool) → IsApplyOf apply.now m steps
+        → IsEndTest apply.now.from m from → IsEndTest to.entry m test
+        → AreChangesOn apply.now.flat.now.vertices (edges_between from (λ v. passes_words words.entry v && test v) apply.now.flat.now.edges) m steps
+        c.vectors.items) }
 {
     let context = apply.context(FoldStart::OldEntry);
     begin(alloc, apply, context, scratch)?;
@@ -170,7 +176,8 @@ fn fold_from(
     scratch: &mut Scratch,
 ) -> Result<(), AllocError>
     ensures { OnOk result ((m : StateValue) (steps : List StepsTree) (from : ℕ → Bool) → IsContextOf context.entry m steps → IsEndTest apply.now.from m from
-        → HasFolded context.entry m steps [] scratch.old → HasFolded context.entry m steps (edges_between from (passes_words to.entry) apply.now.flat.now.edges) scratch.new) }
+        → HasFolded context.entry m steps [] scratch.old → HasFolded context.entry m steps
+        (edges_between from (passes_words to.entry) apply.now.flat.now.edges) scratch.new) }
 {
     let mut block = NeighbourBlock::new();
     match apply.from {
@@ -196,7 +203,8 @@ fn fold_from_end(
     scratch: &mut Scratch,
 ) -> Result<(), AllocError>
     ensures { OnOk result ((m : StateValue) (steps : List StepsTree) (test : ℕ → Bool) → IsContextOf context.entry m steps → IsTest from.entry m test
-        → HasFolded context.entry m steps [] scratch.old → HasFolded context.entry m steps (edges_between test (passes_words to.entry) apply.now.flat.now.edges) scratch.new) }
+        → HasFolded context.entry m steps [] scratch.old → HasFolded context.entry m steps
+        (edges_between test (passes_words to.entry) apply.now.flat.now.edges) scratch.new) }
 {
     if let EndpointFilter::Members(set) = from {
         if apply.direction != Direction::DensePush {

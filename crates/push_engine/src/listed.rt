@@ -40,9 +40,11 @@ pub(crate) fn list_sources(
     apply: &Apply<'_>,
     scratch: &mut Scratch,
 ) -> Result<Listed, AllocError>
-    ensures sources { IfOk result (λ l. (m : StateValue) (from : ℕ → Bool) → apply.now.vectors.now.vectors ≡ m.vectors → HasSizes apply.now.sizes.now m → IsEndTest apply.now.from m from
+    ensures sources { IfOk result (λ l. (m : StateValue) (from : ℕ → Bool) → apply.now.vectors.now.vectors ≡ m.vectors
+        → HasSizes apply.now.sizes.now m → IsEndTest apply.now.from m from
         → AreSources apply.now.flat.now.edges from l.tested l.sources.items) }
-    ensures list { IfOk result (λ l. (m : StateValue) (from : ℕ → Bool) → apply.now.vectors.now.vectors ≡ m.vectors → HasSizes apply.now.sizes.now m → IsEndTest apply.now.from m from
+    ensures list { IfOk result (λ l. (m : StateValue) (from : ℕ → Bool) → apply.now.vectors.now.vectors ≡ m.vectors → HasSizes apply.now.sizes.now m
+        → IsEndTest apply.now.from m from
         → IsEndOf apply.now.flat.now.vertices apply.now.from → l.sources.items ≡ cut_list apply.now.direction apply.now.flat.now.vertices from) }
 {
     match apply.from {
@@ -67,9 +69,11 @@ fn list_from(
     from: EndpointFilter<'_>,
     scratch: &mut Scratch,
 ) -> Result<Listed, AllocError>
-    ensures sources { IfOk result (λ l. (m : StateValue) (test : ℕ → Bool) → apply.now.vectors.now.vectors ≡ m.vectors → HasSizes apply.now.sizes.now m → IsTest from.entry m test
+    ensures sources { IfOk result (λ l. (m : StateValue) (test : ℕ → Bool) → apply.now.vectors.now.vectors ≡ m.vectors
+        → HasSizes apply.now.sizes.now m → IsTest from.entry m test
         → AreSources apply.now.flat.now.edges test l.tested l.sources.items) }
-    ensures list { IfOk result (λ l. (m : StateValue) (test : ℕ → Bool) → apply.now.vectors.now.vectors ≡ m.vectors → HasSizes apply.now.sizes.now m → IsTest from.entry m test
+    ensures list { IfOk result (λ l. (m : StateValue) (test : ℕ → Bool) → apply.now.vectors.now.vectors ≡ m.vectors → HasSizes apply.now.sizes.now m
+        → IsTest from.entry m test
         → IsEndOf apply.now.flat.now.vertices (Some from.entry) → l.sources.items ≡ cut_list apply.now.direction apply.now.flat.now.vertices test) }
 {
     if apply.direction == Direction::DensePush {
@@ -93,9 +97,11 @@ fn passing_sources(
     from: EndpointFilter<'_>,
     scratch: &mut Scratch,
 ) -> Result<Vec<u32>, AllocError>
-    ensures sources { IfOk result (λ us. (m : StateValue) (test : ℕ → Bool) → apply.now.vectors.now.vectors ≡ m.vectors → HasSizes apply.now.sizes.now m → IsTest from.entry m test
+    ensures sources { IfOk result (λ us. (m : StateValue) (test : ℕ → Bool) → apply.now.vectors.now.vectors ≡ m.vectors
+        → HasSizes apply.now.sizes.now m → IsTest from.entry m test
         → AreSources apply.now.flat.now.edges test false us.items) }
-    ensures list { IfOk result (λ us. (m : StateValue) (test : ℕ → Bool) → apply.now.vectors.now.vectors ≡ m.vectors → HasSizes apply.now.sizes.now m → IsTest from.entry m test
+    ensures list { IfOk result (λ us. (m : StateValue) (test : ℕ → Bool) → apply.now.vectors.now.vectors ≡ m.vectors → HasSizes apply.now.sizes.now m
+        → IsTest from.entry m test
         → IsEndOf apply.now.flat.now.vertices (Some from.entry) → us.items ≡ filter test (range_with_len 0 apply.now.flat.now.vertices)) }
 {
     match from {
@@ -134,7 +140,8 @@ pub(crate) fn cut_sources(
     sources: &[u32],
 ) -> Result<Partition, AllocError>
     requires { AreWorkers workers }
-    ensures ends { IfOk result (λ c. c ≡ boundaries apply.now.parallelization workers (length sources.now) (map (λ u. length (destinations_of u apply.now.flat.now.edges)) sources.now)) }
+    ensures ends { IfOk result (λ c. c ≡ boundaries apply.now.parallelization workers (length sources.now)
+        (map (λ u. length (destinations_of u apply.now.flat.now.edges)) sources.now)) }
     ensures whole { IfOk result (λ c. AreEnds 0 (length sources.now) c) }
 {
     let count = sources.len();
@@ -148,7 +155,8 @@ pub(crate) fn cut_sources(
 
 /// How many edges there are from each source, where a schedule asks for it, and else none.
 fn degrees_for(alloc: Global, apply: &Apply<'_>, sources: &[u32]) -> Result<Vec<u32>, AllocError>
-    ensures { IfOk result (λ ds. apply.now.parallelization ≡ EdgeAwareDynamicVertex → ds.items ≡ map (λ u. length (destinations_of u apply.now.flat.now.edges)) sources.now) }
+    ensures { IfOk result (λ ds. apply.now.parallelization ≡ EdgeAwareDynamicVertex
+        → ds.items ≡ map (λ u. length (destinations_of u apply.now.flat.now.edges)) sources.now) }
 {
     if apply.parallelization == Parallelization::EdgeAwareDynamicVertex {
         let degrees = degrees_of(alloc, apply.flat, sources)?;
@@ -176,7 +184,8 @@ pub(crate) fn destination_bits(
     scratch: &mut Scratch,
 ) -> Result<Option<VertexSet>, AllocError>
     ensures form { IfOk result (λ b. IfSome b (λ s. s.form ≡ Form.Bits)) }
-    ensures passing { IfOk result (λ b. IfSome b (λ s. (m : StateValue) (to : ℕ → Bool) → apply.now.vectors.now.vectors ≡ m.vectors → HasSizes apply.now.sizes.now m → IsEndTest apply.now.to m to
+    ensures passing { IfOk result (λ b. IfSome b (λ s. (m : StateValue) (to : ℕ → Bool) → apply.now.vectors.now.vectors ≡ m.vectors
+        → HasSizes apply.now.sizes.now m → IsEndTest apply.now.to m to
         → (v : ℕ) → v < apply.now.flat.now.vertices → is_member v s.members ≡ to v)) }
 {
     let Some(end) = apply.to else {
@@ -196,7 +205,8 @@ fn bits_of_end(
     scratch: &mut Scratch,
 ) -> Result<Option<VertexSet>, AllocError>
     ensures form { IfOk result (λ b. IfSome b (λ s. s.form ≡ Form.Bits)) }
-    ensures passing { IfOk result (λ b. IfSome b (λ s. (m : StateValue) (test : ℕ → Bool) → apply.now.vectors.now.vectors ≡ m.vectors → HasSizes apply.now.sizes.now m → IsTest to.entry m test
+    ensures passing { IfOk result (λ b. IfSome b (λ s. (m : StateValue) (test : ℕ → Bool) → apply.now.vectors.now.vectors ≡ m.vectors
+        → HasSizes apply.now.sizes.now m → IsTest to.entry m test
         → (v : ℕ) → v < apply.now.flat.now.vertices → is_member v s.members ≡ test v)) }
 {
     match to {

@@ -51,7 +51,8 @@ impl PushWork<'_> {
         scratch: &mut Scratch,
     ) -> Result<Changes, AllocError>
         ensures once { IfOk result (λ c. AreApart c.vectors.items) }
-        ensures changes { IfOk result (λ c. AreAnswers (Answers self.now) found.now → IsPermutation (pieces_of found.now) (range_with_len 1 (length self.now.cuts))
+        ensures changes { IfOk result (λ c. AreAnswers (Answers self.now) found.now
+            → IsPermutation (pieces_of found.now) (range_with_len 1 (length self.now.cuts))
             → AreChangesOf self.now.apply c.vectors.items) }
     {
         let context = self.apply.context(FoldStart::OldEntry);
@@ -74,7 +75,8 @@ impl PushWork<'_> {
     ) -> Result<Changes, AllocError>
         requires { AreWorkers workers }
         ensures once { IfOk result (λ c. AreApart c.vectors.items) }
-        ensures changes { IfOk result (λ c. AreAnswers (Answers self.now) found.now → IsPermutation (pieces_of found.now) (range_with_len 1 (length self.now.cuts))
+        ensures changes { IfOk result (λ c. AreAnswers (Answers self.now) found.now
+            → IsPermutation (pieces_of found.now) (range_with_len 1 (length self.now.cuts))
             → AreChangesOf self.now.apply c.vectors.items) }
     {
         if workers > 1 && is_worth_workers(found) {
@@ -85,7 +87,8 @@ impl PushWork<'_> {
 
     /// The words by whose bits destinations are tested as edges come, where they are.
     fn destination_words(&self) -> Option<&[u64]>
-        ensures { IfSome result (λ words. (m : StateValue) (to : ℕ → Bool) → self.now.apply.vectors.now.vectors ≡ m.vectors → HasSizes self.now.apply.sizes.now m → IsEndTest self.now.apply.to m to
+        ensures { IfSome result (λ words. (m : StateValue) (to : ℕ → Bool) → self.now.apply.vectors.now.vectors ≡ m.vectors
+            → HasSizes self.now.apply.sizes.now m → IsEndTest self.now.apply.to m to
             → (v : ℕ) → v < self.now.apply.flat.now.vertices → is_set words.now v ≡ to v) }
     {
         match &self.bits {
@@ -107,9 +110,12 @@ impl PushWork<'_> {
         requires some { 0 < piece }
         requires inside { piece ≤ length self.now.cuts }
         ensures ascending { IfOk result (λ g. AreAscending g.vectors.items) }
-        ensures given { IfOk result (λ g. (m : StateValue) (steps : List StepsTree) (from test : ℕ → Bool) → self.now.apply.vectors.now.vectors ≡ m.vectors → HasSizes self.now.apply.sizes.now m
+        ensures given { IfOk result (λ g. (m : StateValue) (steps : List StepsTree) (from test : ℕ → Bool)
+            → self.now.apply.vectors.now.vectors ≡ m.vectors → HasSizes self.now.apply.sizes.now m
             → AreKernels self.now.apply.first.now self.now.apply.second steps → IsEndTest self.now.apply.from m from → IsEndTest to.entry m test
-            → AreGathered self.now.apply.flat.now.vertices m steps (filter (λ e. test e.1) (rows_to (passes_words words.entry) self.now.apply.flat.now.edges (passing_in self.now.tested from (piece_of self.now.cuts self.now.sources.items piece)))) g) }
+            → AreGathered self.now.apply.flat.now.vertices m steps
+            (filter (λ e. test e.1) (rows_to (passes_words words.entry) self.now.apply.flat.now.edges
+            (passing_in self.now.tested from (piece_of self.now.cuts self.now.sources.items piece)))) g) }
     {
         let context = self.apply.context(FoldStart::Unit);
         let places = self.cuts.piece(piece);
@@ -129,8 +135,11 @@ impl PushWork<'_> {
         to: Option<&[u64]>,
         scratch: &mut Scratch,
     ) -> Result<(), AllocError>
-        ensures { OnOk result ((m : StateValue) (steps : List StepsTree) (from : ℕ → Bool) → IsContextOf context.entry m steps → IsEndTest self.now.apply.from m from
-            → HasFolded context.entry m steps [] scratch.old → HasFolded context.entry m steps (rows_to (passes_words to.entry) self.now.apply.flat.now.edges (passing_in self.now.tested from part.now)) scratch.new) }
+        ensures { OnOk result ((m : StateValue) (steps : List StepsTree) (from : ℕ → Bool) → IsContextOf context.entry m steps
+            → IsEndTest self.now.apply.from m from
+            → HasFolded context.entry m steps [] scratch.old
+            → HasFolded context.entry m steps (rows_to (passes_words to.entry) self.now.apply.flat.now.edges
+            (passing_in self.now.tested from part.now)) scratch.new) }
     {
         if self.tested {
             fold_passing_part(alloc, &self.apply, context, part, to, scratch)?;
@@ -194,7 +203,8 @@ fn fold_passing_part(
     scratch: &mut Scratch,
 ) -> Result<(), AllocError>
     ensures { OnOk result ((m : StateValue) (steps : List StepsTree) (test : ℕ → Bool) → IsContextOf context.entry m steps → IsEndTest apply.now.from m test
-        → HasFolded context.entry m steps [] scratch.old → HasFolded context.entry m steps (rows_to (passes_words to.entry) apply.now.flat.now.edges (filter test part.now)) scratch.new) }
+        → HasFolded context.entry m steps [] scratch.old → HasFolded context.entry m steps
+        (rows_to (passes_words to.entry) apply.now.flat.now.edges (filter test part.now)) scratch.new) }
 {
     let mut block = NeighbourBlock::new();
     match apply.from {

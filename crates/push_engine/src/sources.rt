@@ -32,7 +32,8 @@ pub(crate) fn fold_all(
     scratch: &mut Scratch,
 ) -> Result<(), AllocError>
     ensures { OnOk result ((m : StateValue) (steps : List StepsTree) (from : ℕ → Bool) → IsContextOf context.entry m steps → ((v : ℕ) → from v ≡ true)
-        → HasFolded context.entry m steps [] scratch.old → HasFolded context.entry m steps (edges_between from (passes_words to.entry) flat.now.edges) scratch.new) }
+        → HasFolded context.entry m steps [] scratch.old → HasFolded context.entry m steps (edges_between from (passes_words to.entry) flat.now.edges)
+        scratch.new) }
 {
     'sources: for (source, _) in flat.sources() {
         fold_row(alloc, flat, context, source, to, block, scratch)?;
@@ -50,8 +51,10 @@ pub(crate) fn fold_members(
     block: &mut NeighbourBlock,
     scratch: &mut Scratch,
 ) -> Result<(), AllocError>
-    ensures { OnOk result ((m : StateValue) (steps : List StepsTree) (from : ℕ → Bool) → IsContextOf context.entry m steps → ((v : ℕ) → from v ≡ is_member v set.now.members)
-        → HasFolded context.entry m steps [] scratch.old → HasFolded context.entry m steps (edges_between from (passes_words to.entry) flat.now.edges) scratch.new) }
+    ensures { OnOk result ((m : StateValue) (steps : List StepsTree) (from : ℕ → Bool) → IsContextOf context.entry m steps
+        → ((v : ℕ) → from v ≡ is_member v set.now.members)
+        → HasFolded context.entry m steps [] scratch.old → HasFolded context.entry m steps (edges_between from (passes_words to.entry) flat.now.edges)
+        scratch.new) }
 {
     'sources: for source in set.iter() {
         fold_row(alloc, flat, context, source, to, block, scratch)?;
@@ -70,7 +73,8 @@ pub(crate) fn fold_passing(
     scratch: &mut Scratch,
 ) -> Result<(), AllocError>
     ensures { OnOk result ((m : StateValue) (steps : List StepsTree) (test : ℕ → Bool) → IsContextOf context.entry m steps → IsTest from.entry m test
-        → HasFolded context.entry m steps [] scratch.old → HasFolded context.entry m steps (edges_between test (passes_words to.entry) flat.now.edges) scratch.new) }
+        → HasFolded context.entry m steps [] scratch.old → HasFolded context.entry m steps (edges_between test (passes_words to.entry) flat.now.edges)
+        scratch.new) }
 {
     let mut sources = flat.sources();
     let mut part = Vec::new(alloc);
@@ -97,7 +101,8 @@ pub(crate) fn fold_rows(
     scratch: &mut Scratch,
 ) -> Result<(), AllocError>
     ensures { OnOk result ((m : StateValue) (steps : List StepsTree) (edges : List Edge) → IsContextOf context.entry m steps
-        → HasFolded context.entry m steps edges scratch.old → HasFolded context.entry m steps (edges ++ rows_to (passes_words to.entry) flat.now.edges sources.now) scratch.new) }
+        → HasFolded context.entry m steps edges scratch.old → HasFolded context.entry m steps (edges
+        ++ rows_to (passes_words to.entry) flat.now.edges sources.now) scratch.new) }
 {
     'sources: for source in sources {
         fold_row(alloc, flat, context, *source, to, block, scratch)?;
@@ -117,7 +122,8 @@ fn fold_row(
     scratch: &mut Scratch,
 ) -> Result<(), AllocError>
     ensures { OnOk result ((m : StateValue) (steps : List StepsTree) (edges : List Edge) → IsContextOf context.entry m steps
-        → HasFolded context.entry m steps edges scratch.old → HasFolded context.entry m steps (edges ++ row source (filter (λ e. passes_words to.entry e.0) (destinations_of source flat.now.edges))) scratch.new) }
+        → HasFolded context.entry m steps edges scratch.old → HasFolded context.entry m steps (edges
+        ++ row source (filter (λ e. passes_words to.entry e.0) (destinations_of source flat.now.edges))) scratch.new) }
 {
     match flat.out_set(source).into_form() {
         NeighbourForm::Packed(list) => {
@@ -149,7 +155,8 @@ fn fold_walk<W: NeighbourWalk + Drop>(
     scratch: &mut Scratch,
 ) -> Result<(), AllocError>
     ensures { OnOk result ((m : StateValue) (steps : List StepsTree) (edges : List Edge) → IsContextOf context.entry m steps
-        → HasFolded context.entry m steps edges scratch.old → HasFolded context.entry m steps (edges ++ row source (filter (λ e. passes_words to.entry e.0) (W.coming walk))) scratch.new) }
+        → HasFolded context.entry m steps edges scratch.old → HasFolded context.entry m steps (edges
+        ++ row source (filter (λ e. passes_words to.entry e.0) (W.coming walk))) scratch.new) }
 {
     if context.weighted {
         return fold_weighted(alloc, context, source, to, walk, block, scratch);
@@ -170,7 +177,8 @@ fn fold_unweighted<W: NeighbourWalk + Drop>(
 ) -> Result<(), AllocError>
     requires { context.weighted ≡ false }
     ensures { OnOk result ((m : StateValue) (steps : List StepsTree) (edges : List Edge) → IsContextOf context.entry m steps
-        → HasFolded context.entry m steps edges scratch.old → HasFolded context.entry m steps (edges ++ row source (filter (λ e. passes_words to.entry e.0) (W.coming walk))) scratch.new) }
+        → HasFolded context.entry m steps edges scratch.old → HasFolded context.entry m steps (edges
+        ++ row source (filter (λ e. passes_words to.entry e.0) (W.coming walk))) scratch.new) }
 {
     'rounds: while walk.len() > 0 {
         let count = walk.fill(&mut block.keys);
@@ -193,7 +201,8 @@ fn fold_weighted<W: NeighbourWalk + Drop>(
 ) -> Result<(), AllocError>
     requires { context.weighted ≡ true }
     ensures { OnOk result ((m : StateValue) (steps : List StepsTree) (edges : List Edge) → IsContextOf context.entry m steps
-        → HasFolded context.entry m steps edges scratch.old → HasFolded context.entry m steps (edges ++ row source (filter (λ e. passes_words to.entry e.0) (W.coming walk))) scratch.new) }
+        → HasFolded context.entry m steps edges scratch.old → HasFolded context.entry m steps (edges
+        ++ row source (filter (λ e. passes_words to.entry e.0) (W.coming walk))) scratch.new) }
 {
     'rounds: while walk.len() > 0 {
         let count = walk.fill_weighted(&mut block.keys, &mut block.weights);

@@ -35,7 +35,8 @@ pub struct PushWork<'a> {
     ghost passing: { (m : StateValue) (from : ℕ → Bool) → apply.vectors.now.vectors ≡ m.vectors → HasSizes apply.sizes.now m → IsEndTest apply.from m from
         → AreSources apply.flat.now.edges from tested sources.items } by { Prim.hlevel (AscendsFrom-prop, props) },
     ghost form: { IfSome bits (λ s. s.form ≡ Form.Bits) } by { Prim.hlevel (props) },
-    ghost destinations: { IfSome bits (λ s. (m : StateValue) (to : ℕ → Bool) → apply.vectors.now.vectors ≡ m.vectors → HasSizes apply.sizes.now m → IsEndTest apply.to m to
+    ghost destinations: { IfSome bits (λ s. (m : StateValue) (to : ℕ → Bool) → apply.vectors.now.vectors ≡ m.vectors → HasSizes apply.sizes.now m
+        → IsEndTest apply.to m to
         → (v : ℕ) → v < apply.flat.now.vertices → is_member v s.members ≡ to v) } by { Prim.hlevel (props) },
 }
 
@@ -69,9 +70,11 @@ impl<'a> PushWork<'a> {
         ensures refused { result ≡ Err BadWorkers → ¬ AreWorkers workers }
         ensures memory { result ≡ Err NoMemory → AreWorkers workers }
         ensures apply { IfOk result (λ w. w.apply ≡ apply.now) }
-        ensures list { IfOk result (λ w. (m : StateValue) (from : ℕ → Bool) → apply.now.vectors.now.vectors ≡ m.vectors → HasSizes apply.now.sizes.now m → IsEndTest apply.now.from m from
+        ensures list { IfOk result (λ w. (m : StateValue) (from : ℕ → Bool) → apply.now.vectors.now.vectors ≡ m.vectors
+            → HasSizes apply.now.sizes.now m → IsEndTest apply.now.from m from
             → IsEndOf apply.now.flat.now.vertices apply.now.from → w.sources.items ≡ cut_list apply.now.direction apply.now.flat.now.vertices from) }
-        ensures cuts { IfOk result (λ w. w.cuts ≡ boundaries apply.now.parallelization workers (vec_len w.sources) (map (λ u. length (destinations_of u apply.now.flat.now.edges)) w.sources.items)) }
+        ensures cuts { IfOk result (λ w. w.cuts ≡ boundaries apply.now.parallelization workers (vec_len w.sources)
+            (map (λ u. length (destinations_of u apply.now.flat.now.edges)) w.sources.items)) }
     {
         if !is_crew(workers) {
             return Err(CrewError::BadWorkers);

@@ -4,7 +4,8 @@
 //! [`place_of`] is the line and the column of an offset, and its contract says so. [`explanation`] makes the lines. It answers for
 //! any text, offset and number, and promises nothing of its words but that they come: they are for people, who may be told
 //! otherwise tomorrow. Of a text outside the grammar (211) it guesses the cause by what stands at the place and before it; of a
-//! wrong type or kind (223) it tells the rule of what begins there, and of a schedule the form of the call. [`fault_explanation`] shows the statement at which a run ended.
+//! wrong type or kind (223) it tells the rule of what begins there, and of a schedule the form of the call.
+//! [`fault_explanation`] shows the statement at which a run ended.
 #![tactic(auto)]
 
 mod calls;

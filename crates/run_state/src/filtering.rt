@@ -24,7 +24,8 @@ pub(crate) fn filtered(
     block: &mut Block,
 ) -> Result<VertexSet, AllocError>
     ensures vertices { IfOk result (λ s. s.vertices ≡ set.now.vertices) }
-    ensures members { IfOk result (λ s. (steps : StepsTree) (m : StateValue) → IsFilterKernel kernel.now steps → vectors.now.vectors ≡ m.vectors → HasSizes sizes.now m
+    ensures members { IfOk result (λ s. (steps : StepsTree) (m : StateValue) → IsFilterKernel kernel.now steps → vectors.now.vectors ≡ m.vectors
+        → HasSizes sizes.now m
         → s.members ≡ filter (result_of steps m.sets m.vectors) set.now.members) }
 {
     block.make_room(kernel.room())?;

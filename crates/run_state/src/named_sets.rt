@@ -72,7 +72,8 @@ impl NamedSets {
         vertices: u32,
         names: &[usize],
     ) -> Result<NamedSets, AllocError>
-        ensures { IfOk result (λ s. (g : GraphValue) → g.vertices ≡ vertices → s ≡ record { vertices = vertices; state = record nothing { sets = map (all_vertices g) names.now } }) }
+        ensures { IfOk result (λ s. (g : GraphValue) → g.vertices ≡ vertices
+            → s ≡ record { vertices = vertices; state = record nothing { sets = map (all_vertices g) names.now } }) }
     {
         let mut opened = NamedSets::new(alloc, vertices);
         'names: for name in names {
@@ -181,7 +182,8 @@ impl NamedSets {
     /// then nothing is changed.
     pub(crate) fn insert(&mut self, place: usize, vertex: u32) -> Result<(), AllocError>
         requires { vertex < self.old.vertices }
-        ensures ok { OnOk result (self.new ≡ with_state self.old (with_members self.old.state place (inserted vertex (members_of (slice_get self.old.state.sets place))))) }
+        ensures ok { OnOk result (self.new ≡ with_state self.old
+            (with_members self.old.state place (inserted vertex (members_of (slice_get self.old.state.sets place))))) }
         ensures err { OnErr result (self.new ≡ self.old) }
     {
         if place < self.members.len() {
@@ -243,7 +245,8 @@ fn update_set(
     requires counted { length names.old.items ≡ length members.old.items }
     requires measured { length sizes.old.items ≡ length members.old.items }
     ensures sets { named names.new.items members.new.items ≡ with_update (named names.old.items members.old.items) update }
-    ensures are { (n : ℕ) → AreNamed n names.old.items members.old.items sizes.old.items → IsUpdateOf n update → AreNamed n names.new.items members.new.items sizes.new.items }
+    ensures are { (n : ℕ) → AreNamed n names.old.items members.old.items sizes.old.items → IsUpdateOf n update
+        → AreNamed n names.new.items members.new.items sizes.new.items }
     ensures names_room { vec_capacity names.old + vec_len names.new ≤ vec_capacity names.new + vec_len names.old + 1 }
     ensures members_room { vec_capacity members.old + vec_len members.new ≤ vec_capacity members.new + vec_len members.old + 1 }
     ensures sizes_room { vec_capacity sizes.old + vec_len sizes.new ≤ vec_capacity sizes.new + vec_len sizes.old + 1 }

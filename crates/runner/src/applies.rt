@@ -48,7 +48,8 @@ impl Memory {
     ) -> Result<(), AllocError>
         requires known { ∥ HaveTrees functions.now ∥₁ }
         ensures done { OnOk result ((p : ProgramTree) (g : GraphValue) (t : OperationTree) → AreFunctionKernels functions.now p
-            → IsOperation instruction.now.keep instruction.now.shown (op.ApplyVertices set first second) t → FitTogether p t → HasDone instruction.now Flow.Next self.old self.new p g t) }
+            → IsOperation instruction.now.keep instruction.now.shown (op.ApplyVertices set first second) t → FitTogether p t
+            → HasDone instruction.now Flow.Next self.old self.new p g t) }
         ensures turns { OnOk result (self.new.state.state.turns ≡ self.old.state.state.turns) }
         ensures vertices { self.new.state.vertices ≡ self.old.state.vertices }
         ensures err { OnErr result (IsAsBefore self.old self.new) }
@@ -76,7 +77,8 @@ impl Memory {
         requires applier { E.is_ready by.old }
         ensures applier { E.is_ready by.new }
         ensures done { OnOk result ((p : ProgramTree) (g : GraphValue) (t : OperationTree) → g ≡ graph_value graph.now → IsOn g self.old
-            → AreFunctionKernels functions.now p → ApplyEdgesOf apply.ends apply.part second t → OperationReduces p t → HasDone instruction.now Flow.Next self.old self.new p g t) }
+            → AreFunctionKernels functions.now p → ApplyEdgesOf apply.ends apply.part second t → OperationReduces p t
+            → HasDone instruction.now Flow.Next self.old self.new p g t) }
         ensures turns { OnOk result (self.new.state.state.turns ≡ self.old.state.state.turns) }
         ensures vertices { self.new.state.vertices ≡ self.old.state.vertices }
         ensures err { OnErr result (IsAsBefore self.old self.new) }

@@ -105,7 +105,8 @@ pub(crate) fn is_pulled(apply: &Apply<'_>) -> bool {
 /// than the edges of the graph divided by 20, rounded down, and else a sparse push. It stops counting where they are. It
 /// takes no memory.
 pub fn pick_direction(flat: &Flat, sources: &VertexSet) -> Direction
-    ensures { result ≡ (if nat_lt (length flat.now.edges / 20) (work_from flat.now.edges sources.now.members) then direction.DensePull else direction.SparsePush) }
+    ensures { result ≡ (if nat_lt (length flat.now.edges / 20) (work_from flat.now.edges sources.now.members) then direction.DensePull else
+        direction.SparsePush) }
 {
     if is_work_above(flat, sources, flat.edge_count() / 20) {
         Direction::DensePull

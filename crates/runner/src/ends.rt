@@ -20,7 +20,8 @@ pub(crate) fn end_of<'a>(
     no_members: &'a VertexSet,
 ) -> Option<EndpointFilter<'a>>
     requires { no_members.now.members ≡ [] }
-    ensures { (p : ProgramTree) (m : StateValue) → AreFunctionKernels run.entry.functions.now p → HasSets run.entry m → IsEndTest result m (passes p.filters m end) }
+    ensures { (p : ProgramTree) (m : StateValue) → AreFunctionKernels run.entry.functions.now p → HasSets run.entry m
+        → IsEndTest result m (passes p.filters m end) }
 {
     match end {
         None => None,

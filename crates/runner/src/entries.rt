@@ -61,7 +61,8 @@ impl Memory {
         requires index { IsFor instruction.now.keep index.now }
         requires value { IsFor instruction.now.keep value.now }
         ensures done { IfOk result (λ flow. (p : ProgramTree) (g : GraphValue) (t : OperationTree) → IsOn g self.old
-            → HasEntry instruction.now.keep index.now value.now (λ i e. Do (ReduceEntry vector i reduction e)) t → HasDone instruction.now flow self.old self.new p g t) }
+            → HasEntry instruction.now.keep index.now value.now (λ i e. Do (ReduceEntry vector i reduction e)) t
+            → HasDone instruction.now flow self.old self.new p g t) }
         ensures vertices { self.new.state.vertices ≡ self.old.state.vertices }
         ensures err { OnErr result (IsAsBefore self.old self.new) }
     {

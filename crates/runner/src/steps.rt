@@ -42,7 +42,8 @@ impl PlanRun {
             → configuration_of self.new ≡ step p (graph_value graph.now) (plan_of p s) (configuration_of self.old)) }
         ensures fewer { OnOk result (self.old.end ≡ None → steps_left plan.now self.new < steps_left plan.now self.old) }
         ensures vertices { self.new.memory.state.vertices ≡ self.old.memory.state.vertices }
-        ensures err { OnErr result (resting plan.now.instructions.items (configuration_of self.new) ≡ resting plan.now.instructions.items (configuration_of self.old)) }
+        ensures err { OnErr result (resting plan.now.instructions.items (configuration_of self.new)
+            ≡ resting plan.now.instructions.items (configuration_of self.old)) }
     {
         match self.end {
             Some(_) => Ok(()),

@@ -1,3 +1,5 @@
+//! Steps of a session, and their replies.
+
 ghost use Rattle.std.specs.Prelude.{◌≡◌};
 
 use runner::Stand;

@@ -6,9 +6,9 @@ use Rattle.tail_codec.specs.declared.operation.MapOperation.{MapOperation}
 use Rattle.c_tree.specs.Chunks.{ChunkedSet}
 use Rattle.c_tree.specs.Parts.{IsRoot, IsCut}
 use Rattle.c_tree.specs.declared.cut.Cut.{Cut}
-use Rattle.set_ops.specs.declared.begin.Begun.{Begun}
-use Rattle.set_ops.specs.declared.begin.Begun.TheVariants.{Whole, Halved}
-use Rattle.set_ops.specs.declared.begin.OwnedHalves.{OwnedHalves}
+use Rattle.set_ops.specs.declared.halves.Begun.{Begun}
+use Rattle.set_ops.specs.declared.halves.Begun.TheVariants.{Whole, Halved}
+use Rattle.set_ops.specs.declared.halves.OwnedHalves.{OwnedHalves}
 use Rattle.set_ops.specs.declared.combined.Combined.{Combined}
 use Rattle.set_ops.specs.Answers.{IsCombined}
 

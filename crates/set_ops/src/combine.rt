@@ -5,9 +5,9 @@ ghost use Rattle.std.specs.Map.{keys_of};
 ghost use Rattle.ascending_lists.specs.Ascending.{Ascends};
 ghost use Rattle.set_ops.specs.Answers.{IsCombined};
 
-use crate::begin::{Begun, begin};
 use crate::combined::{Combined, Head, Task, combine_lists, rejoin};
-use crate::mixed::are_mixed;
+use crate::halves::{Begun, begin};
+use crate::interleaving::are_mixed;
 use c_tree::View;
 use std::alloc::{AllocError, Global};
 

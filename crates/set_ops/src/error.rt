@@ -1,3 +1,5 @@
+//! The error of set operations: which sets do not go together.
+
 ghost use Rattle.std.specs.Prelude.{◌≡◌};
 ghost use Rattle.set_ops.specs.declared.error.SetError.TheVariants.{NoMemory};
 ghost use Rattle.set_ops.specs.Refusal.{number_of};

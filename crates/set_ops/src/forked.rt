@@ -7,10 +7,10 @@ ghost use Rattle.ascending_lists.specs.Ascending.{Ascends};
 ghost use Rattle.set_ops.specs.Answers.{IsCombined};
 ghost use Rattle.set_ops.specs.Halving.{HasForks, AreLent, AreLentAnswers, IsLentBelow, IsLentAbove};
 
-use crate::begin::{Begun, OwnedHalves, begin};
 use crate::combine::combine;
 use crate::combined::{Combined, Head, Task, rejoin};
 use crate::fork::Fork;
+use crate::halves::{Begun, OwnedHalves, begin};
 use c_tree::View;
 use std::alloc::{AllocError, Global};
 use std::thread::{self, Threads};

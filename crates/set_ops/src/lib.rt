@@ -29,14 +29,14 @@
 //! on C-trees (PLDI 2019).
 #![tactic(auto)]
 
-mod begin;
 mod combine;
 mod combined;
 mod error;
 mod fork;
 mod forked;
+mod halves;
+mod interleaving;
 mod lists;
-mod mixed;
 mod sets;
 #[cfg(test)]
 mod tests;

@@ -1,3 +1,5 @@
+//! Entries of the history of a shared graph.
+
 use version_list::Done;
 
 /// An accepted step with its reply, and the number of the reader that made it. The history of a

@@ -1,3 +1,5 @@
+//! The errors of shared graphs: why one is not opened, and why a step is refused.
+
 ghost use Rattle.std.specs.Prelude.{◌≡◌};
 ghost use Rattle.shared_graph.specs.declared.error.SharedError.TheVariants.{NoMemory};
 ghost use Rattle.shared_graph.specs.declared.error.LatestError.TheVariants as latest;

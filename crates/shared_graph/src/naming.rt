@@ -1,3 +1,5 @@
+//! The name of a shared graph in the types of its readers, tokens and held versions.
+
 use std::marker::Brand;
 
 /// Which shared graph it is: its book, how many vertices it has, and for how many entries its history

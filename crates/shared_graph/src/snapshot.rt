@@ -1,3 +1,5 @@
+//! Snapshots: versions that readers keep.
+
 use std::sync::Arc;
 use tree_batch::Graph;
 

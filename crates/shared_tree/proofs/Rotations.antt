@@ -1,6 +1,6 @@
 -- The entries around a rotation stay in order.
 use Rattle.std.proofs.Common.{◌≡◌, ℕ, ◌^◌, Option, Some, List, [], ◌∷◌, ◌++◌, sym, ap, ◌∙◌, subst, append_assoc}
-use Rattle.shared_tree.specs.declared.open.Opened.{Opened}
+use Rattle.shared_tree.specs.declared.nodes.Opened.{Opened}
 use Rattle.shared_tree.specs.declared.joins.Last.{Last}
 use Rattle.ascending_lists.specs.Maps.{IsMap}
 use Rattle.shared_tree.specs.Balanced.{Balanced, IsFork}

@@ -1,6 +1,6 @@
 -- For proofs only: a root apart from its sides, and a last entry apart from those before it.
 use Rattle.std.specs.Prelude.{◌≡◌, Option, Some, None}
-use Rattle.shared_tree.specs.declared.open.Opened.{Opened}
+use Rattle.shared_tree.specs.declared.nodes.Opened.{Opened}
 use Rattle.shared_tree.specs.declared.joins.Last.{Last}
 use Rattle.shared_tree.specs.Balanced.{Balanced, empty, IsFork}
 use Rattle.shared_tree.specs.Joins.{IsFront}

@@ -8,7 +8,7 @@ ghost use Rattle.shared_tree.specs.ChangedMaps.{IsChangedMap, total_weight, Grew
 ghost use Rattle.shared_tree.specs.Halves.{AreHalves};
 
 use crate::joins::{concatenated, joined};
-use crate::open::{Slot, fork_new};
+use crate::nodes::{Slot, fork_new};
 use crate::share::Share;
 use crate::tree::Tree;
 use crate::value_change::{ValueChange, changed};

@@ -1,3 +1,5 @@
+//! The error of trees: which lists are refused.
+
 ghost use Rattle.std.specs.Prelude.{◌≡◌};
 ghost use Rattle.shared_tree.specs.declared.error.TreeError.TheVariants.{NoMemory};
 ghost use Rattle.shared_tree.specs.Refusal.{number_of};

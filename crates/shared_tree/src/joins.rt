@@ -7,7 +7,7 @@ ghost use Rattle.shared_tree.specs.Opened.{IsPopped};
 ghost use Rattle.shared_tree.specs.declared.error.TreeError.TheVariants.{NoMemory};
 
 use crate::error::TreeError;
-use crate::open::{Opened, Slot, fork, open};
+use crate::nodes::{Opened, Slot, fork, open};
 use crate::share::Share;
 use crate::tree::Tree;
 use std::alloc::{AllocError, Global};

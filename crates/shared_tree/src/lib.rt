@@ -20,14 +20,14 @@
 //! Parallel Ordered Sets" (SPAA 2016). Sets in chunks and graphs stand on this crate.
 #![tactic(auto)]
 
-mod change;
 mod change_all;
 mod error;
 mod iter;
 mod joins;
-mod open;
+mod nodes;
 mod share;
 mod sorted;
+mod split;
 mod tree;
 mod value_change;
 

@@ -5,7 +5,7 @@ ghost use Rattle.ascending_lists.specs.Maps.{IsMap};
 ghost use Rattle.shared_tree.specs.Outcome.{Builds, IsLeastDepth};
 
 use crate::error::TreeError;
-use crate::open::fork_new;
+use crate::nodes::fork_new;
 use crate::tree::Tree;
 use std::alloc::{AllocError, Global};
 

@@ -1,3 +1,5 @@
+//! Balanced trees whose nodes are shared: their model, their look-ups and their depth.
+
 ghost use Rattle.std.specs.Prelude.{◌≡◌, ◌+◌, ◌*◌, ◌^◌, ◌<◌, ◌≤◌, ◌↔◌, [], length, IsTrue, MatchOption};
 ghost use Rattle.std.specs.Option.{option_copied};
 ghost use Rattle.ascending_lists.specs.Maps.{lookup};

@@ -6,7 +6,7 @@ ghost use Rattle.source_text.specs.Written.{Puts};
 
 use crate::initial::{put_assigned, put_parameter};
 use crate::statement::put_block;
-use crate::text::{put_keyword, put_name, put_symbol};
+use crate::terminals::{put_keyword, put_name, put_symbol};
 use lexer::{Keyword, Symbol};
 use std::alloc::AllocError;
 use syntax::{Declaration, Parameter};

@@ -4,13 +4,14 @@ ghost use Rattle.lexer.specs.declared.keyword.Keyword.TheVariants as keyword_ter
 ghost use Rattle.lexer.specs.declared.symbol.Symbol.TheVariants as symbol;
 ghost use Rattle.syntax.specs.Terminals.{OfSymbol, Name as terminal_name, OfKeyword};
 ghost use Rattle.syntax.specs.SourceTrees.{ApplyModified, Filter, Load, NewSet};
-ghost use Rattle.syntax.specs.SourceSpelling.{argument_terminals, assigned_before, end_terminals, ends_before, ended_before, initial_before, type_terminals, typed_before};
+ghost use Rattle.syntax.specs.SourceSpelling.{argument_terminals, assigned_before, end_terminals, ends_before};
+ghost use Rattle.syntax.specs.SourceSpelling.{ended_before, initial_before, type_terminals, typed_before};
 ghost use Rattle.syntax.specs.SourceReading.{edge_ends};
 ghost use Rattle.syntax.specs.SourceViews.{ends_tree, initial_tree, parameter_tree};
 ghost use Rattle.source_text.specs.Written.{Puts};
 
 use crate::expression::put_expression;
-use crate::text::{put_keyword, put_name, put_number, put_symbol};
+use crate::terminals::{put_keyword, put_name, put_number, put_symbol};
 use lexer::{Keyword, Symbol};
 use std::alloc::AllocError;
 use syntax::{DeclaredType, Ends, Expression, Initial, Name, Parameter};
@@ -68,7 +69,8 @@ fn put_edge_ends(out: &mut Vec<u8>) -> Result<(), AllocError>
 
 /// Puts `, int)` down.
 fn put_weight(out: &mut Vec<u8>) -> Result<(), AllocError>
-    ensures { OnOk result (Puts (λ rest. OfSymbol symbol.Comma ∷ OfKeyword keyword_terminal.Int ∷ OfSymbol symbol.CloseParenthesis ∷ rest) out.old.items out.new.items) }
+    ensures { OnOk result (Puts (λ rest. OfSymbol symbol.Comma ∷ OfKeyword keyword_terminal.Int ∷ OfSymbol symbol.CloseParenthesis ∷ rest)
+        out.old.items out.new.items) }
 {
     put_symbol(out, Symbol::Comma)?;
     put_keyword(out, Keyword::Int)?;
@@ -194,7 +196,8 @@ fn put_load(out: &mut Vec<u8>, number: &i64) -> Result<(), AllocError>
 
 /// Puts a call on the edges down that takes no arguments.
 fn put_query(out: &mut Vec<u8>, edges: &Name, keyword: Keyword) -> Result<(), AllocError>
-    ensures { OnOk result (Puts (λ rest. terminal_name edges.now ∷ OfSymbol symbol.Dot ∷ OfKeyword keyword ∷ OfSymbol symbol.OpenParenthesis ∷ OfSymbol symbol.CloseParenthesis ∷ rest) out.old.items out.new.items) }
+    ensures { OnOk result (Puts (λ rest. terminal_name edges.now ∷ OfSymbol symbol.Dot ∷ OfKeyword keyword ∷ OfSymbol symbol.OpenParenthesis
+        ∷ OfSymbol symbol.CloseParenthesis ∷ rest) out.old.items out.new.items) }
 {
     put_name(out, edges)?;
     put_method(out, keyword)?;
@@ -226,7 +229,8 @@ fn put_apply_modified(
 
 /// Puts two names in parentheses down.
 fn put_name_pair(out: &mut Vec<u8>, first: &Name, second: &Name) -> Result<(), AllocError>
-    ensures { OnOk result (Puts (λ rest. OfSymbol symbol.OpenParenthesis ∷ terminal_name first.now ∷ OfSymbol symbol.Comma ∷ terminal_name second.now ∷ OfSymbol symbol.CloseParenthesis ∷ rest) out.old.items out.new.items) }
+    ensures { OnOk result (Puts (λ rest. OfSymbol symbol.OpenParenthesis ∷ terminal_name first.now ∷ OfSymbol symbol.Comma ∷ terminal_name second.now
+        ∷ OfSymbol symbol.CloseParenthesis ∷ rest) out.old.items out.new.items) }
 {
     put_symbol(out, Symbol::OpenParenthesis)?;
     put_name(out, first)?;

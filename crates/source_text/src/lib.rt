@@ -20,8 +20,8 @@ mod initial;
 mod schedule;
 mod simple;
 mod statement;
-mod text;
+mod terminals;
 mod writer;
 
-pub use text::terminals_are_read_back;
+pub use terminals::terminals_are_read_back;
 pub use writer::{parsed_sources_are_writable, write};

@@ -5,7 +5,7 @@ ghost use Rattle.syntax.specs.SourceSpelling.{call_before, chain_before, each_be
 ghost use Rattle.syntax.specs.SourceViews.{call_tree, chain_tree, text_of};
 ghost use Rattle.source_text.specs.Written.{Puts, chains_tree};
 
-use crate::text::{put_keyword, put_symbol, put_text};
+use crate::terminals::{put_keyword, put_symbol, put_text};
 use apply_options::Setting;
 use lexer::{Keyword, Symbol};
 use std::alloc::AllocError;

@@ -10,7 +10,7 @@ ghost use Rattle.source_text.specs.Written.{IsSimple, Puts};
 
 use crate::expression::put_expression;
 use crate::initial::{put_argument, put_assigned, put_ended, put_ends, put_method, put_parameter};
-use crate::text::{put_keyword, put_name, put_symbol};
+use crate::terminals::{put_keyword, put_name, put_symbol};
 use apply_options::Reduction;
 use lexer::{Keyword, Symbol};
 use std::alloc::AllocError;
@@ -145,7 +145,8 @@ fn put_apply(
 
 /// Puts `vector[index]` down.
 fn put_entry(out: &mut Vec<u8>, vector: &Name, index: &Expression) -> Result<(), AllocError>
-    ensures { OnOk result (Puts (λ rest. terminal_name vector.now ∷ OfSymbol symbol.OpenBracket ∷ (expression_terminals index.now ++ OfSymbol symbol.CloseBracket ∷ rest)) out.old.items out.new.items) }
+    ensures { OnOk result (Puts (λ rest. terminal_name vector.now ∷ OfSymbol symbol.OpenBracket
+        ∷ (expression_terminals index.now ++ OfSymbol symbol.CloseBracket ∷ rest)) out.old.items out.new.items) }
 {
     put_name(out, vector)?;
     put_symbol(out, Symbol::OpenBracket)?;

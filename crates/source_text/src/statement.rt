@@ -10,7 +10,7 @@ ghost use Rattle.source_text.specs.Written.{Puts};
 
 use crate::expression::put_expression;
 use crate::simple::put_simple;
-use crate::text::{put_keyword, put_label, put_name, put_symbol};
+use crate::terminals::{put_keyword, put_label, put_name, put_symbol};
 use lexer::{Keyword, Symbol};
 use std::alloc::AllocError;
 use syntax::{Action, Expression, Name, Statement};
@@ -28,7 +28,8 @@ pub(crate) fn put_block(out: &mut Vec<u8>, block: &[Statement]) -> Result<(), Al
 
 #[cycle(statements)]
 fn put_statement(out: &mut Vec<u8>, statement: &Statement) -> Result<(), AllocError>
-    ensures { OnOk result (Puts (λ rest. label_terminals statement.now.label ++ action_before (action_tree statement.now.action) rest) out.old.items out.new.items) }
+    ensures { OnOk result (Puts (λ rest. label_terminals statement.now.label ++ action_before (action_tree statement.now.action) rest) out.old.items
+        out.new.items) }
 {
     put_label_given(out, &statement.label)?;
     put_action(out, &statement.action)
@@ -96,7 +97,8 @@ fn put_range(
     first: &Expression,
     limit: &Expression,
 ) -> Result<(), AllocError>
-    ensures { OnOk result ((at : ℕ) → Puts (λ rest. Opening keyword.For at ∷ terminal_name name.now ∷ OfKeyword keyword.In ∷ (expression_terminals first.now ++ OfSymbol symbol.Colon ∷ (expression_terminals limit.now ++ rest))) out.old.items out.new.items) }
+    ensures { OnOk result ((at : ℕ) → Puts (λ rest. Opening keyword.For at ∷ terminal_name name.now ∷ OfKeyword keyword.In
+        ∷ (expression_terminals first.now ++ OfSymbol symbol.Colon ∷ (expression_terminals limit.now ++ rest))) out.old.items out.new.items) }
 {
     put_keyword(out, Keyword::For)?;
     put_name(out, name)?;

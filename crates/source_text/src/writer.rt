@@ -10,7 +10,7 @@ ghost use Rattle.source_text.specs.Written.{Puts, elements_before};
 
 use crate::declaration::put_declarations;
 use crate::schedule::put_schedule;
-use crate::text::put_keyword;
+use crate::terminals::put_keyword;
 use lexer::Keyword;
 use std::alloc::{AllocError, Global};
 use syntax::Source;

@@ -1,3 +1,5 @@
+//! The error of tails: which lists and which bytes are refused.
+
 ghost use Rattle.std.specs.Prelude.{◌≡◌};
 ghost use Rattle.tail_codec.specs.declared.error.TailError.TheVariants.{NoMemory};
 ghost use Rattle.tail_codec.specs.Refusal.{number_of};

@@ -1,3 +1,5 @@
+//! Bytes that several owners share.
+
 ghost use Rattle.std.specs.Prelude.{◌≡◌, ◌≤◌, ◌<◌, [], length, IfOk};
 
 use std::alloc::{AllocError, Global};

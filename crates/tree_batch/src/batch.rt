@@ -1,3 +1,5 @@
+//! Batches of edges to add and to remove.
+
 ghost use Rattle.std.specs.Prelude.{◌≡◌, ◌++◌, [], ◌∷◌, IfErr, OnOk, OnErr};
 ghost use Rattle.std.specs.List.{list_any};
 ghost use Rattle.tree_batch.specs.declared.error.GraphError.TheVariants.{NoMemory};

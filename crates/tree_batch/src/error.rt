@@ -1,3 +1,5 @@
+//! The error of graphs: which numbers of vertices, chunk sizes and batches are refused.
+
 ghost use Rattle.std.specs.Prelude.{◌≡◌};
 ghost use Rattle.tree_batch.specs.declared.error.GraphError.TheVariants.{NoMemory};
 ghost use Rattle.tree_batch.specs.Refusal.{number_of};

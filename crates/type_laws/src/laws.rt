@@ -32,8 +32,10 @@ ghost use Rattle.types.specs.Program.{Checks, program_of};
 /// The law that a source has a program or a fault that is told, and not both. It has a program exactly where it has no
 /// fault, and of several the least is told, by the law [`expression_types::least_fault_is_told`].
 pub fn sources_have_a_program_or_a_fault()
-    ensures one { (source : SourceTree) (length : ℕ) → ((program : ProgramTree) × Checks source length (Ok program)) ⊎ ((f : fault.Fault) × Checks source length (Err f)) }
-    ensures not_both { (source : SourceTree) (length : ℕ) (program : ProgramTree) (f : fault.Fault) → Checks source length (Ok program) → Checks source length (Err f) → ⊥ }
+    ensures one { (source : SourceTree) (length : ℕ) → ((program : ProgramTree) × Checks source length (Ok program)) ⊎ ((f : fault.Fault)
+        × Checks source length (Err f)) }
+    ensures not_both { (source : SourceTree) (length : ℕ) (program : ProgramTree) (f : fault.Fault) → Checks source length (Ok program)
+        → Checks source length (Err f) → ⊥ }
 {}
 
 /// The law that in a source with a program each used name is visible: constants and functions from the end of their
@@ -46,15 +48,18 @@ pub fn checked_sources_use_visible_names()
 /// The law that in a source with a program no visible name is declared again: no constant, function, parameter, result or
 /// variable has the name of another that is visible where it is declared. One constant at most is the edges.
 pub fn checked_sources_declare_new_names()
-    ensures names { (source : SourceTree) (length : ℕ) (program : ProgramTree) → Checks source length (Ok program) → DeclarationsDeclareNew [] source.declarations }
+    ensures names { (source : SourceTree) (length : ℕ) (program : ProgramTree) → Checks source length (Ok program)
+        → DeclarationsDeclareNew [] source.declarations }
     ensures edges { (source : SourceTree) (length : ℕ) (program : ProgramTree) → Checks source length (Ok program) → edges_declared source.declarations ≤ 1 }
 {}
 
 /// The law that in a source with a program no label stands twice, and that the program has these labels, without `#`, in
 /// the order of the text.
 pub fn checked_sources_have_distinct_labels()
-    ensures distinct { (source : SourceTree) (length : ℕ) (program : ProgramTree) → Checks source length (Ok program) → IsDistinct bytes_eq (labels_of source.declarations) }
-    ensures kept { (source : SourceTree) (length : ℕ) (program : ProgramTree) → Checks source length (Ok program) → program.labels ≡ map without_ends (labels_of source.declarations) }
+    ensures distinct { (source : SourceTree) (length : ℕ) (program : ProgramTree) → Checks source length (Ok program)
+        → IsDistinct bytes_eq (labels_of source.declarations) }
+    ensures kept { (source : SourceTree) (length : ℕ) (program : ProgramTree) → Checks source length (Ok program)
+        → program.labels ≡ map without_ends (labels_of source.declarations) }
 {}
 
 /// The law that in a checked program each place is that of something that is there: that of a variable or a vertex set
@@ -93,13 +98,15 @@ pub fn labels_of_main_are_in_order()
 
 /// The law that in a source with a program no function but `main` has a `print` in it, at any depth.
 pub fn checked_sources_print_in_main_alone()
-    ensures { (source : SourceTree) (length : ℕ) (program : ProgramTree) → Checks source length (Ok program) → AllByRecursion PrintsInMainAlone source.declarations }
+    ensures { (source : SourceTree) (length : ℕ) (program : ProgramTree) → Checks source length (Ok program)
+        → AllByRecursion PrintsInMainAlone source.declarations }
 {}
 
 /// The law that a source with a program declares one function named `main`, which has neither parameters nor a result.
 pub fn checked_sources_declare_main()
     ensures main { (source : SourceTree) (length : ℕ) (program : ProgramTree) → Checks source length (Ok program) → DeclaresMain source.declarations }
-    ensures one { (source : SourceTree) (length : ℕ) (program : ProgramTree) → Checks source length (Ok program) → functions_named main_bytes source.declarations ≡ 1 }
+    ensures one { (source : SourceTree) (length : ℕ) (program : ProgramTree) → Checks source length (Ok program)
+        → functions_named main_bytes source.declarations ≡ 1 }
 {}
 
 /// The law that in a source with a program an edge function reads vectors at its two parameters alone and writes them at
@@ -109,7 +116,8 @@ pub fn checked_sources_declare_main()
 /// In the checked program the types carry this for reads: `EntryAt` of a function has an `Endpoint` in place of an
 /// index, and a step that writes an entry has no index, as it writes at the last parameter.
 pub fn checked_sources_access_own_entries()
-    ensures { (source : SourceTree) (length : ℕ) (program : ProgramTree) → Checks source length (Ok program) → AllByRecursion AccessesEntriesWell source.declarations }
+    ensures { (source : SourceTree) (length : ℕ) (program : ProgramTree) → Checks source length (Ok program)
+        → AllByRecursion AccessesEntriesWell source.declarations }
 {}
 
 /// The law that in a source with a program constants and functions of users are of the kinds that there are. A constant
@@ -119,8 +127,10 @@ pub fn checked_sources_access_own_entries()
 /// filter writes no entry of a vector, and an edge function sets none. Everywhere a `new vertexset` has 0 as its size,
 /// and a `load` reads the first argument.
 pub fn checked_sources_are_well_typed()
-    ensures initials { (source : SourceTree) (length : ℕ) (program : ProgramTree) → Checks source length (Ok program) → AllByRecursion DeclarationInitialsFit source.declarations }
-    ensures declarations { (source : SourceTree) (length : ℕ) (program : ProgramTree) → Checks source length (Ok program) → AllByRecursion DeclarationFits source.declarations }
+    ensures initials { (source : SourceTree) (length : ℕ) (program : ProgramTree) → Checks source length (Ok program)
+        → AllByRecursion DeclarationInitialsFit source.declarations }
+    ensures declarations { (source : SourceTree) (length : ℕ) (program : ProgramTree) → Checks source length (Ok program)
+        → AllByRecursion DeclarationFits source.declarations }
 {}
 
 /// The law that a source has a program exactly where it keeps the rules: the checker refuses nothing else, and lets
@@ -143,6 +153,8 @@ pub fn told_faults_are_the_least()
 /// The law that an expression has no fault exactly where it has a type, in a scope of which no name has a faulty
 /// declaration. Its types are a relation over its tree and over what names mean; no value is computed.
 pub fn expressions_have_types_where_they_have_no_fault()
-    ensures typed { (scope : ScopeTree) (at : ℕ) (e : ExpressionTree) → AreMeant scope.visible → (value_of scope at e).faults ≡ [] → (type : ExpressionType) × ExpressionHas (meanings_of scope.visible) scope.inside e type }
-    ensures faultless { (scope : ScopeTree) (at : ℕ) (e : ExpressionTree) (type : ExpressionType) → ExpressionHas (meanings_of scope.visible) scope.inside e type → (value_of scope at e).faults ≡ [] }
+    ensures typed { (scope : ScopeTree) (at : ℕ) (e : ExpressionTree) → AreMeant scope.visible → (value_of scope at e).faults ≡ []
+        → (type : ExpressionType) × ExpressionHas (meanings_of scope.visible) scope.inside e type }
+    ensures faultless { (scope : ScopeTree) (at : ℕ) (e : ExpressionTree) (type : ExpressionType)
+        → ExpressionHas (meanings_of scope.visible) scope.inside e type → (value_of scope at e).faults ≡ [] }
 {}

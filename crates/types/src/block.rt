@@ -26,7 +26,8 @@ pub(crate) fn statements(
     checker: &mut Checker,
     first_fault: &mut Option<Fault>,
 ) -> Result<Vec<MainStatement>, AllocError>
-    ensures typed { ReportsFaults (λ b. (block_tree b.items, checker_of checker.new)) first_fault.old first_fault.new result (statements_typed (checker_of checker.old) Empty (source_block block.now)) }
+    ensures typed { ReportsFaults (λ b. (block_tree b.items, checker_of checker.new)) first_fault.old first_fault.new result
+        (statements_typed (checker_of checker.old) Empty (source_block block.now)) }
     ensures kept { OnOk result (Keeps checker.old.scope checker.new.scope) }
 {
     let mut typed = Vec::new(alloc);
@@ -45,7 +46,8 @@ fn one(
     checker: &mut Checker,
     first_fault: &mut Option<Fault>,
 ) -> Result<MainStatement, AllocError>
-    ensures typed { ReportsFaults (λ s. (statement_tree s, checker_of checker.new)) first_fault.old first_fault.new result (statement_typed (checker_of checker.old) statement.now.label (source_action statement.now.action)) }
+    ensures typed { ReportsFaults (λ s. (statement_tree s, checker_of checker.new)) first_fault.old first_fault.new result
+        (statement_typed (checker_of checker.old) statement.now.label (source_action statement.now.action)) }
     ensures kept { OnOk result (Keeps checker.old.scope checker.new.scope) }
 {
     let label = label(alloc, checker, &statement.label, first_fault)?;
@@ -66,7 +68,8 @@ fn inner(
     checker: &mut Checker,
     first_fault: &mut Option<Fault>,
 ) -> Result<Vec<MainStatement>, AllocError>
-    ensures typed { ReportsFaults (λ b. (block_tree b.items, checker_of checker.new)) first_fault.old first_fault.new result (block_typed (checker_of checker.old) (source_block block.now)) }
+    ensures typed { ReportsFaults (λ b. (block_tree b.items, checker_of checker.new)) first_fault.old first_fault.new result
+        (block_typed (checker_of checker.old) (source_block block.now)) }
     ensures kept { OnOk result (Keeps checker.old.scope checker.new.scope) }
 {
     let mark = checker.scope.mark();
@@ -83,7 +86,8 @@ fn action(
     checker: &mut Checker,
     first_fault: &mut Option<Fault>,
 ) -> Result<StatementKind, AllocError>
-    ensures typed { ReportsFaults (λ a. (action_tree a, checker_of checker.new)) first_fault.old first_fault.new result (action_typed (checker_of checker.old) (source_action action.now)) }
+    ensures typed { ReportsFaults (λ a. (action_tree a, checker_of checker.new)) first_fault.old first_fault.new result
+        (action_typed (checker_of checker.old) (source_action action.now)) }
     ensures kept { OnOk result (Keeps checker.old.scope checker.new.scope) }
 {
     match action {
@@ -115,7 +119,8 @@ fn tested(
     first_fault: &mut Option<Fault>,
 ) -> Result<StatementKind, AllocError>
     requires { HasTest action.now }
-    ensures typed { ReportsFaults (λ a. (action_tree a, checker_of checker.new)) first_fault.old first_fault.new result (action_typed (checker_of checker.old) (source_action action.now)) }
+    ensures typed { ReportsFaults (λ a. (action_tree a, checker_of checker.new)) first_fault.old first_fault.new result
+        (action_typed (checker_of checker.old) (source_action action.now)) }
     ensures kept { OnOk result (Keeps checker.old.scope checker.new.scope) }
 {
     match action {
@@ -152,7 +157,8 @@ fn without_block(
     first_fault: &mut Option<Fault>,
 ) -> Result<StatementKind, AllocError>
     requires { DeclaresNothing action.now }
-    ensures { ReportsFaults (λ a. (action_tree a, checker_of checker.now)) first_fault.old first_fault.new result (action_typed (checker_of checker.now) (source_action action.now)) }
+    ensures { ReportsFaults (λ a. (action_tree a, checker_of checker.now)) first_fault.old first_fault.new result
+        (action_typed (checker_of checker.now) (source_action action.now)) }
 {
     let scope = &checker.scope;
     match action {
@@ -180,7 +186,8 @@ fn reduction_or_entry(
     first_fault: &mut Option<Fault>,
 ) -> Result<StatementKind, AllocError>
     requires { ReducesOrSetsEntry action.now }
-    ensures { ReportsFaults (λ a. (action_tree a, checker_of checker.now)) first_fault.old first_fault.new result (action_typed (checker_of checker.now) (source_action action.now)) }
+    ensures { ReportsFaults (λ a. (action_tree a, checker_of checker.now)) first_fault.old first_fault.new result
+        (action_typed (checker_of checker.now) (source_action action.now)) }
 {
     let scope = &checker.scope;
     match action {
@@ -236,7 +243,8 @@ fn repeat(
     checker: &mut Checker,
     first_fault: &mut Option<Fault>,
 ) -> Result<StatementKind, AllocError>
-    ensures typed { ReportsFaults (λ a. (action_tree a, checker_of checker.new)) first_fault.old first_fault.new result (for_typed (checker_of checker.old) at name.now first.now limit.now (λ d. statements_typed d Empty (source_block body.now))) }
+    ensures typed { ReportsFaults (λ a. (action_tree a, checker_of checker.new)) first_fault.old first_fault.new result
+        (for_typed (checker_of checker.old) at name.now first.now limit.now (λ d. statements_typed d Empty (source_block body.now))) }
     ensures kept { OnOk result (Keeps checker.old.scope checker.new.scope) }
 {
     let first = integer(alloc, &checker.scope, at, first, first_fault)?;

@@ -2,10 +2,11 @@
 ghost use Rattle.std.specs.Prelude.{◌≡◌, suc, IfOk, OnOk};
 ghost use Rattle.expression_types.specs.WithFaults.{ReportsFaults};
 ghost use Rattle.expression_types.specs.ScopeTree.{Keeps};
-ghost use Rattle.types.specs.Checker.{checker_of, condition_slot as slot_of_condition, counted, declared_in, integer_slot as slot_of_integer, labelled, set_slot as slot_of_set};
+ghost use Rattle.types.specs.Checker.{checker_of, condition_slot as slot_of_condition, counted};
+ghost use Rattle.types.specs.Checker.{declared_in, integer_slot as slot_of_integer, labelled, set_slot as slot_of_set};
 
+use crate::quoted_names::between_ends;
 use crate::reductions::Reductions;
-use crate::text::between_ends;
 use expression_types::{Entity, Fault, Names, Scope, TypeRule, note};
 use std::alloc::{AllocError, Global};
 use syntax::Name;
@@ -98,7 +99,8 @@ pub(crate) fn declare(
     entity: Entity,
     first_fault: &mut Option<Fault>,
 ) -> Result<(), AllocError>
-    ensures declared { ReportsFaults (λ _. checker_of checker.new) first_fault.old first_fault.new result (declared_in (checker_of checker.old) name.now entity) }
+    ensures declared { ReportsFaults (λ _. checker_of checker.new) first_fault.old first_fault.new result
+        (declared_in (checker_of checker.old) name.now entity) }
     ensures kept { OnOk result (Keeps checker.old.scope checker.new.scope) }
 {
     checker.scope.declare(alloc, name, entity, first_fault)?;
@@ -114,7 +116,8 @@ pub(crate) fn label(
     label: &Option<Name>,
     first_fault: &mut Option<Fault>,
 ) -> Result<Option<usize>, AllocError>
-    ensures labelled { ReportsFaults (λ place. (place, checker_of checker.new)) first_fault.old first_fault.new result (labelled (checker_of checker.old) label.now) }
+    ensures labelled { ReportsFaults (λ place. (place, checker_of checker.new)) first_fault.old first_fault.new result
+        (labelled (checker_of checker.old) label.now) }
     ensures kept { checker.new.scope ≡ checker.old.scope }
 {
     let Some(label) = label else {

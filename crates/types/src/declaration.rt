@@ -11,7 +11,8 @@ ghost use Rattle.expression_types.specs.Faults.{earlier};
 ghost use Rattle.expression_types.specs.WithFaults.{ReportsFaults, outcome};
 ghost use Rattle.types.specs.Initial.{ErrorInitializer, is_sound};
 ghost use Rattle.types.specs.Checker.{checker_of};
-ghost use Rattle.types.specs.Declaration.{declaration_typed, declarations_typed, declare_condition, declare_constant, declare_constant_as, declare_edges, declare_integer, declare_name, declare_set, declare_vector, declared_of, edge_function_declared, function_declared, has_all, begins, inside_of, is_bool as bool_type, is_int as int_type, is_vertex as vertex_type, kind as kind_by, literal_or_fault, kind_fits, kind_of as kind_by_parameters, loads, main_declared, opened, only_edges, parameter, parameters_declared, result_declared, result_entity, steps_declared, takes_weight as weight_taken, with_main};
+ghost use Rattle.types.specs.Declaration.{declaration_typed, declarations_typed, declare_condition, declare_constant, declare_constant_as, declare_edges, declare_integer, declare_name, declare_set, declare_vector, declared_of, edge_function_declared, function_declared, has_all, begins, inside_of, is_bool as bool_type};
+ghost use Rattle.types.specs.Declaration.{is_int as int_type, is_vertex as vertex_type, kind as kind_by, literal_or_fault, kind_fits, kind_of as kind_by_parameters, loads, main_declared, opened, only_edges, parameter, parameters_declared, result_declared, result_entity, steps_declared, takes_weight as weight_taken, with_main};
 ghost use Rattle.types.specs.Initializer.{initializer_tree};
 ghost use Rattle.types.specs.FunctionKind.{function_kind_tree};
 ghost use Rattle.types.specs.Literal.{literal_condition, literal_integer};
@@ -108,7 +109,8 @@ pub(crate) fn declare_all(
     declared: &mut Declared,
     first_fault: &mut Option<Fault>,
 ) -> Result<(), AllocError>
-    ensures { ReportsFaults (λ _. declared_of declared.new) first_fault.old first_fault.new result (declarations_typed (declared_of declared.old) (map declaration_tree declarations.now)) }
+    ensures { ReportsFaults (λ _. declared_of declared.new) first_fault.old first_fault.new result
+        (declarations_typed (declared_of declared.old) (map declaration_tree declarations.now)) }
 {
     'declarations: for declaration in declarations {
         declare_one(alloc, declaration, declared, first_fault)?;
@@ -122,7 +124,8 @@ fn declare_one(
     declared: &mut Declared,
     first_fault: &mut Option<Fault>,
 ) -> Result<(), AllocError>
-    ensures { ReportsFaults (λ _. declared_of declared.new) first_fault.old first_fault.new result (declaration_typed (declared_of declared.old) (declaration_tree declaration.now)) }
+    ensures { ReportsFaults (λ _. declared_of declared.new) first_fault.old first_fault.new result
+        (declaration_typed (declared_of declared.old) (declaration_tree declaration.now)) }
 {
     match declaration {
         Declaration::Constant {
@@ -187,7 +190,8 @@ fn constant_of(
     declared: &mut Declared,
     first_fault: &mut Option<Fault>,
 ) -> Result<(), AllocError>
-    ensures { ReportsFaults (λ _. declared_of declared.new) first_fault.old first_fault.new result (declare_constant (declared_of declared.old) at (parameter_tree constant.now) (initial_tree initial.now)) }
+    ensures { ReportsFaults (λ _. declared_of declared.new) first_fault.old first_fault.new result
+        (declare_constant (declared_of declared.old) at (parameter_tree constant.now) (initial_tree initial.now)) }
 {
     let initializer = read_initial(alloc, &declared.checker, at, initial, first_fault)?;
     constant_from(
@@ -210,7 +214,8 @@ fn constant_from(
     declared: &mut Declared,
     first_fault: &mut Option<Fault>,
 ) -> Result<(), AllocError>
-    ensures { ReportsFaults (λ _. declared_of declared.new) first_fault.old first_fault.new result (declare_constant_as (declared_of declared.old) at constant.now.name (initial_tree initial.now) constant.now.declared (initializer_tree initializer)) }
+    ensures { ReportsFaults (λ _. declared_of declared.new) first_fault.old first_fault.new result
+        (declare_constant_as (declared_of declared.old) at constant.now.name (initial_tree initial.now) constant.now.declared (initializer_tree initializer)) }
 {
     let name = &constant.name;
     match constant.declared {
@@ -253,7 +258,8 @@ fn constant_from(
 
 /// Notes that a value is no literal, where no part of it is faulty.
 fn note_unless_error(at: usize, initializer: &Initializer, first_fault: &mut Option<Fault>)
-    ensures { first_fault.new ≡ (if is_sound (initializer_tree initializer.now) then Some (earlier first_fault.old (record { at = at; rule = TypeRule.WrongType })) else first_fault.old) }
+    ensures { first_fault.new ≡ (if is_sound (initializer_tree initializer.now) then Some
+        (earlier first_fault.old (record { at = at; rule = TypeRule.WrongType })) else first_fault.old) }
 {
     if initializer.is_sound() {
         note(first_fault, at, TypeRule::WrongType);
@@ -269,7 +275,8 @@ fn integer(
     declared: &mut Declared,
     first_fault: &mut Option<Fault>,
 ) -> Result<(), AllocError>
-    ensures { ReportsFaults (λ _. declared_of declared.new) first_fault.old first_fault.new result (declare_integer (declared_of declared.old) at name.now (initializer_tree initializer) (initial_tree initial.now)) }
+    ensures { ReportsFaults (λ _. declared_of declared.new) first_fault.old first_fault.new result
+        (declare_integer (declared_of declared.old) at name.now (initializer_tree initializer) (initial_tree initial.now)) }
 {
     let value = literal(at, initializer, initial, first_fault);
     let place = declared.checker.names.len();
@@ -289,7 +296,8 @@ fn literal(
     initial: &Initial,
     first_fault: &mut Option<Fault>,
 ) -> i64
-    ensures { outcome first_fault.old (literal_or_fault at (is_sound (initializer_tree initializer)) (pos 0) (literal_integer (initial_tree initial.now))) ≡ (result, first_fault.new) }
+    ensures { outcome first_fault.old (literal_or_fault at (is_sound (initializer_tree initializer)) (pos 0)
+        (literal_integer (initial_tree initial.now))) ≡ (result, first_fault.new) }
 {
     match integer_literal(initial) {
         Some(n) => n,
@@ -309,7 +317,8 @@ fn condition(
     declared: &mut Declared,
     first_fault: &mut Option<Fault>,
 ) -> Result<(), AllocError>
-    ensures { ReportsFaults (λ _. declared_of declared.new) first_fault.old first_fault.new result (declare_condition (declared_of declared.old) at name.now (initializer_tree initializer) (initial_tree initial.now)) }
+    ensures { ReportsFaults (λ _. declared_of declared.new) first_fault.old first_fault.new result
+        (declare_condition (declared_of declared.old) at name.now (initializer_tree initializer) (initial_tree initial.now)) }
 {
     let value = truth_literal(at, initializer, initial, first_fault);
     let place = declared.checker.names.len();
@@ -329,7 +338,8 @@ fn truth_literal(
     initial: &Initial,
     first_fault: &mut Option<Fault>,
 ) -> bool
-    ensures { outcome first_fault.old (literal_or_fault at (is_sound (initializer_tree initializer)) false (literal_condition (initial_tree initial.now))) ≡ (result, first_fault.new) }
+    ensures { outcome first_fault.old (literal_or_fault at (is_sound (initializer_tree initializer)) false
+        (literal_condition (initial_tree initial.now))) ≡ (result, first_fault.new) }
 {
     match condition_literal(initial) {
         Some(b) => b,
@@ -348,7 +358,8 @@ fn set(
     declared: &mut Declared,
     first_fault: &mut Option<Fault>,
 ) -> Result<(), AllocError>
-    ensures { ReportsFaults (λ _. declared_of declared.new) first_fault.old first_fault.new result (declare_set (declared_of declared.old) at name.now (initializer_tree initializer)) }
+    ensures { ReportsFaults (λ _. declared_of declared.new) first_fault.old first_fault.new result
+        (declare_set (declared_of declared.old) at name.now (initializer_tree initializer)) }
 {
     want_all(at, initializer, first_fault);
     let slot = VarRef {
@@ -384,7 +395,8 @@ fn vector(
     declared: &mut Declared,
     first_fault: &mut Option<Fault>,
 ) -> Result<(), AllocError>
-    ensures { ReportsFaults (λ _. declared_of declared.new) first_fault.old first_fault.new result (declare_vector (declared_of declared.old) at name.now (initializer_tree initializer) (initial_tree initial.now)) }
+    ensures { ReportsFaults (λ _. declared_of declared.new) first_fault.old first_fault.new result
+        (declare_vector (declared_of declared.old) at name.now (initializer_tree initializer) (initial_tree initial.now)) }
 {
     let beginning = beginning_of(at, initializer, initial, first_fault);
     let place = declared.checker.names.len();
@@ -421,7 +433,8 @@ fn edges(
     declared: &mut Declared,
     first_fault: &mut Option<Fault>,
 ) -> Result<(), AllocError>
-    ensures { ReportsFaults (λ _. declared_of declared.new) first_fault.old first_fault.new result (declare_edges weights (declared_of declared.old) at name.now (initializer_tree initializer)) }
+    ensures { ReportsFaults (λ _. declared_of declared.new) first_fault.old first_fault.new result
+        (declare_edges weights (declared_of declared.old) at name.now (initializer_tree initializer)) }
 {
     want_loaded(at, initializer, first_fault);
     let place = declared.checker.names.len();
@@ -488,7 +501,8 @@ fn kind_by_signature(parameters: &[Parameter], gives: &Option<Parameter>) -> Fun
 
 /// What a function of two vertices and no result is, by its parameters after them.
 fn kind_on_edge(more: &[Parameter]) -> FunctionKind
-    ensures { (src dst : ParameterTree) → src.declared ≡ DeclaredType.Vertex → dst.declared ≡ DeclaredType.Vertex → function_kind_tree result ≡ kind_by_parameters (src ∷ dst ∷ map parameter_tree more.now) None }
+    ensures { (src dst : ParameterTree) → src.declared ≡ DeclaredType.Vertex → dst.declared ≡ DeclaredType.Vertex
+        → function_kind_tree result ≡ kind_by_parameters (src ∷ dst ∷ map parameter_tree more.now) None }
 {
     let Some((third, others)) = more.split_first() else {
         return FunctionKind::Edge(false);
@@ -567,7 +581,8 @@ fn open(
     checker: &mut Checker,
     first_fault: &mut Option<Fault>,
 ) -> Result<(), AllocError>
-    ensures opened { ReportsFaults (λ _. checker_of checker.new) first_fault.old first_fault.new result (opened (checker_of checker.old) (function_kind_tree kind) (map parameter_tree parameters.now) (option_map parameter_tree gives.now)) }
+    ensures opened { ReportsFaults (λ _. checker_of checker.new) first_fault.old first_fault.new result
+        (opened (checker_of checker.old) (function_kind_tree kind) (map parameter_tree parameters.now) (option_map parameter_tree gives.now)) }
     ensures kept { OnOk result (Keeps checker.old.scope checker.new.scope) }
 {
     checker.scope.enter(inside(kind));
@@ -594,7 +609,8 @@ fn declare_parameters(
     checker: &mut Checker,
     first_fault: &mut Option<Fault>,
 ) -> Result<(), AllocError>
-    ensures declared { ReportsFaults (λ _. checker_of checker.new) first_fault.old first_fault.new result (parameters_declared weighted (checker_of checker.old) Endpoint.Source (map parameter_tree parameters.now)) }
+    ensures declared { ReportsFaults (λ _. checker_of checker.new) first_fault.old first_fault.new result
+        (parameters_declared weighted (checker_of checker.old) Endpoint.Source (map parameter_tree parameters.now)) }
     ensures kept { OnOk result (Keeps checker.old.scope checker.new.scope) }
 {
     let mut endpoint = Endpoint::Source;
@@ -625,7 +641,8 @@ fn declare_result(
     checker: &mut Checker,
     first_fault: &mut Option<Fault>,
 ) -> Result<(), AllocError>
-    ensures declared { ReportsFaults (λ _. checker_of checker.new) first_fault.old first_fault.new result (result_declared (checker_of checker.old) (function_kind_tree kind) (option_map parameter_tree gives.now)) }
+    ensures declared { ReportsFaults (λ _. checker_of checker.new) first_fault.old first_fault.new result
+        (result_declared (checker_of checker.old) (function_kind_tree kind) (option_map parameter_tree gives.now)) }
     ensures kept { OnOk result (Keeps checker.old.scope checker.new.scope) }
 {
     match gives {
@@ -660,7 +677,9 @@ fn main_function(
     declared: &mut Declared,
     first_fault: &mut Option<Fault>,
 ) -> Result<(), AllocError>
-    ensures { ReportsFaults (λ _. declared_of declared.new) first_fault.old first_fault.new result (main_declared (declared_of declared.old) fits name.now (map parameter_tree parameters.now) (option_map parameter_tree gives.now) (source_block body.now)) }
+    ensures { ReportsFaults (λ _. declared_of declared.new) first_fault.old first_fault.new result
+        (main_declared (declared_of declared.old) fits name.now (map parameter_tree parameters.now) (option_map parameter_tree gives.now)
+        (source_block body.now)) }
 {
     let checker = &mut declared.checker;
     checker.statements = Vec::new(alloc);
@@ -701,7 +720,9 @@ fn function(
     declared: &mut Declared,
     first_fault: &mut Option<Fault>,
 ) -> Result<(), AllocError>
-    ensures { ReportsFaults (λ _. declared_of declared.new) first_fault.old first_fault.new result (steps_declared (declared_of declared.old) at (function_kind_tree kind) name.now (map parameter_tree parameters.now) (option_map parameter_tree gives.now) (source_block body.now)) }
+    ensures { ReportsFaults (λ _. declared_of declared.new) first_fault.old first_fault.new result
+        (steps_declared (declared_of declared.old) at (function_kind_tree kind) name.now (map parameter_tree parameters.now)
+        (option_map parameter_tree gives.now) (source_block body.now)) }
 {
     want_kind(at, kind, first_fault);
     let checker = &mut declared.checker;
@@ -734,7 +755,8 @@ fn function_is(
     declared: &mut Declared,
     first_fault: &mut Option<Fault>,
 ) -> Result<(), AllocError>
-    ensures { ReportsFaults (λ _. declared_of declared.new) first_fault.old first_fault.new result (function_declared (declared_of declared.old) (function_kind_tree kind) name.now (steps_tree steps.items)) }
+    ensures { ReportsFaults (λ _. declared_of declared.new) first_fault.old first_fault.new result
+        (function_declared (declared_of declared.old) (function_kind_tree kind) name.now (steps_tree steps.items)) }
 {
     let function = Function {
         name: declared.checker.names.len(),
@@ -780,7 +802,8 @@ fn edge_function(
     declared: &mut Declared,
     first_fault: &mut Option<Fault>,
 ) -> Result<(), AllocError>
-    ensures { ReportsFaults (λ _. declared_of declared.new) first_fault.old first_fault.new result (edge_function_declared weighted (declared_of declared.old) name.now (function_tree function)) }
+    ensures { ReportsFaults (λ _. declared_of declared.new) first_fault.old first_fault.new result
+        (edge_function_declared weighted (declared_of declared.old) name.now (function_tree function)) }
 {
     let entity = Entity::EdgeFunction(declared.edge_functions.len(), weighted);
     name_is(alloc, name, entity, declared, first_fault)?;

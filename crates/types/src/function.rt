@@ -9,7 +9,8 @@ ghost use Rattle.expression_types.specs.ScopeTree.{Keeps};
 ghost use Rattle.expression_types.specs.ValueTree.{value_tree};
 ghost use Rattle.types.specs.Checker.{checker_of};
 ghost use Rattle.types.specs.Initializer.{initializer_tree};
-ghost use Rattle.types.specs.Step.{assign_step, assigned_step, declare_step, declare_step_as, entry_step, may_reduce, may_set, no_add, no_apply, no_step, one_reduction, own_vertex, reduce_entry_step, reduce_step, reduced_step, reduction_step, same_endpoint, same_reduction, set_entry_step, written_at};
+ghost use Rattle.types.specs.Step.{assign_step, assigned_step, declare_step, declare_step_as, entry_step, may_reduce, may_set, no_add, no_apply, no_step};
+ghost use Rattle.types.specs.Step.{one_reduction, own_vertex, reduce_entry_step, reduce_step, reduced_step, reduction_step, same_endpoint, same_reduction, set_entry_step, written_at};
 ghost use Rattle.types.specs.Variables.{step_variable_as};
 
 use crate::checker::{Checker, declare};
@@ -59,7 +60,8 @@ pub(crate) fn declare_variable(
     initial: &Initial,
     first_fault: &mut Option<Fault>,
 ) -> Result<FunctionStatement, AllocError>
-    ensures typed { ReportsFaults (λ s. (step_tree s, checker_of checker.new)) first_fault.old first_fault.new result (declare_step (checker_of checker.old) at variable.now.name variable.now.declared (initial_tree initial.now)) }
+    ensures typed { ReportsFaults (λ s. (step_tree s, checker_of checker.new)) first_fault.old first_fault.new result
+        (declare_step (checker_of checker.old) at variable.now.name variable.now.declared (initial_tree initial.now)) }
     ensures kept { OnOk result (Keeps checker.old.scope checker.new.scope) }
 {
     let initializer = read_initial(alloc, checker, at, initial, first_fault)?;
@@ -74,7 +76,8 @@ fn declare_initialized(
     initializer: Initializer,
     first_fault: &mut Option<Fault>,
 ) -> Result<FunctionStatement, AllocError>
-    ensures typed { ReportsFaults (λ s. (step_tree s, checker_of checker.new)) first_fault.old first_fault.new result (declare_step_as (checker_of checker.old) at variable.now.name (initializer_tree initializer) variable.now.declared) }
+    ensures typed { ReportsFaults (λ s. (step_tree s, checker_of checker.new)) first_fault.old first_fault.new result
+        (declare_step_as (checker_of checker.old) at variable.now.name (initializer_tree initializer) variable.now.declared) }
     ensures kept { OnOk result (Keeps checker.old.scope checker.new.scope) }
 {
     let (entity, step) = declaration(
@@ -98,7 +101,8 @@ fn declaration(
     initializer: Initializer,
     first_fault: &mut Option<Fault>,
 ) -> (Entity, FunctionStatement)
-    ensures { outcome first_fault.old (step_variable_as (checker_of checker.now) at (initializer_tree initializer) declared) ≡ ((result.0, step_tree result.1), first_fault.new) }
+    ensures { outcome first_fault.old (step_variable_as (checker_of checker.now) at (initializer_tree initializer) declared)
+        ≡ ((result.0, step_tree result.1), first_fault.new) }
 {
     match declared {
         DeclaredType::Int => {
@@ -356,7 +360,8 @@ pub(crate) fn reduce_entry(
     value: &Expression,
     first_fault: &mut Option<Fault>,
 ) -> Result<FunctionStatement, AllocError>
-    ensures typed { ReportsFaults (λ s. (step_tree s, checker_of checker.new)) first_fault.old first_fault.new result (reduce_entry_step (checker_of checker.old) at name.now index.now by value.now) }
+    ensures typed { ReportsFaults (λ s. (step_tree s, checker_of checker.new)) first_fault.old first_fault.new result
+        (reduce_entry_step (checker_of checker.old) at name.now index.now by value.now) }
     ensures kept { checker.new.scope ≡ checker.old.scope }
 {
     let vector = vector(&checker.scope, at, name, first_fault);

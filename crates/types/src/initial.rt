@@ -8,7 +8,8 @@ ghost use Rattle.expression_types.specs.WithFaults.{ReportsFaults, outcome};
 ghost use Rattle.types.specs.Checker.{checker_of};
 ghost use Rattle.types.specs.Initializer.{apply_end_tree, initializer_tree};
 ghost use Rattle.expression_types.specs.Faults.{earlier};
-ghost use Rattle.types.specs.Initial.{ErrorInitializer, initializer_condition, edge_function, end_of, ends_given, filter_function, filter_named, filtered, initializer_of, given_filter, initializer_integer, is_all, is_degrees, is_edges, is_loaded, is_sound, names_error, is_error_end, is_wrong, lacks_weights, loaded, initializer_members, modified, new_set, of_edges, reads_weight, vertex_function, writes_vector};
+ghost use Rattle.types.specs.Initial.{ErrorInitializer, initializer_condition, edge_function, end_of, ends_given, filter_function, filter_named, filtered, initializer_of, given_filter, initializer_integer, is_all, is_degrees, is_edges};
+ghost use Rattle.types.specs.Initial.{is_loaded, is_sound, names_error, is_error_end, is_wrong, lacks_weights, loaded, initializer_members, modified, new_set, of_edges, reads_weight, vertex_function, writes_vector};
 
 use crate::checker::Checker;
 use crate::wanted::{condition_of, integer_of, members_of};
@@ -401,7 +402,8 @@ fn apply_modified(
     vector: &Name,
     first_fault: &mut Option<Fault>,
 ) -> Initializer
-    ensures { outcome first_fault.old (initializer_of (checker_of checker.now) at (ApplyModified edges.now (ends_tree ends.now) function.now vector.now)) ≡ (initializer_tree result, first_fault.new) }
+    ensures { outcome first_fault.old (initializer_of (checker_of checker.now) at
+        (ApplyModified edges.now (ends_tree ends.now) function.now vector.now)) ≡ (initializer_tree result, first_fault.new) }
 {
     let scope = &checker.scope;
     let edges = entity(scope, edges, first_fault);
@@ -422,7 +424,8 @@ fn modified_between(
     vector: Entity,
     first_fault: &mut Option<Fault>,
 ) -> Initializer
-    ensures { outcome first_fault.old (modified (checker_of checker.now) at edges (apply_end_tree from) (apply_end_tree to) function vector) ≡ (initializer_tree result, first_fault.new) }
+    ensures { outcome first_fault.old (modified (checker_of checker.now) at edges (apply_end_tree from) (apply_end_tree to) function vector)
+        ≡ (initializer_tree result, first_fault.new) }
 {
     let unclear = is_error_entity(edges)
         || from.is_error()

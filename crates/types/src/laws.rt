@@ -10,11 +10,14 @@ ghost use Rattle.types.specs.Program.{program_of};
 /// The law that each fault of a source stands where a name or a label does, or a keyword that begins a declaration or a
 /// statement, or at the length of the text; and that each call of a schedule stands where its keyword does.
 pub fn faults_stand_in_the_source()
-    ensures faults { (source : SourceTree) (length : ℕ) → AllByRecursion (λ f. IsOffsetIn (source_terminals source) f.at ⊎ (f.at ≡ length)) (program_of source length).faults }
-    ensures calls { (source : SourceTree) (length : ℕ) → AllByRecursion (λ call. IsOffsetIn (source_terminals source) call.at) (program_of source length).value.schedule }
+    ensures faults { (source : SourceTree) (length : ℕ) → AllByRecursion (λ f. IsOffsetIn (source_terminals source) f.at ⊎ (f.at ≡ length))
+        (program_of source length).faults }
+    ensures calls { (source : SourceTree) (length : ℕ) → AllByRecursion (λ call. IsOffsetIn (source_terminals source) call.at)
+        (program_of source length).value.schedule }
 {}
 
 /// The law that an edge function reduces a vector in one way only, and writes no entry by `=`.
 pub fn edge_functions_only_reduce()
-    ensures { (source : SourceTree) (length : ℕ) → AllByRecursion (λ f. ReducesInOneWay f.steps × SetsNoEntry f.steps) (program_of source length).value.edge_functions }
+    ensures { (source : SourceTree) (length : ℕ) → AllByRecursion (λ f. ReducesInOneWay f.steps
+        × SetsNoEntry f.steps) (program_of source length).value.edge_functions }
 {}

@@ -25,11 +25,11 @@ mod initial;
 mod laws;
 mod literal;
 mod program;
+mod quoted_names;
 mod reductions;
 mod schedule;
 mod statement;
 mod step;
-mod text;
 mod wanted;
 
 pub use error::CheckError;

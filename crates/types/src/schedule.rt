@@ -6,7 +6,7 @@ ghost use Rattle.types.specs.Program.{schedule_call, schedule_calls};
 ghost use Rattle.types.specs.Checker.{without_ends};
 ghost use Rattle.std.specs.Option.{option_map};
 
-use crate::text::between_ends;
+use crate::quoted_names::between_ends;
 use std::alloc::{AllocError, Global};
 use syntax::{Call, Chain, QuotedText};
 use typed_tree::{Name, ScheduleCall};
@@ -29,7 +29,8 @@ pub(crate) fn calls(
 }
 
 fn push_chain(alloc: Global, chain: &Chain, calls: &mut Vec<ScheduleCall>) -> Result<(), AllocError>
-    ensures { OnOk result (map call_tree calls.new.items ≡ map call_tree calls.old.items ++ map schedule_call (source_call chain.now.first ∷ map source_call chain.now.more.items)) }
+    ensures { OnOk result (map call_tree calls.new.items ≡ map call_tree calls.old.items
+        ++ map schedule_call (source_call chain.now.first ∷ map source_call chain.now.more.items)) }
 {
     calls.push(call_of(alloc, &chain.first)?)?;
     'calls: for call in &chain.more {

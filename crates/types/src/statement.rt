@@ -11,7 +11,8 @@ ghost use Rattle.expression_types.specs.ValueTree.{value_tree};
 ghost use Rattle.types.specs.Checker.{checker_of};
 ghost use Rattle.types.specs.Initializer.{apply_end_tree, initializer_tree};
 ghost use Rattle.types.specs.Initial.{edge_function, names_error, vertex_function};
-ghost use Rattle.types.specs.Statement.{add_vertex as vertex_added, added, applied, apply as apply_statement, assign as assignment, assigned, declare_as, declare_variable as variable_declared, edges_applied, entry_reduced, entry_set, has_ends as ends_are_written, no_action, print as print_statement, printed, reduce as reduction_statement, reduce_entry as entry_reduction, reduced, set_entry as entry_setting, vertices_applied};
+ghost use Rattle.types.specs.Statement.{add_vertex as vertex_added, added, applied, apply as apply_statement, assign as assignment, assigned, declare_as, declare_variable as variable_declared, edges_applied, entry_reduced};
+ghost use Rattle.types.specs.Statement.{entry_set, has_ends as ends_are_written, no_action, print as print_statement, printed, reduce as reduction_statement, reduce_entry as entry_reduction, reduced, set_entry as entry_setting, vertices_applied};
 ghost use Rattle.types.specs.Variables.{variable_as};
 
 use crate::checker::{Checker, declare};
@@ -53,7 +54,8 @@ pub(crate) fn declare_variable(
     initial: &Initial,
     first_fault: &mut Option<Fault>,
 ) -> Result<StatementKind, AllocError>
-    ensures typed { ReportsFaults (λ a. (action_tree a, checker_of checker.new)) first_fault.old first_fault.new result (variable_declared (checker_of checker.old) at variable.now.name variable.now.declared (initial_tree initial.now)) }
+    ensures typed { ReportsFaults (λ a. (action_tree a, checker_of checker.new)) first_fault.old first_fault.new result
+        (variable_declared (checker_of checker.old) at variable.now.name variable.now.declared (initial_tree initial.now)) }
     ensures kept { OnOk result (Keeps checker.old.scope checker.new.scope) }
 {
     let initializer = read_initial(alloc, checker, at, initial, first_fault)?;
@@ -68,7 +70,8 @@ fn declare_initialized(
     initializer: Initializer,
     first_fault: &mut Option<Fault>,
 ) -> Result<StatementKind, AllocError>
-    ensures typed { ReportsFaults (λ a. (action_tree a, checker_of checker.new)) first_fault.old first_fault.new result (declare_as (checker_of checker.old) at variable.now.name (initializer_tree initializer) variable.now.declared) }
+    ensures typed { ReportsFaults (λ a. (action_tree a, checker_of checker.new)) first_fault.old first_fault.new result
+        (declare_as (checker_of checker.old) at variable.now.name (initializer_tree initializer) variable.now.declared) }
     ensures kept { OnOk result (Keeps checker.old.scope checker.new.scope) }
 {
     let (entity, action) = declaration(checker, at, variable.declared, initializer, first_fault);
@@ -84,7 +87,8 @@ fn declaration(
     initializer: Initializer,
     first_fault: &mut Option<Fault>,
 ) -> (Entity, StatementKind)
-    ensures { outcome first_fault.old (variable_as (checker_of checker.now) at (initializer_tree initializer) declared) ≡ ((result.0, action_tree result.1), first_fault.new) }
+    ensures { outcome first_fault.old (variable_as (checker_of checker.now) at (initializer_tree initializer) declared)
+        ≡ ((result.0, action_tree result.1), first_fault.new) }
 {
     match declared {
         DeclaredType::Int => {
@@ -378,7 +382,8 @@ fn apply_to_edges(
     function: Entity,
     first_fault: &mut Option<Fault>,
 ) -> StatementKind
-    ensures { outcome first_fault.old (edges_applied at (apply_end_tree from) (apply_end_tree to) (names_error function) (edge_function function)) ≡ (action_tree result, first_fault.new) }
+    ensures { outcome first_fault.old (edges_applied at (apply_end_tree from) (apply_end_tree to) (names_error function) (edge_function function))
+        ≡ (action_tree result, first_fault.new) }
 {
     match edge_function_named(function) {
         Some(place) => {

@@ -27,7 +27,8 @@ pub(crate) fn steps(
     checker: &mut Checker,
     first_fault: &mut Option<Fault>,
 ) -> Result<Vec<FunctionStatement>, AllocError>
-    ensures typed { ReportsFaults (λ b. (steps_tree b.items, checker_of checker.new)) first_fault.old first_fault.new result (steps_typed (checker_of checker.old) NoStep (source_block block.now)) }
+    ensures typed { ReportsFaults (λ b. (steps_tree b.items, checker_of checker.new)) first_fault.old first_fault.new result
+        (steps_typed (checker_of checker.old) NoStep (source_block block.now)) }
     ensures kept { OnOk result (Keeps checker.old.scope checker.new.scope) }
 {
     let mut typed = Vec::new(alloc);
@@ -46,7 +47,8 @@ fn one(
     checker: &mut Checker,
     first_fault: &mut Option<Fault>,
 ) -> Result<FunctionStatement, AllocError>
-    ensures typed { ReportsFaults (λ s. (step_tree s, checker_of checker.new)) first_fault.old first_fault.new result (labelled_step (checker_of checker.old) statement.now.label (λ c. step_typed c (source_action statement.now.action))) }
+    ensures typed { ReportsFaults (λ s. (step_tree s, checker_of checker.new)) first_fault.old first_fault.new result
+        (labelled_step (checker_of checker.old) statement.now.label (λ c. step_typed c (source_action statement.now.action))) }
     ensures kept { OnOk result (Keeps checker.old.scope checker.new.scope) }
 {
     let _place = label(alloc, checker, &statement.label, first_fault)?;
@@ -61,7 +63,8 @@ fn inner(
     checker: &mut Checker,
     first_fault: &mut Option<Fault>,
 ) -> Result<Vec<FunctionStatement>, AllocError>
-    ensures typed { ReportsFaults (λ b. (steps_tree b.items, checker_of checker.new)) first_fault.old first_fault.new result (steps_inside (checker_of checker.old) (source_block block.now)) }
+    ensures typed { ReportsFaults (λ b. (steps_tree b.items, checker_of checker.new)) first_fault.old first_fault.new result
+        (steps_inside (checker_of checker.old) (source_block block.now)) }
     ensures kept { OnOk result (Keeps checker.old.scope checker.new.scope) }
 {
     let mark = checker.scope.mark();
@@ -78,7 +81,8 @@ fn step(
     checker: &mut Checker,
     first_fault: &mut Option<Fault>,
 ) -> Result<FunctionStatement, AllocError>
-    ensures typed { ReportsFaults (λ s. (step_tree s, checker_of checker.new)) first_fault.old first_fault.new result (step_typed (checker_of checker.old) (source_action action.now)) }
+    ensures typed { ReportsFaults (λ s. (step_tree s, checker_of checker.new)) first_fault.old first_fault.new result
+        (step_typed (checker_of checker.old) (source_action action.now)) }
     ensures kept { OnOk result (Keeps checker.old.scope checker.new.scope) }
 {
     match action {
@@ -110,7 +114,8 @@ fn tested(
     first_fault: &mut Option<Fault>,
 ) -> Result<FunctionStatement, AllocError>
     requires { HasTest action.now }
-    ensures typed { ReportsFaults (λ s. (step_tree s, checker_of checker.new)) first_fault.old first_fault.new result (step_typed (checker_of checker.old) (source_action action.now)) }
+    ensures typed { ReportsFaults (λ s. (step_tree s, checker_of checker.new)) first_fault.old first_fault.new result
+        (step_typed (checker_of checker.old) (source_action action.now)) }
     ensures kept { OnOk result (Keeps checker.old.scope checker.new.scope) }
 {
     match action {
@@ -148,7 +153,8 @@ fn without_block(
     first_fault: &mut Option<Fault>,
 ) -> Result<FunctionStatement, AllocError>
     requires { DeclaresNothing action.now }
-    ensures typed { ReportsFaults (λ s. (step_tree s, checker_of checker.new)) first_fault.old first_fault.new result (step_typed (checker_of checker.old) (source_action action.now)) }
+    ensures typed { ReportsFaults (λ s. (step_tree s, checker_of checker.new)) first_fault.old first_fault.new result
+        (step_typed (checker_of checker.old) (source_action action.now)) }
     ensures kept { checker.new.scope ≡ checker.old.scope }
 {
     match action {
@@ -187,7 +193,8 @@ fn reduction_or_entry(
     first_fault: &mut Option<Fault>,
 ) -> Result<FunctionStatement, AllocError>
     requires { ReducesOrSetsEntry action.now }
-    ensures typed { ReportsFaults (λ s. (step_tree s, checker_of checker.new)) first_fault.old first_fault.new result (step_typed (checker_of checker.old) (source_action action.now)) }
+    ensures typed { ReportsFaults (λ s. (step_tree s, checker_of checker.new)) first_fault.old first_fault.new result
+        (step_typed (checker_of checker.old) (source_action action.now)) }
     ensures kept { checker.new.scope ≡ checker.old.scope }
 {
     match action {
@@ -249,7 +256,8 @@ fn repeat(
     checker: &mut Checker,
     first_fault: &mut Option<Fault>,
 ) -> Result<FunctionStatement, AllocError>
-    ensures typed { ReportsFaults (λ s. (step_tree s, checker_of checker.new)) first_fault.old first_fault.new result (no_for (checker_of checker.old) at name.now first.now limit.now (λ d. steps_typed d NoStep (source_block body.now))) }
+    ensures typed { ReportsFaults (λ s. (step_tree s, checker_of checker.new)) first_fault.old first_fault.new result
+        (no_for (checker_of checker.old) at name.now first.now limit.now (λ d. steps_typed d NoStep (source_block body.now))) }
     ensures kept { OnOk result (Keeps checker.old.scope checker.new.scope) }
 {
     let step = wrong(at, alloc, first_fault);

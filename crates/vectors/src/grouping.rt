@@ -24,7 +24,8 @@ pub(crate) fn locate_groups(locations: &mut [Location], groups: &[Sequence<usize
 /// Puts the vectors of one group side by side, after those of the groups before it.
 fn locate_group(locations: &mut [Location], groups: &[Sequence<usize>], k: usize) -> bool
     requires { k < length groups.now }
-    ensures located { IsTrue result → (start : List Location) → AreLocated start groups.now k 0 locations.old → AreLocated start groups.now (k + 1) 0 locations.new }
+    ensures located { IsTrue result → (start : List Location) → AreLocated start groups.now k 0 locations.old
+        → AreLocated start groups.now (k + 1) 0 locations.new }
     ensures fit { result ≡ false → (start : List Location) → AreLocated start groups.now k 0 locations.old → FitTogether start groups.now → ⊥ }
 {
     let names = groups[k].as_slice();

@@ -41,7 +41,8 @@ pub(crate) fn own_locations(
 /// The vector that stands at a location, to be read.
 pub(crate) fn lane_of(arrays: &[Sequence<i64>], location: Location) -> Lane<'_>
     requires { StandsIn arrays.now location }
-    ensures { (v : ℕ) → lane_entry result v ≡ (if nat_lt v location.vertices then number_at arrays.now location.array (v * location.stride + location.first) else pos 0) }
+    ensures { (v : ℕ) → lane_entry result v ≡ (if nat_lt v location.vertices then number_at arrays.now location.array
+        (v * location.stride + location.first) else pos 0) }
 {
     Lane {
         numbers: arrays[location.array].as_slice(),

@@ -1,3 +1,5 @@
+//! The error of versions: which steps are refused.
+
 ghost use Rattle.std.specs.Prelude.{◌≡◌};
 ghost use Rattle.version_list.specs.declared.error.VersionError.TheVariants.{NoMemory};
 ghost use Rattle.version_list.specs.Refusal.{number_of, from_graph};

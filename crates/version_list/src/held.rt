@@ -1,3 +1,5 @@
+//! The open tickets, and the versions that they hold.
+
 ghost use Rattle.std.specs.Prelude.{◌≡◌, ℕ, ◌+◌, ◌<◌, ◌^◌, ◌==◌, if◌then◌else◌, nat_eq, None, Some, is_some, IsSome, OnOk};
 ghost use Rattle.std.specs.Option.{option_map, option_copied};
 ghost use Rattle.indexmap.specs.IndexMap.{IsEmpty, IsUnchanged, get, index_map_len};

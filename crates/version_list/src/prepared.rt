@@ -1,3 +1,5 @@
+//! Commits, holds and trims that are prepared: nothing that follows needs memory.
+
 use crate::step::{Done, Ticket, Which};
 use tree_batch::Graph;
 

@@ -1,3 +1,5 @@
+//! Steps of the versions, their replies, and tickets.
+
 use tree_batch::Batch;
 
 /// Which version is asked for.

@@ -3,7 +3,8 @@ ghost use Rattle.std.specs.Prelude.{◌≡◌, false, IfOk};
 ghost use Rattle.std.specs.Option.{option_map};
 ghost use Rattle.typed_tree.specs.BlockTree.{action_tree, block_tree};
 ghost use Rattle.typed_tree.specs.ProgramTree.{program_tree};
-ghost use Rattle.plans.specs.Fusing.{fusion_role_of, edges_together as edges_done, is_with as does_fuse, together as done_together, vertices_together as vertices_done, with_next};
+ghost use Rattle.plans.specs.Fusing.{fusion_role_of, edges_together as edges_done, is_with as does_fuse};
+ghost use Rattle.plans.specs.Fusing.{together as done_together, vertices_together as vertices_done, with_next};
 ghost use Rattle.plans.specs.Parts.{edge_apply_tree, together_tree, vertex_apply_tree};
 
 use crate::fusing::applies::{edge_apply_of, vertex_apply_of};
@@ -26,7 +27,8 @@ pub(crate) fn pair_at(
     statement: &MainStatement,
     rest: &[MainStatement],
 ) -> Result<Option<FusedPair>, AllocError>
-    ensures { IfOk result (λ both. fusion_role_of (program_tree program.now) schedule.now depth false statement.now.label (action_tree statement.now.action) (block_tree rest.now) ≡ with_next (option_map together_tree both)) }
+    ensures { IfOk result (λ both. fusion_role_of (program_tree program.now) schedule.now depth false statement.now.label
+        (action_tree statement.now.action) (block_tree rest.now) ≡ with_next (option_map together_tree both)) }
 {
     match rest.first() {
         Some(next) => {
@@ -59,7 +61,8 @@ pub(crate) fn together(
     first: &StatementKind,
     second: &StatementKind,
 ) -> Result<Option<FusedPair>, AllocError>
-    ensures { IfOk result (λ both. option_map together_tree both ≡ done_together (program_tree program.now) depth (action_tree first.now) (action_tree second.now)) }
+    ensures { IfOk result (λ both. option_map together_tree both
+        ≡ done_together (program_tree program.now) depth (action_tree first.now) (action_tree second.now)) }
 {
     let edges = edges_together(
         alloc,
@@ -84,7 +87,8 @@ fn edges_together(
     first: Option<EdgeApply>,
     second: Option<EdgeApply>,
 ) -> Result<Option<FusedPair>, AllocError>
-    ensures { IfOk result (λ both. option_map together_tree both ≡ edges_done (program_tree program.now) depth (option_map edge_apply_tree first) (option_map edge_apply_tree second)) }
+    ensures { IfOk result (λ both. option_map together_tree both
+        ≡ edges_done (program_tree program.now) depth (option_map edge_apply_tree first) (option_map edge_apply_tree second)) }
 {
     let (Some(first), Some(second)) = (first, second) else {
         return Ok(None);
@@ -104,7 +108,8 @@ fn vertices_together(
     first: Option<VertexApply>,
     second: Option<VertexApply>,
 ) -> Option<FusedPair>
-    ensures { option_map together_tree result ≡ vertices_done (program_tree program.now) (option_map vertex_apply_tree first) (option_map vertex_apply_tree second) }
+    ensures { option_map together_tree result ≡ vertices_done (program_tree program.now) (option_map vertex_apply_tree first)
+        (option_map vertex_apply_tree second) }
 {
     let (Some(first), Some(second)) = (first, second) else {
         return None;

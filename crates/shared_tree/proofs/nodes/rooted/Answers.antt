@@ -1,6 +1,6 @@
 use Rattle.std.proofs.Common.{◌≡◌, ◌+◌, max}
 use Rattle.shared_tree.proofs.Forks.{fork_made}
-use Rattle.shared_tree.proofs.open.rooted.Goals as goal
+use Rattle.shared_tree.proofs.nodes.rooted.Goals as goal
 
 pub of-requires : goal.of-requires
 of-requires g c =

@@ -2,7 +2,7 @@ use Rattle.std.proofs.Common.{◌≡◌, ◌++◌, length, drop}
 use Rattle.std.specs.List.{zip}
 use Rattle.std.specs.Map.{keys_of}
 use Rattle.ascending_lists.specs.MapOperations.{without_keys}
-use Rattle.set_ops.proofs.begin.without_common.Given as goal
+use Rattle.set_ops.proofs.halves.without_common.Given as goal
 
 abbrev pub invariant-loop-place : goal.invariant-loop-place
 invariant-loop-place l = record {

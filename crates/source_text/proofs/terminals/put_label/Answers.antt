@@ -2,7 +2,7 @@ use Rattle.std.proofs.Common.{refl}
 use Rattle.std.proofs.lemmas.Result.{on_ok_weaker}
 use Rattle.syntax.specs.Terminals.{Label}
 use Rattle.source_text.proofs.Puts.{put_terminal}
-use Rattle.source_text.proofs.text.put_label.Goals as goal
+use Rattle.source_text.proofs.terminals.put_label.Goals as goal
 
 pub returns : goal.returns
 returns c = on_ok_weaker c.put.result (put_terminal (Label c.args.label.now) c.bytes.result.now 32 c.args.out.now.items c.put.new.out.items c.bytes.ensures refl) c.put.ensures

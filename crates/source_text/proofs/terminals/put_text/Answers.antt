@@ -2,7 +2,7 @@ use Rattle.std.proofs.Common.{refl}
 use Rattle.std.proofs.lemmas.Result.{on_ok_weaker}
 use Rattle.syntax.specs.Terminals.{Text}
 use Rattle.source_text.proofs.Puts.{put_terminal}
-use Rattle.source_text.proofs.text.put_text.Goals as goal
+use Rattle.source_text.proofs.terminals.put_text.Goals as goal
 
 pub returns : goal.returns
 returns c = on_ok_weaker c.put.result (put_terminal (Text c.args.text.now.bytes.items) c.bytes.result.now 32 c.args.out.now.items c.put.new.out.items c.bytes.ensures refl) c.put.ensures

@@ -8,8 +8,8 @@ use Rattle.ascending_lists.specs.MapOperations.{without_keys}
 use Rattle.ascending_lists.proofs.Membership.{has_if, has_only}
 use Rattle.tail_codec.proofs.Columns.{zip_append}
 use Rattle.tail_codec.proofs.Writing.{key_of, length_keys}
-use Rattle.set_ops.proofs.begin.without_common.Goals as goal
-use Rattle.set_ops.proofs.begin.without_common.Goals.{then-not-contains+in_ok-push+in_ok-push-2, else-not-contains}
+use Rattle.set_ops.proofs.halves.without_common.Goals as goal
+use Rattle.set_ops.proofs.halves.without_common.Goals.{then-not-contains+in_ok-push+in_ok-push-2, else-not-contains}
 
 kept : (e : ℕ × ℤ) (es : List (ℕ × ℤ)) (ks : List ℕ) → (Contains ks e.0 → ⊥) → without_keys (e ∷ es) ks ≡ e ∷ without_keys es ks
 kept e es ks out = elim (cases_Bool (has e.0 ks)) [ inl h ↦ absurd (out (has_only e.0 ks h)) | inr h ↦ rw h refl ]

@@ -2,7 +2,7 @@ use Rattle.std.proofs.Common.{◌≡◌, rules, refl, ◌++◌, ◌∷◌, [], a
 use Rattle.syntax.specs.Terminals.{Number}
 use Rattle.source_text.specs.Text.{terminal_bytes}
 use Rattle.source_text.proofs.Puts.{put_terminal}
-use Rattle.source_text.proofs.text.put_number.Goals as goal
+use Rattle.source_text.proofs.terminals.put_number.Goals as goal
 
 pub returns : goal.returns
 returns c =

@@ -1,7 +1,7 @@
 use Rattle.std.proofs.lemmas.Result.{on_ok_weaker}
 use Rattle.syntax.specs.Terminals.{OfSymbol}
 use Rattle.source_text.proofs.Puts.{put_terminal}
-use Rattle.source_text.proofs.text.put_symbol.Goals as goal
+use Rattle.source_text.proofs.terminals.put_symbol.Goals as goal
 
 pub returns : goal.returns
 returns c =

@@ -1,7 +1,7 @@
 use Rattle.std.proofs.lemmas.Result.{on_ok_weaker}
 use Rattle.syntax.specs.Terminals.{Opening, OfKeyword}
 use Rattle.source_text.proofs.Puts.{put_terminal}
-use Rattle.source_text.proofs.text.put_keyword.Goals as goal
+use Rattle.source_text.proofs.terminals.put_keyword.Goals as goal
 
 pub returns-clause-opening : goal.returns-clause-opening
 returns-clause-opening c =

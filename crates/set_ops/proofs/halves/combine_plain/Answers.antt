@@ -2,7 +2,7 @@ use Rattle.std.proofs.Common.{◌≡◌, ◌∙◌}
 use Rattle.tail_codec.specs.declared.operation.MapOperation.TheVariants.{Union, UnionKeepingFirst}
 use Rattle.set_ops.specs.Answers.{IsCombined}
 use Rattle.set_ops.proofs.Combining.{first_from_second, second_from_first, ok_is}
-use Rattle.set_ops.proofs.begin.combine_plain.Goals as goal
+use Rattle.set_ops.proofs.halves.combine_plain.Goals as goal
 
 pub returns-in-Union : goal.returns-in-Union
 returns-in-Union c =

@@ -6,7 +6,7 @@ use Rattle.ascending_lists.proofs.Differences.{difference_ascends}
 use Rattle.ascending_lists.proofs.MapDifferences.{keys_without}
 use Rattle.tail_codec.specs.declared.operation.MapOperation.TheVariants.{Difference}
 use Rattle.set_ops.proofs.Laws.{combined_length}
-use Rattle.set_ops.proofs.begin.subtract.Goals as goal
+use Rattle.set_ops.proofs.halves.subtract.Goals as goal
 
 pub overflow_sub-common : goal.overflow_sub-common
 overflow_sub-common c =
