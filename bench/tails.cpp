@@ -1,4 +1,4 @@
-// Reads and makes the tails that `crates/store_bench` times, in plain C++, and prints the same table.
+// Reads and makes the tails that `crates/bench_store` times, in plain C++, and prints the same table.
 #include <algorithm>
 #include <chrono>
 #include <cstdint>

@@ -12,7 +12,7 @@
 //! What standard error is told of a program's text behind the first line (crate `refusal_text`) is for people, and
 //! no contract speaks of it.
 //!
-//! `gsnap` hands in the real files and streams, and `cases` a folder of tests.
+//! `gsnap` hands in the real files and streams, and `test_cases` a folder of tests.
 #![tactic(auto)]
 
 mod compiled_plan;

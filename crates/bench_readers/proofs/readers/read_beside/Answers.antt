@@ -1,0 +1,16 @@
+use denote.Exit.{no}
+use denote.Param.{param}
+use denote.Param.Send.{IsSync, param_send, arg_send, shr_send, mut_send}
+use Rattle.std.proofs.Crossing.{crosses}
+use Rattle.std.specs.contracts.sync.atomic.AtomicU64 as atomic
+use Rattle.shared_graph.proofs.Crossing.{reader_send, graph_shared, four_send}
+use Rattle.bench_readers.proofs.readers.read_beside.Goals as goal
+
+-- the writer goes to another thread, which shares the graph
+pub join-committed-requires-send-F : goal.join-committed-requires-send-F
+join-committed-requires-send-F g c κs within =
+    let s = graph_shared (param 0 g.row.J) (param 1 g.row.W) g.J.Naming c.type_bounds.send-W in
+    let r = reader_send (param 0 g.row.J) g.J.Naming in
+    let a : IsSync atomic.the_row = search crosses in
+    param_send _ _ (arg_send _ no _ (four_send _ _ _ _ _ (shr_send _ _ _ c.type_bounds.sync-R) (shr_send _ _ _ s)
+    (mut_send _ _ _ r) (shr_send _ _ _ a)))

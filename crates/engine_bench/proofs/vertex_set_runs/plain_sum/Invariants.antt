@@ -1,4 +1,0 @@
-use Rattle.engine_bench.proofs.vertex_set_runs.plain_sum.Given as goal
-
-abbrev pub decreases-loop-left : goal.decreases-loop-left
-decreases-loop-left l = l.left
