@@ -4,15 +4,16 @@ use crate::beside;
 use crate::compare::{Output, add_differences};
 use crate::listing::Place;
 use crate::repeated::expanded;
+use crate::wanted::defaults;
 use devices::Device;
-use driver::{Files, run};
+use driver::{Disk, Files, run};
 use std::alloc::{AllocError, Global};
 use std::io::ErrorKind;
 use std::sync::Wait;
 use std::thread::Threads;
-use std::{fs, io, str};
+use std::{io, str};
 
-// The files of a case: those of its folder.
+// The files of a case: those of its folder, on the disk.
 #[derive(Drop)]
 struct Folder<'a> {
     rt: &'a HostRuntime,
@@ -44,10 +45,11 @@ impl Files for Folder<'_> {
     // A file that is not there may stand there in a short form.
     fn read(&self, alloc: Global, name: &str) -> io::Result<Vec<u8>> {
         let path = self.path(name)?;
-        match fs::read(self.rt, path.as_str()) {
+        let disk = Disk(self.rt);
+        match disk.read(alloc, path.as_str()) {
             Err(error) if error.kind() == ErrorKind::NotFound => {
                 let short = format!(in alloc; "{path}.repeated")?;
-                expanded(alloc, &fs::read(self.rt, short.as_str())?)
+                expanded(alloc, &disk.read(alloc, short.as_str())?)
             }
             held => held,
         }
@@ -66,10 +68,19 @@ pub fn differences<T: Threads + Wait + Sync>(
         rt,
         name: place.folder.as_str(),
     };
-    let got = outcome_of(threads, folder, name)?;
+    let words = words_of(folder, name)?;
+    let got = outcome_of(threads, folder, name, &words)?;
+    let err = folder.read_with(name, "err")?;
+    let is_check = words.first().is_some_and(|word| word.as_str() == "check");
+    let wanted = defaults(err.as_ref().map(|bytes| bytes.as_slice()), is_check);
     let mut told = String::new(rt.alloc());
-    add_output(folder, name, &mut told, ("status", b"0\n", &got.status))?;
-    add_output(folder, name, &mut told, ("out", b"", &got.out))?;
+    add_output(
+        folder,
+        name,
+        &mut told,
+        ("status", wanted.status, &got.status),
+    )?;
+    add_output(folder, name, &mut told, ("out", wanted.out, &got.out))?;
     add_output(folder, name, &mut told, ("err", b"", &got.err))?;
     add_programs(folder, name, &mut told)?;
     Ok(told)
@@ -100,9 +111,9 @@ fn outcome_of<T: Threads + Wait + Sync>(
     threads: &T,
     folder: &Folder<'_>,
     name: &str,
+    words: &[String],
 ) -> io::Result<CaseOutput> {
-    let words = words_of(folder, name)?;
-    let words = texts(folder.rt.alloc(), &words)?;
+    let words = texts(folder.rt.alloc(), words)?;
     match folder.read_with(name, "input")? {
         Some(input) => outcome_on(threads, folder, &words, &input),
         None => outcome_on(threads, folder, &words, &[]),
@@ -180,13 +191,19 @@ fn texts(alloc: Global, words: &[String]) -> Result<Vec<&str>, AllocError> {
     words.iter().map(|word| word.as_str()).collect(alloc)
 }
 
-// The words of a case's command line: those of its file of words, or the script and its programs.
+// The words of a case's command line: those of its file of words, or the script and its programs, or the check of its program.
 fn words_of(folder: &Folder<'_>, name: &str) -> io::Result<Vec<String>> {
     let alloc = folder.rt.alloc();
-    match folder.read_with(name, "args")? {
-        Some(lines) => words_in(alloc, &lines),
-        None => script_words(folder, name),
+    if let Some(lines) = folder.read_with(name, "args")? {
+        return words_in(alloc, &lines);
     }
+    if folder.read_with(name, "script")?.is_some() {
+        return script_words(folder, name);
+    }
+    let mut words = Vec::new(alloc);
+    words.push(String::from_str(alloc, "check")?)?;
+    words.push(format!(in alloc; "{name}.program")?)?;
+    Ok(words)
 }
 
 // The words that stand in lines.

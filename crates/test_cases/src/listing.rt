@@ -1,5 +1,6 @@
 //! Which cases there are.
 
+use std::io::ErrorKind;
 use std::{fs, io};
 
 /// Where a case stands: its folder, and the name of its files without their endings.
@@ -9,24 +10,38 @@ pub struct Place {
     pub name: String,
 }
 
-/// The cases in the folders of this folder, in order of their places.
-pub fn cases(rt: &HostRuntime) -> io::Result<Vec<Place>> {
+/// The cases in the folders of this folder, in order of their places: all, or those of these names where some are given.
+///
+/// Errors: that of the listing, and `NotFound` where there is none of these names.
+pub fn cases(rt: &HostRuntime, names: &[String]) -> io::Result<Vec<Place>> {
     let mut places = Vec::new(rt.alloc());
     for entry in fs::read_dir(rt, ".")? {
         let entry = entry?;
         if entry.path().is_dir(rt) {
-            add_cases(rt, entry.file_name(), &mut places)?;
+            add_cases(rt, entry.file_name(), names, &mut places)?;
         }
     }
     places.sort()?;
+    places.dedup();
+    if places.is_empty() {
+        return Err(io::Error::from(ErrorKind::NotFound));
+    }
     Ok(places)
 }
 
-// Adds the cases in this folder.
-fn add_cases(rt: &HostRuntime, folder: &str, places: &mut Vec<Place>) -> io::Result<()> {
+// Adds the cases in this folder, all or those of these names.
+fn add_cases(
+    rt: &HostRuntime,
+    folder: &str,
+    names: &[String],
+    places: &mut Vec<Place>,
+) -> io::Result<()> {
     for entry in fs::read_dir(rt, folder)? {
         let entry = entry?;
-        if let Some(name) = case_name(entry.file_name()) {
+        let Some(name) = case_name(entry.file_name()) else {
+            continue;
+        };
+        if names.is_empty() || names.iter().any(|wanted| wanted.as_str() == name) {
             let folder = String::from_str(rt.alloc(), folder)?;
             let name = String::from_str(rt.alloc(), name)?;
             places.push(Place { folder, name })?;
@@ -35,8 +50,15 @@ fn add_cases(rt: &HostRuntime, folder: &str, places: &mut Vec<Place>) -> io::Res
     Ok(())
 }
 
-// The name of the case that this file begins, if it begins one.
+// The name of the case that this file is of, if it is one that begins a case: a script, words, or a program without a number.
 fn case_name(file: &str) -> Option<&str> {
     let file = file.strip_suffix(".repeated").unwrap_or(file);
-    file.strip_suffix(".script").or(file.strip_suffix(".args"))
+    let name = file
+        .strip_suffix(".script")
+        .or(file.strip_suffix(".args"))
+        .or(file.strip_suffix(".program"))?;
+    match name.contains('.') {
+        true => None,
+        false => Some(name),
+    }
 }

@@ -2,17 +2,19 @@
 //!
 //! A case stands in a folder of its subject, here `graphs`, as files of one name:
 //!
-//! - `graphs/NAME.script`, and `graphs/NAME.program`, or `graphs/NAME.1.program` and so on: what
+//! - `graphs/NAME.program` alone: what `gsnap check NAME.program` is run on;
+//! - or `graphs/NAME.script`, and `graphs/NAME.program`, or `graphs/NAME.1.program` and so on: what
 //!   `gsnap script NAME.script NAME.program` is run on;
 //! - or `graphs/NAME.args`, the words of a command line, one a line, with `graphs/NAME.input` as
 //!   standard input;
-//! - `graphs/NAME.out`, `graphs/NAME.err` and `graphs/NAME.status`: what standard output and standard
-//!   error must be told, and the exit status. A file that is not there stands for no bytes, or for 0.
-//!   Where an output may be one of several, as that of a race, they stand in `graphs/NAME.1.out`, `graphs/NAME.2.out` and so on.
+//! - `graphs/NAME.out` and `graphs/NAME.err`: what standard output and standard error must be told. A file that is not there stands
+//!   for no bytes, but for a program that is checked alone and has no `NAME.err`, which must be answered `ok`. Where an output may
+//!   be one of several, as that of a race, they stand in `graphs/NAME.1.out`, `graphs/NAME.2.out` and so on;
+//! - `graphs/NAME.status`: the exit status, where it is not the one of what standard error must be told (`wanted.rt`).
 //!
-//! A long file may stand in a short form (`repeated.rt`).
+//! A long file may stand in a short form (`repeated.rt`). With words, only the cases of these names are run.
 //!
-//! Each is done by the crate `driver`, with output in memory. Beside that its programs are run by their
+//! Each is done by the crate `driver` on the files of the disk, with output in memory. Beside that its programs are run by their
 //! plans and by the slow run (`beside.rt`). The program prints each difference and last
 //! `N agree, M differ`. Its status is 1 where a case differs, and 2 where one cannot be read.
 #![tactic(auto)]
@@ -24,11 +26,12 @@ mod listing;
 mod repeated;
 #[cfg(test)]
 mod tests;
+mod wanted;
 
-use std::io;
 use std::process::ExitCode;
 use std::sync::Wait;
 use std::thread::Threads;
+use std::{env, io};
 
 fn main(rt: HostRuntime) -> ExitCode {
     match run_all(&rt, &rt) {
@@ -42,11 +45,12 @@ fn main(rt: HostRuntime) -> ExitCode {
     }
 }
 
-// Runs all cases below the folder that it is run in, and answers how many differ.
+// Runs the cases below the folder that it is run in, all or those that the words name, and answers how many differ.
 fn run_all(rt: &HostRuntime, threads: &(impl Threads + Wait + Sync)) -> io::Result<usize> {
     let mut agree = 0usize;
     let mut differ = 0usize;
-    for place in listing::cases(rt)? {
+    let names: Vec<String> = env::args(rt)?.skip(1).collect(rt.alloc())?;
+    for place in listing::cases(rt, &names)? {
         let differences = case::differences(rt, threads, &place)?;
         print!(rt; "{differences}")?;
         if differences.is_empty() {
