@@ -4,7 +4,7 @@ use crate::beside;
 use crate::compare::{Output, add_differences};
 use crate::listing::Place;
 use crate::repeated::expanded;
-use crate::wanted::defaults;
+use crate::wanted::wanted_without_files;
 use devices::Device;
 use driver::{Disk, Files, run};
 use std::alloc::{AllocError, Global};
@@ -72,7 +72,7 @@ pub fn differences<T: Threads + Wait + Sync>(
     let got = outcome_of(threads, folder, name, &words)?;
     let err = folder.read_with(name, "err")?;
     let is_check = words.first().is_some_and(|word| word.as_str() == "check");
-    let wanted = defaults(err.as_ref().map(|bytes| bytes.as_slice()), is_check);
+    let wanted = wanted_without_files(err.as_ref().map(|bytes| bytes.as_slice()), is_check);
     let mut told = String::new(rt.alloc());
     add_output(
         folder,

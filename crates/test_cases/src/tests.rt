@@ -1,7 +1,7 @@
 //! The comparison of a case's outputs, and what a case wants without a file.
 
 use crate::compare::{Output, add_differences};
-use crate::wanted::{Defaults, defaults};
+use crate::wanted::{Defaults, wanted_without_files};
 use std::test::Fail;
 
 // What an output wants, what it got, and in which lines they differ. A file that is not there wants no bytes.
@@ -76,7 +76,7 @@ fn a_status_follows_from_what_standard_error_is_told(rt: HostRuntime) -> Result<
             status: *status,
             out: *out,
         };
-        assert_eq!(rt; defaults(*err, *is_check), wanted);
+        assert_eq!(rt; wanted_without_files(*err, *is_check), wanted);
     }
     Ok(())
 }

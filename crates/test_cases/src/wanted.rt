@@ -11,7 +11,7 @@ pub struct Defaults {
 }
 
 /// What a case wants that has this text for standard error, or none. A program that is checked alone wants `ok` where it has none.
-pub fn defaults(err: Option<&[u8]>, is_check: bool) -> Defaults {
+pub fn wanted_without_files(err: Option<&[u8]>, is_check: bool) -> Defaults {
     let out: &[u8] = match err {
         None if is_check => b"ok\n",
         _ => b"",
