@@ -42,6 +42,7 @@ impl PlanRun {
             → configuration_of self.new ≡ step p (graph_value graph.now) (plan_of p s) (configuration_of self.old)) }
         ensures fewer { OnOk result (self.old.end ≡ None → steps_left plan.now self.new < steps_left plan.now self.old) }
         ensures vertices { self.new.memory.state.vertices ≡ self.old.memory.state.vertices }
+        ensures groups { self.new.memory.state.groups ≡ self.old.memory.state.groups }
         ensures err { OnErr result (resting plan.now.instructions.items (configuration_of self.new)
             ≡ resting plan.now.instructions.items (configuration_of self.old)) }
     {
@@ -84,6 +85,7 @@ impl Memory {
         ensures level { IfOk result (λ flow. (p : ProgramTree) (t : InstructionTree) → IsInstruction i.now t
             → IsLevel i.now flow self.old self.new p (graph_value graph.now) t.operation) }
         ensures vertices { self.new.state.vertices ≡ self.old.state.vertices }
+        ensures groups { self.new.state.groups ≡ self.old.state.groups }
         ensures err { OnErr result (IsAsBefore self.old self.new) }
     {
         let functions = &plan.functions;
@@ -131,6 +133,7 @@ impl Memory {
         ensures done { IfOk result (λ flow. (p : ProgramTree) (g : GraphValue) (t : OperationTree) → IsOn g self.old
             → IsOperation i.now.keep i.now.shown i.now.operation t → HasDone i.now flow self.old self.new p g t) }
         ensures vertices { self.new.state.vertices ≡ self.old.state.vertices }
+        ensures groups { self.new.state.groups ≡ self.old.state.groups }
         ensures err { OnErr result (IsAsBefore self.old self.new) }
     {
         match &i.operation {
@@ -156,6 +159,7 @@ impl Memory {
         ensures done { IfOk result (λ flow. (p : ProgramTree) (g : GraphValue) (t : OperationTree) → IsOn g self.old
             → IsOperation i.now.keep i.now.shown i.now.operation t → HasDone i.now flow self.old self.new p g t) }
         ensures vertices { self.new.state.vertices ≡ self.old.state.vertices }
+        ensures groups { self.new.state.groups ≡ self.old.state.groups }
         ensures err { OnErr result (IsAsBefore self.old self.new) }
     {
         match &i.operation {
