@@ -11,3 +11,7 @@ invariant_of-result c =
     ap (λ (xs : List (List ℤ)). map (λ (ys : List ℤ). length ys) xs) c.in_ok-opened.ensures.vectors
     ∙ opened_lengths g vs
     ∙ ap (λ (n : ℕ). replicate (length vs) n) (sym count)
+
+pub returns-clause-vertices : goal.returns-clause-vertices
+returns-clause-vertices c =
+    ap (λ (r : RunState). r.vertices) (c.in_ok-sets.ensures (graph_value c.args.graph.now) (sym c.vertices.ensures.count)) ∙ c.vertices.ensures.count
