@@ -13,6 +13,7 @@ ghost use Rattle.plans.specs.Operation.{IsInstruction, IsOperation};
 ghost use Rattle.plans.specs.PlanOf.{IsPlan};
 ghost use Rattle.run_state.specs.State.{graph_value};
 ghost use Rattle.runner.specs.Done.{HasDone, HaveTrees, IsAsBefore, IsControl, IsKept, IsLevel, IsReady, TakesValues};
+ghost use Rattle.runner.specs.Groups.{AreGroupsOf};
 ghost use Rattle.runner.specs.Position.{configuration_of, IsOn, steps_left};
 ghost use Rattle.runner.specs.Resting.{resting};
 
@@ -26,8 +27,8 @@ use plans::{EdgeApply, Instruction, Plan, PlanOperation};
 use std::alloc::{AllocError, Global};
 
 impl PlanRun {
-    /// Does one instruction; a run that has ended stays. After an error it stands before that instruction. The only error
-    /// is out of memory.
+    /// Does one instruction of the plan and on the graph that the run was opened with; a run that has ended stays. After an
+    /// error it stands before that instruction. The only error is out of memory.
     pub(crate) fn step<E: EdgeApplier>(
         &mut self,
         alloc: Global,
@@ -36,6 +37,7 @@ impl PlanRun {
         by: &mut E,
     ) -> Result<(), AllocError>
         requires graph { self.old.memory.state.vertices ≡ graph.now.vertices }
+        requires groups { AreGroupsOf plan.now graph.now self.old.memory.state.groups }
         requires applier { E.is_ready by.old }
         ensures applier { E.is_ready by.new }
         ensures steps { OnOk result ((p : ProgramTree) (s : ScheduleTree) → IsPlan plan.now p s → AppliesReduce p (plan_of p s)
