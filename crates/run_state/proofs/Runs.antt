@@ -11,6 +11,7 @@ use Rattle.plans.specs.declared.set_expression.SetExpression.{SetExpression}
 use Rattle.plans.specs.declared.set_expression.SetExpression.TheVariants.{Nothing, All, Copy, Filter}
 use Rattle.plans.specs.SetExpression.{set_value}
 use Rattle.kernels.specs.Cells.{HasSizes}
+use Rattle.vectors.specs.Vectors.{VectorsValue}
 use Rattle.run_state.specs.State.{IsRunState, RunState}
 use Rattle.run_state.specs.NamedSets.{AreAscending, HaveLength, run_state, size_of, sizes_of, with_first_sets}
 use Rattle.run_state.proofs.Lengths.{length_at}
@@ -31,10 +32,10 @@ no_vectors p g All s = refl
 no_vectors p g (Copy slot) s = refl
 no_vectors p g (Filter slot function) s = refl
 
-pub is_run_state : (vectors : List (List ℤ)) (sets : RunState) (integers : List ℤ) (conditions : List Bool) (text : List ℕ) (turns count : ℕ) → HaveLength count sets.vertices vectors → AreAscending sets
+pub is_run_state : (vectors : VectorsValue) (sets : RunState) (integers : List ℤ) (conditions : List Bool) (text : List ℕ) (turns count : ℕ) → HaveLength count sets.vertices vectors.vectors → AreAscending sets
     → IsRunState (run_state vectors sets integers conditions text turns)
 is_run_state vectors sets integers conditions text turns count have ascending = record {
-  vectors = length_at sets.vertices count vectors have;
+  vectors = length_at sets.vertices count vectors.vectors have;
   sets = ascending;
   source = refl;
   destination = refl;

@@ -5,11 +5,16 @@ use Rattle.edge_lists.specs.Edge.{unit_weight}
 use Rattle.algorithm_meaning.specs.State.{StateValue, main_scope}
 use Rattle.algorithm_meaning.specs.Value.{members_of}
 use Rattle.vertex_sets.specs.VertexSet.{IsAscendingBelow, VertexSubset}
+use Rattle.vectors.specs.Vectors.{VectorsValue}
 use Rattle.run_state.specs.State.{RunState}
 
 -- a state with nothing in it
 abbrev pub nothing : StateValue
 nothing = record { vectors = []; sets = []; scope = main_scope; text = []; turns = 0 }
+
+-- vertex sets of so many vertices, and nothing else
+abbrev pub sets_alone : (vertices : ℕ) → StateValue → RunState
+sets_alone vertices s = record { vertices = vertices; groups = []; state = s }
 
 -- a state with one more set, the first
 abbrev pub with_first_set : ℕ → List ℕ → StateValue → StateValue
@@ -51,11 +56,12 @@ abbrev pub HaveLength : (count vertices : ℕ) → List (List ℤ) → Type 0
 HaveLength count vertices vectors = map (λ (xs : List ℤ). length xs) vectors ≡ replicate count vertices
 
 -- what the parts of a state come to
-abbrev pub run_state : (vectors : List (List ℤ)) → (sets : RunState) → (integers : List ℤ) → (conditions : List Bool) → (text : List ℕ) → (turns : ℕ) → RunState
+abbrev pub run_state : (vectors : VectorsValue) → (sets : RunState) → (integers : List ℤ) → (conditions : List Bool) → (text : List ℕ) → (turns : ℕ) → RunState
 run_state vectors sets integers conditions text turns = record {
   vertices = sets.vertices;
+  groups = vectors.groups;
   state = record {
-    vectors = vectors;
+    vectors = vectors.vectors;
     sets = sets.state.sets;
     scope = record { integers = integers; conditions = conditions; source = 0; destination = 0; weight = unit_weight };
     text = text;

@@ -1,16 +1,19 @@
 -- The state of a run.
-use Rattle.std.specs.Prelude.{◌≡◌, ℕ, ◌<◌, List, [], length, map, slice_get, slice_index_or}
+use Rattle.std.specs.Prelude.{◌≡◌, ℕ, ◌<◌, ℤ, List, [], length, map, slice_get, slice_index_or}
 use Rattle.edge_lists.specs.Edge.{unit_weight}
 use Rattle.typed_tree.specs.declared.program.Vector.{Vector}
 use Rattle.algorithm_meaning.specs.State.{GraphValue, StateValue, main_scope}
 use Rattle.algorithm_meaning.specs.Value.{members_of}
 use Rattle.algorithm_meaning.specs.Meaning.{all_vertices, opening_entries}
 use Rattle.flat_snapshot.specs.Digraph.{Digraph}
+use Rattle.vectors.specs.Vectors.{IsGrouping}
 use Rattle.vertex_sets.specs.VertexSet.{IsAscendingBelow}
 
--- what a run keeps: how many vertices there are, and the state of main
+-- what a run keeps: how many vertices there are, the groups of vectors that stand side by side, each by the places of its
+-- vectors, and the state of main
 pub record RunState : Type 0 where
   pub vertices : ℕ
+  pub groups : List (List ℕ)
   pub state : StateValue
 
 abbrev pub with_state : RunState → StateValue → RunState
@@ -28,15 +31,21 @@ pub record IsRunState (r : RunState) : Type 0 where
 abbrev pub graph_value : Digraph → GraphValue
 graph_value d = record { vertices = d.vertices; edges = d.edges }
 
+-- what the vectors begin with
+abbrev pub opened_vectors : Digraph → List Vector → List (List ℤ)
+opened_vectors d vectors = map (λ v. opening_entries (graph_value d) v.beginning) vectors
+
 -- the state before the first statement, with these vectors and constant sets
-abbrev pub opened : Digraph → List Vector → (sets : List ℕ) → (turns : ℕ) → RunState
+abbrev pub opened : Digraph → List Vector → (sets : List ℕ) → (turns : ℕ) → StateValue
 opened d vectors sets turns = record {
-  vertices = d.vertices;
-  state = record {
-    vectors = map (λ v. opening_entries (graph_value d) v.beginning) vectors;
-    sets = map (all_vertices (graph_value d)) sets;
-    scope = main_scope;
-    text = [];
-    turns = turns;
-  };
+  vectors = opened_vectors d vectors;
+  sets = map (all_vertices (graph_value d)) sets;
+  scope = main_scope;
+  text = [];
+  turns = turns;
 }
+
+-- the groups of vectors are those that were asked for where these fit the vectors; where they are others, there are none
+pub record AreGroups (vectors : List (List ℤ)) (asked groups : List (List ℕ)) : Type 0 where
+  pub fit : IsGrouping vectors asked → groups ≡ asked
+  pub others : (groups ≡ asked → ⊥) → groups ≡ []

@@ -3,7 +3,7 @@ ghost use Rattle.std.specs.Prelude.{◌≡◌, pos, map, IfOk};
 ghost use Rattle.algorithm_meaning.specs.Arithmetic.{wrapped};
 ghost use Rattle.algorithm_meaning.specs.Meaning.{opening_entries, out_degree};
 ghost use Rattle.algorithm_meaning.specs.VertexSets.{all_below};
-ghost use Rattle.run_state.specs.State.{graph_value};
+ghost use Rattle.run_state.specs.State.{AreGroups, graph_value, opened_vectors};
 
 use flat_snapshot::Flat;
 use std::alloc::{AllocError, Global};
@@ -17,7 +17,8 @@ pub(crate) fn open_vectors(
     groups: &[Sequence<usize>],
     graph: &Flat,
 ) -> Result<Vectors, AllocError>
-    ensures { IfOk result (λ v. v.vectors ≡ map (λ v. opening_entries (graph_value graph.now) v.beginning) vectors.now) }
+    ensures vectors { IfOk result (λ v. v.vectors ≡ opened_vectors graph.now vectors.now) }
+    ensures groups { IfOk result (λ v. AreGroups (opened_vectors graph.now vectors.now) groups.now v.groups) }
 {
     let arrays = open_arrays(alloc, vectors, graph)?;
     match Vectors::grouped(alloc, &arrays, groups) {
@@ -32,7 +33,7 @@ fn open_arrays(
     vectors: &[Vector],
     graph: &Flat,
 ) -> Result<Vec<Sequence<i64>>, AllocError>
-    ensures { IfOk result (λ v. v.items ≡ map (λ v. opening_entries (graph_value graph.now) v.beginning) vectors.now) }
+    ensures { IfOk result (λ v. v.items ≡ opened_vectors graph.now vectors.now) }
 {
     let mut opened = Vec::new(alloc);
     'vectors: for vector in vectors {

@@ -40,23 +40,23 @@ impl Drop for NamedSets {
 }
 
 impl Model for NamedSets {
-    ghost use Rattle.run_state.specs.NamedSets.{AreNamed, named};
+    ghost use Rattle.run_state.specs.NamedSets.{AreNamed, named, sets_alone};
     ghost use Rattle.run_state.specs.State.{RunState};
 
     ghost Value = { RunState };
 
-    ghost view = { λ s. record { vertices = s.vertices; state = named s.names.items s.members.items } };
+    ghost view = { λ s. sets_alone s.vertices (named s.names.items s.members.items) };
 
     ghost invariant = { λ s. AreNamed s.vertices s.names.items s.members.items s.sizes.items };
 }
 
 impl NamedSets {
-    ghost use Rattle.run_state.specs.NamedSets.{AreAscending, named, nothing, sizes_of, with_first_sets};
+    ghost use Rattle.run_state.specs.NamedSets.{AreAscending, named, nothing, sets_alone, sizes_of, with_first_sets};
     ghost use Rattle.run_state.specs.State.{RunState, with_state};
 
     /// No sets.
     pub(crate) fn new(alloc: Global, vertices: u32) -> NamedSets
-        ensures { result ≡ record { vertices = vertices; state = nothing } }
+        ensures { result ≡ sets_alone vertices nothing }
     {
         NamedSets {
             vertices,
@@ -73,7 +73,7 @@ impl NamedSets {
         names: &[usize],
     ) -> Result<NamedSets, AllocError>
         ensures { IfOk result (λ s. (g : GraphValue) → g.vertices ≡ vertices
-            → s ≡ record { vertices = vertices; state = record nothing { sets = map (all_vertices g) names.now } }) }
+            → s ≡ sets_alone vertices (record nothing { sets = map (all_vertices g) names.now })) }
     {
         let mut opened = NamedSets::new(alloc, vertices);
         'names: for name in names {

@@ -19,13 +19,13 @@ ghost use Rattle.kernels.specs.Meaning.{IsVertexCode};
 ghost use Rattle.kernels.specs.Expressions.{IsConditionKernel, IsIntegerKernel, IsMainState};
 ghost use Rattle.kernels.specs.Kernels.{HasCells, IsFilterKernel};
 ghost use Rattle.kernels.specs.RegisterCounts.{RegisterCounts};
-ghost use Rattle.algorithm_meaning.specs.Loop.{forget_beyond};
+ghost use Rattle.algorithm_meaning.specs.Loop.{depth_of, forget_beyond};
 ghost use Rattle.vectors.specs.Changes.{with_all_changes};
 ghost use Rattle.plans.specs.Functions.{AreFunctionKernels};
 ghost use Rattle.plans.specs.SetExpression.{set_value};
 ghost use Rattle.plans.specs.Operation.{IsFor};
 ghost use Rattle.run_state.specs.View.{HasEntryForEach, IsViewOf};
-ghost use Rattle.run_state.specs.State.{IsRunState, RunState, opened, with_state};
+ghost use Rattle.run_state.specs.State.{AreGroups, IsRunState, RunState, opened, opened_vectors, with_state};
 ghost use Rattle.run_state.specs.SetUpdate.{IsUpdateOf, with_update};
 ghost use Rattle.run_state.specs.VertexKernels.{IsVertexKernel};
 
@@ -49,7 +49,8 @@ use vectors::{Changes, Vectors};
 use vertex_sets::{Form, VertexSet};
 
 /// What a run keeps: vectors, vertex sets with their names, the variables of `main`, what was printed, and how many turns
-/// are left. A contract sees the state of `main`, and how many vertices there are.
+/// are left. A contract sees the state of `main`, how many vertices there are, and the groups of vectors that stand side by
+/// side.
 pub struct State {
     vectors: Vectors,
     vector_count: usize,
@@ -81,7 +82,7 @@ impl Model for State {
 
     ghost Value = { RunState };
 
-    ghost view = { λ s. run_state s.vectors.vectors s.sets s.integers.items s.conditions.items s.text.items s.turns };
+    ghost view = { λ s. run_state s.vectors s.sets s.integers.items s.conditions.items s.text.items s.turns };
 
     ghost invariant = { λ s. HaveLength s.vector_count s.sets.vertices s.vectors.vectors };
 }
@@ -97,7 +98,9 @@ impl State {
         graph: &Flat,
         turns: u64,
     ) -> Result<State, AllocError>
-        ensures { IfOk result (λ r. r ≡ opened graph.now vectors.now sets.now turns) }
+        ensures vertices { IfOk result (λ r. r.vertices ≡ graph.now.vertices) }
+        ensures groups { IfOk result (λ r. AreGroups (opened_vectors graph.now vectors.now) groups.now r.groups) }
+        ensures state { IfOk result (λ r. r.state ≡ opened graph.now vectors.now sets.now turns) }
     {
         let sets = NamedSets::open(alloc, graph.vertices(), sets)?;
         let opened = open_vectors(alloc, vectors, groups, graph)?;
@@ -131,7 +134,7 @@ impl State {
 
     /// How many variables and sets are visible.
     pub fn depth(&self) -> Depth
-        ensures { forget_beyond result self.now.state ≡ self.now.state }
+        ensures { result ≡ depth_of self.now.state }
     {
         Depth {
             integers: self.integers.len(),
@@ -345,6 +348,7 @@ impl State {
             → self.new ≡ with_state self.old (after_declare_set p g name (set_value members) self.old.state)) }
         ensures turns { self.new.state.turns ≡ self.old.state.turns }
         ensures vertices { self.new.vertices ≡ self.old.vertices }
+        ensures groups { self.new.groups ≡ self.old.groups }
         ensures err { OnErr result (self.new ≡ self.old) }
     {
         let set = self.set_of(alloc, members, functions, block)?;
@@ -365,6 +369,7 @@ impl State {
             → self.new ≡ with_state self.old (after_assign_set p g place (set_value members) self.old.state)) }
         ensures turns { self.new.state.turns ≡ self.old.state.turns }
         ensures vertices { self.new.vertices ≡ self.old.vertices }
+        ensures groups { self.new.groups ≡ self.old.groups }
         ensures err { OnErr result (self.new ≡ self.old) }
     {
         let set = self.set_of(alloc, members, functions, block)?;
@@ -435,6 +440,7 @@ impl State {
             (after_vertices a self.old.state.sets (members_of (slice_get self.old.state.sets set)) self.old.state.vectors)))) }
         ensures turns { self.new.state.turns ≡ self.old.state.turns }
         ensures vertices { self.new.vertices ≡ self.old.vertices }
+        ensures groups { self.new.groups ≡ self.old.groups }
         ensures err { OnErr result (self.new ≡ self.old) }
     {
         block.make_room(first.room())?;
@@ -461,6 +467,7 @@ impl State {
             (after_vertices steps self.old.state.sets (members_of (slice_get self.old.state.sets set)) self.old.state.vectors)) }
         ensures turns { self.new.state.turns ≡ self.old.state.turns }
         ensures vertices { self.new.vertices ≡ self.old.vertices }
+        ensures groups { self.new.groups ≡ self.old.groups }
         ensures keeps { (other : RegisterCounts) → HasCells block.old other → HasCells block.new other }
     {
         if let Some(members) = self.sets.get(set) {

@@ -41,6 +41,7 @@ pub(crate) fn run_for_all(
     requires ascending { IsStrictlyIncreasing vertices }
     ensures vectors { (steps : StepsTree) (m : StateValue) → IsVertexCode kernel.now.code.items steps → vectors.old.vectors ≡ m.vectors → HasSizes sizes.now m
         → vectors.new.vectors ≡ after_vertices steps m.sets vertices.entry m.vectors }
+    ensures groups { vectors.new.groups ≡ vectors.old.groups }
     ensures keeps { (other : RegisterCounts) → HasCells block.old other → HasCells block.new other }
 {
     let mut left = vertices;

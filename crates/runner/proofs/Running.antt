@@ -106,5 +106,5 @@ goes_on (Some end) is = let bad : true ≡ false = is in cc
 
 -- a run begins where the machine begins
 pub opens : (d : Digraph) (vectors : List Vector) (sets : List ℕ) (turns : ℕ) (p : ProgramTree) → vectors ≡ p.vectors → sets ≡ p.sets
-    → At 0 [] (opened d vectors sets turns).state ≡ first_configuration (opening p (graph_value d) turns)
-opens d vectors sets turns p same_vectors same_sets = λ i. At 0 [] (opened d (same_vectors i) (same_sets i) turns).state
+    → At 0 [] (opened d vectors sets turns) ≡ first_configuration (opening p (graph_value d) turns)
+opens d vectors sets turns p same_vectors same_sets = λ i. At 0 [] (opened d (same_vectors i) (same_sets i) turns)

@@ -6,3 +6,4 @@ pub mod Results
 pub mod Job
 pub mod RunRefusal
 pub mod HybridSources
+pub mod Groups

@@ -52,6 +52,7 @@ impl Memory {
             → HasDone instruction.now Flow.Next self.old self.new p g t) }
         ensures turns { OnOk result (self.new.state.state.turns ≡ self.old.state.state.turns) }
         ensures vertices { self.new.state.vertices ≡ self.old.state.vertices }
+        ensures groups { self.new.state.groups ≡ self.old.state.groups }
         ensures err { OnErr result (IsAsBefore self.old self.new) }
     {
         // A proof reads here that members ascend.
@@ -81,6 +82,7 @@ impl Memory {
             → HasDone instruction.now Flow.Next self.old self.new p g t) }
         ensures turns { OnOk result (self.new.state.state.turns ≡ self.old.state.state.turns) }
         ensures vertices { self.new.state.vertices ≡ self.old.state.vertices }
+        ensures groups { self.new.state.groups ≡ self.old.state.groups }
         ensures err { OnErr result (IsAsBefore self.old self.new) }
     {
         let schedule = instruction.choice;
@@ -138,6 +140,7 @@ fn take_changes(
         → state.new ≡ with_state state.old (with_both state.old.vertices first second after state.old.state)) }
     ensures turns { state.new.state.turns ≡ state.old.state.turns }
     ensures vertices { state.new.vertices ≡ state.old.vertices }
+    ensures groups { state.new.groups ≡ state.old.groups }
     ensures err { OnErr result (state.new ≡ state.old) }
 {
     let of_first = set_update(alloc, state, changes, choice, first)?;

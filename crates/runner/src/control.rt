@@ -28,6 +28,7 @@ impl Memory {
         ensures done { IfOk result (λ flow. (p : ProgramTree) (g : GraphValue) (t : OperationTree) → IsOn g self.old
             → HasCondition instruction.now.keep test.now (λ c. Unless c to) t → HasDone instruction.now flow self.old self.new p g t) }
         ensures vertices { self.new.state.vertices ≡ self.old.state.vertices }
+        ensures groups { self.new.state.groups ≡ self.old.state.groups }
         ensures err { OnErr result (IsAsBefore self.old self.new) }
     {
         match self
@@ -50,6 +51,7 @@ impl Memory {
         ensures done { IfOk result (λ flow. (p : ProgramTree) (g : GraphValue) (t : OperationTree) (name : ℕ) → IsOn g self.old
             → HasInteger instruction.now.shown end.now (λ e. Enter name e) t → HasDone instruction.now flow self.old self.new p g t) }
         ensures vertices { self.new.state.vertices ≡ self.old.state.vertices }
+        ensures groups { self.new.state.groups ≡ self.old.state.groups }
         ensures err { OnErr result (IsAsBefore self.old self.new) }
     {
         match self
@@ -71,6 +73,7 @@ impl Memory {
     pub(crate) fn unless_below(&mut self, instruction: &Instruction, to: usize) -> Flow
         ensures done { (p : ProgramTree) (g : GraphValue) (name : ℕ) → HasDone instruction.now result self.old self.new p g (UnlessBelow name to) }
         ensures vertices { self.new.state.vertices ≡ self.old.state.vertices }
+        ensures groups { self.new.state.groups ≡ self.old.state.groups }
     {
         match self.loops.pop() {
             Some(counter) if counter.next < counter.end => {
@@ -85,6 +88,7 @@ impl Memory {
     pub(crate) fn advance(&mut self, instruction: &Instruction) -> Result<(), AllocError>
         ensures done { OnOk result ((p : ProgramTree) (g : GraphValue) (name : ℕ) → HasDone instruction.now Flow.Next self.old self.new p g (Advance name)) }
         ensures vertices { self.new.state.vertices ≡ self.old.state.vertices }
+        ensures groups { self.new.state.groups ≡ self.old.state.groups }
         ensures err { OnErr result (IsAsBefore self.old self.new) }
     {
         let Some(counter) = self.loops.pop() else {
@@ -110,6 +114,7 @@ impl Memory {
     pub(crate) fn turn(&mut self, instruction: &Instruction) -> Flow
         ensures done { (p : ProgramTree) (g : GraphValue) → HasDone instruction.now result self.old self.new p g Turn }
         ensures vertices { self.new.state.vertices ≡ self.old.state.vertices }
+        ensures groups { self.new.state.groups ≡ self.old.state.groups }
     {
         if self.state.take_turn() {
             Flow::Next

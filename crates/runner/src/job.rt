@@ -28,7 +28,7 @@ pub enum Stand {
 
 /// A run of a plan on a snapshot of a graph, which does one instruction with each call. It may be kept, and sent to
 /// another thread. A contract sees the plan, the graph, the bound of turns, and where the run stands without what the next
-/// instruction does not see (`specs/Resting.antt`).
+/// instruction does not see (`specs/Resting.antt`). Its vectors stand in the groups of the plan, where these fit.
 pub struct Job {
     plan: Arc<Plan>,
     graph: Arc<Flat>,
@@ -52,6 +52,7 @@ impl Model for Job {
     ghost use Rattle.std.specs.Coded.{codes};
     ghost use Rattle.std.specs.Prelude.{◌≡◌};
     ghost use Rattle.plans.specs.contracts.plan.Plan as plan_contract;
+    ghost use Rattle.runner.specs.Groups.{AreGroupsOf};
     ghost use Rattle.runner.specs.Position.{configuration_of};
     ghost use Rattle.runner.specs.Resting.{JobValue, job_value};
 
@@ -61,7 +62,8 @@ impl Model for Job {
 
     ghost view = { λ j. job_value (arc_value j.plan) (arc_value j.graph) j.turns (configuration_of j.run) };
 
-    ghost invariant = { λ j. j.run.memory.state.vertices ≡ (arc_value j.graph).vertices };
+    ghost invariant = { λ j. (j.run.memory.state.vertices ≡ (arc_value j.graph).vertices)
+        × AreGroupsOf (arc_value j.plan) (arc_value j.graph) j.run.memory.state.groups };
 }
 
 impl Job {

@@ -10,6 +10,7 @@ ghost use Rattle.plans.specs.Plan.{plan_of};
 ghost use Rattle.plans.specs.PlanOf.{IsPlan};
 ghost use Rattle.run_state.specs.State.{graph_value};
 ghost use Rattle.runner.specs.Done.{after_flow};
+ghost use Rattle.runner.specs.Groups.{AreGroupsOf};
 ghost use Rattle.runner.specs.Position.{configuration_of, IsShown, loops_of, outcome_so_far};
 
 use crate::flow::Flow;
@@ -41,7 +42,8 @@ impl Drop for PlanRun {
 }
 
 impl PlanRun {
-    /// Before the first instruction. The only error is out of memory.
+    /// Before the first instruction; the vectors of each group of the plan stand side by side where the groups fit. The only
+    /// error is out of memory.
     pub(crate) fn open(
         alloc: Global,
         plan: &Plan,
@@ -51,6 +53,7 @@ impl PlanRun {
         ensures configuration { IfOk result (λ r. (p : ProgramTree) → plan.now.vectors.items ≡ p.vectors → plan.now.sets.items ≡ p.sets
             → configuration_of r ≡ first_configuration (opening p (graph_value graph.now) turns)) }
         ensures vertices { IfOk result (λ r. r.memory.state.vertices ≡ graph.now.vertices) }
+        ensures groups { IfOk result (λ r. AreGroupsOf plan.now graph.now r.memory.state.groups) }
         ensures going { IfOk result (λ r. r.end ≡ None) }
     {
         let state = State::open(alloc, &plan.vectors, &plan.sets, &plan.groups, graph, turns)?;
@@ -74,6 +77,7 @@ impl PlanRun {
         ensures configuration { configuration_of self.new
             ≡ after_flow flow instruction.now.number instruction.now.shown self.old.place (loops_of self.old.memory) self.old.memory.state.state }
         ensures vertices { self.new.memory.state.vertices ≡ self.old.memory.state.vertices }
+        ensures groups { self.new.memory.state.groups ≡ self.old.memory.state.groups }
     {
         match flow {
             Flow::Next => self.place += 1,
@@ -87,6 +91,7 @@ impl PlanRun {
     fn finish(&mut self, shown: Depth, end: End)
         ensures configuration { configuration_of self.new ≡ Ended (forget_beyond shown self.old.memory.state.state) end }
         ensures vertices { self.new.memory.state.vertices ≡ self.old.memory.state.vertices }
+        ensures groups { self.new.memory.state.groups ≡ self.old.memory.state.groups }
     {
         self.memory.state.forget_beyond(shown);
         self.end = Some(end);

@@ -26,6 +26,7 @@ impl Memory {
         ensures done { IfOk result (λ flow. (p : ProgramTree) (g : GraphValue) (t : OperationTree) → IsOn g self.old
             → HasInteger instruction.now.keep value.now (λ e. Do (PrintInteger e)) t → HasDone instruction.now flow self.old self.new p g t) }
         ensures vertices { self.new.state.vertices ≡ self.old.state.vertices }
+        ensures groups { self.new.state.groups ≡ self.old.state.groups }
         ensures err { OnErr result (IsAsBefore self.old self.new) }
     {
         match self
@@ -51,6 +52,7 @@ impl Memory {
         ensures done { IfOk result (λ flow. (p : ProgramTree) (g : GraphValue) (t : OperationTree) → IsOn g self.old
             → HasCondition instruction.now.keep value.now (λ c. Do (PrintCondition c)) t → HasDone instruction.now flow self.old self.new p g t) }
         ensures vertices { self.new.state.vertices ≡ self.old.state.vertices }
+        ensures groups { self.new.state.groups ≡ self.old.state.groups }
         ensures err { OnErr result (IsAsBefore self.old self.new) }
     {
         match self

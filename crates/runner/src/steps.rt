@@ -13,6 +13,7 @@ ghost use Rattle.plans.specs.Operation.{IsInstruction, IsOperation};
 ghost use Rattle.plans.specs.PlanOf.{IsPlan};
 ghost use Rattle.run_state.specs.State.{graph_value};
 ghost use Rattle.runner.specs.Done.{HasDone, HaveTrees, IsAsBefore, IsControl, IsKept, IsLevel, IsReady, TakesValues};
+ghost use Rattle.runner.specs.Groups.{AreGroupsOf};
 ghost use Rattle.runner.specs.Position.{configuration_of, IsOn, steps_left};
 ghost use Rattle.runner.specs.Resting.{resting};
 
@@ -26,8 +27,8 @@ use plans::{EdgeApply, Instruction, Plan, PlanOperation};
 use std::alloc::{AllocError, Global};
 
 impl PlanRun {
-    /// Does one instruction; a run that has ended stays. After an error it stands before that instruction. The only error
-    /// is out of memory.
+    /// Does one instruction of the plan and on the graph that the run was opened with; a run that has ended stays. After an
+    /// error it stands before that instruction. The only error is out of memory.
     pub(crate) fn step<E: EdgeApplier>(
         &mut self,
         alloc: Global,
@@ -36,12 +37,14 @@ impl PlanRun {
         by: &mut E,
     ) -> Result<(), AllocError>
         requires graph { self.old.memory.state.vertices ≡ graph.now.vertices }
+        requires groups { AreGroupsOf plan.now graph.now self.old.memory.state.groups }
         requires applier { E.is_ready by.old }
         ensures applier { E.is_ready by.new }
         ensures steps { OnOk result ((p : ProgramTree) (s : ScheduleTree) → IsPlan plan.now p s → AppliesReduce p (plan_of p s)
             → configuration_of self.new ≡ step p (graph_value graph.now) (plan_of p s) (configuration_of self.old)) }
         ensures fewer { OnOk result (self.old.end ≡ None → steps_left plan.now self.new < steps_left plan.now self.old) }
         ensures vertices { self.new.memory.state.vertices ≡ self.old.memory.state.vertices }
+        ensures groups { self.new.memory.state.groups ≡ self.old.memory.state.groups }
         ensures err { OnErr result (resting plan.now.instructions.items (configuration_of self.new)
             ≡ resting plan.now.instructions.items (configuration_of self.old)) }
     {
@@ -84,6 +87,7 @@ impl Memory {
         ensures level { IfOk result (λ flow. (p : ProgramTree) (t : InstructionTree) → IsInstruction i.now t
             → IsLevel i.now flow self.old self.new p (graph_value graph.now) t.operation) }
         ensures vertices { self.new.state.vertices ≡ self.old.state.vertices }
+        ensures groups { self.new.state.groups ≡ self.old.state.groups }
         ensures err { OnErr result (IsAsBefore self.old self.new) }
     {
         let functions = &plan.functions;
@@ -131,6 +135,7 @@ impl Memory {
         ensures done { IfOk result (λ flow. (p : ProgramTree) (g : GraphValue) (t : OperationTree) → IsOn g self.old
             → IsOperation i.now.keep i.now.shown i.now.operation t → HasDone i.now flow self.old self.new p g t) }
         ensures vertices { self.new.state.vertices ≡ self.old.state.vertices }
+        ensures groups { self.new.state.groups ≡ self.old.state.groups }
         ensures err { OnErr result (IsAsBefore self.old self.new) }
     {
         match &i.operation {
@@ -156,6 +161,7 @@ impl Memory {
         ensures done { IfOk result (λ flow. (p : ProgramTree) (g : GraphValue) (t : OperationTree) → IsOn g self.old
             → IsOperation i.now.keep i.now.shown i.now.operation t → HasDone i.now flow self.old self.new p g t) }
         ensures vertices { self.new.state.vertices ≡ self.old.state.vertices }
+        ensures groups { self.new.state.groups ≡ self.old.state.groups }
         ensures err { OnErr result (IsAsBefore self.old self.new) }
     {
         match &i.operation {

@@ -28,6 +28,7 @@ impl Memory {
         ensures done { IfOk result (λ flow. (p : ProgramTree) (g : GraphValue) (t : OperationTree) (name : ℕ) → IsOn g self.old
             → HasInteger instruction.now.keep value.now (λ e. Do (DeclareInteger name e)) t → HasDone instruction.now flow self.old self.new p g t) }
         ensures vertices { self.new.state.vertices ≡ self.old.state.vertices }
+        ensures groups { self.new.state.groups ≡ self.old.state.groups }
         ensures err { OnErr result (IsAsBefore self.old self.new) }
     {
         match self
@@ -53,6 +54,7 @@ impl Memory {
         ensures done { IfOk result (λ flow. (p : ProgramTree) (g : GraphValue) (t : OperationTree) (name : ℕ) → IsOn g self.old
             → HasCondition instruction.now.keep value.now (λ c. Do (DeclareCondition name c)) t → HasDone instruction.now flow self.old self.new p g t) }
         ensures vertices { self.new.state.vertices ≡ self.old.state.vertices }
+        ensures groups { self.new.state.groups ≡ self.old.state.groups }
         ensures err { OnErr result (IsAsBefore self.old self.new) }
     {
         match self
@@ -79,6 +81,7 @@ impl Memory {
         ensures done { IfOk result (λ flow. (p : ProgramTree) (g : GraphValue) (t : OperationTree) → IsOn g self.old
             → HasInteger instruction.now.keep value.now (λ e. Do (SetInteger slot e)) t → HasDone instruction.now flow self.old self.new p g t) }
         ensures vertices { self.new.state.vertices ≡ self.old.state.vertices }
+        ensures groups { self.new.state.groups ≡ self.old.state.groups }
         ensures err { OnErr result (IsAsBefore self.old self.new) }
     {
         match self
@@ -105,6 +108,7 @@ impl Memory {
         ensures done { IfOk result (λ flow. (p : ProgramTree) (g : GraphValue) (t : OperationTree) → IsOn g self.old
             → HasCondition instruction.now.keep value.now (λ c. Do (SetCondition slot c)) t → HasDone instruction.now flow self.old self.new p g t) }
         ensures vertices { self.new.state.vertices ≡ self.old.state.vertices }
+        ensures groups { self.new.state.groups ≡ self.old.state.groups }
         ensures err { OnErr result (IsAsBefore self.old self.new) }
     {
         match self
@@ -132,6 +136,7 @@ impl Memory {
         ensures done { IfOk result (λ flow. (p : ProgramTree) (g : GraphValue) (t : OperationTree) → IsOn g self.old
             → HasInteger instruction.now.keep value.now (λ e. Do (ReduceInteger slot reduction e)) t → HasDone instruction.now flow self.old self.new p g t) }
         ensures vertices { self.new.state.vertices ≡ self.old.state.vertices }
+        ensures groups { self.new.state.groups ≡ self.old.state.groups }
         ensures err { OnErr result (IsAsBefore self.old self.new) }
     {
         match self

@@ -10,6 +10,7 @@ pub parts-init : goal.parts-init
 parts-init c = record {
   size = refl;
   ascending = rises_from_increasing 0 c.args.vertices (omega arith) c.requires.ascending;
+  groups = refl;
   keeps = λ other has. has;
   rest = λ steps m code same has. ap (after_vertices steps m.sets c.args.vertices) same;
 }
@@ -30,6 +31,7 @@ parts-preserved c =
     record {
       size = search rules;
       ascending = subst (Rises 0) (sym c.take_part-count.ensures.rest) (rises_drop 0 n left c.parts.invariant.ascending);
+      groups = c.run.ensures.groups ∙ c.parts.invariant.groups;
       keeps = λ other has. c.run.ensures.keeps other (c.parts.invariant.keeps other has);
       rest = λ steps m code same has.
           let now : StateValue = record m { vectors = vectors } in

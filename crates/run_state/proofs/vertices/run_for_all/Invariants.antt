@@ -14,6 +14,7 @@ abbrev pub invariant-parts : goal.invariant-parts
 invariant-parts l = record {
   size : length l.part ≡ 128;
   ascending : Rises 0 l.left;
+  groups : l.vectors.groups ≡ l.fn.vectors.groups;
   keeps : (other : RegisterCounts) → HasCells l.fn.block other → HasCells l.block other;
   rest : (steps : StepsTree) (m : StateValue) → IsVertexCode l.kernel.code.items steps → l.fn.vectors.vectors ≡ m.vectors → HasSizes l.sizes m
       → after_vertices steps m.sets l.left l.vectors.vectors ≡ after_vertices steps m.sets l.fn.vertices m.vectors;

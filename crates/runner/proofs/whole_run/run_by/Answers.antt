@@ -1,6 +1,7 @@
-use Rattle.std.proofs.Common.{◌∙◌}
+use Rattle.std.proofs.Common.{◌∙◌, subst, sym}
 use Rattle.plans.specs.Plan.{plan_of}
 use Rattle.run_state.specs.State.{graph_value}
+use Rattle.runner.specs.Groups.{AreGroupsOf}
 use Rattle.runner.specs.Position.{configuration_of, loops_of}
 use Rattle.runner.proofs.Running.{has_ended, means, reached_first, reached_next}
 use Rattle.runner.proofs.Showing.{if_ok}
@@ -9,6 +10,7 @@ use Rattle.runner.proofs.whole_run.run_by.Goals as goal
 pub steps-init : goal.steps-init
 steps-init over c = record {
   on = c.in_ok-run.ensures.vertices;
+  groups = c.in_ok-run.ensures.groups;
   reached = λ p s plan reduces. reached_first p (graph_value c.args.graph.now) (plan_of p s) c.args.turns (configuration_of c.in_ok-run.run') (c.in_ok-run.ensures.configuration p plan.vectors plan.sets);
   applier = c.requires;
 }
@@ -16,6 +18,7 @@ steps-init over c = record {
 pub steps-preserved : goal.steps-preserved
 steps-preserved over c = record {
   on = c.step.ensures.vertices ∙ c.steps.invariant.on;
+  groups = subst (AreGroupsOf c.args.plan.now c.args.graph.now) (sym c.step.ensures.groups) c.steps.invariant.groups;
   reached = λ p s plan reduces. reached_next p (graph_value c.args.graph.now) (plan_of p s) c.args.turns (configuration_of c.steps.run) (configuration_of c.step.new.self) (c.steps.invariant.reached p s plan reduces) (c.in_ok-step.ensures.steps p s plan reduces);
   applier = c.step.ensures.applier;
 }

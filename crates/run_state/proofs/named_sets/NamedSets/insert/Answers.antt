@@ -1,12 +1,11 @@
 use Rattle.std.proofs.Common.{◌≡◌, ℕ, ◌+◌, ◌<◌, List, length, slice_get, FitsSigned, w64, rules, refl, ap, subst, sym, ◌∙◌, arith, get_or-set_same}
 use Rattle.std.proofs.lemmas.Int.{to_z-of_z}
 use Rattle.std.proofs.lemmas.Option.{slice_get_read}
-use Rattle.algorithm_meaning.specs.State.{StateValue}
 use Rattle.algorithm_meaning.specs.Value.{members_of}
 use Rattle.algorithm_meaning.specs.VertexSets.{inserted, with_members}
 use Rattle.vertex_sets.specs.VertexSet.{IsAscendingBelow, VertexSubset}
 use Rattle.run_state.specs.View.{members_in}
-use Rattle.run_state.specs.NamedSets.{named, size_of}
+use Rattle.run_state.specs.NamedSets.{named, sets_alone, size_of}
 use Rattle.run_state.specs.State.{RunState, with_state}
 use Rattle.run_state.proofs.Inserted.{inserted_is}
 use Rattle.run_state.proofs.Named.{found_ascending, found_vertices, named_members, named_replaced, replaced, replaced_outside}
@@ -56,7 +55,7 @@ returns-in_ok-insert-clause-ok c =
     let before = found_ascending s.vertices ms place old (sym found) c.self.invariant.each in
     let more : new.members ≡ inserted v old.members = inserted_is s.vertices v old.members new.members before valid c.in_ok-insert.ensures.added.members in
     let there : old.members ≡ members_of (slice_get (named ns ms).sets place) = ap members_in (sym found) ∙ named_members ns ms place c.self.invariant.count in
-    let whole = λ (state : StateValue). (let r : RunState = record { vertices = s.vertices; state = state } in r) in
+    let whole = sets_alone s.vertices in
     ap whole (named_replaced ns ms place new c.self.invariant.count)
     ∙ ap (λ (xs : List ℕ). whole (with_members (named ns ms) place xs)) (more ∙ ap (inserted v) there)
     ∙ ap (λ (r : RunState). with_state r (with_members r.state place (inserted v (members_of (slice_get r.state.sets place))))) c.self.view_is
@@ -68,7 +67,7 @@ returns-else-place-len-clause-ok c =
     let ms = s.members.items in
     let place = c.args.place in
     let v = c.args.vertex in
-    let whole = λ (state : StateValue). (let r : RunState = record { vertices = s.vertices; state = state } in r) in
+    let whole = sets_alone s.vertices in
     let outside : length ms < place + 1 = omega (arith, s.members.ok) in
     sym c.self.view_is
     ∙ ap whole (replaced_outside ns ms place (inserted v (members_of (slice_get (named ns ms).sets place))) outside)

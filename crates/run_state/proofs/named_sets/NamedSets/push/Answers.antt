@@ -1,9 +1,8 @@
 use Rattle.std.proofs.Common.{◌≡◌, ℕ, List, [], ◌∷◌, ◌++◌, FitsSigned, w64, rules, ap, ap₂, subst, sym, ◌∙◌}
 use Rattle.std.proofs.lemmas.Int.{to_z-of_z}
-use Rattle.algorithm_meaning.specs.State.{StateValue}
 use Rattle.algorithm_meaning.specs.VertexSets.{with_new_set}
 use Rattle.vertex_sets.specs.VertexSet.{IsAscendingBelow, VertexSubset}
-use Rattle.run_state.specs.NamedSets.{named}
+use Rattle.run_state.specs.NamedSets.{named, sets_alone}
 use Rattle.run_state.specs.State.{RunState, with_state}
 use Rattle.run_state.proofs.Named.{named_push, pushed}
 use Rattle.run_state.proofs.named_sets.NamedSets.push.Goals as goal
@@ -23,7 +22,7 @@ returns-clause-ok c =
     let s = c.self.inside in
     let set = c.args.set in
     let name = c.args.name in
-    let whole = λ (state : StateValue). (let r : RunState = record { vertices = s.vertices; state = state } in r) in
+    let whole = sets_alone s.vertices in
     let names : c.push_reserved.new.self.items ≡ s.names.items ++ name ∷ [] = c.push_reserved.ensures.items ∙ ap (λ (xs : List ℕ). xs ++ name ∷ []) c.make_room.ensures.names in
     let members : c.push_reserved-3.new.self.items ≡ s.members.items ++ set ∷ [] = c.push_reserved-3.ensures.items ∙ ap (λ (xs : List VertexSubset). xs ++ set ∷ []) c.make_room.ensures.members in
     ap₂ (λ (xs : List ℕ) (ys : List VertexSubset). whole (named xs ys)) names members

@@ -1,8 +1,8 @@
 use Rattle.std.proofs.Common.{◌≡◌, ℕ, ◌+◌, ◌<◌, length, FitsSigned, w64, rules, ap, subst, sym, ◌∙◌, arith}
 use Rattle.std.proofs.lemmas.Int.{to_z-of_z}
-use Rattle.algorithm_meaning.specs.State.{StateValue}
 use Rattle.algorithm_meaning.specs.VertexSets.{with_members}
 use Rattle.vertex_sets.specs.VertexSet.{IsAscendingBelow}
+use Rattle.run_state.specs.NamedSets.{sets_alone}
 use Rattle.run_state.specs.State.{RunState, with_state}
 use Rattle.run_state.proofs.Named.{named_replaced, replaced, replaced_outside}
 use Rattle.run_state.proofs.named_sets.NamedSets.replace.Goals as goal
@@ -21,7 +21,7 @@ returns-then-place-len c =
     let s = c.self.inside in
     let set = c.args.set in
     let place = c.args.place in
-    let whole = λ (state : StateValue). (let r : RunState = record { vertices = s.vertices; state = state } in r) in
+    let whole = sets_alone s.vertices in
     ap whole (named_replaced s.names.items s.members.items place set c.self.invariant.count)
     ∙ ap (λ (r : RunState). with_state r (with_members r.state place set.members)) c.self.view_is
 
@@ -30,7 +30,7 @@ returns-else-place-len c =
     let s = c.self.inside in
     let set = c.args.set in
     let place = c.args.place in
-    let whole = λ (state : StateValue). (let r : RunState = record { vertices = s.vertices; state = state } in r) in
+    let whole = sets_alone s.vertices in
     let outside : length s.members.items < place + 1 = omega (arith, s.members.ok) in
     sym c.self.view_is
     ∙ ap whole (replaced_outside s.names.items s.members.items place set.members outside)

@@ -1,7 +1,6 @@
 use Rattle.std.proofs.Common.{List, ℕ, ap, ap₂, ◌∙◌}
-use Rattle.algorithm_meaning.specs.State.{StateValue}
 use Rattle.vertex_sets.specs.VertexSet.{VertexSubset}
-use Rattle.run_state.specs.NamedSets.{named, with_first_sets}
+use Rattle.run_state.specs.NamedSets.{named, sets_alone, with_first_sets}
 use Rattle.run_state.specs.State.{RunState, with_state}
 use Rattle.run_state.proofs.Named.{named_take, taken}
 use Rattle.run_state.proofs.named_sets.NamedSets.truncate.Goals as goal
@@ -16,7 +15,7 @@ pub returns : goal.returns
 returns c =
     let s = c.self.inside in
     let k = c.args.count in
-    let whole = λ (state : StateValue). (let r : RunState = record { vertices = s.vertices; state = state } in r) in
+    let whole = sets_alone s.vertices in
     ap₂ (λ (xs : List ℕ) (ys : List VertexSubset). whole (named xs ys)) c.truncate.ensures.items c.truncate-2.ensures.items
     ∙ ap whole (named_take k s.names.items s.members.items)
     ∙ ap (λ (r : RunState). with_state r (with_first_sets k r.state)) c.self.view_is

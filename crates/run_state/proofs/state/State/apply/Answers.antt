@@ -1,4 +1,4 @@
-use Rattle.std.proofs.Common.{ℕ, ℤ, List, slice_get, refl, ap, sym, subst, ◌∙◌}
+use Rattle.std.proofs.Common.{ℕ, ℤ, List, slice_get, refl, ap, ap₂, sym, subst, ◌∙◌}
 use Rattle.algorithm_meaning.specs.Entries.{with_vectors}
 use Rattle.algorithm_meaning.specs.State.{StateValue}
 use Rattle.algorithm_meaning.specs.Value.{members_of}
@@ -27,7 +27,8 @@ returns-in-Some-clause-applied c = λ steps code.
     let place = c.args.set in
     let m : StateValue = record s.sets.state { vectors = s.vectors.vectors } in
     let has : HasSizes c.sizes.result.now m = subst (λ (zs : List ℤ). HasSizes zs m) (sym c.sizes.ensures) (has_sizes m) in
-    let whole = λ (vectors : List (List ℤ)). run_state vectors s.sets s.integers.items s.conditions.items s.text.items s.turns in
-    ap whole (c.run_for_all.ensures.vectors steps m code refl has)
-    ∙ ap (λ (us : List ℕ). whole (after_vertices steps m.sets us s.vectors.vectors)) (c.iter.ensures.members ∙ c.in-Some.ensures.members)
+    let whole = λ (vectors : List (List ℤ)) (groups : List (List ℕ)).
+    run_state (record { vectors = vectors; groups = groups }) s.sets s.integers.items s.conditions.items s.text.items s.turns in
+    ap₂ whole (c.run_for_all.ensures.vectors steps m code refl has) c.run_for_all.ensures.groups
+    ∙ ap (λ (us : List ℕ). whole (after_vertices steps m.sets us s.vectors.vectors) s.vectors.groups) (c.iter.ensures.members ∙ c.in-Some.ensures.members)
     ∙ ap (λ (r : RunState). with_state r (with_vectors r.state (after_vertices steps r.state.sets (members_of (slice_get r.state.sets place)) r.state.vectors))) c.self.view_is

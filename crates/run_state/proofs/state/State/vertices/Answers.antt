@@ -7,4 +7,4 @@ pub returns-clause-valid : goal.returns-clause-valid
 returns-clause-valid c =
     let s = c.self.inside in
     subst IsRunState c.self.view_is
-    (is_run_state s.vectors.vectors s.sets s.integers.items s.conditions.items s.text.items s.turns s.vector_count c.self.invariant c.vertices.ensures.ascending)
+    (is_run_state s.vectors s.sets s.integers.items s.conditions.items s.text.items s.turns s.vector_count c.self.invariant c.vertices.ensures.ascending)

@@ -3,6 +3,7 @@ use Rattle.algorithm_meaning.specs.declared.outcome.End.{End as Ending}
 use Rattle.plans.specs.Instruction.{InstructionTree}
 use Rattle.plans.specs.Plan.{plan_of}
 use Rattle.plans.specs.Operation.{IsInstruction}
+use Rattle.plans.proofs.Depths.{forgotten-all}
 use Rattle.runner.specs.Position.{IsShown, IsShownWhere, loops_of, position}
 use Rattle.runner.proofs.Partners.{found_none, found_some, none_at, partner_at}
 use Rattle.runner.proofs.plan_run.PlanRun.shown.Goals as goal
@@ -25,4 +26,4 @@ returns-in-None-get c p s plan =
     let found = found_none is c.deref.result.now run.place c.get.result c.deref.ensures.value c.get.ensures.lookup.1 c.get.ensures.lookup.3 c.in-None-get.is in
     let none = none_at IsInstruction is (plan_of p s) run.place plan.instructions found in
     subst (λ (e : Option Ending). IsShown (plan_of p s) (position e run.place (loops_of run.memory) run.memory.state.state) d) (sym c.in-None.is)
-    (subst (λ (o : Option InstructionTree). IsShownWhere o run.memory.state.state d) (sym none) c.depth-in-None-get.ensures)
+    (subst (λ (o : Option InstructionTree). IsShownWhere o run.memory.state.state d) (sym none) (forgotten-all d run.memory.state.state (sym c.depth-in-None-get.ensures)))
