@@ -1,0 +1,2 @@
+mod TicketLaws
+mod NumberLaws
