@@ -1,0 +1,3 @@
+mod SetMembers
+mod Turns
+mod Unrolling
