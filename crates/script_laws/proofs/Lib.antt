@@ -1,0 +1,4 @@
+mod Options
+mod DigitLaws
+mod WordLaws
+mod LineLaws
