@@ -2,3 +2,5 @@ mod Options
 mod DigitLaws
 mod WordLaws
 mod LineLaws
+mod Cuts
+mod OutcomeLaws

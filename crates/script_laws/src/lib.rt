@@ -11,7 +11,9 @@
 #![tactic(auto)]
 
 mod commands;
+mod outcomes;
 
 pub use commands::{
     commands_are_their_words, commands_have_a_line, lines_are_their_words, numbers_are_their_digits,
 };
+pub use outcomes::texts_determine_their_outcomes;
