@@ -1,3 +1,5 @@
-mod SetMembers
+pub mod SetMembers
 mod Turns
 mod Unrolling
+mod Ascending
+pub mod Sound

@@ -84,14 +84,14 @@ modified_members p g ends function vector s v =
     (λ is. (all.0 (kept.0 is).0, differs.0 (kept.0 is).1), λ both. kept.1 (all.1 both.0, differs.1 both.1))
 
 -- what is filtered of vertices in order are vertices in order
-filtered_vertices : (n : ℕ) (test : ℕ → Bool) (members : List ℕ) → AreVertices n members → AreVertices n (filter test members)
+pub filtered_vertices : (n : ℕ) (test : ℕ → Bool) (members : List ℕ) → AreVertices n members → AreVertices n (filter test members)
 filtered_vertices n test members are = record {
   ascending = IsStrictlyIncreasing-filter test members are.ascending;
   below = All-filter test (λ v. v < n) members are.below;
 }
 
-all_vertices : (n : ℕ) → AreVertices n (all_below n)
-all_vertices n = record {
+pub whole_vertices : (n : ℕ) → AreVertices n (all_below n)
+whole_vertices n = record {
   ascending = all_ascend n;
   below = λ k d within.
       let long = length-range_with_len 0 n in
@@ -101,7 +101,7 @@ all_vertices n = record {
 pub modified_vertices : (p : ProgramTree) (g : GraphValue) (ends : ApplyEnds) (function vector : ℕ) (s : StateValue)
     → AreVertices g.vertices (members_for p g (set.Modified ends function vector) s)
 modified_vertices p g ends function vector s =
-    filtered_vertices g.vertices (is_modified vector s.vectors (vectors_after p g (set.Modified ends function vector) s)) (all_below g.vertices) (all_vertices g.vertices)
+    filtered_vertices g.vertices (is_modified vector s.vectors (vectors_after p g (set.Modified ends function vector) s)) (all_below g.vertices) (whole_vertices g.vertices)
 
 pub filter_members : (p : ProgramTree) (g : GraphValue) (slot : VarRef) (function : ℕ) (s : StateValue) (v : ℕ)
     → Contains (members_for p g (set.Filter slot function) s) v
