@@ -8,15 +8,16 @@ use Rattle.tree_batch.specs.Entry.{misfits}
 use Rattle.tree_batch.specs.Digraph.{Digraph, graph_through}
 use Rattle.version_list.specs.declared.step.Step.{Step}
 use Rattle.version_list.specs.declared.step.Step.TheVariants.{Commit, Acquire, Release, Trim}
-use Rattle.version_list.specs.declared.step.Reply.TheVariants.{Ticket, Released, Refused}
+use Rattle.version_list.specs.declared.step.Reply.{Reply}
+use Rattle.version_list.specs.declared.step.Reply.TheVariants.{Version, Ticket, Released, Trimmed, Refused}
 use Rattle.version_list.specs.declared.step.Which.{Which}
 use Rattle.version_list.specs.declared.step.Done.{Done}
-use Rattle.version_list.specs.Machine.{State, opened, reply_to, state_after, newest_number, newest_graph, version_graph, number_asked, lacks_room, lacks_steps, is_kept, is_open, ticket_version, ticket_graph}
-use Rattle.version_list.specs.Timeline.{IsLegal, replay}
+use Rattle.version_list.specs.Machine.{State, opened, changed, reply_to, state_after, newest_number, newest_graph, version_graph, number_asked, lacks_room, lacks_steps, is_kept, is_open, ticket_version, ticket_graph}
+use Rattle.version_list.specs.Timeline.{Timeline, IsLegal, advanced, advanced_through, beginning, replay, with_reply}
 use Rattle.version_list.specs.Held.{AreTickets, holder_count}
 use Rattle.version_list.proofs.Holding.{is_open_is, is_held_is, ticket_version-push, ticket_version-others, ticket_holds}
 use Rattle.version_list.proofs.Keeping.{some_of, kept_is_made, tickets_committed, tickets_opened, tickets_closed}
-use Rattle.version_laws.specs.Keeping.{HasNoReleaseOf, Keeps, release_of, ticket_given}
+use Rattle.version_laws.specs.Keeping.{HasNoReleaseOf, Keeps, release_of, state_through, steps_in, ticket_given}
 
 -- open tickets stay what they are
 commit_tickets : (s : State) (batch : List Entry) → AreTickets s → AreTickets (state_after s (Commit batch))
@@ -123,7 +124,7 @@ step_keeps s (Release gone) number k tickets other is =
     ]
 step_keeps s Trim number k tickets other is = elim (cases_Bool (lacks_steps s 1)) [ inl full ↦ rw (full) is | inr room ↦ rw (room) is ]
 
-replay_keeps : (s : State) (history : List Done) (number k : ℕ) → AreTickets s → HasNoReleaseOf number history → ticket_version s.open_tickets number ≡ Some k → ticket_version (replay s history).open_tickets number ≡ Some k
+replay_keeps : (s : State) (history : List Done) (number k : ℕ) → AreTickets s → HasNoReleaseOf number (steps_in history) → ticket_version s.open_tickets number ≡ Some k → ticket_version (replay s history).open_tickets number ≡ Some k
 replay_keeps s [] number k tickets none is = is
 replay_keeps s (done ∷ history) number k tickets none is =
     replay_keeps (state_after s done.step) history number k (step_tickets s done.step tickets) none.1 (step_keeps s done.step number k tickets none.0 is)
@@ -160,7 +161,7 @@ hold_opens s which number k tickets is =
       | inr lost ↦ let no : Refused 121 ≡ Ticket number k = rw (lost) at is in absurd cc
     ]
 
-pub tickets_keep : (n room number k : ℕ) (which : Which) (before between : List Done) → IsLegal (opened n room) (before ++ ticket_given which number k ∷ between) → HasNoReleaseOf number between
+pub tickets_keep : (n room number k : ℕ) (which : Which) (before between : List Done) → IsLegal (opened n room) (before ++ ticket_given which number k ∷ between) → HasNoReleaseOf number (steps_in between)
     → Keeps (replay (opened n room) (before ++ ticket_given which number k ∷ between)) number k (version_graph (replay (opened n room) before) k)
 tickets_keep n room number k which before between legal none =
     let s : State = replay (opened n room) before in
@@ -227,3 +228,77 @@ tickets_go n room number before after legal =
     let start : State = state_after s (Release number) in
     let gone : Gone (replay start after) number = replay_gone start after number (step_tickets s (Release number) tickets) (release_closes s number tickets rest.0) in
     ap (λ (t : State). ticket_graph t number) (replay_append (opened n room) before (release_of number ∷ after)) ∙ ap (option_map (version_graph (replay start after))) gone.0
+
+-- the same of steps, of which some may be refused
+abbrev after_steps : State → List Step → State
+after_steps s [] = s
+after_steps s (step ∷ steps) = after_steps (state_after s step) steps
+
+refused_state : (s : State) (step : Step) (number : ℕ) → changed s step (Refused number) ≡ s
+refused_state s (Commit batch) number = refl
+refused_state s (Acquire which) number = refl
+refused_state s (Release ticket) number = refl
+refused_state s Trim number = refl
+
+replied_state : (t : Timeline) (step : Step) (reply : Reply) → reply_to t.state step ≡ reply → (with_reply t step reply).state ≡ state_after t.state step
+replied_state t step (Version number) is = refl
+replied_state t step (Ticket number version) is = refl
+replied_state t step Released is = refl
+replied_state t step (Trimmed count) is = refl
+replied_state t step (Refused number) is = sym (ap (changed t.state step) is ∙ refused_state t.state step number)
+
+through : (t : Timeline) (steps : List Step) → (advanced_through t steps).state ≡ after_steps t.state steps
+through t [] = refl
+through t (step ∷ steps) = through (advanced t step) steps ∙ ap (λ (s : State). after_steps s steps) (replied_state t step (reply_to t.state step) refl)
+
+steps_append : (s : State) (before after : List Step) → after_steps s (before ++ after) ≡ after_steps (after_steps s before) after
+steps_append s [] after = refl
+steps_append s (step ∷ before) after = steps_append (state_after s step) before after
+
+steps_tickets : (s : State) (steps : List Step) → AreTickets s → AreTickets (after_steps s steps)
+steps_tickets s [] tickets = tickets
+steps_tickets s (step ∷ steps) tickets = steps_tickets (state_after s step) steps (step_tickets s step tickets)
+
+steps_stay : (s : State) (steps : List Step) (k : ℕ) → k ≤ newest_number s → version_graph (after_steps s steps) k ≡ version_graph s k
+steps_stay s [] k made = refl
+steps_stay s (step ∷ steps) k made =
+    let one = step_stays s step k made in
+    steps_stay (state_after s step) steps k one.1 ∙ one.0
+
+steps_keep : (s : State) (steps : List Step) (number k : ℕ) → AreTickets s → HasNoReleaseOf number steps → ticket_version s.open_tickets number ≡ Some k → ticket_version (after_steps s steps).open_tickets number ≡ Some k
+steps_keep s [] number k tickets none is = is
+steps_keep s (step ∷ steps) number k tickets none is = steps_keep (state_after s step) steps number k (step_tickets s step tickets) none.1 (step_keeps s step number k tickets none.0 is)
+
+steps_gone : (s : State) (steps : List Step) (number : ℕ) → AreTickets s → Gone s number → Gone (after_steps s steps) number
+steps_gone s [] number tickets gone = gone
+steps_gone s (step ∷ steps) number tickets gone = steps_gone (state_after s step) steps number (step_tickets s step tickets) (step_gone s step number tickets gone)
+
+pub tickets_keep_through : (n room number k : ℕ) (which : Which) (before between : List Step) → reply_to (state_through (opened n room) before) (Acquire which) ≡ Ticket number k → HasNoReleaseOf number between
+    → Keeps (state_through (opened n room) (before ++ Acquire which ∷ between)) number k (version_graph (state_through (opened n room) before) k)
+tickets_keep_through n room number k which before between is none =
+    let s : State = after_steps (opened n room) before in
+    let s_is : state_through (opened n room) before ≡ s = through (beginning (opened n room)) before in
+    let tickets : AreTickets s = steps_tickets (opened n room) before (opened_tickets n room) in
+    let start : State = state_after s (Acquire which) in
+    let opens = hold_opens s which number k tickets (subst (λ (t : State). reply_to t (Acquire which) ≡ Ticket number k) s_is is) in
+    let one : Stays s k start = step_stays s (Acquire which) k opens.1 in
+    let open_one : ticket_version (after_steps start between).open_tickets number ≡ Some k = steps_keep start between number k (step_tickets s (Acquire which) tickets) none opens.0 in
+    let graph : version_graph (after_steps start between) k ≡ version_graph s k = steps_stay start between k one.1 ∙ one.0 in
+    let end_is : state_through (opened n room) (before ++ Acquire which ∷ between) ≡ after_steps start between =
+    through (beginning (opened n room)) (before ++ Acquire which ∷ between) ∙ steps_append (opened n room) before (Acquire which ∷ between) in
+    subst (λ (t : State). Keeps t number k (version_graph (state_through (opened n room) before) k)) (sym end_is)
+    (subst (λ (u : State). Keeps (after_steps start between) number k (version_graph u k)) (sym s_is)
+    (open_keeps (after_steps start between) number k (version_graph s k) open_one graph))
+
+pub tickets_go_through : (n room number : ℕ) (before after : List Step) → reply_to (state_through (opened n room) before) (Release number) ≡ Released
+    → ticket_graph (state_through (opened n room) (before ++ Release number ∷ after)) number ≡ None
+tickets_go_through n room number before after is =
+    let s : State = after_steps (opened n room) before in
+    let s_is : state_through (opened n room) before ≡ s = through (beginning (opened n room)) before in
+    let tickets : AreTickets s = steps_tickets (opened n room) before (opened_tickets n room) in
+    let start : State = state_after s (Release number) in
+    let closed : Gone start number = release_closes s number tickets (subst (λ (t : State). reply_to t (Release number) ≡ Released) s_is is) in
+    let gone : Gone (after_steps start after) number = steps_gone start after number (step_tickets s (Release number) tickets) closed in
+    let end_is : state_through (opened n room) (before ++ Release number ∷ after) ≡ after_steps start after =
+    through (beginning (opened n room)) (before ++ Release number ∷ after) ∙ steps_append (opened n room) before (Release number ∷ after) in
+    ap (λ (t : State). ticket_graph t number) end_is ∙ ap (option_map (version_graph (after_steps start after))) gone.0

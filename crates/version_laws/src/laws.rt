@@ -3,9 +3,11 @@ ghost use Rattle.std.specs.Prelude.{◌≡◌, ◌≤◌, ℕ, List, ◌∷◌, 
 ghost use Rattle.version_list.specs.declared.step.Done as done;
 ghost use Rattle.version_list.specs.declared.step.Step as step;
 ghost use Rattle.version_list.specs.declared.step.Which as which;
-ghost use Rattle.version_list.specs.Machine.{State, newest_number, opened, ticket_graph, version_graph};
+ghost use Rattle.version_list.specs.declared.step.Step.TheVariants.{Acquire, Release};
+ghost use Rattle.version_list.specs.declared.step.Reply.TheVariants.{Released, Ticket};
+ghost use Rattle.version_list.specs.Machine.{State, newest_number, opened, reply_to, ticket_graph, version_graph};
 ghost use Rattle.version_list.specs.Timeline.{IsLegal, replay, replies_to};
-ghost use Rattle.version_laws.specs.Keeping.{HasNoReleaseOf, Keeps, release_of, ticket_given};
+ghost use Rattle.version_laws.specs.Keeping.{HasNoReleaseOf, Keeps, release_of, state_through, steps_in, ticket_given};
 ghost use Rattle.version_laws.specs.Numbering.{CountsFromOne, replies_in, tickets_in, versions_in};
 
 /// The law that a version has one graph for good: whatever the history does to a state, a version that was made before
@@ -16,20 +18,27 @@ pub fn versions_keep_their_graphs()
 {}
 
 /// The law that a ticket keeps its version: from the hold that gave it until it is given back the ticket is open on the
-/// version that the reply named, which is kept with the graph that it had at the hold. What comes between does not matter.
-/// The call does nothing.
+/// version that the reply named, which is kept with the graph that it had at the hold. What comes between does not matter, in
+/// a legal history as in steps of which some are refused. The call does nothing.
 pub fn tickets_keep_their_graphs()
-    ensures { (n room number k : ℕ) (asked : which.Which) (before between : List done.Done)
-        → IsLegal (opened n room) (before ++ ticket_given asked number k ∷ between) → HasNoReleaseOf number between
+    ensures history { (n room number k : ℕ) (asked : which.Which) (before between : List done.Done)
+        → IsLegal (opened n room) (before ++ ticket_given asked number k ∷ between) → HasNoReleaseOf number (steps_in between)
         → Keeps (replay (opened n room) (before ++ ticket_given asked number k ∷ between)) number k
         (version_graph (replay (opened n room) before) k) }
+    ensures steps { (n room number k : ℕ) (asked : which.Which) (before between : List step.Step)
+        → reply_to (state_through (opened n room) before) (Acquire asked) ≡ Ticket number k → HasNoReleaseOf number between
+        → Keeps (state_through (opened n room) (before ++ Acquire asked ∷ between)) number k
+        (version_graph (state_through (opened n room) before) k) }
 {}
 
 /// The law that a ticket which was given back has no graph, whatever comes after. The call does nothing.
 pub fn released_tickets_have_no_graph()
-    ensures { (n room number : ℕ) (before after : List done.Done)
+    ensures history { (n room number : ℕ) (before after : List done.Done)
         → IsLegal (opened n room) (before ++ release_of number ∷ after)
         → ticket_graph (replay (opened n room) (before ++ release_of number ∷ after)) number ≡ None }
+    ensures steps { (n room number : ℕ) (before after : List step.Step)
+        → reply_to (state_through (opened n room) before) (Release number) ≡ Released
+        → ticket_graph (state_through (opened n room) (before ++ Release number ∷ after)) number ≡ None }
 {}
 
 /// The law that the numbers of versions in the replies of a history are 1, 2, 3 and so on, as are those in what steps are
