@@ -13,7 +13,12 @@ use Rattle.algorithm_meaning.specs.declared.outcome.NamedSet.{NamedSet}
 use Rattle.algorithm_meaning.specs.declared.outcome.Outcome.{Outcome}
 use Rattle.replies.specs.OutcomeText.{end_line, end_text, fault_text, labelled, outcome_text, set_line, vector_line}
 use Rattle.scripts.specs.Pieces.{HasNone}
-use Rattle.script_laws.specs.Shown.{IsEnd, IsOutcome, IsPrintedLine, IsSet, IsVector}
+use Rattle.meaning_laws.specs.Printing.{IsPrintedLine}
+use Rattle.meaning_laws.proofs.Sound.{prints}
+use Rattle.typed_tree.specs.ProgramTree.{ProgramTree}
+use Rattle.algorithm_meaning.specs.State.{GraphValue}
+use Rattle.algorithm_meaning.specs.Shown.{meaning}
+use Rattle.script_laws.specs.Shown.{HasNumbers, IsEnd, IsOutcome, IsSet, IsVector}
 use Rattle.script_laws.proofs.Cuts.{IsDigit, Passes, at_end, cut_at_byte, decimal_digits, digits_none, digits_pass, integer_passes, line_cut, line_of, no_end}
 
 -- printed lines end at their line feed, and none begins as the line of the end does
@@ -188,7 +193,12 @@ text_determines a b first second same =
     ap (λ (l : List ℕ). b.text ++ l) (end_joined b.end b.turns b_lines) ∙ ap (λ (l : List ℕ). l ++ 101 ∷ b_end) second.printed.2 in
     let printed = printed_cut first.printed.0 second.printed.0 a_end b_end first.printed.1 second.printed.1 (sym a_is ∙ same ∙ b_is) in
     let behind = append_cancel_left (codes "end ") (end_text a.end ++ turns_text a.turns a_lines) (end_text b.end ++ turns_text b.turns b_lines) printed.1 in
-    let ends = end_cut a.end b.end a.turns b.turns a_lines b_lines first.end second.end first.turns second.turns behind in
-    let rest = vectors_cut a.vectors b.vectors a.sets b.sets first.vectors second.vectors first.sets second.sets ends.2 in
+    let ends = end_cut a.end b.end a.turns b.turns a_lines b_lines first.numbers.end second.numbers.end first.numbers.turns second.numbers.turns behind in
+    let rest = vectors_cut a.vectors b.vectors a.sets b.sets first.numbers.vectors second.numbers.vectors first.numbers.sets second.numbers.sets ends.2 in
     let text : a.text ≡ b.text = first.printed.2 ∙ printed.0 ∙ sym second.printed.2 in
     λ i. record { end = ends.0 i; turns = ends.1 i; vectors = rest.0 i; sets = rest.1 i; text = text i }
+
+pub runs_determined : (p q : ProgramTree) (g h : GraphValue) (turns more : ℕ) → HasNumbers (meaning p g turns) → HasNumbers (meaning q h more)
+    → outcome_text (meaning p g turns) ≡ outcome_text (meaning q h more) → meaning p g turns ≡ meaning q h more
+runs_determined p q g h turns more first second same =
+    text_determines (meaning p g turns) (meaning q h more) (record { printed = prints p g turns; numbers = first }) (record { printed = prints q h more; numbers = second }) same

@@ -1,22 +1,14 @@
--- What is true of each outcome of a run: its numbers are in their ranges, and what was printed are lines.
-use Rattle.std.specs.Prelude.{◌≡◌, ◌⊎◌, ℕ, ℤ, FitsSigned, ◌<◌, ◌^◌, Bool, List}
+-- What is true of outcomes: their numbers are in their ranges, and what was printed are lines.
+use Rattle.std.specs.Prelude.{FitsSigned, ◌<◌, ◌^◌}
 use Rattle.std.specs.Int.{w64}
-use Rattle.std.specs.List.{AllByRecursion, concat}
+use Rattle.std.specs.List.{AllByRecursion}
 use Rattle.algorithm_meaning.specs.declared.outcome.End.{End}
 use Rattle.algorithm_meaning.specs.declared.outcome.End.TheVariants.{Finished, TurnsOver, Fault}
 use Rattle.algorithm_meaning.specs.declared.outcome.NamedVector.{NamedVector}
 use Rattle.algorithm_meaning.specs.declared.outcome.NamedSet.{NamedSet}
 use Rattle.algorithm_meaning.specs.declared.outcome.Outcome.{Outcome}
-use Rattle.algorithm_meaning.specs.Print.{integer_line, condition_line}
 use Rattle.scripts.specs.Pieces.{HasNone}
-
--- the line of an integer or of a truth value
-abbrev pub IsPrintedLine : List ℕ → Type 0
-IsPrintedLine line = ((n : ℤ) × (line ≡ integer_line n)) ⊎ ((b : Bool) × (line ≡ condition_line b))
-
--- the text is such lines, one after another
-abbrev pub IsPrinted : List ℕ → Type 0
-IsPrinted text = (lines : List (List ℕ)) × AllByRecursion IsPrintedLine lines × (text ≡ concat lines)
+use Rattle.meaning_laws.specs.Printing.{IsPrinted}
 
 -- the numbers of a fault are below 2 ^ 64
 abbrev pub IsEnd : End → Type 0
@@ -34,9 +26,14 @@ pub record IsSet (s : NamedSet) : Type 0 where
   pub name : HasNone 58 s.name
   pub members : AllByRecursion (λ m. m < 2 ^ 64) s.members
 
-pub record IsOutcome (o : Outcome) : Type 0 where
-  pub printed : IsPrinted o.text
+-- the numbers of an outcome are in their ranges, and its names have no colon
+pub record HasNumbers (o : Outcome) : Type 0 where
   pub end : IsEnd o.end
   pub turns : o.turns < 2 ^ 64
   pub vectors : AllByRecursion IsVector o.vectors
   pub sets : AllByRecursion IsSet o.sets
+
+-- and what was printed are lines
+pub record IsOutcome (o : Outcome) : Type 0 where
+  pub printed : IsPrinted o.text
+  pub numbers : HasNumbers o

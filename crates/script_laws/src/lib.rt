@@ -7,6 +7,10 @@
 //! single spaces (`lines_are_their_words`). So each command has a line (`commands_have_a_line`), one alone but for zeros in
 //! front of numbers and for what may be left out. `specs/Spelling.antt` has the spellings.
 //!
+//! The text of an outcome determines it (`texts_determine_their_outcomes`), so runs with one text show the same
+//! (`texts_determine_what_runs_show`); `specs/Shown.antt` says of which outcomes: those whose numbers are in the ranges of their
+//! types, and whose names have no colon.
+//!
 //! No crate of the program stands on this one, so that its proofs are off the way of a build.
 #![tactic(auto)]
 
@@ -16,4 +20,4 @@ mod outcomes;
 pub use commands::{
     commands_are_their_words, commands_have_a_line, lines_are_their_words, numbers_are_their_digits,
 };
-pub use outcomes::texts_determine_their_outcomes;
+pub use outcomes::{texts_determine_their_outcomes, texts_determine_what_runs_show};
