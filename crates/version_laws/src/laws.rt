@@ -1,14 +1,29 @@
 //! Laws of histories, each the contract of a call that does nothing.
-ghost use Rattle.std.specs.Prelude.{◌≡◌, ◌≤◌, ℕ, List, ◌∷◌, ◌++◌, None, length, map};
+ghost use Rattle.std.specs.Prelude.{◌≡◌, ◌≤◌, ℕ, List, ◌∷◌, ◌++◌, None, length, take};
+ghost use Rattle.tree_batch.specs.declared.batch.Entry.{Entry};
+ghost use Rattle.tree_batch.specs.Digraph.{empty_graph, graph_through};
 ghost use Rattle.version_list.specs.declared.step.Done as done;
 ghost use Rattle.version_list.specs.declared.step.Step as step;
 ghost use Rattle.version_list.specs.declared.step.Which as which;
-ghost use Rattle.version_list.specs.declared.step.Step.TheVariants.{Acquire, Release};
-ghost use Rattle.version_list.specs.declared.step.Reply.TheVariants.{Released, Ticket};
-ghost use Rattle.version_list.specs.Machine.{State, newest_number, opened, reply_to, ticket_graph, version_graph};
+ghost use Rattle.version_list.specs.declared.step.Step.TheVariants.{Acquire, Commit, Release};
+ghost use Rattle.version_list.specs.declared.step.Reply.TheVariants.{Released, Ticket, Version};
+ghost use Rattle.version_list.specs.Machine.{State, newest_number, opened, reply_to, state_after, ticket_graph, version_graph};
+ghost use Rattle.version_list.specs.Commits.{commits_of};
 ghost use Rattle.version_list.specs.Timeline.{IsLegal, replay, replies_to};
 ghost use Rattle.version_laws.specs.Keeping.{HasNoReleaseOf, Keeps, release_of, state_through, steps_in, ticket_given};
 ghost use Rattle.version_laws.specs.Numbering.{CountsFromOne, replies_in, tickets_in, versions_in};
+
+/// The law that versions are made by commits: version k of a legal history is the graph of n vertices without edges after the
+/// batches of its first k commits, and the newest is that after all. A commit that is answered with a version makes the newest.
+/// The call does nothing.
+pub fn versions_are_made_by_commits()
+    ensures graph { (n room k : ℕ) (history : List done.Done) → IsLegal (opened n room) history
+        → version_graph (replay (opened n room) history) k ≡ graph_through (empty_graph n) (take k (commits_of history)) }
+    ensures newest { (n room : ℕ) (history : List done.Done) → IsLegal (opened n room) history
+        → newest_number (replay (opened n room) history) ≡ length (commits_of history) }
+    ensures answer { (s : State) (batch : List Entry) (number : ℕ) → reply_to s (Commit batch) ≡ Version number
+        → newest_number (state_after s (Commit batch)) ≡ number }
+{}
 
 /// The law that a version has one graph for good: whatever the history does to a state, a version that was made before
 /// has the graph that it had. The call does nothing.
