@@ -6,7 +6,7 @@
 //! exactly the members that the filter lets through (`filtered_sets_have_the_members_that_pass`). An apply looks at exactly
 //! the edges between its ends (`applies_look_at_the_edges_between_their_ends`).
 //!
-//! Loops are defined with a number that falls. It says nothing: a loop is its test, and then a turn, its body and the loop
+//! Loops are defined with a number that falls. It decides nothing: a loop is its test, and then a turn, its body and the loop
 //! again (`loops_are_unrolled`), and any number that is no less than the turns that are left gives the same
 //! (`loops_need_no_more_than_their_turns`). A run that does not end by its turns is the same with more of them
 //! (`more_turns_change_nothing`), and one that does has used them all (`turns_run_out_when_all_are_used`).

@@ -24,7 +24,7 @@ pub fn loops_are_unrolled()
         (take_turn s.turns s (λ t. then_do (for_body (after_all p g body) r t) (after_for number (after_all p g body) (next_of r)))) (Live s) }
 {}
 
-/// The law that the number with which a loop is read says nothing: any that is no less than the turns that are left gives the
+/// The law that the number with which a loop is read decides nothing: any that is no less than the turns that are left gives the
 /// same. The call does nothing.
 pub fn loops_need_no_more_than_their_turns()
     ensures while_loops { (p : ProgramTree) (g : GraphValue) (number k : ℕ) (c : ConditionTree) (body : BlockTree) (s : StateValue) → s.turns ≤ k

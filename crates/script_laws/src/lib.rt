@@ -5,7 +5,7 @@
 //! is its decimal digits behind any zeros (`numbers_are_their_digits`). Words are read as a command exactly where they
 //! spell it, its name and then its numbers (`commands_are_their_words`), and a line exactly where it is such words joined by
 //! single spaces (`lines_are_their_words`). So each command has a line (`commands_have_a_line`), one alone but for zeros in
-//! front of numbers and for what may be left out. `specs/Spelling.antt` has the spellings.
+//! front of numbers, for what may be left out, and for the weight `-0`. `specs/Spelling.antt` has the spellings.
 //!
 //! The text of an outcome determines it (`texts_determine_their_outcomes`), so runs with one text show the same
 //! (`texts_determine_what_runs_show`); `specs/Shown.antt` says of which outcomes: those whose numbers are in the ranges of their
