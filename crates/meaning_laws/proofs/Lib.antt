@@ -1,0 +1,5 @@
+pub mod SetMembers
+mod Turns
+mod Unrolling
+mod Ascending
+pub mod Sound

@@ -1,0 +1,6 @@
+mod Options
+mod DigitLaws
+mod WordLaws
+mod LineLaws
+mod Cuts
+mod OutcomeLaws

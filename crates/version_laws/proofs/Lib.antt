@@ -1,0 +1,3 @@
+mod TicketLaws
+mod NumberLaws
+mod CommitLaws
