@@ -15,7 +15,7 @@ use Rattle.c_tree.proofs.chunk_size.ChunkSize.TheSendSync.{the_sync as size_sync
 use Rattle.c_tree.specs.contracts.tail.ChunkTail as chunk
 use Rattle.c_tree.proofs.tail.ChunkTail.TheSendSync.{the_send as chunk_send, the_sync as chunk_sync}
 use Rattle.c_tree.specs.contracts.part.Part as part
-use Rattle.set_ops.specs.contracts.begin.OwnedHalves as halves
+use Rattle.set_ops.specs.contracts.halves.OwnedHalves as halves
 use Rattle.set_ops.specs.contracts.combined.Task as task
 
 chunks_sync : IsSync (tree.the_row chunk.the_row)
