@@ -1,5 +1,6 @@
 //! Calls of a shared graph behind one that is refused: each kind of call is answered then, by the same reader and by another on
-//! another thread, so no refusal leaves the lock taken. No caller can ask for 122: what is held has an open ticket.
+//! another thread, so no refusal leaves the lock taken. 122 has no row: the ticket of what is held is open until a release
+//! spends what is held.
 ghost use Rattle.std.specs.Prelude.{◌≡◌};
 
 use crate::rows::{add, commit_nothing, hold_and_release, newest, release_held};
