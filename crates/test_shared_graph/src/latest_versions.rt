@@ -3,7 +3,7 @@
 ghost use Rattle.std.specs.Prelude.{◌≡◌};
 
 use crate::rows::{COMMITS, add, look, newest, reads_rise};
-use shared_graph::{LatestError, Naming, Opening, Reader, SharedError, SharedGraph};
+use shared_graph::{LatestError, Naming, Opening, Reader, SharedError, SharedGraph, Snapshot};
 use std::alloc::Global;
 use std::marker::Brand;
 use std::rt::Clock;
@@ -120,8 +120,12 @@ fn two_readers<J: Naming, R: Threads + Wait + AllocGlobal + Sync>(
     drop(graph);
     let refused = [is_refused(me), is_refused(other)];
     other.learn(&me.token());
-    let stays = given.number == 1 && given.graph.contains(0, 1);
-    Ok([refused[0], refused[1], stays, is_refused(other)])
+    Ok([refused[0], refused[1], is_first(&given), is_refused(other)])
+}
+
+// Whether it is the version of the first edge.
+fn is_first(version: &Snapshot) -> bool {
+    version.number == 1 && version.graph.contains(0, 1)
 }
 
 // Whether a reader is told that nothing is published, three times.
