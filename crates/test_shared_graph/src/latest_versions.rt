@@ -101,8 +101,6 @@ fn readers_of_a_graph_that_is_gone_are_refused(rt: HostRuntime) -> Result<(), Fa
     Ok(())
 }
 
-// Whether two readers, of whom one has looked before, are refused each time once the graph is gone, what the one was given
-// stays, and the other still learns from it.
 fn two_readers<J: Naming, R: Threads + Wait + AllocGlobal + Sync>(
     rt: &R,
     opening: Opening,
@@ -115,12 +113,25 @@ fn two_readers<J: Naming, R: Threads + Wait + AllocGlobal + Sync>(
     let [me, other] = readers.as_mut_slice() else {
         return Err(SharedError::BadSeats);
     };
-    add(rt, rt.alloc(), &graph, me, (0, 1))?;
+    look_after_the_end(rt, rt.alloc(), graph, me, other)
+}
+
+// Whether two readers, of whom one has looked before, are refused each time once the graph is gone, what the one was given
+// stays, and the other still learns from it.
+fn look_after_the_end<J: Naming, W: Wait + Drop, R: Threads + Wait + Sync>(
+    rt: &R,
+    alloc: Global,
+    graph: SharedGraph<J, W>,
+    me: &mut Reader<J>,
+    other: &mut Reader<J>,
+) -> Result<[bool; 4], SharedError> {
+    add(rt, alloc, &graph, me, (0, 1))?;
     let given = newest(me)?;
     drop(graph);
-    let refused = [is_refused(me), is_refused(other)];
+    let (mine, theirs) = (is_refused(me), is_refused(other));
     other.learn(&me.token());
-    Ok([refused[0], refused[1], is_first(&given), is_refused(other)])
+    let again = is_refused(other);
+    Ok([mine, theirs, is_first(&given), again])
 }
 
 // Whether it is the version of the first edge.
