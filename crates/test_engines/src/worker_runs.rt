@@ -28,14 +28,14 @@ const CANCEL: &str = "element Vertex end element Edge end \
     #s1# var m : vertexset{Vertex} = edges.applyModified(add, x); end";
 
 // The greatest of the sources of each vertex, from all vertices.
-const SOURCES: &str = "element Vertex end element Edge end \
+pub(crate) const SOURCES: &str = "element Vertex end element Edge end \
     const edges : edgeset{Edge}(Vertex, Vertex) = load(argv[1]); const x : vector{Vertex}(int) = -1; \
     func take(src : Vertex, dst : Vertex) x[dst] max= src; end \
     func main() var all : vertexset{Vertex} = edges.getVertices(); \
     #s1# edges.from(all).apply(take); end";
 
 // The directions and the forms of dense sets that a schedule may name, each with each.
-const WAYS: [(&str, &str); 8] = [
+pub(crate) const WAYS: [(&str, &str); 8] = [
     ("SparsePush", "bool-array"),
     ("DensePush", "bool-array"),
     ("DensePull", "bool-array"),
@@ -46,7 +46,7 @@ const WAYS: [(&str, &str); 8] = [
     ("DensePull-SparsePush", "bitvector"),
 ];
 
-const SHARES: [&str; 4] = [
+pub(crate) const SHARES: [&str; 4] = [
     "serial",
     "static-vertex-parallel",
     "dynamic-vertex-parallel",
@@ -100,7 +100,7 @@ impl Gate for Holding {
 }
 
 // What a program shows with this schedule, by so many workers.
-fn shown<R: Threads + AllocGlobal + Sync, G: Gate + Sync>(
+pub(crate) fn shown<R: Threads + AllocGlobal + Sync, G: Gate + Sync>(
     rt: &R,
     graph: &Flat,
     text: &str,
@@ -200,6 +200,48 @@ fn sixty_four_workers_share_a_thousand_sources(rt: HostRuntime) -> Result<(), Fa
     assert!(rt; !gate.is_wrong.load(Ordering::SeqCst));
     assert_eq!(rt; gate.held.load(Ordering::SeqCst), 1);
     assert!(rt; ends == Some((Some(999), Some(998))));
+    Ok(())
+}
+
+// Sizes at which something changes, and those before: of a block of pairs, of a batch that is sorted by its bits, of pieces that
+// several workers put together, and of an apply that is worth a second worker.
+const RINGS: [u32; 9] = [127, 128, 129, 511, 512, 16_383, 16_384, 32_767, 32_768];
+
+// Whether each vertex of a ring has the one before it, by so many workers at whom nobody looks.
+fn has_predecessors<R: Threads + AllocGlobal + Sync>(
+    rt: &R,
+    graph: &Flat,
+    (way, form, share): (&str, &str, &str),
+    workers: usize,
+) -> Result<bool, Fail> {
+    let outcome = shown(rt, graph, SOURCES, (way, form, share), workers, &Open)?;
+    let last = i64::from(graph.vertices()).wrapping_sub(1);
+    let found = match outcome.vectors.as_slice().first() {
+        Some(vector) => match vector.entries.as_slice() {
+            [first, rest @ ..] => *first == last && rest.iter().copied().eq(0..last),
+            [] => false,
+        },
+        None => false,
+    };
+    Ok(found)
+}
+
+#[test]
+fn rings_of_each_size_are_the_same_by_any_workers(rt: HostRuntime) -> Result<(), Fail> {
+    for size in RINGS {
+        let mut edges = Vec::new(rt.alloc());
+        for vertex in 0..size {
+            edges.push((vertex, vertex.wrapping_add(1) % size.max(1)))?;
+        }
+        let graph = graph_of(rt.alloc(), size, &edges)?;
+        for (way, form) in &WAYS[..4] {
+            for workers in [1, 2, 3] {
+                let choices = (*way, *form, "dynamic-vertex-parallel");
+                let found = has_predecessors(&rt, &graph, choices, workers)?;
+                assert!(rt; found, "{size} by {way} and {workers}");
+            }
+        }
+    }
     Ok(())
 }
 

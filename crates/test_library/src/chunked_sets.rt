@@ -56,15 +56,17 @@ fn cuts_unions_and_differences(rt: HostRuntime) -> Result<(), Fail> {
     Ok(())
 }
 
-// Whether the union of two sets and its difference with one of them are cut as they are to be.
+// Whether the union of two sets, from either side, and its difference with one of them are cut as they are to be.
 fn are_cut_so(alloc: Global) -> Result<bool, Fail> {
     let odd = CTree::from_sorted(alloc, 4, &[(1, 1), (3, 1)])?;
     let two = CTree::from_sorted(alloc, 4, &[(2, -7)])?;
     let all = union(alloc, &odd, &two)?;
+    let turned = union(alloc, &two, &odd)?;
     let rest = difference(alloc, &all, &two)?;
     let begun = is_cut_so(&odd, &[(1, 1), (3, 1)], ODD);
     let united = is_cut_so(&all, &[(1, 1), (2, -7), (3, 1)], ALL);
-    Ok(begun && united && is_cut_so(&rest, &[(1, 1), (3, 1)], ODD))
+    let the_same = is_cut_so(&turned, &[(1, 1), (2, -7), (3, 1)], ALL);
+    Ok(begun && united && the_same && is_cut_so(&rest, &[(1, 1), (3, 1)], ODD))
 }
 
 // Whether the set has this list and this cut.

@@ -1,10 +1,9 @@
 //! Graphs after batches whose halves go to two threads, and graphs that are held meanwhile.
-use crate::forked_sets::Meeting;
+use crate::forked_sets::{Meeting, Visits};
 use std::alloc::Global;
-use std::sync::atomic::{AtomicU64, Ordering};
 use std::test::Fail;
 use std::thread::Threads;
-use tree_batch::{Batch, Entry, Fork, Graph, Quiet};
+use tree_batch::{Batch, Entry, Graph, Quiet};
 
 fn batch_of(alloc: Global, entries: &[Entry]) -> Result<Batch, Fail> {
     let mut batch = Batch::new(alloc);
@@ -94,28 +93,103 @@ fn halves_run_at_the_same_time(rt: HostRuntime) -> Result<(), Fail> {
     Ok(())
 }
 
-// The number whose digits are how often a half was entered: from the first level's first to the second level's second.
-#[derive(Drop)]
-struct Visits(AtomicU64);
-
-impl Fork for Visits {
-    fn enter(&self, level: u32, second: bool) {
-        let digit = match (level, second) {
-            (1, false) => 1000,
-            (1, true) => 100,
-            (_, false) => 10,
-            (_, true) => 1,
-        };
-        self.0.fetch_add(digit, Ordering::SeqCst);
+// A loop in each of so many blocks of 64 vertices.
+fn loops_in(alloc: Global, blocks: u32) -> Result<Batch, Fail> {
+    let mut batch = Batch::new(alloc);
+    for block in 0..blocks {
+        let vertex = block.wrapping_mul(64);
+        batch.push(Entry::Add(vertex, vertex, 1))?;
     }
+    Ok(batch)
 }
+
+// How often each half is entered at each level, by how many forks there are: once for the edges by source, and once for those
+// by destination. At most 6 levels are forked.
+const TIMES: [(u32, &[u64]); 6] = [
+    (0, &[]),
+    (1, &[2]),
+    (2, &[2, 4]),
+    (3, &[2, 4, 8]),
+    (6, &[2, 4, 8, 16, 32, 64]),
+    (7, &[2, 4, 8, 16, 32, 64]),
+];
 
 #[test]
 fn tells_of_each_half(rt: HostRuntime) -> Result<(), Fail> {
-    let batch = batch_of(rt.alloc(), &LOOPS)?;
-    let visits = Visits(AtomicU64::new(0));
-    Graph::new(400, 64)?.apply_forked(&rt, rt.alloc(), &batch, 2, &visits)?;
-    // once for the edges by source, and once for those by destination
-    assert_eq!(rt; visits.0.load(Ordering::SeqCst), 2244);
+    let batch = loops_in(rt.alloc(), 127)?;
+    for (forks, times) in TIMES {
+        let visits = Visits::new();
+        Graph::new(8_128, 64)?.apply_forked(&rt, rt.alloc(), &batch, forks, &visits)?;
+        assert!(rt; visits.are(times), "at {forks} forks");
+    }
+    Ok(())
+}
+
+// Two vertices whose neighbours are the 3,000 even numbers below 6,000, in chunks of 1.
+const HUBS: [u32; 2] = [5, 200];
+
+fn two_hubs(alloc: Global) -> Result<Graph, Fail> {
+    let mut batch = Batch::new(alloc);
+    for hub in HUBS {
+        for half in 0..3_000u32 {
+            batch.push(Entry::Add(hub, half.wrapping_mul(2), 1))?;
+        }
+    }
+    Ok(Graph::new(6_000, 1)?.apply(alloc, &batch)?)
+}
+
+// Adds 300 neighbours of a hub and removes as many, by turns.
+fn change_hub(batch: &mut Batch, hub: u32) -> Result<(), Fail> {
+    for place in 0..300u32 {
+        let first = place.wrapping_mul(20);
+        batch.push(Entry::Add(hub, first.wrapping_add(1), 1))?;
+        batch.push(Entry::Remove(hub, first.wrapping_add(10)))?;
+    }
+    Ok(())
+}
+
+// What one hub or both are given, and three edges of a vertex between them.
+fn hub_batch(alloc: Global, hubs: &[u32]) -> Result<Batch, Fail> {
+    let mut batch = Batch::new(alloc);
+    for hub in hubs {
+        change_hub(&mut batch, *hub)?;
+    }
+    for destination in 0..3u32 {
+        batch.push(Entry::Add(100, destination, 1))?;
+    }
+    Ok(batch)
+}
+
+// By how many forks there are, how often each half is entered at each level where one hub has most of the batch, and where
+// two share it. A hub's neighbours go by halves twice, as what is added and as what is removed: those of one alone from level 1
+// on, those of two from level 2 on. The edges by destination go by halves of the vertices.
+const HUB_TIMES: [(u32, &[u64], &[u64]); 3] = [
+    (1, &[3], &[2]),
+    (2, &[3, 6], &[2, 6]),
+    (3, &[3, 6, 12], &[2, 6, 12]),
+];
+
+// Whether each half of each level is entered so often, where these hubs change.
+fn is_told<R: Threads + AllocGlobal + Sync>(
+    rt: &R,
+    graph: &Graph,
+    hubs: &[u32],
+    forks: u32,
+    times: &[u64],
+) -> Result<bool, Fail> {
+    let batch = hub_batch(rt.alloc(), hubs)?;
+    let visits = Visits::new();
+    graph.apply_forked(rt, rt.alloc(), &batch, forks, &visits)?;
+    Ok(visits.are(times))
+}
+
+#[test]
+fn levels_go_on_inside_a_vertex(rt: HostRuntime) -> Result<(), Fail> {
+    let graph = two_hubs(rt.alloc())?;
+    for (forks, one_times, two_times) in HUB_TIMES {
+        let one = is_told(&rt, &graph, &HUBS[..1], forks, one_times)?;
+        let two = is_told(&rt, &graph, &HUBS, forks, two_times)?;
+        assert!(rt; one && two, "at {forks} forks: {one} {two}");
+    }
     Ok(())
 }

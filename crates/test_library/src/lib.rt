@@ -6,6 +6,8 @@
 #![tactic(auto)]
 
 #[cfg(test)]
+mod chunk_sizes;
+#[cfg(test)]
 mod chunked_sets;
 #[cfg(test)]
 mod compiled_program;

@@ -47,7 +47,7 @@ pub(crate) fn newest<J: Naming>(reader: &mut Reader<J>) -> Result<Snapshot, Shar
 }
 
 // The number of the newest version, and how many edges it has.
-fn look<J: Naming>(reader: &mut Reader<J>) -> Result<(u64, usize), SharedError> {
+pub(crate) fn look<J: Naming>(reader: &mut Reader<J>) -> Result<(u64, usize), SharedError> {
     let newest = newest(reader)?;
     Ok((newest.number, newest.graph.edge_count()))
 }
@@ -82,7 +82,7 @@ pub(crate) fn release<J: Naming, W: Wait + Drop, R: Wait>(
 }
 
 // Why a version was not held, or why its release was refused.
-fn release_held<J: Naming, W: Wait + Drop, R: Wait>(
+pub(crate) fn release_held<J: Naming, W: Wait + Drop, R: Wait>(
     rt: &R,
     graph: &SharedGraph<J, W>,
     me: &mut Reader<J>,
@@ -275,7 +275,7 @@ fn sixty_four_readers_beside_a_writer(rt: HostRuntime) -> Result<(), Fail> {
     Ok(())
 }
 
-const COMMITS: u64 = 10_000;
+pub(crate) const COMMITS: u64 = 10_000;
 
 fn many_readers<J: Naming + Send + Sync, R: Threads + Wait + Clock + AllocGlobal + Sync>(
     rt: &R,
@@ -327,7 +327,7 @@ fn read_all<J: Naming + Send + Sync, R: Threads + Clock + Sync>(
 }
 
 // Whether the numbers never fall until the last version comes, and each snapshot has as many edges as its
-// number says.
+// number says, up to 10,000.
 pub(crate) fn reads_rise<J: Naming, C: Clock>(
     clock: &C,
     reader: &mut Reader<J>,
@@ -336,7 +336,7 @@ pub(crate) fn reads_rise<J: Naming, C: Clock>(
     let mut seen = 0;
     for _ in 0..MOST_READS {
         let (number, edges) = look(reader)?;
-        if number < seen || edges as u64 != number {
+        if number < seen || edges as u64 != number.min(COMMITS) {
             return Ok(false);
         }
         if number == last {
@@ -425,4 +425,73 @@ fn one_commit_fills<J: Naming, W: Wait + Drop, R: Threads + Wait + Sync>(
     let committed = commit_nothing(rt, alloc, graph, me);
     let full = commit_nothing(rt, alloc, graph, me);
     held == Err(123) && committed == Ok(1) && full == Err(123)
+}
+
+#[test]
+fn no_reader_is_refused(rt: HostRuntime) -> Result<(), Fail> {
+    let refused = refused_readers::<Brand, _>(&rt, Opening::new(), 0);
+    assert_eq!(rt; refused, Some(124));
+    Ok(())
+}
+
+#[test]
+fn sixty_five_readers_are_refused(rt: HostRuntime) -> Result<(), Fail> {
+    let refused = refused_readers::<Brand, _>(&rt, Opening::new(), 65);
+    assert_eq!(rt; refused, Some(124));
+    Ok(())
+}
+
+// Why a graph with so many readers is not opened.
+fn refused_readers<J: Naming, R: Threads + Wait + AllocGlobal + Sync>(
+    rt: &R,
+    opening: Opening,
+    readers: usize,
+) -> Option<u16>
+    requires book { opening ≡ J.book }
+    requires vertices { J.vertices ≡ 2 }
+    requires room { J.room ≡ 16777216 }
+{
+    match SharedGraph::<J, &R>::open(rt, rt.alloc(), opening, 2, 64, readers) {
+        Ok(_opened) => None,
+        Err(error) => Some(error.number()),
+    }
+}
+
+#[test]
+fn commits_from_4096_entries_on_start_threads(rt: HostRuntime) -> Result<(), Fail> {
+    let made = large_commits::<Brand, _>(&rt, Opening::new())?;
+    assert!(rt; made);
+    Ok(())
+}
+
+// Whether commits of so many edges and more make them, beside the size from which on a commit starts threads.
+fn large_commits<J: Naming, R: Threads + Wait + AllocGlobal + Sync>(
+    rt: &R,
+    opening: Opening,
+) -> Result<bool, SharedError>
+    requires book { opening ≡ J.book }
+    requires vertices { J.vertices ≡ 70 }
+    requires room { J.room ≡ 16777216 }
+{
+    let (graph, mut readers) = SharedGraph::<J, &R>::open(rt, rt.alloc(), opening, 70, 64, 1)?;
+    let [me] = readers.as_mut_slice() else {
+        return Err(SharedError::BadSeats);
+    };
+    let mut all = true;
+    for size in [4_095, 4_096, 4_097] {
+        let batch = first_edges(rt.alloc(), size)?;
+        let number = graph.commit(rt, rt.alloc(), me, batch)?;
+        all = all && look(me)? == (number, size as usize);
+    }
+    Ok(all)
+}
+
+// So many edges of 70 vertices.
+fn first_edges(alloc: Global, size: u32) -> Result<Batch, AllocError> {
+    let mut batch = Batch::new(alloc);
+    for edge in 0..size {
+        let entry = Entry::Add(edge / 70, edge % 70, 1);
+        batch.push(entry).map_err(|_| AllocError)?;
+    }
+    Ok(batch)
 }
