@@ -1,0 +1,2 @@
+mod Machine
+mod Plain
