@@ -1,2 +1,5 @@
 mod Machine
 mod Plain
+mod Words
+mod CutWords
+mod Values

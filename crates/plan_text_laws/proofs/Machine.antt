@@ -1,5 +1,5 @@
 -- Reading the words of an expression gives its value.
-use Rattle.std.proofs.Common.{◌≡◌, ◌≢◌, ℕ, suc, ℤ, pos, negsuc, ◌+◌, ◌<◌, ◌≤◌, ◌^◌, FitsSigned, Bool, true, false, ◌&&◌, nat_lt, if◌then◌else◌, ◌==◌, List, [], ◌∷◌, ◌++◌, length, Option, Some, None, codes, decimal, inl, inr, refl, sym, ap, ◌∙◌, arith}
+use Rattle.std.proofs.Common.{◌≡◌, ◌≢◌, ℕ, suc, ℤ, pos, negsuc, ◌+◌, ◌<◌, ◌^◌, FitsSigned, Bool, true, false, ◌&&◌, nat_lt, if◌then◌else◌, ◌==◌, List, [], ◌∷◌, ◌++◌, length, Option, Some, None, codes, decimal, inl, inr, refl, sym, ap, ◌∙◌, arith}
 use Rattle.std.specs.Option.{option_and_then, option_map}
 use Rattle.std.specs.Char.{is_ascii_digit}
 use Rattle.std.specs.Str.{all_ascii_digits, bytes_eq}
@@ -21,15 +21,15 @@ use Rattle.typed_tree.specs.IntegerTree.{IntegerTree}
 use Rattle.typed_tree.specs.ConditionTree as condition
 use Rattle.typed_tree.specs.ConditionTree.{ConditionTree}
 use Rattle.typed_tree.specs.ProgramTree.{ProgramTree}
-use Rattle.algorithm_meaning.specs.Arithmetic.{arithmetic, compared, connected, negative}
+use Rattle.algorithm_meaning.specs.Arithmetic.{arithmetic, compared, connected}
 use Rattle.algorithm_meaning.specs.State.{StateValue}
-use Rattle.algorithm_meaning.specs.Stand.{choice_in, number_in, vertex_number}
+use Rattle.algorithm_meaning.specs.Stand.{choice_in, number_in}
 use Rattle.algorithm_meaning.specs.Value.{condition_stays_inside, entry, entry_at, is_vertex, stays_inside, truth, value}
 use Rattle.plan_text.specs.Expressions.{comparison_word, condition_words, connective_word, entry_word, integer_words, name_at, operator_word, size_word, truth_word, vector_at}
 use Rattle.decimal.specs.Numbers.{integer_of}
 use Rattle.decimal.proofs.NumberLaws.{digits_model, integer-read_back}
 use Rattle.plan_text_laws.specs.Machine.{StackValue, Number, Truth, Stack, Names, operators, last_byte, before_last, take_entry, operate, push_number, read_word, read_words}
-use Rattle.plan_text_laws.specs.Given.{ConditionIsGiven, IntegerIsGiven, IsNamed, IsPlain}
+use Rattle.plan_text_laws.specs.Given.{ConditionIsGiven, IntegerIsGiven, IsNamed}
 
 -- words behind others are read on their stack
 through : {A : Type 0} (f g h : A → Option A) (o : Option A) → ((x : A) → h x ≡ option_and_then g (f x)) → option_and_then h o ≡ option_and_then g (option_and_then f o)
@@ -70,12 +70,12 @@ after_two names first second more stack top above a b one two =
     after_one names (first ++ second) more stack above (a && b) both
 
 -- the last byte of a word
-last_of : (word : List ℕ) (b : ℕ) → last_byte (word ++ b ∷ []) ≡ b
+pub last_of : (word : List ℕ) (b : ℕ) → last_byte (word ++ b ∷ []) ≡ b
 last_of [] b = refl
 last_of (a ∷ []) b = refl
 last_of (a ∷ d ∷ word) b = last_of (d ∷ word) b
 
-before_of : (word : List ℕ) (b : ℕ) → before_last (word ++ b ∷ []) ≡ word
+pub before_of : (word : List ℕ) (b : ℕ) → before_last (word ++ b ∷ []) ≡ word
 before_of [] b = refl
 before_of (a ∷ []) b = refl
 before_of (a ∷ d ∷ word) b = ap (λ (l : List ℕ). a ∷ l) (before_of (d ∷ word) b)
@@ -89,7 +89,7 @@ last_digit [] some digits = absurd (omega (arith, some))
 last_digit (b ∷ []) some digits = (and_parts (is_ascii_digit b) (all_ascii_digits []) digits).0
 last_digit (a ∷ b ∷ word) some digits = last_digit (b ∷ word) (omega arith) (and_parts (is_ascii_digit a) (all_ascii_digits (b ∷ word)) digits).1
 
-digit_is_not : (b c : ℕ) → is_ascii_digit b ≡ true → is_ascii_digit c ≡ false → b ≢ c
+pub digit_is_not : (b c : ℕ) → is_ascii_digit b ≡ true → is_ascii_digit c ≡ false → b ≢ c
 digit_is_not b c digit other same = false≢true (sym other ∙ ap is_ascii_digit (sym same) ∙ digit)
 
 -- what one word does
@@ -123,7 +123,7 @@ no_operator : (word : List ℕ) (table : List (List ℕ × (List StackValue → 
 no_operator word [] none = refl
 no_operator word (o ∷ table) none = rw (bytes_differ word o.0 none.0) (no_operator word table none.1)
 
-read_name : (names : Names) (word : List ℕ) (value : StackValue) (stack : List StackValue) → IsNamed names word value → read_word names word stack ≡ Some (value ∷ stack)
+pub read_name : (names : Names) (word : List ℕ) (value : StackValue) (stack : List StackValue) → IsNamed names word value → read_word names word stack ≡ Some (value ∷ stack)
 read_name names word value stack is =
     let entry : last_byte word == 64 ≡ false = ne_eqb (last_byte word) 64 is.plain.entry in
     let size : last_byte word == 35 ≡ false = ne_eqb (last_byte word) 35 is.plain.size in
@@ -147,7 +147,7 @@ read_size names name stack =
     same ∙ ap (λ (l : List ℕ). Some (Number (names.size l) ∷ stack)) (before_of name 35)
 
 -- one word alone
-alone : (names : Names) (word : List ℕ) (stack top : List StackValue) → read_word names word stack ≡ Some top → read_words names (word ∷ []) stack ≡ Some top
+pub alone : (names : Names) (word : List ℕ) (stack top : List StackValue) → read_word names word stack ≡ Some top → read_words names (word ∷ []) stack ≡ Some top
 alone names word stack top is = ap (option_and_then (read_words names [])) is
 
 entry_taken : (names : Names) (name : List ℕ) (vectors : List (List ℤ)) (vector : ℕ) (stack : List StackValue) → ((v : ℕ) → names.entry name v ≡ entry vectors vector v) → (n : ℤ)

@@ -1,15 +1,14 @@
 -- Names of the language are taken for names.
-use Rattle.std.proofs.Common.{◌≡◌, ◌≢◌, ℕ, ◌^◌, ◌<◌, Bool, true, false, ◌||◌, List, [], ◌∷◌, ◌++◌, length, Some, None, codes, inl, inr, refl, sym, ap, ◌∙◌, arith}
+use Rattle.std.proofs.Common.{◌≡◌, ◌≢◌, ℕ, ◌^◌, Bool, true, false, List, [], ◌∷◌, None, codes, refl, sym, ap, ◌∙◌, arith}
 use Rattle.std.specs.Option.{option_map}
 use Rattle.std.specs.Char.{is_ascii_digit}
-use Rattle.std.specs.List.{AllByRecursion}
 use Rattle.std.proofs.lemmas.Bool.{ne_eqb, false≢true}
 use Rattle.lexer.specs.declared.keyword.Keyword.TheVariants as keyword
 use Rattle.lexer.specs.Bytes.{Every, is_letter, is_word_byte}
 use Rattle.lexer.specs.Tokens.{IsName, IsWord}
-use Rattle.decimal.specs.Numbers.{integer_of, number_of}
+use Rattle.decimal.specs.Numbers.{integer_of}
 use Rattle.decimal.proofs.NumberLaws.{number_of-other}
-use Rattle.plan_text_laws.specs.Machine.{operators, last_byte}
+use Rattle.plan_text_laws.specs.Machine.{last_byte}
 use Rattle.plan_text_laws.specs.Given.{IsPlain}
 
 -- the first byte is no other than a letter
@@ -44,9 +43,44 @@ name_is_plain word is other = record {
   entry = is_not is_word_byte (last_byte word) 64 (word_ends word is.0) refl;
   size = is_not is_word_byte (last_byte word) 35 (word_ends word is.0) refl;
   number = word_is_no_number word is.0;
-  operator =
-      (is.1 keyword.True, (is.1 keyword.False, (other, (is.1 keyword.Not,
-      (first_byte word 43 [] is.0 refl, (first_byte word 45 [] is.0 refl, (first_byte word 42 [] is.0 refl, (first_byte word 47 [] is.0 refl, (first_byte word 37 [] is.0 refl,
-      (first_byte word 60 [] is.0 refl, (first_byte word 60 (61 ∷ []) is.0 refl, (first_byte word 62 [] is.0 refl, (first_byte word 62 (61 ∷ []) is.0 refl,
-      (first_byte word 61 (61 ∷ []) is.0 refl, (first_byte word 33 (61 ∷ []) is.0 refl, (is.1 keyword.And, (is.1 keyword.Or, tt)))))))))))))))));
+  operator = (
+    is.1 keyword.True,
+    (
+      is.1 keyword.False,
+      (
+        other,
+        (
+          is.1 keyword.Not,
+          (
+            first_byte word 43 [] is.0 refl,
+            (
+              first_byte word 45 [] is.0 refl,
+              (
+                first_byte word 42 [] is.0 refl,
+                (
+                  first_byte word 47 [] is.0 refl,
+                  (
+                    first_byte word 37 [] is.0 refl,
+                    (
+                      first_byte word 60 [] is.0 refl,
+                      (
+                        first_byte word 60 (61 ∷ []) is.0 refl,
+                        (
+                          first_byte word 62 [] is.0 refl,
+                          (
+                            first_byte word 62 (61 ∷ []) is.0 refl,
+                            (first_byte word 61 (61 ∷ []) is.0 refl, (first_byte word 33 (61 ∷ []) is.0 refl, (is.1 keyword.And, (is.1 keyword.Or, tt)))),
+                          ),
+                        ),
+                      ),
+                    ),
+                  ),
+                ),
+              ),
+            ),
+          ),
+        ),
+      ),
+    ),
+  );
 }

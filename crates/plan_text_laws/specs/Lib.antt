@@ -1,2 +1,6 @@
 pub mod Machine
 pub mod Given
+pub mod Brackets
+pub mod Kinds
+pub mod Settings
+pub mod Values
