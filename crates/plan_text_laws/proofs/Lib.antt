@@ -3,3 +3,4 @@ mod Plain
 mod Words
 mod CutWords
 mod Values
+mod Named

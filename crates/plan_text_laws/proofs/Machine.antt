@@ -113,7 +113,7 @@ ends_in_digit (negsuc n) fits =
 read_literal : (names : Names) (n : ℤ) (stack : List StackValue) → FitsSigned w64 n → read_word names (signed_decimal n) stack ≡ Some (Number n ∷ stack)
 read_literal names n stack fits = read_number names (signed_decimal n) n stack (ends_in_digit n fits) (integer-read_back n fits)
 
-bytes_differ : (a b : List ℕ) → a ≢ b → bytes_eq a b ≡ false
+pub bytes_differ : (a b : List ℕ) → a ≢ b → bytes_eq a b ≡ false
 bytes_differ a b other = elim (cases_Bool (bytes_eq a b)) [
   | inl same ↦ absurd (other ((bytes_decides a b).0 same))
   | inr is ↦ is

@@ -4,3 +4,4 @@ pub mod Brackets
 pub mod Kinds
 pub mod Settings
 pub mod Values
+pub mod Names
