@@ -4,3 +4,5 @@ mod Words
 mod CutWords
 mod Values
 mod Named
+mod Bare
+mod LineWords

@@ -5,3 +5,4 @@ pub mod Kinds
 pub mod Settings
 pub mod Values
 pub mod Names
+pub mod Lines

@@ -11,12 +11,16 @@
 //! (`words_name_what_is_worked_on`, `words_name_edge_applies`), by which reduction an entry changes (`words_say_the_reduction`),
 //! where a run may go on (`words_say_where_to_go`), and by what the engines do an edge apply (`words_say_the_settings`).
 //!
+//! All this is of words; the text of a plan, cut into lines and words, is the words of its instructions
+//! (`lines_are_cut_into_words`, `texts_are_cut_into_instructions`).
+//!
 //! No crate of the program stands on this one, so that its proofs are off the way of a build.
 #![tactic(auto)]
 
 mod brackets;
 mod expressions;
 mod instructions;
+mod lines;
 mod names;
 
 pub use brackets::{
@@ -24,4 +28,5 @@ pub use brackets::{
 };
 pub use expressions::{expressions_are_read_by_hand, names_are_plain};
 pub use instructions::{first_words_say_the_kind, words_say_the_settings, words_say_where_to_go};
+pub use lines::{lines_are_cut_into_words, texts_are_cut_into_instructions};
 pub use names::{words_name_edge_applies, words_name_what_is_worked_on, words_say_the_reduction};
