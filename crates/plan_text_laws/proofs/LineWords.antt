@@ -292,7 +292,7 @@ group_are : (p : ProgramTree) (group : List ℕ) → HasBareNames p → AreLineW
 group_are p group are = (plain_word (codes "fields") (bare (codes "fields") refl), vectors_are p group are)
 
 groups_are : (p : ProgramTree) (groups : List (List ℕ)) (rest : List ℕ) → HasBareNames p
-    → words_of_lines (group_lines p groups ++ rest) ≡ map (group_words p) groups ++ words_of_lines rest
+    → words_of_lines (group_lines p groups ++ rest) ≡ map (λ group. codes "fields" ∷ map (vector_at p) group) groups ++ words_of_lines rest
 groups_are p [] rest are = refl
 groups_are p (group ∷ groups) rest are =
     ap words_of_lines (append_assoc (line_of (group_words p group)) (group_lines p groups) rest)
@@ -302,4 +302,4 @@ groups_are p (group ∷ groups) rest are =
 pub text_is : (p : ProgramTree) (s : ScheduleTree) → HasBareNames p → words_of_lines (text_of p s) ≡ words_of_plan p s
 text_is p s are =
     groups_are p s.groups (instruction_lines p 0 (plan_of p s)) are
-    ∙ ap (λ (l : List (List (List ℕ))). map (group_words p) s.groups ++ l) (instructions_are p 0 (plan_of p s) are)
+    ∙ ap (λ (l : List (List (List ℕ))). map (λ group. codes "fields" ∷ map (vector_at p) group) s.groups ++ l) (instructions_are p 0 (plan_of p s) are)

@@ -1,4 +1,4 @@
--- That a reader of words knows what an expression of `main` speaks of.
+-- That the machine knows what an expression of `main` speaks of.
 use Rattle.std.specs.Prelude.{◌≡◌, ◌≢◌, ℕ, pos, FitsSigned, false, List, length, None, slice_get, slice_index_or}
 use Rattle.std.specs.Int.{cast_signed, w64}
 use Rattle.std.specs.List.{AllByRecursion}
@@ -25,7 +25,7 @@ pub record IsNamed (names : Names) (word : List ℕ) (value : StackValue) : Type
   pub plain : IsPlain word
   pub gives : names.value word ≡ value
 
--- What the expression speaks of has for the reader the value that it has in the state. What only functions have is none of main's.
+-- What the expression speaks of has for the machine the value that it has in the state. What only functions have is none of main's.
 abbrev pub IntegerIsGiven : ProgramTree → Names → StateValue → IntegerTree → Type 0
 IntegerIsGiven p names s (integer.Number n) = FitsSigned w64 n
 IntegerIsGiven p names s (integer.Constant name n) = IsNamed names (name_at p name) (Number n)

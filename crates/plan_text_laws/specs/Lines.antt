@@ -1,11 +1,11 @@
 -- How the text of a plan is cut into lines, and a line into words.
-use Rattle.std.specs.Prelude.{◌≡◌, ℕ, ◌+◌, ◌==◌, ◌&&◌, Bool, true, false, not, if◌then◌else◌, List, [], ◌∷◌, ◌++◌, decimal, map}
+use Rattle.std.specs.Prelude.{◌≡◌, ℕ, ◌+◌, ◌==◌, ◌&&◌, Bool, true, false, not, if◌then◌else◌, List, [], ◌∷◌, ◌++◌, codes, decimal, map}
 use Rattle.std.specs.List.{AllByRecursion}
 use Rattle.typed_tree.specs.ProgramTree.{ProgramTree}
 use Rattle.apply_options.specs.ScheduleTree.{ScheduleTree}
 use Rattle.plans.specs.Instruction.{InstructionTree}
 use Rattle.plans.specs.Plan.{plan_of}
-use Rattle.plan_text.specs.Lines.{group_words}
+use Rattle.plan_text.specs.Expressions.{vector_at}
 use Rattle.plan_text_laws.specs.Brackets.{put_byte}
 use Rattle.plan_text_laws.specs.Kinds.{instruction_words}
 
@@ -33,9 +33,9 @@ abbrev pub numbered_words : ProgramTree → (number : ℕ) → List InstructionT
 numbered_words p number [] = []
 numbered_words p number (i ∷ is) = (decimal number ∷ instruction_words p i) ∷ numbered_words p (number + 1) is
 
--- of each group of vectors its words, and then those of the instructions
+-- of each group of vectors `fields` and their names, and then the words of the instructions
 abbrev pub words_of_plan : ProgramTree → ScheduleTree → List (List (List ℕ))
-words_of_plan p s = map (group_words p) s.groups ++ numbered_words p 0 (plan_of p s)
+words_of_plan p s = map (λ group. codes "fields" ∷ map (vector_at p) group) s.groups ++ numbered_words p 0 (plan_of p s)
 
 -- a byte is no space, no line feed and no bracket, and so are those of each name
 abbrev pub is_bare : ℕ → Bool

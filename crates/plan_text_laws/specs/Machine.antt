@@ -14,11 +14,11 @@ pub data StackValue : Type 0 where
   Number : ℤ → StackValue
   Truth : Bool → StackValue
 
--- The stack, its top first; nothing where the reader stops, as a run does at an index that is no vertex.
+-- The stack, its top first; nothing where the reading stops, as a run does at an index that is no vertex.
 abbrev pub Stack : Type 0
 Stack = Option (List StackValue)
 
--- what the reader knows of names: the value of each, the entries of a vector at a vertex, the size of a set; and how many vertices there are
+-- what is known of names: the value of each, the entries of a vector at a vertex, the size of a set; and how many vertices there are
 pub record Names : Type 0 where
   pub vertices : ℕ
   pub value : List ℕ → StackValue

@@ -63,7 +63,7 @@ values_of vertices r s (operation.UnlessBelow name to) = Some (Truth (int_lt r.n
 values_of vertices r s (operation.Advance name) = Some (Number (next_of r).next ∷ []) ∷ []
 values_of vertices r s _ = []
 
--- the reader knows what the expressions of an instruction speak of; a variable that is reduced is read by a law of its own
+-- it is known what the expressions of an instruction speak of; a variable that is reduced is read by a law of its own
 abbrev pub ActionIsGiven : ProgramTree → Names → StateValue → ActionTree → Type 0
 ActionIsGiven p names s (action.DeclareInteger name e) = IntegerIsGiven p names s e
 ActionIsGiven p names s (action.DeclareCondition name c) = ConditionIsGiven p names s c
